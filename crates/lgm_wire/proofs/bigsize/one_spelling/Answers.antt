@@ -1,0 +1,5 @@
+use Rattle.lgm_wire.proofs.Sized.{same_front}
+use Rattle.lgm_wire.proofs.bigsize.one_spelling.Goals as goal
+
+pub returns : goal.returns
+returns c = same_front
