@@ -1,0 +1,31 @@
+-- Reading fields at the front of bytes: a value and the bytes behind it, or the first fault.
+use Rattle.std.specs.Prelude.{ℕ, List, [], length, take, drop, Result, Ok, Err, nat_lt, if◌then◌else◌}
+use Rattle.std.specs.Int.{Width, w16, byte_len, from_be_bytes}
+use Rattle.lgm_wire.specs.Reading.{◌>>=◌}
+use Rattle.lgm_gossip.specs.declared.fault.DecodeFault.{DecodeFault}
+use Rattle.lgm_gossip.specs.declared.fault.DecodeFault.TheVariants.{Cut}
+
+-- a field of n bytes
+abbrev pub fixed_at : ℕ → List ℕ → Result (List ℕ × List ℕ) DecodeFault
+fixed_at n bytes = if nat_lt (length bytes) n then Err Cut else Ok (take n bytes, drop n bytes)
+
+-- a number of fixed width
+abbrev pub number_at : Width → List ℕ → Result (ℕ × List ℕ) DecodeFault
+number_at w bytes =
+    if nat_lt (length bytes) (byte_len w) then Err Cut
+    else Ok (from_be_bytes w (take (byte_len w) bytes), drop (byte_len w) bytes)
+
+-- two bytes of length, and so many bytes: one field
+abbrev pub counted_at : List ℕ → Result (List ℕ × List ℕ) DecodeFault
+counted_at bytes = do
+  n ← number_at w16 bytes
+  fixed_at n.0 n.1
+
+-- all that is left
+abbrev pub rest_at : List ℕ → Result (List ℕ × List ℕ) DecodeFault
+rest_at bytes = Ok (bytes, [])
+
+-- one field behind the other
+infixr 8 ◌⊗◌
+abbrev pub ◌⊗◌ : {A B : Type 0} → (List ℕ → Result (A × List ℕ) DecodeFault) → (List ℕ → Result (B × List ℕ) DecodeFault) → List ℕ → Result ((A × B) × List ℕ) DecodeFault
+p ⊗ q = λ bytes. p bytes >>= λ x. q x.1 >>= λ y. Ok ((x.0, y.0), y.1)

@@ -1,0 +1,6 @@
+pub use Rattle.lgm_wire.specs.Reading
+pub mod Announce
+pub mod Message
+pub mod FieldReading
+pub mod AnnounceReading
+pub mod MessageReading

@@ -1,0 +1,29 @@
+-- Reading a message, with the first fault in the order that `decode` promises.
+use Rattle.std.specs.Prelude.{ℕ, ◌+◌, ◌*◌, ◌%◌, List, [], ◌∷◌, length, Result, Ok, Err, Option, nat_lt, ◌==◌, if◌then◌else◌}
+use Rattle.std.specs.Result.{result_err}
+use Rattle.lgm_wire.specs.Reading.{◌>>=◌}
+use Rattle.lgm_gossip.specs.declared.fault.DecodeFault.{DecodeFault}
+use Rattle.lgm_gossip.specs.declared.fault.DecodeFault.TheVariants.{Long, Short, UnknownEven, UnknownOdd}
+use Rattle.lgm_gossip.specs.declared.message.Message.{Message}
+use Rattle.lgm_gossip.specs.declared.message.Message.TheVariants as messages
+use Rattle.lgm_gossip.specs.AnnounceReading.{announce_at}
+
+-- what the bytes behind the type spell
+unfoldable pub body_at : ℕ → List ℕ → Result Message DecodeFault
+body_at kind body =
+    if kind == 256 then (announce_at body >>= λ m. Ok (messages.Announce m))
+    else if kind % 2 == 0 then Err (UnknownEven kind)
+    else Err (UnknownOdd kind)
+
+-- the type, and what is behind it
+abbrev pub typed_at : List ℕ → Result Message DecodeFault
+typed_at [] = Err Short
+typed_at (high ∷ []) = Err Short
+typed_at (high ∷ low ∷ body) = body_at (high * 256 + low) body
+
+unfoldable pub message_at : List ℕ → Result Message DecodeFault
+message_at bytes = if nat_lt 65535 (length bytes) then Err Long else typed_at bytes
+
+-- the first fault, or none
+abbrev pub fault : List ℕ → Option DecodeFault
+fault bytes = result_err (message_at bytes)

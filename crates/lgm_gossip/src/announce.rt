@@ -1,0 +1,72 @@
+//! `channel_announcement`.
+
+ghost use Rattle.lgm_wire.specs.Reading.{Gives};
+
+use crate::bytes::Bytes;
+use crate::chain_hash::ChainHash;
+use crate::fault::DecodeFault;
+use crate::fields::{counted, fixed, number64};
+use crate::point::Point;
+use crate::scid::Scid;
+use std::alloc::Global;
+
+/// A `channel_announcement`, type 256: two nodes say, and prove by four signatures, that an output of the chain is
+/// their channel (BOLT 7, "The channel_announcement Message").
+#[derive(Debug, Drop)]
+pub struct Announce {
+    /// The signature of node 1, 64 bytes, as the other three.
+    pub node_signature_1: [u8; 64],
+    pub node_signature_2: [u8; 64],
+    /// The signature by the first bitcoin key.
+    pub bitcoin_signature_1: [u8; 64],
+    pub bitcoin_signature_2: [u8; 64],
+    /// Feature bits, numbered from the least bit of the last byte.
+    pub features: Bytes,
+    /// The chain that holds the funding output.
+    pub chain_hash: ChainHash,
+    pub short_channel_id: Scid,
+    /// The lesser of the two nodes.
+    pub node_id_1: Point,
+    pub node_id_2: Point,
+    /// The keys that the funding output pays to.
+    pub bitcoin_key_1: Point,
+    pub bitcoin_key_2: Point,
+    /// What stands behind the last field.
+    pub rest: Bytes,
+}
+
+impl Announce {
+    ghost use Rattle.lgm_gossip.specs.AnnounceReading.{announce_at};
+
+    /// The fields, read from left to right, of the bytes behind the type.
+    #[tactic(auto, unfolding(crate::specs::AnnounceReading::announce_at))]
+    pub(crate) fn read(alloc: Global, bytes: &[u8]) -> Result<Announce, DecodeFault>
+        ensures { Gives DecodeFault.NoMemory (λ m. m) result (announce_at bytes.now) }
+    {
+        let (node_signature_1, rest) = fixed(bytes)?;
+        let (node_signature_2, rest) = fixed(rest)?;
+        let (bitcoin_signature_1, rest) = fixed(rest)?;
+        let (bitcoin_signature_2, rest) = fixed(rest)?;
+        let (features, rest) = counted(rest)?;
+        let (chain_hash, rest) = fixed(rest)?;
+        let (short_channel_id, rest) = number64(rest)?;
+        let (node_id_1, rest) = fixed(rest)?;
+        let (node_id_2, rest) = fixed(rest)?;
+        let (bitcoin_key_1, rest) = fixed(rest)?;
+        let (bitcoin_key_2, rest) = fixed(rest)?;
+        Ok(Announce {
+            node_signature_1,
+            node_signature_2,
+            bitcoin_signature_1,
+            bitcoin_signature_2,
+            features: Bytes::from_slice(alloc, features)?,
+            chain_hash: ChainHash(chain_hash),
+            short_channel_id: Scid::from_u64(short_channel_id),
+            node_id_1: Point(node_id_1),
+            node_id_2: Point(node_id_2),
+            bitcoin_key_1: Point(bitcoin_key_1),
+            bitcoin_key_2: Point(bitcoin_key_2),
+            rest: Bytes::from_slice(alloc, rest)?,
+        })
+    }
+}

@@ -1,0 +1,63 @@
+//! Messages from bytes.
+
+ghost use Rattle.std.specs.Prelude.{◌≡◌, IfOk, IfErr, MatchResult, ◌⊎◌, ◌<◌, ℕ, List, None, slice_index};
+ghost use Rattle.lgm_wire.specs.Reading.{Gives};
+ghost use Rattle.lgm_gossip.specs.Message.{Wire};
+ghost use Rattle.lgm_gossip.specs.MessageReading.{body_at, message_at, fault};
+ghost use Rattle.lgm_gossip.specs.declared.message.Message.{Message};
+
+use crate::announce::Announce;
+use crate::fault::DecodeFault;
+use crate::message::{MAX_LEN, Message};
+use std::alloc::Global;
+
+#[tactic(auto, unfolding(crate::specs::MessageReading::body_at))]
+fn body(alloc: Global, kind: u16, bytes: &[u8]) -> Result<Message, DecodeFault>
+    ensures { Gives DecodeFault.NoMemory (λ m. m) result (body_at kind bytes.now) }
+{
+    match kind {
+        256 => Ok(Message::Announce(Announce::read(alloc, bytes)?)),
+        _ if kind % 2 == 0 => Err(DecodeFault::UnknownEven(kind)),
+        _ => Err(DecodeFault::UnknownOdd(kind)),
+    }
+}
+
+#[tactic(auto, unfolding(crate::specs::MessageReading::message_at))]
+fn message(alloc: Global, bytes: &[u8]) -> Result<Message, DecodeFault>
+    ensures { Gives DecodeFault.NoMemory (λ m. m) result (message_at bytes.now) }
+{
+    if bytes.len() > MAX_LEN {
+        return Err(DecodeFault::Long);
+    }
+    let [high, low, rest @ ..] = bytes else {
+        return Err(DecodeFault::Short);
+    };
+    body(alloc, u16::from_be_bytes([*high, *low]), rest)
+}
+
+/// The message that the bytes spell, its two bytes of type first (BOLT 7).
+///
+/// Any bytes of any length may be given. The faults come in the order of [`DecodeFault`]'s variants, and of the fields
+/// from left to right. It takes no more memory than the message keeps.
+pub fn decode(alloc: Global, bytes: &[u8]) -> Result<Message, DecodeFault>
+    // What is found is spelled by the bytes, and nothing else is.
+    ensures found { IfOk result (λ m. Wire m bytes.now) }
+    ensures only { (m : Message) → Wire m bytes.now
+        → MatchResult result (λ found. found ≡ m) (λ e. e ≡ DecodeFault.NoMemory) }
+
+    // Another fault than want of memory is the first one of the order.
+    ensures fault { IfErr result (λ e. (e ≡ DecodeFault.NoMemory) ⊎ (fault bytes.now ≡ Some e)) }
+
+    // The same in one: what reading the bytes gives.
+    ensures exact { Gives DecodeFault.NoMemory (λ m. m) result (message_at bytes.now) }
+{
+    message(alloc, bytes)
+}
+
+/// Laws of the messages: bytes spell at most one, and spell one exactly where they have no fault.
+pub fn one_message()
+    ensures once { (m n : Message) (b : List ℕ) → Wire m b → Wire n b → m ≡ n }
+    ensures spelled { (b : List ℕ) → ((i : ℕ) → slice_index b i < 256)
+        → fault b ≡ None → (m : Message) × Wire m b }
+    ensures faultless { (m : Message) (b : List ℕ) → Wire m b → fault b ≡ None }
+{}

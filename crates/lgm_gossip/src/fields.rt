@@ -1,0 +1,46 @@
+//! Fields at the front of bytes: each reader gives a field and the bytes behind it.
+
+ghost use Rattle.std.specs.Prelude.{◌≡◌};
+ghost use Rattle.std.specs.Int.{w16, w64};
+ghost use Rattle.lgm_wire.specs.Reading.{Sees};
+ghost use Rattle.lgm_gossip.specs.FieldReading.{fixed_at, number_at, counted_at};
+
+use crate::fault::DecodeFault;
+
+/// So many bytes.
+pub fn fixed<const N: usize>(bytes: &[u8]) -> Result<([u8; N], &[u8]), DecodeFault>
+    ensures { Sees (λ x. (x.0, x.1.now)) result (fixed_at N bytes.now) }
+{
+    match bytes.split_first_chunk::<N>() {
+        Some((front, rest)) => Ok((*front, rest)),
+        None => Err(DecodeFault::Cut),
+    }
+}
+
+/// A number of two bytes.
+pub fn number16(bytes: &[u8]) -> Result<(u16, &[u8]), DecodeFault>
+    ensures { Sees (λ x. (x.0, x.1.now)) result (number_at w16 bytes.now) }
+{
+    let (front, rest) = fixed::<2>(bytes)?;
+    Ok((u16::from_be_bytes(front), rest))
+}
+
+/// A number of eight bytes.
+pub fn number64(bytes: &[u8]) -> Result<(u64, &[u8]), DecodeFault>
+    ensures { Sees (λ x. (x.0, x.1.now)) result (number_at w64 bytes.now) }
+{
+    let (front, rest) = fixed::<8>(bytes)?;
+    Ok((u64::from_be_bytes(front), rest))
+}
+
+/// As many bytes as the two in front of them say.
+pub fn counted(bytes: &[u8]) -> Result<(&[u8], &[u8]), DecodeFault>
+    ensures { Sees (λ x. (x.0.now, x.1.now)) result (counted_at bytes.now) }
+{
+    let (len, rest) = number16(bytes)?;
+    let len = usize::from(len);
+    if rest.len() < len {
+        return Err(DecodeFault::Cut);
+    }
+    Ok(rest.split_at(len))
+}

@@ -1,0 +1,24 @@
+//! The messages of the gossip protocol: their types, and reading them from bytes.
+//!
+//! [`decode`] takes the bytes of one message, as they come from a peer, and gives the [`Message`] that they spell or
+//! the first fault that they have. Contracts say which bytes spell which message: field by field, in the order of BOLT 7.
+#![tactic(auto)]
+
+mod announce;
+mod bytes;
+mod chain_hash;
+mod decoding;
+mod fault;
+mod fields;
+mod message;
+mod point;
+mod scid;
+
+pub use announce::Announce;
+pub use bytes::Bytes;
+pub use chain_hash::ChainHash;
+pub use decoding::{decode, one_message};
+pub use fault::DecodeFault;
+pub use message::{MAX_LEN, Message};
+pub use point::Point;
+pub use scid::Scid;
