@@ -1,4 +1,5 @@
 pub use Rattle.lgm_wire.specs.Reading
+pub mod Point
 pub mod Announce
 pub mod Message
 pub mod FieldReading

@@ -1,0 +1,65 @@
+-- The check of a message without a map: the row to be, or the first refusal.
+use Rattle.std.specs.Prelude.{◌≡◌, ℕ, List, Bool, true, false, ◌&&◌, nat_eq, nat_le, Result, Ok, Err, if◌then◌else◌}
+use Rattle.std.specs.Cmp.Lexicographic.{pointwise, slice_cmp}
+use Rattle.std.specs.Ordering.{is_lt, nat_cmp}
+use Rattle.lgm_wire.specs.Reading.{◌>>=◌}
+use Rattle.lgm_gossip.specs.declared.fault.DecodeFault.{DecodeFault}
+use Rattle.lgm_gossip.specs.declared.message.Message.{Message}
+use Rattle.lgm_gossip.specs.declared.message.Message.TheVariants as messages
+use Rattle.lgm_gossip.specs.declared.announce.Announce.{Announce}
+use Rattle.lgm_gossip.specs.declared.chain_hash.ChainHash.{ChainHash}
+use Rattle.lgm_gossip.specs.Point.{is_lawful}
+use Rattle.lgm_gossip.specs.MessageReading.{message_at}
+use Rattle.lgm_check.specs.declared.evidence.Evidence.{Evidence}
+use Rattle.lgm_check.specs.declared.evidence.Sig.{Sig}
+use Rattle.lgm_check.specs.declared.evidence.Sig.TheVariants as sigs
+use Rattle.lgm_check.specs.declared.evidence.Funding.{Funding}
+use Rattle.lgm_check.specs.declared.evidence.Funding.TheVariants as fundings
+use Rattle.lgm_check.specs.declared.row.Checked.{Checked}
+use Rattle.lgm_check.specs.declared.row.Checked.TheVariants as checked
+use Rattle.lgm_check.specs.declared.refusal.Refusal.{Refusal}
+use Rattle.lgm_check.specs.declared.refusal.Refusal.TheVariants as refusals
+use Rattle.lgm_check.specs.Refusal.{refusal_of}
+
+-- go on where the test holds
+abbrev pub require : Bool → Refusal → Result (Unit {0}) Refusal
+require holds refusal = if holds then Ok tt else Err refusal
+
+-- the nodes and the bitcoin keys
+abbrev pub has_lawful_points : Announce → Bool
+has_lawful_points m = is_lawful m.node_id_1 && is_lawful m.node_id_2 && is_lawful m.bitcoin_key_1 && is_lawful m.bitcoin_key_2
+
+-- node 1 is the lesser, byte by byte
+abbrev pub are_in_order : Announce → Bool
+are_in_order m = is_lt (slice_cmp nat_cmp m.node_id_1.0 m.node_id_2.0)
+
+-- an unspent output that pays to the two keys, of no more satoshi than there are
+abbrev pub capacity_of : Funding → Result ℕ Refusal
+capacity_of (fundings.Unspent sat) = if nat_le sat 2100000000000000 then Ok sat else Err refusals.Funding
+capacity_of _ = Err refusals.Funding
+
+abbrev pub is_all_four : Sig → Bool
+is_all_four (sigs.AllFour right) = right
+is_all_four _ = false
+
+-- a channel_announcement: each line is the next refusal of the order
+unfoldable pub checked_announce : ChainHash → Announce → List ℕ → Evidence → Result Checked Refusal
+checked_announce chain m bytes evidence = do
+  this_chain ← require (pointwise nat_eq m.chain_hash.0 chain.0) refusals.Chain
+  points ← require (has_lawful_points m) refusals.Point
+  node_order ← require (are_in_order m) refusals.NodeOrder
+  sat ← capacity_of evidence.funding
+  signed ← require (is_all_four evidence.sig) refusals.Signature
+  Ok (checked.Channel (record { message = m; sat = sat; raw = bytes }))
+
+-- by type
+abbrev pub checked_message : ChainHash → Message → List ℕ → Evidence → Result Checked Refusal
+checked_message chain (messages.Announce m) bytes evidence = checked_announce chain m bytes evidence
+
+-- bytes that spell no message are refused for their first fault
+abbrev pub checked_read : ChainHash → Result Message DecodeFault → List ℕ → Evidence → Result Checked Refusal
+checked_read chain (Ok m) bytes evidence = checked_message chain m bytes evidence
+checked_read chain (Err fault) bytes evidence = Err (refusal_of fault)
+
+unfoldable pub checked_of : ChainHash → List ℕ → Evidence → Result Checked Refusal
+checked_of chain bytes evidence = checked_read chain (message_at bytes) bytes evidence
