@@ -1,5 +1,6 @@
 //! `channel_announcement`.
 
+ghost use Rattle.std.specs.Prelude.{◌≡◌, IfOk};
 ghost use Rattle.lgm_wire.specs.Reading.{Gives};
 
 use crate::bytes::Bytes;
@@ -8,7 +9,7 @@ use crate::fault::DecodeFault;
 use crate::fields::{counted, fixed, number64};
 use crate::point::Point;
 use crate::scid::Scid;
-use std::alloc::Global;
+use std::alloc::{AllocError, Global};
 
 /// A `channel_announcement`, type 256: two nodes say, and prove by four signatures, that an output of the chain is
 /// their channel (BOLT 7, "The channel_announcement Message").
@@ -37,6 +38,17 @@ pub struct Announce {
 
 impl Announce {
     ghost use Rattle.lgm_gossip.specs.AnnounceReading.{announce_at};
+
+    /// A copy. The only error is want of memory.
+    pub fn copy(&self, alloc: Global) -> Result<Announce, AllocError>
+        ensures { IfOk result (λ copy. copy ≡ self.now) }
+    {
+        Ok(Announce {
+            features: self.features.copy(alloc)?,
+            rest: self.rest.copy(alloc)?,
+            ..*self
+        })
+    }
 
     /// The fields, read from left to right, of the bytes behind the type.
     #[tactic(auto, unfolding(crate::specs::AnnounceReading::announce_at))]

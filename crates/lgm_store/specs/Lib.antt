@@ -1,0 +1,4 @@
+pub mod Rows
+pub mod Keyed
+pub mod Admission
+pub mod History

@@ -1,0 +1,11 @@
+//! The map: what a node keeps of the public channels.
+//!
+//! A [`Map`] is seen as its rows, in lists that ascend. An item is first admitted, which gives an [`Op`] or a refusal,
+//! and then absorbed. A list of operations is a history, and a map is the fold of one.
+#![tactic(auto)]
+
+mod map;
+mod op;
+
+pub use map::Map;
+pub use op::Op;
