@@ -1,0 +1,21 @@
+-- What a line asks.
+use Rattle.std.specs.Prelude.{ℕ, List, length, take, drop, Option, Some, None, codes, nat_eq, ◌==◌, ◌||◌, if◌then◌else◌}
+use Rattle.std.specs.List.{starts_with}
+use Rattle.std.specs.Cmp.Lexicographic.{pointwise}
+use Rattle.lgm_server.specs.declared.item.Item.{Item}
+use Rattle.lgm_server.specs.declared.request.Request.{Request}
+use Rattle.lgm_server.specs.declared.request.Request.TheVariants as requests
+use Rattle.lgm_server.specs.Item.{gossip_of}
+
+-- an item, or no form of the grammar
+abbrev pub offer : Option Item → Request
+offer (Some item) = requests.Offer item
+offer None = requests.Bad
+
+-- a line for each form
+abbrev pub request_of : List ℕ → Request
+request_of line =
+    if (length line == 0) || starts_with nat_eq line (codes "#") then requests.Quiet
+    else if pointwise nat_eq line (codes "commit") then requests.Commit
+    else if pointwise nat_eq (take 2 line) (codes "m ") then offer (gossip_of (drop 2 line))
+    else requests.Bad

@@ -1,0 +1,91 @@
+//! Items: what a line offers to the map.
+
+ghost use Rattle.std.specs.Prelude.{◌≡◌, IfOk};
+ghost use Rattle.lgm_server.specs.Item.{bytes_of, sig_of, funding_of, evidence_of, gossip_of};
+
+use crate::field::{number, split_field};
+use hex::{FromHex, FromHexError};
+use lgm_check::{Evidence, Funding, Sig};
+use lgm_gossip::{Bytes, Point};
+use std::alloc::{AllocError, Global};
+
+/// What is offered to the map, with what the caller found out about it.
+#[derive(Debug, Drop)]
+pub enum Item {
+    /// A gossip message, as its bytes, and the verdicts on it.
+    Gossip(Bytes, Evidence),
+}
+
+/// The bytes that hexadecimal digits spell, at least one byte.
+fn bytes(alloc: Global, digits: &[u8]) -> Result<Option<Bytes>, AllocError>
+    ensures { IfOk result (λ bytes. bytes ≡ bytes_of digits.now) }
+{
+    if digits.is_empty() {
+        return Ok(None);
+    }
+    match hex::decode(alloc, digits) {
+        Ok(bytes) => Ok(Some(Bytes::from_vec(bytes))),
+        Err(FromHexError::OutOfMemory) => Err(AllocError),
+        Err(_) => Ok(None),
+    }
+}
+
+/// A verdict on signatures: `all`, `not-all`, `nobody` or the point that signed.
+fn sig(word: &[u8]) -> Option<Sig>
+    ensures { result ≡ sig_of word.now }
+{
+    if word == b"all".as_slice() {
+        return Some(Sig::AllFour(true));
+    }
+    if word == b"not-all".as_slice() {
+        return Some(Sig::AllFour(false));
+    }
+    if word == b"nobody".as_slice() {
+        return Some(Sig::Nobody);
+    }
+    match <[u8; 33] as FromHex>::from_hex(word) {
+        Ok(point) => Some(Sig::By(Point(point))),
+        Err(_) => None,
+    }
+}
+
+/// A verdict on a funding output: `spent`, `wrong`, `-` or its satoshi.
+fn funding(word: &[u8]) -> Option<Funding>
+    ensures { result ≡ funding_of word.now }
+{
+    if word == b"spent".as_slice() {
+        return Some(Funding::Spent);
+    }
+    if word == b"wrong".as_slice() {
+        return Some(Funding::Wrong);
+    }
+    if word == b"-".as_slice() {
+        return Some(Funding::NotAsked);
+    }
+    Some(Funding::Unspent(number(word)?))
+}
+
+fn evidence(text: &[u8]) -> Option<Evidence>
+    ensures { result ≡ evidence_of text.now }
+{
+    let (word, rest) = split_field(text)?;
+    let sig = sig(word)?;
+    let funding = funding(rest)?;
+    Some(Evidence { sig, funding })
+}
+
+/// The message of a line, behind its first word: `HEX SIG FUNDING`.
+pub fn gossip(alloc: Global, text: &[u8]) -> Result<Option<Item>, AllocError>
+    ensures { IfOk result (λ item. item ≡ gossip_of text.now) }
+{
+    let Some((digits, rest)) = split_field(text) else {
+        return Ok(None);
+    };
+    let Some(evidence) = evidence(rest) else {
+        return Ok(None);
+    };
+    match bytes(alloc, digits)? {
+        Some(bytes) => Ok(Some(Item::Gossip(bytes, evidence))),
+        None => Ok(None),
+    }
+}

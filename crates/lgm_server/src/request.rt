@@ -1,0 +1,39 @@
+//! What a line asks.
+
+ghost use Rattle.std.specs.Prelude.{◌≡◌, IfOk};
+ghost use Rattle.lgm_server.specs.Request.{request_of};
+
+use crate::item::{Item, gossip};
+use std::alloc::{AllocError, Global};
+
+/// What a line of a script asks.
+#[derive(Debug, Drop)]
+pub enum Request {
+    /// Nothing: the line is empty, or a comment.
+    Quiet,
+    /// It is no form of the grammar.
+    Bad,
+    /// To accept an item.
+    Offer(Item),
+    /// To make the accepted items the map that requests are answered on.
+    Commit,
+}
+
+/// What a line asks.
+pub fn parse(alloc: Global, line: &[u8]) -> Result<Request, AllocError>
+    ensures { IfOk result (λ request. request ≡ request_of line.now) }
+{
+    if line.is_empty() || line.starts_with(b"#") {
+        return Ok(Request::Quiet);
+    }
+    if line == b"commit".as_slice() {
+        return Ok(Request::Commit);
+    }
+    let Some(text) = line.strip_prefix(b"m ") else {
+        return Ok(Request::Bad);
+    };
+    match gossip(alloc, text)? {
+        Some(item) => Ok(Request::Offer(item)),
+        None => Ok(Request::Bad),
+    }
+}
