@@ -1,3 +1,9 @@
+pub mod Device
+pub mod Lines
+pub mod Text
 pub mod Field
 pub mod Item
 pub mod Request
+pub mod Reply
+pub mod Script
+pub mod Running

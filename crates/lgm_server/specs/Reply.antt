@@ -1,0 +1,18 @@
+-- The text of replies.
+use Rattle.std.specs.Prelude.{ℕ, List, [], ◌∷◌, ◌++◌, codes}
+use Rattle.std.specs.Fmt.{decimal}
+use Rattle.lgm_check.specs.Refusal.{word_of}
+use Rattle.lgm_server.specs.declared.reply.Reply.{Reply}
+use Rattle.lgm_server.specs.declared.reply.Reply.TheVariants as replies
+
+-- N WORD
+abbrev pub word_line : ℕ → List ℕ → List ℕ
+word_line number word = decimal number ++ codes " " ++ word ++ codes "\n"
+
+-- the text for the line of that number
+abbrev pub text_of : ℕ → Reply → List ℕ
+text_of number replies.Quiet = []
+text_of number replies.Bad = word_line number (codes "bad")
+text_of number replies.Accepted = word_line number (codes "accepted")
+text_of number (replies.Refused refusal) = word_line number (word_of refusal)
+text_of number (replies.Committed version) = decimal number ++ codes " commit " ++ decimal version ++ codes "\n"

@@ -1,0 +1,86 @@
+//! Devices in memory, for tests and for programs that hold their script themselves.
+
+ghost use Rattle.std.specs.Prelude.{◌≡◌, ◌<◌, Some, []};
+
+use crate::device::{Failed, Sink, Source};
+use std::alloc::Global;
+
+/// A source of bytes in memory. It never fails.
+#[derive(Drop)]
+pub struct MemorySource<'a> {
+    left: &'a [u8],
+    most: usize,
+    ghost some: { 0 < most },
+}
+
+impl<'a> MemorySource<'a> {
+    /// A source of these bytes, which gives at most `most` of them at each read, and at least one.
+    pub fn new(bytes: &'a [u8], most: usize) -> MemorySource<'a>
+        ensures bytes { ⟦<MemorySource<'a> as Source>⟧.left result ≡ Some bytes.now }
+        ensures failures { ⟦<MemorySource<'a> as Source>⟧.failures result ≡ 0 }
+    {
+        MemorySource {
+            left: bytes,
+            most: most.max(1),
+        }
+    }
+}
+
+impl Source for MemorySource<'_> {
+    ghost use Rattle.std.specs.Prelude.{Some};
+
+    ghost left = { λ s. Some s.left.now };
+
+    ghost failures = { λ _. 0 };
+
+    fn read(&mut self, buffer: &mut [u8]) -> Result<usize, Failed> {
+        let n = self.left.len().min(buffer.len()).min(self.most);
+        let (front, rest) = self.left.split_at(n);
+        buffer[..n].copy_from_slice(front);
+        self.left = rest;
+        Ok(n)
+    }
+}
+
+/// A sink that keeps what it takes in memory. It fails only where memory is refused.
+#[derive(Drop)]
+pub struct MemorySink {
+    taken: Vec<u8>,
+    failures: u64,
+}
+
+impl MemorySink {
+    /// A sink that has taken nothing. It takes no memory before its first write.
+    pub fn new(alloc: Global) -> MemorySink
+        ensures bytes { ⟦<MemorySink as Sink>⟧.taken result ≡ Some [] }
+        ensures failures { ⟦<MemorySink as Sink>⟧.failures result ≡ 0 }
+    {
+        MemorySink {
+            taken: Vec::new(alloc),
+            failures: 0,
+        }
+    }
+
+    /// The bytes that were taken, in order.
+    pub fn taken(&self) -> &[u8]
+        ensures { ⟦<MemorySink as Sink>⟧.taken self.now ≡ Some result.now }
+    {
+        self.taken.as_slice()
+    }
+}
+
+impl Sink for MemorySink {
+    ghost use Rattle.std.specs.Prelude.{Some};
+
+    ghost taken = { λ s. Some s.taken.items };
+
+    ghost failures = { λ s. s.failures };
+
+    fn write(&mut self, bytes: &[u8]) -> Result<usize, Failed> {
+        if self.taken.extend_from_slice(bytes).is_err() {
+            self.failures += 1;
+            return Err(Failed);
+        }
+        Ok(bytes.len())
+    }
+}

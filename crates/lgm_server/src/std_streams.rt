@@ -1,0 +1,102 @@
+//! Devices over std's readers and writers, which tell nothing of their bytes.
+
+ghost use Rattle.std.specs.Prelude.{◌≡◌};
+
+use crate::device::{Failed, Sink, Source};
+use std::io::{ErrorKind, Read, Write};
+
+/// A source over a reader, such as standard input.
+///
+/// A read that a signal interrupts is tried again, up to 2^64 - 1 times. Every other error of the
+/// reader is a failure.
+#[derive(Drop)]
+pub struct FromRead<R> {
+    reader: R,
+    failures: u64,
+}
+
+impl<R: Read> FromRead<R> {
+    /// A source that has not failed yet.
+    pub fn new(reader: R) -> FromRead<R>
+        ensures { ⟦<FromRead<R> as Source>⟧.failures result ≡ 0 }
+    {
+        FromRead {
+            reader,
+            failures: 0,
+        }
+    }
+}
+
+impl<R: Read> Source for FromRead<R> {
+    ghost use Rattle.std.specs.Prelude.{None};
+
+    ghost left = { λ _. None };
+
+    ghost failures = { λ s. s.failures };
+
+    fn read(&mut self, buffer: &mut [u8]) -> Result<usize, Failed> {
+        for _ in 0..u64::MAX {
+            match self.reader.read(buffer) {
+                Ok(n) => return Ok(n),
+                Err(error) => {
+                    if error.kind() != ErrorKind::Interrupted {
+                        break;
+                    }
+                }
+            }
+        }
+        self.failures += 1;
+        Err(Failed)
+    }
+}
+
+/// A sink over a writer, such as standard output.
+///
+/// A write that a signal interrupts is tried again, up to 2^64 - 1 times. Every other error of the
+/// writer is a failure, and so is a write of some bytes that takes none of them. Nothing is held
+/// back here; what the writer itself holds back is its own to flush.
+#[derive(Drop)]
+pub struct ToWrite<W> {
+    writer: W,
+    failures: u64,
+}
+
+impl<W: Write> ToWrite<W> {
+    /// A sink that has not failed yet.
+    pub fn new(writer: W) -> ToWrite<W>
+        ensures { ⟦<ToWrite<W> as Sink>⟧.failures result ≡ 0 }
+    {
+        ToWrite {
+            writer,
+            failures: 0,
+        }
+    }
+}
+
+impl<W: Write> Sink for ToWrite<W> {
+    ghost use Rattle.std.specs.Prelude.{None};
+
+    ghost taken = { λ _. None };
+
+    ghost failures = { λ s. s.failures };
+
+    fn write(&mut self, bytes: &[u8]) -> Result<usize, Failed> {
+        for _ in 0..u64::MAX {
+            match self.writer.write(bytes) {
+                Ok(n) => {
+                    if n == 0 && !bytes.is_empty() {
+                        self.failures += 1;
+                    }
+                    return Ok(n);
+                }
+                Err(error) => {
+                    if error.kind() != ErrorKind::Interrupted {
+                        break;
+                    }
+                }
+            }
+        }
+        self.failures += 1;
+        Err(Failed)
+    }
+}
