@@ -66,7 +66,12 @@ impl Engine {
     }
 
     /// The reply to a request, behind which its item is held if it is accepted.
-    pub fn answer(&mut self, alloc: Global, chain: &ChainHash, request: &Request) -> Result<Reply, AllocError>
+    pub fn answer(
+        &mut self,
+        alloc: Global,
+        chain: &ChainHash,
+        request: &Request,
+    ) -> Result<Reply, AllocError>
         requires { self.old.accepted + 1 < 2 ^ 64 }
         ensures reply { IfOk result (λ reply. reply ≡ reply_in chain.now self.old.map self.old.accepted request.now) }
         ensures map { OnOk result (self.new.map ≡ rows_after chain.now self.old.map request.now) }
