@@ -1,3 +1,5 @@
 pub mod FieldLaws
 pub mod AnnounceLaws
+pub mod NodeAnnounceLaws
+pub mod ChannelUpdateLaws
 pub mod MessageLaws

@@ -1,7 +1,7 @@
 -- The laws of messages: what is read is spelled so, and what is spelled so is read.
-use Rattle.std.proofs.Common.{◌≡◌, ℕ, ◌+◌, ◌*◌, ◌%◌, ◌<◌, ◌≤◌, ◌⊎◌, ◌↔◌, Bool, true, false, cond, eqb, ltb, List, [], ◌∷◌, ◌++◌, length, Option, Some, None, Result, Ok, Err, refl, ap, sym, subst, ◌∙◌, arith, inl, inr}
+use Rattle.std.proofs.Common.{◌≡◌, ℕ, ◌+◌, ◌*◌, ◌/◌, ◌%◌, ◌<◌, ◌≤◌, ◌⊎◌, ◌↔◌, Bool, true, false, cond, eqb, ltb, List, [], ◌∷◌, ◌++◌, length, Option, Some, None, Result, Ok, Err, refl, ap, sym, subst, ◌∙◌, arith, inl, inr}
 use Rattle.std.specs.Prelude.{IfOk, MatchResult}
-use Rattle.std.specs.List.{flat_map}
+use Rattle.std.specs.Int.{w16, to_be_bytes}
 use Rattle.std.specs.Result.{result_err}
 use Rattle.std.proofs.lemmas.Bool.{eqb-true, ltb-false, le-ltb}
 use Rattle.lgm_wire.specs.Reading.{◌>>=◌, Gives}
@@ -9,40 +9,63 @@ use Rattle.lgm_wire.proofs.ReadingLaws.{chosen, bind_ok, ok_is}
 use Rattle.lgm_wire.proofs.Bytes.{IsBytes, IsBytes-rest}
 use Rattle.lgm_gossip.specs.declared.fault.DecodeFault.{DecodeFault}
 use Rattle.lgm_gossip.specs.declared.fault.DecodeFault.TheVariants.{Long, UnknownEven, UnknownOdd, Short, NoMemory}
-use Rattle.lgm_gossip.specs.declared.announce.Announce.{Announce}
 use Rattle.lgm_gossip.specs.declared.message.Message.{Message}
 use Rattle.lgm_gossip.specs.declared.message.Message.TheVariants as messages
-use Rattle.lgm_gossip.specs.Announce.{fields_of, Fits}
 use Rattle.lgm_gossip.specs.AnnounceReading.{announce_at}
+use Rattle.lgm_gossip.specs.NodeAnnounceReading.{node_announce_at}
+use Rattle.lgm_gossip.specs.ChannelUpdateReading.{channel_update_at}
 use Rattle.lgm_gossip.specs.Message.{Wire, Spells}
 use Rattle.lgm_gossip.specs.MessageReading.{fault, body_at, typed_at, message_at}
-use Rattle.lgm_gossip.proofs.AnnounceLaws.{announce_takes, announce_again}
+use Rattle.lgm_gossip.proofs.FieldLaws.{IsBody}
+use Rattle.lgm_gossip.proofs.AnnounceLaws.{announce_body}
+use Rattle.lgm_gossip.proofs.NodeAnnounceLaws.{node_announce_body}
+use Rattle.lgm_gossip.proofs.ChannelUpdateLaws.{channel_update_body}
 
--- what was read of the fields after the type
-BodyIs : ℕ → ℕ → List ℕ → Message → Type 0
-BodyIs high low body m = length (high ∷ low ∷ body) ≤ 65535 → Wire m (high ∷ low ∷ body)
+-- the bytes of a message
+record IsWhole (high low : ℕ) (body : List ℕ) : Type 0 where
+  high_fits : high < 256
+  low_fits : low < 256
+  fits : IsBytes body
+  short : length (high ∷ low ∷ body) ≤ 65535
 
-body_takes : (high low : ℕ) (body : List ℕ) (m : Message) → low < 256 → IsBytes body → body_at (high * 256 + low) body ≡ Ok m → length (high ∷ low ∷ body) ≤ 65535 → Wire m (high ∷ low ∷ body)
+-- one line of `body_at`: its type, and what reads the bytes behind it
+body_of : {M : Type 0} {at : List ℕ → Result M DecodeFault} {Fields : M → List ℕ → Type 0} (law : IsBody at Fields) (variant : M → Message) (kind high low : ℕ) (body : List ℕ) (m : Message)
+    → to_be_bytes w16 kind ≡ high ∷ low ∷ [] → ((x : M) → Spells kind (Fields x) (high ∷ low ∷ body) → Wire (variant x) (high ∷ low ∷ body))
+    → IsWhole high low body → (at body >>= λ x. Ok (variant x)) ≡ Ok m → Wire m (high ∷ low ∷ body)
+body_of {M} {at} {Fields} law variant kind high low body m typed wire whole e =
+    let a = bind_ok (at body) (λ x. Ok (variant x)) m e in
+    subst (λ (x : Message). Wire x (high ∷ low ∷ body)) (ok_is (variant a.0) m a.2) (wire a.0 (record {
+      body = body;
+      whole = ap (λ (s : List ℕ). s ++ body) (sym typed);
+      fields = law.takes body a.0 whole.fits a.1;
+      len = whole.short;
+    }))
+
+-- the two bytes of a type
+kind_bytes : (kind high low : ℕ) → low < 256 → high * 256 + low ≡ kind → kind < 512 → 256 ≤ kind → to_be_bytes w16 kind ≡ high ∷ low ∷ []
+kind_bytes kind high low lt e below above =
+    let first : kind / 256 % 256 ≡ high = omega arith in
+    let second : kind % 256 ≡ low = omega arith in
+    let bytes : kind / 256 % 256 ∷ kind % 256 ∷ [] ≡ high ∷ low ∷ [] = cc in
+    bytes
+
+body_takes : (high low : ℕ) (body : List ℕ) (m : Message) → IsWhole high low body → body_at (high * 256 + low) body ≡ Ok m → Wire m (high ∷ low ∷ body)
 unfolding body_at
-body_takes high low body m small fits e short =
+body_takes high low body m whole e =
     let kind : ℕ = high * 256 + low in
-    elim (chosen (eqb kind 256) (announce_at body >>= λ x. Ok (messages.Announce x)) (cond (eqb (kind % 2) 0) (Err (UnknownEven kind)) (Err (UnknownOdd kind))) (Ok m) e) [
-      | inl is ↦
-          let k : kind ≡ 256 = eqb-true kind 256 is.0 in
-          let h : high ≡ 1 = omega arith in
-          let l : low ≡ 0 = omega arith in
-          let a = bind_ok (announce_at body) (λ x. Ok (messages.Announce x)) m is.1 in
-          let t = announce_takes body a.0 fits a.1 in
-          subst (λ (x : Message). Wire x (high ∷ low ∷ body)) (ok_is (messages.Announce a.0) m a.2) (record {
-            fits = t.0;
-            whole = rw (h, l) (ap (λ (s : List ℕ). 1 ∷ 0 ∷ s) t.1);
-            len = short;
-          })
-      | inr other ↦
-          elim (chosen (eqb (kind % 2) 0) (Err (UnknownEven kind)) (Err (UnknownOdd kind)) (Ok m) other.1) [
+    let bytes_are : (k : ℕ) → kind ≡ k → k < 512 → 256 ≤ k → to_be_bytes w16 k ≡ high ∷ low ∷ [] = λ k. kind_bytes k high low whole.low_fits in
+    elim (chosen (eqb kind 256) (announce_at body >>= λ x. Ok (messages.Announce x)) _ (Ok m) e) [
+      | inl is ↦ body_of announce_body (λ x. messages.Announce x) 256 high low body m (bytes_are 256 (eqb-true kind 256 is.0) (omega arith) (omega arith)) (λ x s. s) whole is.1
+      | inr other ↦ elim (chosen (eqb kind 257) (node_announce_at body >>= λ x. Ok (messages.NodeAnnounce x)) _ (Ok m) other.1) [
+        | inl is ↦ body_of node_announce_body (λ x. messages.NodeAnnounce x) 257 high low body m (bytes_are 257 (eqb-true kind 257 is.0) (omega arith) (omega arith)) (λ x s. s) whole is.1
+        | inr other ↦ elim (chosen (eqb kind 258) (channel_update_at body >>= λ x. Ok (messages.ChannelUpdate x)) _ (Ok m) other.1) [
+          | inl is ↦ body_of channel_update_body (λ x. messages.ChannelUpdate x) 258 high low body m (bytes_are 258 (eqb-true kind 258 is.0) (omega arith) (omega arith)) (λ x s. s) whole is.1
+          | inr other ↦ elim (chosen (eqb (kind % 2) 0) (Err (UnknownEven kind)) (Err (UnknownOdd kind)) (Ok m) other.1) [
             | inl bad ↦ absurd cc
             | inr bad ↦ absurd cc
           ]
+        ]
+      ]
     ]
 
 pub message_takes : (bytes : List ℕ) (m : Message) → IsBytes bytes → message_at bytes ≡ Ok m → Wire m bytes
@@ -56,14 +79,21 @@ message_takes bytes m fits e =
     typed : (b : List ℕ) → IsBytes b → length b ≤ 65535 → typed_at b ≡ Ok m → Wire m b
     typed [] b_fits short read = absurd cc
     typed (high ∷ []) b_fits short read = absurd cc
-    typed (high ∷ low ∷ body) b_fits short read = body_takes high low body m (b_fits 1) (IsBytes-rest low body (IsBytes-rest high (low ∷ body) b_fits)) read short
+    typed (high ∷ low ∷ body) b_fits short read =
+        body_takes high low body m (record { high_fits = b_fits 0; low_fits = b_fits 1; fits = IsBytes-rest low body (IsBytes-rest high (low ∷ body) b_fits); short = short }) read
+
+-- a message whose type and fields are read again
+typed_again : {Fields : List ℕ → Type 0} (kind : ℕ) (bytes : List ℕ) (s : Spells kind Fields bytes) (m : Message) → typed_at (to_be_bytes w16 kind ++ s.body) ≡ Ok m → message_at bytes ≡ Ok m
+unfolding message_at
+typed_again kind bytes s m e =
+    let short : ltb 65535 (length bytes) ≡ false = le-ltb _ _ s.len in
+    rw short (ap typed_at s.whole ∙ e)
 
 pub message_again : (bytes : List ℕ) (m : Message) → Wire m bytes → message_at bytes ≡ Ok m
-unfolding message_at body_at
-message_again bytes (messages.Announce m) wire =
-    let short : ltb 65535 (length bytes) ≡ false = le-ltb _ _ wire.len in
-    let read = announce_again m wire.fits in
-    rw short (ap typed_at wire.whole ∙ rw read refl)
+unfolding body_at
+message_again bytes (messages.Announce m) s = typed_again 256 bytes s _ (rw (announce_body.again m s.body s.fields) refl)
+message_again bytes (messages.NodeAnnounce m) s = typed_again 257 bytes s _ (rw (node_announce_body.again m s.body s.fields) refl)
+message_again bytes (messages.ChannelUpdate m) s = typed_again 258 bytes s _ (rw (channel_update_body.again m s.body s.fields) refl)
 
 pub is_found : (bytes : List ℕ) (r : Result Message DecodeFault) → IsBytes bytes → Gives NoMemory (λ m. m) r (message_at bytes) → IfOk r (λ m. Wire m bytes)
 is_found bytes (Ok m) fits given = message_takes bytes m fits given

@@ -1,6 +1,11 @@
 pub use Rattle.lgm_wire.specs.Reading
+pub mod Fields
 pub mod Announce
+pub mod NodeAnnounce
+pub mod ChannelUpdate
 pub mod Message
 pub mod FieldReading
 pub mod AnnounceReading
+pub mod NodeAnnounceReading
+pub mod ChannelUpdateReading
 pub mod MessageReading

@@ -7,8 +7,10 @@ ghost use Rattle.lgm_gossip.specs.MessageReading.{body_at, message_at, fault};
 ghost use Rattle.lgm_gossip.specs.declared.message.Message.{Message};
 
 use crate::announce::Announce;
+use crate::channel_update::ChannelUpdate;
 use crate::fault::DecodeFault;
 use crate::message::{MAX_LEN, Message};
+use crate::node_announce::NodeAnnounce;
 use std::alloc::Global;
 
 #[tactic(auto, unfolding(crate::specs::MessageReading::body_at))]
@@ -17,6 +19,8 @@ fn body(alloc: Global, kind: u16, bytes: &[u8]) -> Result<Message, DecodeFault>
 {
     match kind {
         256 => Ok(Message::Announce(Announce::read(alloc, bytes)?)),
+        257 => Ok(Message::NodeAnnounce(NodeAnnounce::read(alloc, bytes)?)),
+        258 => Ok(Message::ChannelUpdate(ChannelUpdate::read(alloc, bytes)?)),
         _ if kind % 2 == 0 => Err(DecodeFault::UnknownEven(kind)),
         _ => Err(DecodeFault::UnknownOdd(kind)),
     }

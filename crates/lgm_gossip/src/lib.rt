@@ -7,18 +7,22 @@
 mod announce;
 mod bytes;
 mod chain_hash;
+mod channel_update;
 mod decoding;
 mod fault;
 mod fields;
 mod message;
+mod node_announce;
 mod point;
 mod scid;
 
 pub use announce::Announce;
 pub use bytes::Bytes;
 pub use chain_hash::ChainHash;
+pub use channel_update::ChannelUpdate;
 pub use decoding::{decode, one_message};
 pub use fault::DecodeFault;
 pub use message::{MAX_LEN, Message};
+pub use node_announce::NodeAnnounce;
 pub use point::Point;
 pub use scid::Scid;
