@@ -4,8 +4,7 @@ use Rattle.std.specs.Int.{Width, w8, w16, w32, w64, byte_len, from_be_bytes, to_
 use Rattle.std.proofs.lemmas.Bool.{ltb-false, le-ltb}
 use Rattle.std.proofs.lemmas.List.{take_at, drop_at, take-append-drop, length-append, length-take, append-nil}
 use Rattle.lgm_wire.specs.Reading.{◌>>=◌}
-use Rattle.lgm_wire.proofs.ReadingLaws.{bind_ok, ok_is}
-use Rattle.lgm_wire.proofs.Bytes.{IsBytes, IsBytes-take, IsBytes-drop, IsWide, wide16}
+use Rattle.lgm_gossip.proofs.WireLaws.{bind_ok, ok_is, IsBytes, IsBytes-take, IsBytes-drop, IsWide, wide16}
 use Rattle.lgm_gossip.specs.declared.fault.DecodeFault.{DecodeFault}
 use Rattle.lgm_gossip.specs.declared.fault.DecodeFault.TheVariants.{Cut}
 use Rattle.lgm_gossip.specs.Fields.{Joined, ◌⌢◌, fixed, number, counted, rest, dropped}
@@ -127,14 +126,14 @@ then_field {A} {B} {p} {q} {F} {G} first others = record {
   again = λ x bytes joined. ap (p ⊗ q) joined.whole ∙ rw (first.again x.0 joined.front joined.back joined.front_is, others.again x.1 joined.back joined.back_is) refl;
 }
 
--- a message behind its type: what is read is spelled so, and what is spelled so is read
-pub record IsBody {M : Type 0} (at : List ℕ → Result M DecodeFault) (Fields : M → List ℕ → Type 0) : Type 0 where
+-- all of the bytes as one value: what is read is spelled so, and what is spelled so is read
+pub record IsText {M : Type 0} (at : List ℕ → Result M DecodeFault) (Fields : M → List ℕ → Type 0) : Type 0 where
   pub takes : (bytes : List ℕ) (m : M) → IsBytes bytes → at bytes ≡ Ok m → Fields m bytes
   pub again : (m : M) (bytes : List ℕ) → Fields m bytes → at bytes ≡ Ok m
 
 -- a message that is made of the fields of its row
 pub of_row : {R M : Type 0} {row_at : List ℕ → Result (R × List ℕ) DecodeFault} {Fields : M → List ℕ → Type 0} (from_row : R → M) (to_row : M → R)
-    → ((m : M) → from_row (to_row m) ≡ m) → IsLast row_at (λ x. Fields (from_row x)) → IsBody (λ bytes. row_at bytes >>= λ x. Ok (from_row x.0)) Fields
+    → ((m : M) → from_row (to_row m) ≡ m) → IsLast row_at (λ x. Fields (from_row x)) → IsText (λ bytes. row_at bytes >>= λ x. Ok (from_row x.0)) Fields
 of_row {R} {M} {row_at} {Fields} from_row to_row same row = record {
   takes = λ bytes m fits e.
       let a = bind_ok (row_at bytes) (λ x. Ok (from_row x.0)) m e in

@@ -5,68 +5,71 @@ use Rattle.std.specs.Int.{w16, to_be_bytes}
 use Rattle.std.specs.Result.{result_err}
 use Rattle.std.proofs.lemmas.Bool.{eqb-true, ltb-false, le-ltb}
 use Rattle.lgm_wire.specs.Reading.{◌>>=◌, Gives}
-use Rattle.lgm_wire.proofs.ReadingLaws.{chosen, bind_ok, ok_is}
-use Rattle.lgm_wire.proofs.Bytes.{IsBytes, IsBytes-rest}
 use Rattle.lgm_gossip.specs.declared.fault.DecodeFault.{DecodeFault}
 use Rattle.lgm_gossip.specs.declared.fault.DecodeFault.TheVariants.{Long, UnknownEven, UnknownOdd, Short, NoMemory}
 use Rattle.lgm_gossip.specs.declared.message.Message.{Message}
 use Rattle.lgm_gossip.specs.declared.message.Message.TheVariants as messages
-use Rattle.lgm_gossip.specs.AnnounceReading.{announce_at}
-use Rattle.lgm_gossip.specs.NodeAnnounceReading.{node_announce_at}
-use Rattle.lgm_gossip.specs.ChannelUpdateReading.{channel_update_at}
 use Rattle.lgm_gossip.specs.Message.{Wire, Spells}
 use Rattle.lgm_gossip.specs.MessageReading.{fault, body_at, typed_at, message_at}
-use Rattle.lgm_gossip.proofs.FieldLaws.{IsBody}
-use Rattle.lgm_gossip.proofs.AnnounceLaws.{announce_body}
-use Rattle.lgm_gossip.proofs.NodeAnnounceLaws.{node_announce_body}
-use Rattle.lgm_gossip.proofs.ChannelUpdateLaws.{channel_update_body}
+use Rattle.lgm_gossip.proofs.WireLaws.{chosen, bind_ok, ok_is, IsBytes, IsBytes-rest}
+use Rattle.lgm_gossip.proofs.FieldLaws.{IsText}
+use Rattle.lgm_gossip.proofs.AnnounceLaws.{announce_text}
+use Rattle.lgm_gossip.proofs.NodeAnnounceLaws.{node_announce_text}
+use Rattle.lgm_gossip.proofs.ChannelUpdateLaws.{channel_update_text}
+use Rattle.lgm_gossip.proofs.IdsEndLaws.{ids_end_text}
+use Rattle.lgm_gossip.proofs.RangeQueryLaws.{range_query_text}
+use Rattle.lgm_gossip.proofs.FilterMsgLaws.{filter_msg_text}
 
 -- the bytes of a message
-record IsWhole (high low : ℕ) (body : List ℕ) : Type 0 where
-  high_fits : high < 256
+record IsTyped (high low : ℕ) (body : List ℕ) : Type 0 where
   low_fits : low < 256
   fits : IsBytes body
   short : length (high ∷ low ∷ body) ≤ 65535
 
--- one line of `body_at`: its type, and what reads the bytes behind it
-body_of : {M : Type 0} {at : List ℕ → Result M DecodeFault} {Fields : M → List ℕ → Type 0} (law : IsBody at Fields) (variant : M → Message) (kind high low : ℕ) (body : List ℕ) (m : Message)
-    → to_be_bytes w16 kind ≡ high ∷ low ∷ [] → ((x : M) → Spells kind (Fields x) (high ∷ low ∷ body) → Wire (variant x) (high ∷ low ∷ body))
-    → IsWhole high low body → (at body >>= λ x. Ok (variant x)) ≡ Ok m → Wire m (high ∷ low ∷ body)
-body_of {M} {at} {Fields} law variant kind high low body m typed wire whole e =
-    let a = bind_ok (at body) (λ x. Ok (variant x)) m e in
-    subst (λ (x : Message). Wire x (high ∷ low ∷ body)) (ok_is (variant a.0) m a.2) (wire a.0 (record {
-      body = body;
-      whole = ap (λ (s : List ℕ). s ++ body) (sym typed);
-      fields = law.takes body a.0 whole.fits a.1;
-      len = whole.short;
-    }))
-
 -- the two bytes of a type
-kind_bytes : (kind high low : ℕ) → low < 256 → high * 256 + low ≡ kind → kind < 512 → 256 ≤ kind → to_be_bytes w16 kind ≡ high ∷ low ∷ []
-kind_bytes kind high low lt e below above =
+kind_bytes : (kind high low : ℕ) → low < 256 → high * 256 + low ≡ kind → kind < 512 → to_be_bytes w16 kind ≡ high ∷ low ∷ []
+kind_bytes kind high low lt e below =
     let first : kind / 256 % 256 ≡ high = omega arith in
     let second : kind % 256 ≡ low = omega arith in
     let bytes : kind / 256 % 256 ∷ kind % 256 ∷ [] ≡ high ∷ low ∷ [] = cc in
     bytes
 
-body_takes : (high low : ℕ) (body : List ℕ) (m : Message) → IsWhole high low body → body_at (high * 256 + low) body ≡ Ok m → Wire m (high ∷ low ∷ body)
-unfolding body_at
-body_takes high low body m whole e =
-    let kind : ℕ = high * 256 + low in
-    let bytes_are : (k : ℕ) → kind ≡ k → k < 512 → 256 ≤ k → to_be_bytes w16 k ≡ high ∷ low ∷ [] = λ k. kind_bytes k high low whole.low_fits in
-    elim (chosen (eqb kind 256) (announce_at body >>= λ x. Ok (messages.Announce x)) _ (Ok m) e) [
-      | inl is ↦ body_of announce_body (λ x. messages.Announce x) 256 high low body m (bytes_are 256 (eqb-true kind 256 is.0) (omega arith) (omega arith)) (λ x s. s) whole is.1
-      | inr other ↦ elim (chosen (eqb kind 257) (node_announce_at body >>= λ x. Ok (messages.NodeAnnounce x)) _ (Ok m) other.1) [
-        | inl is ↦ body_of node_announce_body (λ x. messages.NodeAnnounce x) 257 high low body m (bytes_are 257 (eqb-true kind 257 is.0) (omega arith) (omega arith)) (λ x s. s) whole is.1
-        | inr other ↦ elim (chosen (eqb kind 258) (channel_update_at body >>= λ x. Ok (messages.ChannelUpdate x)) _ (Ok m) other.1) [
-          | inl is ↦ body_of channel_update_body (λ x. messages.ChannelUpdate x) 258 high low body m (bytes_are 258 (eqb-true kind 258 is.0) (omega arith) (omega arith)) (λ x s. s) whole is.1
-          | inr other ↦ elim (chosen (eqb (kind % 2) 0) (Err (UnknownEven kind)) (Err (UnknownOdd kind)) (Ok m) other.1) [
-            | inl bad ↦ absurd cc
-            | inr bad ↦ absurd cc
-          ]
-        ]
-      ]
+-- one line of `body_at`: the bytes behind the type were read as its message, or by the lines below
+line : {M : Type 0} {at : List ℕ → Result M DecodeFault} {Fields : M → List ℕ → Type 0} (law : IsText at Fields) (variant : M → Message) (kind high low : ℕ) (body : List ℕ) (m : Message) (others : Result Message DecodeFault)
+    → kind < 512 → ((x : M) → Spells kind (Fields x) (high ∷ low ∷ body) → Wire (variant x) (high ∷ low ∷ body)) → IsTyped high low body
+    → cond (eqb (high * 256 + low) kind) (at body >>= λ x. Ok (variant x)) others ≡ Ok m → (others ≡ Ok m → Wire m (high ∷ low ∷ body)) → Wire m (high ∷ low ∷ body)
+line {M} {at} {Fields} law variant kind high low body m others below wire typed e later =
+    elim (chosen (eqb (high * 256 + low) kind) (at body >>= λ x. Ok (variant x)) others (Ok m) e) [
+      | inl is ↦
+          let a = bind_ok (at body) (λ x. Ok (variant x)) m is.1 in
+          let bytes = kind_bytes kind high low typed.low_fits (eqb-true (high * 256 + low) kind is.0) below in
+          subst (λ (x : Message). Wire x (high ∷ low ∷ body)) (ok_is (variant a.0) m a.2) (wire a.0 (record {
+            body = body;
+            whole = ap (λ (s : List ℕ). s ++ body) (sym bytes);
+            fields = law.takes body a.0 typed.fits a.1;
+            len = typed.short;
+          }))
+      | inr other ↦ later other.1
     ]
+
+-- the last line
+unknown_line : (kind : ℕ) (m : Message) → cond (eqb (kind % 2) 0) (Err (UnknownEven kind)) (Err (UnknownOdd kind)) ≡ Ok m → ⊥
+unknown_line kind m e =
+    elim (chosen (eqb (kind % 2) 0) (Err (UnknownEven kind)) (Err (UnknownOdd kind)) (Ok m) e) [
+      | inl bad ↦ absurd cc
+      | inr bad ↦ absurd cc
+    ]
+
+body_takes : (high low : ℕ) (body : List ℕ) (m : Message) → IsTyped high low body → body_at (high * 256 + low) body ≡ Ok m → Wire m (high ∷ low ∷ body)
+unfolding body_at
+body_takes high low body m typed e =
+    line announce_text (λ x. messages.Announce x) 256 high low body m _ (omega arith) (λ x s. s) typed e (λ e.
+    line node_announce_text (λ x. messages.NodeAnnounce x) 257 high low body m _ (omega arith) (λ x s. s) typed e (λ e.
+    line channel_update_text (λ x. messages.ChannelUpdate x) 258 high low body m _ (omega arith) (λ x s. s) typed e (λ e.
+    line ids_end_text (λ x. messages.IdsEnd x) 262 high low body m _ (omega arith) (λ x s. s) typed e (λ e.
+    line range_query_text (λ x. messages.RangeQuery x) 263 high low body m _ (omega arith) (λ x s. s) typed e (λ e.
+    line filter_msg_text (λ x. messages.FilterMsg x) 265 high low body m _ (omega arith) (λ x s. s) typed e (λ e.
+    absurd (unknown_line (high * 256 + low) m e)))))))
 
 pub message_takes : (bytes : List ℕ) (m : Message) → IsBytes bytes → message_at bytes ≡ Ok m → Wire m bytes
 unfolding message_at
@@ -80,7 +83,7 @@ message_takes bytes m fits e =
     typed [] b_fits short read = absurd cc
     typed (high ∷ []) b_fits short read = absurd cc
     typed (high ∷ low ∷ body) b_fits short read =
-        body_takes high low body m (record { high_fits = b_fits 0; low_fits = b_fits 1; fits = IsBytes-rest low body (IsBytes-rest high (low ∷ body) b_fits); short = short }) read
+        body_takes high low body m (record { low_fits = b_fits 1; fits = IsBytes-rest low body (IsBytes-rest high (low ∷ body) b_fits); short = short }) read
 
 -- a message whose type and fields are read again
 typed_again : {Fields : List ℕ → Type 0} (kind : ℕ) (bytes : List ℕ) (s : Spells kind Fields bytes) (m : Message) → typed_at (to_be_bytes w16 kind ++ s.body) ≡ Ok m → message_at bytes ≡ Ok m
@@ -91,9 +94,12 @@ typed_again kind bytes s m e =
 
 pub message_again : (bytes : List ℕ) (m : Message) → Wire m bytes → message_at bytes ≡ Ok m
 unfolding body_at
-message_again bytes (messages.Announce m) s = typed_again 256 bytes s _ (rw (announce_body.again m s.body s.fields) refl)
-message_again bytes (messages.NodeAnnounce m) s = typed_again 257 bytes s _ (rw (node_announce_body.again m s.body s.fields) refl)
-message_again bytes (messages.ChannelUpdate m) s = typed_again 258 bytes s _ (rw (channel_update_body.again m s.body s.fields) refl)
+message_again bytes (messages.Announce m) s = typed_again 256 bytes s _ (rw (announce_text.again m s.body s.fields) refl)
+message_again bytes (messages.NodeAnnounce m) s = typed_again 257 bytes s _ (rw (node_announce_text.again m s.body s.fields) refl)
+message_again bytes (messages.ChannelUpdate m) s = typed_again 258 bytes s _ (rw (channel_update_text.again m s.body s.fields) refl)
+message_again bytes (messages.IdsEnd m) s = typed_again 262 bytes s _ (rw (ids_end_text.again m s.body s.fields) refl)
+message_again bytes (messages.RangeQuery m) s = typed_again 263 bytes s _ (rw (range_query_text.again m s.body s.fields) refl)
+message_again bytes (messages.FilterMsg m) s = typed_again 265 bytes s _ (rw (filter_msg_text.again m s.body s.fields) refl)
 
 pub is_found : (bytes : List ℕ) (r : Result Message DecodeFault) → IsBytes bytes → Gives NoMemory (λ m. m) r (message_at bytes) → IfOk r (λ m. Wire m bytes)
 is_found bytes (Ok m) fits given = message_takes bytes m fits given
