@@ -1,3 +1,10 @@
+pub mod WireLaws
 pub mod FieldLaws
+pub mod OptionalLaws
 pub mod AnnounceLaws
+pub mod NodeAnnounceLaws
+pub mod ChannelUpdateLaws
+pub mod IdsEndLaws
+pub mod RangeQueryLaws
+pub mod FilterMsgLaws
 pub mod MessageLaws

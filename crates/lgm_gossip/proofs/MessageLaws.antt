@@ -1,49 +1,75 @@
 -- The laws of messages: what is read is spelled so, and what is spelled so is read.
-use Rattle.std.proofs.Common.{◌≡◌, ℕ, ◌+◌, ◌*◌, ◌%◌, ◌<◌, ◌≤◌, ◌⊎◌, ◌↔◌, Bool, true, false, cond, eqb, ltb, List, [], ◌∷◌, ◌++◌, length, Option, Some, None, Result, Ok, Err, refl, ap, sym, subst, ◌∙◌, arith, inl, inr}
+use Rattle.std.proofs.Common.{◌≡◌, ℕ, ◌+◌, ◌*◌, ◌/◌, ◌%◌, ◌<◌, ◌≤◌, ◌⊎◌, ◌↔◌, Bool, true, false, cond, eqb, ltb, List, [], ◌∷◌, ◌++◌, length, Option, Some, None, Result, Ok, Err, refl, ap, sym, subst, ◌∙◌, arith, inl, inr}
 use Rattle.std.specs.Prelude.{IfOk, MatchResult}
-use Rattle.std.specs.List.{flat_map}
+use Rattle.std.specs.Int.{w16, to_be_bytes}
 use Rattle.std.specs.Result.{result_err}
 use Rattle.std.proofs.lemmas.Bool.{eqb-true, ltb-false, le-ltb}
 use Rattle.lgm_wire.specs.Reading.{◌>>=◌, Gives}
-use Rattle.lgm_wire.proofs.ReadingLaws.{chosen, bind_ok, ok_is}
-use Rattle.lgm_wire.proofs.Bytes.{IsBytes, IsBytes-rest}
 use Rattle.lgm_gossip.specs.declared.fault.DecodeFault.{DecodeFault}
 use Rattle.lgm_gossip.specs.declared.fault.DecodeFault.TheVariants.{Long, UnknownEven, UnknownOdd, Short, NoMemory}
-use Rattle.lgm_gossip.specs.declared.announce.Announce.{Announce}
 use Rattle.lgm_gossip.specs.declared.message.Message.{Message}
 use Rattle.lgm_gossip.specs.declared.message.Message.TheVariants as messages
-use Rattle.lgm_gossip.specs.Announce.{fields_of, Fits}
-use Rattle.lgm_gossip.specs.AnnounceReading.{announce_at}
 use Rattle.lgm_gossip.specs.Message.{Wire, Spells}
 use Rattle.lgm_gossip.specs.MessageReading.{fault, body_at, typed_at, message_at}
-use Rattle.lgm_gossip.proofs.AnnounceLaws.{announce_takes, announce_again}
+use Rattle.lgm_gossip.proofs.WireLaws.{chosen, bind_ok, ok_is, IsBytes, IsBytes-rest}
+use Rattle.lgm_gossip.proofs.FieldLaws.{IsText}
+use Rattle.lgm_gossip.proofs.AnnounceLaws.{announce_text}
+use Rattle.lgm_gossip.proofs.NodeAnnounceLaws.{node_announce_text}
+use Rattle.lgm_gossip.proofs.ChannelUpdateLaws.{channel_update_text}
+use Rattle.lgm_gossip.proofs.IdsEndLaws.{ids_end_text}
+use Rattle.lgm_gossip.proofs.RangeQueryLaws.{range_query_text}
+use Rattle.lgm_gossip.proofs.FilterMsgLaws.{filter_msg_text}
 
--- what was read of the fields after the type
-BodyIs : ℕ → ℕ → List ℕ → Message → Type 0
-BodyIs high low body m = length (high ∷ low ∷ body) ≤ 65535 → Wire m (high ∷ low ∷ body)
+-- the bytes of a message
+record IsTyped (high low : ℕ) (body : List ℕ) : Type 0 where
+  low_fits : low < 256
+  fits : IsBytes body
+  short : length (high ∷ low ∷ body) ≤ 65535
 
-body_takes : (high low : ℕ) (body : List ℕ) (m : Message) → low < 256 → IsBytes body → body_at (high * 256 + low) body ≡ Ok m → length (high ∷ low ∷ body) ≤ 65535 → Wire m (high ∷ low ∷ body)
-unfolding body_at
-body_takes high low body m small fits e short =
-    let kind : ℕ = high * 256 + low in
-    elim (chosen (eqb kind 256) (announce_at body >>= λ x. Ok (messages.Announce x)) (cond (eqb (kind % 2) 0) (Err (UnknownEven kind)) (Err (UnknownOdd kind))) (Ok m) e) [
+-- the two bytes of a type
+kind_bytes : (kind high low : ℕ) → low < 256 → high * 256 + low ≡ kind → kind < 512 → to_be_bytes w16 kind ≡ high ∷ low ∷ []
+kind_bytes kind high low lt e below =
+    let first : kind / 256 % 256 ≡ high = omega arith in
+    let second : kind % 256 ≡ low = omega arith in
+    let bytes : kind / 256 % 256 ∷ kind % 256 ∷ [] ≡ high ∷ low ∷ [] = cc in
+    bytes
+
+-- one line of `body_at`: the bytes behind the type were read as its message, or by the lines below
+line : {M : Type 0} {at : List ℕ → Result M DecodeFault} {Fields : M → List ℕ → Type 0} (law : IsText at Fields) (variant : M → Message) (kind high low : ℕ) (body : List ℕ) (m : Message) (others : Result Message DecodeFault)
+    → kind < 512 → ((x : M) → Spells kind (Fields x) (high ∷ low ∷ body) → Wire (variant x) (high ∷ low ∷ body)) → IsTyped high low body
+    → cond (eqb (high * 256 + low) kind) (at body >>= λ x. Ok (variant x)) others ≡ Ok m → (others ≡ Ok m → Wire m (high ∷ low ∷ body)) → Wire m (high ∷ low ∷ body)
+line {M} {at} {Fields} law variant kind high low body m others below wire typed e later =
+    elim (chosen (eqb (high * 256 + low) kind) (at body >>= λ x. Ok (variant x)) others (Ok m) e) [
       | inl is ↦
-          let k : kind ≡ 256 = eqb-true kind 256 is.0 in
-          let h : high ≡ 1 = omega arith in
-          let l : low ≡ 0 = omega arith in
-          let a = bind_ok (announce_at body) (λ x. Ok (messages.Announce x)) m is.1 in
-          let t = announce_takes body a.0 fits a.1 in
-          subst (λ (x : Message). Wire x (high ∷ low ∷ body)) (ok_is (messages.Announce a.0) m a.2) (record {
-            fits = t.0;
-            whole = rw (h, l) (ap (λ (s : List ℕ). 1 ∷ 0 ∷ s) t.1);
-            len = short;
-          })
-      | inr other ↦
-          elim (chosen (eqb (kind % 2) 0) (Err (UnknownEven kind)) (Err (UnknownOdd kind)) (Ok m) other.1) [
-            | inl bad ↦ absurd cc
-            | inr bad ↦ absurd cc
-          ]
+          let a = bind_ok (at body) (λ x. Ok (variant x)) m is.1 in
+          let bytes = kind_bytes kind high low typed.low_fits (eqb-true (high * 256 + low) kind is.0) below in
+          subst (λ (x : Message). Wire x (high ∷ low ∷ body)) (ok_is (variant a.0) m a.2) (wire a.0 (record {
+            body = body;
+            whole = ap (λ (s : List ℕ). s ++ body) (sym bytes);
+            fields = law.takes body a.0 typed.fits a.1;
+            len = typed.short;
+          }))
+      | inr other ↦ later other.1
     ]
+
+-- the last line
+unknown_line : (kind : ℕ) (m : Message) → cond (eqb (kind % 2) 0) (Err (UnknownEven kind)) (Err (UnknownOdd kind)) ≡ Ok m → ⊥
+unknown_line kind m e =
+    elim (chosen (eqb (kind % 2) 0) (Err (UnknownEven kind)) (Err (UnknownOdd kind)) (Ok m) e) [
+      | inl bad ↦ absurd cc
+      | inr bad ↦ absurd cc
+    ]
+
+body_takes : (high low : ℕ) (body : List ℕ) (m : Message) → IsTyped high low body → body_at (high * 256 + low) body ≡ Ok m → Wire m (high ∷ low ∷ body)
+unfolding body_at
+body_takes high low body m typed e =
+    line announce_text (λ x. messages.Announce x) 256 high low body m _ (omega arith) (λ x s. s) typed e (λ e.
+    line node_announce_text (λ x. messages.NodeAnnounce x) 257 high low body m _ (omega arith) (λ x s. s) typed e (λ e.
+    line channel_update_text (λ x. messages.ChannelUpdate x) 258 high low body m _ (omega arith) (λ x s. s) typed e (λ e.
+    line ids_end_text (λ x. messages.IdsEnd x) 262 high low body m _ (omega arith) (λ x s. s) typed e (λ e.
+    line range_query_text (λ x. messages.RangeQuery x) 263 high low body m _ (omega arith) (λ x s. s) typed e (λ e.
+    line filter_msg_text (λ x. messages.FilterMsg x) 265 high low body m _ (omega arith) (λ x s. s) typed e (λ e.
+    absurd (unknown_line (high * 256 + low) m e)))))))
 
 pub message_takes : (bytes : List ℕ) (m : Message) → IsBytes bytes → message_at bytes ≡ Ok m → Wire m bytes
 unfolding message_at
@@ -56,14 +82,24 @@ message_takes bytes m fits e =
     typed : (b : List ℕ) → IsBytes b → length b ≤ 65535 → typed_at b ≡ Ok m → Wire m b
     typed [] b_fits short read = absurd cc
     typed (high ∷ []) b_fits short read = absurd cc
-    typed (high ∷ low ∷ body) b_fits short read = body_takes high low body m (b_fits 1) (IsBytes-rest low body (IsBytes-rest high (low ∷ body) b_fits)) read short
+    typed (high ∷ low ∷ body) b_fits short read =
+        body_takes high low body m (record { low_fits = b_fits 1; fits = IsBytes-rest low body (IsBytes-rest high (low ∷ body) b_fits); short = short }) read
+
+-- a message whose type and fields are read again
+typed_again : {Fields : List ℕ → Type 0} (kind : ℕ) (bytes : List ℕ) (s : Spells kind Fields bytes) (m : Message) → typed_at (to_be_bytes w16 kind ++ s.body) ≡ Ok m → message_at bytes ≡ Ok m
+unfolding message_at
+typed_again kind bytes s m e =
+    let short : ltb 65535 (length bytes) ≡ false = le-ltb _ _ s.len in
+    rw short (ap typed_at s.whole ∙ e)
 
 pub message_again : (bytes : List ℕ) (m : Message) → Wire m bytes → message_at bytes ≡ Ok m
-unfolding message_at body_at
-message_again bytes (messages.Announce m) wire =
-    let short : ltb 65535 (length bytes) ≡ false = le-ltb _ _ wire.len in
-    let read = announce_again m wire.fits in
-    rw short (ap typed_at wire.whole ∙ rw read refl)
+unfolding body_at
+message_again bytes (messages.Announce m) s = typed_again 256 bytes s _ (rw (announce_text.again m s.body s.fields) refl)
+message_again bytes (messages.NodeAnnounce m) s = typed_again 257 bytes s _ (rw (node_announce_text.again m s.body s.fields) refl)
+message_again bytes (messages.ChannelUpdate m) s = typed_again 258 bytes s _ (rw (channel_update_text.again m s.body s.fields) refl)
+message_again bytes (messages.IdsEnd m) s = typed_again 262 bytes s _ (rw (ids_end_text.again m s.body s.fields) refl)
+message_again bytes (messages.RangeQuery m) s = typed_again 263 bytes s _ (rw (range_query_text.again m s.body s.fields) refl)
+message_again bytes (messages.FilterMsg m) s = typed_again 265 bytes s _ (rw (filter_msg_text.again m s.body s.fields) refl)
 
 pub is_found : (bytes : List ℕ) (r : Result Message DecodeFault) → IsBytes bytes → Gives NoMemory (λ m. m) r (message_at bytes) → IfOk r (λ m. Wire m bytes)
 is_found bytes (Ok m) fits given = message_takes bytes m fits given

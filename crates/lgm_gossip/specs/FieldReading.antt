@@ -25,6 +25,10 @@ counted_at bytes = do
 abbrev pub rest_at : List ℕ → Result (List ℕ × List ℕ) DecodeFault
 rest_at bytes = Ok (bytes, [])
 
+-- all that is left, which isn't kept
+abbrev pub dropped_at : List ℕ → Result (Unit {0} × List ℕ) DecodeFault
+dropped_at bytes = Ok (tt, [])
+
 -- one field behind the other
 infixr 8 ◌⊗◌
 abbrev pub ◌⊗◌ : {A B : Type 0} → (List ℕ → Result (A × List ℕ) DecodeFault) → (List ℕ → Result (B × List ℕ) DecodeFault) → List ℕ → Result ((A × B) × List ℕ) DecodeFault

@@ -1,7 +1,7 @@
 //! Fields at the front of bytes: each reader gives a field and the bytes behind it.
 
 ghost use Rattle.std.specs.Prelude.{◌≡◌};
-ghost use Rattle.std.specs.Int.{w16, w64};
+ghost use Rattle.std.specs.Int.{w8, w16, w32, w64};
 ghost use Rattle.lgm_wire.specs.Reading.{Sees};
 ghost use Rattle.lgm_gossip.specs.FieldReading.{fixed_at, number_at, counted_at};
 
@@ -17,12 +17,28 @@ pub fn fixed<const N: usize>(bytes: &[u8]) -> Result<([u8; N], &[u8]), DecodeFau
     }
 }
 
+/// A number of one byte.
+pub fn number8(bytes: &[u8]) -> Result<(u8, &[u8]), DecodeFault>
+    ensures { Sees (λ x. (x.0, x.1.now)) result (number_at w8 bytes.now) }
+{
+    let (front, rest) = fixed::<1>(bytes)?;
+    Ok((u8::from_be_bytes(front), rest))
+}
+
 /// A number of two bytes.
 pub fn number16(bytes: &[u8]) -> Result<(u16, &[u8]), DecodeFault>
     ensures { Sees (λ x. (x.0, x.1.now)) result (number_at w16 bytes.now) }
 {
     let (front, rest) = fixed::<2>(bytes)?;
     Ok((u16::from_be_bytes(front), rest))
+}
+
+/// A number of four bytes.
+pub fn number32(bytes: &[u8]) -> Result<(u32, &[u8]), DecodeFault>
+    ensures { Sees (λ x. (x.0, x.1.now)) result (number_at w32 bytes.now) }
+{
+    let (front, rest) = fixed::<4>(bytes)?;
+    Ok((u32::from_be_bytes(front), rest))
 }
 
 /// A number of eight bytes.

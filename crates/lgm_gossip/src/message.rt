@@ -1,6 +1,11 @@
 //! The messages.
 
 use crate::announce::Announce;
+use crate::channel_update::ChannelUpdate;
+use crate::filter_msg::FilterMsg;
+use crate::ids_end::IdsEnd;
+use crate::node_announce::NodeAnnounce;
+use crate::range_query::RangeQuery;
 
 /// The most bytes that a message has, its type included (BOLT 1, "Lightning Message Format").
 pub const MAX_LEN: usize = 65_535;
@@ -10,4 +15,14 @@ pub const MAX_LEN: usize = 65_535;
 pub enum Message {
     /// Type 256, `channel_announcement`.
     Announce(Announce),
+    /// Type 257, `node_announcement`.
+    NodeAnnounce(NodeAnnounce),
+    /// Type 258, `channel_update`.
+    ChannelUpdate(ChannelUpdate),
+    /// Type 262, `reply_short_channel_ids_end`.
+    IdsEnd(IdsEnd),
+    /// Type 263, `query_channel_range`.
+    RangeQuery(RangeQuery),
+    /// Type 265, `gossip_timestamp_filter`.
+    FilterMsg(FilterMsg),
 }

@@ -1,0 +1,27 @@
+-- What may stand behind the last field: a stream of records, of which those of type 1 are known.
+use Rattle.std.specs.Prelude.{◌≡◌, ℕ, ◌%◌, List, [], ◌∷◌, Option, Some, None, ◌==◌, if◌then◌else◌}
+use Rattle.std.specs.List.{AllByRecursion}
+use Rattle.lgm_gossip.specs.Streams.{Record, Tlvs}
+
+-- the value of the record of type 1, if there is one
+abbrev pub value_of : List Record → Option (List ℕ)
+value_of [] = None
+value_of (r ∷ rs) = if r.kind == 1 then Some r.value else value_of rs
+
+-- there is a value exactly where there are bytes of it, and they spell it
+abbrev pub SameOption : {A : Type 0} → (A → List ℕ → Type 0) → Option A → Option (List ℕ) → Type 0
+SameOption F None None = Unit {0}
+SameOption F None (Some b) = ⊥
+SameOption F (Some x) None = ⊥
+SameOption F (Some x) (Some b) = F x b
+
+-- b is a stream of records of odd types, and that of type 1 spells x
+pub record IsOptional {A : Type 0} (F : A → List ℕ → Type 0) (x : Option A) (b : List ℕ) : Type 0 where
+  pub records : List Record
+  pub stream : Tlvs records b
+  pub odd : AllByRecursion (λ r. r.kind % 2 ≡ 1) records
+  pub value : SameOption F x (value_of records)
+
+-- the same as a field
+abbrev pub optional : {A : Type 0} → (A → List ℕ → Type 0) → Option A → List ℕ → Type 0
+optional F x b = IsOptional F x b

@@ -1,0 +1,75 @@
+//! `channel_update`.
+
+ghost use Rattle.lgm_wire.specs.Reading.{Gives};
+
+use crate::bytes::Bytes;
+use crate::chain_hash::ChainHash;
+use crate::fault::DecodeFault;
+use crate::fields::{fixed, number8, number16, number32, number64};
+use crate::scid::Scid;
+use std::alloc::Global;
+
+/// A `channel_update`, type 258: one end of a channel tells on which terms it forwards to the other end (BOLT 7, "The
+/// channel_update Message").
+#[derive(Debug, Drop)]
+pub struct ChannelUpdate {
+    /// The signature of the end that forwards.
+    pub signature: [u8; 64],
+    /// The chain that holds the funding output.
+    pub chain_hash: ChainHash,
+    pub short_channel_id: Scid,
+    /// Seconds since 1970. Of two updates of a direction the one with the greater number holds.
+    pub timestamp: u32,
+    /// Bit 0 must be set, bit 1 says that the update isn't to be forwarded.
+    pub message_flags: u8,
+    /// Bit 0 is the direction: 0 from node 1, 1 from node 2. Bit 1 says that the direction is disabled.
+    pub channel_flags: u8,
+    /// Blocks that a forwarded payment's expiry is lowered by.
+    pub cltv_expiry_delta: u16,
+    /// The least amount that is forwarded, in thousandths of a satoshi.
+    pub htlc_minimum_msat: u64,
+    /// The fee's fixed part, in thousandths of a satoshi.
+    pub fee_base_msat: u32,
+    /// The fee's part that grows with the amount, in millionths of it.
+    pub fee_proportional_millionths: u32,
+    /// The greatest amount that is forwarded, in thousandths of a satoshi.
+    pub htlc_maximum_msat: u64,
+    /// What stands behind the last field.
+    pub rest: Bytes,
+}
+
+impl ChannelUpdate {
+    ghost use Rattle.lgm_gossip.specs.ChannelUpdateReading.{channel_update_at};
+
+    /// The fields, read from left to right, of the bytes behind the type.
+    #[tactic(auto, unfolding(crate::specs::ChannelUpdateReading::channel_update_at))]
+    pub(crate) fn read(alloc: Global, bytes: &[u8]) -> Result<ChannelUpdate, DecodeFault>
+        ensures { Gives DecodeFault.NoMemory (λ m. m) result (channel_update_at bytes.now) }
+    {
+        let (signature, rest) = fixed(bytes)?;
+        let (chain_hash, rest) = fixed(rest)?;
+        let (short_channel_id, rest) = number64(rest)?;
+        let (timestamp, rest) = number32(rest)?;
+        let (message_flags, rest) = number8(rest)?;
+        let (channel_flags, rest) = number8(rest)?;
+        let (cltv_expiry_delta, rest) = number16(rest)?;
+        let (htlc_minimum_msat, rest) = number64(rest)?;
+        let (fee_base_msat, rest) = number32(rest)?;
+        let (fee_proportional_millionths, rest) = number32(rest)?;
+        let (htlc_maximum_msat, rest) = number64(rest)?;
+        Ok(ChannelUpdate {
+            signature,
+            chain_hash: ChainHash(chain_hash),
+            short_channel_id: Scid::from_u64(short_channel_id),
+            timestamp,
+            message_flags,
+            channel_flags,
+            cltv_expiry_delta,
+            htlc_minimum_msat,
+            fee_base_msat,
+            fee_proportional_millionths,
+            htlc_maximum_msat,
+            rest: Bytes::from_slice(alloc, rest)?,
+        })
+    }
+}

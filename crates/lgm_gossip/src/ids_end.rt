@@ -1,0 +1,34 @@
+//! `reply_short_channel_ids_end`.
+
+ghost use Rattle.lgm_wire.specs.Reading.{Sees};
+
+use crate::chain_hash::ChainHash;
+use crate::fault::DecodeFault;
+use crate::fields::{fixed, number8};
+
+/// A `reply_short_channel_ids_end`, type 262: all that was asked for by ids has been sent (BOLT 7, "The
+/// query_short_channel_ids/reply_short_channel_ids_end Messages").
+#[derive(Clone, Copy, Debug, PartialEq, Eq)]
+pub struct IdsEnd {
+    /// The chain of the query.
+    pub chain_hash: ChainHash,
+    /// 0 if the sender doesn't keep up with this chain, else 1. Kept as it came.
+    pub full_information: u8,
+}
+
+impl IdsEnd {
+    ghost use Rattle.lgm_gossip.specs.IdsEndReading.{ids_end_at};
+
+    /// The fields, read from left to right, of the bytes behind the type. What stands behind them is dropped.
+    #[tactic(auto, unfolding(crate::specs::IdsEndReading::ids_end_at))]
+    pub(crate) fn read(bytes: &[u8]) -> Result<IdsEnd, DecodeFault>
+        ensures { Sees (λ m. m) result (ids_end_at bytes.now) }
+    {
+        let (chain_hash, rest) = fixed(bytes)?;
+        let (full_information, _) = number8(rest)?;
+        Ok(IdsEnd {
+            chain_hash: ChainHash(chain_hash),
+            full_information,
+        })
+    }
+}

@@ -1,0 +1,58 @@
+//! `node_announcement`.
+
+ghost use Rattle.lgm_wire.specs.Reading.{Gives};
+
+use crate::bytes::Bytes;
+use crate::fault::DecodeFault;
+use crate::fields::{counted, fixed, number32};
+use crate::point::Point;
+use std::alloc::Global;
+
+/// A `node_announcement`, type 257: a node tells its name, its features and where it can be reached (BOLT 7, "The
+/// node_announcement Message").
+#[derive(Debug, Drop)]
+pub struct NodeAnnounce {
+    /// The signature of the node.
+    pub signature: [u8; 64],
+    /// Feature bits, numbered from the least bit of the last byte.
+    pub features: Bytes,
+    /// Seconds since 1970. Of two announcements of a node the one with the greater number holds.
+    pub timestamp: u32,
+    pub node_id: Point,
+    /// Red, green and blue.
+    pub rgb_color: [u8; 3],
+    /// The node's name, UTF-8 padded with zeros, as it came.
+    pub alias: [u8; 32],
+    /// Address descriptors, as they came: [`addresses`](crate::addresses) reads them.
+    pub addresses: Bytes,
+    /// What stands behind the last field.
+    pub rest: Bytes,
+}
+
+impl NodeAnnounce {
+    ghost use Rattle.lgm_gossip.specs.NodeAnnounceReading.{node_announce_at};
+
+    /// The fields, read from left to right, of the bytes behind the type.
+    #[tactic(auto, unfolding(crate::specs::NodeAnnounceReading::node_announce_at))]
+    pub(crate) fn read(alloc: Global, bytes: &[u8]) -> Result<NodeAnnounce, DecodeFault>
+        ensures { Gives DecodeFault.NoMemory (λ m. m) result (node_announce_at bytes.now) }
+    {
+        let (signature, rest) = fixed(bytes)?;
+        let (features, rest) = counted(rest)?;
+        let (timestamp, rest) = number32(rest)?;
+        let (node_id, rest) = fixed(rest)?;
+        let (rgb_color, rest) = fixed(rest)?;
+        let (alias, rest) = fixed(rest)?;
+        let (addresses, rest) = counted(rest)?;
+        Ok(NodeAnnounce {
+            signature,
+            features: Bytes::from_slice(alloc, features)?,
+            timestamp,
+            node_id: Point(node_id),
+            rgb_color,
+            alias,
+            addresses: Bytes::from_slice(alloc, addresses)?,
+            rest: Bytes::from_slice(alloc, rest)?,
+        })
+    }
+}
