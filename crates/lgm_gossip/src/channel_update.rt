@@ -1,5 +1,6 @@
 //! `channel_update`.
 
+ghost use Rattle.std.specs.Prelude.{◌≡◌, IfOk};
 ghost use Rattle.lgm_wire.specs.Reading.{Gives};
 
 use crate::bytes::Bytes;
@@ -7,7 +8,7 @@ use crate::chain_hash::ChainHash;
 use crate::fault::DecodeFault;
 use crate::fields::{fixed, number8, number16, number32, number64};
 use crate::scid::Scid;
-use std::alloc::Global;
+use std::alloc::{AllocError, Global};
 
 /// A `channel_update`, type 258: one end of a channel tells on which terms it forwards to the other end (BOLT 7, "The
 /// channel_update Message").
@@ -40,6 +41,16 @@ pub struct ChannelUpdate {
 
 impl ChannelUpdate {
     ghost use Rattle.lgm_gossip.specs.ChannelUpdateReading.{channel_update_at};
+
+    /// A copy. The only error is want of memory.
+    pub fn copy(&self, alloc: Global) -> Result<ChannelUpdate, AllocError>
+        ensures { IfOk result (λ copy. copy ≡ self.now) }
+    {
+        Ok(ChannelUpdate {
+            rest: self.rest.copy(alloc)?,
+            ..*self
+        })
+    }
 
     /// The fields, read from left to right, of the bytes behind the type.
     #[tactic(auto, unfolding(crate::specs::ChannelUpdateReading::channel_update_at))]

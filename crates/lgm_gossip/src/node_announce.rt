@@ -1,12 +1,13 @@
 //! `node_announcement`.
 
+ghost use Rattle.std.specs.Prelude.{◌≡◌, IfOk};
 ghost use Rattle.lgm_wire.specs.Reading.{Gives};
 
 use crate::bytes::Bytes;
 use crate::fault::DecodeFault;
 use crate::fields::{counted, fixed, number32};
 use crate::point::Point;
-use std::alloc::Global;
+use std::alloc::{AllocError, Global};
 
 /// A `node_announcement`, type 257: a node tells its name, its features and where it can be reached (BOLT 7, "The
 /// node_announcement Message").
@@ -31,6 +32,18 @@ pub struct NodeAnnounce {
 
 impl NodeAnnounce {
     ghost use Rattle.lgm_gossip.specs.NodeAnnounceReading.{node_announce_at};
+
+    /// A copy. The only error is want of memory.
+    pub fn copy(&self, alloc: Global) -> Result<NodeAnnounce, AllocError>
+        ensures { IfOk result (λ copy. copy ≡ self.now) }
+    {
+        Ok(NodeAnnounce {
+            features: self.features.copy(alloc)?,
+            addresses: self.addresses.copy(alloc)?,
+            rest: self.rest.copy(alloc)?,
+            ..*self
+        })
+    }
 
     /// The fields, read from left to right, of the bytes behind the type.
     #[tactic(auto, unfolding(crate::specs::NodeAnnounceReading::node_announce_at))]
