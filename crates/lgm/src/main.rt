@@ -3,6 +3,8 @@
 
 mod options;
 mod starting;
+#[cfg(test)]
+mod tests;
 
 use lgm_server::{FromRead, ToWrite};
 use std::process::ExitCode;
