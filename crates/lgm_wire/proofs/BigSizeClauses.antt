@@ -10,13 +10,15 @@ use Rattle.lgm_wire.specs.BigSizeReading.{bigsize_at, bigsize_with_len}
 use Rattle.lgm_wire.proofs.Bytes.{IsBytes}
 use Rattle.lgm_wire.proofs.BigSizeLaws.{bigsize_spelled, bigsize_at-bigsize_bytes, cut, small, found, outcome}
 
+-- what follows a number has fewer bytes
 pub shorter : (bytes rest : List ℕ) (v : ℕ) → IsBytes bytes → bigsize_at bytes ≡ Ok (v, rest) → length rest ≤ length bytes
 shorter bytes rest v fits e =
     let parts = (bigsize_spelled bytes v rest fits e).parts in
     omega (arith, ap length parts, length-append (bigsize_bytes v) rest)
 
-pub sized_gives : (bytes : List ℕ) → IsBytes bytes → (v n : ℕ) → (bigsize_with_len bytes ≡ Ok (v, n)) ↔ ((n ≤ length bytes) × IsBigSize v (take n bytes))
-sized_gives bytes fits v n = (
+-- a number and how many bytes it takes, exactly where so many bytes spell it
+bigsize_with_len-value : (bytes : List ℕ) → IsBytes bytes → (v n : ℕ) → (bigsize_with_len bytes ≡ Ok (v, n)) ↔ ((n ≤ length bytes) × IsBigSize v (take n bytes))
+bigsize_with_len-value bytes fits v n = (
   λ e.
       let s = bind_ok (bigsize_at bytes) (λ x. Ok (x.0, length bytes - length x.1)) (v, n) e in
       let t = bigsize_spelled bytes s.0.0 s.0.1 fits s.1 in
@@ -33,37 +35,39 @@ sized_gives bytes fits v n = (
       rw (read, size) refl,
 )
 
+-- the outcome with the number of bytes is that of the reading
 abbrev failed : WireFault → Result (ℕ × ℕ) WireFault
 failed e = Err e
 
-sized_err : (bytes : List ℕ) (e : WireFault) → bigsize_at bytes ≡ Err e → bigsize_with_len bytes ≡ failed e
-sized_err bytes e h = rw h refl
+bigsize_with_len-err : (bytes : List ℕ) (e : WireFault) → bigsize_at bytes ≡ Err e → bigsize_with_len bytes ≡ failed e
+bigsize_with_len-err bytes e h = rw h refl
 
-sized_ok : (bytes : List ℕ) (x : ℕ × List ℕ) → bigsize_at bytes ≡ Ok x → bigsize_with_len bytes ≡ Ok (x.0, length bytes - length x.1)
-sized_ok bytes x h = rw h refl
+bigsize_with_len-ok : (bytes : List ℕ) (x : ℕ × List ℕ) → bigsize_at bytes ≡ Ok x → bigsize_with_len bytes ≡ Ok (x.0, length bytes - length x.1)
+bigsize_with_len-ok bytes x h = rw h refl
 
-pub sized_cut : (bytes : List ℕ) → IsBytes bytes → (bigsize_with_len bytes ≡ Err Cut) ↔ (length bytes < form_len bytes)
-sized_cut bytes fits =
+-- each fault exactly where it comes, and no other
+bigsize_with_len-cut : (bytes : List ℕ) → IsBytes bytes → (bigsize_with_len bytes ≡ Err Cut) ↔ (length bytes < form_len bytes)
+bigsize_with_len-cut bytes fits =
     elim (outcome bytes fits) [
-      | cut lt e ↦ (λ _. lt, λ _. sized_err bytes Cut e)
-      | small le lt e ↦ (λ h. let f = sized_err bytes NotMinimal e in absurd cc, λ h. absurd (omega arith))
-      | found le ge x e ↦ (λ h. let f = sized_ok bytes x e in absurd cc, λ h. absurd (omega arith))
+      | cut lt e ↦ (λ _. lt, λ _. bigsize_with_len-err bytes Cut e)
+      | small le lt e ↦ (λ h. let f = bigsize_with_len-err bytes NotMinimal e in absurd cc, λ h. absurd (omega arith))
+      | found le ge x e ↦ (λ h. let f = bigsize_with_len-ok bytes x e in absurd cc, λ h. absurd (omega arith))
     ]
 
-pub sized_small : (bytes : List ℕ) → IsBytes bytes → (bigsize_with_len bytes ≡ Err NotMinimal) ↔ ((form_len bytes ≤ length bytes) × (length (bigsize_bytes (form_value bytes)) < form_len bytes))
-sized_small bytes fits =
+bigsize_with_len-not_minimal : (bytes : List ℕ) → IsBytes bytes → (bigsize_with_len bytes ≡ Err NotMinimal) ↔ ((form_len bytes ≤ length bytes) × (length (bigsize_bytes (form_value bytes)) < form_len bytes))
+bigsize_with_len-not_minimal bytes fits =
     elim (outcome bytes fits) [
-      | cut lt e ↦ (λ h. let f = sized_err bytes Cut e in absurd cc, λ h. absurd (omega (arith, lt, h.0)))
-      | small le lt e ↦ (λ _. (le, lt), λ _. sized_err bytes NotMinimal e)
-      | found le ge x e ↦ (λ h. let f = sized_ok bytes x e in absurd cc, λ h. absurd (omega (arith, ge, h.1)))
+      | cut lt e ↦ (λ h. let f = bigsize_with_len-err bytes Cut e in absurd cc, λ h. absurd (omega (arith, lt, h.0)))
+      | small le lt e ↦ (λ _. (le, lt), λ _. bigsize_with_len-err bytes NotMinimal e)
+      | found le ge x e ↦ (λ h. let f = bigsize_with_len-ok bytes x e in absurd cc, λ h. absurd (omega (arith, ge, h.1)))
     ]
 
-pub sized_faults : (bytes : List ℕ) → IsBytes bytes → IfErr (bigsize_with_len bytes) (λ e. (e ≡ Cut) ⊎ (e ≡ NotMinimal))
-sized_faults bytes fits =
+bigsize_with_len-faults : (bytes : List ℕ) → IsBytes bytes → IfErr (bigsize_with_len bytes) (λ e. (e ≡ Cut) ⊎ (e ≡ NotMinimal))
+bigsize_with_len-faults bytes fits =
     elim (outcome bytes fits) [
-      | cut lt e ↦ rw (sized_err bytes Cut e) (inl refl)
-      | small le lt e ↦ rw (sized_err bytes NotMinimal e) (inr refl)
-      | found le ge x e ↦ rw (sized_ok bytes x e) tt
+      | cut lt e ↦ rw (bigsize_with_len-err bytes Cut e) (inl refl)
+      | small le lt e ↦ rw (bigsize_with_len-err bytes NotMinimal e) (inr refl)
+      | found le ge x e ↦ rw (bigsize_with_len-ok bytes x e) tt
     ]
 
 -- what the contract says of a result, clause by clause
@@ -73,25 +77,21 @@ pub record Meets (bytes : List ℕ) (result : Result (ℕ × ℕ) WireFault) : T
   pub not_minimal : (result ≡ Err NotMinimal) ↔ ((form_len bytes ≤ length bytes) × (length (bigsize_bytes (form_value bytes)) < form_len bytes))
   pub faults : IfErr result (λ e. (e ≡ Cut) ⊎ (e ≡ NotMinimal))
 
+-- what the reading function gives meets them all
 pub meets : (bytes : List ℕ) (result : Result (ℕ × ℕ) WireFault) → IsBytes bytes → result ≡ bigsize_with_len bytes → Meets bytes result
 meets bytes result fits exact =
     subst (λ (r : Result (ℕ × ℕ) WireFault). Meets bytes r) (sym exact) (record {
-      value = sized_gives bytes fits;
-      cut = sized_cut bytes fits;
-      not_minimal = sized_small bytes fits;
-      faults = sized_faults bytes fits;
+      value = bigsize_with_len-value bytes fits;
+      cut = bigsize_with_len-cut bytes fits;
+      not_minimal = bigsize_with_len-not_minimal bytes fits;
+      faults = bigsize_with_len-faults bytes fits;
     })
 
-abbrev read : ℕ × List ℕ → Result (ℕ × List ℕ) WireFault
-read x = Ok x
-
-read_is : (x y : ℕ × List ℕ) → read x ≡ read y → x ≡ y
-read_is x y e = cc
-
+-- no spelling begins another one
 pub same_front : (m n : ℕ) (a b x y : List ℕ) → IsBigSize m a → IsBigSize n b → a ++ x ≡ b ++ y → (m ≡ n) × (a ≡ b) × (x ≡ y)
 same_front m n a b x y p q e =
     let left = ap (λ (s : List ℕ). bigsize_at (s ++ x)) p.1 ∙ bigsize_at-bigsize_bytes m x p.0 in
     let right = ap (λ (s : List ℕ). bigsize_at (s ++ y)) q.1 ∙ bigsize_at-bigsize_bytes n y q.0 in
-    let same = read_is (m, x) (n, y) (sym left ∙ ap bigsize_at e ∙ right) in
+    let same = ok_is (m, x) (n, y) (sym left ∙ ap bigsize_at e ∙ right) in
     let kind = ap (λ (z : ℕ × List ℕ). z.0) same in
     (kind, p.1 ∙ ap bigsize_bytes kind ∙ sym q.1, ap (λ (z : ℕ × List ℕ). z.1) same)

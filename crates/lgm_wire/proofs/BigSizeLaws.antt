@@ -11,12 +11,14 @@ use Rattle.lgm_wire.proofs.Bytes.{IsBytes, IsBytes-rest, IsBytes-take, IsBytes-d
 
 -- ---- behind the first byte of a long form
 
+-- the bytes begin with a number of this width, of at least so much
 pub record LongFormSpelled (w : Width) (least limit : ℕ) (bytes : List ℕ) (v : ℕ) (rest : List ℕ) : Type 0 where
   pub parts : bytes ≡ to_be_bytes w v ++ rest
   pub least_is : least ≤ v
   pub limit_is : v < limit
   pub rest_fits : IsBytes rest
 
+-- what is read is so spelled, and what is so spelled is read
 pub long_form_spelled : (w : Width) (least limit : ℕ) (wide : IsWide w limit) (bytes : List ℕ) (v : ℕ) (rest : List ℕ) → IsBytes bytes → long_form_at w least bytes ≡ Ok (v, rest) → LongFormSpelled w least limit bytes v rest
 long_form_spelled w least limit wide bytes v rest fits e =
     let n : ℕ = from_be_bytes w (take (byte_len w) bytes) in
@@ -74,6 +76,7 @@ bigsize_bytes-nine_bytes v le =
     let b : 0x10000 ≤ v = omega arith in
     rw (le-ltb v 0xfd a, le-ltb v 0x10000 b, le-ltb v 0x100000000 le) refl
 
+-- no spelling is empty
 pub length-bigsize_bytes : (v : ℕ) → 0 < length (bigsize_bytes v)
 length-bigsize_bytes v =
     elim (cases_lt v 0xfd) [
@@ -97,6 +100,7 @@ pub record IsForm (first : ℕ) (w : Width) (least limit : ℕ) : Type 0 where
   pub shorter : (v : ℕ) → v < least → length (bigsize_bytes v) < suc (byte_len w)
   pub fits : limit ≤ 2 ^ 64
 
+-- the three of them
 pub form16 : IsForm 0xfd w16 0xfd (2 ^ 16)
 unfolding bigsize_at
 form16 = record {
@@ -162,11 +166,13 @@ form_of b lt =
 
 -- ---- what is read is so spelled, and what is so spelled is read
 
+-- the bytes begin with the spelling of a number
 pub record BigSizeSpelled (bytes : List ℕ) (v : ℕ) (rest : List ℕ) : Type 0 where
   pub parts : bytes ≡ bigsize_bytes v ++ rest
   pub fits : v < 2 ^ 64
   pub rest_fits : IsBytes rest
 
+-- reading one byte, and none
 bigsize_at-one_byte : (b : ℕ) (rest : List ℕ) → b < 0xfd → bigsize_at (b ∷ rest) ≡ Ok (b, rest)
 unfolding bigsize_at
 bigsize_at-one_byte b rest lt = rw (lt-ltb b 0xfd lt) refl
@@ -175,6 +181,7 @@ bigsize_at-nil : bigsize_at [] ≡ Err Cut
 unfolding bigsize_at
 bigsize_at-nil = refl
 
+-- what is read is so spelled
 pub bigsize_spelled : (bytes : List ℕ) (v : ℕ) (rest : List ℕ) → IsBytes bytes → bigsize_at bytes ≡ Ok (v, rest) → BigSizeSpelled bytes v rest
 bigsize_spelled [] v rest fits e = let bad = sym bigsize_at-nil ∙ e in absurd cc
 bigsize_spelled (b ∷ bs) v rest fits e =
@@ -197,6 +204,7 @@ bigsize_spelled (b ∷ bs) v rest fits e =
           }
     ]
 
+-- what is so spelled is read
 pub bigsize_at-bigsize_bytes : (v : ℕ) (rest : List ℕ) → v < 2 ^ 64 → bigsize_at (bigsize_bytes v ++ rest) ≡ Ok (v, rest)
 bigsize_at-bigsize_bytes v rest lt =
     elim (cases_lt v 0xfd) [
@@ -218,6 +226,7 @@ pub data Outcome : List ℕ → Type 0 where
   small : {bytes : List ℕ} → form_len bytes ≤ length bytes → length (bigsize_bytes (form_value bytes)) < form_len bytes → bigsize_at bytes ≡ Err NotMinimal → Outcome bytes
   found : {bytes : List ℕ} → form_len bytes ≤ length bytes → form_len bytes ≤ length (bigsize_bytes (form_value bytes)) → (x : ℕ × List ℕ) → bigsize_at bytes ≡ Ok x → Outcome bytes
 
+-- and it gives one of the three
 pub outcome : (bytes : List ℕ) → IsBytes bytes → Outcome bytes
 outcome [] fits = cut (omega arith) bigsize_at-nil
 outcome (b ∷ bs) fits =

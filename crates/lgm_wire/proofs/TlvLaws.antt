@@ -1,10 +1,10 @@
--- TLV streams: one record, what was read so far, and that two readings of one stream agree.
-use Rattle.std.proofs.Common.{◌≡◌, ℕ, zero, suc, ◌<◌, ◌≤◌, false, cond, ltb, List, [], ◌∷◌, ◌++◌, length, take, drop, Option, Some, None, Result, Ok, Err, refl, sym, ap, subst, ◌∙◌, append_assoc, arith, inl, inr}
+-- TLV streams: one record, what was read so far, and that reading gives a stream or its first fault.
+use Rattle.std.proofs.Common.{◌≡◌, ℕ, zero, suc, ◌^◌, ◌<◌, ◌≤◌, false, cond, ltb, List, [], ◌∷◌, ◌++◌, length, take, drop, Option, Some, None, Result, Ok, Err, refl, sym, ap, subst, ◌∙◌, append_assoc, arith, inl, inr}
 use Rattle.std.specs.List.{flat_map, AllByRecursion}
 use Rattle.std.proofs.lemmas.Bool.{ltb-false, le-ltb}
 use Rattle.std.proofs.lemmas.List.{take_at, drop_at, take-append-drop, length-append, length-take, append-nil, nil_from_length}
 use Rattle.std.proofs.lemmas.List.Concat.{flat_map-cons, flat_map-append}
-use Rattle.lgm_wire.proofs.ReadingLaws.{bind_ok, chosen}
+use Rattle.lgm_wire.proofs.ReadingLaws.{bind_ok, chosen, ok_is}
 use Rattle.lgm_wire.specs.declared.fault.WireFault.{WireFault}
 use Rattle.lgm_wire.specs.declared.fault.WireFault.TheVariants.{Cut, Order}
 use Rattle.lgm_wire.specs.BigSize.{bigsize_bytes}
@@ -15,20 +15,16 @@ use Rattle.lgm_wire.specs.TlvReading.{last_kind, is_not_above, record_at, IsFirs
 use Rattle.lgm_wire.proofs.Bytes.{IsBytes, IsBytes-drop, IsBytes-back}
 use Rattle.lgm_wire.proofs.BigSizeLaws.{bigsize_spelled, bigsize_at-bigsize_bytes, length-bigsize_bytes}
 
-abbrev done : TlvRecord × List ℕ → Result (TlvRecord × List ℕ) WireFault
-done x = Ok x
-
-done_is : (x y : TlvRecord × List ℕ) → done x ≡ done y → x ≡ y
-done_is x y e = cc
-
 -- ---- one record
 
+-- the bytes begin with this record, whose type is above the last one
 pub record RecordSpelled (last : Option ℕ) (bytes : List ℕ) (r : TlvRecord) (rest : List ℕ) : Type 0 where
   pub parts : bytes ≡ record_bytes r ++ rest
   pub fits : Fits r
   pub above : IsAbove last r.kind
   pub rest_fits : IsBytes rest
 
+-- the test of the order and what it means
 above_of : (last : Option ℕ) (kind : ℕ) → is_not_above last kind ≡ false → IsAbove last kind
 above_of None kind e = tt
 above_of (Some last) kind e = grind (arith)
@@ -37,48 +33,64 @@ not_above_of : (last : Option ℕ) (kind : ℕ) → IsAbove last kind → is_not
 not_above_of None kind above = refl
 not_above_of (Some last) kind above = grind (arith)
 
+-- the three parts of a record and what follows, one by one
+regrouped : (kind len value rest : List ℕ) → (kind ++ len ++ value) ++ rest ≡ kind ++ (len ++ (value ++ rest))
+regrouped kind len value rest = append_assoc (kind ++ len) value rest ∙ append_assoc kind len (value ++ rest)
+
+-- a type, a length and that many bytes spell a record
+parts_spelled : (last : Option ℕ) (bytes : List ℕ) (kind len : ℕ) (after_kind after_len : List ℕ) → bytes ≡ bigsize_bytes kind ++ after_kind → after_kind ≡ bigsize_bytes len ++ after_len → kind < 2 ^ 64 → len < 2 ^ 64 → IsAbove last kind → len ≤ length after_len → IsBytes after_len → RecordSpelled last bytes (record { kind = kind; value = take len after_len }) (drop len after_len)
+parts_spelled last bytes kind len after_kind after_len first second kind_fits len_fits above long fits =
+    let value = take len after_len in
+    let rest = drop len after_len in
+    let size : length value ≡ len = omega (arith, length-take len after_len) in
+    let third : after_len ≡ value ++ rest = sym (take-append-drop len after_len) in
+    let behind : after_kind ≡ bigsize_bytes (length value) ++ (value ++ rest) = second ∙ ap (λ (s : List ℕ). bigsize_bytes len ++ s) third ∙ ap (λ (k : ℕ). bigsize_bytes k ++ (value ++ rest)) (sym size) in
+    record {
+      parts = first ∙ ap (λ (s : List ℕ). bigsize_bytes kind ++ s) behind ∙ sym (regrouped (bigsize_bytes kind) (bigsize_bytes (length value)) value rest);
+      fits = record { kind = kind_fits; len = rw size len_fits };
+      above = above;
+      rest_fits = IsBytes-drop len after_len fits;
+    }
+
+-- how the reading of a record goes on behind its length, and behind its type
+abbrev behind_len : ℕ → ℕ × List ℕ → Result (TlvRecord × List ℕ) WireFault
+behind_len kind len = cond (ltb (length len.1) len.0) (Err Cut) (Ok (record { kind = kind; value = take len.0 len.1 }, drop len.0 len.1))
+
+abbrev behind_kind : Option ℕ → ℕ × List ℕ → Result (TlvRecord × List ℕ) WireFault
+behind_kind last kind = cond (is_not_above last kind.0) (Err Order) (bigsize_at kind.1 >>= behind_len kind.0)
+
+-- what is read is so spelled
 pub record_spelled : (last : Option ℕ) (bytes : List ℕ) (r : TlvRecord) (rest : List ℕ) → IsBytes bytes → record_at last bytes ≡ Ok (r, rest) → RecordSpelled last bytes r rest
 unfolding record_at
 record_spelled last bytes r rest fits e =
-    let a = bind_ok (bigsize_at bytes) (λ kind. cond (is_not_above last kind.0) (Err Order) (bigsize_at kind.1 >>= λ len. cond (ltb (length len.1) len.0) (Err Cut) (Ok (record { kind = kind.0; value = take len.0 len.1 }, drop len.0 len.1)))) (r, rest) e in
+    let a = bind_ok (bigsize_at bytes) (behind_kind last) (r, rest) e in
     let kind = a.0 in
     let t = bigsize_spelled bytes kind.0 kind.1 fits a.1 in
-    elim (chosen (is_not_above last kind.0) (Err Order) (bigsize_at kind.1 >>= λ len. cond (ltb (length len.1) len.0) (Err Cut) (Ok (record { kind = kind.0; value = take len.0 len.1 }, drop len.0 len.1))) (Ok (r, rest)) a.2) [
+    elim (chosen (is_not_above last kind.0) (Err Order) (bigsize_at kind.1 >>= behind_len kind.0) (Ok (r, rest)) a.2) [
       | inl bad ↦ absurd cc
       | inr good ↦
-          let b = bind_ok (bigsize_at kind.1) (λ len. cond (ltb (length len.1) len.0) (Err Cut) (Ok (record { kind = kind.0; value = take len.0 len.1 }, drop len.0 len.1))) (r, rest) good.1 in
+          let b = bind_ok (bigsize_at kind.1) (behind_len kind.0) (r, rest) good.1 in
           let len = b.0 in
           let u = bigsize_spelled kind.1 len.0 len.1 t.rest_fits b.1 in
-          elim (chosen (ltb (length len.1) len.0) (Err Cut) (Ok (record { kind = kind.0; value = take len.0 len.1 }, drop len.0 len.1)) (Ok (r, rest)) b.2) [
+          let made : TlvRecord × List ℕ = (record { kind = kind.0; value = take len.0 len.1 }, drop len.0 len.1) in
+          elim (chosen (ltb (length len.1) len.0) (Err Cut) (Ok made) (Ok (r, rest)) b.2) [
             | inl bad ↦ absurd cc
-            | inr fine ↦
-                let made : TlvRecord × List ℕ = (record { kind = kind.0; value = take len.0 len.1 }, drop len.0 len.1) in
-                let long : len.0 ≤ length len.1 = ltb-false _ _ fine.0 in
-                let size : length (take len.0 len.1) ≡ len.0 = omega (arith, length-take len.0 len.1) in
-                let third : len.1 ≡ take len.0 len.1 ++ drop len.0 len.1 = sym (take-append-drop len.0 len.1) in
-                let second : kind.1 ≡ bigsize_bytes len.0 ++ (take len.0 len.1 ++ drop len.0 len.1) = u.parts ∙ ap (λ (s : List ℕ). bigsize_bytes len.0 ++ s) third in
-                let first : bytes ≡ bigsize_bytes kind.0 ++ (bigsize_bytes len.0 ++ (take len.0 len.1 ++ drop len.0 len.1)) = t.parts ∙ ap (λ (s : List ℕ). bigsize_bytes kind.0 ++ s) second in
-                let spelt : record_bytes made.0 ++ made.1 ≡ bigsize_bytes kind.0 ++ (bigsize_bytes len.0 ++ (take len.0 len.1 ++ drop len.0 len.1)) = ap (λ (k : ℕ). (bigsize_bytes kind.0 ++ bigsize_bytes k ++ take len.0 len.1) ++ drop len.0 len.1) size ∙ append_assoc (bigsize_bytes kind.0 ++ bigsize_bytes len.0) (take len.0 len.1) (drop len.0 len.1) ∙ append_assoc (bigsize_bytes kind.0) (bigsize_bytes len.0) (take len.0 len.1 ++ drop len.0 len.1) in
-                subst (λ (x : TlvRecord × List ℕ). RecordSpelled last bytes x.0 x.1) (done_is made (r, rest) fine.1) (record {
-                  parts = first ∙ sym spelt;
-                  fits = record { kind = t.fits; len = rw size u.fits };
-                  above = above_of last kind.0 good.0;
-                  rest_fits = IsBytes-drop len.0 len.1 u.rest_fits;
-                })
+            | inr fine ↦ subst (λ (x : TlvRecord × List ℕ). RecordSpelled last bytes x.0 x.1) (ok_is made (r, rest) fine.1)
+                (parts_spelled last bytes kind.0 len.0 kind.1 len.1 t.parts u.parts t.fits u.fits (above_of last kind.0 good.0) (ltb-false _ _ fine.0) u.rest_fits)
           ]
     ]
 
+-- what is so spelled is read
 pub record_at-record_bytes : (last : Option ℕ) (r : TlvRecord) (rest : List ℕ) → Fits r → IsAbove last r.kind → record_at last (record_bytes r ++ rest) ≡ Ok (r, rest)
 unfolding record_at
 record_at-record_bytes last r rest fits above =
-    let regrouped : record_bytes r ++ rest ≡ bigsize_bytes r.kind ++ (bigsize_bytes (length r.value) ++ (r.value ++ rest)) = append_assoc (bigsize_bytes r.kind ++ bigsize_bytes (length r.value)) r.value rest ∙ append_assoc (bigsize_bytes r.kind) (bigsize_bytes (length r.value)) (r.value ++ rest) in
     let long : ltb (length (r.value ++ rest)) (length r.value) ≡ false = le-ltb _ _ (omega (arith, length-append r.value rest)) in
     let higher = not_above_of last r.kind above in
-    ap (record_at last) regrouped ∙ rw (bigsize_at-bigsize_bytes r.kind (bigsize_bytes (length r.value) ++ (r.value ++ rest)) fits.kind, higher, bigsize_at-bigsize_bytes (length r.value) (r.value ++ rest) fits.len, long, take_at r.value rest (length r.value) refl, drop_at r.value rest (length r.value) refl) refl
+    ap (record_at last) (regrouped (bigsize_bytes r.kind) (bigsize_bytes (length r.value)) r.value rest) ∙ rw (bigsize_at-bigsize_bytes r.kind (bigsize_bytes (length r.value) ++ (r.value ++ rest)) fits.kind, higher, bigsize_at-bigsize_bytes (length r.value) (r.value ++ rest) fits.len, long, take_at r.value rest (length r.value) refl, drop_at r.value rest (length r.value) refl) refl
 
-record_at-nil : (last : Option ℕ) → record_at last [] ≡ Err Cut
-unfolding record_at bigsize_at
-record_at-nil last = refl
+-- a record has bytes
+record_len : (r : TlvRecord) (rest : List ℕ) → length rest < length (record_bytes r ++ rest)
+record_len r rest = omega (arith, length-append (record_bytes r) rest, length-append (bigsize_bytes r.kind ++ bigsize_bytes (length r.value)) r.value, length-append (bigsize_bytes r.kind) (bigsize_bytes (length r.value)), length-bigsize_bytes r.kind)
 
 -- ---- a stream, record by record
 
@@ -89,6 +101,7 @@ pub record IsRead (bytes : List ℕ) (front : List TlvRecord) (rest : List ℕ) 
   pub parts : bytes ≡ flat_map record_bytes front ++ rest
   pub last_is : last ≡ last_kind None front
 
+-- one more record
 fits-push : (xs : List TlvRecord) (r : TlvRecord) → AllByRecursion Fits xs → Fits r → AllByRecursion Fits (xs ++ r ∷ [])
 fits-push [] r all one = (one, tt)
 fits-push (x ∷ xs) r all one = (all.0, fits-push xs r all.1 one)
@@ -101,6 +114,7 @@ last-push : (last : Option ℕ) (xs : List TlvRecord) (r : TlvRecord) → last_k
 last-push last [] r = refl
 last-push last (x ∷ xs) r = last-push (Some x.kind) xs r
 
+-- one more record was read
 pub goes_on : (bytes : List ℕ) (front : List TlvRecord) (rest : List ℕ) (last : Option ℕ) (r : TlvRecord) (after : List ℕ) → IsBytes bytes → IsRead bytes front rest last → record_at last rest ≡ Ok (r, after) → IsRead bytes (front ++ r ∷ []) after (Some r.kind)
 goes_on bytes front rest last r after small so_far e =
     let t = record_spelled last rest r after (IsBytes-back bytes (flat_map record_bytes front) rest so_far.parts small) e in
@@ -111,60 +125,11 @@ goes_on bytes front rest last r after small so_far e =
       last_is = sym (last-push None front r);
     }
 
+-- and fewer bytes are left
 pub shrinks : (bytes : List ℕ) (front : List TlvRecord) (rest : List ℕ) (last : Option ℕ) (r : TlvRecord) (after : List ℕ) → IsBytes bytes → IsRead bytes front rest last → record_at last rest ≡ Ok (r, after) → length after < length rest
 shrinks bytes front rest last r after small so_far e =
     let t = record_spelled last rest r after (IsBytes-back bytes (flat_map record_bytes front) rest so_far.parts small) e in
-    let len = ap length t.parts ∙ length-append (record_bytes r) after in
-    let front = length-bigsize_bytes r.kind in
-    omega (arith, len, length-append (bigsize_bytes r.kind ++ bigsize_bytes (length r.value)) r.value, length-append (bigsize_bytes r.kind) (bigsize_bytes (length r.value)), front)
-
--- ---- two readings of one stream
-
--- a whole reading goes on where another one stands
-pub record GoesOn (last : Option ℕ) (l m : List TlvRecord) (rest : List ℕ) : Type 0 where
-  pub others : List TlvRecord
-  pub both : l ≡ m ++ others
-  pub rest_is : rest ≡ flat_map record_bytes others
-  pub rises : RisesFrom (last_kind last m) others
-  pub fits : AllByRecursion Fits others
-
-pub both_read : (last : Option ℕ) (m l : List TlvRecord) (rest : List ℕ) → AllByRecursion Fits m → RisesFrom last m → AllByRecursion Fits l → RisesFrom last l → flat_map record_bytes l ≡ flat_map record_bytes m ++ rest → GoesOn last l m rest
-both_read last [] l rest m_fits m_rises l_fits l_rises e = record { others = l; both = refl; rest_is = sym e; rises = l_rises; fits = l_fits }
-both_read last (r ∷ m) [] rest m_fits m_rises l_fits l_rises e =
-    let text : [] ≡ record_bytes r ++ (flat_map record_bytes m ++ rest) = e ∙ ap (λ (s : List ℕ). s ++ rest) (flat_map-cons record_bytes r m) ∙ append_assoc (record_bytes r) (flat_map record_bytes m) rest in
-    let bad = sym (record_at-nil last) ∙ ap (record_at last) text ∙ record_at-record_bytes last r (flat_map record_bytes m ++ rest) m_fits.0 m_rises.0 in
-    absurd cc
-both_read last (r ∷ m) (s ∷ l) rest m_fits m_rises l_fits l_rises e =
-    let left = record_at-record_bytes last s (flat_map record_bytes l) l_fits.0 l_rises.0 in
-    let right = record_at-record_bytes last r (flat_map record_bytes m ++ rest) m_fits.0 m_rises.0 in
-    let text : record_bytes s ++ flat_map record_bytes l ≡ record_bytes r ++ (flat_map record_bytes m ++ rest) = sym (flat_map-cons record_bytes s l) ∙ e ∙ ap (λ (t : List ℕ). t ++ rest) (flat_map-cons record_bytes r m) ∙ append_assoc (record_bytes r) (flat_map record_bytes m) rest in
-    let same = done_is (s, flat_map record_bytes l) (r, flat_map record_bytes m ++ rest) (sym left ∙ ap (record_at last) text ∙ right) in
-    let s-is : s ≡ r = ap (λ (p : TlvRecord × List ℕ). p.0) same in
-    let tail : flat_map record_bytes l ≡ flat_map record_bytes m ++ rest = ap (λ (p : TlvRecord × List ℕ). p.1) same in
-    let rises : RisesFrom (Some r.kind) l = subst (λ (x : TlvRecord). RisesFrom (Some x.kind) l) s-is l_rises.1 in
-    let g = both_read (Some r.kind) m l rest m_fits.1 m_rises.1 l_fits.1 rises tail in
-    record { others = g.others; both = ap (λ (x : TlvRecord). x ∷ l) s-is ∙ ap (λ (xs : List TlvRecord). r ∷ xs) g.both; rest_is = g.rest_is; rises = g.rises; fits = g.fits }
-
-pub is_only : (bytes : List ℕ) (front : List TlvRecord) (rest : List ℕ) (last : Option ℕ) → IsRead bytes front rest last → length rest ≡ 0 → (l : List TlvRecord) → IsTlvStream l bytes → front ≡ l
-is_only bytes front rest last so_far ended l whole =
-    let g = both_read None front l rest so_far.fits so_far.rises whole.fits whole.rises (sym whole.whole ∙ so_far.parts) in
-    nothing_left g.others g.rest_is g.both
-  where
-    nothing_left : (others : List TlvRecord) → rest ≡ flat_map record_bytes others → l ≡ front ++ others → front ≡ l
-    nothing_left [] e both = sym (both ∙ append-nil front)
-    nothing_left (r ∷ rs) e both = absurd (omega (arith, ap length e ∙ ap length (flat_map-cons record_bytes r rs), length-append (record_bytes r) (flat_map record_bytes rs), length-append (bigsize_bytes r.kind ++ bigsize_bytes (length r.value)) r.value, length-append (bigsize_bytes r.kind) (bigsize_bytes (length r.value)), length-bigsize_bytes r.kind, ended))
-
-pub no_fault : (bytes : List ℕ) (front : List TlvRecord) (rest : List ℕ) (last : Option ℕ) (e : WireFault) → IsRead bytes front rest last → 0 < length rest → record_at last rest ≡ Err e → (l : List TlvRecord) → IsTlvStream l bytes → ⊥
-no_fault bytes front rest last e so_far some fault l whole =
-    let g = both_read None front l rest so_far.fits so_far.rises whole.fits whole.rises (sym whole.whole ∙ so_far.parts) in
-    contradicts g.others g.rest_is (subst (λ (k : Option ℕ). RisesFrom k g.others) (sym so_far.last_is) g.rises) g.fits
-  where
-    contradicts : (others : List TlvRecord) → rest ≡ flat_map record_bytes others → RisesFrom last others → AllByRecursion Fits others → ⊥
-    contradicts [] text rises fits = omega (arith, ap length text, some)
-    contradicts (r ∷ rs) text rises fits =
-        let read = ap (record_at last) (text ∙ flat_map-cons record_bytes r rs) ∙ record_at-record_bytes last r (flat_map record_bytes rs) fits.0 rises.0 in
-        let bad = sym fault ∙ read in
-        absurd cc
+    omega (arith, ap length t.parts, record_len r after)
 
 -- a reading that has come to the end has read the stream
 pub whole_stream : (bytes : List ℕ) (front : List TlvRecord) (rest : List ℕ) (last : Option ℕ) → IsRead bytes front rest last → length rest ≡ 0 → IsTlvStream front bytes
@@ -188,24 +153,24 @@ first_fault bytes front rest last e so_far some fault = record {
 
 -- ---- the records of a stream as a function
 
-record_len : (r : TlvRecord) (rest : List ℕ) → length rest < length (record_bytes r ++ rest)
-record_len r rest = omega (arith, length-append (record_bytes r) rest, length-append (bigsize_bytes r.kind ++ bigsize_bytes (length r.value)) r.value, length-append (bigsize_bytes r.kind) (bigsize_bytes (length r.value)), length-bigsize_bytes r.kind)
-
 -- one record of a stream that isn't empty
 tlvs_more : (n : ℕ) (last : Option ℕ) (bytes : List ℕ) (r : TlvRecord) (rest : List ℕ) → 0 < length bytes → record_at last bytes ≡ Ok (r, rest) → tlvs_at (suc n) last bytes ≡ (tlvs_at n (Some r.kind) rest >>= λ others. Ok (r ∷ others))
 unfolding tlvs_at
 tlvs_more n last [] r rest some e = absurd (omega arith)
 tlvs_more n last (b ∷ bs) r rest some e = rw e refl
 
+-- a record at fault
 tlvs_fault : (n : ℕ) (last : Option ℕ) (bytes : List ℕ) (f : WireFault) → 0 < length bytes → record_at last bytes ≡ Err f → tlvs_at (suc n) last bytes ≡ Err f
 unfolding tlvs_at
 tlvs_fault n last [] f some e = absurd (omega arith)
 tlvs_fault n last (b ∷ bs) f some e = rw e refl
 
+-- nothing
 tlvs_nil : (n : ℕ) (last : Option ℕ) → tlvs_at n last [] ≡ Ok []
 unfolding tlvs_at
 tlvs_nil n last = refl
 
+-- whole records and nothing behind them
 tlvs_whole : (n : ℕ) (last : Option ℕ) (l : List TlvRecord) → AllByRecursion Fits l → RisesFrom last l → length (flat_map record_bytes l) ≤ n → tlvs_at n last (flat_map record_bytes l) ≡ Ok l
 tlvs_whole n last [] fits rises le = tlvs_nil n last
 tlvs_whole zero last (r ∷ l) fits rises le = absurd (omega (arith, ap length (flat_map-cons record_bytes r l), record_len r (flat_map record_bytes l)))
@@ -215,6 +180,7 @@ tlvs_whole (suc n) last (r ∷ l) fits rises le =
     let room : length (flat_map record_bytes l) ≤ n = omega (arith, ap length text, len, le) in
     ap (tlvs_at (suc n) last) text ∙ tlvs_more n last (record_bytes r ++ flat_map record_bytes l) r (flat_map record_bytes l) (omega (arith, len)) (record_at-record_bytes last r (flat_map record_bytes l) fits.0 rises.0) ∙ rw (tlvs_whole n (Some r.kind) l fits.1 rises.1 room) refl
 
+-- whole records and one at fault behind them
 tlvs_broken : (n : ℕ) (last : Option ℕ) (m : List TlvRecord) (rest : List ℕ) (f : WireFault) → AllByRecursion Fits m → RisesFrom last m → 0 < length rest → record_at (last_kind last m) rest ≡ Err f → length (flat_map record_bytes m ++ rest) ≤ n → tlvs_at n last (flat_map record_bytes m ++ rest) ≡ Err f
 tlvs_broken zero last m rest f fits rises some e le = absurd (omega (arith, length-append (flat_map record_bytes m) rest))
 tlvs_broken (suc n) last [] rest f fits rises some e le = tlvs_fault n last rest f some e
@@ -225,10 +191,25 @@ tlvs_broken (suc n) last (r ∷ m) rest f fits rises some e le =
     let room : length tail ≤ n = omega (arith, ap length text, len, le) in
     ap (tlvs_at (suc n) last) text ∙ tlvs_more n last (record_bytes r ++ tail) r tail (omega (arith, len)) (record_at-record_bytes last r tail fits.0 rises.0) ∙ rw (tlvs_broken n (Some r.kind) m rest f fits.1 rises.1 some e room) refl
 
+-- a stream is read as its records
 pub whole_read : (l : List TlvRecord) (b : List ℕ) → IsTlvStream l b → tlvs_of b ≡ Ok l
 unfolding tlvs_of
 whole_read l b whole = ap (λ (s : List ℕ). tlvs_at (length s) None s) whole.whole ∙ tlvs_whole (length (flat_map record_bytes l)) None l whole.fits whole.rises (omega arith)
 
+-- bytes with a fault are read as their first one
 pub broken_read : (b : List ℕ) (f : WireFault) → IsFirstFault b f → tlvs_of b ≡ Err f
 unfolding tlvs_of
 broken_read b f broken = ap (λ (s : List ℕ). tlvs_at (length s) None s) broken.parts ∙ tlvs_broken (length (flat_map record_bytes broken.before ++ broken.rest)) None broken.before broken.rest f broken.fits broken.rises broken.more broken.is (omega arith)
+
+-- ---- two readings of one stream
+
+-- a reading that has come to the end is the only one
+pub is_only : (bytes : List ℕ) (front l : List TlvRecord) → IsTlvStream front bytes → IsTlvStream l bytes → front ≡ l
+is_only bytes front l whole other = ok_is front l (sym (whole_read front bytes whole) ∙ whole_read l bytes other)
+
+-- and bytes with a fault have none
+pub no_fault : (bytes : List ℕ) (f : WireFault) (l : List TlvRecord) → IsFirstFault bytes f → IsTlvStream l bytes → ⊥
+no_fault bytes f l broken whole =
+    let fault = broken_read bytes f broken in
+    let found = whole_read l bytes whole in
+    absurd cc

@@ -13,9 +13,11 @@ use Rattle.lgm_wire.specs.TruncatedInteger.{number_of, StartsWithZero, IsTruncat
 
 -- ---- reading digit by digit
 
+-- a power more
 pow_more : (i : ℕ) → 256 ^ (i + 1) ≡ 256 ^ i * 256
 pow_more i = rw add-one (pow-suc 256 i)
 
+-- one more digit
 pub number_of-push : (xs : List ℕ) (y : ℕ) → number_of (xs ++ y ∷ []) ≡ number_of xs * 256 + y
 number_of-push [] y = omega arith
 number_of-push (x ∷ xs) y =
@@ -35,12 +37,14 @@ more v i y lt small = omega (arith, pow_more i)
 
 -- ---- how large a number is
 
+-- digits in base 256
 abbrev IsDigit : ℕ → Type 0
 IsDigit digit = digit < 256
 
 abbrev AreDigits : List ℕ → Type 0
 AreDigits bytes = All (λ digit. digit < 256) bytes
 
+-- a number is below the power of 256 that its digits make room for
 pub number_of-below : (bytes : List ℕ) → AreDigits bytes → number_of bytes < 256 ^ length bytes
 number_of-below [] all = omega arith
 number_of-below (x ∷ xs) all =
@@ -57,6 +61,7 @@ at_least x xs minimal =
     let product : 1 * 256 ^ length xs ≤ x * 256 ^ length xs = mul-le-mul_right (256 ^ length xs) (omega arith) in
     omega (arith, product)
 
+-- a truncated integer has no more digits than it needs
 pub short_bytes : (v n : ℕ) (b : List ℕ) → v < 256 ^ n → IsTruncatedInteger v b → length b ≤ n
 short_bytes v n [] lt spells = omega arith
 short_bytes v n (x ∷ xs) lt spells =
@@ -100,6 +105,7 @@ same_digits (x ∷ xs) (y ∷ ys) len p q e =
     let first = parts.0 in
     cc
 
+-- a number has one spelling
 pub same_bytes : (v : ℕ) (a b : List ℕ) → IsTruncatedInteger v a → IsTruncatedInteger v b → a ≡ b
 same_bytes v a b p q =
     let pa : v < 256 ^ length a = omega (arith, p.value, number_of-below a p.digits) in
@@ -110,6 +116,7 @@ same_bytes v a b p q =
 
 -- ---- zeros in front
 
+-- a first digit goes or stays
 without-zero : (x : ℕ) (xs : List ℕ) → x ≡ 0 → without_leading_zeros (x ∷ xs) ≡ without_leading_zeros xs
 without-zero x xs e = rw e refl
 
@@ -146,6 +153,7 @@ without (x ∷ xs) all =
       | inr n ↦ rw (without-digit x xs n) (record { digits = all; minimal = n; value = refl })
     ]
 
+-- eight digits, as a number of 64 bits
 cells : (a b c d e f g h : ℕ) → number_of (a ∷ b ∷ c ∷ d ∷ e ∷ f ∷ g ∷ h ∷ []) ≡ from_be_bytes w64 (a ∷ b ∷ c ∷ d ∷ e ∷ f ∷ g ∷ h ∷ [])
 cells a b c d e f g h = omega arith
 
@@ -155,6 +163,7 @@ number_of-to_be_bytes v lt = cells _ _ _ _ _ _ _ _ ∙ from_be_bytes-to_be_bytes
 digits-to_be_bytes : (v : ℕ) → AreDigits (to_be_bytes w64 v)
 digits-to_be_bytes v = All-from_recursion IsDigit (to_be_bytes w64 v) (omega arith, (omega arith, (omega arith, (omega arith, (omega arith, (omega arith, (omega arith, (omega arith, tt))))))))
 
+-- which is the one that is written
 pub IsTruncatedInteger-truncated_bytes : (v : ℕ) → v < 2 ^ 64 → IsTruncatedInteger v (truncated_bytes v)
 IsTruncatedInteger-truncated_bytes v lt =
     subst (λ (n : ℕ). IsTruncatedInteger n (truncated_bytes v)) (number_of-to_be_bytes v lt) (without (to_be_bytes w64 v) (digits-to_be_bytes v))
