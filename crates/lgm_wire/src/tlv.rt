@@ -99,8 +99,8 @@ pub fn read_tlvs<'a>(alloc: Global, bytes: &'a [u8]) -> Result<Tlvs<'a>, WireFau
 /// types of a stream rise is left to the caller. On `NoMemory` the bytes are as before.
 /// (BOLT 1, Type-Length-Value Format.)
 pub fn write_tlv(out: &mut Vec<u8>, kind: u64, value: &[u8]) -> Result<(), NoMemory>
-    ensures ok { OnOk result
-        (out.new.items ≡ out.old.items ++ record_bytes (record { kind = kind; value = value.now })) }
+    ensures ok { OnOk result (out.new.items ≡
+        out.old.items ++ record_bytes (record { kind = kind; value = value.now })) }
     ensures err { OnErr result (out.new.items ≡ out.old.items) }
 {
     let start = out.len();
@@ -113,8 +113,8 @@ pub fn write_tlv(out: &mut Vec<u8>, kind: u64, value: &[u8]) -> Result<(), NoMem
 
 /// Appends the three parts of a record, or some of them where memory runs out.
 fn append_parts(out: &mut Vec<u8>, kind: u64, value: &[u8]) -> Result<(), NoMemory>
-    ensures ok { OnOk result
-        (out.new.items ≡ out.old.items ++ record_bytes (record { kind = kind; value = value.now })) }
+    ensures ok { OnOk result (out.new.items ≡
+        out.old.items ++ record_bytes (record { kind = kind; value = value.now })) }
     ensures err { OnErr result ((more : List ℕ) × (out.new.items ≡ out.old.items ++ more)) }
 {
     write_bigsize(out, kind)?;
