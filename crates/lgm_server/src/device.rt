@@ -57,7 +57,7 @@ pub trait Sink {
 ///
 /// `Failed` comes only where the device failed or took none of the bytes that were left. The first
 /// of the bytes were then taken, perhaps none.
-pub(crate) fn write_all<W: Sink>(sink: &mut W, bytes: &[u8]) -> Result<(), Failed>
+pub fn write_all<W: Sink>(sink: &mut W, bytes: &[u8]) -> Result<(), Failed>
     requires { W.failures sink.old + 1 < 2 ^ 64 }
     ensures ok { OnOk result (Appends (W.taken sink.old) (W.taken sink.new) bytes.now) }
     ensures err { OnErr result (AppendsSome (W.taken sink.old) (W.taken sink.new) bytes.now) }

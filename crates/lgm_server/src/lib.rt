@@ -16,7 +16,7 @@ mod running;
 mod std_streams;
 mod text_buffer;
 
-pub use device::{Failed, Sink, Source};
+pub use device::{Failed, Sink, Source, write_all};
 pub use item::Item;
 pub use memory::{MemorySink, MemorySource};
 pub use running::{Counts, MAX_LINES, RunFault, run};

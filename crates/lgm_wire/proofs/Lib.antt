@@ -1,6 +1,6 @@
 pub mod ReadingLaws
 pub mod Bytes
-pub mod Numbers
-pub mod Sized
-pub mod Base256
-pub mod Streams
+pub mod BigSizeLaws
+pub mod BigSizeClauses
+pub mod TruncatedIntegerLaws
+pub mod TlvLaws

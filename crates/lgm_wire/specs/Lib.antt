@@ -1,6 +1,8 @@
 pub mod Reading
-pub mod Big
-pub mod Tu
+pub mod BigSize
+pub mod BigSizeReading
+pub mod TruncatedInteger
+pub mod TruncatedIntegerReading
 pub mod Tlv
-pub mod Seen
-pub mod Faults
+pub mod TlvView
+pub mod TlvReading

@@ -1,4 +1,5 @@
--- A reader takes bytes from left to right. It gives a value, mostly with the bytes after it, or the first fault that it meets.
+-- Words for the modules named Reading: a reader takes bytes from left to right, and gives a value,
+-- mostly with the bytes after it, or the first fault that it meets.
 use Rattle.std.specs.Prelude.{◌≡◌, ◌⊎◌, Result, Ok, Err}
 
 -- what a function returned, seen by view, is what reading gives

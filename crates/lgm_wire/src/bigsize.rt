@@ -1,100 +1,97 @@
-//! BigSize: a number in one, three, five or nine bytes, whichever is the shortest.
+//! BigSize: a number of up to 64 bits in one, three, five or nine bytes, whichever is the fewest
+//! (BOLT 1, Fundamental Types and Appendix A).
 
-ghost use Rattle.std.specs.Prelude.{◌≡◌, ℕ, ◌+◌, ◌≤◌, ◌<◌, ◌↔◌, ◌⊎◌, ◌++◌, length, take, OnOk, OnErr, IfErr, List};
+ghost use Rattle.std.specs.Prelude.{◌≡◌, ℕ, ◌≤◌, ◌<◌, ◌↔◌, ◌⊎◌, ◌++◌, length, take, OnOk, OnErr, IfErr, List};
 ghost use Rattle.std.specs.Int.{w16, w32, w64};
-ghost use Rattle.lgm_wire.specs.Big.{Big, big, form_len, form_value};
+ghost use Rattle.lgm_wire.specs.BigSize.{IsBigSize, bigsize_bytes, form_len, form_value};
 ghost use Rattle.lgm_wire.specs.Reading.{Sees};
-ghost use Rattle.lgm_wire.specs.Faults.{big_at, big_sized, wide_at};
+ghost use Rattle.lgm_wire.specs.BigSizeReading.{bigsize_at, bigsize_with_len, long_form_at};
 
-use crate::fault::WireFault;
-use std::alloc::AllocError;
+use crate::fault::{NoMemory, WireFault};
 
-fn wide16(bytes: &[u8]) -> Result<(u64, &[u8]), WireFault>
-    ensures { Sees (λ x. (x.0, x.1.now)) result (wide_at w16 0xfd bytes.now) }
+/// The number behind `0xfd`, and the bytes after it.
+fn split_u16(bytes: &[u8]) -> Result<(u64, &[u8]), WireFault>
+    ensures { Sees (λ x. (x.0, x.1.now)) result (long_form_at w16 0xfd bytes.now) }
 {
-    if bytes.len() < 2 {
-        return Err(WireFault::Cut);
-    }
-    let (front, rest) = bytes.split_at(2);
-    let value = u16::from_be_bytes([front[0], front[1]]);
-    if value < 0xfd {
+    let (digits, rest) = bytes.split_first_chunk::<2>().ok_or(WireFault::Cut)?;
+    let number = u16::from_be_bytes(*digits);
+    if number < 0xfd {
         return Err(WireFault::NotMinimal);
     }
-    Ok((u64::from(value), rest))
+    Ok((u64::from(number), rest))
 }
 
-fn wide32(bytes: &[u8]) -> Result<(u64, &[u8]), WireFault>
-    ensures { Sees (λ x. (x.0, x.1.now)) result (wide_at w32 0x10000 bytes.now) }
+/// The number behind `0xfe`, and the bytes after it.
+fn split_u32(bytes: &[u8]) -> Result<(u64, &[u8]), WireFault>
+    ensures { Sees (λ x. (x.0, x.1.now)) result (long_form_at w32 0x10000 bytes.now) }
 {
-    if bytes.len() < 4 {
-        return Err(WireFault::Cut);
-    }
-    let (front, rest) = bytes.split_at(4);
-    let value = u32::from_be_bytes([front[0], front[1], front[2], front[3]]);
-    if value < 0x10000 {
+    let (digits, rest) = bytes.split_first_chunk::<4>().ok_or(WireFault::Cut)?;
+    let number = u32::from_be_bytes(*digits);
+    if number < 0x1_0000 {
         return Err(WireFault::NotMinimal);
     }
-    Ok((u64::from(value), rest))
+    Ok((u64::from(number), rest))
 }
 
-fn wide64(bytes: &[u8]) -> Result<(u64, &[u8]), WireFault>
-    ensures { Sees (λ x. (x.0, x.1.now)) result (wide_at w64 0x100000000 bytes.now) }
+/// The number behind `0xff`, and the bytes after it.
+fn split_u64(bytes: &[u8]) -> Result<(u64, &[u8]), WireFault>
+    ensures { Sees (λ x. (x.0, x.1.now)) result (long_form_at w64 0x100000000 bytes.now) }
 {
-    if bytes.len() < 8 {
-        return Err(WireFault::Cut);
-    }
-    let (front, rest) = bytes.split_at(8);
-    let value = u64::from_be_bytes([
-        front[0], front[1], front[2], front[3], front[4], front[5], front[6], front[7],
-    ]);
-    if value < 0x1_0000_0000 {
+    let (digits, rest) = bytes.split_first_chunk::<8>().ok_or(WireFault::Cut)?;
+    let number = u64::from_be_bytes(*digits);
+    if number < 0x1_0000_0000 {
         return Err(WireFault::NotMinimal);
     }
-    Ok((value, rest))
+    Ok((number, rest))
 }
 
 /// The number at the front, and the bytes after it.
-#[tactic(auto, unfolding(crate::specs::Faults::big_at))]
-pub(crate) fn bigsize_at(bytes: &[u8]) -> Result<(u64, &[u8]), WireFault>
-    ensures { Sees (λ x. (x.0, x.1.now)) result (big_at bytes.now) }
+#[tactic(auto, unfolding(crate::specs::BigSizeReading::bigsize_at))]
+pub(crate) fn split_bigsize(bytes: &[u8]) -> Result<(u64, &[u8]), WireFault>
+    ensures { Sees (λ x. (x.0, x.1.now)) result (bigsize_at bytes.now) }
 {
     match bytes {
         [] => Err(WireFault::Cut),
-        [0xfd, rest @ ..] => wide16(rest),
-        [0xfe, rest @ ..] => wide32(rest),
-        [0xff, rest @ ..] => wide64(rest),
+        [0xfd, rest @ ..] => split_u16(rest),
+        [0xfe, rest @ ..] => split_u32(rest),
+        [0xff, rest @ ..] => split_u64(rest),
         [small, rest @ ..] => Ok((u64::from(*small), rest)),
     }
 }
 
-fn sized(bytes: &[u8]) -> Result<(u64, usize), WireFault>
-    ensures { result ≡ big_sized bytes.now }
-{
-    let (value, rest) = bigsize_at(bytes)?;
-    Ok((value, bytes.len() - rest.len()))
-}
-
-/// The number at the front of the bytes, and how many bytes it takes.
+/// Reads the BigSize at the front of the bytes: the number, and how many bytes it takes, which is
+/// 1, 3, 5 or 9. What follows it isn't looked at. (BOLT 1, Fundamental Types.)
+///
+/// The fault is `Cut` where the bytes end before the form that the first byte calls for, also
+/// where there are none, and `NotMinimal` where that form is whole and its number has a shorter
+/// one. There is no other fault, and no memory is taken.
 pub fn read_bigsize(bytes: &[u8]) -> Result<(u64, usize), WireFault>
     // It gives v and n exactly where the first n bytes spell v.
-    ensures value { (v n : ℕ) → (result ≡ Ok (v, n)) ↔ ((n ≤ length bytes.now) × Big v (take n bytes.now)) }
+    ensures value { (v n : ℕ) →
+        (result ≡ Ok (v, n)) ↔ ((n ≤ length bytes.now) × IsBigSize v (take n bytes.now)) }
 
     // The bytes end before the form that the first byte calls for.
     ensures cut { (result ≡ Err WireFault.Cut) ↔ (length bytes.now < form_len bytes.now) }
 
     // The form is whole, and the number in it has a shorter one.
-    ensures not_minimal { (result ≡ Err WireFault.NotMinimal)
-        ↔ ((form_len bytes.now ≤ length bytes.now) × (length (big (form_value bytes.now)) < form_len bytes.now)) }
+    ensures not_minimal { (result ≡ Err WireFault.NotMinimal) ↔
+        ((form_len bytes.now ≤ length bytes.now)
+        × (length (bigsize_bytes (form_value bytes.now)) < form_len bytes.now)) }
 
     // There is no other fault.
     ensures faults { IfErr result (λ e. (e ≡ WireFault.Cut) ⊎ (e ≡ WireFault.NotMinimal)) }
+
+    // The same in one, for readers built on this one.
+    ensures exact { result ≡ bigsize_with_len bytes.now }
 {
-    sized(bytes)
+    let (value, rest) = split_bigsize(bytes)?;
+    Ok((value, bytes.len() - rest.len()))
 }
 
-/// Writes a number at the end. An `Err` leaves the bytes as they were.
-pub fn write_bigsize(out: &mut Vec<u8>, value: u64) -> Result<(), AllocError>
-    ensures ok { OnOk result (out.new.items ≡ out.old.items ++ big value) }
+/// Appends the BigSize of a number: 1, 3, 5 or 9 bytes. On `NoMemory` the bytes are as before.
+/// (BOLT 1, Fundamental Types.)
+pub fn write_bigsize(out: &mut Vec<u8>, value: u64) -> Result<(), NoMemory>
+    ensures ok { OnOk result (out.new.items ≡ out.old.items ++ bigsize_bytes value) }
     ensures err { OnErr result (out.new.items ≡ out.old.items) }
 {
     match value {
@@ -114,7 +111,10 @@ pub fn write_bigsize(out: &mut Vec<u8>, value: u64) -> Result<(), AllocError>
     }
 }
 
-/// No spelling begins another, so what was written is read again, whatever follows.
+/// A law of BigSize, of which the contract is the statement; the call does nothing.
+///
+/// No spelling begins another one, so a number that was written is read back, whatever follows.
 pub fn one_spelling()
-    ensures { (m n : ℕ) (a b x y : List ℕ) → Big m a → Big n b → a ++ x ≡ b ++ y → (m ≡ n) × (a ≡ b) × (x ≡ y) }
+    ensures { (m n : ℕ) (a b x y : List ℕ) → IsBigSize m a → IsBigSize n b →
+        a ++ x ≡ b ++ y → (m ≡ n) × (a ≡ b) × (x ≡ y) }
 {}

@@ -1,24 +1,27 @@
-//! Streams of records: a type, a length and a value, the types rising.
+//! TLV streams: records of a type, a length and a value, their types rising strictly
+//! (BOLT 1, Type-Length-Value Format and Appendix B).
 
-ghost use Rattle.std.specs.Prelude.{◌≡◌, ℕ, List, ◌++◌, ◌∷◌, [], ◌<◌, ◌^◌, ◌⊎◌, length, OnOk, OnErr, IfOk, IfErr, MatchResult, option_copied};
-ghost use Rattle.lgm_wire.specs.Tlv.{Record, Tlvs as IsTlvs, record_bytes};
+ghost use Rattle.std.specs.Prelude.{◌≡◌, ℕ, List, ◌++◌, ◌⊎◌, OnOk, OnErr, IfOk, IfErr, MatchResult};
 ghost use Rattle.lgm_wire.specs.Reading.{Sees, Gives};
-ghost use Rattle.lgm_wire.specs.Faults.{record_at, tlvs_of, IsFirstFault};
-ghost use Rattle.lgm_wire.specs.Seen.{seen, seen_all};
+ghost use Rattle.lgm_wire.specs.Tlv.{TlvRecord, IsTlvStream, record_bytes};
+ghost use Rattle.lgm_wire.specs.TlvReading.{IsFirstFault, record_at, tlvs_of};
+ghost use Rattle.lgm_wire.specs.TlvView.{record_of, records_of};
 
-use crate::bigsize::{bigsize_at, write_bigsize};
-use crate::fault::WireFault;
-use std::alloc::{AllocError, Global};
+use crate::bigsize::{split_bigsize, write_bigsize};
+use crate::fault::{NoMemory, WireFault};
+use std::alloc::Global;
 use std::marker::Model;
 
-/// A record, its value where it lies in the bytes.
+/// A record of a stream (BOLT 1, Type-Length-Value Format).
 #[derive(Clone, Copy, Debug, PartialEq, Eq)]
 pub struct Tlv<'a> {
+    /// The type, a number of up to 64 bits.
     pub kind: u64,
+    /// The value, where it lies in the bytes that were read.
     pub value: &'a [u8],
 }
 
-/// The records of a stream, which contracts see as a list.
+/// The records of a stream, with rising types. Contracts see a list of types and values.
 #[derive(Debug, Drop)]
 pub struct Tlvs<'a> {
     items: Vec<Tlv<'a>>,
@@ -26,49 +29,35 @@ pub struct Tlvs<'a> {
 
 impl<'a> Model for Tlvs<'a> {
     ghost use Rattle.std.specs.Prelude.{List};
-    ghost use Rattle.lgm_wire.specs.Tlv.{Record};
-    ghost use Rattle.lgm_wire.specs.Seen.{seen_all};
+    ghost use Rattle.lgm_wire.specs.Tlv.{TlvRecord};
+    ghost use Rattle.lgm_wire.specs.TlvView.{records_of};
 
-    ghost Value = { List Record };
+    ghost Value = { List TlvRecord };
 
-    ghost view = { λ t. seen_all t.items.items };
+    ghost view = { λ t. records_of t.items.items };
 }
 
 impl<'a> Tlvs<'a> {
-    /// The records, in order.
+    /// The records, in the order of the bytes.
     pub fn as_slice(&self) -> &[Tlv<'a>]
-        ensures { seen_all result.now ≡ self.now }
+        ensures { records_of result.now ≡ self.now }
     {
         self.items.as_slice()
     }
 }
 
-/// The records of a stream, kept as one value.
-pub fn read_stream<'a>(alloc: Global, bytes: &'a [u8]) -> Result<Tlvs<'a>, WireFault>
-    ensures found { IfOk result (λ tlvs. IsTlvs tlvs bytes.now) }
-    ensures only { (l : List Record) → IsTlvs l bytes.now → MatchResult result (λ tlvs. tlvs ≡ l) (λ e. e ≡ WireFault.NoMemory) }
-    ensures fault { IfErr result (λ e. (e ≡ WireFault.NoMemory) ⊎ IsFirstFault bytes.now e) }
-    // The same in one: what reading the bytes gives.
-    ensures exact { Gives WireFault.NoMemory (λ tlvs. tlvs) result (tlvs_of bytes.now) }
+/// The record at the front, whose type is above the last one, and the bytes after it.
+#[tactic(auto, unfolding(crate::specs::TlvReading::record_at))]
+fn split_tlv<'a>(last: Option<u64>, bytes: &'a [u8]) -> Result<(Tlv<'a>, &'a [u8]), WireFault>
+    ensures { Sees (λ x. (record_of x.0, x.1.now)) result (record_at last bytes.now) }
 {
-    match read_tlvs(alloc, bytes) {
-        Ok(items) => Ok(Tlvs { items }),
-        Err(fault) => Err(fault),
-    }
-}
-
-/// The record at the front, whose type is above the one before, and the bytes after it.
-#[tactic(auto, unfolding(crate::specs::Faults::record_at))]
-fn tlv_at<'a>(last: Option<u64>, bytes: &'a [u8]) -> Result<(Tlv<'a>, &'a [u8]), WireFault>
-    ensures { Sees (λ x. (seen x.0, x.1.now)) result (record_at last bytes.now) }
-{
-    let (kind, rest) = bigsize_at(bytes)?;
+    let (kind, rest) = split_bigsize(bytes)?;
     if let Some(last) = last
         && kind <= last
     {
         return Err(WireFault::Order);
     }
-    let (len, rest) = bigsize_at(rest)?;
+    let (len, rest) = split_bigsize(rest)?;
     if len > rest.len() as u64 {
         return Err(WireFault::Cut);
     }
@@ -76,40 +65,56 @@ fn tlv_at<'a>(last: Option<u64>, bytes: &'a [u8]) -> Result<(Tlv<'a>, &'a [u8]),
     Ok((Tlv { kind, value }, rest))
 }
 
-/// The records of a stream, which is all of the bytes.
-pub fn read_tlvs<'a>(alloc: Global, bytes: &'a [u8]) -> Result<Vec<Tlv<'a>>, WireFault>
-    ensures found { IfOk result (λ tlvs. IsTlvs (seen_all tlvs.items) bytes.now) }
-    ensures only { (l : List Record) → IsTlvs l bytes.now → IfOk result (λ tlvs. seen_all tlvs.items ≡ l) }
+/// Reads the TLV stream that all of the bytes are. No bytes are the empty stream. Values aren't
+/// copied: memory is taken for the list alone. (BOLT 1, Type-Length-Value Format.)
+///
+/// The fault is that of the first record that has one, and of that record the first in the order:
+/// its type (`Cut`, `NotMinimal`), `Order` where the type isn't above the one before, its length
+/// (`Cut`, `NotMinimal`), its value (`Cut`). `NoMemory` says nothing of the bytes. Which types are
+/// known is left to the caller, also that an unknown even one must be refused.
+pub fn read_tlvs<'a>(alloc: Global, bytes: &'a [u8]) -> Result<Tlvs<'a>, WireFault>
+    // It gives the records exactly where the bytes are their stream, unless memory runs out.
+    ensures found { IfOk result (λ tlvs. IsTlvStream tlvs bytes.now) }
+    ensures only { (records : List TlvRecord) → IsTlvStream records bytes.now →
+        MatchResult result (λ tlvs. tlvs ≡ records) (λ e. e ≡ WireFault.NoMemory) }
+
     ensures fault { IfErr result (λ e. (e ≡ WireFault.NoMemory) ⊎ IsFirstFault bytes.now e) }
-    ensures fault_only { (l : List Record) → IsTlvs l bytes.now → IfErr result (λ e. e ≡ WireFault.NoMemory) }
+
+    // The same in one, for readers built on this one.
+    ensures exact { Gives WireFault.NoMemory (λ tlvs. tlvs) result (tlvs_of bytes.now) }
 {
-    let mut tlvs = Vec::new(alloc);
+    let mut items = Vec::new(alloc);
     let mut last = None;
     let mut rest = bytes;
     while !rest.is_empty() {
-        let (tlv, after) = tlv_at(last, rest)?;
-        tlvs.push(tlv)?;
+        let (tlv, after) = split_tlv(last, rest)?;
+        items.push(tlv)?;
         last = Some(tlv.kind);
         rest = after;
     }
-    Ok(tlvs)
+    Ok(Tlvs { items })
 }
 
-/// Writes a record at the end. An `Err` leaves the bytes as they were.
-pub fn write_tlv(out: &mut Vec<u8>, kind: u64, value: &[u8]) -> Result<(), AllocError>
-    ensures ok { OnOk result (out.new.items ≡ out.old.items ++ record_bytes (record { kind = kind; value = value.now })) }
+/// Appends a record: the BigSize of its type, the BigSize of its length, and its value. That the
+/// types of a stream rise is left to the caller. On `NoMemory` the bytes are as before.
+/// (BOLT 1, Type-Length-Value Format.)
+pub fn write_tlv(out: &mut Vec<u8>, kind: u64, value: &[u8]) -> Result<(), NoMemory>
+    ensures ok { OnOk result (out.new.items ≡
+        out.old.items ++ record_bytes (record { kind = kind; value = value.now })) }
     ensures err { OnErr result (out.new.items ≡ out.old.items) }
 {
     let start = out.len();
-    let written = write_parts(out, kind, value);
+    let written = append_parts(out, kind, value);
     if written.is_err() {
         out.truncate(start);
     }
     written
 }
 
-fn write_parts(out: &mut Vec<u8>, kind: u64, value: &[u8]) -> Result<(), AllocError>
-    ensures ok { OnOk result (out.new.items ≡ out.old.items ++ record_bytes (record { kind = kind; value = value.now })) }
+/// Appends the three parts of a record, or some of them where memory runs out.
+fn append_parts(out: &mut Vec<u8>, kind: u64, value: &[u8]) -> Result<(), NoMemory>
+    ensures ok { OnOk result (out.new.items ≡
+        out.old.items ++ record_bytes (record { kind = kind; value = value.now })) }
     ensures err { OnErr result ((more : List ℕ) × (out.new.items ≡ out.old.items ++ more)) }
 {
     write_bigsize(out, kind)?;

@@ -1,4 +1,4 @@
-use Rattle.lgm_wire.proofs.Sized.{same_front}
+use Rattle.lgm_wire.proofs.BigSizeClauses.{same_front}
 use Rattle.lgm_wire.proofs.bigsize.one_spelling.Goals as goal
 
 pub returns : goal.returns

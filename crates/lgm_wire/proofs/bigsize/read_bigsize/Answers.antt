@@ -1,15 +1,19 @@
-use Rattle.std.proofs.Common.{arith, ap}
-use Rattle.lgm_wire.proofs.Sized.{sized_gives, sized_cut, sized_small, sized_faults}
+use Rattle.std.proofs.Common.{◌≡◌, ◌-◌, length, Ok, arith, rules}
+use Rattle.lgm_wire.specs.BigSizeReading.{bigsize_with_len}
+use Rattle.lgm_wire.proofs.BigSizeClauses.{shorter, meets}
 use Rattle.lgm_wire.proofs.bigsize.read_bigsize.Goals as goal
 
-pub returns-clause-value : goal.returns-clause-value
-returns-clause-value c = rw c.sized.ensures (sized_gives c.args.bytes.now (λ i. omega (arith, c.type_inv.bytes i)))
+pub overflow_sub-result : goal.overflow_sub-result
+overflow_sub-result c = shorter c.args.bytes.now c.in_ok-value.rest.now c.in_ok-value.value (λ i. omega (arith, c.type_inv.bytes i)) c.in_ok-value.ensures
 
-pub returns-clause-cut : goal.returns-clause-cut
-returns-clause-cut c = rw c.sized.ensures (sized_cut c.args.bytes.now (λ i. omega (arith, c.type_inv.bytes i)))
+pub returns-in_err-value : goal.returns-in_err-value
+returns-in_err-value c =
+    let exact : c.from_residual.result ≡ bigsize_with_len c.args.bytes.now = search rules in
+    let all = meets c.args.bytes.now c.from_residual.result (λ i. omega (arith, c.type_inv.bytes i)) exact in
+    record { value = all.value; cut = all.cut; not_minimal = all.not_minimal; faults = all.faults; exact = exact }
 
-pub returns-clause-not_minimal : goal.returns-clause-not_minimal
-returns-clause-not_minimal c = rw c.sized.ensures (sized_small c.args.bytes.now (λ i. omega (arith, c.type_inv.bytes i)))
-
-pub returns-clause-faults : goal.returns-clause-faults
-returns-clause-faults c = rw c.sized.ensures (sized_faults c.args.bytes.now (λ i. omega (arith, c.type_inv.bytes i)))
+pub returns : goal.returns
+returns c =
+    let exact : Ok (c.in_ok-value.value, length c.args.bytes.now - length c.in_ok-value.rest.now) ≡ bigsize_with_len c.args.bytes.now = search rules in
+    let all = meets c.args.bytes.now _ (λ i. omega (arith, c.type_inv.bytes i)) exact in
+    record { value = all.value; cut = all.cut; not_minimal = all.not_minimal; faults = all.faults; exact = exact }

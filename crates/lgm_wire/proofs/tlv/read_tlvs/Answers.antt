@@ -1,22 +1,38 @@
-use Rattle.std.proofs.Common.{arith, rules}
+use Rattle.std.proofs.Common.{◌≡◌, Err, ap, ◌∙◌, arith, rules, inr}
 use Rattle.std.proofs.lemmas.List.{map_push}
 use Rattle.std.proofs.lemmas.Result.{err_from_is_err_and}
-use Rattle.lgm_wire.specs.Seen.{seen, seen_all}
-use Rattle.lgm_wire.proofs.Streams.{goes_on, shrinks, is_only, no_fault}
+use Rattle.lgm_wire.specs.TlvView.{record_of, records_of}
+use Rattle.lgm_wire.proofs.TlvLaws.{goes_on, shrinks, whole_stream, first_fault, whole_read, broken_read, is_only, no_fault}
 use Rattle.lgm_wire.proofs.tlv.read_tlvs.Goals as goal
 
 pub loop-rest-smaller : goal.loop-rest-smaller
-loop-rest-smaller c = shrinks c.args.bytes.now (seen_all c.loop-rest.tlvs.items) c.loop-rest.rest.now c.loop-rest.last (seen c.in_ok-tlv.tlv) c.in_ok-tlv.after.now (λ i. omega (arith, c.type_inv.bytes i)) c.loop-rest.invariant c.in_ok-tlv.ensures
+loop-rest-smaller c = shrinks c.args.bytes.now (records_of c.loop-rest.items.items) c.loop-rest.rest.now c.loop-rest.last (record_of c.in_ok-tlv.tlv) c.in_ok-tlv.after.now (λ i. omega (arith, c.type_inv.bytes i)) c.loop-rest.invariant c.in_ok-tlv.ensures
 
 pub loop-rest-preserved : goal.loop-rest-preserved
 loop-rest-preserved c =
-    let more = map_push seen c.loop-rest.tlvs.items c.in_ok-tlv.tlv in
-    rw (c.in_ok-push.ensures.items, more) (goes_on c.args.bytes.now (seen_all c.loop-rest.tlvs.items) c.loop-rest.rest.now c.loop-rest.last (seen c.in_ok-tlv.tlv) c.in_ok-tlv.after.now (λ i. omega (arith, c.type_inv.bytes i)) c.loop-rest.invariant c.in_ok-tlv.ensures)
+    let more = map_push record_of c.loop-rest.items.items c.in_ok-tlv.tlv in
+    rw (c.in_ok-push.ensures.items, more) (goes_on c.args.bytes.now (records_of c.loop-rest.items.items) c.loop-rest.rest.now c.loop-rest.last (record_of c.in_ok-tlv.tlv) c.in_ok-tlv.after.now (λ i. omega (arith, c.type_inv.bytes i)) c.loop-rest.invariant c.in_ok-tlv.ensures)
 
-pub returns-clause-only : goal.returns-clause-only
-returns-clause-only c = λ l whole. is_only c.args.bytes.now (seen_all c.loop-rest.tlvs.items) c.loop-rest.rest.now c.loop-rest.last c.loop-rest.invariant (search rules) l whole
+pub returns : goal.returns
+returns c =
+    let front = records_of c.loop-rest.items.items in
+    let whole = whole_stream c.args.bytes.now front c.loop-rest.rest.now c.loop-rest.last c.loop-rest.invariant (search rules) in
+    record {
+      found = whole;
+      only = λ l other. is_only c.args.bytes.now front l whole other;
+      fault = tt;
+      exact = whole_read front c.args.bytes.now whole;
+    }
 
-pub returns-in_err-tlv-clause-fault_only : goal.returns-in_err-tlv-clause-fault_only
-returns-in_err-tlv-clause-fault_only c =
+pub returns-in_err-tlv : goal.returns-in_err-tlv
+returns-in_err-tlv c =
     let p = err_from_is_err_and c.from_residual.result c.from_residual.ensures.1 in
-    rw p.1 (λ l whole. absurd (no_fault c.args.bytes.now (seen_all c.loop-rest.tlvs.items) c.loop-rest.rest.now c.loop-rest.last c.in_err-tlv.field-0.0 c.loop-rest.invariant (search rules) c.in_err-tlv.ensures l whole))
+    let fault = c.in_err-tlv.field-0.0 in
+    let first = first_fault c.args.bytes.now (records_of c.loop-rest.items.items) c.loop-rest.rest.now c.loop-rest.last fault c.loop-rest.invariant (search rules) c.in_err-tlv.ensures in
+    let same : c.from_residual.result ≡ Err fault = p.1 ∙ ap (λ e. Err e) p.2 in
+    rw same (record {
+      found = tt;
+      only = λ l other. absurd (no_fault c.args.bytes.now fault l first other);
+      fault = inr first;
+      exact = inr (broken_read c.args.bytes.now fault first);
+    })

@@ -1,0 +1,93 @@
+use crate::starting::start;
+use lgm_server::{MemorySink, MemorySource};
+use std::alloc::Global;
+use std::test::Fail;
+
+const CHAIN: &str = "c1c1c1c1c1c1c1c1c1c1c1c1c1c1c1c1c1c1c1c1c1c1c1c1c1c1c1c1c1c1c1c1";
+
+fn words(alloc: Global, given: &[&str]) -> Result<Vec<String>, Fail> {
+    let mut words = Vec::new(alloc);
+    for word in given {
+        words.push(String::from_str(alloc, *word)?)?;
+    }
+    Ok(words)
+}
+
+/// The status, and what went to the writer and to `errors`.
+fn started(
+    alloc: Global,
+    given: &[&str],
+    script: &[u8],
+) -> Result<(u8, MemorySink, MemorySink), Fail> {
+    let words = words(alloc, given)?;
+    let mut reader = MemorySource::new(script, 7);
+    let mut writer = MemorySink::new(alloc);
+    let mut errors = MemorySink::new(alloc);
+    let status = start(
+        alloc,
+        words.as_slice(),
+        &mut reader,
+        &mut writer,
+        &mut errors,
+    );
+    Ok((status, writer, errors))
+}
+
+#[test]
+fn words_are_checked_first(rt: HostRuntime) -> Result<(), Fail> {
+    let table: [(&[&str], u8); 9] = [
+        (&["lgm"], 2),
+        (&["lgm", "run"], 2),
+        (&["lgm", "run", "--chain", CHAIN, "--workers", "65"], 2),
+        (&["lgm", "run", "--chain", CHAIN, "--workers", "0"], 2),
+        (&["lgm", "run", "--chain", "zz", "--workers", "0"], 2),
+        (&["lgm", "run", "--chain", CHAIN, "--workers", "64"], 0),
+        (&["lgm", "run", "--chain", CHAIN], 0),
+        (&["lgm", "--help"], 2),
+        (&["lgm", "stop", "--chain", CHAIN], 2),
+    ];
+    for (given, want) in table {
+        let (status, writer, errors) = started(rt.alloc(), given, b"")?;
+        assert_eq!(rt; status, want, "at {given:?}");
+        assert_eq!(rt; errors.taken().is_empty(), want == 0, "at {given:?}");
+        assert!(rt;
+            !errors.taken().starts_with(b"lgm: bad chain"),
+            "at {given:?}"
+        );
+        assert!(rt; writer.taken().is_empty());
+    }
+    Ok(())
+}
+
+#[test]
+fn a_chain_has_64_digits(rt: HostRuntime) -> Result<(), Fail> {
+    for chain in ["zz", "", "c1", &CHAIN[1..], "0x"] {
+        let (status, writer, errors) = started(rt.alloc(), &["lgm", "run", "--chain", chain], b"")?;
+        assert_eq!(rt; status, 2, "at {chain}");
+        assert_eq!(rt;
+            errors.taken(),
+            b"lgm: bad chain\n".as_slice(),
+            "at {chain}"
+        );
+        assert!(rt; writer.taken().is_empty());
+    }
+    Ok(())
+}
+
+#[test]
+fn a_fault_has_its_line(rt: HostRuntime) -> Result<(), Fail> {
+    let alloc = rt.alloc();
+    let mut script = Vec::from_slice(alloc, b"commit\n#")?;
+    script.resize(140_007, b'x')?;
+    let given = ["lgm", "run", "--chain", CHAIN];
+    let (status, writer, errors) = started(alloc, &given, script.as_slice())?;
+    assert_eq!(rt; status, 0);
+    assert_eq!(rt; writer.taken(), b"1 commit 0\n".as_slice());
+    assert!(rt; errors.taken().is_empty());
+    script.push(b'x')?;
+    let (status, writer, errors) = started(alloc, &given, script.as_slice())?;
+    assert_eq!(rt; status, 1);
+    assert_eq!(rt; writer.taken(), b"1 commit 0\n".as_slice());
+    assert_eq!(rt; errors.taken(), b"lgm: line too long\n".as_slice());
+    Ok(())
+}

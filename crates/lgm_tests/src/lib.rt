@@ -1,0 +1,7 @@
+//! Tests that cross crates: whole scripts through `run`, over memory.
+#![tactic(auto)]
+
+#[cfg(test)]
+mod announcements;
+#[cfg(test)]
+mod scripts;

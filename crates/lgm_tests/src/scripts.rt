@@ -1,0 +1,60 @@
+//! Test messages, as hexadecimal text, and scripts of them.
+
+use lgm_gossip::ChainHash;
+use lgm_server::{MemorySink, MemorySource, run};
+use std::alloc::Global;
+use std::process::Abort;
+use std::test::Fail;
+
+/// The chain of the test messages.
+pub const CHAIN: &str = "c1c1c1c1c1c1c1c1c1c1c1c1c1c1c1c1c1c1c1c1c1c1c1c1c1c1c1c1c1c1c1c1";
+
+/// Another chain.
+pub const OTHER_CHAIN: &str = "d1d1d1d1d1d1d1d1d1d1d1d1d1d1d1d1d1d1d1d1d1d1d1d1d1d1d1d1d1d1d1d1";
+
+/// The point with this first byte, and 32 times another byte.
+pub fn point(alloc: Global, first: &str, byte: &str) -> Result<String, Fail> {
+    let mut text = String::from_str(alloc, first)?;
+    for _ in 0..32 {
+        text.push_str(byte)?;
+    }
+    Ok(text)
+}
+
+/// A `channel_announcement` without features, whose signatures are zeros.
+pub fn announcement(
+    alloc: Global,
+    chain: &str,
+    scid: &str,
+    nodes: (&str, &str),
+    keys: (&str, &str),
+) -> Result<String, Fail> {
+    let (node_1, node_2) = nodes;
+    let (key_1, key_2) = keys;
+    let signatures = "0000000000000000000000000000000000000000000000000000000000000000";
+    let mut text = String::from_str(alloc, "0100")?;
+    for _ in 0..8 {
+        text.push_str(signatures)?;
+    }
+    for field in ["0000", chain, scid, node_1, node_2, key_1, key_2] {
+        text.push_str(field)?;
+    }
+    Ok(text)
+}
+
+/// Runs the script, cut into pieces of several sizes, and compares what is written.
+pub fn assert_answers(
+    rt: &impl Abort,
+    alloc: Global,
+    script: &[u8],
+    want: &str,
+) -> Result<(), Fail> {
+    for piece in [1usize, 7, 4096, 100_000] {
+        let mut reader = MemorySource::new(script, piece);
+        let mut writer = MemorySink::new(alloc);
+        let counts = run(alloc, &mut reader, &mut writer, &ChainHash([0xc1; 32]));
+        assert!(rt; counts.is_ok());
+        assert_eq!(rt; writer.taken(), want.as_bytes(), "in pieces of {piece}");
+    }
+    Ok(())
+}

@@ -1,0 +1,10 @@
+-- What contracts see of the records that were read: not where their values lie.
+use Rattle.std.specs.Prelude.{List, map}
+use Rattle.lgm_wire.specs.declared.tlv.Tlv.{Tlv}
+use Rattle.lgm_wire.specs.Tlv.{TlvRecord}
+
+abbrev pub record_of : Tlv → TlvRecord
+record_of t = record { kind = t.kind; value = t.value.now }
+
+abbrev pub records_of : List Tlv → List TlvRecord
+records_of ts = map record_of ts
