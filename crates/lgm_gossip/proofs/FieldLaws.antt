@@ -4,11 +4,11 @@ use Rattle.std.specs.Int.{Width, w8, w16, w32, w64, byte_len, from_be_bytes, to_
 use Rattle.std.proofs.lemmas.Bool.{ltb-false, le-ltb}
 use Rattle.std.proofs.lemmas.List.{take_at, drop_at, take-append-drop, length-append, length-take, append-nil}
 use Rattle.lgm_wire.specs.Reading.{◌>>=◌}
-use Rattle.lgm_gossip.proofs.WireLaws.{bind_ok, ok_is, IsBytes, IsBytes-take, IsBytes-drop, IsWide, wide16}
+use Rattle.lgm_gossip.proofs.WireLaws.{bind_ok, ok_is, IsBytes, IsBytes-take, IsBytes-drop, IsBytes-front, IsBytes-back, IsWide, wide16}
 use Rattle.lgm_gossip.specs.declared.fault.DecodeFault.{DecodeFault}
 use Rattle.lgm_gossip.specs.declared.fault.DecodeFault.TheVariants.{Cut}
-use Rattle.lgm_gossip.specs.Fields.{Joined, ◌⌢◌, fixed, number, counted, rest, dropped}
-use Rattle.lgm_gossip.specs.FieldReading.{◌⊗◌, fixed_at, number_at, counted_at, rest_at, dropped_at}
+use Rattle.lgm_gossip.specs.Fields.{Joined, ◌⌢◌, fixed, number, counted, rest, dropped, Encloses}
+use Rattle.lgm_gossip.specs.FieldReading.{◌⊗◌, ◌⊳◌, fixed_at, number_at, counted_at, enclosed_at, rest_at, dropped_at}
 
 -- a text of F was taken from the front
 pub record Takes (F : List ℕ → Type 0) (bytes left : List ℕ) : Type 0 where
@@ -126,6 +126,23 @@ then_field {A} {B} {p} {q} {F} {G} first others = record {
   again = λ x bytes joined. ap (p ⊗ q) joined.whole ∙ rw (first.again x.0 joined.front joined.back joined.front_is, others.again x.1 joined.back joined.back_is) refl;
 }
 
+-- the same where the first field says how the others are read
+pub then_by_field : {A B : Type 0} {p : List ℕ → Result (A × List ℕ) DecodeFault} {q : A → List ℕ → Result (B × List ℕ) DecodeFault} {F : A → List ℕ → Type 0} {G : A → B → List ℕ → Type 0}
+    → IsField p F → ((x : A) → IsLast (q x) (G x)) → IsLast (p ⊳ q) (λ x. F x.0 ⌢ G x.0 x.1)
+then_by_field {A} {B} {p} {q} {F} {G} first others = record {
+  takes = λ bytes x fits e.
+      let a = bind_ok (p bytes) (λ y. q y.0 y.1 >>= λ z. Ok ((y.0, z.0), z.1)) x e in
+      let b = bind_ok (q a.0.0 a.0.1) (λ z. Ok ((a.0.0, z.0), z.1)) x a.2 in
+      let u = first.takes bytes a.0 fits a.1 in
+      let law = others a.0.0 in
+      let v = law.takes a.0.1 b.0 u.left_fits b.1 in
+      let made : (A × B) × List ℕ = ((a.0.0, b.0.0), b.0.1) in
+      subst (λ (y : (A × B) × List ℕ). Joined (F y.0.0) (G y.0.0 y.0.1) bytes) (ok_is made x b.2) (record { front = u.text; back = a.0.1; whole = u.parts; front_is = u.is; back_is = v });
+  again = λ x bytes joined.
+      let law = others x.0 in
+      ap (p ⊳ q) joined.whole ∙ rw (first.again x.0 joined.front joined.back joined.front_is, law.again x.1 joined.back joined.back_is) refl;
+}
+
 -- all of the bytes as one value: what is read is spelled so, and what is spelled so is read
 pub record IsText {M : Type 0} (at : List ℕ → Result M DecodeFault) (Fields : M → List ℕ → Type 0) : Type 0 where
   pub takes : (bytes : List ℕ) (m : M) → IsBytes bytes → at bytes ≡ Ok m → Fields m bytes
@@ -139,4 +156,21 @@ of_row {R} {M} {row_at} {Fields} from_row to_row same row = record {
       let a = bind_ok (row_at bytes) (λ x. Ok (from_row x.0)) m e in
       subst (λ (y : M). Fields y bytes) (ok_is (from_row a.0.0) m a.2) (row.takes bytes a.0 fits a.1);
   again = λ m bytes is. rw (row.again (to_row m) bytes (subst (λ (y : M). Fields y bytes) (sym (same m)) is)) (ap (λ (y : M). Ok y) (same m));
+}
+
+-- a value behind two bytes of its length
+pub enclosed_field : {A : Type 0} {read : List ℕ → Result A DecodeFault} {F : A → List ℕ → Type 0} → IsText read F → IsField (enclosed_at read) (λ x. Encloses (F x))
+enclosed_field {A} {read} {F} law = record {
+  takes = λ bytes x fits e.
+      let a = bind_ok (counted_at bytes) (λ text. read text.0 >>= λ y. Ok (y, text.1)) x e in
+      let b = bind_ok (read a.0.0) (λ y. Ok (y, a.0.1)) x a.2 in
+      let t = counted_field.takes bytes a.0 fits a.1 in
+      let inner = IsBytes-back t.text (to_be_bytes w16 (length a.0.0)) a.0.0 t.is.0 (IsBytes-front bytes t.text a.0.1 t.parts fits) in
+      subst (λ (y : A × List ℕ). Takes (Encloses (F y.0)) bytes y.1) (ok_is (b.0, a.0.1) x b.2) (record {
+        text = t.text;
+        parts = t.parts;
+        is = record { text = a.0.0; whole = t.is; is = law.takes a.0.0 b.0 inner b.1 };
+        left_fits = t.left_fits;
+      });
+  again = λ x text left is. rw (counted_field.again is.text text left is.whole, law.again x is.text is.is) refl;
 }

@@ -1,10 +1,16 @@
 pub mod WireLaws
 pub mod FieldLaws
 pub mod OptionalLaws
+pub mod CellLaws
+pub mod EncodedIdsLaws
+pub mod QueryFlagsLaws
+pub mod TimestampListLaws
 pub mod AnnounceLaws
 pub mod NodeAnnounceLaws
 pub mod ChannelUpdateLaws
+pub mod IdsQueryLaws
 pub mod IdsEndLaws
 pub mod RangeQueryLaws
+pub mod RangeReplyLaws
 pub mod FilterMsgLaws
 pub mod MessageLaws

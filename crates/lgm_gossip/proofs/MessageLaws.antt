@@ -16,8 +16,10 @@ use Rattle.lgm_gossip.proofs.FieldLaws.{IsText}
 use Rattle.lgm_gossip.proofs.AnnounceLaws.{announce_text}
 use Rattle.lgm_gossip.proofs.NodeAnnounceLaws.{node_announce_text}
 use Rattle.lgm_gossip.proofs.ChannelUpdateLaws.{channel_update_text}
+use Rattle.lgm_gossip.proofs.IdsQueryLaws.{ids_query_text}
 use Rattle.lgm_gossip.proofs.IdsEndLaws.{ids_end_text}
 use Rattle.lgm_gossip.proofs.RangeQueryLaws.{range_query_text}
+use Rattle.lgm_gossip.proofs.RangeReplyLaws.{range_reply_text}
 use Rattle.lgm_gossip.proofs.FilterMsgLaws.{filter_msg_text}
 
 -- the bytes of a message
@@ -66,10 +68,12 @@ body_takes high low body m typed e =
     line announce_text (λ x. messages.Announce x) 256 high low body m _ (omega arith) (λ x s. s) typed e (λ e.
     line node_announce_text (λ x. messages.NodeAnnounce x) 257 high low body m _ (omega arith) (λ x s. s) typed e (λ e.
     line channel_update_text (λ x. messages.ChannelUpdate x) 258 high low body m _ (omega arith) (λ x s. s) typed e (λ e.
+    line ids_query_text (λ x. messages.IdsQuery x) 261 high low body m _ (omega arith) (λ x s. s) typed e (λ e.
     line ids_end_text (λ x. messages.IdsEnd x) 262 high low body m _ (omega arith) (λ x s. s) typed e (λ e.
     line range_query_text (λ x. messages.RangeQuery x) 263 high low body m _ (omega arith) (λ x s. s) typed e (λ e.
+    line range_reply_text (λ x. messages.RangeReply x) 264 high low body m _ (omega arith) (λ x s. s) typed e (λ e.
     line filter_msg_text (λ x. messages.FilterMsg x) 265 high low body m _ (omega arith) (λ x s. s) typed e (λ e.
-    absurd (unknown_line (high * 256 + low) m e)))))))
+    absurd (unknown_line (high * 256 + low) m e)))))))))
 
 pub message_takes : (bytes : List ℕ) (m : Message) → IsBytes bytes → message_at bytes ≡ Ok m → Wire m bytes
 unfolding message_at
@@ -97,8 +101,10 @@ unfolding body_at
 message_again bytes (messages.Announce m) s = typed_again 256 bytes s _ (rw (announce_text.again m s.body s.fields) refl)
 message_again bytes (messages.NodeAnnounce m) s = typed_again 257 bytes s _ (rw (node_announce_text.again m s.body s.fields) refl)
 message_again bytes (messages.ChannelUpdate m) s = typed_again 258 bytes s _ (rw (channel_update_text.again m s.body s.fields) refl)
+message_again bytes (messages.IdsQuery m) s = typed_again 261 bytes s _ (rw (ids_query_text.again m s.body s.fields) refl)
 message_again bytes (messages.IdsEnd m) s = typed_again 262 bytes s _ (rw (ids_end_text.again m s.body s.fields) refl)
 message_again bytes (messages.RangeQuery m) s = typed_again 263 bytes s _ (rw (range_query_text.again m s.body s.fields) refl)
+message_again bytes (messages.RangeReply m) s = typed_again 264 bytes s _ (rw (range_reply_text.again m s.body s.fields) refl)
 message_again bytes (messages.FilterMsg m) s = typed_again 265 bytes s _ (rw (filter_msg_text.again m s.body s.fields) refl)
 
 pub is_found : (bytes : List ℕ) (r : Result Message DecodeFault) → IsBytes bytes → Gives NoMemory (λ m. m) r (message_at bytes) → IfOk r (λ m. Wire m bytes)

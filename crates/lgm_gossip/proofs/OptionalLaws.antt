@@ -1,15 +1,17 @@
 -- What may stand behind the last field: what is read is spelled so, and what is spelled so is read.
 use Rattle.std.proofs.Common.{◌≡◌, ℕ, ◌+◌, ◌%◌, ◌<◌, ◌≤◌, ◌⊎◌, Bool, true, false, cond, eqb, List, [], ◌∷◌, ◌++◌, length, get_or, drop, Option, Some, None, Result, Ok, Err, refl, sym, ap, subst, ◌∙◌, arith, inl, inr}
+use Rattle.std.specs.Prelude.{IfOk}
+use Rattle.std.specs.Option.{ForSome}
 use Rattle.std.specs.List.{AllByRecursion}
 use Rattle.std.proofs.lemmas.Bool.{eqb-true, eqb-false, eq-eqb, ne_eqb, cases_eq}
 use Rattle.std.proofs.lemmas.List.{drop_more, drop_all}
 use Rattle.lgm_wire.specs.declared.tlv.Tlv.{Tlv}
 use Rattle.lgm_wire.specs.Seen.{seen, seen_all}
 use Rattle.lgm_wire.specs.declared.fault.WireFault.{WireFault}
-use Rattle.lgm_wire.specs.Reading.{◌>>=◌}
+use Rattle.lgm_wire.specs.Reading.{◌>>=◌, Gives}
 use Rattle.lgm_wire.specs.Tlv.{RisesFrom}
 use Rattle.lgm_gossip.specs.declared.fault.DecodeFault.{DecodeFault}
-use Rattle.lgm_gossip.specs.declared.fault.DecodeFault.TheVariants.{TlvKind}
+use Rattle.lgm_gossip.specs.declared.fault.DecodeFault.TheVariants.{TlvKind, NoMemory}
 use Rattle.lgm_gossip.specs.Streams.{Record, Tlvs, tlvs_of}
 use Rattle.lgm_gossip.specs.Optional.{value_of, SameOption, IsOptional, optional}
 use Rattle.lgm_gossip.specs.OptionalReading.{or_tlv, stream_at, after_record, after_records, optional_of, optional_at}
@@ -168,3 +170,18 @@ step_fails read known rs i d f total lt e so_far =
 pub steps_end : {A : Type 0} (read : List ℕ → Result A DecodeFault) (known : Option A) (rs : List Tlv) (i : ℕ) (total : Result (Option A) DecodeFault) → length rs ≤ i → Known read known (drop i rs) ≡ total → total ≡ Ok known
 unfolding after_records
 steps_end read known rs i total le so_far = sym so_far ∙ ap (Known read known) (drop_all i rs le)
+
+-- ---- a fact of what was read
+
+same_for : {A : Type 0} {F : A → List ℕ → Type 0} (P : A → Type 0) → ((x : A) (b : List ℕ) → F x b → P x) → (o : Option A) (v : Option (List ℕ)) → SameOption F o v → ForSome o P
+same_for {A} {F} P holds None v same = λ x e. absurd cc
+same_for {A} {F} P holds (Some x) None same = absurd same
+same_for {A} {F} P holds (Some x) (Some b) same = λ y e. let is : x ≡ y = cc in subst P is (holds x b same)
+
+pub optional_for : {A : Type 0} {read : List ℕ → Result A DecodeFault} {F : A → List ℕ → Type 0} (P : A → Type 0) → IsText read F → ((x : A) (b : List ℕ) → F x b → P x) → (bytes : List ℕ) (r : Result (Option A) DecodeFault)
+    → IsBytes bytes → Gives NoMemory (λ o. o) r (optional_of read bytes) → IfOk r (λ o. ForSome o P)
+optional_for {A} {read} {F} P law holds bytes (Ok o) fits gives =
+    let text = optional_text law in
+    let is = text.takes bytes o fits gives in
+    same_for P holds o (value_of is.records) is.value
+optional_for {A} {read} {F} P law holds bytes (Err e) fits gives = tt

@@ -21,6 +21,10 @@ counted_at bytes = do
   n ← number_at w16 bytes
   fixed_at n.0 n.1
 
+-- two bytes of length, and so many bytes, which are read in turn
+abbrev pub enclosed_at : {A : Type 0} → (List ℕ → Result A DecodeFault) → List ℕ → Result (A × List ℕ) DecodeFault
+enclosed_at read bytes = counted_at bytes >>= λ text. read text.0 >>= λ x. Ok (x, text.1)
+
 -- all that is left
 abbrev pub rest_at : List ℕ → Result (List ℕ × List ℕ) DecodeFault
 rest_at bytes = Ok (bytes, [])
@@ -33,3 +37,8 @@ dropped_at bytes = Ok (tt, [])
 infixr 8 ◌⊗◌
 abbrev pub ◌⊗◌ : {A B : Type 0} → (List ℕ → Result (A × List ℕ) DecodeFault) → (List ℕ → Result (B × List ℕ) DecodeFault) → List ℕ → Result ((A × B) × List ℕ) DecodeFault
 p ⊗ q = λ bytes. p bytes >>= λ x. q x.1 >>= λ y. Ok ((x.0, y.0), y.1)
+
+-- the same where the first field says how the others are read
+infixr 8 ◌⊳◌
+abbrev pub ◌⊳◌ : {A B : Type 0} → (List ℕ → Result (A × List ℕ) DecodeFault) → (A → List ℕ → Result (B × List ℕ) DecodeFault) → List ℕ → Result ((A × B) × List ℕ) DecodeFault
+p ⊳ q = λ bytes. p bytes >>= λ x. q x.0 x.1 >>= λ y. Ok ((x.0, y.0), y.1)

@@ -34,3 +34,9 @@ rest x b = b ≡ x
 -- whatever is left, which isn't kept
 abbrev pub dropped : List ℕ → Type 0
 dropped b = Unit {0}
+
+-- two bytes of length, and so many bytes that are a text of F
+pub record Encloses (F : List ℕ → Type 0) (b : List ℕ) : Type 0 where
+  pub text : List ℕ
+  pub whole : counted text b
+  pub is : F text

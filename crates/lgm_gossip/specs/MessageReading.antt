@@ -9,8 +9,10 @@ use Rattle.lgm_gossip.specs.declared.message.Message.TheVariants as messages
 use Rattle.lgm_gossip.specs.AnnounceReading.{announce_at}
 use Rattle.lgm_gossip.specs.NodeAnnounceReading.{node_announce_at}
 use Rattle.lgm_gossip.specs.ChannelUpdateReading.{channel_update_at}
+use Rattle.lgm_gossip.specs.IdsQueryReading.{ids_query_at}
 use Rattle.lgm_gossip.specs.IdsEndReading.{ids_end_at}
 use Rattle.lgm_gossip.specs.RangeQueryReading.{range_query_at}
+use Rattle.lgm_gossip.specs.RangeReplyReading.{range_reply_at}
 use Rattle.lgm_gossip.specs.FilterMsgReading.{filter_msg_at}
 
 -- what the bytes behind the type spell
@@ -19,8 +21,10 @@ body_at kind body =
     if kind == 256 then (announce_at body >>= λ m. Ok (messages.Announce m))
     else if kind == 257 then (node_announce_at body >>= λ m. Ok (messages.NodeAnnounce m))
     else if kind == 258 then (channel_update_at body >>= λ m. Ok (messages.ChannelUpdate m))
+    else if kind == 261 then (ids_query_at body >>= λ m. Ok (messages.IdsQuery m))
     else if kind == 262 then (ids_end_at body >>= λ m. Ok (messages.IdsEnd m))
     else if kind == 263 then (range_query_at body >>= λ m. Ok (messages.RangeQuery m))
+    else if kind == 264 then (range_reply_at body >>= λ m. Ok (messages.RangeReply m))
     else if kind == 265 then (filter_msg_at body >>= λ m. Ok (messages.FilterMsg m))
     else if kind % 2 == 0 then Err (UnknownEven kind)
     else Err (UnknownOdd kind)

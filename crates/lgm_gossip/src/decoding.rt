@@ -11,9 +11,11 @@ use crate::channel_update::ChannelUpdate;
 use crate::fault::DecodeFault;
 use crate::filter_msg::FilterMsg;
 use crate::ids_end::IdsEnd;
+use crate::ids_query::IdsQuery;
 use crate::message::{MAX_LEN, Message};
 use crate::node_announce::NodeAnnounce;
 use crate::range_query::RangeQuery;
+use crate::range_reply::RangeReply;
 use std::alloc::Global;
 
 #[tactic(auto, unfolding(crate::specs::MessageReading::body_at))]
@@ -24,8 +26,10 @@ fn body(alloc: Global, kind: u16, bytes: &[u8]) -> Result<Message, DecodeFault>
         256 => Ok(Message::Announce(Announce::read(alloc, bytes)?)),
         257 => Ok(Message::NodeAnnounce(NodeAnnounce::read(alloc, bytes)?)),
         258 => Ok(Message::ChannelUpdate(ChannelUpdate::read(alloc, bytes)?)),
+        261 => Ok(Message::IdsQuery(IdsQuery::read(alloc, bytes)?)),
         262 => Ok(Message::IdsEnd(IdsEnd::read(bytes)?)),
         263 => Ok(Message::RangeQuery(RangeQuery::read(alloc, bytes)?)),
+        264 => Ok(Message::RangeReply(RangeReply::read(alloc, bytes)?)),
         265 => Ok(Message::FilterMsg(FilterMsg::read(bytes)?)),
         _ if kind % 2 == 0 => Err(DecodeFault::UnknownEven(kind)),
         _ => Err(DecodeFault::UnknownOdd(kind)),

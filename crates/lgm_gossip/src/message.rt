@@ -4,8 +4,10 @@ use crate::announce::Announce;
 use crate::channel_update::ChannelUpdate;
 use crate::filter_msg::FilterMsg;
 use crate::ids_end::IdsEnd;
+use crate::ids_query::IdsQuery;
 use crate::node_announce::NodeAnnounce;
 use crate::range_query::RangeQuery;
+use crate::range_reply::RangeReply;
 
 /// The most bytes that a message has, its type included (BOLT 1, "Lightning Message Format").
 pub const MAX_LEN: usize = 65_535;
@@ -19,10 +21,14 @@ pub enum Message {
     NodeAnnounce(NodeAnnounce),
     /// Type 258, `channel_update`.
     ChannelUpdate(ChannelUpdate),
+    /// Type 261, `query_short_channel_ids`.
+    IdsQuery(IdsQuery),
     /// Type 262, `reply_short_channel_ids_end`.
     IdsEnd(IdsEnd),
     /// Type 263, `query_channel_range`.
     RangeQuery(RangeQuery),
+    /// Type 264, `reply_channel_range`.
+    RangeReply(RangeReply),
     /// Type 265, `gossip_timestamp_filter`.
     FilterMsg(FilterMsg),
 }

@@ -1,0 +1,38 @@
+//! Encoded channel ids, as queries and replies hold them.
+
+ghost use Rattle.lgm_wire.specs.Reading.{Gives};
+ghost use Rattle.lgm_gossip.specs.EncodedIdsReading.{ids_of, encoded_ids_at};
+
+use crate::fault::DecodeFault;
+use crate::fields::counted;
+use crate::scid::Scid;
+use crate::scids::Scids;
+use std::alloc::Global;
+
+/// The ids that the bytes are.
+fn ids(alloc: Global, bytes: &[u8]) -> Result<Vec<Scid>, DecodeFault>
+    ensures { Gives DecodeFault.NoMemory (λ ids. ids.items) result (ids_of bytes.now) }
+{
+    match bytes {
+        [] => Ok(Vec::new(alloc)),
+        [0, rest @ ..] => {
+            let (chunks, left) = rest.as_chunks::<8>();
+            if !left.is_empty() {
+                return Err(DecodeFault::Ids);
+            }
+            Ok(chunks
+                .iter()
+                .map(|chunk| Scid::from_u64(u64::from_be_bytes(*chunk)))
+                .collect(alloc)?)
+        }
+        [first, ..] => Err(DecodeFault::Encoding(*first)),
+    }
+}
+
+/// The ids at the front, behind their length, and the bytes after them.
+pub(crate) fn encoded_ids(alloc: Global, bytes: &[u8]) -> Result<(Scids, &[u8]), DecodeFault>
+    ensures { Gives DecodeFault.NoMemory (λ x. (x.0, x.1.now)) result (encoded_ids_at bytes.now) }
+{
+    let (text, rest) = counted(bytes)?;
+    Ok((Scids::from_vec(ids(alloc, text)?), rest))
+}

@@ -1,0 +1,100 @@
+//! `query_short_channel_ids`.
+
+ghost use Rattle.std.specs.Prelude.{◌≡◌, length, None, List, ℕ, IfOk};
+ghost use Rattle.std.specs.Option.{ForSome};
+ghost use Rattle.lgm_wire.specs.Reading.{Gives};
+ghost use Rattle.lgm_wire.specs.Seen.{seen, seen_all};
+ghost use Rattle.lgm_gossip.specs.OptionalReading.{optional_of, after_record, after_records};
+ghost use Rattle.lgm_gossip.specs.QueryFlagsReading.{query_flags_at};
+
+use crate::chain_hash::ChainHash;
+use crate::encoded_ids::encoded_ids;
+use crate::fault::DecodeFault;
+use crate::fields::fixed;
+use crate::query_flags::QueryFlags;
+use crate::records::records;
+use crate::scids::Scids;
+use lgm_wire::Tlv;
+use std::alloc::Global;
+use std::marker::Model;
+
+/// A `query_short_channel_ids`, type 261: the sender asks for what is known of some channels (BOLT 7, "The
+/// query_short_channel_ids/reply_short_channel_ids_end Messages"). Where there are flags, there is one for each id.
+#[derive(Debug, Drop)]
+pub struct IdsQuery {
+    pub chain_hash: ChainHash,
+    /// The channels that are asked for.
+    pub ids: Scids,
+    /// What is wanted of each, if the query says it; else all of it.
+    pub flags: Option<QueryFlags>,
+}
+
+impl Model for IdsQuery {
+    ghost use Rattle.std.specs.Prelude.{◌≡◌, length};
+    ghost use Rattle.std.specs.Option.{ForSome};
+    ghost use Rattle.lgm_gossip.specs.IdsQuery.{Query};
+
+    ghost Value = { Query };
+
+    ghost view = { λ m. record { chain_hash = m.chain_hash; ids = m.ids; flags = m.flags } };
+
+    ghost invariant = { λ m. ForSome m.flags (λ flags. length flags ≡ length m.ids) };
+}
+
+/// The flags, if one more record has them.
+fn with_record(
+    alloc: Global,
+    count: usize,
+    flags: Option<QueryFlags>,
+    tlv: &Tlv,
+) -> Result<Option<QueryFlags>, DecodeFault>
+    ensures { Gives DecodeFault.NoMemory (λ flags. flags) result
+        (after_record (query_flags_at count) flags (seen tlv.now)) }
+{
+    match tlv.kind {
+        1 => Ok(Some(QueryFlags::read(alloc, count, tlv.value)?)),
+        kind if kind % 2 == 0 => Err(DecodeFault::TlvKind(kind)),
+        _ => Ok(flags),
+    }
+}
+
+/// The flags, if the records have them.
+fn known(alloc: Global, count: usize, records: &[Tlv]) -> Result<Option<QueryFlags>, DecodeFault>
+    ensures { Gives DecodeFault.NoMemory (λ flags. flags) result
+        (after_records (query_flags_at count) None (seen_all records.now)) }
+{
+    let mut flags = None;
+    for tlv in records {
+        flags = with_record(alloc, count, flags, tlv)?;
+    }
+    Ok(flags)
+}
+
+/// The flags, one for each id, if the stream of records has them.
+#[tactic(auto, unfolding(crate::specs::OptionalReading::optional_of))]
+fn optional(alloc: Global, ids: &Scids, bytes: &[u8]) -> Result<Option<QueryFlags>, DecodeFault>
+    ensures exact { Gives DecodeFault.NoMemory (λ found. found) result
+        (optional_of (query_flags_at (length ids.now)) bytes.now) }
+    ensures one_each { IfOk result (λ found. ForSome found (λ flags. length flags ≡ length ids.now)) }
+{
+    known(alloc, ids.as_slice().len(), records(alloc, bytes)?.as_slice())
+}
+
+impl IdsQuery {
+    ghost use Rattle.lgm_gossip.specs.IdsQueryReading.{ids_query_at};
+
+    /// The fields, read from left to right, of the bytes behind the type.
+    #[tactic(auto, unfolding(crate::specs::IdsQueryReading::ids_query_at))]
+    pub(crate) fn read(alloc: Global, bytes: &[u8]) -> Result<IdsQuery, DecodeFault>
+        ensures { Gives DecodeFault.NoMemory (λ m. m) result (ids_query_at bytes.now) }
+    {
+        let (chain_hash, rest) = fixed(bytes)?;
+        let (ids, rest) = encoded_ids(alloc, rest)?;
+        let flags = optional(alloc, &ids, rest)?;
+        Ok(IdsQuery {
+            chain_hash: ChainHash(chain_hash),
+            ids,
+            flags,
+        })
+    }
+}

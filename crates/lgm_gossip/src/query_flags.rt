@@ -1,0 +1,86 @@
+//! Query flags.
+
+ghost use Rattle.std.specs.Prelude.{◌≡◌, ℕ, List, IfOk, length};
+ghost use Rattle.lgm_wire.specs.Reading.{Sees, Gives};
+ghost use Rattle.lgm_gossip.specs.QueryFlagsReading.{flag_at, all_flags_at, query_flags_at};
+
+use crate::fault::DecodeFault;
+use lgm_wire::read_bigsize;
+use std::alloc::Global;
+use std::marker::Model;
+
+/// Flags of a query, one number for each id: bit 0 asks for the announcement, bits 1 and 2 for the update by node 1
+/// and by node 2, bits 3 and 4 for the announcements of node 1 and node 2 (BOLT 7, "The
+/// query_short_channel_ids/reply_short_channel_ids_end Messages"). Contracts see the list.
+#[derive(Debug, Drop)]
+pub struct QueryFlags {
+    items: Vec<u64>,
+}
+
+impl Model for QueryFlags {
+    ghost Value = { List ℕ };
+
+    ghost view = { λ f. f.items.items };
+}
+
+/// The number at the front.
+fn flag(bytes: &[u8]) -> Result<(u64, &[u8]), DecodeFault>
+    ensures { Sees (λ x. (x.0, x.1.now)) result (flag_at bytes.now) }
+{
+    match read_bigsize(bytes) {
+        Ok((flag, len)) => {
+            let (_, rest) = bytes.split_at(len);
+            Ok((flag, rest))
+        }
+        Err(_) => Err(DecodeFault::Flags),
+    }
+}
+
+/// So many numbers, which are all of the bytes.
+fn all_flags(alloc: Global, count: usize, bytes: &[u8]) -> Result<Vec<u64>, DecodeFault>
+    ensures { Gives DecodeFault.NoMemory (λ flags. flags.items) result (all_flags_at count bytes.now) }
+{
+    let mut flags = Vec::with_capacity(alloc, count)?;
+    let mut rest = bytes;
+    for _ in 0..count {
+        let (one, after) = flag(rest)?;
+        flags.push(one)?;
+        rest = after;
+    }
+    if rest.is_empty() { Ok(flags) } else { Err(DecodeFault::Flags) }
+}
+
+impl QueryFlags {
+    /// The flags of a vector, without a copy.
+    pub fn from_vec(items: Vec<u64>) -> QueryFlags
+        ensures { result ≡ items.items }
+    {
+        QueryFlags { items }
+    }
+
+    /// The flags, borrowed.
+    pub fn as_slice(&self) -> &[u64]
+        ensures { result.now ≡ self.now }
+    {
+        self.items.as_slice()
+    }
+
+    /// The vector, without a copy.
+    pub fn into_vec(self) -> Vec<u64>
+        ensures { result.items ≡ self }
+    {
+        let QueryFlags { items } = self;
+        items
+    }
+
+    /// As many flags as there are ids, which are all of the bytes.
+    pub(crate) fn read(alloc: Global, count: usize, bytes: &[u8]) -> Result<QueryFlags, DecodeFault>
+        ensures { Gives DecodeFault.NoMemory (λ flags. flags) result (query_flags_at count bytes.now) }
+    {
+        match bytes {
+            [] => Err(DecodeFault::Flags),
+            [0, rest @ ..] => Ok(QueryFlags::from_vec(all_flags(alloc, count, rest)?)),
+            [first, ..] => Err(DecodeFault::Encoding(*first)),
+        }
+    }
+}
