@@ -6,40 +6,40 @@ use Rattle.std.specs.List.{AllByRecursion}
 use Rattle.std.proofs.lemmas.Bool.{eqb-true, eqb-false, eq-eqb, ne_eqb, cases_eq}
 use Rattle.std.proofs.lemmas.List.{drop_more, drop_all}
 use Rattle.lgm_wire.specs.declared.tlv.Tlv.{Tlv}
-use Rattle.lgm_wire.specs.Seen.{seen, seen_all}
+use Rattle.lgm_wire.specs.TlvView.{record_of, records_of}
 use Rattle.lgm_wire.specs.declared.fault.WireFault.{WireFault}
 use Rattle.lgm_wire.specs.Reading.{◌>>=◌, Gives}
 use Rattle.lgm_wire.specs.Tlv.{RisesFrom}
 use Rattle.lgm_gossip.specs.declared.fault.DecodeFault.{DecodeFault}
 use Rattle.lgm_gossip.specs.declared.fault.DecodeFault.TheVariants.{TlvKind, NoMemory}
-use Rattle.lgm_gossip.specs.Streams.{Record, Tlvs, tlvs_of}
+use Rattle.lgm_gossip.specs.Streams.{TlvRecord, IsTlvStream, tlvs_of}
 use Rattle.lgm_gossip.specs.Optional.{value_of, SameOption, IsOptional, optional}
 use Rattle.lgm_gossip.specs.OptionalReading.{or_tlv, stream_at, after_record, after_records, optional_of, optional_at}
 use Rattle.lgm_gossip.proofs.WireLaws.{chosen, bind_ok, ok_is, IsBytes, stream_takes, values_fit, whole_read}
 use Rattle.lgm_gossip.proofs.FieldLaws.{IsText, IsLast}
 
-abbrev IsOdd : Record → Type 0
+abbrev IsOdd : TlvRecord → Type 0
 IsOdd r = r.kind % 2 ≡ 1
 
-value_here : (r : Record) (rs : List Record) → r.kind ≡ 1 → value_of (r ∷ rs) ≡ Some r.value
+value_here : (r : TlvRecord) (rs : List TlvRecord) → r.kind ≡ 1 → value_of (r ∷ rs) ≡ Some r.value
 value_here r rs e = rw (eq-eqb r.kind 1 e) refl
 
-value_later : (r : Record) (rs : List Record) → (r.kind ≡ 1 → ⊥) → value_of (r ∷ rs) ≡ value_of rs
+value_later : (r : TlvRecord) (rs : List TlvRecord) → (r.kind ≡ 1 → ⊥) → value_of (r ∷ rs) ≡ value_of rs
 value_later r rs ne = rw (ne_eqb r.kind 1 ne) refl
 
 -- the ways that one record goes: it is read, or skipped
-record Reads {A : Type 0} (read : List ℕ → Result A DecodeFault) (r : Record) (more : Option A) : Type 0 where
+record Reads {A : Type 0} (read : List ℕ → Result A DecodeFault) (r : TlvRecord) (more : Option A) : Type 0 where
   kind : r.kind ≡ 1
   value : A
   is : read r.value ≡ Ok value
   more_is : more ≡ Some value
 
-record Skips {A : Type 0} (known : Option A) (r : Record) (more : Option A) : Type 0 where
+record Skips {A : Type 0} (known : Option A) (r : TlvRecord) (more : Option A) : Type 0 where
   unknown : r.kind ≡ 1 → ⊥
   odd : r.kind % 2 ≡ 1
   more_is : more ≡ known
 
-one_record : {A : Type 0} (read : List ℕ → Result A DecodeFault) (known : Option A) (r : Record) (more : Option A) → after_record read known r ≡ Ok more → Reads read r more ⊎ Skips known r more
+one_record : {A : Type 0} (read : List ℕ → Result A DecodeFault) (known : Option A) (r : TlvRecord) (more : Option A) → after_record read known r ≡ Ok more → Reads read r more ⊎ Skips known r more
 one_record {A} read known r more e =
     elim (chosen (eqb r.kind 1) (read r.value >>= λ x. Ok (Some x)) (cond (eqb (r.kind % 2) 0) (Err (TlvKind r.kind)) (Ok known)) (Ok more) e) [
       | inl is ↦
@@ -54,16 +54,16 @@ one_record {A} read known r more e =
       ]
     ]
 
-reads_one : {A : Type 0} (read : List ℕ → Result A DecodeFault) (known : Option A) (r : Record) (x : A) → r.kind ≡ 1 → read r.value ≡ Ok x → after_record read known r ≡ Ok (Some x)
+reads_one : {A : Type 0} (read : List ℕ → Result A DecodeFault) (known : Option A) (r : TlvRecord) (x : A) → r.kind ≡ 1 → read r.value ≡ Ok x → after_record read known r ≡ Ok (Some x)
 reads_one read known r x kind is = rw (eq-eqb r.kind 1 kind, is) refl
 
-skips_one : {A : Type 0} (read : List ℕ → Result A DecodeFault) (known : Option A) (r : Record) → (r.kind ≡ 1 → ⊥) → r.kind % 2 ≡ 1 → after_record read known r ≡ Ok known
+skips_one : {A : Type 0} (read : List ℕ → Result A DecodeFault) (known : Option A) (r : TlvRecord) → (r.kind ≡ 1 → ⊥) → r.kind % 2 ≡ 1 → after_record read known r ≡ Ok known
 skips_one read known r unknown odd =
     let not_even : eqb (r.kind % 2) 0 ≡ false = ne_eqb (r.kind % 2) 0 (λ e. omega arith) in
     rw (ne_eqb r.kind 1 unknown, not_even) refl
 
 -- behind type 1 there is no other of it
-past_takes : {A : Type 0} (read : List ℕ → Result A DecodeFault) (known : Option A) (last : ℕ) (rs : List Record) (o : Option A) → 1 ≤ last → RisesFrom (Some last) rs → after_records read known rs ≡ Ok o → AllByRecursion IsOdd rs × (known ≡ o)
+past_takes : {A : Type 0} (read : List ℕ → Result A DecodeFault) (known : Option A) (last : ℕ) (rs : List TlvRecord) (o : Option A) → 1 ≤ last → RisesFrom (Some last) rs → after_records read known rs ≡ Ok o → AllByRecursion IsOdd rs × (known ≡ o)
 unfolding after_records
 past_takes read known last [] o above rises e = (tt, ok_is known o e)
 past_takes read known last (r ∷ rs) o above rises e =
@@ -76,7 +76,7 @@ past_takes read known last (r ∷ rs) o above rises e =
           ((skips.odd, others.0), sym skips.more_is ∙ others.1)
     ]
 
-past_again : {A : Type 0} (read : List ℕ → Result A DecodeFault) (known : Option A) (last : ℕ) (rs : List Record) → 1 ≤ last → RisesFrom (Some last) rs → AllByRecursion IsOdd rs → after_records read known rs ≡ Ok known
+past_again : {A : Type 0} (read : List ℕ → Result A DecodeFault) (known : Option A) (last : ℕ) (rs : List TlvRecord) → 1 ≤ last → RisesFrom (Some last) rs → AllByRecursion IsOdd rs → after_records read known rs ≡ Ok known
 unfolding after_records
 past_again read known last [] above rises odd = refl
 past_again read known last (r ∷ rs) above rises odd =
@@ -84,7 +84,7 @@ past_again read known last (r ∷ rs) above rises odd =
     let unknown : r.kind ≡ 1 → ⊥ = λ e. omega (arith, rises.0) in
     rw (skips_one read known r unknown odd.0) (past_again read known r.kind rs higher rises.1 odd.1)
 
-records_take : {A : Type 0} {read : List ℕ → Result A DecodeFault} {F : A → List ℕ → Type 0} (law : IsText read F) (last : Option ℕ) (rs : List Record) (o : Option A) → RisesFrom last rs → AllByRecursion (λ r. IsBytes r.value) rs
+records_take : {A : Type 0} {read : List ℕ → Result A DecodeFault} {F : A → List ℕ → Type 0} (law : IsText read F) (last : Option ℕ) (rs : List TlvRecord) (o : Option A) → RisesFrom last rs → AllByRecursion (λ r. IsBytes r.value) rs
     → after_records read None rs ≡ Ok o → AllByRecursion IsOdd rs × SameOption F o (value_of rs)
 unfolding after_records
 records_take {A} {read} {F} law last [] o rises fits e = (tt, subst (λ (x : Option A). SameOption F x None) (ok_is None o e) tt)
@@ -101,7 +101,7 @@ records_take {A} {read} {F} law last (r ∷ rs) o rises fits e =
           ((skips.odd, others.0), subst (λ (v : Option (List ℕ)). SameOption F o v) (sym (value_later r rs skips.unknown)) others.1)
     ]
 
-records_again : {A : Type 0} {read : List ℕ → Result A DecodeFault} {F : A → List ℕ → Type 0} (law : IsText read F) (last : Option ℕ) (rs : List Record) (o : Option A) → RisesFrom last rs → AllByRecursion IsOdd rs
+records_again : {A : Type 0} {read : List ℕ → Result A DecodeFault} {F : A → List ℕ → Type 0} (law : IsText read F) (last : Option ℕ) (rs : List TlvRecord) (o : Option A) → RisesFrom last rs → AllByRecursion IsOdd rs
     → SameOption F o (value_of rs) → after_records read None rs ≡ Ok o
 unfolding after_records
 records_again {A} {read} {F} law last [] None rises odd same = refl
@@ -116,8 +116,8 @@ records_again {A} {read} {F} law last (r ∷ rs) o rises odd same =
     here None is kind = absurd is
     here (Some x) is kind = rw (reads_one read None r x kind (law.again x r.value is)) (past_again read (Some x) r.kind rs (omega (arith, kind)) rises.1 odd.1)
 
-stream_ok : (r : Result (List Record) WireFault) (l : List Record) → or_tlv r ≡ Ok l → r ≡ Ok l
-stream_ok (Ok x) l e = ap (λ (y : List Record). Ok y) (ok_is x l e)
+stream_ok : (r : Result (List TlvRecord) WireFault) (l : List TlvRecord) → or_tlv r ≡ Ok l → r ≡ Ok l
+stream_ok (Ok x) l e = ap (λ (y : List TlvRecord). Ok y) (ok_is x l e)
 stream_ok (Err f) l e = absurd cc
 
 pub optional_text : {A : Type 0} {read : List ℕ → Result A DecodeFault} {F : A → List ℕ → Type 0} → IsText read F → IsText (optional_of read) (optional F)
@@ -146,11 +146,11 @@ optional_field {A} {read} {F} law =
 -- ---- a loop over the records
 
 abbrev pub Known : {A : Type 0} → (List ℕ → Result A DecodeFault) → Option A → List Tlv → Result (Option A) DecodeFault
-Known read known rs = after_records read known (seen_all rs)
+Known read known rs = after_records read known (records_of rs)
 
 -- the record at i was looked at, and the next one comes
 pub step_on : {A : Type 0} (read : List ℕ → Result A DecodeFault) (known more : Option A) (rs : List Tlv) (i : ℕ) (d : Tlv) (total : Result (Option A) DecodeFault) → i < length rs
-    → after_record read known (seen (get_or rs i d)) ≡ Ok more → Known read known (drop i rs) ≡ total → Known read more (drop (i + 1) rs) ≡ total
+    → after_record read known (record_of (get_or rs i d)) ≡ Ok more → Known read known (drop i rs) ≡ total → Known read more (drop (i + 1) rs) ≡ total
 unfolding after_records
 step_on read known more rs i d total lt e so_far =
     let front : Known read known (drop i rs) ≡ Known read known (get_or rs i d ∷ drop (i + 1) rs) = ap (Known read known) (drop_more rs i d lt) in
@@ -159,7 +159,7 @@ step_on read known more rs i d total lt e so_far =
 
 -- the record at i is at fault
 pub step_fails : {A : Type 0} (read : List ℕ → Result A DecodeFault) (known : Option A) (rs : List Tlv) (i : ℕ) (d : Tlv) (f : DecodeFault) (total : Result (Option A) DecodeFault) → i < length rs
-    → after_record read known (seen (get_or rs i d)) ≡ Err f → Known read known (drop i rs) ≡ total → total ≡ Err f
+    → after_record read known (record_of (get_or rs i d)) ≡ Err f → Known read known (drop i rs) ≡ total → total ≡ Err f
 unfolding after_records
 step_fails read known rs i d f total lt e so_far =
     let front : Known read known (drop i rs) ≡ Known read known (get_or rs i d ∷ drop (i + 1) rs) = ap (Known read known) (drop_more rs i d lt) in

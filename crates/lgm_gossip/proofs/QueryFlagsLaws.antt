@@ -8,10 +8,10 @@ use Rattle.lgm_wire.specs.declared.fault.WireFault.{WireFault}
 use Rattle.lgm_wire.specs.Reading.{◌>>=◌}
 use Rattle.lgm_gossip.specs.declared.fault.DecodeFault.{DecodeFault}
 use Rattle.lgm_gossip.specs.declared.fault.DecodeFault.TheVariants.{Encoding, Flags, NoMemory}
-use Rattle.lgm_gossip.specs.Streams.{big, Big, big_at}
+use Rattle.lgm_gossip.specs.Streams.{bigsize_bytes, IsBigSize, bigsize_at}
 use Rattle.lgm_gossip.specs.QueryFlags.{IsQueryFlags}
 use Rattle.lgm_gossip.specs.QueryFlagsReading.{or_flags, flag_at, all_flags_at, query_flags_at}
-use Rattle.lgm_gossip.proofs.WireLaws.{chosen, bind_ok, ok_is, IsBytes, IsBytes-rest, big_takes, big_again, ReadsBig, big_found, big_not_found}
+use Rattle.lgm_gossip.proofs.WireLaws.{chosen, bind_ok, ok_is, IsBytes, IsBytes-rest, bigsize_spelled, bigsize_at-bigsize_bytes, ReadsBig, big_found, big_not_found}
 use Rattle.lgm_gossip.proofs.FieldLaws.{IsText}
 
 flag_ok : (r : Result (ℕ × List ℕ) WireFault) (x : ℕ × List ℕ) → or_flags r ≡ Ok x → r ≡ Ok x
@@ -22,7 +22,7 @@ flag_ok (Err f) x e = absurd cc
 record AreFlags (count : ℕ) (bytes flags : List ℕ) : Type 0 where
   fits : AllByRecursion (λ f. f < 2 ^ 64) flags
   one_each : length flags ≡ count
-  whole : bytes ≡ flat_map big flags
+  whole : bytes ≡ flat_map bigsize_bytes flags
 
 all_flags_take : (count : ℕ) (bytes flags : List ℕ) → IsBytes bytes → all_flags_at count bytes ≡ Ok flags → AreFlags count bytes flags
 unfolding all_flags_at
@@ -31,26 +31,26 @@ all_flags_take zero (b ∷ bs) flags fits e = absurd cc
 all_flags_take (suc count) bytes flags fits e =
     let first = bind_ok (flag_at bytes) (λ x. all_flags_at count x.1 >>= λ others. Ok (x.0 ∷ others)) flags e in
     let others = bind_ok (all_flags_at count first.0.1) (λ others. Ok (first.0.0 ∷ others)) flags first.2 in
-    let t = big_takes bytes first.0.0 first.0.1 fits (flag_ok (big_at bytes) first.0 first.1) in
+    let t = bigsize_spelled bytes first.0.0 first.0.1 fits (flag_ok (bigsize_at bytes) first.0 first.1) in
     let u = all_flags_take count first.0.1 others.0 t.rest_fits others.1 in
     subst (λ (xs : List ℕ). AreFlags (suc count) bytes xs) (ok_is (first.0.0 ∷ others.0) flags others.2) (record {
       fits = (t.fits, u.fits);
       one_each = ap suc u.one_each;
-      whole = t.parts ∙ ap (λ (s : List ℕ). big first.0.0 ++ s) u.whole ∙ sym (flat_map-cons big first.0.0 others.0);
+      whole = t.parts ∙ ap (λ (s : List ℕ). bigsize_bytes first.0.0 ++ s) u.whole ∙ sym (flat_map-cons bigsize_bytes first.0.0 others.0);
     })
 
-all_flags_again : (flags : List ℕ) → AllByRecursion (λ f. f < 2 ^ 64) flags → all_flags_at (length flags) (flat_map big flags) ≡ Ok flags
+all_flags_again : (flags : List ℕ) → AllByRecursion (λ f. f < 2 ^ 64) flags → all_flags_at (length flags) (flat_map bigsize_bytes flags) ≡ Ok flags
 unfolding all_flags_at
 all_flags_again [] fits = refl
 all_flags_again (f ∷ flags) fits =
-    let read : big_at (flat_map big (f ∷ flags)) ≡ Ok (f, flat_map big flags) = ap big_at (flat_map-cons big f flags) ∙ big_again f (flat_map big flags) fits.0 in
+    let read : bigsize_at (flat_map bigsize_bytes (f ∷ flags)) ≡ Ok (f, flat_map bigsize_bytes flags) = ap bigsize_at (flat_map-cons bigsize_bytes f flags) ∙ bigsize_at-bigsize_bytes f (flat_map bigsize_bytes flags) fits.0 in
     rw (read, all_flags_again flags fits.1) refl
 
 pub query_flags_text : (count : ℕ) → IsText (query_flags_at count) (IsQueryFlags count)
 query_flags_text count = record {
   takes = take;
   again = λ flags bytes is.
-      ap (query_flags_at count) is.spelled ∙ ap (λ (n : ℕ). all_flags_at n (flat_map big flags)) (sym is.one_each) ∙ all_flags_again flags is.fits;
+      ap (query_flags_at count) is.spelled ∙ ap (λ (n : ℕ). all_flags_at n (flat_map bigsize_bytes flags)) (sym is.one_each) ∙ all_flags_again flags is.fits;
 }
   where
     take : (bytes flags : List ℕ) → IsBytes bytes → query_flags_at count bytes ≡ Ok flags → IsQueryFlags count flags bytes

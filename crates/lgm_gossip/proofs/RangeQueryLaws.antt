@@ -5,10 +5,10 @@ use Rattle.std.proofs.lemmas.List.{append-nil, length-drop, nil_from_length}
 use Rattle.lgm_wire.specs.declared.fault.WireFault.{WireFault}
 use Rattle.lgm_gossip.specs.declared.fault.DecodeFault.TheVariants.{TlvKind}
 use Rattle.lgm_gossip.specs.declared.range_query.RangeQuery.{RangeQuery}
-use Rattle.lgm_gossip.specs.Streams.{big, Big, big_at}
+use Rattle.lgm_gossip.specs.Streams.{bigsize_bytes, IsBigSize, bigsize_at}
 use Rattle.lgm_gossip.specs.RangeQuery.{fields}
 use Rattle.lgm_gossip.specs.RangeQueryReading.{alone, options_at, range_query_at, Row, row_at, from_row}
-use Rattle.lgm_gossip.proofs.WireLaws.{wide32, IsBytes, big_takes, big_again, ok_is, ReadsBig, big_found, big_not_found}
+use Rattle.lgm_gossip.proofs.WireLaws.{wide32, IsBytes, bigsize_spelled, bigsize_at-bigsize_bytes, ok_is, ReadsBig, big_found, big_not_found}
 use Rattle.lgm_gossip.proofs.FieldLaws.{IsLast, IsText, of_row, then_field, fixed_field, number_field}
 use Rattle.lgm_gossip.proofs.OptionalLaws.{optional_field}
 
@@ -17,13 +17,13 @@ alone_ok (Ok (x, [])) v e = ap (λ (y : ℕ). Ok (y, [])) (ok_is x v e)
 alone_ok (Ok (x, b ∷ bs)) v e = absurd cc
 alone_ok (Err f) v e = absurd cc
 
-options_text : IsText options_at Big
+options_text : IsText options_at IsBigSize
 options_text = record {
   takes = λ bytes v fits e.
-      let t = big_takes bytes v [] fits (alone_ok (big_at bytes) v e) in
-      (t.fits, t.parts ∙ append-nil (big v));
+      let t = bigsize_spelled bytes v [] fits (alone_ok (bigsize_at bytes) v e) in
+      (t.fits, t.parts ∙ append-nil (bigsize_bytes v));
   again = λ v bytes is.
-      let read : big_at bytes ≡ Ok (v, []) = ap big_at (is.1 ∙ sym (append-nil (big v))) ∙ big_again v [] is.0 in
+      let read : bigsize_at bytes ≡ Ok (v, []) = ap bigsize_at (is.1 ∙ sym (append-nil (bigsize_bytes v))) ∙ bigsize_at-bigsize_bytes v [] is.0 in
       rw read refl;
 }
 

@@ -6,14 +6,15 @@ use Rattle.std.proofs.lemmas.List.{take-append-drop, take_at, drop_at, length-ap
 use Rattle.std.proofs.lemmas.List.Concat.{flat_map-cons}
 use Rattle.lgm_wire.specs.declared.fault.WireFault.{WireFault}
 use Rattle.lgm_wire.specs.Reading.{◌>>=◌}
-use Rattle.lgm_wire.specs.Big.{big, Big}
-use Rattle.lgm_wire.specs.Tlv.{Record, record_bytes, Fits, RisesFrom, Tlvs}
-use Rattle.lgm_wire.specs.Faults.{big_at, record_at, tlvs_at, tlvs_of}
-use Rattle.lgm_wire.proofs.Streams.{RecordTakes, record_takes}
+use Rattle.lgm_wire.specs.BigSize.{bigsize_bytes, IsBigSize}
+use Rattle.lgm_wire.specs.Tlv.{TlvRecord, record_bytes, Fits, RisesFrom, IsTlvStream}
+use Rattle.lgm_wire.specs.BigSizeReading.{bigsize_at}
+use Rattle.lgm_wire.specs.TlvReading.{record_at, tlvs_at, tlvs_of}
+use Rattle.lgm_wire.proofs.TlvLaws.{RecordSpelled, record_spelled}
 pub use Rattle.lgm_wire.proofs.ReadingLaws.{chosen, bind_ok, ok_is}
 pub use Rattle.lgm_wire.proofs.Bytes.{IsBytes, IsBytes-take, IsBytes-drop, IsBytes-rest, IsBytes-back, IsWide, wide16, wide32, wide64}
-pub use Rattle.lgm_wire.proofs.Numbers.{big_takes, big_again, big_len}
-pub use Rattle.lgm_wire.proofs.Streams.{whole_read}
+pub use Rattle.lgm_wire.proofs.BigSizeLaws.{bigsize_spelled, bigsize_at-bigsize_bytes, length-bigsize_bytes}
+pub use Rattle.lgm_wire.proofs.TlvLaws.{whole_read}
 
 pub IsBytes-front : (bytes front left : List ℕ) → bytes ≡ front ++ left → IsBytes bytes → IsBytes front
 IsBytes-front bytes front left e fits i =
@@ -23,66 +24,66 @@ IsBytes-front bytes front left e fits i =
     ]
 
 -- a stream that was read: its records, and that they are bytes
-pub record IsStream (last : Option ℕ) (bytes : List ℕ) (l : List Record) : Type 0 where
+pub record IsStream (last : Option ℕ) (bytes : List ℕ) (l : List TlvRecord) : Type 0 where
   pub fits : AllByRecursion Fits l
   pub rises : RisesFrom last l
   pub whole : bytes ≡ flat_map record_bytes l
 
-tlvs_take : (n : ℕ) (last : Option ℕ) (bytes : List ℕ) (l : List Record) → IsBytes bytes → length bytes ≤ n → tlvs_at n last bytes ≡ Ok l → IsStream last bytes l
+tlvs_take : (n : ℕ) (last : Option ℕ) (bytes : List ℕ) (l : List TlvRecord) → IsBytes bytes → length bytes ≤ n → tlvs_at n last bytes ≡ Ok l → IsStream last bytes l
 unfolding tlvs_at
-tlvs_take n last [] l fits le e = subst (λ (x : List Record). IsStream last [] x) (ok_is [] l e) (record { fits = tt; rises = tt; whole = refl })
+tlvs_take n last [] l fits le e = subst (λ (x : List TlvRecord). IsStream last [] x) (ok_is [] l e) (record { fits = tt; rises = tt; whole = refl })
 tlvs_take zero last (b ∷ bs) l fits le e = absurd (omega arith)
 tlvs_take (suc n) last (b ∷ bs) l fits le e =
     let first = bind_ok (record_at last (b ∷ bs)) (λ x. tlvs_at n (Some x.0.kind) x.1 >>= λ others. Ok (x.0 ∷ others)) l e in
     let r = first.0.0 in
     let left = first.0.1 in
-    let t = record_takes last (b ∷ bs) r left fits first.1 in
+    let t = record_spelled last (b ∷ bs) r left fits first.1 in
     let others = bind_ok (tlvs_at n (Some r.kind) left) (λ others. Ok (r ∷ others)) l first.2 in
-    let len : length left < length (b ∷ bs) = omega (arith, ap length t.parts, length-append (record_bytes r) left, length-append (big r.kind ++ big (length r.value)) r.value, length-append (big r.kind) (big (length r.value)), big_len r.kind) in
+    let len : length left < length (b ∷ bs) = omega (arith, ap length t.parts, length-append (record_bytes r) left, length-append (bigsize_bytes r.kind ++ bigsize_bytes (length r.value)) r.value, length-append (bigsize_bytes r.kind) (bigsize_bytes (length r.value)), length-bigsize_bytes r.kind) in
     let s = tlvs_take n (Some r.kind) left others.0 t.rest_fits (omega arith) others.1 in
-    subst (λ (x : List Record). IsStream last (b ∷ bs) x) (ok_is (r ∷ others.0) l others.2) (record {
+    subst (λ (x : List TlvRecord). IsStream last (b ∷ bs) x) (ok_is (r ∷ others.0) l others.2) (record {
       fits = (t.fits, s.fits);
       rises = (t.above, s.rises);
       whole = t.parts ∙ ap (λ (x : List ℕ). record_bytes r ++ x) s.whole ∙ sym (flat_map-cons record_bytes r others.0);
     })
 
 -- what is read as a stream is one
-pub stream_takes : (bytes : List ℕ) (l : List Record) → IsBytes bytes → tlvs_of bytes ≡ Ok l → Tlvs l bytes
+pub stream_takes : (bytes : List ℕ) (l : List TlvRecord) → IsBytes bytes → tlvs_of bytes ≡ Ok l → IsTlvStream l bytes
 unfolding tlvs_of
 stream_takes bytes l fits e =
     let s = tlvs_take (length bytes) None bytes l fits (omega arith) e in
     record { fits = s.fits; rises = s.rises; whole = s.whole }
 
 -- the values of records are bytes
-pub values_fit : (l : List Record) (bytes : List ℕ) → IsBytes bytes → bytes ≡ flat_map record_bytes l → AllByRecursion (λ r. IsBytes r.value) l
+pub values_fit : (l : List TlvRecord) (bytes : List ℕ) → IsBytes bytes → bytes ≡ flat_map record_bytes l → AllByRecursion (λ r. IsBytes r.value) l
 values_fit [] bytes fits e = tt
 values_fit (r ∷ rs) bytes fits e =
     let parts = e ∙ flat_map-cons record_bytes r rs in
     let front = IsBytes-front bytes (record_bytes r) (flat_map record_bytes rs) parts fits in
     let left = IsBytes-back bytes (record_bytes r) (flat_map record_bytes rs) parts fits in
-    (IsBytes-back (record_bytes r) (big r.kind ++ big (length r.value)) r.value refl front, values_fit rs (flat_map record_bytes rs) left refl)
+    (IsBytes-back (record_bytes r) (bigsize_bytes r.kind ++ bigsize_bytes (length r.value)) r.value refl front, values_fit rs (flat_map record_bytes rs) left refl)
 
 -- what the clause of `read_bigsize` says of the reading of lists
 abbrev pub ReadsBig : List ℕ → Result (ℕ × ℕ) WireFault → Type 0
-ReadsBig bytes result = (v n : ℕ) → (result ≡ Ok (v, n)) ↔ ((n ≤ length bytes) × Big v (take n bytes))
+ReadsBig bytes result = (v n : ℕ) → (result ≡ Ok (v, n)) ↔ ((n ≤ length bytes) × IsBigSize v (take n bytes))
 
-pub big_found : (bytes : List ℕ) (v n : ℕ) → ReadsBig bytes (Ok (v, n)) → big_at bytes ≡ Ok (v, drop n bytes)
+pub big_found : (bytes : List ℕ) (v n : ℕ) → ReadsBig bytes (Ok (v, n)) → bigsize_at bytes ≡ Ok (v, drop n bytes)
 big_found bytes v n reads =
     let is = (reads v n).0 refl in
-    let parts : bytes ≡ big v ++ drop n bytes = sym (take-append-drop n bytes) ∙ ap (λ (s : List ℕ). s ++ drop n bytes) is.1.1 in
-    ap big_at parts ∙ big_again v (drop n bytes) is.1.0
+    let parts : bytes ≡ bigsize_bytes v ++ drop n bytes = sym (take-append-drop n bytes) ∙ ap (λ (s : List ℕ). s ++ drop n bytes) is.1.1 in
+    ap bigsize_at parts ∙ bigsize_at-bigsize_bytes v (drop n bytes) is.1.0
 
 abbrev no_number : WireFault → Result (ℕ × ℕ) WireFault
 no_number e = Err e
 
-pub big_not_found : (bytes : List ℕ) (result : Result (ℕ × ℕ) WireFault) (e : WireFault) → IsBytes bytes → result ≡ Err e → ReadsBig bytes result → (f : WireFault) × (big_at bytes ≡ Err f)
-big_not_found bytes result e fits failed reads = cases (big_at bytes) refl
+pub big_not_found : (bytes : List ℕ) (result : Result (ℕ × ℕ) WireFault) (e : WireFault) → IsBytes bytes → result ≡ Err e → ReadsBig bytes result → (f : WireFault) × (bigsize_at bytes ≡ Err f)
+big_not_found bytes result e fits failed reads = cases (bigsize_at bytes) refl
   where
-    cases : (r : Result (ℕ × List ℕ) WireFault) → big_at bytes ≡ r → (f : WireFault) × (big_at bytes ≡ Err f)
+    cases : (r : Result (ℕ × List ℕ) WireFault) → bigsize_at bytes ≡ r → (f : WireFault) × (bigsize_at bytes ≡ Err f)
     cases (Err f) is = (f, is)
     cases (Ok x) is =
-        let t = big_takes bytes x.0 x.1 fits is in
-        let len : length (big x.0) ≤ length bytes = omega (arith, ap length t.parts, length-append (big x.0) x.1) in
-        let front : take (length (big x.0)) bytes ≡ big x.0 = ap (take (length (big x.0))) t.parts ∙ take_at (big x.0) x.1 (length (big x.0)) refl in
-        let bad = sym failed ∙ (reads x.0 (length (big x.0))).1 (len, (t.fits, front)) in
+        let t = bigsize_spelled bytes x.0 x.1 fits is in
+        let len : length (bigsize_bytes x.0) ≤ length bytes = omega (arith, ap length t.parts, length-append (bigsize_bytes x.0) x.1) in
+        let front : take (length (bigsize_bytes x.0)) bytes ≡ bigsize_bytes x.0 = ap (take (length (bigsize_bytes x.0))) t.parts ∙ take_at (bigsize_bytes x.0) x.1 (length (bigsize_bytes x.0)) refl in
+        let bad = sym failed ∙ (reads x.0 (length (bigsize_bytes x.0))).1 (len, (t.fits, front)) in
         absurd cc

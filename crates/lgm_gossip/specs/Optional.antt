@@ -1,10 +1,10 @@
 -- What may stand behind the last field: a stream of records, of which those of type 1 are known.
 use Rattle.std.specs.Prelude.{◌≡◌, ℕ, ◌%◌, List, [], ◌∷◌, Option, Some, None, ◌==◌, if◌then◌else◌}
 use Rattle.std.specs.List.{AllByRecursion}
-use Rattle.lgm_gossip.specs.Streams.{Record, Tlvs}
+use Rattle.lgm_gossip.specs.Streams.{TlvRecord, IsTlvStream}
 
 -- the value of the record of type 1, if there is one
-abbrev pub value_of : List Record → Option (List ℕ)
+abbrev pub value_of : List TlvRecord → Option (List ℕ)
 value_of [] = None
 value_of (r ∷ rs) = if r.kind == 1 then Some r.value else value_of rs
 
@@ -17,8 +17,8 @@ SameOption F (Some x) (Some b) = F x b
 
 -- b is a stream of records of odd types, and that of type 1 spells x
 pub record IsOptional {A : Type 0} (F : A → List ℕ → Type 0) (x : Option A) (b : List ℕ) : Type 0 where
-  pub records : List Record
-  pub stream : Tlvs records b
+  pub records : List TlvRecord
+  pub stream : IsTlvStream records b
   pub odd : AllByRecursion (λ r. r.kind % 2 ≡ 1) records
   pub value : SameOption F x (value_of records)
 

@@ -4,24 +4,24 @@ use Rattle.lgm_wire.specs.Reading.{◌>>=◌}
 use Rattle.lgm_wire.specs.declared.fault.WireFault.{WireFault}
 use Rattle.lgm_gossip.specs.declared.fault.DecodeFault.{DecodeFault}
 use Rattle.lgm_gossip.specs.declared.fault.DecodeFault.TheVariants.{Tlv, TlvKind}
-use Rattle.lgm_gossip.specs.Streams.{Record, tlvs_of}
+use Rattle.lgm_gossip.specs.Streams.{TlvRecord, tlvs_of}
 
-abbrev pub or_tlv : Result (List Record) WireFault → Result (List Record) DecodeFault
+abbrev pub or_tlv : Result (List TlvRecord) WireFault → Result (List TlvRecord) DecodeFault
 or_tlv (Ok records) = Ok records
 or_tlv (Err fault) = Err (Tlv fault)
 
 -- the records, or the first fault of the stream
-abbrev pub stream_at : List ℕ → Result (List Record) DecodeFault
+abbrev pub stream_at : List ℕ → Result (List TlvRecord) DecodeFault
 stream_at bytes = or_tlv (tlvs_of bytes)
 
 -- what is known behind one more record: type 1 is read, another even type is a fault, another odd one is skipped
-abbrev pub after_record : {A : Type 0} → (List ℕ → Result A DecodeFault) → Option A → Record → Result (Option A) DecodeFault
+abbrev pub after_record : {A : Type 0} → (List ℕ → Result A DecodeFault) → Option A → TlvRecord → Result (Option A) DecodeFault
 after_record read known r =
     if r.kind == 1 then (read r.value >>= λ x. Ok (Some x))
     else if r.kind % 2 == 0 then Err (TlvKind r.kind)
     else Ok known
 
-unfoldable pub after_records : {A : Type 0} → (List ℕ → Result A DecodeFault) → Option A → List Record → Result (Option A) DecodeFault
+unfoldable pub after_records : {A : Type 0} → (List ℕ → Result A DecodeFault) → Option A → List TlvRecord → Result (Option A) DecodeFault
 after_records read known [] = Ok known
 after_records read known (r ∷ rs) = after_record read known r >>= λ more. after_records read more rs
 

@@ -1,9 +1,9 @@
 -- Query flags: a byte 0, and one number in its shortest form for each id.
 use Rattle.std.specs.Prelude.{◌≡◌, ℕ, ◌<◌, ◌^◌, List, ◌∷◌, length}
 use Rattle.std.specs.List.{flat_map, AllByRecursion}
-use Rattle.lgm_gossip.specs.Streams.{big}
+use Rattle.lgm_gossip.specs.Streams.{bigsize_bytes}
 
 pub record IsQueryFlags (count : ℕ) (flags : List ℕ) (b : List ℕ) : Type 0 where
   pub fits : AllByRecursion (λ f. f < 2 ^ 64) flags
   pub one_each : length flags ≡ count
-  pub spelled : b ≡ 0 ∷ flat_map big flags
+  pub spelled : b ≡ 0 ∷ flat_map bigsize_bytes flags

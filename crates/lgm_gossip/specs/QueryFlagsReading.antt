@@ -4,7 +4,7 @@ use Rattle.lgm_wire.specs.Reading.{◌>>=◌}
 use Rattle.lgm_wire.specs.declared.fault.WireFault.{WireFault}
 use Rattle.lgm_gossip.specs.declared.fault.DecodeFault.{DecodeFault}
 use Rattle.lgm_gossip.specs.declared.fault.DecodeFault.TheVariants.{Encoding, Flags}
-use Rattle.lgm_gossip.specs.Streams.{big_at}
+use Rattle.lgm_gossip.specs.Streams.{bigsize_at}
 
 abbrev pub or_flags : Result (ℕ × List ℕ) WireFault → Result (ℕ × List ℕ) DecodeFault
 or_flags (Ok x) = Ok x
@@ -12,7 +12,7 @@ or_flags (Err e) = Err Flags
 
 -- one number
 abbrev pub flag_at : List ℕ → Result (ℕ × List ℕ) DecodeFault
-flag_at bytes = or_flags (big_at bytes)
+flag_at bytes = or_flags (bigsize_at bytes)
 
 -- so many numbers, and nothing behind them
 unfoldable pub all_flags_at : ℕ → List ℕ → Result (List ℕ) DecodeFault

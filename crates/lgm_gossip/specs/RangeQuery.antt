@@ -2,7 +2,7 @@
 use Rattle.std.specs.Prelude.{ℕ, List}
 use Rattle.std.specs.Int.{w32}
 use Rattle.lgm_gossip.specs.declared.range_query.RangeQuery.{RangeQuery}
-use Rattle.lgm_gossip.specs.Streams.{Big}
+use Rattle.lgm_gossip.specs.Streams.{IsBigSize}
 use Rattle.lgm_gossip.specs.Fields.{◌⌢◌, fixed, number}
 use Rattle.lgm_gossip.specs.Optional.{optional}
 
@@ -11,4 +11,4 @@ fields m =
     fixed 32 m.chain_hash.0
     ⌢ number w32 m.first_blocknum
     ⌢ number w32 m.number_of_blocks
-    ⌢ optional Big m.options
+    ⌢ optional IsBigSize m.options

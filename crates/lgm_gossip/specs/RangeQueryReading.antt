@@ -6,7 +6,7 @@ use Rattle.lgm_wire.specs.declared.fault.WireFault.{WireFault}
 use Rattle.lgm_gossip.specs.declared.fault.DecodeFault.{DecodeFault}
 use Rattle.lgm_gossip.specs.declared.fault.DecodeFault.TheVariants.{TlvKind}
 use Rattle.lgm_gossip.specs.declared.range_query.RangeQuery.{RangeQuery}
-use Rattle.lgm_gossip.specs.Streams.{big_at}
+use Rattle.lgm_gossip.specs.Streams.{bigsize_at}
 use Rattle.lgm_gossip.specs.FieldReading.{◌⊗◌, fixed_at, number_at}
 use Rattle.lgm_gossip.specs.OptionalReading.{optional_at}
 
@@ -18,7 +18,7 @@ alone (Err e) = Err (TlvKind 1)
 
 -- the options: exactly one number in its shortest form
 abbrev pub options_at : List ℕ → Result ℕ DecodeFault
-options_at bytes = alone (big_at bytes)
+options_at bytes = alone (bigsize_at bytes)
 
 -- the fields as they are read
 abbrev pub Row : Type 0

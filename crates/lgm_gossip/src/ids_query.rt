@@ -3,7 +3,7 @@
 ghost use Rattle.std.specs.Prelude.{◌≡◌, length, None, List, ℕ, IfOk};
 ghost use Rattle.std.specs.Option.{ForSome};
 ghost use Rattle.lgm_wire.specs.Reading.{Gives};
-ghost use Rattle.lgm_wire.specs.Seen.{seen, seen_all};
+ghost use Rattle.lgm_wire.specs.TlvView.{record_of, records_of};
 ghost use Rattle.lgm_gossip.specs.OptionalReading.{optional_of, after_record, after_records};
 ghost use Rattle.lgm_gossip.specs.QueryFlagsReading.{query_flags_at};
 
@@ -49,7 +49,7 @@ fn with_record(
     tlv: &Tlv,
 ) -> Result<Option<QueryFlags>, DecodeFault>
     ensures { Gives DecodeFault.NoMemory (λ flags. flags) result
-        (after_record (query_flags_at count) flags (seen tlv.now)) }
+        (after_record (query_flags_at count) flags (record_of tlv.now)) }
 {
     match tlv.kind {
         1 => Ok(Some(QueryFlags::read(alloc, count, tlv.value)?)),
@@ -61,7 +61,7 @@ fn with_record(
 /// The flags, if the records have them.
 fn known(alloc: Global, count: usize, records: &[Tlv]) -> Result<Option<QueryFlags>, DecodeFault>
     ensures { Gives DecodeFault.NoMemory (λ flags. flags) result
-        (after_records (query_flags_at count) None (seen_all records.now)) }
+        (after_records (query_flags_at count) None (records_of records.now)) }
 {
     let mut flags = None;
     for tlv in records {

@@ -2,7 +2,7 @@
 
 ghost use Rattle.std.specs.Prelude.{length};
 ghost use Rattle.lgm_wire.specs.Reading.{Sees, Gives};
-ghost use Rattle.lgm_wire.specs.Seen.{seen, seen_all};
+ghost use Rattle.lgm_wire.specs.TlvView.{record_of, records_of};
 ghost use Rattle.lgm_gossip.specs.OptionalReading.{optional_of, after_record, after_records};
 ghost use Rattle.lgm_gossip.specs.RangeQueryReading.{options_at};
 
@@ -38,7 +38,7 @@ fn query_options(bytes: &[u8]) -> Result<u64, DecodeFault>
 
 /// The options, if one more record has them.
 fn with_record(options: Option<u64>, tlv: &Tlv) -> Result<Option<u64>, DecodeFault>
-    ensures { Sees (λ options. options) result (after_record options_at options (seen tlv.now)) }
+    ensures { Sees (λ options. options) result (after_record options_at options (record_of tlv.now)) }
 {
     match tlv.kind {
         1 => Ok(Some(query_options(tlv.value)?)),
@@ -49,7 +49,7 @@ fn with_record(options: Option<u64>, tlv: &Tlv) -> Result<Option<u64>, DecodeFau
 
 /// The options, if the records have them.
 fn known(records: &[Tlv]) -> Result<Option<u64>, DecodeFault>
-    ensures { Sees (λ options. options) result (after_records options_at None (seen_all records.now)) }
+    ensures { Sees (λ options. options) result (after_records options_at None (records_of records.now)) }
 {
     let mut options = None;
     for tlv in records {

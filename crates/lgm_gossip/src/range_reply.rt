@@ -3,7 +3,7 @@
 ghost use Rattle.std.specs.Prelude.{◌≡◌, length, None, List, IfOk};
 ghost use Rattle.std.specs.Option.{ForSome};
 ghost use Rattle.lgm_wire.specs.Reading.{Gives};
-ghost use Rattle.lgm_wire.specs.Seen.{seen, seen_all};
+ghost use Rattle.lgm_wire.specs.TlvView.{record_of, records_of};
 ghost use Rattle.lgm_gossip.specs.OptionalReading.{optional_of, after_record, after_records};
 ghost use Rattle.lgm_gossip.specs.TimestampListReading.{timestamps_at};
 
@@ -62,7 +62,7 @@ fn with_record(
     tlv: &Tlv,
 ) -> Result<Option<TimestampList>, DecodeFault>
     ensures { Gives DecodeFault.NoMemory (λ pairs. pairs) result
-        (after_record (timestamps_at count) timestamps (seen tlv.now)) }
+        (after_record (timestamps_at count) timestamps (record_of tlv.now)) }
 {
     match tlv.kind {
         1 => Ok(Some(TimestampList::read(alloc, count, tlv.value)?)),
@@ -74,7 +74,7 @@ fn with_record(
 /// The timestamps, if the records have them.
 fn known(alloc: Global, count: usize, records: &[Tlv]) -> Result<Option<TimestampList>, DecodeFault>
     ensures { Gives DecodeFault.NoMemory (λ pairs. pairs) result
-        (after_records (timestamps_at count) None (seen_all records.now)) }
+        (after_records (timestamps_at count) None (records_of records.now)) }
 {
     let mut timestamps = None;
     for tlv in records {

@@ -4,7 +4,7 @@ ghost use Rattle.lgm_wire.specs.Reading.{Gives};
 ghost use Rattle.lgm_gossip.specs.OptionalReading.{stream_at};
 
 use crate::fault::DecodeFault;
-use lgm_wire::{Tlvs, WireFault, read_stream as read_tlvs};
+use lgm_wire::{Tlvs, WireFault, read_tlvs};
 use std::alloc::Global;
 
 /// The records of a stream, which is all of the bytes.
