@@ -22,6 +22,7 @@ use Rattle.lgm_server.specs.Text.{with_gathered}
 use Rattle.lgm_server.specs.Request.{request_of}
 use Rattle.lgm_server.specs.Reply.{text_of}
 use Rattle.lgm_server.specs.Script.{outcome_of, rows_behind, count_behind, with_outcome, reply_in, rows_after, accepted_after, history_after, history_from, history_of, text_at, text_before}
+use Rattle.lgm_server.proofs.Appending.{appends_both}
 use Rattle.lgm_server.specs.Running.{fault_of, IsWritten, IsAnswered, IsTooMany, IsTooLong}
 
 -- k lines were answered, and these are the rows and the number of their accepted items
@@ -78,10 +79,6 @@ accepted_after-le chain rows count (requests.Offer item) = count_behind-le count
 short-push : (P : List ℕ → Type 0) (xs : List (List ℕ)) (x : List ℕ) → AllByRecursion P xs → P x → AllByRecursion P (xs ++ x ∷ [])
 short-push P [] x all one = (one, tt)
 short-push P (y ∷ ys) x all one = (all.0, short-push P ys x all.1 one)
-
-appends_more : (old mid new : Option (List ℕ)) (a b : List ℕ) → Appends old mid a → Appends mid new b → Appends old new (a ++ b)
-appends_more None mid new a b p q = q ∙ ap (option_map (λ taken. taken ++ b)) p
-appends_more (Some taken) mid new a b p q = q ∙ ap (option_map (λ t. t ++ b)) p ∙ ap (λ (s : List ℕ). Some s) (append_assoc taken a b)
 
 gathered_more : (taken : Option (List ℕ)) (gathered more : List ℕ) → Appends (with_gathered taken gathered) (with_gathered taken (gathered ++ more)) more
 gathered_more None gathered more = refl
@@ -151,7 +148,7 @@ step_so_far chain script k rows rows' count count' line rest old mid new rows_is
       text = record {
         few = let lt = at.within in omega arith;
         short = subst (λ (ls : List (List ℕ)). AllByRecursion (λ l. length l ≤ 140000) ls) (sym at.front) (short-push (λ l. length l ≤ 140000) (take k (lines_of script)) line text.short small);
-        written = subst (λ (t : List ℕ). Appends old new t) (ap (λ (t : List ℕ). text_before chain (lines_of script) k ++ t) (sym (text_is chain (lines_of script) k rows count line rows_is count_is at.here)) ∙ sym (text_before-more chain (lines_of script) k)) (appends_more old mid new (text_before chain (lines_of script) k) (text_of (k + 1) (reply_in chain rows count (request_of line))) text.written w);
+        written = subst (λ (t : List ℕ). Appends old new t) (ap (λ (t : List ℕ). text_before chain (lines_of script) k ++ t) (sym (text_is chain (lines_of script) k rows count line rows_is count_is at.here)) ∙ sym (text_before-more chain (lines_of script) k)) (appends_both old mid new (text_before chain (lines_of script) k) (text_of (k + 1) (reply_in chain rows count (request_of line))) text.written w);
       };
     }
 

@@ -1,7 +1,7 @@
 -- Text that is gathered before it is written.
-use Rattle.std.specs.Prelude.{◌≡◌, ℕ, List, ◌++◌, Option}
-use Rattle.lgm_server.specs.Device.{Appends}
+use Rattle.std.specs.Prelude.{ℕ, List, ◌++◌, Option}
+use Rattle.std.specs.Option.{option_map}
 
--- a sink took the front of the text, and this rest of it is gathered
-abbrev pub WritesFront : Option (List ℕ) → Option (List ℕ) → List ℕ → List ℕ → Type 0
-WritesFront old new text rest = (front : List ℕ) × Appends old new front × (text ≡ front ++ rest)
+-- what a sink took, where it tells, and then what is gathered
+abbrev pub with_gathered : Option (List ℕ) → List ℕ → Option (List ℕ)
+with_gathered taken gathered = option_map (λ bytes. bytes ++ gathered) taken

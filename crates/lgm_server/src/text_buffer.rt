@@ -2,7 +2,7 @@
 
 ghost use Rattle.std.specs.Prelude.{◌≡◌, ◌+◌, ◌≤◌, ◌<◌, ◌^◌, ◌++◌, [], length, decimal, IfOk, OnOk, OnErr};
 ghost use Rattle.lgm_server.specs.Device.{Appends, AppendsSome};
-ghost use Rattle.lgm_server.specs.Text.{WritesFront};
+ghost use Rattle.lgm_server.specs.Text.{with_gathered};
 
 use crate::device::{Failed, Sink, write_all};
 use std::alloc::{AllocError, Global};
@@ -77,8 +77,8 @@ impl TextBuffer {
     /// After `Failed` it holds the text as before, the first bytes of which were written.
     pub fn flush_block<W: Sink>(&mut self, sink: &mut W) -> Result<(), Failed>
         requires { W.failures sink.old + 1 < 2 ^ 64 }
-        ensures ok { OnOk result
-            (WritesFront (W.taken sink.old) (W.taken sink.new) self.old self.new) }
+        ensures ok { OnOk result (with_gathered (W.taken sink.new) self.new
+            ≡ with_gathered (W.taken sink.old) self.old) }
         ensures short { OnOk result (length self.new < BLOCK) }
         ensures waits { length self.old < BLOCK → W.taken sink.new ≡ W.taken sink.old }
         ensures err { OnErr result (AppendsSome (W.taken sink.old) (W.taken sink.new) self.old) }
