@@ -2,7 +2,7 @@
 
 ghost use Rattle.std.specs.Prelude.{◌≡◌, IfOk};
 
-use lgm_gossip::{Announce, Bytes, ChannelUpdate, NodeAnnounce, Point, Scid};
+use lgm_gossip::{Announce, Bytes, Scid};
 use std::alloc::{AllocError, Global};
 
 /// A channel: its announcement, its capacity, and the bytes that are sent on.
@@ -36,57 +36,11 @@ impl ChannelRow {
     }
 }
 
-/// A direction of a channel: its update, and the bytes that are sent on.
-#[derive(Debug, Drop)]
-pub struct UpdateRow {
-    /// The update's fields.
-    pub message: ChannelUpdate,
-    /// The whole message as it came.
-    pub raw: Bytes,
-}
-
-impl UpdateRow {
-    /// A copy. The only error is want of memory.
-    pub fn copy(&self, alloc: Global) -> Result<UpdateRow, AllocError>
-        ensures { IfOk result (λ copy. copy ≡ self.now) }
-    {
-        Ok(UpdateRow {
-            message: self.message.copy(alloc)?,
-            raw: self.raw.copy(alloc)?,
-        })
-    }
-}
-
-/// A node: its announcement, and the bytes that are sent on.
-#[derive(Debug, Drop)]
-pub struct NodeRow {
-    /// The announcement's fields.
-    pub message: NodeAnnounce,
-    /// The whole message as it came.
-    pub raw: Bytes,
-}
-
-impl NodeRow {
-    /// A copy. The only error is want of memory.
-    pub fn copy(&self, alloc: Global) -> Result<NodeRow, AllocError>
-        ensures { IfOk result (λ copy. copy ≡ self.now) }
-    {
-        Ok(NodeRow {
-            message: self.message.copy(alloc)?,
-            raw: self.raw.copy(alloc)?,
-        })
-    }
-}
-
 /// A message that is lawful by itself, as the row to be.
 #[derive(Debug, Drop)]
 pub enum Checked {
     /// Of a `channel_announcement`.
     Channel(ChannelRow),
-    /// Of a `channel_update`, and the point that signed it.
-    Update(UpdateRow, Point),
-    /// Of a `node_announcement`.
-    Node(NodeRow),
 }
 
 impl Checked {
@@ -96,8 +50,6 @@ impl Checked {
     {
         match self {
             Checked::Channel(row) => Ok(Checked::Channel(row.copy(alloc)?)),
-            Checked::Update(row, signer) => Ok(Checked::Update(row.copy(alloc)?, *signer)),
-            Checked::Node(row) => Ok(Checked::Node(row.copy(alloc)?)),
         }
     }
 }

@@ -1,34 +1,60 @@
--- Writing a slice in several goes: the steps of a loop that keeps `WritesFront`.
-use Rattle.std.proofs.Common.{◌≡◌, ℕ, ◌-◌, ◌<◌, ◌≤◌, List, [], ◌∷◌, ◌++◌, length, take, drop, Option, Result, Ok, refl, sym, ◌∙◌, arith}
-use Rattle.std.proofs.lemmas.List.{length-drop, length-take, take_rest, take-append-drop, nil_from_length}
+-- Writing a slice in several goes.
+use Rattle.std.proofs.Common.{◌≡◌, ℕ, ◌+◌, ◌-◌, ◌<◌, ◌≤◌, List, [], ◌∷◌, ◌++◌, length, take, drop, take-add, Option, Some, None, Result, Ok, refl, sym, ap, ◌∙◌, append_assoc, arith}
+use Rattle.std.proofs.lemmas.List.{drop-drop, length-drop, length-take, take_rest, take_all, append-nil}
+use Rattle.std.specs.Option.{option_map}
 use Rattle.std.proofs.lemmas.Bool.{ne_eqb}
 use Rattle.lgm_server.specs.declared.device.Failed.{Failed}
+use Rattle.lgm_server.proofs.Appending.{appends_nothing, appends_both}
 use Rattle.lgm_server.specs.Device.{write_failures, Appends, AppendsSome}
-use Rattle.lgm_server.specs.Text.{WritesFront}
-use Rattle.lgm_server.proofs.Appending.{appends_nothing}
-use Rattle.lgm_server.proofs.Gathering.{written_more, written_some, written_all}
 
-abbrev took : ℕ → Result ℕ Failed
+abbrev pub took : ℕ → Result ℕ Failed
 took n = Ok n
 
--- a write took the first n bytes of the rest
-pub sent_more : (old mid new : Option (List ℕ)) (bytes rest : List ℕ) (n : ℕ) → WritesFront old mid bytes rest → Appends mid new (take n rest) → WritesFront old new bytes (take (length rest - n) (drop n rest))
-sent_more old mid new bytes rest n sent writes =
-    let parts : rest ≡ take n rest ++ drop n rest = sym (take-append-drop n rest) in
-    written_more old mid new bytes rest (take (length rest - n) (drop n rest)) sent (take n rest, writes, rw take_rest parts)
+-- the bytes before the rest were taken
+pub record Sent (old new : Option (List ℕ)) (bytes rest : List ℕ) : Type 0 where
+  pub count : ℕ
+  pub rest_is : rest ≡ drop count bytes
+  pub taken : Appends old new (take count bytes)
 
--- a write failed
-pub sent_some : (old mid new : Option (List ℕ)) (bytes rest : List ℕ) → WritesFront old mid bytes rest → new ≡ mid → AppendsSome old new bytes
-sent_some old mid new bytes rest sent same = written_some old mid new bytes rest sent (0, same ∙ appends_nothing mid)
+-- nothing was written yet
+pub sent_first : (old : Option (List ℕ)) (bytes : List ℕ) → Sent old old bytes bytes
+sent_first old bytes = record { count = 0; rest_is = refl; taken = appends_nothing old }
 
--- no byte is left
-pub sent_all : (old new : Option (List ℕ)) (bytes rest : List ℕ) → WritesFront old new bytes rest → length rest ≡ 0 → Appends old new bytes
-sent_all old new bytes rest sent ended = written_all old new bytes rest sent (nil_from_length rest ended)
+-- a write took more
+pub sent_more : (old mid new : Option (List ℕ)) (bytes rest : List ℕ) (n : ℕ) → Sent old mid bytes rest → Appends mid new (take n rest) → Sent old new bytes (drop n rest)
+sent_more old mid new bytes rest n sent writes = record {
+  count = sent.count + n;
+  rest_is = ap (drop n) sent.rest_is ∙ drop-drop n sent.count bytes;
+  taken =
+      let text : take sent.count bytes ++ take n rest ≡ take (sent.count + n) bytes = ap (λ (s : List ℕ). take sent.count bytes ++ take n s) sent.rest_is ∙ sym (take-add sent.count n bytes) in
+      appends_both old mid new (take sent.count bytes) (take n rest) sent.taken writes ∙ ap (λ (s : List ℕ). option_map (λ taken. taken ++ s) old) text;
+}
 
-pub rest_shrinks : (rest : List ℕ) (n : ℕ) → n ≤ length rest → (n ≡ 0 → ⊥) → length (take (length rest - n) (drop n rest)) < length rest
-rest_shrinks rest n le some = omega (arith, length-take (length rest - n) (drop n rest), length-drop n rest)
+-- what was taken is the front
+pub sent_some : (old mid new : Option (List ℕ)) (bytes rest : List ℕ) → Sent old mid bytes rest → new ≡ mid → AppendsSome old new bytes
+sent_some old mid new bytes rest sent same = (sent.count, same ∙ sent.taken)
 
--- a write that takes some bytes is no failure
+pub sent_all : (old new : Option (List ℕ)) (bytes rest : List ℕ) → Sent old new bytes rest → length rest ≡ 0 → Appends old new bytes
+sent_all old new bytes rest sent ended =
+    let past : length bytes ≤ sent.count = omega (arith, ap length sent.rest_is, length-drop sent.count bytes) in
+    sent.taken ∙ ap (λ (s : List ℕ). option_map (λ taken. taken ++ s) old) (take_all sent.count bytes past)
+
+-- the same, in the words of a slice's range
+pub sent_range : (old mid new : Option (List ℕ)) (bytes rest : List ℕ) (n : ℕ) → Sent old mid bytes rest → Appends mid new (take n rest) → Sent old new bytes (take (length rest - n) (drop n rest))
+sent_range old mid new bytes rest n sent writes = rw take_rest (sent_more old mid new bytes rest n sent writes)
+
+pub range_shrinks : (rest : List ℕ) (n : ℕ) → n ≤ length rest → (n ≡ 0 → ⊥) → length (take (length rest - n) (drop n rest)) < length rest
+range_shrinks rest n le some = omega (arith, length-take (length rest - n) (drop n rest), length-drop n rest)
+
 pub no_failure : (n : ℕ) (bytes : List ℕ) → (n ≡ 0 → ⊥) → write_failures (took n) bytes ≡ 0
 no_failure n [] some = refl
 no_failure n (b ∷ bs) some = rw (ne_eqb n 0 some) refl
+
+pub stuck_failure : (n : ℕ) (bytes : List ℕ) → n ≡ 0 → 0 < length bytes → write_failures (took n) bytes ≡ 1
+stuck_failure n [] none some = absurd (omega arith)
+stuck_failure n (b ∷ bs) none some = rw none refl
+
+pub sent_stuck : (old mid new : Option (List ℕ)) (bytes rest : List ℕ) (n : ℕ) → Sent old mid bytes rest → Appends mid new (take n rest) → AppendsSome old new bytes
+sent_stuck old mid new bytes rest n sent writes =
+    let more = sent_more old mid new bytes rest n sent writes in
+    (more.count, more.taken)

@@ -1,14 +1,13 @@
 use Rattle.std.proofs.Common.{arith, rules}
 use Rattle.std.proofs.lemmas.Result.{err_from_is_err_and}
-use Rattle.lgm_server.proofs.Sending.{sent_more, sent_some, sent_all, rest_shrinks, no_failure}
-use Rattle.lgm_server.proofs.Gathering.{written_none, written_some}
+use Rattle.lgm_server.proofs.Sending.{sent_first, sent_range, sent_some, sent_all, range_shrinks, no_failure}
 use Rattle.lgm_server.proofs.device.write_all.Goals as goal
 
 pub loop-rest-init : goal.loop-rest-init
-loop-rest-init g c = record { same = search rules; sent = written_none (g.W.Sink.taken c.args.sink.now) c.args.bytes.now }
+loop-rest-init g c = record { same = search rules; sent = sent_first (g.W.Sink.taken c.args.sink.now) c.args.bytes.now }
 
 pub loop-rest-smaller : goal.loop-rest-smaller
-loop-rest-smaller g c = rest_shrinks c.loop-rest.rest.now c.in_ok-written.written c.in_ok-written.ensures.bound c.if-written-eq0.false
+loop-rest-smaller g c = range_shrinks c.loop-rest.rest.now c.in_ok-written.written c.in_ok-written.ensures.bound c.if-written-eq0.false
 
 pub loop-rest-preserved : goal.loop-rest-preserved
 loop-rest-preserved g c =
@@ -16,7 +15,7 @@ loop-rest-preserved g c =
     let n = c.in_ok-written.written in
     record {
       same = omega (arith, c.in_ok-written.ensures.failures, no_failure n rest c.if-written-eq0.false, c.loop-rest.invariant.same);
-      sent = sent_more (g.W.Sink.taken c.args.sink.now) (g.W.Sink.taken c.loop-rest.sink) (g.W.Sink.taken c.write.new.self) c.args.bytes.now rest n c.loop-rest.invariant.sent c.in_ok-written.ensures.bytes;
+      sent = sent_range (g.W.Sink.taken c.args.sink.now) (g.W.Sink.taken c.loop-rest.sink) (g.W.Sink.taken c.write.new.self) c.args.bytes.now rest n c.loop-rest.invariant.sent c.in_ok-written.ensures.bytes;
     }
 
 pub returns-in_err-written : goal.returns-in_err-written
@@ -28,9 +27,6 @@ returns-in_err-written g c =
       cause = omega (arith, c.in_err-written.ensures.failures, c.loop-rest.invariant.same);
       same = tt;
     })
-
-pub returns-then-written-eq0-clause-err : goal.returns-then-written-eq0-clause-err
-returns-then-written-eq0-clause-err g c = written_some (g.W.Sink.taken c.args.sink.now) (g.W.Sink.taken c.loop-rest.sink) (g.W.Sink.taken c.write.new.self) c.args.bytes.now c.loop-rest.rest.now c.loop-rest.invariant.sent (c.in_ok-written.written, c.in_ok-written.ensures.bytes)
 
 pub returns : goal.returns
 returns g c = record {
