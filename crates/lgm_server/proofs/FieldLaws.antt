@@ -1,4 +1,4 @@
--- Decimal numbers, digit by digit, and the field in front of a space.
+-- Decimal numbers, digit by digit, and the field in front of a separator.
 use Rattle.std.proofs.Common.{◌≡◌, ℕ, suc, ◌+◌, ◌-◌, ◌*◌, ◌^◌, ◌<◌, ◌≤◌, Bool, true, false, cond, eqb, ltb, List, [], ◌∷◌, length, get_or, take, drop, Option, Some, None, refl, sym, ap, ◌∙◌, arith, add-one, drop-cons}
 use Rattle.std.specs.Prelude.{◌&&◌}
 use Rattle.std.specs.List.{list_all, position, position_or_len}
@@ -7,7 +7,7 @@ use Rattle.std.proofs.lemmas.List.{drop_all}
 use Rattle.std.proofs.lemmas.List.Sums.{position_or_len_is}
 use Rattle.memchr.specs.Find.{IsFirstByte, is_byte}
 use Rattle.std.specs.Option.{option_map}
-use Rattle.lgm_server.specs.Field.{is_digit, with_digit, with_digits, further, value_at, is_space, fields_at}
+use Rattle.lgm_server.specs.Field.{is_digit, with_digit, with_digits, further, value_at, fields_at}
 
 -- a number doesn't get less by further digits
 grows : (n : ℕ) (digits : List ℕ) → n ≤ with_digits n digits
@@ -41,26 +41,26 @@ value_at-drop n i digits lt none = rw (drop-cons digits i 0) (value_at-none n (g
 pub value_at-end : (n i : ℕ) (digits : List ℕ) → length digits ≤ i → n < 2 ^ 64 → value_at n (drop i digits) ≡ Some n
 value_at-end n i digits past small = rw (drop_all i digits past, lt-ltb n (2 ^ 64) small) refl
 
--- ---- spaces
+-- ---- separators
 
--- what memchr finds is the first space
-pub space_is : (text : List ℕ) (r : Option ℕ) → IsFirstByte (is_byte 32) text r → r ≡ position is_space text
-space_is text None nowhere =
-    let all : position_or_len is_space text ≡ length text = position_or_len_is is_space text (length text) 0 (omega arith) (λ k lt. off (eqb (get_or text k 0) 32) (nowhere k (omega arith) lt)) (λ lt. absurd (omega arith)) in
+-- what memchr finds is the first one
+pub separator_is : (c : ℕ) (text : List ℕ) (r : Option ℕ) → IsFirstByte (is_byte c) text r → r ≡ position (λ byte. eqb byte c) text
+separator_is c text None nowhere =
+    let all : position_or_len (λ byte. eqb byte c) text ≡ length text = position_or_len_is (λ byte. eqb byte c) text (length text) 0 (omega arith) (λ k lt. off (eqb (get_or text k 0) c) (nowhere k (omega arith) lt)) (λ lt. absurd (omega arith)) in
     rw (all, le-ltb (length text) (length text) (omega arith)) refl
   where
     off : (b : Bool) → (b ≡ true → ⊥) → b ≡ false
     off true h = absurd (h refl)
     off false h = refl
-space_is text (Some k) first =
+separator_is c text (Some k) first =
     let front = first.0 in
     let high = front.high in
-    let here : position_or_len is_space text ≡ k = position_or_len_is is_space text k 0 (omega arith) (λ j lt. off (eqb (get_or text j 0) 32) (front.before j (omega arith) lt)) (λ lt. first.1) in
+    let here : position_or_len (λ byte. eqb byte c) text ≡ k = position_or_len_is (λ byte. eqb byte c) text k 0 (omega arith) (λ j lt. off (eqb (get_or text j 0) c) (front.before j (omega arith) lt)) (λ lt. first.1) in
     rw (here, lt-ltb k (length text) high) refl
   where
     off : (b : Bool) → (b ≡ true → ⊥) → b ≡ false
     off true h = absurd (h refl)
     off false h = refl
 
-pub fields_is : (text : List ℕ) (found r : Option ℕ) → IsFirstByte (is_byte 32) text found → found ≡ r → option_map (λ space. (take space text, drop (space + 1) text)) r ≡ fields_at text
-fields_is text found r first is = ap (option_map (λ space. (take space text, drop (space + 1) text))) (sym is ∙ space_is text found first)
+pub fields_is : (c : ℕ) (text : List ℕ) (found r : Option ℕ) → IsFirstByte (is_byte c) text found → found ≡ r → option_map (λ end. (take end text, drop (end + 1) text)) r ≡ fields_at c text
+fields_is c text found r first is = ap (option_map (λ end. (take end text, drop (end + 1) text))) (sym is ∙ separator_is c text found first)

@@ -1,14 +1,11 @@
--- The fields of a line, which stand between single spaces.
-use Rattle.std.specs.Prelude.{ℕ, ◌+◌, ◌-◌, ◌*◌, ◌^◌, List, [], ◌∷◌, length, take, drop, Option, Some, None, Bool, ◌==◌, ◌&&◌, not, nat_le, nat_lt, if◌then◌else◌}
+-- The fields of a line, which stand between single separators.
+use Rattle.std.specs.Prelude.{ℕ, ◌+◌, ◌-◌, ◌*◌, ◌^◌, List, [], ◌∷◌, length, take, drop, Option, Some, None, Bool, ◌==◌, ◌&&◌, not, nat_le, nat_lt, option_and_then, if◌then◌else◌}
 use Rattle.std.specs.Option.{option_map}
 use Rattle.std.specs.List.{list_all, position}
 
-abbrev pub is_space : ℕ → Bool
-is_space byte = byte == 32
-
--- the field in front of the first space, and what is behind it
-abbrev pub fields_at : List ℕ → Option (List ℕ × List ℕ)
-fields_at text = option_map (λ space. (take space text, drop (space + 1) text)) (position is_space text)
+-- the field in front of the first separator, and what is behind it
+abbrev pub fields_at : ℕ → List ℕ → Option (List ℕ × List ℕ)
+fields_at separator text = option_map (λ end. (take end text, drop (end + 1) text)) (position (λ byte. byte == separator) text)
 
 abbrev pub is_digit : ℕ → Bool
 is_digit byte = nat_le 48 byte && nat_le byte 57
@@ -35,3 +32,7 @@ value_at number digits =
 abbrev pub number_of : List ℕ → Option ℕ
 number_of [] = None
 number_of (digit ∷ digits) = if (digit == 48) && not (length digits == 0) then None else value_at 0 (digit ∷ digits)
+
+-- the same below a limit
+abbrev pub number_below : ℕ → List ℕ → Option ℕ
+number_below limit digits = option_and_then (λ number. if nat_lt number limit then Some number else None) (number_of digits)

@@ -5,7 +5,7 @@ use Rattle.std.specs.Cmp.Lexicographic.{pointwise}
 use Rattle.lgm_server.specs.declared.item.Item.{Item}
 use Rattle.lgm_server.specs.declared.request.Request.{Request}
 use Rattle.lgm_server.specs.declared.request.Request.TheVariants as requests
-use Rattle.lgm_server.specs.Item.{gossip_of}
+use Rattle.lgm_server.specs.Item.{gossip_of, close_of}
 
 -- an item, or no form of the grammar
 abbrev pub offer : Option Item → Request
@@ -18,4 +18,5 @@ request_of line =
     if (length line == 0) || starts_with nat_eq line (codes "#") then requests.Quiet
     else if pointwise nat_eq line (codes "commit") then requests.Commit
     else if pointwise nat_eq (take 2 line) (codes "m ") then offer (gossip_of (drop 2 line))
+    else if pointwise nat_eq (take 6 line) (codes "close ") then offer (close_of (drop 6 line))
     else requests.Bad

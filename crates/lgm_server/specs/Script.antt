@@ -6,10 +6,10 @@ use Rattle.lgm_check.specs.declared.refusal.Refusal.{Refusal}
 use Rattle.lgm_check.specs.Precheck.{checked_of}
 use Rattle.lgm_store.specs.declared.op.Op.{Op}
 use Rattle.lgm_store.specs.Rows.{Rows}
-use Rattle.lgm_store.specs.Admission.{admitted}
+use Rattle.lgm_store.specs.Admission.{admitted, admitted_close}
 use Rattle.lgm_store.specs.History.{absorbed, fold}
 use Rattle.lgm_server.specs.declared.item.Item.{Item}
-use Rattle.lgm_server.specs.declared.item.Item.TheVariants.{Gossip}
+use Rattle.lgm_server.specs.declared.item.Item.TheVariants.{Gossip, Close}
 use Rattle.lgm_server.specs.declared.request.Request.{Request}
 use Rattle.lgm_server.specs.declared.request.Request.TheVariants as requests
 use Rattle.lgm_server.specs.declared.reply.Reply.{Reply}
@@ -22,6 +22,7 @@ use Rattle.lgm_server.specs.Reply.{text_of}
 -- the operation of an item that a map of these rows accepts, or the refusal
 unfoldable pub outcome_of : ChainHash → Rows → Item → Result Op Refusal
 outcome_of chain rows (Gossip bytes evidence) = checked_of chain bytes evidence >>= λ checked. admitted rows checked
+outcome_of chain rows (Close id) = admitted_close rows id
 
 -- what it is told
 abbrev pub offered : Result Op Refusal → Reply

@@ -33,6 +33,7 @@ fn outcome(alloc: Global, chain: &ChainHash, map: &Map, item: &Item) -> Result<O
             map.admits(&checked)?;
             Ok(Op::from(checked))
         }
+        Item::Close(scid) => map.admit_close(*scid),
     }
 }
 

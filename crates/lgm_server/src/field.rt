@@ -1,17 +1,17 @@
 //! The fields of a line.
 
-ghost use Rattle.std.specs.Prelude.{◌≡◌};
+ghost use Rattle.std.specs.Prelude.{◌≡◌, ◌<◌, IfSome};
 ghost use Rattle.std.specs.Option.{option_map};
-ghost use Rattle.lgm_server.specs.Field.{fields_at, further, value_at, number_of};
+ghost use Rattle.lgm_server.specs.Field.{fields_at, further, value_at, number_of, number_below};
 
 use memchr::memchr;
 
-/// The field in front of the first space, and what is behind it.
-pub fn split_field(text: &[u8]) -> Option<(&[u8], &[u8])>
-    ensures { option_map (λ parts. (parts.0.now, parts.1.now)) result ≡ fields_at text.now }
+/// The field in front of the first separator, and what is behind it.
+pub fn split_field(separator: u8, text: &[u8]) -> Option<(&[u8], &[u8])>
+    ensures { option_map (λ parts. (parts.0.now, parts.1.now)) result ≡ fields_at separator text.now }
 {
-    let space = memchr(b' ', text)?;
-    Some((&text[..space], &text[space + 1..]))
+    let end = memchr(separator, text)?;
+    Some((&text[..end], &text[end + 1..]))
 }
 
 /// The number behind one more digit, if it is below 2^64.
@@ -42,4 +42,13 @@ pub fn number(digits: &[u8]) -> Option<u64>
         [] | [b'0', _, ..] => None,
         _ => value(digits),
     }
+}
+
+/// A decimal number without leading zeros, below a limit.
+pub fn number_below(limit: u64, digits: &[u8]) -> Option<u64>
+    ensures value { result ≡ number_below limit digits.now }
+    ensures small { IfSome result (λ number. number < limit) }
+{
+    let number = number(digits)?;
+    if number < limit { Some(number) } else { None }
 }

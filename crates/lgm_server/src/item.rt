@@ -1,12 +1,12 @@
 //! Items: what a line offers to the map.
 
 ghost use Rattle.std.specs.Prelude.{◌≡◌, IfOk};
-ghost use Rattle.lgm_server.specs.Item.{bytes_of, sig_of, funding_of, evidence_of, gossip_of};
+ghost use Rattle.lgm_server.specs.Item.{bytes_of, sig_of, funding_of, evidence_of, gossip_of, scid_of, close_of};
 
-use crate::field::{number, split_field};
+use crate::field::{number, number_below, split_field};
 use hex::{FromHex, FromHexError};
 use lgm_check::{Evidence, Funding, Sig};
-use lgm_gossip::{Bytes, Point};
+use lgm_gossip::{Bytes, Point, Scid};
 use std::alloc::{AllocError, Global};
 
 /// What is offered to the map, with what the caller found out about it.
@@ -14,6 +14,8 @@ use std::alloc::{AllocError, Global};
 pub enum Item {
     /// A gossip message, as its bytes, and the verdicts on it.
     Gossip(Bytes, Evidence),
+    /// The close of a channel, whose funding output is spent.
+    Close(Scid),
 }
 
 /// The bytes that hexadecimal digits spell, at least one byte.
@@ -68,7 +70,7 @@ fn funding(word: &[u8]) -> Option<Funding>
 fn evidence(text: &[u8]) -> Option<Evidence>
     ensures { result ≡ evidence_of text.now }
 {
-    let (word, rest) = split_field(text)?;
+    let (word, rest) = split_field(b' ', text)?;
     let sig = sig(word)?;
     let funding = funding(rest)?;
     Some(Evidence { sig, funding })
@@ -78,7 +80,7 @@ fn evidence(text: &[u8]) -> Option<Evidence>
 pub fn gossip(alloc: Global, text: &[u8]) -> Result<Option<Item>, AllocError>
     ensures { IfOk result (λ item. item ≡ gossip_of text.now) }
 {
-    let Some((digits, rest)) = split_field(text) else {
+    let Some((digits, rest)) = split_field(b' ', text) else {
         return Ok(None);
     };
     let Some(evidence) = evidence(rest) else {
@@ -88,4 +90,23 @@ pub fn gossip(alloc: Global, text: &[u8]) -> Result<Option<Item>, AllocError>
         Some(bytes) => Ok(Some(Item::Gossip(bytes, evidence))),
         None => Ok(None),
     }
+}
+
+/// A channel's name: `BLOCKxINDEXxOUTPUT`, three decimal numbers.
+fn scid(text: &[u8]) -> Option<Scid>
+    ensures { result ≡ scid_of text.now }
+{
+    let (block, rest) = split_field(b'x', text)?;
+    let (index, output) = split_field(b'x', rest)?;
+    let block = number_below(0x100_0000, block)?;
+    let index = number_below(0x100_0000, index)?;
+    let output = number_below(0x1_0000, output)?;
+    Some(Scid::new(block as u32, index as u32, output as u16))
+}
+
+/// The close of a line, behind its first word: `SCID`.
+pub fn close(text: &[u8]) -> Option<Item>
+    ensures { result ≡ close_of text.now }
+{
+    Some(Item::Close(scid(text)?))
 }

@@ -1,9 +1,9 @@
 //! What a line asks.
 
 ghost use Rattle.std.specs.Prelude.{◌≡◌, IfOk};
-ghost use Rattle.lgm_server.specs.Request.{request_of};
+ghost use Rattle.lgm_server.specs.Request.{offer, request_of};
 
-use crate::item::{Item, gossip};
+use crate::item::{Item, close, gossip};
 use std::alloc::{AllocError, Global};
 
 /// What a line of a script asks.
@@ -19,6 +19,16 @@ pub enum Request {
     Commit,
 }
 
+/// To accept an item, if there is one.
+fn offer(item: Option<Item>) -> Request
+    ensures { result ≡ offer item }
+{
+    match item {
+        Some(item) => Request::Offer(item),
+        None => Request::Bad,
+    }
+}
+
 /// What a line asks.
 pub fn parse(alloc: Global, line: &[u8]) -> Result<Request, AllocError>
     ensures { IfOk result (λ request. request ≡ request_of line.now) }
@@ -29,11 +39,11 @@ pub fn parse(alloc: Global, line: &[u8]) -> Result<Request, AllocError>
     if line == b"commit".as_slice() {
         return Ok(Request::Commit);
     }
-    let Some(text) = line.strip_prefix(b"m ") else {
-        return Ok(Request::Bad);
-    };
-    match gossip(alloc, text)? {
-        Some(item) => Ok(Request::Offer(item)),
+    if let Some(text) = line.strip_prefix(b"m ") {
+        return Ok(offer(gossip(alloc, text)?));
+    }
+    match line.strip_prefix(b"close ") {
+        Some(text) => Ok(offer(close(text))),
         None => Ok(Request::Bad),
     }
 }
