@@ -20,10 +20,12 @@ fn ids(alloc: Global, bytes: &[u8]) -> Result<Vec<Scid>, DecodeFault>
             if !left.is_empty() {
                 return Err(DecodeFault::Ids);
             }
-            Ok(chunks
-                .iter()
-                .map(|chunk| Scid::from_u64(u64::from_be_bytes(*chunk)))
-                .collect(alloc)?)
+            Ok(
+                chunks
+                    .iter()
+                    .map(|chunk| Scid::from_u64(u64::from_be_bytes(*chunk)))
+                    .collect(alloc)?,
+            )
         }
         [first, ..] => Err(DecodeFault::Encoding(*first)),
     }

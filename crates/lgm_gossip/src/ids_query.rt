@@ -77,7 +77,11 @@ fn optional(alloc: Global, ids: &Scids, bytes: &[u8]) -> Result<Option<QueryFlag
         (optional_of (query_flags_at (length ids.now)) bytes.now) }
     ensures one_each { IfOk result (λ found. ForSome found (λ flags. length flags ≡ length ids.now)) }
 {
-    known(alloc, ids.as_slice().len(), records(alloc, bytes)?.as_slice())
+    known(
+        alloc,
+        ids.as_slice().len(),
+        records(alloc, bytes)?.as_slice(),
+    )
 }
 
 impl IdsQuery {

@@ -47,7 +47,11 @@ fn all_flags(alloc: Global, count: usize, bytes: &[u8]) -> Result<Vec<u64>, Deco
         flags.push(one)?;
         rest = after;
     }
-    if rest.is_empty() { Ok(flags) } else { Err(DecodeFault::Flags) }
+    if rest.is_empty() {
+        Ok(flags)
+    } else {
+        Err(DecodeFault::Flags)
+    }
 }
 
 impl QueryFlags {

@@ -43,12 +43,12 @@ impl Model for RangeReply {
     ghost Value = { Reply };
 
     ghost view = { λ m. record {
-        chain_hash = m.chain_hash;
-        first_blocknum = m.first_blocknum;
-        number_of_blocks = m.number_of_blocks;
-        sync_complete = m.sync_complete;
-        ids = m.ids;
-        timestamps = m.timestamps;
+      chain_hash = m.chain_hash;
+      first_blocknum = m.first_blocknum;
+      number_of_blocks = m.number_of_blocks;
+      sync_complete = m.sync_complete;
+      ids = m.ids;
+      timestamps = m.timestamps;
     } };
 
     ghost invariant = { λ m. ForSome m.timestamps (λ pairs. length pairs ≡ length m.ids) };
@@ -90,7 +90,11 @@ fn optional(alloc: Global, ids: &Scids, bytes: &[u8]) -> Result<Option<Timestamp
         (optional_of (timestamps_at (length ids.now)) bytes.now) }
     ensures one_each { IfOk result (λ found. ForSome found (λ timestamps. length timestamps ≡ length ids.now)) }
 {
-    known(alloc, ids.as_slice().len(), records(alloc, bytes)?.as_slice())
+    known(
+        alloc,
+        ids.as_slice().len(),
+        records(alloc, bytes)?.as_slice(),
+    )
 }
 
 impl RangeReply {

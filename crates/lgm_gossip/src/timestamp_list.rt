@@ -64,7 +64,11 @@ impl TimestampList {
     }
 
     /// As many pairs as there are ids, which are all of the bytes.
-    pub(crate) fn read(alloc: Global, count: usize, bytes: &[u8]) -> Result<TimestampList, DecodeFault>
+    pub(crate) fn read(
+        alloc: Global,
+        count: usize,
+        bytes: &[u8],
+    ) -> Result<TimestampList, DecodeFault>
         ensures { Gives DecodeFault.NoMemory (λ pairs. pairs) result (timestamps_at count bytes.now) }
     {
         match bytes {
