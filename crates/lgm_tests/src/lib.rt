@@ -4,4 +4,8 @@
 #[cfg(test)]
 mod announcements;
 #[cfg(test)]
+mod closes;
+#[cfg(test)]
 mod scripts;
+#[cfg(test)]
+mod updates;

@@ -42,6 +42,42 @@ pub fn announcement(
     Ok(text)
 }
 
+/// A `channel_update` of a direction, 0 or 1, in two digits as the flags are; its signature is zeros.
+pub fn update(
+    alloc: Global,
+    chain: &str,
+    scid: &str,
+    flags: (&str, &str),
+    timestamp: u32,
+) -> Result<String, Fail> {
+    let (message_flags, channel_flags) = flags;
+    let mut text = String::from_str(alloc, "0102")?;
+    for _ in 0..64 {
+        text.push_str("00")?;
+    }
+    text.push_str(chain)?;
+    text.push_str(scid)?;
+    text.push_str(format!(in alloc; "{timestamp:08x}")?.as_str())?;
+    text.push_str(message_flags)?;
+    text.push_str(channel_flags)?;
+    text.push_str("0028000000000000000100000000000000000000000002faf080")?;
+    Ok(text)
+}
+
+/// A `node_announcement` without features and addresses; its signature and alias are zeros.
+pub fn node_announcement(alloc: Global, node: &str, timestamp: u32) -> Result<String, Fail> {
+    let mut text = String::from_str(alloc, "0101")?;
+    for _ in 0..64 {
+        text.push_str("00")?;
+    }
+    text.push_str(format!(in alloc; "0000{timestamp:08x}{node}")?.as_str())?;
+    for _ in 0..35 {
+        text.push_str("00")?;
+    }
+    text.push_str("0000")?;
+    Ok(text)
+}
+
 /// Runs the script, cut into pieces of several sizes, and compares what is written.
 pub fn assert_answers(
     rt: &impl Abort,
