@@ -1,17 +1,22 @@
 //! Updates of channels: who may sign them, which are newer, and which are private.
 
 use crate::scripts::{CHAIN, OTHER_CHAIN, announcement, assert_answers, point, update};
+use std::alloc::Global;
 use std::test::Fail;
 
 const SCID: &str = "0927c00000010000";
+
+fn from_node_1(alloc: Global, timestamp: u32) -> Result<String, Fail> {
+    update(alloc, CHAIN, SCID, ("01", "00"), timestamp)
+}
 
 #[test]
 fn timestamps_and_signers(rt: HostRuntime) -> Result<(), Fail> {
     let alloc = rt.alloc();
     let (a, b) = (point(alloc, "02", "0a")?, point(alloc, "02", "0b")?);
     let channel = announcement(alloc, CHAIN, SCID, (&a, &b), (&a, &b))?;
-    let first = |timestamp: u32| update(alloc, CHAIN, SCID, ("01", "00"), timestamp);
-    let (four, five, six, seven) = (first(4)?, first(5)?, first(6)?, first(7)?);
+    let (four, five) = (from_node_1(alloc, 4)?, from_node_1(alloc, 5)?);
+    let (six, seven) = (from_node_1(alloc, 6)?, from_node_1(alloc, 7)?);
     let disabled = update(alloc, CHAIN, SCID, ("01", "02"), 5)?;
     let second = update(alloc, CHAIN, SCID, ("00", "01"), 1)?;
     let script = format!(in alloc; "m {five} {a} -\nm {channel} all 100000\nm {five} {a} -\n\
