@@ -2,6 +2,7 @@ pub mod WireLaws
 pub mod FieldLaws
 pub mod OptionalLaws
 pub mod CellLaws
+pub mod PartLaws
 pub mod EncodedIdsLaws
 pub mod QueryFlagsLaws
 pub mod TimestampListLaws

@@ -28,3 +28,4 @@ pub mod RangeQueryReading
 pub mod RangeReplyReading
 pub mod FilterMsgReading
 pub mod MessageReading
+pub mod Part
