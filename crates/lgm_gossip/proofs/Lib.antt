@@ -3,6 +3,7 @@ pub mod FieldLaws
 pub mod OptionalLaws
 pub mod CellLaws
 pub mod PartLaws
+pub mod EncodeLaws
 pub mod EncodedIdsLaws
 pub mod QueryFlagsLaws
 pub mod TimestampListLaws

@@ -29,3 +29,4 @@ pub mod RangeReplyReading
 pub mod FilterMsgReading
 pub mod MessageReading
 pub mod Part
+pub mod Spelling

@@ -10,7 +10,7 @@ use Rattle.lgm_gossip.specs.TimestampList.{pair_bytes, PairFits}
 -- the bytes of a part
 abbrev pub text : Part → List ℕ
 text (parts.Bytes bytes) = bytes.now
-text (parts.Number8 n) = n ∷ []
+text (parts.Number8 n) = to_be_bytes w8 n
 text (parts.Number16 n) = to_be_bytes w16 n
 text (parts.Number32 n) = to_be_bytes w32 n
 text (parts.Number64 n) = to_be_bytes w64 n
