@@ -3,7 +3,6 @@ pub mod FieldLaws
 pub mod OptionalLaws
 pub mod CellLaws
 pub mod PartLaws
-pub mod EncodeLaws
 pub mod EncodedIdsLaws
 pub mod QueryFlagsLaws
 pub mod TimestampListLaws
@@ -16,3 +15,4 @@ pub mod RangeQueryLaws
 pub mod RangeReplyLaws
 pub mod FilterMsgLaws
 pub mod MessageLaws
+pub mod EncodeLaws

@@ -8,6 +8,7 @@ use Rattle.lgm_gossip.specs.declared.channel_update.ChannelUpdate.{ChannelUpdate
 use Rattle.lgm_gossip.specs.declared.ids_end.IdsEnd.{IdsEnd}
 use Rattle.lgm_gossip.specs.declared.range_query.RangeQuery.{RangeQuery}
 use Rattle.lgm_gossip.specs.declared.filter_msg.FilterMsg.{FilterMsg}
+use Rattle.lgm_gossip.specs.declared.timestamps.Timestamps.{Timestamps}
 use Rattle.lgm_gossip.specs.declared.message.Message.{Message}
 use Rattle.lgm_gossip.specs.declared.message.Message.TheVariants as messages
 use Rattle.lgm_gossip.specs.declared.encode_fault.EncodeFault.{EncodeFault}
@@ -16,6 +17,14 @@ use Rattle.lgm_gossip.specs.Streams.{big, record_bytes}
 use Rattle.lgm_gossip.specs.TimestampList.{pair_bytes}
 use Rattle.lgm_gossip.specs.IdsQuery.{Query}
 use Rattle.lgm_gossip.specs.RangeReply.{Reply}
+use Rattle.lgm_gossip.specs.Announce as announce
+use Rattle.lgm_gossip.specs.NodeAnnounce as node_announce
+use Rattle.lgm_gossip.specs.ChannelUpdate as channel_update
+use Rattle.lgm_gossip.specs.IdsQuery as ids_query
+use Rattle.lgm_gossip.specs.IdsEnd as ids_end
+use Rattle.lgm_gossip.specs.RangeQuery as range_query
+use Rattle.lgm_gossip.specs.RangeReply as range_reply
+use Rattle.lgm_gossip.specs.FilterMsg as filter_msg
 use Rattle.lgm_gossip.specs.Message.{Spells}
 
 -- bytes behind two bytes of their length
@@ -24,6 +33,12 @@ counted_text x = to_be_bytes w16 (length x) ++ x
 
 abbrev pub ids_text : List ℕ → List ℕ
 ids_text ids = 0 ∷ flat_map (to_be_bytes w64) ids
+
+abbrev pub flags_text : List ℕ → List ℕ
+flags_text flags = 0 ∷ flat_map big flags
+
+abbrev pub pairs_text : List Timestamps → List ℕ
+pairs_text pairs = 0 ∷ flat_map pair_bytes pairs
 
 -- a record of type 1, or no record
 abbrev pub option_text : {A : Type 0} → (A → List ℕ) → Option A → List ℕ
@@ -79,7 +94,7 @@ abbrev pub ids_query_texts : Query → List (List ℕ)
 ids_query_texts m =
     m.chain_hash.0
     ∷ counted_text (ids_text m.ids)
-    ∷ option_text (λ flags. 0 ∷ flat_map big flags) m.flags
+    ∷ option_text flags_text m.flags
     ∷ []
 
 abbrev pub ids_end_texts : IdsEnd → List (List ℕ)
@@ -103,7 +118,7 @@ range_reply_texts m =
     ∷ to_be_bytes w32 m.number_of_blocks
     ∷ to_be_bytes w8 m.sync_complete
     ∷ counted_text (ids_text m.ids)
-    ∷ option_text (λ pairs. 0 ∷ flat_map pair_bytes pairs) m.timestamps
+    ∷ option_text pairs_text m.timestamps
     ∷ []
 
 abbrev pub filter_msg_texts : FilterMsg → List (List ℕ)
@@ -132,3 +147,14 @@ pub record Encodes (kind : ℕ) (Fields : List ℕ → Type 0) (texts : List (Li
   pub too_long : (result ≡ Err TooLong) ↔ (65535 < length (typed kind texts))
   pub text : IfOk result (λ b. b ≡ typed kind texts)
   pub spelled : IfOk result (λ b. Spells kind Fields b)
+
+-- the same for a message
+abbrev pub MessageEncodes : Message → Result (List ℕ) EncodeFault → Type 0
+MessageEncodes (messages.Announce m) = Encodes 256 (announce.fields m) (announce_texts m)
+MessageEncodes (messages.NodeAnnounce m) = Encodes 257 (node_announce.fields m) (node_announce_texts m)
+MessageEncodes (messages.ChannelUpdate m) = Encodes 258 (channel_update.fields m) (channel_update_texts m)
+MessageEncodes (messages.IdsQuery m) = Encodes 261 (ids_query.fields m) (ids_query_texts m)
+MessageEncodes (messages.IdsEnd m) = Encodes 262 (ids_end.fields m) (ids_end_texts m)
+MessageEncodes (messages.RangeQuery m) = Encodes 263 (range_query.fields m) (range_query_texts m)
+MessageEncodes (messages.RangeReply m) = Encodes 264 (range_reply.fields m) (range_reply_texts m)
+MessageEncodes (messages.FilterMsg m) = Encodes 265 (filter_msg.fields m) (filter_msg_texts m)

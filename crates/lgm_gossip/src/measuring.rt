@@ -10,7 +10,7 @@ use crate::message::MAX_LEN;
 use crate::part::Part;
 
 /// How many bytes the shortest form of a number takes.
-fn bigsize_len(value: u64) -> usize
+pub(crate) fn bigsize_len(value: u64) -> usize
     ensures { result ≡ length (big value) }
 {
     match value {

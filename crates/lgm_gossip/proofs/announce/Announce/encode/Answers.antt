@@ -1,8 +1,5 @@
-use Rattle.std.proofs.Common.{refl, ap, ◌∙◌, sym, ◌++◌, [], length, arith}
-use Rattle.std.proofs.lemmas.Result.{err_from_is_err_and}
 use Rattle.lgm_gossip.specs.declared.part.Part.TheVariants.{Bytes}
-use Rattle.lgm_gossip.specs.Spelling.{announce_texts}
-use Rattle.lgm_gossip.proofs.EncodeLaws.{then_whole, then_counted, then_64, says_rest, encodes, too_long_part}
+use Rattle.lgm_gossip.proofs.EncodeLaws.{then_whole, then_counted, then_64, says_rest, encodes}
 use Rattle.lgm_gossip.proofs.announce.Announce.encode.Goals as goal
 
 pub returns : goal.returns
@@ -22,8 +19,3 @@ returns c =
       (then_whole 33 c.whole-9.result m.bitcoin_key_2.0 c.whole-9.ensures
       (says_rest (Bytes c.as_slice-2.result) m.rest c.as_slice-2.ensures))))))))))))
       (record { too_long = c.join.ensures.too_long; text = c.join.ensures.text; fits = c.join.ensures.fits })
-
-pub returns-in_err-features_len : goal.returns-in_err-features_len
-returns-in_err-features_len c =
-    let p = err_from_is_err_and c.from_residual.result c.from_residual.ensures.1 in
-    too_long_part 256 (announce_texts c.args.self.now) 4 c.args.self.now.features (Bytes c.as_slice.result) p.0 c.from_residual.result p.1 (p.2 ∙ c.in_err-features_len.ensures.0) c.as_slice.ensures (omega arith) refl c.in_err-features_len.ensures.1
