@@ -16,3 +16,4 @@ pub mod RangeReplyLaws
 pub mod FilterMsgLaws
 pub mod MessageLaws
 pub mod EncodeLaws
+pub mod AddressLaws

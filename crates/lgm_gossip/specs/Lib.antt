@@ -30,3 +30,5 @@ pub mod FilterMsgReading
 pub mod MessageReading
 pub mod Part
 pub mod Spelling
+pub mod Addresses
+pub mod AddressesReading

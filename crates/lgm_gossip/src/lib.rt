@@ -4,6 +4,9 @@
 //! the first fault that they have. Contracts say which bytes spell which message: field by field, in the order of BOLT 7.
 #![tactic(auto)]
 
+mod address;
+mod address_list;
+mod address_reading;
 mod announce;
 mod bytes;
 mod chain_hash;
@@ -13,6 +16,7 @@ mod encode_fault;
 mod encoded_ids;
 mod encoding;
 mod fault;
+mod features;
 mod fields;
 mod filter_msg;
 mod ids_end;
@@ -32,6 +36,9 @@ mod scids;
 mod timestamp_list;
 mod timestamps;
 
+pub use address::Address;
+pub use address_list::AddressList;
+pub use address_reading::addresses;
 pub use announce::Announce;
 pub use bytes::Bytes;
 pub use chain_hash::ChainHash;
@@ -40,6 +47,7 @@ pub use decoding::{decode, one_message};
 pub use encode_fault::EncodeFault;
 pub use encoding::encode;
 pub use fault::DecodeFault;
+pub use features::has_even_bit;
 pub use filter_msg::FilterMsg;
 pub use ids_end::IdsEnd;
 pub use ids_query::IdsQuery;
