@@ -12,7 +12,7 @@ use Rattle.lgm_gossip.proofs.WireLaws.{chosen, ok_is, IsBytes, IsBytes-rest, wid
 use Rattle.lgm_gossip.proofs.FieldLaws.{IsText}
 use Rattle.lgm_gossip.proofs.CellLaws.{IsCell, cells_take, cells_again, cells_len}
 
-id_cell : IsCell (from_be_bytes w64) (to_be_bytes w64) (λ id. id < 2 ^ 64)
+pub id_cell : IsCell (from_be_bytes w64) (to_be_bytes w64) (λ id. id < 2 ^ 64)
 id_cell = record {
   len = λ id. refl;
   back = wide64.back;

@@ -2,6 +2,7 @@ pub mod WireLaws
 pub mod FieldLaws
 pub mod OptionalLaws
 pub mod CellLaws
+pub mod PartLaws
 pub mod EncodedIdsLaws
 pub mod QueryFlagsLaws
 pub mod TimestampListLaws
@@ -14,3 +15,5 @@ pub mod RangeQueryLaws
 pub mod RangeReplyLaws
 pub mod FilterMsgLaws
 pub mod MessageLaws
+pub mod EncodeLaws
+pub mod AddressLaws

@@ -14,7 +14,7 @@ use Rattle.lgm_gossip.proofs.WireLaws.{chosen, ok_is, IsBytes, IsBytes-rest, IsB
 use Rattle.lgm_gossip.proofs.FieldLaws.{IsText}
 use Rattle.lgm_gossip.proofs.CellLaws.{IsCell, cells_take, cells_again, cells_len}
 
-pair_cell : IsCell pair_of pair_bytes PairFits
+pub pair_cell : IsCell pair_of pair_bytes PairFits
 pair_cell = record {
   len = λ t. refl;
   back = λ bytes len fits.

@@ -29,3 +29,7 @@ pub mod RangeQueryReading
 pub mod RangeReplyReading
 pub mod FilterMsgReading
 pub mod MessageReading
+pub mod Part
+pub mod Spelling
+pub mod Addresses
+pub mod AddressesReading

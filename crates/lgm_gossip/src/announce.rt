@@ -5,8 +5,12 @@ ghost use Rattle.lgm_wire.specs.Reading.{Gives};
 
 use crate::bytes::Bytes;
 use crate::chain_hash::ChainHash;
+use crate::encode_fault::EncodeFault;
 use crate::fault::DecodeFault;
 use crate::fields::{counted, fixed, number64};
+use crate::joining::{join, whole};
+use crate::measuring::measure;
+use crate::part::Part;
 use crate::point::Point;
 use crate::scid::Scid;
 use std::alloc::{AllocError, Global};
@@ -37,7 +41,9 @@ pub struct Announce {
 }
 
 impl Announce {
+    ghost use Rattle.lgm_gossip.specs.Announce.{fields};
     ghost use Rattle.lgm_gossip.specs.AnnounceReading.{announce_at};
+    ghost use Rattle.lgm_gossip.specs.Spelling.{announce_texts, Encodes};
 
     /// A copy. The only error is want of memory.
     pub fn copy(&self, alloc: Global) -> Result<Announce, AllocError>
@@ -80,5 +86,32 @@ impl Announce {
             bitcoin_key_2: Point(bitcoin_key_2),
             rest: Bytes::from_slice(alloc, rest)?,
         })
+    }
+
+    /// The bytes, the two of the type first.
+    pub(crate) fn encode(&self, alloc: Global) -> Result<Bytes, EncodeFault>
+        ensures { Encodes 256 (fields self.now) (announce_texts self.now) result }
+    {
+        let features = Part::Bytes(self.features.as_slice());
+        let features_len = measure(&[features])?;
+        join(
+            alloc,
+            &[
+                Part::Number16(256),
+                whole(&self.node_signature_1),
+                whole(&self.node_signature_2),
+                whole(&self.bitcoin_signature_1),
+                whole(&self.bitcoin_signature_2),
+                Part::Number16(features_len),
+                features,
+                whole(&self.chain_hash.0),
+                Part::Number64(self.short_channel_id.to_u64()),
+                whole(&self.node_id_1.0),
+                whole(&self.node_id_2.0),
+                whole(&self.bitcoin_key_1.0),
+                whole(&self.bitcoin_key_2.0),
+                Part::Bytes(self.rest.as_slice()),
+            ],
+        )
     }
 }

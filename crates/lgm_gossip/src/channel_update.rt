@@ -5,8 +5,11 @@ ghost use Rattle.lgm_wire.specs.Reading.{Gives};
 
 use crate::bytes::Bytes;
 use crate::chain_hash::ChainHash;
+use crate::encode_fault::EncodeFault;
 use crate::fault::DecodeFault;
 use crate::fields::{fixed, number8, number16, number32, number64};
+use crate::joining::{join, whole};
+use crate::part::Part;
 use crate::scid::Scid;
 use std::alloc::{AllocError, Global};
 
@@ -40,7 +43,9 @@ pub struct ChannelUpdate {
 }
 
 impl ChannelUpdate {
+    ghost use Rattle.lgm_gossip.specs.ChannelUpdate.{fields};
     ghost use Rattle.lgm_gossip.specs.ChannelUpdateReading.{channel_update_at};
+    ghost use Rattle.lgm_gossip.specs.Spelling.{channel_update_texts, Encodes};
 
     /// A copy. The only error is want of memory.
     pub fn copy(&self, alloc: Global) -> Result<ChannelUpdate, AllocError>
@@ -82,5 +87,29 @@ impl ChannelUpdate {
             htlc_maximum_msat,
             rest: Bytes::from_slice(alloc, rest)?,
         })
+    }
+
+    /// The bytes, the two of the type first.
+    pub(crate) fn encode(&self, alloc: Global) -> Result<Bytes, EncodeFault>
+        ensures { Encodes 258 (fields self.now) (channel_update_texts self.now) result }
+    {
+        join(
+            alloc,
+            &[
+                Part::Number16(258),
+                whole(&self.signature),
+                whole(&self.chain_hash.0),
+                Part::Number64(self.short_channel_id.to_u64()),
+                Part::Number32(self.timestamp),
+                Part::Number8(self.message_flags),
+                Part::Number8(self.channel_flags),
+                Part::Number16(self.cltv_expiry_delta),
+                Part::Number64(self.htlc_minimum_msat),
+                Part::Number32(self.fee_base_msat),
+                Part::Number32(self.fee_proportional_millionths),
+                Part::Number64(self.htlc_maximum_msat),
+                Part::Bytes(self.rest.as_slice()),
+            ],
+        )
     }
 }

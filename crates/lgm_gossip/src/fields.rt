@@ -49,14 +49,20 @@ pub fn number64(bytes: &[u8]) -> Result<(u64, &[u8]), DecodeFault>
     Ok((u64::from_be_bytes(front), rest))
 }
 
+/// So many bytes, where they lie.
+pub fn part(len: usize, bytes: &[u8]) -> Result<(&[u8], &[u8]), DecodeFault>
+    ensures { Sees (λ x. (x.0.now, x.1.now)) result (fixed_at len bytes.now) }
+{
+    if bytes.len() < len {
+        return Err(DecodeFault::Cut);
+    }
+    Ok(bytes.split_at(len))
+}
+
 /// As many bytes as the two in front of them say.
 pub fn counted(bytes: &[u8]) -> Result<(&[u8], &[u8]), DecodeFault>
     ensures { Sees (λ x. (x.0.now, x.1.now)) result (counted_at bytes.now) }
 {
     let (len, rest) = number16(bytes)?;
-    let len = usize::from(len);
-    if rest.len() < len {
-        return Err(DecodeFault::Cut);
-    }
-    Ok(rest.split_at(len))
+    part(usize::from(len), rest)
 }

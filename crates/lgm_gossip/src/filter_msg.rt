@@ -2,9 +2,14 @@
 
 ghost use Rattle.lgm_wire.specs.Reading.{Sees};
 
+use crate::bytes::Bytes;
 use crate::chain_hash::ChainHash;
+use crate::encode_fault::EncodeFault;
 use crate::fault::DecodeFault;
 use crate::fields::{fixed, number32};
+use crate::joining::{join, whole};
+use crate::part::Part;
+use std::alloc::Global;
 
 /// A `gossip_timestamp_filter`, type 265: the sender wants gossip with timestamps of this range (BOLT 7, "The
 /// gossip_timestamp_filter Message").
@@ -18,7 +23,9 @@ pub struct FilterMsg {
 }
 
 impl FilterMsg {
+    ghost use Rattle.lgm_gossip.specs.FilterMsg.{fields};
     ghost use Rattle.lgm_gossip.specs.FilterMsgReading.{filter_msg_at};
+    ghost use Rattle.lgm_gossip.specs.Spelling.{filter_msg_texts, Encodes};
 
     /// The fields, read from left to right, of the bytes behind the type. What stands behind them is dropped.
     #[tactic(auto, unfolding(crate::specs::FilterMsgReading::filter_msg_at))]
@@ -33,5 +40,20 @@ impl FilterMsg {
             first_timestamp,
             timestamp_range,
         })
+    }
+
+    /// The bytes, the two of the type first.
+    pub(crate) fn encode(&self, alloc: Global) -> Result<Bytes, EncodeFault>
+        ensures { Encodes 265 (fields self.now) (filter_msg_texts self.now) result }
+    {
+        join(
+            alloc,
+            &[
+                Part::Number16(265),
+                whole(&self.chain_hash.0),
+                Part::Number32(self.first_timestamp),
+                Part::Number32(self.timestamp_range),
+            ],
+        )
     }
 }

@@ -2,9 +2,14 @@
 
 ghost use Rattle.lgm_wire.specs.Reading.{Sees};
 
+use crate::bytes::Bytes;
 use crate::chain_hash::ChainHash;
+use crate::encode_fault::EncodeFault;
 use crate::fault::DecodeFault;
 use crate::fields::{fixed, number8};
+use crate::joining::{join, whole};
+use crate::part::Part;
+use std::alloc::Global;
 
 /// A `reply_short_channel_ids_end`, type 262: all that was asked for by ids has been sent (BOLT 7, "The
 /// query_short_channel_ids/reply_short_channel_ids_end Messages").
@@ -17,7 +22,9 @@ pub struct IdsEnd {
 }
 
 impl IdsEnd {
+    ghost use Rattle.lgm_gossip.specs.IdsEnd.{fields};
     ghost use Rattle.lgm_gossip.specs.IdsEndReading.{ids_end_at};
+    ghost use Rattle.lgm_gossip.specs.Spelling.{ids_end_texts, Encodes};
 
     /// The fields, read from left to right, of the bytes behind the type. What stands behind them is dropped.
     #[tactic(auto, unfolding(crate::specs::IdsEndReading::ids_end_at))]
@@ -30,5 +37,19 @@ impl IdsEnd {
             chain_hash: ChainHash(chain_hash),
             full_information,
         })
+    }
+
+    /// The bytes, the two of the type first.
+    pub(crate) fn encode(&self, alloc: Global) -> Result<Bytes, EncodeFault>
+        ensures { Encodes 262 (fields self.now) (ids_end_texts self.now) result }
+    {
+        join(
+            alloc,
+            &[
+                Part::Number16(262),
+                whole(&self.chain_hash.0),
+                Part::Number8(self.full_information),
+            ],
+        )
     }
 }

@@ -7,10 +7,15 @@ ghost use Rattle.lgm_wire.specs.TlvView.{record_of, records_of};
 ghost use Rattle.lgm_gossip.specs.OptionalReading.{optional_of, after_record, after_records};
 ghost use Rattle.lgm_gossip.specs.QueryFlagsReading.{query_flags_at};
 
+use crate::bytes::Bytes;
 use crate::chain_hash::ChainHash;
+use crate::encode_fault::EncodeFault;
 use crate::encoded_ids::encoded_ids;
 use crate::fault::DecodeFault;
 use crate::fields::fixed;
+use crate::joining::{join, whole};
+use crate::measuring::measure;
+use crate::part::Part;
 use crate::query_flags::QueryFlags;
 use crate::records::records;
 use crate::scids::Scids;
@@ -85,7 +90,9 @@ fn optional(alloc: Global, ids: &Scids, bytes: &[u8]) -> Result<Option<QueryFlag
 }
 
 impl IdsQuery {
+    ghost use Rattle.lgm_gossip.specs.IdsQuery.{fields};
     ghost use Rattle.lgm_gossip.specs.IdsQueryReading.{ids_query_at};
+    ghost use Rattle.lgm_gossip.specs.Spelling.{ids_query_texts, Encodes};
 
     /// The fields, read from left to right, of the bytes behind the type.
     #[tactic(auto, unfolding(crate::specs::IdsQueryReading::ids_query_at))]
@@ -100,5 +107,41 @@ impl IdsQuery {
             ids,
             flags,
         })
+    }
+
+    /// The bytes, the two of the type first.
+    pub(crate) fn encode(&self, alloc: Global) -> Result<Bytes, EncodeFault>
+        ensures { Encodes 261 (fields self.now) (ids_query_texts self.now) result }
+    {
+        let ids = Part::Ids(self.ids.as_slice());
+        let ids_len = measure(&[Part::Number8(0), ids])?;
+        let Some(flags) = &self.flags else {
+            return join(
+                alloc,
+                &[
+                    Part::Number16(261),
+                    whole(&self.chain_hash.0),
+                    Part::Number16(ids_len),
+                    Part::Number8(0),
+                    ids,
+                ],
+            );
+        };
+        let flags = Part::Bigs(flags.as_slice());
+        let flags_len = measure(&[Part::Number8(0), flags])?;
+        join(
+            alloc,
+            &[
+                Part::Number16(261),
+                whole(&self.chain_hash.0),
+                Part::Number16(ids_len),
+                Part::Number8(0),
+                ids,
+                Part::Big(1),
+                Part::Big(u64::from(flags_len)),
+                Part::Number8(0),
+                flags,
+            ],
+        )
     }
 }

@@ -4,19 +4,28 @@
 //! the first fault that they have. Contracts say which bytes spell which message: field by field, in the order of BOLT 7.
 #![tactic(auto)]
 
+mod address;
+mod address_list;
+mod address_reading;
 mod announce;
 mod bytes;
 mod chain_hash;
 mod channel_update;
 mod decoding;
+mod encode_fault;
 mod encoded_ids;
+mod encoding;
 mod fault;
+mod features;
 mod fields;
 mod filter_msg;
 mod ids_end;
 mod ids_query;
+mod joining;
+mod measuring;
 mod message;
 mod node_announce;
+mod part;
 mod point;
 mod query_flags;
 mod range_query;
@@ -27,12 +36,18 @@ mod scids;
 mod timestamp_list;
 mod timestamps;
 
+pub use address::Address;
+pub use address_list::AddressList;
+pub use address_reading::addresses;
 pub use announce::Announce;
 pub use bytes::Bytes;
 pub use chain_hash::ChainHash;
 pub use channel_update::ChannelUpdate;
 pub use decoding::{decode, one_message};
+pub use encode_fault::EncodeFault;
+pub use encoding::encode;
 pub use fault::DecodeFault;
+pub use features::has_even_bit;
 pub use filter_msg::FilterMsg;
 pub use ids_end::IdsEnd;
 pub use ids_query::IdsQuery;

@@ -4,8 +4,12 @@ ghost use Rattle.std.specs.Prelude.{◌≡◌, IfOk};
 ghost use Rattle.lgm_wire.specs.Reading.{Gives};
 
 use crate::bytes::Bytes;
+use crate::encode_fault::EncodeFault;
 use crate::fault::DecodeFault;
 use crate::fields::{counted, fixed, number32};
+use crate::joining::{join, whole};
+use crate::measuring::measure;
+use crate::part::Part;
 use crate::point::Point;
 use std::alloc::{AllocError, Global};
 
@@ -31,7 +35,9 @@ pub struct NodeAnnounce {
 }
 
 impl NodeAnnounce {
+    ghost use Rattle.lgm_gossip.specs.NodeAnnounce.{fields};
     ghost use Rattle.lgm_gossip.specs.NodeAnnounceReading.{node_announce_at};
+    ghost use Rattle.lgm_gossip.specs.Spelling.{node_announce_texts, Encodes};
 
     /// A copy. The only error is want of memory.
     pub fn copy(&self, alloc: Global) -> Result<NodeAnnounce, AllocError>
@@ -67,5 +73,31 @@ impl NodeAnnounce {
             addresses: Bytes::from_slice(alloc, addresses)?,
             rest: Bytes::from_slice(alloc, rest)?,
         })
+    }
+
+    /// The bytes, the two of the type first.
+    pub(crate) fn encode(&self, alloc: Global) -> Result<Bytes, EncodeFault>
+        ensures { Encodes 257 (fields self.now) (node_announce_texts self.now) result }
+    {
+        let features = Part::Bytes(self.features.as_slice());
+        let features_len = measure(&[features])?;
+        let addresses = Part::Bytes(self.addresses.as_slice());
+        let addresses_len = measure(&[addresses])?;
+        join(
+            alloc,
+            &[
+                Part::Number16(257),
+                whole(&self.signature),
+                Part::Number16(features_len),
+                features,
+                Part::Number32(self.timestamp),
+                whole(&self.node_id.0),
+                whole(&self.rgb_color),
+                whole(&self.alias),
+                Part::Number16(addresses_len),
+                addresses,
+                Part::Bytes(self.rest.as_slice()),
+            ],
+        )
     }
 }

@@ -6,9 +6,14 @@ ghost use Rattle.lgm_wire.specs.TlvView.{record_of, records_of};
 ghost use Rattle.lgm_gossip.specs.OptionalReading.{optional_of, after_record, after_records};
 ghost use Rattle.lgm_gossip.specs.RangeQueryReading.{options_at};
 
+use crate::bytes::Bytes;
 use crate::chain_hash::ChainHash;
+use crate::encode_fault::EncodeFault;
 use crate::fault::DecodeFault;
 use crate::fields::{fixed, number32};
+use crate::joining::{join, whole};
+use crate::measuring::bigsize_len;
+use crate::part::Part;
 use crate::records::records;
 use lgm_wire::{Tlv, read_bigsize};
 use std::alloc::Global;
@@ -67,7 +72,9 @@ fn optional(alloc: Global, bytes: &[u8]) -> Result<Option<u64>, DecodeFault>
 }
 
 impl RangeQuery {
+    ghost use Rattle.lgm_gossip.specs.RangeQuery.{fields};
     ghost use Rattle.lgm_gossip.specs.RangeQueryReading.{range_query_at};
+    ghost use Rattle.lgm_gossip.specs.Spelling.{range_query_texts, Encodes};
 
     /// The fields, read from left to right, of the bytes behind the type.
     #[tactic(auto, unfolding(crate::specs::RangeQueryReading::range_query_at))]
@@ -83,5 +90,34 @@ impl RangeQuery {
             number_of_blocks,
             options: optional(alloc, rest)?,
         })
+    }
+
+    /// The bytes, the two of the type first.
+    pub(crate) fn encode(&self, alloc: Global) -> Result<Bytes, EncodeFault>
+        ensures { Encodes 263 (fields self.now) (range_query_texts self.now) result }
+    {
+        let Some(options) = self.options else {
+            return join(
+                alloc,
+                &[
+                    Part::Number16(263),
+                    whole(&self.chain_hash.0),
+                    Part::Number32(self.first_blocknum),
+                    Part::Number32(self.number_of_blocks),
+                ],
+            );
+        };
+        join(
+            alloc,
+            &[
+                Part::Number16(263),
+                whole(&self.chain_hash.0),
+                Part::Number32(self.first_blocknum),
+                Part::Number32(self.number_of_blocks),
+                Part::Big(1),
+                Part::Big(bigsize_len(options) as u64),
+                Part::Big(options),
+            ],
+        )
     }
 }

@@ -7,10 +7,15 @@ ghost use Rattle.lgm_wire.specs.TlvView.{record_of, records_of};
 ghost use Rattle.lgm_gossip.specs.OptionalReading.{optional_of, after_record, after_records};
 ghost use Rattle.lgm_gossip.specs.TimestampListReading.{timestamps_at};
 
+use crate::bytes::Bytes;
 use crate::chain_hash::ChainHash;
+use crate::encode_fault::EncodeFault;
 use crate::encoded_ids::encoded_ids;
 use crate::fault::DecodeFault;
 use crate::fields::{fixed, number8, number32};
+use crate::joining::{join, whole};
+use crate::measuring::measure;
+use crate::part::Part;
 use crate::records::records;
 use crate::scids::Scids;
 use crate::timestamp_list::TimestampList;
@@ -98,7 +103,9 @@ fn optional(alloc: Global, ids: &Scids, bytes: &[u8]) -> Result<Option<Timestamp
 }
 
 impl RangeReply {
+    ghost use Rattle.lgm_gossip.specs.RangeReply.{fields};
     ghost use Rattle.lgm_gossip.specs.RangeReplyReading.{range_reply_at};
+    ghost use Rattle.lgm_gossip.specs.Spelling.{range_reply_texts, Encodes};
 
     /// The fields, read from left to right, of the bytes behind the type.
     #[tactic(auto, unfolding(crate::specs::RangeReplyReading::range_reply_at))]
@@ -119,5 +126,47 @@ impl RangeReply {
             ids,
             timestamps,
         })
+    }
+
+    /// The bytes, the two of the type first.
+    pub(crate) fn encode(&self, alloc: Global) -> Result<Bytes, EncodeFault>
+        ensures { Encodes 264 (fields self.now) (range_reply_texts self.now) result }
+    {
+        let ids = Part::Ids(self.ids.as_slice());
+        let ids_len = measure(&[Part::Number8(0), ids])?;
+        let Some(timestamps) = &self.timestamps else {
+            return join(
+                alloc,
+                &[
+                    Part::Number16(264),
+                    whole(&self.chain_hash.0),
+                    Part::Number32(self.first_blocknum),
+                    Part::Number32(self.number_of_blocks),
+                    Part::Number8(self.sync_complete),
+                    Part::Number16(ids_len),
+                    Part::Number8(0),
+                    ids,
+                ],
+            );
+        };
+        let pairs = Part::Pairs(timestamps.as_slice());
+        let pairs_len = measure(&[Part::Number8(0), pairs])?;
+        join(
+            alloc,
+            &[
+                Part::Number16(264),
+                whole(&self.chain_hash.0),
+                Part::Number32(self.first_blocknum),
+                Part::Number32(self.number_of_blocks),
+                Part::Number8(self.sync_complete),
+                Part::Number16(ids_len),
+                Part::Number8(0),
+                ids,
+                Part::Big(1),
+                Part::Big(u64::from(pairs_len)),
+                Part::Number8(0),
+                pairs,
+            ],
+        )
     }
 }

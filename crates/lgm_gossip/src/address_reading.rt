@@ -1,0 +1,77 @@
+//! Addresses from their descriptors.
+
+ghost use Rattle.std.specs.Prelude.{IfOk};
+ghost use Rattle.lgm_wire.specs.Reading.{Gives};
+ghost use Rattle.lgm_gossip.specs.Addresses.{IsLongest};
+ghost use Rattle.lgm_gossip.specs.AddressesReading.{descriptor_at};
+
+use crate::address::Address;
+use crate::address_list::AddressList;
+use crate::bytes::Bytes;
+use crate::fault::DecodeFault;
+use crate::fields::{fixed, number8, number16, part};
+use std::alloc::{AllocError, Global};
+
+/// The address at the front, and the bytes after it.
+#[tactic(auto, unfolding(crate::specs::AddressesReading::descriptor_at))]
+fn descriptor(alloc: Global, bytes: &[u8]) -> Result<(Address, &[u8]), DecodeFault>
+    ensures { Gives DecodeFault.NoMemory (λ x. (x.0, x.1.now)) result (descriptor_at bytes.now) }
+{
+    let [kind, rest @ ..] = bytes else {
+        return Err(DecodeFault::Cut);
+    };
+    match *kind {
+        1 => {
+            let (address, rest) = fixed(rest)?;
+            let (port, rest) = number16(rest)?;
+            Ok((Address::V4 { address, port }, rest))
+        }
+        2 => {
+            let (address, rest) = fixed(rest)?;
+            let (port, rest) = number16(rest)?;
+            Ok((Address::V6 { address, port }, rest))
+        }
+        3 => {
+            let (address, rest) = fixed(rest)?;
+            let (port, rest) = number16(rest)?;
+            Ok((Address::Tor2 { address, port }, rest))
+        }
+        4 => {
+            let (address, rest) = fixed(rest)?;
+            let (port, rest) = number16(rest)?;
+            Ok((Address::Tor3 { address, port }, rest))
+        }
+        5 => {
+            let (len, rest) = number8(rest)?;
+            let (hostname, rest) = part(usize::from(len), rest)?;
+            let (port, rest) = number16(rest)?;
+            let hostname = Bytes::from_slice(alloc, hostname)?;
+            Ok((Address::Name { hostname, port }, rest))
+        }
+        _ => Err(DecodeFault::Cut),
+    }
+}
+
+/// The addresses that the bytes begin with, up to the first descriptor that is cut or of an unknown type: of the lists
+/// of addresses that the bytes begin with it is the longest (BOLT 7, "The node_announcement Message"). The only error is
+/// want of memory.
+pub fn addresses(alloc: Global, bytes: &[u8]) -> Result<AddressList, AllocError>
+    ensures { IfOk result (λ list. IsLongest list bytes.now) }
+{
+    let mut items = Vec::new(alloc);
+    let mut rest = bytes;
+    loop {
+        match descriptor(alloc, rest) {
+            Ok((address, after)) => {
+                items.push(address)?;
+                rest = after;
+            }
+            Err(fault) => {
+                return match fault {
+                    DecodeFault::NoMemory => Err(AllocError),
+                    _ => Ok(AddressList::from_vec(items)),
+                };
+            }
+        }
+    }
+}

@@ -1,0 +1,73 @@
+//! The length of parts.
+
+ghost use Rattle.std.specs.Prelude.{◌≡◌, ◌+◌, ◌*◌, ◌<◌, length, MatchOption, MatchResult};
+ghost use Rattle.std.specs.List.{flat_map};
+ghost use Rattle.lgm_gossip.specs.Streams.{bigsize_bytes};
+ghost use Rattle.lgm_gossip.specs.Part.{text, texts};
+
+use crate::encode_fault::EncodeFault;
+use crate::message::MAX_LEN;
+use crate::part::Part;
+
+/// How many bytes the shortest form of a number takes.
+pub(crate) fn bigsize_len(value: u64) -> usize
+    ensures { result ≡ length (bigsize_bytes value) }
+{
+    match value {
+        0..=0xfc => 1,
+        0xfd..=0xffff => 3,
+        0x1_0000..=0xffff_ffff => 5,
+        _ => 9,
+    }
+}
+
+/// What numbers in their shortest form leave of the room, if they fit.
+fn room_after_bigs(room: usize, values: &[u64]) -> Option<usize>
+    ensures { MatchOption result (room < length (flat_map bigsize_bytes values.now))
+        (λ left. left + length (flat_map bigsize_bytes values.now) ≡ room) }
+{
+    let mut left = room;
+    for value in values {
+        left = left.checked_sub(bigsize_len(*value))?;
+    }
+    Some(left)
+}
+
+/// What so many times eight bytes leave of the room, if they fit.
+fn room_after_eights(room: usize, count: usize) -> Option<usize>
+    ensures { MatchOption result (room < count * 8) (λ left. left + count * 8 ≡ room) }
+{
+    if count > room / 8 { None } else { Some(room - count * 8) }
+}
+
+/// What a part leaves of the room, if it fits.
+fn room_after(room: usize, part: &Part) -> Option<usize>
+    ensures { MatchOption result (room < length (text part.now)) (λ left. left + length (text part.now) ≡ room) }
+{
+    match part {
+        Part::Bytes(bytes) => room.checked_sub(bytes.len()),
+        Part::Number8(_) => room.checked_sub(1),
+        Part::Number16(_) => room.checked_sub(2),
+        Part::Number32(_) => room.checked_sub(4),
+        Part::Number64(_) => room.checked_sub(8),
+        Part::Big(value) => room.checked_sub(bigsize_len(*value)),
+        Part::Ids(ids) => room_after_eights(room, ids.len()),
+        Part::Bigs(values) => room_after_bigs(room, values),
+        Part::Pairs(pairs) => room_after_eights(room, pairs.len()),
+    }
+}
+
+/// The length of the parts together, if two bytes can say it.
+pub(crate) fn measure(parts: &[Part]) -> Result<u16, EncodeFault>
+    ensures { MatchResult result (λ len. len ≡ length (texts parts.now))
+        (λ e. (e ≡ EncodeFault.TooLong) × (65535 < length (texts parts.now))) }
+{
+    let mut room = MAX_LEN;
+    for part in parts {
+        let Some(left) = room_after(room, part) else {
+            return Err(EncodeFault::TooLong);
+        };
+        room = left;
+    }
+    Ok((MAX_LEN - room) as u16)
+}
