@@ -1,5 +1,5 @@
 -- The check of a message without a map: the row to be, or the first refusal.
-use Rattle.std.specs.Prelude.{◌≡◌, ℕ, List, Bool, true, false, ◌&&◌, nat_eq, nat_le, Result, Ok, Err, if◌then◌else◌}
+use Rattle.std.specs.Prelude.{◌≡◌, ℕ, ◌/◌, ◌%◌, ◌==◌, List, Bool, true, false, not, ◌&&◌, nat_eq, nat_le, Result, Ok, Err, if◌then◌else◌}
 use Rattle.std.specs.Cmp.Lexicographic.{pointwise, slice_cmp}
 use Rattle.std.specs.Ordering.{is_lt, nat_cmp}
 use Rattle.lgm_wire.specs.Reading.{◌>>=◌}
@@ -7,6 +7,9 @@ use Rattle.lgm_gossip.specs.declared.fault.DecodeFault.{DecodeFault}
 use Rattle.lgm_gossip.specs.declared.message.Message.{Message}
 use Rattle.lgm_gossip.specs.declared.message.Message.TheVariants as messages
 use Rattle.lgm_gossip.specs.declared.announce.Announce.{Announce}
+use Rattle.lgm_gossip.specs.declared.channel_update.ChannelUpdate.{ChannelUpdate}
+use Rattle.lgm_gossip.specs.declared.node_announce.NodeAnnounce.{NodeAnnounce}
+use Rattle.lgm_gossip.specs.declared.point.Point.{Point}
 use Rattle.lgm_gossip.specs.declared.chain_hash.ChainHash.{ChainHash}
 use Rattle.lgm_gossip.specs.Point.{is_lawful}
 use Rattle.lgm_gossip.specs.MessageReading.{message_at}
@@ -52,9 +55,36 @@ checked_announce chain m bytes evidence = do
   signed ← require (is_all_four evidence.sig) refusals.Signature
   Ok (checked.Channel (record { message = m; sat = sat; raw = bytes }))
 
+-- bit 1 of the message flags, dont_forward
+abbrev pub is_private : ChannelUpdate → Bool
+is_private m = m.message_flags / 2 % 2 == 1
+
+-- the point whose one signature is right
+abbrev pub signer_of : Sig → Result Point Refusal
+signer_of (sigs.By point) = Ok point
+signer_of _ = Err refusals.Signature
+
+-- a channel_update
+unfoldable pub checked_update : ChainHash → ChannelUpdate → List ℕ → Evidence → Result Checked Refusal
+checked_update chain m bytes evidence = do
+  this_chain ← require (pointwise nat_eq m.chain_hash.0 chain.0) refusals.Chain
+  public ← require (not (is_private m)) refusals.Private
+  signer ← signer_of evidence.sig
+  Ok (checked.Update (record { message = m; raw = bytes }) signer)
+
+-- a node_announcement
+unfoldable pub checked_node : NodeAnnounce → List ℕ → Evidence → Result Checked Refusal
+checked_node m bytes evidence = do
+  point ← require (is_lawful m.node_id) refusals.Point
+  signer ← signer_of evidence.sig
+  signed ← require (pointwise nat_eq signer.0 m.node_id.0) refusals.Signature
+  Ok (checked.Node (record { message = m; raw = bytes }))
+
 -- by type
 abbrev pub checked_message : ChainHash → Message → List ℕ → Evidence → Result Checked Refusal
 checked_message chain (messages.Announce m) bytes evidence = checked_announce chain m bytes evidence
+checked_message chain (messages.ChannelUpdate m) bytes evidence = checked_update chain m bytes evidence
+checked_message chain (messages.NodeAnnounce m) bytes evidence = checked_node m bytes evidence
 checked_message chain _ bytes evidence = Err refusals.NotGossip
 
 -- bytes that spell no message are refused for their first fault

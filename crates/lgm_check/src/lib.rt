@@ -12,4 +12,4 @@ mod row;
 pub use evidence::{Evidence, Funding, Sig};
 pub use prechecking::{MAX_SAT, precheck};
 pub use refusal::Refusal;
-pub use row::{ChannelRow, Checked};
+pub use row::{ChannelRow, Checked, NodeRow, UpdateRow};

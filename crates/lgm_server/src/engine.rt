@@ -39,14 +39,14 @@ fn outcome(alloc: Global, chain: &ChainHash, map: &Map, item: &Item) -> Result<O
 
 impl Engine {
     /// No item was accepted.
-    pub fn new(alloc: Global) -> Engine
-        ensures map { result.map ≡ empty }
-        ensures accepted { result.accepted ≡ 0 }
+    pub fn new(alloc: Global) -> Result<Engine, AllocError>
+        ensures map { IfOk result (λ engine. engine.map ≡ empty) }
+        ensures accepted { IfOk result (λ engine. engine.accepted ≡ 0) }
     {
-        Engine {
-            map: Map::new(alloc),
+        Ok(Engine {
+            map: Map::new(alloc)?,
             accepted: 0,
-        }
+        })
     }
 
     fn offer(&mut self, alloc: Global, chain: &ChainHash, item: &Item) -> Result<Reply, AllocError>

@@ -163,7 +163,7 @@ pub fn run<R: Source, W: Sink>(
 {
     let mut lines = LineReader::new(alloc)?;
     let mut text = TextBuffer::new(alloc)?;
-    let mut engine = Engine::new(alloc);
+    let mut engine = Engine::new(alloc)?;
     let mut line = Vec::new(alloc);
     for number in 0..MAX_LINES {
         flush_before_reading(&lines, &mut text, writer)?;

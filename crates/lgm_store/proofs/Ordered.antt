@@ -1,21 +1,15 @@
 -- Ordered maps and the rows that they hold: looking a row up, and putting one in its place.
-use Rattle.std.proofs.Common.{◌≡◌, ℕ, Bool, true, false, cond, eqb, List, [], ◌∷◌, ◌++◌, Option, Some, None, Bor, refl, sym, ap, ◌∙◌, arith}
+use Rattle.std.proofs.Common.{◌≡◌, Bool, true, false, not, ◌&&◌, cond, List, [], ◌∷◌, refl, sym, ap, ◌∙◌}
 use Rattle.std.specs.List.{AllByRecursion, filter, find}
-use Rattle.std.specs.Map.{lookup, keys_of, values_of}
+use Rattle.std.specs.Map.{lookup, remove_entry, keys_of, values_of}
 use Rattle.std.specs.BTreeMap.{is_at, insert_entry}
 use Rattle.std.specs.List.Sorted.{IsStrictlySortedBy}
 use Rattle.std.specs.Cmp.{IsTotalOrder}
-use Rattle.std.proofs.lemmas.Cmp.{nat_cmp_total}
-use Rattle.std.specs.Option.{option_copied, is_some}
 use Rattle.std.specs.declared.cmp.Ordering.{Ordering}
 use Rattle.std.specs.declared.cmp.Ordering.TheVariants.{Less, Equal, Greater}
 use Rattle.std.specs.Ordering.{is_lt, is_gt, is_eq, ordering_reverse, match_ordering}
 use Rattle.lgm_store.specs.Keyed.{IsKeyed}
-use Rattle.std.specs.Ordering.{nat_cmp}
-use Rattle.std.proofs.lemmas.Bool.Decides.{nat_tests}
-use Rattle.lgm_check.specs.declared.row.ChannelRow.{ChannelRow}
-use Rattle.lgm_store.specs.Rows.{Rows, put, by_id, channel_of}
-use Rattle.lgm_store.specs.History.{with_channel}
+use Rattle.lgm_store.specs.Rows.{put}
 
 module _ {K R : Type 0} (cmp : K → K → Ordering) (key : R → K) where
   -- the row of a key, found among the rows
@@ -88,34 +82,64 @@ module _ {K R : Type 0} (cmp : K → K → Ordering) (key : R → K) where
       by others Equal is = (sym (same (key row) e.0 is), keyed.1)
       by others Greater is = (keyed.0, others)
 
--- ---- ids
+  -- rows above a key all stay where it is taken out
+  stay : (k : K) (entries : List (K × R)) → IsKeyed key entries → AllByRecursion (λ other. cmp k other ≡ Less) (keys_of entries)
+      → filter (λ row. not (is_eq (cmp k (key row)))) (values_of entries) ≡ values_of entries
+  stay k [] keyed above = refl
+  stay k (e ∷ es) keyed above =
+      let here : cmp k (key e.1) ≡ Less = ap (cmp k) (sym keyed.0) ∙ above.0 in
+      rw (here, stay k es keyed.1 above.1) refl
 
-id_test : (k id : ℕ) → is_eq (nat_cmp id k) ≡ eqb k id
-id_test k id = grind (arith, nat_tests)
+  -- a key is taken out: its row goes
+  pub values-remove : IsTotalOrder cmp → (k : K) (entries : List (K × R)) → IsKeyed key entries → IsStrictlySortedBy cmp (keys_of entries)
+      → values_of (remove_entry (is_at (cmp k)) entries) ≡ filter (λ row. not (is_eq (cmp k (key row)))) (values_of entries)
+  unfolding IsStrictlySortedBy
+  values-remove total k [] keyed sorted = refl
+  values-remove total k (e ∷ es) keyed sorted = by (values-remove total k es keyed.1 sorted.1) (cmp k e.0) refl
+    where
+      here : (o : Ordering) → cmp k e.0 ≡ o → cmp k (key e.1) ≡ o
+      here o is = ap (cmp k) (sym keyed.0) ∙ is
 
--- the row of an id, looked up
-pub lookup-channel : (entries : List (ℕ × ChannelRow)) (id : ℕ) → IsKeyed (λ row. row.message.short_channel_id) entries → lookup (is_at (nat_cmp id)) entries ≡ channel_of (values_of entries) id
-lookup-channel entries id keyed = lookup-find nat_cmp (λ (row : ChannelRow). row.message.short_channel_id) (is_at (nat_cmp id)) entries keyed ∙ along (values_of entries)
+      above : cmp k e.0 ≡ Equal → (fs : List (K × R)) → AllByRecursion (λ other. cmp e.0 other ≡ Less) (keys_of fs) → AllByRecursion (λ other. cmp k other ≡ Less) (keys_of fs)
+      above is [] a = tt
+      above is (f ∷ fs) a = (total.congr k e.0 f.0 is ∙ a.0, above is fs a.1)
+
+      by : values_of (remove_entry (is_at (cmp k)) es) ≡ filter (λ row. not (is_eq (cmp k (key row)))) (values_of es)
+          → (o : Ordering) → cmp k e.0 ≡ o → values_of (cond (is_eq (cmp k e.0)) es (e ∷ remove_entry (is_at (cmp k)) es)) ≡ filter (λ row. not (is_eq (cmp k (key row)))) (e.1 ∷ values_of es)
+      by others Less is = rw (is, here Less is, others) refl
+      by others Equal is = rw (is, here Equal is, stay k es keyed.1 (above is es sorted.0)) refl
+      by others Greater is = rw (is, here Greater is, others) refl
+
+  -- the map is keyed still
+  pub IsKeyed-remove : (test : K → Bool) (entries : List (K × R)) → IsKeyed key entries → IsKeyed key (remove_entry test entries)
+  IsKeyed-remove test [] keyed = tt
+  IsKeyed-remove test (e ∷ es) keyed = by (IsKeyed-remove test es keyed.1) (test e.0)
+    where
+      by : IsKeyed key (remove_entry test es) → (b : Bool) → IsKeyed key (cond b es (e ∷ remove_entry test es))
+      by others true = keyed.1
+      by others false = (keyed.0, others)
+
+-- ---- tests that answer alike
+
+pub find-same : {R : Type 0} (p q : R → Bool) → ((x : R) → p x ≡ q x) → (xs : List R) → find p xs ≡ find q xs
+find-same p q same [] = refl
+find-same p q same (x ∷ xs) = rw (same x, find-same p q same xs) refl
+
+pub filter-same : {R : Type 0} (p q : R → Bool) → ((x : R) → p x ≡ q x) → (xs : List R) → filter p xs ≡ filter q xs
+filter-same p q same [] = refl
+filter-same p q same (x ∷ xs) = rw (same x, filter-same p q same xs) refl
+
+-- on the elements of a list
+pub filter-alike : {R : Type 0} (p q : R → Bool) (xs : List R) → AllByRecursion (λ x. p x ≡ q x) xs → filter p xs ≡ filter q xs
+filter-alike p q [] same = refl
+filter-alike p q (x ∷ xs) same = rw (same.0, filter-alike p q xs same.1) refl
+
+-- one filter after another
+pub filter-filter : {R : Type 0} (p q : R → Bool) (xs : List R) → filter q (filter p xs) ≡ filter (λ x. p x && q x) xs
+filter-filter p q [] = refl
+filter-filter p q (x ∷ xs) = by (filter-filter p q xs) (p x)
   where
-    along : (rows : List ChannelRow) → find (λ row. is_at (nat_cmp id) row.message.short_channel_id) rows ≡ channel_of rows id
-    along [] = refl
-    along (row ∷ rows) = rw (id_test row.message.short_channel_id id, along rows) refl
-
--- a channel, put in its place
-pub IsKeyed-channel : (entries new : List (ℕ × ChannelRow)) (id : ℕ) (row : ChannelRow) → id ≡ row.message.short_channel_id → new ≡ insert_entry nat_cmp entries id row → IsKeyed (λ row. row.message.short_channel_id) entries → IsKeyed (λ row. row.message.short_channel_id) new
-IsKeyed-channel entries new id row own is keyed =
-    rw (is, own) (IsKeyed-insert nat_cmp (λ (r : ChannelRow). r.message.short_channel_id) row entries (λ a b e. grind (arith, nat_tests)) keyed)
-
-pub values-channel : (entries new : List (ℕ × ChannelRow)) (id : ℕ) (row : ChannelRow) → id ≡ row.message.short_channel_id → new ≡ insert_entry nat_cmp entries id row → IsKeyed (λ row. row.message.short_channel_id) entries → IsStrictlySortedBy nat_cmp (keys_of entries) → values_of new ≡ put by_id (values_of entries) row
-values-channel entries new id row own is keyed sorted =
-    rw (is, own) (values-insert nat_cmp (λ (r : ChannelRow). r.message.short_channel_id) nat_cmp_total row entries keyed sorted)
-
--- a channel that isn't held
-none_found : {X : Type 0} (r : Option (Bor X)) (o : Option X) → option_copied r ≡ o → is_some r ≡ false → is_some o ≡ false
-none_found None o e none = rw (← e) refl
-none_found (Some x) o e none = absurd cc
-
-pub with_channel-new : (rows : Rows) (row : ChannelRow) (channels : List ChannelRow) (found : Option (Bor ChannelRow)) → option_copied found ≡ channel_of rows.channels row.message.short_channel_id → is_some found ≡ false
-    → channels ≡ put by_id rows.channels row → record { channels = channels } ≡ with_channel rows row
-with_channel-new rows row channels found is none put_is =
-    rw (none_found found (channel_of rows.channels row.message.short_channel_id) is none, put_is) refl
+    by : filter q (filter p xs) ≡ filter (λ x. p x && q x) xs
+        → (b : Bool) → filter q (cond b (x ∷ filter p xs) (filter p xs)) ≡ cond (b && q x) (x ∷ filter (λ x. p x && q x) xs) (filter (λ x. p x && q x) xs)
+    by others true = rw others refl
+    by others false = others

@@ -1,9 +1,11 @@
 -- What operations do to rows, and the rows that a history leaves.
-use Rattle.std.specs.Prelude.{ℕ, List, [], ◌∷◌, is_some, if◌then◌else◌}
+use Rattle.std.specs.Prelude.{ℕ, List, [], ◌∷◌, ◌==◌, not, filter, is_some, if◌then◌else◌}
 use Rattle.lgm_check.specs.declared.row.ChannelRow.{ChannelRow}
+use Rattle.lgm_check.specs.declared.row.UpdateRow.{UpdateRow}
+use Rattle.lgm_check.specs.declared.row.NodeRow.{NodeRow}
 use Rattle.lgm_store.specs.declared.op.Op.{Op}
 use Rattle.lgm_store.specs.declared.op.Op.TheVariants as ops
-use Rattle.lgm_store.specs.Rows.{Rows, empty, put, by_id, channel_of}
+use Rattle.lgm_store.specs.Rows.{Rows, empty, put, by_id, by_direction, by_node, channel_of, ends_channel}
 
 -- with a channel more, unless it is held
 abbrev pub with_channel : Rows → ChannelRow → Rows
@@ -11,9 +13,46 @@ with_channel rows row =
     if is_some (channel_of rows.channels row.message.short_channel_id) then rows
     else record rows { channels = put by_id rows.channels row }
 
+-- with an update, if its channel is held
+abbrev pub with_update : Rows → UpdateRow → Rows
+with_update rows row =
+    if is_some (channel_of rows.channels row.message.short_channel_id) then record rows { updates = put by_direction rows.updates row }
+    else rows
+
+-- with a node, if a channel ends at it
+abbrev pub with_node : Rows → NodeRow → Rows
+with_node rows row =
+    if ends_channel rows.channels row.message.node_id then record rows { nodes = put by_node rows.nodes row }
+    else rows
+
+-- the channels without that of an id
+abbrev pub channels_without : List ChannelRow → ℕ → List ChannelRow
+channels_without rows id = filter (λ row. not (row.message.short_channel_id == id)) rows
+
+-- the updates without those of an id
+abbrev pub updates_without : List UpdateRow → ℕ → List UpdateRow
+updates_without rows id = filter (λ row. not (row.message.short_channel_id == id)) rows
+
+-- the nodes at which a channel ends
+abbrev pub ended_nodes : List ChannelRow → List NodeRow → List NodeRow
+ended_nodes channels rows = filter (λ row. ends_channel channels row.message.node_id) rows
+
+-- without a channel, if it is held: it goes with its updates, and then each node goes at which no channel ends
+abbrev pub without_channel : Rows → ℕ → Rows
+without_channel rows id =
+    if is_some (channel_of rows.channels id) then record {
+      channels = channels_without rows.channels id;
+      updates = updates_without rows.updates id;
+      nodes = ended_nodes (channels_without rows.channels id) rows.nodes;
+    }
+    else rows
+
 -- the rows after an operation
 abbrev pub absorbed : Rows → Op → Rows
 absorbed rows (ops.Channel row) = with_channel rows row
+absorbed rows (ops.Update row) = with_update rows row
+absorbed rows (ops.Node row) = with_node rows row
+absorbed rows (ops.Close id) = without_channel rows id
 
 -- the rows after further operations, in order
 abbrev pub fold_from : Rows → List Op → Rows

@@ -1,4 +1,6 @@
 pub mod Rows
-pub mod Keyed
 pub mod Admission
 pub mod History
+pub mod Keyed
+pub mod Ends
+pub mod Sound

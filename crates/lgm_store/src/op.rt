@@ -2,7 +2,8 @@
 
 ghost use Rattle.std.specs.Prelude.{◌≡◌, IfOk};
 
-use lgm_check::{ChannelRow, Checked};
+use lgm_check::{ChannelRow, Checked, NodeRow, UpdateRow};
+use lgm_gossip::Scid;
 use std::alloc::{AllocError, Global};
 
 /// What an accepted item does to a map.
@@ -10,6 +11,12 @@ use std::alloc::{AllocError, Global};
 pub enum Op {
     /// A channel is added.
     Channel(ChannelRow),
+    /// A direction of a channel gets these terms.
+    Update(UpdateRow),
+    /// A node gets this announcement.
+    Node(NodeRow),
+    /// A channel goes, with all that hangs on it.
+    Close(Scid),
 }
 
 impl Op {
@@ -19,6 +26,9 @@ impl Op {
     {
         match self {
             Op::Channel(row) => Ok(Op::Channel(row.copy(alloc)?)),
+            Op::Update(row) => Ok(Op::Update(row.copy(alloc)?)),
+            Op::Node(row) => Ok(Op::Node(row.copy(alloc)?)),
+            Op::Close(scid) => Ok(Op::Close(*scid)),
         }
     }
 }
@@ -31,6 +41,8 @@ impl From<Checked> for Op {
     fn from(checked: Checked) -> Op {
         match checked {
             Checked::Channel(row) => Op::Channel(row),
+            Checked::Update(row, _) => Op::Update(row),
+            Checked::Node(row) => Op::Node(row),
         }
     }
 }

@@ -8,7 +8,7 @@ use Rattle.lgm_server.proofs.Progress.{SoFar, Tells, told_is, starts, step, ends
 use Rattle.lgm_server.proofs.running.run.Goals as goal
 
 pub loop-number-init : goal.loop-number-init
-loop-number-init g c = rw (c.new-engine.ensures.map, c.new-engine.ensures.accepted, c.in_ok-lines.ensures, c.in_ok-text.ensures) (record {
+loop-number-init g c = rw (c.in_ok-engine.ensures.map, c.in_ok-engine.ensures.accepted, c.in_ok-lines.ensures, c.in_ok-text.ensures) (record {
   reader = search rules;
   writer = search rules;
   few = omega arith;

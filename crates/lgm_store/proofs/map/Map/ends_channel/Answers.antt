@@ -1,0 +1,10 @@
+use Rattle.std.proofs.Common.{◌∙◌, ap}
+use Rattle.std.specs.Map.{values_of}
+use Rattle.lgm_store.specs.Rows.{ends_channel}
+use Rattle.lgm_store.proofs.Soundness.{ends-counted}
+use Rattle.lgm_store.proofs.map.Map.ends_channel.Goals as goal
+
+pub returns : goal.returns
+returns c =
+    c.contains.ensures ∙ ends-counted c.self.inside.ends (values_of c.self.inside.channels.entries) c.args.node.now c.self.invariant.counted
+    ∙ ap (λ rows. ends_channel rows.channels c.args.node.now) c.self.view_is

@@ -1,0 +1,42 @@
+-- What holds of the ordered maps that keep rows.
+use Rattle.std.specs.Prelude.{◌≡◌, ℕ, Bool, true, List}
+use Rattle.std.specs.List.{AllByRecursion}
+use Rattle.std.specs.List.Sorted.{IsStrictlySortedBy}
+use Rattle.std.specs.Map.{keys_of, values_of}
+use Rattle.std.specs.declared.cmp.Ordering.{Ordering}
+use Rattle.std.specs.Ordering.{nat_cmp, bool_cmp, ordering_then}
+use Rattle.lgm_gossip.specs.declared.point.Point.{Point}
+use Rattle.lgm_check.specs.declared.row.ChannelRow.{ChannelRow}
+use Rattle.lgm_check.specs.declared.row.UpdateRow.{UpdateRow}
+use Rattle.lgm_check.specs.declared.row.NodeRow.{NodeRow}
+use Rattle.lgm_store.specs.Rows.{is_second, ends_channel}
+use Rattle.lgm_store.specs.Keyed.{IsKeyed}
+use Rattle.lgm_store.specs.Ends.{point_cmp, Counts, channel_count}
+
+abbrev pub id_of : ChannelRow → ℕ
+id_of row = row.message.short_channel_id
+
+abbrev pub direction_of : UpdateRow → ℕ × Bool
+direction_of row = (row.message.short_channel_id, is_second row)
+
+abbrev pub point_of : NodeRow → Point
+point_of row = row.message.node_id
+
+-- the order of channels and directions
+abbrev pub direction_cmp : ℕ × Bool → ℕ × Bool → Ordering
+direction_cmp a b = ordering_then (nat_cmp a.0 b.0) (bool_cmp a.1 b.1)
+
+-- at each node a channel ends
+abbrev pub AreEnded : List ChannelRow → List NodeRow → Type 0
+AreEnded channels nodes = AllByRecursion (λ row. ends_channel channels row.message.node_id ≡ true) nodes
+
+-- the maps by id, by id and direction and by point, and the count of channels for each point
+pub record IsSound (channels : List (ℕ × ChannelRow)) (updates : List ((ℕ × Bool) × UpdateRow)) (nodes : List (Point × NodeRow)) (ends : List (Point × ℕ)) : Type 0 where
+  pub channels_keyed : IsKeyed id_of channels
+  pub updates_keyed : IsKeyed direction_of updates
+  pub nodes_keyed : IsKeyed point_of nodes
+  pub channels_ascend : IsStrictlySortedBy nat_cmp (keys_of channels)
+  pub updates_ascend : IsStrictlySortedBy direction_cmp (keys_of updates)
+  pub nodes_ascend : IsStrictlySortedBy point_cmp (keys_of nodes)
+  pub nodes_ended : AreEnded (values_of channels) (values_of nodes)
+  pub counted : Counts ends (channel_count (values_of channels))

@@ -1,0 +1,94 @@
+//! The count of channels for each point.
+
+ghost use Rattle.std.specs.Prelude.{◌≡◌, ℕ, ◌+◌, ◌-◌, ◌<◌, ◌^◌, [], is_some, OnOk, OnErr, if◌then◌else◌, ◌||◌};
+ghost use Rattle.lgm_gossip.specs.declared.point.Point.{Point};
+ghost use Rattle.lgm_store.specs.Rows.{is_point};
+ghost use Rattle.lgm_store.specs.Ends.{entry_of, number_at, Sets, Counts};
+
+use lgm_gossip::Point;
+use std::alloc::{AllocError, Global};
+use std::collections::BTreeMap;
+use std::marker::Model;
+
+/// How many channels end at each point. A point at which none ends takes no room.
+#[derive(Drop)]
+pub(crate) struct EndCounts {
+    counts: BTreeMap<Point, u64>,
+}
+
+impl Model for EndCounts {
+    ghost use Rattle.std.specs.Prelude.{ℕ, List};
+    ghost use Rattle.lgm_gossip.specs.declared.point.Point.{Point};
+
+    ghost Value = { List (Point × ℕ) };
+
+    ghost view = { λ e. e.counts.entries };
+}
+
+impl EndCounts {
+    pub(crate) fn new(alloc: Global) -> EndCounts
+        ensures { result ≡ [] }
+    {
+        EndCounts {
+            counts: BTreeMap::new(alloc),
+        }
+    }
+
+    pub(crate) fn contains(&self, point: &Point) -> bool
+        ensures { result ≡ is_some (entry_of self.now point.now) }
+    {
+        self.counts.contains_key(point)
+    }
+
+    /// One more channel ends at these points. Want of memory leaves all numbers as they were.
+    pub(crate) fn add(&mut self, first: Point, second: Point) -> Result<(), AllocError>
+        requires first { number_at self.old first + 1 < 2 ^ 64 }
+        requires second { number_at self.old second + 1 < 2 ^ 64 }
+        ensures ok { OnOk result ((number : Point → ℕ) → Counts self.old number
+            → Counts self.new (λ q. number q + (if is_point first q || is_point second q then 1 else 0))) }
+        ensures err { OnErr result ((number : Point → ℕ) → Counts self.old number → Counts self.new number) }
+    {
+        self.add_one(first)?;
+        if second == first {
+            return Ok(());
+        }
+        let added = self.add_one(second);
+        if added.is_err() {
+            self.remove_one(first);
+        }
+        added
+    }
+
+    /// One channel less ends at these points.
+    pub(crate) fn remove(&mut self, first: Point, second: Point)
+        ensures { (number : Point → ℕ) → Counts self.old number
+            → Counts self.new (λ q. number q - (if is_point first q || is_point second q then 1 else 0)) }
+    {
+        self.remove_one(first);
+        if second != first {
+            self.remove_one(second);
+        }
+    }
+
+    fn add_one(&mut self, point: Point) -> Result<(), AllocError>
+        requires { number_at self.old point + 1 < 2 ^ 64 }
+        ensures ok { OnOk result (Sets self.old self.new point (number_at self.old point + 1)) }
+        ensures err { OnErr result (self.new ≡ self.old) }
+    {
+        let number = self.counts.get(&point).copied().unwrap_or(0);
+        self.counts.insert(point, number + 1)?;
+        Ok(())
+    }
+
+    fn remove_one(&mut self, point: Point)
+        ensures { Sets self.old self.new point (number_at self.old point - 1) }
+    {
+        if let Some(number) = self.counts.get_mut(&point) {
+            if *number > 1 {
+                *number -= 1;
+            } else {
+                self.counts.remove(&point);
+            }
+        }
+    }
+}

@@ -1,0 +1,116 @@
+//! What operations do to a map.
+
+ghost use Rattle.std.specs.Prelude.{◌≡◌, OnOk, OnErr, filter};
+ghost use Rattle.std.specs.BTreeMap.{values, IsOrdered};
+ghost use Rattle.lgm_store.specs.Keyed.{IsKeyed};
+ghost use Rattle.lgm_store.specs.Ends.{point_cmp, stays_beside};
+ghost use Rattle.lgm_store.specs.Sound.{point_of};
+ghost use Rattle.lgm_store.specs.History.{with_channel, with_update, with_node, without_channel, absorbed};
+
+use super::Map;
+use crate::end_counts::EndCounts;
+use crate::op::Op;
+use lgm_check::{ChannelRow, NodeRow, UpdateRow};
+use lgm_gossip::{Point, Scid};
+use std::alloc::AllocError;
+use std::collections::BTreeMap;
+
+impl Map {
+    /// Does an operation, of which it keeps a copy.
+    ///
+    /// A channel is added unless it is held. An update is kept if its channel is held, and a node if a channel ends at
+    /// it, each in place of the row that it had. A close takes a channel out with its updates, and then each node at
+    /// which no channel ends any more; of a channel that isn't held it does nothing. Want of memory leaves the map as
+    /// it was.
+    pub fn absorb(&mut self, op: &Op) -> Result<(), AllocError>
+        ensures ok { OnOk result (self.new ≡ absorbed self.old op.now) }
+        ensures err { OnErr result (self.new ≡ self.old) }
+    {
+        let op = op.copy(self.alloc)?;
+        self.absorb_owned(op)
+    }
+
+    /// The same, without a copy. Want of memory leaves the map as it was, and the operation is dropped.
+    pub fn absorb_owned(&mut self, op: Op) -> Result<(), AllocError>
+        ensures ok { OnOk result (self.new ≡ absorbed self.old op) }
+        ensures err { OnErr result (self.new ≡ self.old) }
+    {
+        match op {
+            Op::Channel(row) => self.add_channel(row),
+            Op::Update(row) => self.put_update(row),
+            Op::Node(row) => self.put_node(row),
+            Op::Close(scid) => {
+                self.close(scid);
+                Ok(())
+            }
+        }
+    }
+
+    fn add_channel(&mut self, row: ChannelRow) -> Result<(), AllocError>
+        ensures ok { OnOk result (self.new ≡ with_channel self.old row) }
+        ensures err { OnErr result (self.new ≡ self.old) }
+    {
+        if self.channel(row.scid()).is_some() {
+            return Ok(());
+        }
+        prove!(self.channels.len() < usize::MAX);
+        let (first, second) = (row.node(false), row.node(true));
+        self.ends.add(first, second)?;
+        match self.channels.insert(row.scid(), row) {
+            Ok(_) => Ok(()),
+            Err(refused) => {
+                self.ends.remove(first, second);
+                Err(refused.into())
+            }
+        }
+    }
+
+    fn put_update(&mut self, row: UpdateRow) -> Result<(), AllocError>
+        ensures ok { OnOk result (self.new ≡ with_update self.old row) }
+        ensures err { OnErr result (self.new ≡ self.old) }
+    {
+        if self.channel(row.scid()).is_none() {
+            return Ok(());
+        }
+        self.updates.insert((row.scid(), row.is_second()), row)?;
+        Ok(())
+    }
+
+    fn put_node(&mut self, row: NodeRow) -> Result<(), AllocError>
+        ensures ok { OnOk result (self.new ≡ with_node self.old row) }
+        ensures err { OnErr result (self.new ≡ self.old) }
+    {
+        if !self.ends_channel(&row.node()) {
+            return Ok(());
+        }
+        self.nodes.insert(row.node(), row)?;
+        Ok(())
+    }
+
+    fn close(&mut self, scid: Scid)
+        ensures { self.new ≡ without_channel self.old scid }
+    {
+        let Some(channel) = self.channels.remove(&scid) else {
+            return;
+        };
+        self.updates.remove(&(scid, false));
+        self.updates.remove(&(scid, true));
+        let (first, second) = (channel.node(false), channel.node(true));
+        self.ends.remove(first, second);
+        drop_unless_ended(&mut self.nodes, &self.ends, &first);
+        drop_unless_ended(&mut self.nodes, &self.ends, &second);
+    }
+}
+
+/// The node goes if no channel ends at it any more.
+fn drop_unless_ended(nodes: &mut BTreeMap<Point, NodeRow>, ends: &EndCounts, node: &Point)
+    requires keyed { IsKeyed point_of nodes.old.entries }
+    requires ascend { IsOrdered point_cmp nodes.old }
+    ensures keyed { IsKeyed point_of nodes.new.entries }
+    ensures ascend { IsOrdered point_cmp nodes.new }
+    ensures left { values nodes.new ≡ filter (stays_beside ends.now node.now) (values nodes.old) }
+{
+    if !ends.contains(node) {
+        nodes.remove(node);
+    }
+}
