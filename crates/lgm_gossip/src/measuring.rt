@@ -37,7 +37,11 @@ fn room_after_bigs(room: usize, values: &[u64]) -> Option<usize>
 fn room_after_eights(room: usize, count: usize) -> Option<usize>
     ensures { MatchOption result (room < count * 8) (λ left. left + count * 8 ≡ room) }
 {
-    if count > room / 8 { None } else { Some(room - count * 8) }
+    if count > room / 8 {
+        None
+    } else {
+        Some(room - count * 8)
+    }
 }
 
 /// What a part leaves of the room, if it fits.

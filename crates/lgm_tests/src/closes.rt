@@ -12,9 +12,13 @@ fn nodes(rt: HostRuntime) -> Result<(), Fail> {
     let (a, b) = (point(alloc, "02", "0a")?, point(alloc, "02", "0b")?);
     let bad = point(alloc, "05", "0b")?;
     let channel = announcement(alloc, CHAIN, SCID, (&a, &b), (&a, &b))?;
-    let (five, six) = (node_announcement(alloc, &b, 5)?, node_announcement(alloc, &b, 6)?);
+    let (five, six) = (
+        node_announcement(alloc, &b, 5)?,
+        node_announcement(alloc, &b, 6)?,
+    );
     let unlawful = node_announcement(alloc, &bad, 5)?;
-    let script = format!(in alloc; "m {five} {b} -\nm {channel} all 1\nm {unlawful} {bad} -\n\
+    let script = format!(in alloc;
+        "m {five} {b} -\nm {channel} all 1\nm {unlawful} {bad} -\n\
         m {five} {a} -\nm {five} nobody -\nm {five} {b} -\nm {five}01 {b} -\nm {six} {b} -\n\
         m {five} {b} -\n"
     )?;
@@ -32,7 +36,8 @@ fn closes(rt: HostRuntime) -> Result<(), Fail> {
     let five = node_announcement(alloc, &b, 5)?;
     let newer = update(alloc, CHAIN, SCID, ("01", "00"), 9)?;
     let older = update(alloc, CHAIN, SCID, ("01", "00"), 8)?;
-    let script = format!(in alloc; "m {channel} all 1\nm {other} all 1\nm {newer} {a} -\nm {five} {b} -\n\
+    let script = format!(in alloc;
+        "m {channel} all 1\nm {other} all 1\nm {newer} {a} -\nm {five} {b} -\n\
         close 1x0x0\nclose 1x0x0\nm {five} {b} -\nm {older} {a} -\nm {channel} all 1\nm {older} {a} -\n\
         close 2x0x0\nm {five} {b} -\nclose 1x0x0\nm {five} {b} -\nm {channel} all 1\nm {five} {b} -\ncommit"
     )?;

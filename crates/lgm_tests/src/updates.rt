@@ -19,7 +19,8 @@ fn timestamps_and_signers(rt: HostRuntime) -> Result<(), Fail> {
     let (six, seven) = (from_node_1(alloc, 6)?, from_node_1(alloc, 7)?);
     let disabled = update(alloc, CHAIN, SCID, ("01", "02"), 5)?;
     let second = update(alloc, CHAIN, SCID, ("00", "01"), 1)?;
-    let script = format!(in alloc; "m {five} {a} -\nm {channel} all 100000\nm {five} {a} -\n\
+    let script = format!(in alloc;
+        "m {five} {a} -\nm {channel} all 100000\nm {five} {a} -\n\
         m {disabled} {a} -\nm {four} {a} -\nm {six} {a} -\nm {seven} {b} -\nm {five} {b} -\n\
         m {second} {a} -\nm {second} {b} -\nm {seven} nobody -\nm {seven} all -\ncommit\n"
     )?;
@@ -35,7 +36,8 @@ fn refusals_in_order(rt: HostRuntime) -> Result<(), Fail> {
     let private = update(alloc, CHAIN, SCID, ("03", "00"), 1)?;
     let public = update(alloc, CHAIN, SCID, ("01", "00"), 1)?;
     let a = point(alloc, "02", "0a")?;
-    let script = format!(in alloc; "m {other} nobody -\nm {private} nobody -\nm {public} nobody -\n\
+    let script = format!(in alloc;
+        "m {other} nobody -\nm {private} nobody -\nm {public} nobody -\n\
         m {public} {a} -\nm {public}ff {a} spent\n"
     )?;
     let want = "1 chain\n2 private\n3 signature\n4 unknown-channel\n5 unknown-channel\n";

@@ -12,12 +12,12 @@ returns-in_default c =
     let query : Option ℕ → RangeQuery = λ options. record m { options = options } in
     let same : query None ≡ m = ap query (sym c.in_default.is) in
     subst (λ (q : RangeQuery). Encodes 263 (fields q) (range_query_texts q) c.join.result) same
-      (encodes 263 c.join.result
-      (then_whole 32 c.whole.result m.chain_hash.0 c.whole.ensures
-      (then_32 m.first_blocknum
-      (then_32 m.number_of_blocks
-      (says_none bigsize_bytes))))
-      (record { too_long = c.join.ensures.too_long; text = c.join.ensures.text; fits = c.join.ensures.fits }))
+    (encodes 263 c.join.result
+    (then_whole 32 c.whole.result m.chain_hash.0 c.whole.ensures
+    (then_32 m.first_blocknum
+    (then_32 m.number_of_blocks
+    (says_none bigsize_bytes))))
+    (record { too_long = c.join.ensures.too_long; text = c.join.ensures.text; fits = c.join.ensures.fits }))
 
 pub returns : goal.returns
 returns c =
@@ -25,9 +25,9 @@ returns c =
     let query : Option ℕ → RangeQuery = λ options. record m { options = options } in
     let same : query (Some c.in-Some.options) ≡ m = ap query (sym c.in-Some.is) in
     subst (λ (q : RangeQuery). Encodes 263 (fields q) (range_query_texts q) c.join-2.result) same
-      (encodes 263 c.join-2.result
-      (then_whole 32 c.whole-2.result m.chain_hash.0 c.whole-2.ensures
-      (then_32 m.first_blocknum
-      (then_32 m.number_of_blocks
-      (says_options c.bigsize_len.result c.in-Some.options c.bigsize_len.ensures))))
-      (record { too_long = c.join-2.ensures.too_long; text = c.join-2.ensures.text; fits = c.join-2.ensures.fits }))
+    (encodes 263 c.join-2.result
+    (then_whole 32 c.whole-2.result m.chain_hash.0 c.whole-2.ensures
+    (then_32 m.first_blocknum
+    (then_32 m.number_of_blocks
+    (says_options c.bigsize_len.result c.in-Some.options c.bigsize_len.ensures))))
+    (record { too_long = c.join-2.ensures.too_long; text = c.join-2.ensures.text; fits = c.join-2.ensures.fits }))
