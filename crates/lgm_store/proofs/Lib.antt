@@ -3,3 +3,6 @@ pub mod Counting
 pub mod Lists
 pub mod Soundness
 pub mod Changes
+pub mod Walking
+pub mod Histories
+pub mod Ascending

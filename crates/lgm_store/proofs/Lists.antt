@@ -52,7 +52,7 @@ values-no_channel entries new id is keyed sorted =
 
 -- ---- updates
 
-direction_total : IsTotalOrder direction_cmp
+pub direction_total : IsTotalOrder direction_cmp
 direction_total = then_total (on_total (λ (k : ℕ × Bool). k.0) nat_cmp_total) (on_total (λ (k : ℕ × Bool). k.1) bool_cmp_total)
 
 then_equal : (o p : Ordering) → is_eq (ordering_then o p) ≡ (is_eq o && is_eq p)
@@ -123,7 +123,7 @@ values-no_updates entries mid new id first second keyed sorted sorted' =
 
 -- ---- nodes
 
-node_total : IsTotalOrder point_cmp
+pub node_total : IsTotalOrder point_cmp
 node_total = on_total (λ (p : Point). p.0) nat_list_cmp_total
 
 same_node : (a b : Point) → point_cmp a b ≡ Equal → a ≡ b

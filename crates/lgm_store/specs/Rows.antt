@@ -2,6 +2,7 @@
 use Rattle.std.specs.Prelude.{ℕ, ◌%◌, Bool, ◌||◌, List, [], ◌∷◌, ◌++◌, Option, ◌==◌, ◌&&◌, nat_eq, filter, find}
 use Rattle.std.specs.Bool.{beq}
 use Rattle.std.specs.List.{list_any}
+use Rattle.std.specs.List.Sorted.{IsStrictlySortedBy}
 use Rattle.std.specs.Cmp.Lexicographic.{pointwise, slice_cmp}
 use Rattle.std.specs.declared.cmp.Ordering.{Ordering}
 use Rattle.std.specs.Ordering.{is_lt, is_gt, nat_cmp, bool_cmp, ordering_then}
@@ -41,6 +42,12 @@ by_direction a b =
 
 abbrev pub by_node : NodeRow → NodeRow → Ordering
 by_node a b = slice_cmp nat_cmp a.message.node_id.0 b.message.node_id.0
+
+-- the lists ascend, with no key twice
+pub record IsAscending (rows : Rows) : Type 0 where
+  pub channels : IsStrictlySortedBy by_id rows.channels
+  pub updates : IsStrictlySortedBy by_direction rows.updates
+  pub nodes : IsStrictlySortedBy by_node rows.nodes
 
 -- a row in its place: behind the rows of lesser keys, before those of greater ones, and instead of that of its own
 abbrev pub put : {R : Type 0} → (R → R → Ordering) → List R → R → List R

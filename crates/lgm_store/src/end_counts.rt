@@ -1,10 +1,11 @@
 //! The count of channels for each point.
 
-ghost use Rattle.std.specs.Prelude.{◌≡◌, ℕ, ◌+◌, ◌-◌, ◌<◌, ◌^◌, [], is_some, OnOk, OnErr, if◌then◌else◌, ◌||◌};
+ghost use Rattle.std.specs.Prelude.{◌≡◌, ℕ, ◌+◌, ◌-◌, ◌<◌, ◌^◌, [], is_some, IfOk, OnOk, OnErr, if◌then◌else◌, ◌||◌};
 ghost use Rattle.lgm_gossip.specs.declared.point.Point.{Point};
 ghost use Rattle.lgm_store.specs.Rows.{is_point};
 ghost use Rattle.lgm_store.specs.Ends.{entry_of, number_at, Sets, Counts};
 
+use crate::try_copy::copy_map;
 use lgm_gossip::Point;
 use std::alloc::{AllocError, Global};
 use std::collections::BTreeMap;
@@ -70,13 +71,25 @@ impl EndCounts {
         }
     }
 
+    /// A copy. The only error is want of memory.
+    pub(crate) fn copy(&self, alloc: Global) -> Result<EndCounts, AllocError>
+        ensures { IfOk result (λ copy. copy ≡ self.now) }
+    {
+        Ok(EndCounts {
+            counts: copy_map(alloc, &self.counts)?,
+        })
+    }
+
     fn add_one(&mut self, point: Point) -> Result<(), AllocError>
         requires { number_at self.old point + 1 < 2 ^ 64 }
         ensures ok { OnOk result (Sets self.old self.new point (number_at self.old point + 1)) }
         ensures err { OnErr result (self.new ≡ self.old) }
     {
-        let number = self.counts.get(&point).copied().unwrap_or(0);
-        self.counts.insert(point, number + 1)?;
+        if let Some(number) = self.counts.get_mut(&point) {
+            *number += 1;
+            return Ok(());
+        }
+        self.counts.insert(point, 1)?;
         Ok(())
     }
 

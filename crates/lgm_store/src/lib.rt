@@ -5,8 +5,11 @@
 #![tactic(auto)]
 
 mod end_counts;
+mod laws;
 mod map;
 mod op;
+mod try_copy;
 
+pub use laws::rows_ascend;
 pub use map::Map;
 pub use op::Op;

@@ -5,7 +5,9 @@ ghost use Rattle.lgm_store.specs.Rows.{empty};
 
 mod absorbing;
 mod admitting;
+mod copying;
 mod reading;
+mod replaying;
 
 use crate::end_counts::EndCounts;
 use lgm_check::{ChannelRow, NodeRow, UpdateRow};

@@ -1,12 +1,16 @@
 //! What a map holds.
 
-ghost use Rattle.std.specs.Prelude.{◌≡◌};
+ghost use Rattle.std.specs.Prelude.{◌≡◌, ℕ, ◌*◌, ◌^◌, ◌<◌, ◌≤◌, IfOk, length};
 ghost use Rattle.std.specs.Option.{option_copied};
-ghost use Rattle.lgm_store.specs.Rows.{channel_of, update_of, node_of, ends_channel};
+ghost use Rattle.lgm_store.specs.Rows.{IsAscending, channel_of, update_of, node_of, ends_channel};
+ghost use Rattle.lgm_store.specs.Reading.{next_channel_of, next_node_of, block_of, is_between, ids_between_of};
+ghost use Rattle.lgm_store.specs.Start.{start_after, IsEndBefore};
 
 use super::Map;
 use lgm_check::{ChannelRow, NodeRow, UpdateRow};
-use lgm_gossip::{Point, Scid};
+use lgm_gossip::{Point, Scid, Scids};
+use std::alloc::{AllocError, Global};
+use std::ops::Bound;
 
 impl Map {
     /// The row of a channel, if it is held.
@@ -35,5 +39,86 @@ impl Map {
         ensures { result ≡ ends_channel self.now.channels node.now }
     {
         self.ends.contains(node)
+    }
+
+    /// The number of channels.
+    pub fn count(&self) -> usize
+        ensures value { result ≡ length self.now.channels }
+        ensures ascend { IsAscending self.now }
+    {
+        self.channels.len()
+    }
+
+    /// The channel with the least id above one, or with the least of all.
+    pub fn next_channel(&self, after: Option<Scid>) -> Option<&ChannelRow>
+        ensures { option_copied result ≡ next_channel_of self.now.channels after }
+    {
+        let range = (start_after(after), Bound::Unbounded);
+        let (_, row) = self.channels.range(range).next()?;
+        Some(row)
+    }
+
+    /// The node with the least point above one, byte by byte, or with the least of all.
+    pub fn next_node(&self, after: Option<&Point>) -> Option<&NodeRow>
+        ensures { option_copied result ≡ next_node_of self.now.nodes (option_copied after.entry) }
+    {
+        let range = (start_after(after.copied()), Bound::Unbounded);
+        let (_, row) = self.nodes.range(range).next()?;
+        Some(row)
+    }
+
+    /// The ids of the channels that were funded in the blocks from `from` on and before `to`, ascending. Only these
+    /// blocks are walked.
+    pub fn ids_between(&self, alloc: Global, from: u64, to: u64) -> Result<Scids, AllocError>
+        ensures { IfOk result (λ ids. ids ≡ ids_between_of self.now.channels from to) }
+    {
+        if from >= to {
+            return Ok(Scids::from_vec(Vec::new(alloc)));
+        }
+        let ids = self
+            .channels
+            .range((Bound::Included(start_of(from)), end_before(to)))
+            .map(|(scid, _)| *scid);
+        // The test matters where `from` is past the last block that an id can name.
+        let ids = ids.filter(|scid| is_between(*scid, from, to));
+        Ok(Scids::from_vec(ids.collect(alloc)?))
+    }
+}
+
+/// How many ids a block has.
+const BLOCK: u64 = 1 << 40;
+
+/// An id that no id of an earlier block reaches.
+fn start_of(block: u64) -> Scid
+    ensures least { result ≤ block * 2 ^ 40 }
+    ensures earlier { (id : ℕ) → id < result → block_of id < block }
+{
+    Scid::from_u64(block.saturating_mul(BLOCK))
+}
+
+/// An end that only ids of this block and later ones lie behind.
+fn end_before(block: u64) -> Bound<Scid>
+    ensures { IsEndBefore block result }
+{
+    match block.checked_mul(BLOCK) {
+        Some(end) => Bound::Excluded(Scid::from_u64(end)),
+        None => Bound::Unbounded,
+    }
+}
+
+fn is_between(scid: Scid, from: u64, to: u64) -> bool
+    ensures { result ≡ is_between scid from to }
+{
+    let block = u64::from(scid.block());
+    from <= block && block < to
+}
+
+/// The start of what lies above.
+fn start_after<K>(after: Option<K>) -> Bound<K>
+    ensures { result ≡ start_after after }
+{
+    match after {
+        Some(key) => Bound::Excluded(key),
+        None => Bound::Unbounded,
     }
 }

@@ -1,0 +1,11 @@
+//! What holds of the rows that histories leave.
+
+ghost use Rattle.std.specs.Prelude.{List};
+ghost use Rattle.lgm_store.specs.declared.op.Op.{Op};
+ghost use Rattle.lgm_store.specs.Rows.{IsAscending};
+ghost use Rattle.lgm_store.specs.History.{fold};
+
+/// The rows that a history leaves ascend, with no key twice. A call does nothing: its contract is the law.
+pub fn rows_ascend()
+    ensures { (history : List Op) → IsAscending (fold history) }
+{}

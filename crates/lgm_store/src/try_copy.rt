@@ -1,0 +1,51 @@
+//! Copies of rows, and of ordered maps of them.
+
+ghost use Rattle.std.specs.Prelude.{◌≡◌, IfOk};
+
+use lgm_check::{ChannelRow, NodeRow, UpdateRow};
+use std::alloc::{AllocError, Global};
+use std::collections::BTreeMap;
+
+/// A value that can be copied if there is memory.
+pub(crate) trait TryCopy {
+    fn try_copy(&self, alloc: Global) -> Result<Self, AllocError>
+        ensures { IfOk result (λ copy. copy ≡ self.now) };
+}
+
+impl TryCopy for ChannelRow {
+    fn try_copy(&self, alloc: Global) -> Result<ChannelRow, AllocError> {
+        self.copy(alloc)
+    }
+}
+
+impl TryCopy for UpdateRow {
+    fn try_copy(&self, alloc: Global) -> Result<UpdateRow, AllocError> {
+        self.copy(alloc)
+    }
+}
+
+impl TryCopy for NodeRow {
+    fn try_copy(&self, alloc: Global) -> Result<NodeRow, AllocError> {
+        self.copy(alloc)
+    }
+}
+
+impl TryCopy for u64 {
+    fn try_copy(&self, _alloc: Global) -> Result<u64, AllocError> {
+        Ok(*self)
+    }
+}
+
+/// A copy of an ordered map. The only error is want of memory.
+pub(crate) fn copy_map<K: Ord + Copy + Drop, V: TryCopy + Drop>(
+    alloc: Global,
+    map: &BTreeMap<K, V>,
+) -> Result<BTreeMap<K, V>, AllocError>
+    ensures { IfOk result (λ copy. copy.entries ≡ map.now.entries) }
+{
+    let mut copy = BTreeMap::new(alloc);
+    for (key, value) in map {
+        copy.insert(*key, value.try_copy(alloc)?)?;
+    }
+    Ok(copy)
+}
