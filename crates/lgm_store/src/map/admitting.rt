@@ -81,7 +81,7 @@ impl Map {
             return Err(Refusal::UnknownNode);
         }
         match self.node(&node) {
-            Some(held) if held.message.timestamp >= row.message.timestamp => Err(Refusal::NotNewer),
+            Some(held) if row.message.timestamp <= held.message.timestamp => Err(Refusal::NotNewer),
             _ => Ok(()),
         }
     }
