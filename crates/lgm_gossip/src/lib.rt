@@ -1,7 +1,9 @@
-//! The messages of the gossip protocol: their types, and reading them from bytes.
+//! The messages of the gossip protocol: their types, and what bytes they are.
 //!
 //! [`decode`] takes the bytes of one message, as they come from a peer, and gives the [`Message`] that they spell or
-//! the first fault that they have. Contracts say which bytes spell which message: field by field, in the order of BOLT 7.
+//! the first fault that they have; [`encode`] gives the bytes of a message. Contracts say which bytes spell which
+//! message: field by field, in the order of BOLT 7. [`addresses`] reads a node's addresses, and [`has_even_bit`] looks at
+//! feature bits.
 #![tactic(auto)]
 
 mod address;
