@@ -31,7 +31,7 @@ fn outcome(alloc: Global, chain: &ChainHash, map: &Map, item: &Item) -> Result<O
         Item::Gossip(bytes, evidence) => {
             let checked = precheck(alloc, chain, bytes.as_slice(), evidence)?;
             map.admits(&checked)?;
-            Ok(Op::from(checked))
+            Ok(Op::of(alloc, checked)?)
         }
         Item::Close(scid) => map.admit_close(*scid),
     }
@@ -57,7 +57,7 @@ impl Engine {
     {
         match outcome(alloc, chain, &self.map, item) {
             Ok(op) => {
-                self.map.absorb_owned(op)?;
+                self.map.absorb(&op)?;
                 self.accepted += 1;
                 Ok(Reply::Accepted)
             }
