@@ -1,10 +1,13 @@
 //! A whole script.
 
 ghost use Rattle.std.specs.Prelude.{◌≡◌, ◌+◌, ◌<◌, ◌^◌, [], true, false, IfSome, IfOk, OnOk, OnErr, IfErr, IsErrOf};
-ghost use Rattle.lgm_server.specs.Device.{IsAtEnd};
+ghost use Rattle.lgm_server.specs.Device.{Appends, IsAtEnd};
 ghost use Rattle.lgm_server.specs.Lines.{ahead, HasMore};
 ghost use Rattle.lgm_server.specs.Text.{with_gathered};
-ghost use Rattle.lgm_server.specs.Running.{fault_of, IsAnswered, IsTooLong, IsTooMany};
+ghost use Rattle.lgm_server.specs.Request.{request_of};
+ghost use Rattle.lgm_server.specs.Reply.{text_of};
+ghost use Rattle.lgm_server.specs.Script.{reply_in, state_after};
+ghost use Rattle.lgm_server.specs.Running.{fault_of, IsDeviceFault, IsAnswerFault, IsAnswered, IsTooLong, IsTooMany};
 ghost use Rattle.lgm_server.specs.declared.running.RunFault.TheVariants.{NoMemory};
 
 use crate::device::{Sink, Source};
@@ -117,20 +120,57 @@ fn flush_before_reading<W: Sink>(
     Ok(())
 }
 
-/// Whether a further line begins.
-fn begins<R: Source>(lines: &mut LineReader, reader: &mut R) -> Result<bool, RunFault>
-    requires { R.failures reader.old + 1 < 2 ^ 64 }
+/// Whether a further line begins. What was gathered is written first if the source has to be read for that.
+fn begins<R: Source, W: Sink>(
+    lines: &mut LineReader,
+    reader: &mut R,
+    text: &mut TextBuffer,
+    writer: &mut W,
+) -> Result<bool, RunFault>
+    requires reader { R.failures reader.old + 1 < 2 ^ 64 }
+    requires writer { W.failures writer.old + 1 < 2 ^ 64 }
     ensures kept { OnOk result (ahead lines.new (R.left reader.new) ≡ ahead lines.old (R.left reader.old)) }
     ensures more { result ≡ Ok true → HasMore (ahead lines.new (R.left reader.new)) }
     ensures end { result ≡ Ok false → IsAtEnd (ahead lines.new (R.left reader.new)) }
-    ensures same { OnOk result (R.failures reader.new ≡ R.failures reader.old) }
-    ensures cause { OnErr result (R.failures reader.old < R.failures reader.new) }
-    ensures err { IfErr result (λ e. e ≡ RunFault.Read) }
+    ensures text { OnOk result (with_gathered (W.taken writer.new) text.new
+        ≡ with_gathered (W.taken writer.old) text.old) }
+    ensures read_alike { OnOk result (R.failures reader.new ≡ R.failures reader.old) }
+    ensures written_alike { OnOk result (W.failures writer.new ≡ W.failures writer.old) }
+    ensures read { IsErrOf result RunFault.Read → R.failures reader.old < R.failures reader.new }
+    ensures write { IsErrOf result RunFault.Write → W.failures writer.old < W.failures writer.new }
+    ensures err { IfErr result IsDeviceFault }
 {
+    flush_before_reading(lines, text, writer)?;
     match lines.begins(reader) {
         Ok(more) => Ok(more),
         Err(_) => Err(RunFault::Read),
     }
+}
+
+/// Answers the line of that number, from 1.
+fn answer<W: Sink>(
+    alloc: Global,
+    chain: &ChainHash,
+    number: u64,
+    line: &[u8],
+    engine: &mut Engine,
+    text: &mut TextBuffer,
+    writer: &mut W,
+) -> Result<(), RunFault>
+    requires engine { engine.old.accepted + 1 < 2 ^ 64 }
+    requires writer { W.failures writer.old + 1 < 2 ^ 64 }
+    ensures state { OnOk result (engine.new ≡ state_after chain.now engine.old (request_of line.now)) }
+    ensures told { OnOk result (Appends (with_gathered (W.taken writer.old) text.old)
+        (with_gathered (W.taken writer.new) text.new)
+        (text_of number (reply_in chain.now engine.old (request_of line.now)))) }
+    ensures same { OnOk result (W.failures writer.new ≡ W.failures writer.old) }
+    ensures write { IsErrOf result RunFault.Write → W.failures writer.old < W.failures writer.new }
+    ensures err { IfErr result IsAnswerFault }
+{
+    let request = parse(alloc, line)?;
+    let reply = engine.answer(alloc, chain, &request)?;
+    reply.write(number, text)?;
+    flush_block(text, writer)
 }
 
 /// Answers a whole script: its lines, in order, each by the lines before it (see the grammar in `docs/script.md`).
@@ -166,29 +206,34 @@ pub fn run<R: Source, W: Sink>(
     let mut engine = Engine::new(alloc)?;
     let mut line = Vec::new(alloc);
     for number in 0..MAX_LINES {
-        flush_before_reading(&lines, &mut text, writer)?;
-        if !begins(&mut lines, reader)? {
+        if !begins(&mut lines, reader, &mut text, writer)? {
             flush(&mut text, writer)?;
             return Ok(Counts {
                 lines: number,
-                accepted: engine.accepted,
+                accepted: engine.accepted(),
             });
         }
         if let Err(fault) = lines.read_line(reader, &mut line) {
             flush(&mut text, writer)?;
             return Err(RunFault::from(fault));
         }
-        let request = parse(alloc, line.as_slice())?;
-        let reply = engine.answer(alloc, chain, &request)?;
-        reply.write(number + 1, &mut text)?;
-        flush_block(&mut text, writer)?;
+        answer(
+            alloc,
+            chain,
+            number + 1,
+            line.as_slice(),
+            &mut engine,
+            &mut text,
+            writer,
+        )?;
     }
-    flush(&mut text, writer)?;
-    if begins(&mut lines, reader)? {
+    if begins(&mut lines, reader, &mut text, writer)? {
+        flush(&mut text, writer)?;
         return Err(RunFault::TooManyLines);
     }
+    flush(&mut text, writer)?;
     Ok(Counts {
         lines: MAX_LINES,
-        accepted: engine.accepted,
+        accepted: engine.accepted(),
     })
 }

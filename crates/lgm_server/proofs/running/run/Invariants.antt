@@ -9,5 +9,5 @@ invariant-loop-number g l = record {
   reader : g.R.Source.failures l.reader ≡ g.R.Source.failures l.fn.reader;
   writer : g.W.Sink.failures l.writer ≡ g.W.Sink.failures l.fn.writer;
   few : l.engine.accepted ≤ l.number;
-  so_far : SoFar l.chain (g.R.Source.left l.fn.reader) l.number l.engine.map l.engine.accepted (ahead l.lines (g.R.Source.left l.reader)) (g.W.Sink.taken l.fn.writer) (with_gathered (g.W.Sink.taken l.writer) l.text);
+  so_far : SoFar l.chain (g.R.Source.left l.fn.reader) l.number l.engine (ahead l.lines (g.R.Source.left l.reader)) (g.W.Sink.taken l.fn.writer) (with_gathered (g.W.Sink.taken l.writer) l.text);
 }
