@@ -1,0 +1,5 @@
+pub mod Pieces
+pub mod Sendings
+pub mod RangeLaws
+pub mod Lengths
+pub mod AskedLaws

@@ -1,0 +1,158 @@
+-- Pieces that are sent one after the other.
+use Rattle.std.proofs.Common.{◌≡◌, ℕ, Bool, true, false, ◌||◌, not, cond, List, [], ◌∷◌, ◌++◌, map, refl, sym, ap, ◌∙◌, append_assoc}
+use Rattle.std.specs.Cmp.Lexicographic.{texts_ties}
+use Rattle.std.specs.List.{list_any}
+use Rattle.std.specs.BTreeMap.{is_at}
+use Rattle.std.specs.Prelude.{◌==◌, Option, Some, Result, Ok, Err, OnOk}
+use Rattle.std.specs.Int.{bit_at}
+use Rattle.std.specs.Option.{option_map, option_to_list}
+use Rattle.std.proofs.lemmas.List.{append-nil, map-append}
+use Rattle.std.proofs.lemmas.List.Folds.{list_any-append}
+use Rattle.lgm_gossip.specs.declared.point.Point.{Point}
+use Rattle.lgm_check.specs.declared.row.ChannelRow.{ChannelRow}
+use Rattle.lgm_check.specs.declared.row.UpdateRow.{UpdateRow}
+use Rattle.lgm_check.specs.declared.row.NodeRow.{NodeRow}
+use Rattle.lgm_store.specs.Rows.{Rows, is_point, update_of, node_of}
+use Rattle.lgm_store.specs.Ends.{point_cmp}
+use Rattle.lgm_query.specs.Piece.{Piece, channel, update, node, bytes_of, are_of_one_node, with_nodes_once}
+use Rattle.lgm_query.specs.IdsReply.{if_set, chosen_of}
+use Rattle.lgm_query.specs.Sent.{Sent, is_of_node, Sends}
+use Rattle.lgm_query.proofs.Pieces.{comes_again, with_nodes_once-push}
+
+-- nothing more
+pub Sends-none : (sent : Sent) → Sends [] sent sent
+Sends-none sent pieces are = rw append-nil are
+
+-- some pieces, and then others
+pub Sends-then : (first second : List Piece) (a b c : Sent) → Sends first a b → Sends second b c → Sends (first ++ second) a c
+Sends-then first second a b c to_b to_c pieces are =
+    let all : (pieces ++ first) ++ second ≡ pieces ++ (first ++ second) = append_assoc pieces first second in
+    rw all at (to_c (pieces ++ first) (to_b pieces are))
+
+-- a piece that announces no node
+plain : (piece : Piece) (old new : Sent) → ((pieces : List Piece) → comes_again pieces piece ≡ false) → ((p : Point) → is_of_node p piece ≡ false)
+    → new.messages ≡ old.messages ++ bytes_of piece ∷ [] → new.nodes ≡ old.nodes → Sends (piece ∷ []) old new
+plain piece old new no_node other_nodes message same pieces are = record {
+  messages = message ∙ ap (λ (ms : List (List ℕ)). ms ++ bytes_of piece ∷ []) are.messages
+      ∙ sym (map-append bytes_of (with_nodes_once pieces) (piece ∷ []))
+      ∙ ap (map bytes_of) (sym (with_nodes_once-push pieces piece ∙ rw (no_node pieces) refl));
+  nodes = λ point. ap (list_any (is_at (point_cmp point))) same ∙ are.nodes point ∙ sym (list_any-append (is_of_node point) pieces (piece ∷ []) ∙ rw (other_nodes point) (or_false (list_any (is_of_node point) pieces)));
+}
+  where
+    or_false : (b : Bool) → (b || (false || false)) ≡ b
+    or_false true = refl
+    or_false false = refl
+
+not_again : (piece : Piece) → ((earlier : Piece) → are_of_one_node earlier piece ≡ false) → (pieces : List Piece) → comes_again pieces piece ≡ false
+not_again piece apart [] = refl
+not_again piece apart (earlier ∷ pieces) = rw (apart earlier, not_again piece apart pieces) refl
+
+pub Sends-channel : (row : ChannelRow) (old new : Sent) → new.messages ≡ old.messages ++ row.raw ∷ [] → new.nodes ≡ old.nodes → Sends (channel row ∷ []) old new
+Sends-channel row old new message same = plain (channel row) old new (not_again (channel row) apart) (λ p. refl) message same
+  where
+    apart : (earlier : Piece) → are_of_one_node earlier (channel row) ≡ false
+    apart (channel r) = refl
+    apart (update r) = refl
+    apart (node r) = refl
+
+pub Sends-update : (row : UpdateRow) (old new : Sent) → new.messages ≡ old.messages ++ row.raw ∷ [] → new.nodes ≡ old.nodes → Sends (update row ∷ []) old new
+Sends-update row old new message same = plain (update row) old new (not_again (update row) apart) (λ p. refl) message same
+  where
+    apart : (earlier : Piece) → are_of_one_node earlier (update row) ≡ false
+    apart (channel r) = refl
+    apart (update r) = refl
+    apart (node r) = refl
+
+-- a node comes again where it was announced
+again : (row : NodeRow) (pieces : List Piece) → comes_again pieces (node row) ≡ list_any (is_of_node row.message.node_id) pieces
+again row [] = refl
+again row (channel r ∷ pieces) = again row pieces
+again row (update r ∷ pieces) = again row pieces
+again row (node r ∷ pieces) = ap (λ (b : Bool). is_point r.message.node_id row.message.node_id || b) (again row pieces)
+
+-- the node is in the set behind it
+known : (row : NodeRow) (old new : Sent)
+    → ((q : Point) → list_any (is_at (point_cmp q)) new.nodes ≡ cond (is_at (point_cmp row.message.node_id) q) true (list_any (is_at (point_cmp q)) old.nodes))
+    → (pieces : List Piece) → ((q : Point) → list_any (is_at (point_cmp q)) old.nodes ≡ list_any (is_of_node q) pieces)
+    → (q : Point) → list_any (is_at (point_cmp q)) new.nodes ≡ list_any (is_of_node q) (pieces ++ node row ∷ [])
+known row old new inserts pieces are q =
+    inserts q
+    ∙ by (is_point row.message.node_id q) (sym (texts_ties row.message.node_id.0 q.0)) (list_any (is_of_node q) pieces) (are q)
+    ∙ sym (list_any-append (is_of_node q) pieces (node row ∷ []))
+  where
+    by : (b : Bool) → is_at (point_cmp row.message.node_id) q ≡ b → (d : Bool) → list_any (is_at (point_cmp q)) old.nodes ≡ d
+        → cond (is_at (point_cmp row.message.node_id) q) true (list_any (is_at (point_cmp q)) old.nodes) ≡ (d || (b || false))
+    by true is true old_is = rw is refl
+    by true is false old_is = rw is refl
+    by false is true old_is = rw (is, old_is) refl
+    by false is false old_is = rw (is, old_is) refl
+
+-- the announcement of a node that wasn't sent yet
+pub Sends-new_node : (row : NodeRow) (found : Option NodeRow) (key : Point) (keys : List Point) (old new : Sent) → Some row ≡ found → key ≡ row.message.node_id → old.nodes ≡ keys
+    → true ≡ not (list_any (is_at (point_cmp key)) keys)
+    → ((q : Point) → list_any (is_at (point_cmp q)) new.nodes ≡ cond (is_at (point_cmp key) q) true (list_any (is_at (point_cmp q)) keys))
+    → new.messages ≡ old.messages ++ row.raw ∷ [] → Sends (option_to_list (option_map node found)) old new
+Sends-new_node row found key keys old new held own were absent inserts message =
+    let absent' : list_any (is_at (point_cmp row.message.node_id)) old.nodes ≡ false = rw (were, ← own) (not_true (list_any (is_at (point_cmp key)) keys) absent) in
+    let inserts' : (q : Point) → list_any (is_at (point_cmp q)) new.nodes ≡ cond (is_at (point_cmp row.message.node_id) q) true (list_any (is_at (point_cmp q)) old.nodes) =
+    λ q. rw (were, ← own) (inserts q) in
+    rw (← held) (λ pieces are. record {
+      messages = message ∙ ap (λ (ms : List (List ℕ)). ms ++ row.raw ∷ []) are.messages
+          ∙ sym (map-append bytes_of (with_nodes_once pieces) (node row ∷ []))
+          ∙ ap (map bytes_of) (sym (with_nodes_once-push pieces (node row) ∙ rw (again row pieces, ← are.nodes row.message.node_id, absent') refl));
+      nodes = known row old new inserts' pieces are.nodes;
+    })
+  where
+    not_true : (b : Bool) → true ≡ not b → b ≡ false
+    not_true true e = absurd cc
+    not_true false e = refl
+
+-- that of one that was
+pub Sends-old_node : (row : NodeRow) (found : Option NodeRow) (key : Point) (keys : List Point) (old new : Sent) → Some row ≡ found → key ≡ row.message.node_id → old.nodes ≡ keys
+    → false ≡ not (list_any (is_at (point_cmp key)) keys)
+    → ((q : Point) → list_any (is_at (point_cmp q)) new.nodes ≡ cond (is_at (point_cmp key) q) true (list_any (is_at (point_cmp q)) keys))
+    → new.messages ≡ old.messages → Sends (option_to_list (option_map node found)) old new
+Sends-old_node row found key keys old new held own were present inserts same =
+    let present' : list_any (is_at (point_cmp row.message.node_id)) old.nodes ≡ true = rw (were, ← own) (not_false (list_any (is_at (point_cmp key)) keys) present) in
+    let inserts' : (q : Point) → list_any (is_at (point_cmp q)) new.nodes ≡ cond (is_at (point_cmp row.message.node_id) q) true (list_any (is_at (point_cmp q)) old.nodes) =
+    λ q. rw (were, ← own) (inserts q) in
+    rw (← held) (λ pieces are. record {
+      messages = same ∙ are.messages
+          ∙ ap (map bytes_of) (sym (with_nodes_once-push pieces (node row) ∙ rw (again row pieces, ← are.nodes row.message.node_id, present') (append-nil (with_nodes_once pieces))));
+      nodes = known row old new inserts' pieces are.nodes;
+    })
+  where
+    not_false : (b : Bool) → false ≡ not b → b ≡ true
+    not_false true e = refl
+    not_false false e = absurd cc
+
+-- a message that is put at the end
+pub OnOk-channel : {E : Type 0} (r : Result (Unit {0}) E) (row : ChannelRow) (old new : Sent)
+    → OnOk r (new.messages ≡ old.messages ++ row.raw ∷ []) → OnOk r (new.nodes ≡ old.nodes) → OnOk r (Sends (channel row ∷ []) old new)
+OnOk-channel (Ok u) row old new message same = Sends-channel row old new message same
+OnOk-channel (Err e) row old new message same = tt
+
+pub OnOk-update : {E : Type 0} (r : Result (Unit {0}) E) (row : UpdateRow) (found : Option UpdateRow) (old new : Sent) → Some row ≡ found
+    → OnOk r (new.messages ≡ old.messages ++ row.raw ∷ []) → OnOk r (new.nodes ≡ old.nodes) → OnOk r (Sends (option_to_list (option_map update found)) old new)
+OnOk-update (Ok u) row found old new held message same = rw (← held) (Sends-update row old new message same)
+OnOk-update (Err e) row found old new held message same = tt
+
+-- what a set bit chooses
+pub Sends-set : (flags bit : ℕ) (piece : Option Piece) (b : Bool) (old mid new : Sent) → b ≡ (bit_at flags bit == 1) → b ≡ true → new ≡ mid
+    → Sends (option_to_list piece) old mid → Sends (if_set flags bit piece) old new
+Sends-set flags bit piece b old mid new tests is same sends = rw (same, ← tests, is) sends
+
+-- and one that isn't set
+pub Sends-unset : (flags bit : ℕ) (piece : Option Piece) (b : Bool) (old new : Sent) → b ≡ (bit_at flags bit == 1) → b ≡ false → new ≡ old → Sends (if_set flags bit piece) old new
+Sends-unset flags bit piece b old new tests is same = rw (same, ← tests, is) (Sends-none old)
+
+-- what the five bits choose
+pub Sends-chosen : (rows : Rows) (id flags : ℕ) (row : ChannelRow) (a b c d e f : Sent)
+    → Sends (if_set flags 0 (Some (channel row))) a b
+    → Sends (if_set flags 1 (option_map update (update_of rows.updates id false))) b c
+    → Sends (if_set flags 2 (option_map update (update_of rows.updates id true))) c d
+    → Sends (if_set flags 3 (option_map node (node_of rows.nodes row.message.node_id_1))) d e
+    → Sends (if_set flags 4 (option_map node (node_of rows.nodes row.message.node_id_2))) e f
+    → Sends (chosen_of rows id flags row) a f
+Sends-chosen rows id flags row a b c d e f announcement update_1 update_2 node_1 node_2 =
+    Sends-then _ _ a e f (Sends-then _ _ a d e (Sends-then _ _ a c d (Sends-then _ _ a b c announcement update_1) update_2) node_1) node_2

@@ -1,0 +1,4 @@
+pub mod Piece
+pub mod IdsReply
+pub mod RangeReply
+pub mod Sent

@@ -1,0 +1,76 @@
+//! Answers to queries of channels by their ids.
+
+ghost use Rattle.std.specs.Prelude.{◌≡◌, ◌<◌, ◌∷◌, [], length, slice_index, IfOk};
+ghost use Rattle.lgm_query.specs.IdsReply.{flags_of, messages_asked_for, end_bytes, ids_reply};
+
+use crate::encoded::encoded;
+use crate::replies::Replies;
+use crate::sending::Sending;
+use lgm_gossip::{Bytes, ChainHash, IdsEnd, IdsQuery, Message};
+use lgm_store::Map;
+use std::alloc::{AllocError, Global};
+
+/// The flags that ask for all that is held of a channel.
+const ALL: u64 = 0b11111;
+
+/// The reply to a `query_short_channel_ids` on a map of `chain`: what is held of the channels, in the query's order, and
+/// then `reply_short_channel_ids_end` (BOLT 7, "The query_short_channel_ids/reply_short_channel_ids_end Messages").
+///
+/// The flags of an id choose among its messages: bit 0 the announcement, bits 1 and 2 the updates by node 1 and node 2,
+/// bits 3 and 4 the announcements of node 1 and node 2. Other bits choose nothing. A query without flags asks for all
+/// five of each. An id that comes again is answered again, but the announcement of a node is sent at its first place
+/// only. A query of another chain gets the end alone, whose `full_information` is then 0.
+///
+/// It costs a logarithm of the map for each id. The only error is want of memory.
+pub fn answer_ids(
+    alloc: Global,
+    chain: &ChainHash,
+    map: &Map,
+    query: &IdsQuery,
+) -> Result<Replies, AllocError>
+    ensures { IfOk result (λ replies. replies ≡ ids_reply chain.now map.now query.now) }
+{
+    let is_known = query.chain_hash == *chain;
+    let mut messages = if is_known {
+        held(alloc, map, query)?
+    } else {
+        Vec::new(alloc)
+    };
+    messages.push(end(alloc, query, u8::from(is_known))?)?;
+    Ok(Replies::from_vec(messages))
+}
+
+/// What is held of the channels that are asked for.
+fn held(alloc: Global, map: &Map, query: &IdsQuery) -> Result<Vec<Bytes>, AllocError>
+    ensures { IfOk result (λ held. held.items ≡ messages_asked_for map.now query.now) }
+{
+    let mut sending = Sending::new(alloc);
+    for (place, scid) in query.ids.as_slice().iter().enumerate() {
+        sending.send_chosen(map, *scid, flags_at(query, place))?;
+    }
+    Ok(sending.into_messages())
+}
+
+/// What is asked for of the channel at a place of the query.
+fn flags_at(query: &IdsQuery, place: usize) -> u64
+    requires { place < length query.now.ids }
+    ensures { result ≡ slice_index (flags_of query.now) place }
+{
+    match &query.flags {
+        None => ALL,
+        Some(flags) => flags.as_slice()[place],
+    }
+}
+
+/// The message behind all others.
+fn end(alloc: Global, query: &IdsQuery, full_information: u8) -> Result<Bytes, AllocError>
+    ensures { IfOk result (λ bytes. bytes ≡ end_bytes query.now full_information) }
+{
+    let chain: &[u8] = &query.chain_hash.0;
+    prove!(chain.len() == 32);
+    let end = IdsEnd {
+        chain_hash: query.chain_hash,
+        full_information,
+    };
+    encoded(alloc, &Message::IdsEnd(end))
+}

@@ -1,0 +1,19 @@
+//! The bytes of replies.
+
+ghost use Rattle.std.specs.Prelude.{◌≡◌, ◌≤◌, length, IfOk};
+ghost use Rattle.lgm_gossip.specs.Spelling.{spelling};
+
+use lgm_gossip::{Bytes, EncodeFault, Message, encode};
+use std::alloc::{AllocError, Global};
+
+/// The bytes of a message that isn't too long. The only error is want of memory.
+pub(crate) fn encoded(alloc: Global, message: &Message) -> Result<Bytes, AllocError>
+    requires { length (spelling message.now) ≤ 65535 }
+    ensures { IfOk result (λ bytes. bytes ≡ spelling message.now) }
+{
+    match encode(alloc, message) {
+        Ok(bytes) => Ok(bytes),
+        Err(EncodeFault::NoMemory) => Err(AllocError),
+        Err(EncodeFault::TooLong) => unreachable!(),
+    }
+}
