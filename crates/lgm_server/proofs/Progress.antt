@@ -76,6 +76,7 @@ by_request : (chain : ChainHash) (ls : List (List ℕ)) (request : Request)
 by_request chain ls requests.Quiet = refl
 by_request chain ls requests.Bad = refl
 by_request chain ls requests.Commit = refl
+by_request chain ls (requests.Query bytes) = refl
 by_request chain ls (requests.Offer item) = state_behind-outcome (history_of chain ls) (history_of chain (before_commit ls)) (outcome_of chain (fold (history_of chain ls)) item)
 
 state_after-line : (chain : ChainHash) (ls : List (List ℕ)) (line : List ℕ) → state_after chain (state_of chain ls) (request_of line) ≡ state_of chain (ls ++ line ∷ [])
@@ -92,6 +93,7 @@ pub accepted-le : (chain : ChainHash) (state : State) (request : Request) → (s
 accepted-le chain state requests.Quiet = omega arith
 accepted-le chain state requests.Bad = omega arith
 accepted-le chain state requests.Commit = omega arith
+accepted-le chain state (requests.Query bytes) = omega arith
 accepted-le chain state (requests.Offer item) = state_behind-le state (outcome_of chain state.rows item)
 
 short-push : (P : List ℕ → Type 0) (xs : List (List ℕ)) (x : List ℕ) → AllByRecursion P xs → P x → AllByRecursion P (xs ++ x ∷ [])

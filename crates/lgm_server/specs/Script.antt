@@ -17,6 +17,7 @@ use Rattle.lgm_server.specs.declared.reply.Reply.{Reply}
 use Rattle.lgm_server.specs.declared.reply.Reply.TheVariants as replies
 use Rattle.lgm_server.specs.Request.{request_of}
 use Rattle.lgm_server.specs.Reply.{text_of}
+use Rattle.lgm_server.specs.Query.{query_reply}
 
 -- ---- one item
 
@@ -49,6 +50,7 @@ abbrev pub reply_in : ChainHash → State → Request → Reply
 reply_in chain state requests.Quiet = replies.Quiet
 reply_in chain state requests.Bad = replies.Bad
 reply_in chain state requests.Commit = replies.Committed state.accepted
+reply_in chain state (requests.Query bytes) = query_reply chain state.committed bytes
 reply_in chain state (requests.Offer item) = offered (outcome_of chain state.rows item)
 
 -- behind an item that was accepted or refused

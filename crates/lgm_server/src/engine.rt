@@ -6,6 +6,7 @@ ghost use Rattle.lgm_wire.specs.Reading.{Gives};
 ghost use Rattle.lgm_server.specs.Script.{outcome_of, offered, opening, reply_in, state_behind, state_after};
 
 use crate::item::Item;
+use crate::querying::answer_query;
 use crate::reply::Reply;
 use crate::request::Request;
 use lgm_check::{Refusal, precheck};
@@ -140,6 +141,7 @@ impl Engine {
                 Ok(Reply::Committed(self.accepted))
             }
             Request::Offer(item) => self.offer(alloc, chain, item),
+            Request::Query(bytes) => answer_query(alloc, chain, &self.committed, bytes.as_slice()),
         }
     }
 }

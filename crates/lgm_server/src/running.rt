@@ -6,7 +6,7 @@ ghost use Rattle.lgm_server.specs.Lines.{ahead, HasMore};
 ghost use Rattle.lgm_server.specs.Text.{with_gathered};
 ghost use Rattle.lgm_server.specs.Request.{request_of};
 ghost use Rattle.lgm_server.specs.Reply.{text_of};
-ghost use Rattle.lgm_server.specs.Script.{reply_in, state_after};
+ghost use Rattle.lgm_server.specs.Script.{opening, reply_in, state_after};
 ghost use Rattle.lgm_server.specs.Running.{fault_of, IsDeviceFault, IsAnswerFault, IsAnswered, IsTooLong, IsTooMany};
 ghost use Rattle.lgm_server.specs.declared.running.RunFault.TheVariants.{NoMemory};
 
@@ -173,6 +173,70 @@ fn answer<W: Sink>(
     flush_block(text, writer)
 }
 
+/// Answers the lines of a script, where nothing was read or answered yet.
+fn answer_lines<R: Source, W: Sink>(
+    alloc: Global,
+    reader: &mut R,
+    writer: &mut W,
+    chain: &ChainHash,
+    lines: &mut LineReader,
+    text: &mut TextBuffer,
+    engine: &mut Engine,
+) -> Result<Counts, RunFault>
+    requires lines { lines.old ≡ [] }
+    requires text { text.old ≡ [] }
+    requires engine { engine.old ≡ opening }
+    requires reader { R.failures reader.old + 1 < 2 ^ 64 }
+    requires writer { W.failures writer.old + 1 < 2 ^ 64 }
+
+    // Each line was answered, and nothing else was written.
+    ensures ok { IfOk result (λ counts. IfSome (R.left reader.old)
+        (IsAnswered chain.now (W.taken writer.old) (W.taken writer.new) counts)) }
+
+    // The lines before were answered.
+    ensures too_many { IsErrOf result RunFault.TooManyLines → IfSome (R.left reader.old)
+        (IsTooMany chain.now (W.taken writer.old) (W.taken writer.new)) }
+    ensures too_long { IsErrOf result RunFault.LineTooLong → IfSome (R.left reader.old)
+        (IsTooLong chain.now (W.taken writer.old) (W.taken writer.new)) }
+
+    // A device failed in this call.
+    ensures read { IsErrOf result RunFault.Read → R.failures reader.old < R.failures reader.new }
+    ensures write { IsErrOf result RunFault.Write → W.failures writer.old < W.failures writer.new }
+{
+    let mut line = Vec::new(alloc);
+    for number in 0..MAX_LINES {
+        if !begins(lines, reader, text, writer)? {
+            flush(text, writer)?;
+            return Ok(Counts {
+                lines: number,
+                accepted: engine.accepted(),
+            });
+        }
+        if let Err(fault) = lines.read_line(reader, &mut line) {
+            flush(text, writer)?;
+            return Err(RunFault::from(fault));
+        }
+        answer(
+            alloc,
+            chain,
+            number + 1,
+            line.as_slice(),
+            engine,
+            text,
+            writer,
+        )?;
+    }
+    if begins(lines, reader, text, writer)? {
+        flush(text, writer)?;
+        return Err(RunFault::TooManyLines);
+    }
+    flush(text, writer)?;
+    Ok(Counts {
+        lines: MAX_LINES,
+        accepted: engine.accepted(),
+    })
+}
+
 /// Answers a whole script: its lines, in order, each by the lines before it (see the grammar in `docs/script.md`).
 ///
 /// What is answered is written before the source is read again, and in blocks otherwise. At `TooManyLines` and
@@ -204,36 +268,13 @@ pub fn run<R: Source, W: Sink>(
     let mut lines = LineReader::new(alloc)?;
     let mut text = TextBuffer::new(alloc)?;
     let mut engine = Engine::new(alloc)?;
-    let mut line = Vec::new(alloc);
-    for number in 0..MAX_LINES {
-        if !begins(&mut lines, reader, &mut text, writer)? {
-            flush(&mut text, writer)?;
-            return Ok(Counts {
-                lines: number,
-                accepted: engine.accepted(),
-            });
-        }
-        if let Err(fault) = lines.read_line(reader, &mut line) {
-            flush(&mut text, writer)?;
-            return Err(RunFault::from(fault));
-        }
-        answer(
-            alloc,
-            chain,
-            number + 1,
-            line.as_slice(),
-            &mut engine,
-            &mut text,
-            writer,
-        )?;
-    }
-    if begins(&mut lines, reader, &mut text, writer)? {
-        flush(&mut text, writer)?;
-        return Err(RunFault::TooManyLines);
-    }
-    flush(&mut text, writer)?;
-    Ok(Counts {
-        lines: MAX_LINES,
-        accepted: engine.accepted(),
-    })
+    answer_lines(
+        alloc,
+        reader,
+        writer,
+        chain,
+        &mut lines,
+        &mut text,
+        &mut engine,
+    )
 }

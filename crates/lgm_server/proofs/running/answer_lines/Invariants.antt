@@ -2,7 +2,7 @@ use Rattle.std.proofs.Common.{◌≡◌, ◌≤◌}
 use Rattle.lgm_server.specs.Lines.{ahead}
 use Rattle.lgm_server.specs.Text.{with_gathered}
 use Rattle.lgm_server.proofs.Progress.{SoFar}
-use Rattle.lgm_server.proofs.running.run.Given as goal
+use Rattle.lgm_server.proofs.running.answer_lines.Given as goal
 
 abbrev pub invariant-loop-number : goal.invariant-loop-number
 invariant-loop-number g l = record {
