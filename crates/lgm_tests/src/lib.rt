@@ -6,6 +6,7 @@ mod announcements;
 #[cfg(test)]
 mod closes;
 #[cfg(test)]
+mod query_lines;
 mod scripts;
 #[cfg(test)]
 mod updates;
