@@ -1,0 +1,11 @@
+//! Messages: each type from bytes and to bytes, and each fault in its order.
+
+mod addresses;
+mod ends;
+mod examples;
+mod faults;
+mod layouts;
+mod lengths;
+mod limits;
+mod records;
+mod words;
