@@ -1,6 +1,7 @@
 //! Messages: each type from bytes and to bytes, and each fault in its order.
 
 mod addresses;
+mod copies;
 mod ends;
 mod examples;
 mod faults;
