@@ -14,15 +14,15 @@ use Rattle.lgm_server.specs.declared.line_reader.LineFault.{LineFault}
 use Rattle.lgm_server.specs.declared.line_reader.LineFault.TheVariants as lines
 use Rattle.lgm_server.specs.declared.request.Request.{Request}
 use Rattle.lgm_server.specs.declared.request.Request.TheVariants as requests
-use Rattle.lgm_server.specs.declared.running.RunFault.{RunFault}
-use Rattle.lgm_server.specs.declared.running.RunFault.TheVariants.{LineTooLong}
+use Rattle.lgm_server.specs.declared.run_fault.RunFault.{RunFault}
+use Rattle.lgm_server.specs.declared.run_fault.RunFault.TheVariants.{LineTooLong}
+use Rattle.lgm_server.specs.declared.filters.PeerFilter.{PeerFilter}
 use Rattle.lgm_server.specs.declared.running.Counts.{Counts}
 use Rattle.lgm_server.specs.Device.{Appends, IsAtEnd}
 use Rattle.lgm_server.specs.Lines.{lines_of, onto_first, TakesLine, HasMore, IsLongerThan}
 use Rattle.lgm_server.specs.Text.{with_gathered}
 use Rattle.lgm_server.specs.Request.{request_of}
-use Rattle.lgm_server.specs.Reply.{text_of}
-use Rattle.lgm_server.specs.Script.{State, opening, outcome_of, state_behind, with_outcome, reply_in, state_after, history_after, history_from, history_of, commits, before_commit, state_of, text_at, text_before}
+use Rattle.lgm_server.specs.Script.{State, opening, outcome_of, state_behind, with_outcome, text_in, state_after, history_after, history_from, history_of, commits, before_commit, filters_after, filters_from, filters_of, state_of, text_at, text_before}
 use Rattle.lgm_server.proofs.Histories.{fold_from-push}
 use Rattle.lgm_server.proofs.Appending.{appends_both}
 use Rattle.lgm_server.specs.Running.{fault_of, IsWritten, IsAnswered, IsTooMany, IsTooLong}
@@ -42,14 +42,19 @@ history_from-push : (chain : ChainHash) (history : List Op) (ls : List (List ℕ
 history_from-push chain history [] line = refl
 history_from-push chain history (l ∷ ls) line = history_from-push chain (history_after chain history (request_of l)) ls line
 
--- the state of a history, of which the first operations were committed
-abbrev state_at : List Op → List Op → State
-state_at history committed = record { rows = fold history; committed = fold committed; accepted = length history }
+filters_from-push : (chain : ChainHash) (filters : List PeerFilter) (ls : List (List ℕ)) (line : List ℕ)
+    → filters_from chain filters (ls ++ line ∷ []) ≡ filters_after chain (filters_from chain filters ls) (request_of line)
+filters_from-push chain filters [] line = refl
+filters_from-push chain filters (l ∷ ls) line = filters_from-push chain (filters_after chain filters (request_of l)) ls line
 
-state_behind-outcome : (history committed : List Op) (outcome : Result Op Refusal)
-    → state_behind (state_at history committed) outcome ≡ state_at (with_outcome history outcome) committed
-state_behind-outcome history committed (Ok op) = rw (fold_from-push empty history op, length_push history op) refl
-state_behind-outcome history committed (Err refusal) = refl
+-- the state of a history, of which the first operations were committed, and of filters
+abbrev state_at : List Op → List Op → List PeerFilter → State
+state_at history committed filters = record { rows = fold history; committed = fold committed; accepted = length history; filters = filters }
+
+state_behind-outcome : (history committed : List Op) (filters : List PeerFilter) (outcome : Result Op Refusal)
+    → state_behind (state_at history committed filters) outcome ≡ state_at (with_outcome history outcome) committed filters
+state_behind-outcome history committed filters (Ok op) = rw (fold_from-push empty history op, length_push history op) refl
+state_behind-outcome history committed filters (Err refusal) = refl
 
 -- the lines before the last commit, where one more line is a commit or not
 abbrev before_commit_and : List (List ℕ) → Request → List (List ℕ)
@@ -72,17 +77,19 @@ before_commit-push (l ∷ ls) line =
     by false false rest e = refl
 
 by_request : (chain : ChainHash) (ls : List (List ℕ)) (request : Request)
-    → state_after chain (state_of chain ls) request ≡ state_at (history_after chain (history_of chain ls) request) (history_of chain (before_commit_and ls request))
+    → state_after chain (state_of chain ls) request
+    ≡ state_at (history_after chain (history_of chain ls) request) (history_of chain (before_commit_and ls request)) (filters_after chain (filters_of chain ls) request)
 by_request chain ls requests.Quiet = refl
 by_request chain ls requests.Bad = refl
 by_request chain ls requests.Commit = refl
 by_request chain ls (requests.Query bytes) = refl
-by_request chain ls (requests.Offer item) = state_behind-outcome (history_of chain ls) (history_of chain (before_commit ls)) (outcome_of chain (fold (history_of chain ls)) item)
+by_request chain ls (requests.Filter peer bytes) = refl
+by_request chain ls (requests.Offer item) = state_behind-outcome (history_of chain ls) (history_of chain (before_commit ls)) (filters_of chain ls) (outcome_of chain (fold (history_of chain ls)) item)
 
 state_after-line : (chain : ChainHash) (ls : List (List ℕ)) (line : List ℕ) → state_after chain (state_of chain ls) (request_of line) ≡ state_of chain (ls ++ line ∷ [])
 state_after-line chain ls line =
     by_request chain ls (request_of line)
-    ∙ rw (history_from-push chain [] ls line, before_commit-push ls line) refl
+    ∙ rw (history_from-push chain [] ls line, before_commit-push ls line, filters_from-push chain [] ls line) refl
 
 state_behind-le : (state : State) (outcome : Result Op Refusal) → (state_behind state outcome).accepted ≤ state.accepted + 1
 state_behind-le state (Ok op) = omega arith
@@ -94,6 +101,7 @@ accepted-le chain state requests.Quiet = omega arith
 accepted-le chain state requests.Bad = omega arith
 accepted-le chain state requests.Commit = omega arith
 accepted-le chain state (requests.Query bytes) = omega arith
+accepted-le chain state (requests.Filter peer bytes) = omega arith
 accepted-le chain state (requests.Offer item) = state_behind-le state (outcome_of chain state.rows item)
 
 short-push : (P : List ℕ → Type 0) (xs : List (List ℕ)) (x : List ℕ) → AllByRecursion P xs → P x → AllByRecursion P (xs ++ x ∷ [])
@@ -148,7 +156,7 @@ text_before-more : (chain : ChainHash) (ls : List (List ℕ)) (k : ℕ) → text
 text_before-more chain ls k = rw add-one (text_before-suc chain ls k)
 
 text_is : (chain : ChainHash) (ls : List (List ℕ)) (k : ℕ) (state : State) (line : List ℕ) → state ≡ state_of chain (take k ls) → get_or ls k [] ≡ line
-    → text_at chain ls k ≡ text_of (k + 1) (reply_in chain state (request_of line))
+    → text_at chain ls k ≡ text_in chain (k + 1) state (request_of line)
 unfolding text_at
 text_is chain ls k state line s l = rw (s, ← l) refl
 
@@ -156,7 +164,7 @@ text_is chain ls k state line s l = rw (s, ← l) refl
 pub record Tells (chain : ChainHash) (state state' : State) (number : ℕ) (line : List ℕ) (mid new : Option (List ℕ)) : Type 0 where
   pub short : length line ≤ 140000
   pub behind : state' ≡ state_after chain state (request_of line)
-  pub told : Appends mid new (text_of number (reply_in chain state (request_of line)))
+  pub told : Appends mid new (text_in chain number state (request_of line))
 
 step_so_far : (chain : ChainHash) (script : List ℕ) (k : ℕ) (state state' : State) (line rest : List ℕ) (input old mid new : Option (List ℕ))
     → IsSoFar chain script k state input old mid → drop k (lines_of script) ≡ line ∷ lines_of rest → Tells chain state state' (k + 1) line mid new
@@ -172,7 +180,7 @@ step_so_far chain script k state state' line rest input old mid new so_far e tel
       text = record {
         few = let lt = at.within in omega arith;
         short = subst (λ (ls : List (List ℕ)). AllByRecursion (λ l. length l ≤ 140000) ls) (sym at.front) (short-push (λ l. length l ≤ 140000) (take k (lines_of script)) line text.short tells.short);
-        written = subst (λ (t : List ℕ). Appends old new t) (ap (λ (t : List ℕ). text_before chain (lines_of script) k ++ t) (sym (text_is chain (lines_of script) k state line so_far.state_is at.here)) ∙ sym (text_before-more chain (lines_of script) k)) (appends_both old mid new (text_before chain (lines_of script) k) (text_of (k + 1) (reply_in chain state (request_of line))) text.written tells.told);
+        written = subst (λ (t : List ℕ). Appends old new t) (ap (λ (t : List ℕ). text_before chain (lines_of script) k ++ t) (sym (text_is chain (lines_of script) k state line so_far.state_is at.here)) ∙ sym (text_before-more chain (lines_of script) k)) (appends_both old mid new (text_before chain (lines_of script) k) (text_in chain (k + 1) state (request_of line)) text.written tells.told);
       };
     }
 

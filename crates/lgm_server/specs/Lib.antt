@@ -5,6 +5,8 @@ pub mod Field
 pub mod Item
 pub mod Request
 pub mod Reply
+pub mod Filters
 pub mod Query
+pub mod Filtering
 pub mod Script
 pub mod Running

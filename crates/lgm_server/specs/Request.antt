@@ -5,6 +5,7 @@ use Rattle.std.specs.Cmp.Lexicographic.{pointwise}
 use Rattle.lgm_server.specs.declared.item.Item.{Item}
 use Rattle.lgm_server.specs.declared.request.Request.{Request}
 use Rattle.lgm_server.specs.declared.request.Request.TheVariants as requests
+use Rattle.lgm_server.specs.Field.{fields_at, number_below}
 use Rattle.lgm_server.specs.Item.{bytes_of, gossip_of, close_of}
 
 -- an item, or no form of the grammar
@@ -17,6 +18,18 @@ abbrev pub query : Option (List ℕ) → Request
 query (Some bytes) = requests.Query bytes
 query None = requests.Bad
 
+-- PEER HEX: a filter for a peer below 1,000, or no form of the grammar
+abbrev pub filter_for : Option ℕ → Option (List ℕ) → Request
+filter_for (Some peer) (Some bytes) = requests.Filter peer bytes
+filter_for _ _ = requests.Bad
+
+abbrev pub filter_at : Option (List ℕ × List ℕ) → Request
+filter_at (Some parts) = filter_for (number_below 1000 parts.0) (bytes_of parts.1)
+filter_at None = requests.Bad
+
+abbrev pub filter_of : List ℕ → Request
+filter_of text = filter_at (fields_at 32 text)
+
 -- a line for each form
 abbrev pub request_of : List ℕ → Request
 request_of line =
@@ -24,5 +37,6 @@ request_of line =
     else if pointwise nat_eq line (codes "commit") then requests.Commit
     else if pointwise nat_eq (take 2 line) (codes "m ") then offer (gossip_of (drop 2 line))
     else if pointwise nat_eq (take 2 line) (codes "q ") then query (bytes_of (drop 2 line))
+    else if pointwise nat_eq (take 7 line) (codes "filter ") then filter_of (drop 7 line)
     else if pointwise nat_eq (take 6 line) (codes "close ") then offer (close_of (drop 6 line))
     else requests.Bad

@@ -4,8 +4,8 @@ use Rattle.std.specs.List.{AllByRecursion}
 use Rattle.lgm_gossip.specs.declared.chain_hash.ChainHash.{ChainHash}
 use Rattle.lgm_server.specs.declared.line_reader.LineFault.{LineFault}
 use Rattle.lgm_server.specs.declared.line_reader.LineFault.TheVariants as lines
-use Rattle.lgm_server.specs.declared.running.RunFault.{RunFault}
-use Rattle.lgm_server.specs.declared.running.RunFault.TheVariants as faults
+use Rattle.lgm_server.specs.declared.run_fault.RunFault.{RunFault}
+use Rattle.lgm_server.specs.declared.run_fault.RunFault.TheVariants as faults
 use Rattle.lgm_server.specs.declared.running.Counts.{Counts}
 use Rattle.lgm_server.specs.Device.{Appends}
 use Rattle.lgm_server.specs.Lines.{lines_of}

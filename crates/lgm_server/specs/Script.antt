@@ -1,12 +1,14 @@
 -- What a script's lines are told: each by its place, from the lines before it.
-use Rattle.std.specs.Prelude.{ℕ, zero, suc, ◌+◌, Bool, true, false, List, [], ◌∷◌, ◌++◌, length, take, Result, Ok, Err, slice_index_or, if◌then◌else◌}
-use Rattle.std.specs.List.{list_any}
+use Rattle.std.specs.Prelude.{ℕ, zero, suc, ◌+◌, Bool, true, false, List, [], ◌∷◌, ◌++◌, length, take, Some, Result, Ok, Err, slice_index_or, if◌then◌else◌}
+use Rattle.std.specs.List.{flat_map, list_any}
 use Rattle.lgm_wire.specs.Reading.{◌>>=◌}
 use Rattle.lgm_gossip.specs.declared.chain_hash.ChainHash.{ChainHash}
 use Rattle.lgm_check.specs.declared.refusal.Refusal.{Refusal}
 use Rattle.lgm_check.specs.Precheck.{checked_of}
 use Rattle.lgm_store.specs.declared.op.Op.{Op}
-use Rattle.lgm_store.specs.Rows.{Rows, empty}
+use Rattle.lgm_store.specs.Rows.{Rows, empty, put}
+use Rattle.lgm_query.specs.declared.filter.Filter.{Filter}
+use Rattle.lgm_query.specs.Backlog.{news}
 use Rattle.lgm_store.specs.Admission.{admitted, admitted_close}
 use Rattle.lgm_store.specs.History.{absorbed, fold}
 use Rattle.lgm_server.specs.declared.item.Item.{Item}
@@ -16,7 +18,10 @@ use Rattle.lgm_server.specs.declared.request.Request.TheVariants as requests
 use Rattle.lgm_server.specs.declared.reply.Reply.{Reply}
 use Rattle.lgm_server.specs.declared.reply.Reply.TheVariants as replies
 use Rattle.lgm_server.specs.Request.{request_of}
-use Rattle.lgm_server.specs.Reply.{text_of}
+use Rattle.lgm_server.specs.declared.filters.PeerFilter.{PeerFilter}
+use Rattle.lgm_server.specs.Filters.{by_peer}
+use Rattle.lgm_server.specs.Filtering.{filter_read, filter_reply}
+use Rattle.lgm_server.specs.Reply.{text_of, commit_line, message_line}
 use Rattle.lgm_server.specs.Query.{query_reply}
 
 -- ---- one item
@@ -41,17 +46,39 @@ pub record State : Type 0 where
   pub committed : Rows
   -- how many items were accepted
   pub accepted : ℕ
+  -- the filters of peers, peers ascending
+  pub filters : List PeerFilter
 
--- no item was accepted
+-- no item was accepted, and no filter set
 abbrev pub opening : State
-opening = record { rows = empty; committed = empty; accepted = 0 }
+opening = record { rows = empty; committed = empty; accepted = 0; filters = [] }
 
-abbrev pub reply_in : ChainHash → State → Request → Reply
-reply_in chain state requests.Quiet = replies.Quiet
-reply_in chain state requests.Bad = replies.Bad
-reply_in chain state requests.Commit = replies.Committed state.accepted
-reply_in chain state (requests.Query bytes) = query_reply chain state.committed bytes
-reply_in chain state (requests.Offer item) = offered (outcome_of chain state.rows item)
+-- what is new to a peer in later rows
+abbrev pub news_text : ℕ → Rows → Rows → PeerFilter → List ℕ
+news_text number before after own = flat_map (message_line number (Some own.peer)) (news before after own.filter)
+
+-- the number of accepted items, and then what is new to each peer
+abbrev pub commit_text : ℕ → State → List ℕ
+commit_text number state =
+    commit_line number state.accepted ++ flat_map (news_text number state.committed state.rows) state.filters
+
+-- the text for a request, the line of that number
+abbrev pub text_in : ChainHash → ℕ → State → Request → List ℕ
+text_in chain number state requests.Quiet = text_of number replies.Quiet
+text_in chain number state requests.Bad = text_of number replies.Bad
+text_in chain number state requests.Commit = commit_text number state
+text_in chain number state (requests.Query bytes) = text_of number (query_reply chain state.committed bytes)
+text_in chain number state (requests.Filter peer bytes) = text_of number (filter_reply peer state.committed (filter_read chain bytes))
+text_in chain number state (requests.Offer item) = text_of number (offered (outcome_of chain state.rows item))
+
+-- filters with that of a peer, if it is one
+abbrev pub filters_with : List PeerFilter → ℕ → Result Filter Reply → List PeerFilter
+filters_with filters peer (Ok filter) = put by_peer filters (record { peer = peer; filter = filter })
+filters_with filters peer (Err reply) = filters
+
+-- the same of a state
+abbrev pub with_filter : State → ℕ → Result Filter Reply → State
+with_filter state peer filter = record state { filters = filters_with state.filters peer filter }
 
 -- behind an item that was accepted or refused
 abbrev pub state_behind : State → Result Op Refusal → State
@@ -61,6 +88,7 @@ state_behind state (Err refusal) = state
 abbrev pub state_after : ChainHash → State → Request → State
 state_after chain state requests.Commit = record state { committed = state.rows }
 state_after chain state (requests.Offer item) = state_behind state (outcome_of chain state.rows item)
+state_after chain state (requests.Filter peer bytes) = with_filter state peer (filter_read chain bytes)
 state_after chain state _ = state
 
 -- ---- all lines
@@ -92,17 +120,30 @@ abbrev pub before_commit : List (List ℕ) → List (List ℕ)
 before_commit [] = []
 before_commit (line ∷ lines) = if list_any (λ l. commits (request_of l)) lines then line ∷ before_commit lines else []
 
+abbrev pub filters_after : ChainHash → List PeerFilter → Request → List PeerFilter
+filters_after chain filters (requests.Filter peer bytes) = filters_with filters peer (filter_read chain bytes)
+filters_after chain filters _ = filters
+
+abbrev pub filters_from : ChainHash → List PeerFilter → List (List ℕ) → List PeerFilter
+filters_from chain filters [] = filters
+filters_from chain filters (line ∷ lines) = filters_from chain (filters_after chain filters (request_of line)) lines
+
+-- the last filter of each peer in these lines, peers ascending
+abbrev pub filters_of : ChainHash → List (List ℕ) → List PeerFilter
+filters_of chain lines = filters_from chain [] lines
+
 -- what a request behind these lines is answered on
 abbrev pub state_of : ChainHash → List (List ℕ) → State
 state_of chain lines = record {
   rows = fold (history_of chain lines);
   committed = fold (history_of chain (before_commit lines));
   accepted = length (history_of chain lines);
+  filters = filters_of chain lines;
 }
 
 -- the text for the line at a place, from 0
 unfoldable pub text_at : ChainHash → List (List ℕ) → ℕ → List ℕ
-text_at chain lines k = text_of (k + 1) (reply_in chain (state_of chain (take k lines)) (request_of (slice_index_or lines k [])))
+text_at chain lines k = text_in chain (k + 1) (state_of chain (take k lines)) (request_of (slice_index_or lines k []))
 
 -- the text for the first k lines
 unfoldable pub text_before : ChainHash → List (List ℕ) → ℕ → List ℕ

@@ -1,23 +1,35 @@
 //! Answers, one after the other.
 
-ghost use Rattle.std.specs.Prelude.{◌≡◌, ◌+◌, ◌<◌, ◌^◌, [], Ok, IfOk, OnOk};
-ghost use Rattle.lgm_store.specs.History.{fold_from};
+ghost use Rattle.std.specs.Prelude.{◌≡◌, ◌+◌, ◌<◌, ◌^◌, [], Ok, IfErr, IfOk, OnOk, IsErrOf};
 ghost use Rattle.lgm_wire.specs.Reading.{Gives};
-ghost use Rattle.lgm_server.specs.Script.{outcome_of, offered, opening, reply_in, state_behind, state_after};
+ghost use Rattle.lgm_store.specs.History.{fold_from};
+ghost use Rattle.lgm_server.specs.Device.{Appends};
+ghost use Rattle.lgm_server.specs.Text.{with_gathered};
+ghost use Rattle.lgm_server.specs.Running.{IsAnswerFault};
+ghost use Rattle.lgm_server.specs.Filtering.{filter_reply, filter_read};
+ghost use Rattle.lgm_server.specs.Script.{outcome_of, offered, opening, commit_text, text_in, state_behind, with_filter, state_after};
 
+use crate::device::Sink;
+use crate::filtering::read_filter;
+use crate::filters::{Filters, PeerFilter};
 use crate::item::Item;
+use crate::news::send_news;
 use crate::querying::answer_query;
 use crate::reply::Reply;
 use crate::request::Request;
+use crate::run_fault::RunFault;
+use crate::sending::send_count;
+use crate::text_buffer::TextBuffer;
 use lgm_check::{Refusal, precheck};
 use lgm_gossip::ChainHash;
+use lgm_query::backlog;
 use lgm_store::{Map, Op};
 use std::alloc::{AllocError, Global};
 use std::collections::VecDeque;
 use std::marker::Model;
 
 /// The state between two lines. Contracts see the rows of all accepted items, those of the items before the last
-/// commit, and the number of accepted items.
+/// commit, the number of accepted items, and the filters of peers.
 #[derive(Drop)]
 pub struct Engine {
     map: Map,
@@ -25,6 +37,7 @@ pub struct Engine {
     /// What was accepted since the last commit.
     pending: VecDeque<Op>,
     accepted: u64,
+    filters: Filters,
 }
 
 impl Model for Engine {
@@ -34,7 +47,7 @@ impl Model for Engine {
 
     ghost Value = { State };
 
-    ghost view = { λ e. record { rows = e.map; committed = e.committed; accepted = e.accepted } };
+    ghost view = { λ e. record { rows = e.map; committed = e.committed; accepted = e.accepted; filters = e.filters } };
 
     ghost invariant = { λ e. e.map ≡ fold_from e.committed e.pending.items };
 }
@@ -76,6 +89,7 @@ impl Engine {
             committed: Map::new(alloc)?,
             pending: VecDeque::new(alloc),
             accepted: 0,
+            filters: Filters::new(alloc),
         })
     }
 
@@ -114,34 +128,89 @@ impl Engine {
         }
     }
 
-    /// Makes the accepted items the map that requests are answered on. It costs what was accepted since the last time.
-    fn commit(&mut self) -> Result<(), AllocError>
-        ensures { OnOk result (self.new ≡ record self.old { committed = self.old.rows }) }
+    /// Makes the accepted items the map that requests are answered on, and sends what is new to the peers. It costs
+    /// what was accepted since the last time.
+    #[tactic(auto, using(crate::proofs::Appending::appends_both))]
+    fn commit<W: Sink>(
+        &mut self,
+        alloc: Global,
+        number: u64,
+        text: &mut TextBuffer,
+        writer: &mut W,
+    ) -> Result<(), RunFault>
+        requires { W.failures writer.old + 1 < 2 ^ 64 }
+        ensures state { OnOk result (self.new ≡ record self.old { committed = self.old.rows }) }
+        ensures told { OnOk result (Appends (with_gathered (W.taken writer.old) text.old)
+            (with_gathered (W.taken writer.new) text.new) (commit_text number self.old)) }
+        ensures same { OnOk result (W.failures writer.new ≡ W.failures writer.old) }
+        ensures write { IsErrOf result RunFault.Write → W.failures writer.old < W.failures writer.new }
+        ensures err { IfErr result IsAnswerFault }
     {
-        catch_up(&mut self.committed, &mut self.pending)
+        send_count(number, self.accepted, text, writer)?;
+        send_news(
+            alloc,
+            number,
+            &self.committed,
+            &self.map,
+            &self.filters,
+            text,
+            writer,
+        )?;
+        catch_up(&mut self.committed, &mut self.pending)?;
+        Ok(())
     }
 
-    /// The reply to a request, behind which its item is held if it is accepted, and what was accepted is committed if
-    /// it asks for that.
-    pub fn answer(
+    /// Gives a peer the filter that these bytes are, if they are one.
+    fn set_filter(
         &mut self,
         alloc: Global,
         chain: &ChainHash,
-        request: &Request,
+        peer: u16,
+        bytes: &[u8],
     ) -> Result<Reply, AllocError>
-        requires { self.old.accepted + 1 < 2 ^ 64 }
-        ensures reply { IfOk result (λ reply. reply ≡ reply_in chain.now self.old request.now) }
-        ensures state { OnOk result (self.new ≡ state_after chain.now self.old request.now) }
+        ensures reply { IfOk result (λ reply. reply ≡ filter_reply peer self.old.committed (filter_read chain.now bytes.now)) }
+        ensures state { OnOk result (self.new ≡ with_filter self.old peer (filter_read chain.now bytes.now)) }
     {
-        match request {
-            Request::Quiet => Ok(Reply::Quiet),
-            Request::Bad => Ok(Reply::Bad),
-            Request::Commit => {
-                self.commit()?;
-                Ok(Reply::Committed(self.accepted))
+        match read_filter(alloc, chain, bytes)? {
+            Ok(filter) => {
+                let messages = backlog(alloc, &self.committed, &filter)?;
+                self.filters.set(PeerFilter { peer, filter })?;
+                Ok(Reply::Filtered(peer, messages))
             }
-            Request::Offer(item) => self.offer(alloc, chain, item),
-            Request::Query(bytes) => answer_query(alloc, chain, &self.committed, bytes.as_slice()),
+            Err(reply) => Ok(reply),
         }
+    }
+
+    /// Answers a request, the line of that number. Behind it its item is held if it is accepted, its peer has its
+    /// filter if it is one, and what was accepted is committed if it asks for that.
+    pub fn answer<W: Sink>(
+        &mut self,
+        alloc: Global,
+        chain: &ChainHash,
+        number: u64,
+        request: &Request,
+        text: &mut TextBuffer,
+        writer: &mut W,
+    ) -> Result<(), RunFault>
+        requires accepted { self.old.accepted + 1 < 2 ^ 64 }
+        requires writer { W.failures writer.old + 1 < 2 ^ 64 }
+        ensures state { OnOk result (self.new ≡ state_after chain.now self.old request.now) }
+        ensures told { OnOk result (Appends (with_gathered (W.taken writer.old) text.old)
+            (with_gathered (W.taken writer.new) text.new) (text_in chain.now number self.old request.now)) }
+        ensures same { OnOk result (W.failures writer.new ≡ W.failures writer.old) }
+        ensures write { IsErrOf result RunFault.Write → W.failures writer.old < W.failures writer.new }
+        ensures err { IfErr result IsAnswerFault }
+    {
+        let reply = match request {
+            Request::Quiet => Reply::Quiet,
+            Request::Bad => Reply::Bad,
+            Request::Commit => return self.commit(alloc, number, text, writer),
+            Request::Offer(item) => self.offer(alloc, chain, item)?,
+            Request::Query(bytes) => answer_query(alloc, chain, &self.committed, bytes.as_slice())?,
+            Request::Filter(peer, bytes) => {
+                self.set_filter(alloc, chain, *peer, bytes.as_slice())?
+            }
+        };
+        reply.send(number, text, writer)
     }
 }

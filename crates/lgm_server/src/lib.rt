@@ -7,20 +7,26 @@
 mod device;
 mod engine;
 mod field;
+mod filtering;
+mod filters;
 mod item;
 mod line_reader;
 mod memory;
+mod news;
 mod querying;
 mod reply;
 mod request;
+mod run_fault;
 mod running;
+mod sending;
 mod std_streams;
 mod text_buffer;
 
 pub use device::{Failed, Sink, Source, write_all};
 pub use item::Item;
 pub use memory::{MemorySink, MemorySource};
-pub use running::{Counts, MAX_LINES, RunFault, run};
+pub use run_fault::RunFault;
+pub use running::{Counts, MAX_LINES, run};
 pub use std_streams::{FromRead, ToWrite};
 
 #[cfg(test)]

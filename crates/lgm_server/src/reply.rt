@@ -1,14 +1,17 @@
 //! What a line is told.
 
-ghost use Rattle.std.specs.Prelude.{◌≡◌, ◌++◌, OnOk};
-ghost use Rattle.std.specs.List.{flat_map};
-ghost use Rattle.lgm_server.specs.Reply.{text_of, word_line, message_line};
+ghost use Rattle.std.specs.Prelude.{◌≡◌, ◌+◌, ◌<◌, ◌^◌, IfErr, OnOk, IsErrOf};
+ghost use Rattle.lgm_server.specs.Device.{Appends};
+ghost use Rattle.lgm_server.specs.Text.{with_gathered};
+ghost use Rattle.lgm_server.specs.Reply.{text_of};
+ghost use Rattle.lgm_server.specs.Running.{IsAnswerFault};
 
+use crate::device::Sink;
+use crate::run_fault::RunFault;
+use crate::sending::{send_messages, send_word};
 use crate::text_buffer::TextBuffer;
 use lgm_check::Refusal;
-use lgm_gossip::Bytes;
 use lgm_query::Replies;
-use std::alloc::AllocError;
 
 /// What a line of a script is told.
 #[derive(Debug, Drop)]
@@ -21,59 +24,45 @@ pub enum Reply {
     Accepted,
     /// Its item wasn't.
     Refused(Refusal),
-    /// So many items were accepted so far.
-    Committed(u64),
     /// Its message is none of the two queries.
     NotQuery,
+    /// Its message is no filter.
+    NotFilter,
     /// The messages that its query is answered with.
     Answers(Replies),
+    /// The messages that pass the filter of a peer.
+    Filtered(u16, Replies),
 }
 
 impl Reply {
-    /// Puts the text for the line of that number, from 1, at the end.
-    pub fn write(&self, number: u64, out: &mut TextBuffer) -> Result<(), AllocError>
-        ensures { OnOk result (out.new ≡ out.old ++ text_of number self.now) }
+    /// Sends the text for the line of that number, from 1.
+    pub fn send<W: Sink>(
+        &self,
+        number: u64,
+        text: &mut TextBuffer,
+        writer: &mut W,
+    ) -> Result<(), RunFault>
+        requires { W.failures writer.old + 1 < 2 ^ 64 }
+        ensures told { OnOk result (Appends (with_gathered (W.taken writer.old) text.old)
+            (with_gathered (W.taken writer.new) text.new) (text_of number self.now)) }
+        ensures same { OnOk result (W.failures writer.new ≡ W.failures writer.old) }
+        ensures write { IsErrOf result RunFault.Write → W.failures writer.old < W.failures writer.new }
+        ensures err { IfErr result IsAnswerFault }
     {
         match self {
             Reply::Quiet => Ok(()),
-            Reply::Bad => write_word(number, "bad", out),
-            Reply::Accepted => write_word(number, "accepted", out),
-            Reply::Refused(refusal) => write_word(number, refusal.word(), out),
-            Reply::Committed(version) => {
-                out.push_number(number)?;
-                out.push_bytes(b" commit ")?;
-                out.push_number(*version)?;
-                out.push_bytes(b"\n")
+            Reply::Bad => send_word(number, "bad", text, writer),
+            Reply::Accepted => send_word(number, "accepted", text, writer),
+            Reply::Refused(refusal) => send_word(number, refusal.word(), text, writer),
+            Reply::NotQuery => send_word(number, "not-query", text, writer),
+            Reply::NotFilter => send_word(number, "not-filter", text, writer),
+            Reply::Answers(messages) => {
+                send_messages(number, None, messages.as_slice(), text, writer)
             }
-            Reply::NotQuery => write_word(number, "not-query", out),
-            Reply::Answers(replies) => write_messages(number, replies.as_slice(), out),
+            Reply::Filtered(peer, messages) => {
+                send_word(number, "filter", text, writer)?;
+                send_messages(number, Some(*peer), messages.as_slice(), text, writer)
+            }
         }
     }
-}
-
-fn write_word(number: u64, word: &str, out: &mut TextBuffer) -> Result<(), AllocError>
-    ensures { OnOk result (out.new ≡ out.old ++ word_line number word.now) }
-{
-    out.push_number(number)?;
-    out.push_bytes(b" ")?;
-    out.push_bytes(word.as_bytes())?;
-    out.push_bytes(b"\n")
-}
-
-fn write_message(number: u64, message: &Bytes, out: &mut TextBuffer) -> Result<(), AllocError>
-    ensures { OnOk result (out.new ≡ out.old ++ message_line number message.now) }
-{
-    out.push_number(number)?;
-    out.push_bytes(b" ")?;
-    out.push_hex(message.as_slice())?;
-    out.push_bytes(b"\n")
-}
-
-fn write_messages(number: u64, messages: &[Bytes], out: &mut TextBuffer) -> Result<(), AllocError>
-    ensures { OnOk result (out.new ≡ out.old ++ flat_map (message_line number) messages.now) }
-{
-    for message in messages {
-        write_message(number, message, out)?;
-    }
-    Ok(())
 }

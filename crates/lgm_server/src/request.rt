@@ -1,8 +1,9 @@
 //! What a line asks.
 
 ghost use Rattle.std.specs.Prelude.{◌≡◌, IfOk};
-ghost use Rattle.lgm_server.specs.Request.{offer, query, request_of};
+ghost use Rattle.lgm_server.specs.Request.{offer, query, filter_of, request_of};
 
+use crate::field::{number_below, split_field};
 use crate::item::{Item, bytes, close, gossip};
 use lgm_gossip::Bytes;
 use std::alloc::{AllocError, Global};
@@ -20,6 +21,8 @@ pub enum Request {
     Commit,
     /// The replies to a query, which is these bytes.
     Query(Bytes),
+    /// A filter for a peer, which is these bytes, and what passes it.
+    Filter(u16, Bytes),
 }
 
 /// To accept an item, if there is one.
@@ -42,6 +45,22 @@ fn query(bytes: Option<Bytes>) -> Request
     }
 }
 
+/// The filter of a line, behind its first word: `PEER HEX`.
+fn filter(alloc: Global, text: &[u8]) -> Result<Request, AllocError>
+    ensures { IfOk result (λ request. request ≡ filter_of text.now) }
+{
+    let Some((digits, rest)) = split_field(b' ', text) else {
+        return Ok(Request::Bad);
+    };
+    let Some(peer) = number_below(1_000, digits) else {
+        return Ok(Request::Bad);
+    };
+    match bytes(alloc, rest)? {
+        Some(bytes) => Ok(Request::Filter(peer as u16, bytes)),
+        None => Ok(Request::Bad),
+    }
+}
+
 /// What a line asks.
 pub fn parse(alloc: Global, line: &[u8]) -> Result<Request, AllocError>
     ensures { IfOk result (λ request. request ≡ request_of line.now) }
@@ -57,6 +76,9 @@ pub fn parse(alloc: Global, line: &[u8]) -> Result<Request, AllocError>
     }
     if let Some(text) = line.strip_prefix(b"q ") {
         return Ok(query(bytes(alloc, text)?));
+    }
+    if let Some(text) = line.strip_prefix(b"filter ") {
+        return filter(alloc, text);
     }
     match line.strip_prefix(b"close ") {
         Some(text) => Ok(offer(close(text))),

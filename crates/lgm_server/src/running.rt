@@ -5,19 +5,18 @@ ghost use Rattle.lgm_server.specs.Device.{Appends, IsAtEnd};
 ghost use Rattle.lgm_server.specs.Lines.{ahead, HasMore};
 ghost use Rattle.lgm_server.specs.Text.{with_gathered};
 ghost use Rattle.lgm_server.specs.Request.{request_of};
-ghost use Rattle.lgm_server.specs.Reply.{text_of};
-ghost use Rattle.lgm_server.specs.Script.{opening, reply_in, state_after};
+ghost use Rattle.lgm_server.specs.Script.{opening, text_in, state_after};
 ghost use Rattle.lgm_server.specs.Running.{fault_of, IsDeviceFault, IsAnswerFault, IsAnswered, IsTooLong, IsTooMany};
-ghost use Rattle.lgm_server.specs.declared.running.RunFault.TheVariants.{NoMemory};
 
 use crate::device::{Sink, Source};
 use crate::engine::Engine;
 use crate::line_reader::{LineFault, LineReader};
 use crate::request::parse;
+use crate::run_fault::RunFault;
+use crate::sending::flush;
 use crate::text_buffer::TextBuffer;
 use lgm_gossip::ChainHash;
 use std::alloc::{AllocError, Global};
-use thiserror::Error;
 
 /// The most lines that a script has.
 pub const MAX_LINES: u64 = 10_000_000;
@@ -29,76 +28,6 @@ pub struct Counts {
     pub lines: u64,
     /// How many accepted items.
     pub accepted: u64,
-}
-
-/// Why a script wasn't run to its end.
-#[derive(Clone, Copy, Debug, PartialEq, Eq, Error)]
-pub enum RunFault {
-    /// The source failed.
-    #[error("read failed")]
-    Read,
-    /// The sink failed, or took no byte.
-    #[error("write failed")]
-    Write,
-    /// Memory was refused.
-    #[error("out of memory")]
-    NoMemory,
-    /// Line 10,000,001 begins. The lines before it were answered.
-    #[error("too many lines")]
-    TooManyLines,
-    /// A line has more than 140,000 bytes. The lines before it were answered.
-    #[error("line too long")]
-    LineTooLong,
-}
-
-impl From<LineFault> for RunFault {
-    ghost from_gives = { λ fault e. e ≡ fault_of fault };
-
-    fn from(fault: LineFault) -> RunFault {
-        match fault {
-            LineFault::Read => RunFault::Read,
-            LineFault::NoMemory => RunFault::NoMemory,
-            LineFault::TooLong => RunFault::LineTooLong,
-        }
-    }
-}
-
-impl From<AllocError> for RunFault {
-    ghost from_gives = { λ _ e. e ≡ NoMemory };
-
-    fn from(_e: AllocError) -> RunFault {
-        RunFault::NoMemory
-    }
-}
-
-/// Writes what was gathered.
-fn flush<W: Sink>(text: &mut TextBuffer, writer: &mut W) -> Result<(), RunFault>
-    requires { W.failures writer.old + 1 < 2 ^ 64 }
-    ensures written { OnOk result (W.taken writer.new ≡ with_gathered (W.taken writer.old) text.old) }
-    ensures empty { OnOk result (text.new ≡ []) }
-    ensures same { OnOk result (W.failures writer.new ≡ W.failures writer.old) }
-    ensures cause { OnErr result (W.failures writer.old < W.failures writer.new) }
-    ensures err { IfErr result (λ e. e ≡ RunFault.Write) }
-{
-    match text.flush(writer) {
-        Ok(()) => Ok(()),
-        Err(_) => Err(RunFault::Write),
-    }
-}
-
-/// Writes what was gathered, if it fills a block.
-fn flush_block<W: Sink>(text: &mut TextBuffer, writer: &mut W) -> Result<(), RunFault>
-    requires { W.failures writer.old + 1 < 2 ^ 64 }
-    ensures kept { OnOk result (with_gathered (W.taken writer.new) text.new
-        ≡ with_gathered (W.taken writer.old) text.old) }
-    ensures same { OnOk result (W.failures writer.new ≡ W.failures writer.old) }
-    ensures cause { OnErr result (W.failures writer.old < W.failures writer.new) }
-    ensures err { IfErr result (λ e. e ≡ RunFault.Write) }
-{
-    match text.flush_block(writer) {
-        Ok(()) => Ok(()),
-        Err(_) => Err(RunFault::Write),
-    }
 }
 
 /// Writes what was gathered, if the source has to be read for the next line. So an answer never waits for input.
@@ -162,15 +91,13 @@ fn answer<W: Sink>(
     ensures state { OnOk result (engine.new ≡ state_after chain.now engine.old (request_of line.now)) }
     ensures told { OnOk result (Appends (with_gathered (W.taken writer.old) text.old)
         (with_gathered (W.taken writer.new) text.new)
-        (text_of number (reply_in chain.now engine.old (request_of line.now)))) }
+        (text_in chain.now number engine.old (request_of line.now))) }
     ensures same { OnOk result (W.failures writer.new ≡ W.failures writer.old) }
     ensures write { IsErrOf result RunFault.Write → W.failures writer.old < W.failures writer.new }
     ensures err { IfErr result IsAnswerFault }
 {
     let request = parse(alloc, line)?;
-    let reply = engine.answer(alloc, chain, &request)?;
-    reply.write(number, text)?;
-    flush_block(text, writer)
+    engine.answer(alloc, chain, number, &request, text, writer)
 }
 
 /// Answers the lines of a script, where nothing was read or answered yet.

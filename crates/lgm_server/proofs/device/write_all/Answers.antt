@@ -1,6 +1,6 @@
 use Rattle.std.proofs.Common.{arith, rules}
 use Rattle.std.proofs.lemmas.Result.{err_from_is_err_and}
-use Rattle.lgm_server.proofs.Sending.{sent_first, sent_range, sent_some, sent_all, range_shrinks, no_failure}
+use Rattle.lgm_server.proofs.WriteLaws.{sent_first, sent_range, sent_some, sent_all, range_shrinks, no_failure}
 use Rattle.lgm_server.proofs.device.write_all.Goals as goal
 
 pub loop-rest-init : goal.loop-rest-init

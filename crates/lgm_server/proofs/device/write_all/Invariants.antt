@@ -1,5 +1,5 @@
 use Rattle.std.proofs.Common.{◌≡◌, length}
-use Rattle.lgm_server.proofs.Sending.{Sent}
+use Rattle.lgm_server.proofs.WriteLaws.{Sent}
 use Rattle.lgm_server.proofs.device.write_all.Given as goal
 
 abbrev pub invariant-loop-rest : goal.invariant-loop-rest

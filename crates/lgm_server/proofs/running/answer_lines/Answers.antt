@@ -3,8 +3,7 @@ use Rattle.lgm_server.specs.Device.{Appends}
 use Rattle.lgm_server.specs.Lines.{ahead}
 use Rattle.lgm_server.specs.Text.{with_gathered}
 use Rattle.lgm_server.specs.Request.{request_of}
-use Rattle.lgm_server.specs.Reply.{text_of}
-use Rattle.lgm_server.specs.Script.{reply_in, state_after}
+use Rattle.lgm_server.specs.Script.{text_in, state_after}
 use Rattle.lgm_server.proofs.Progress.{SoFar, Tells, starts, step, ends, many, long, too_long_only, accepted-le}
 use Rattle.lgm_server.proofs.running.answer_lines.Goals as goal
 
@@ -45,7 +44,7 @@ loop-number-preserved g c =
     let mid = with_gathered (g.W.Sink.taken c.loop-number.writer) c.loop-number.text in
     let new = with_gathered (g.W.Sink.taken c.answer.new.writer) c.answer.new.text in
     let behind : c.answer.new.engine ≡ state_after chain state (request_of line) = c.in_ok-answer.ensures.state ∙ ap (λ l. state_after chain state (request_of l)) c.as_slice.ensures.value in
-    let told : Appends mid new (text_of (k + 1) (reply_in chain state (request_of line))) = rw (c.in_ok-begins.ensures.text, c.as_slice.ensures.value) at c.in_ok-answer.ensures.told in
+    let told : Appends mid new (text_in chain (k + 1) state (request_of line)) = rw (c.in_ok-begins.ensures.text, c.as_slice.ensures.value) at c.in_ok-answer.ensures.told in
     record {
       reader = omega (arith, c.in_default.ensures.same, c.in_ok-begins.ensures.read_alike, c.loop-number.invariant.reader);
       writer = omega (arith, c.in_ok-answer.ensures.same, c.in_ok-begins.ensures.written_alike, c.loop-number.invariant.writer);

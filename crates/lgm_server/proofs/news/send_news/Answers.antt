@@ -1,0 +1,12 @@
+use Rattle.std.proofs.Common.{rules}
+use Rattle.lgm_server.proofs.Appending.{appends_both, appends_nothing}
+use Rattle.lgm_server.proofs.news.send_news.Goals as goal
+
+pub loop-own-preserved : goal.loop-own-preserved
+loop-own-preserved g c = record {
+  whole = λ final rest. c.loop-own.invariant.whole final (rw c.in-Some.ensures.steps (appends_both _ _ _ _ _ c.in_ok-send_news_to.ensures.told rest));
+  same = search rules;
+}
+
+pub returns-clause-told : goal.returns-clause-told
+returns-clause-told g c = c.loop-own.invariant.whole _ (rw c.in-None.ensures.steps.0 (appends_nothing _))

@@ -1,0 +1,59 @@
+//! The filters of peers.
+
+ghost use Rattle.std.specs.Prelude.{◌≡◌, [], OnOk, OnErr};
+ghost use Rattle.lgm_store.specs.Rows.{put};
+ghost use Rattle.lgm_server.specs.Filters.{by_peer};
+
+use lgm_query::Filter;
+use std::alloc::{AllocError, Global};
+use std::collections::BTreeMap;
+use std::marker::Model;
+
+/// The filter of a peer.
+#[derive(Clone, Copy, Debug, PartialEq, Eq)]
+pub struct PeerFilter {
+    /// The peer's number, below 1,000.
+    pub peer: u16,
+    /// Which gossip it wants.
+    pub filter: Filter,
+}
+
+/// The filter that each peer has. Contracts see them in a list, peers ascending.
+#[derive(Drop)]
+pub struct Filters {
+    pub filters: BTreeMap<u16, PeerFilter>,
+}
+
+impl Model for Filters {
+    ghost use Rattle.std.specs.Prelude.{List};
+    ghost use Rattle.std.specs.BTreeMap.{values};
+    ghost use Rattle.lgm_store.specs.Keyed.{IsKeyed};
+    ghost use Rattle.lgm_server.specs.declared.filters.PeerFilter.{PeerFilter};
+    ghost use Rattle.lgm_server.specs.Filters.{peer_of};
+
+    ghost Value = { List PeerFilter };
+
+    ghost view = { λ f. values f.filters };
+
+    ghost invariant = { λ f. IsKeyed peer_of f.filters.entries };
+}
+
+impl Filters {
+    /// No peer has a filter.
+    pub fn new(alloc: Global) -> Filters
+        ensures { result ≡ [] }
+    {
+        Filters {
+            filters: BTreeMap::new(alloc),
+        }
+    }
+
+    /// Gives a peer a filter, in place of the one that it had. Want of memory leaves all as they were.
+    pub fn set(&mut self, own: PeerFilter) -> Result<(), AllocError>
+        ensures ok { OnOk result (self.new ≡ put by_peer self.old own) }
+        ensures err { OnErr result (self.new ≡ self.old) }
+    {
+        self.filters.insert(own.peer, own)?;
+        Ok(())
+    }
+}

@@ -1,0 +1,49 @@
+//! Why a run ends early.
+
+ghost use Rattle.std.specs.Prelude.{◌≡◌};
+ghost use Rattle.lgm_server.specs.Running.{fault_of};
+ghost use Rattle.lgm_server.specs.declared.run_fault.RunFault.TheVariants.{NoMemory};
+
+use crate::line_reader::LineFault;
+use std::alloc::AllocError;
+use thiserror::Error;
+
+/// Why a script wasn't run to its end.
+#[derive(Clone, Copy, Debug, PartialEq, Eq, Error)]
+pub enum RunFault {
+    /// The source failed.
+    #[error("read failed")]
+    Read,
+    /// The sink failed, or took no byte.
+    #[error("write failed")]
+    Write,
+    /// Memory was refused.
+    #[error("out of memory")]
+    NoMemory,
+    /// Line 10,000,001 begins. The lines before it were answered.
+    #[error("too many lines")]
+    TooManyLines,
+    /// A line has more than 140,000 bytes. The lines before it were answered.
+    #[error("line too long")]
+    LineTooLong,
+}
+
+impl From<LineFault> for RunFault {
+    ghost from_gives = { λ fault e. e ≡ fault_of fault };
+
+    fn from(fault: LineFault) -> RunFault {
+        match fault {
+            LineFault::Read => RunFault::Read,
+            LineFault::NoMemory => RunFault::NoMemory,
+            LineFault::TooLong => RunFault::LineTooLong,
+        }
+    }
+}
+
+impl From<AllocError> for RunFault {
+    ghost from_gives = { λ _ e. e ≡ NoMemory };
+
+    fn from(_e: AllocError) -> RunFault {
+        RunFault::NoMemory
+    }
+}
