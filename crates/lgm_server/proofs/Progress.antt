@@ -1,8 +1,9 @@
 -- How far a script was answered.
-use Rattle.std.proofs.Common.{◌≡◌, ℕ, zero, suc, ◌+◌, ◌<◌, ◌≤◌, List, [], ◌∷◌, ◌++◌, length, get_or, take, drop, Bool, true, false, cond, eqb, Option, Some, None, Result, Ok, Err, refl, sym, ap, subst, ◌∙◌, append_assoc, add-one, arith}
+use Rattle.std.proofs.Common.{◌≡◌, ℕ, zero, suc, ◌+◌, ◌<◌, ◌≤◌, List, [], ◌∷◌, ◌++◌, length, get_or, take, drop, Bool, true, false, ◌||◌, cond, eqb, Option, Some, None, Result, Ok, Err, refl, sym, ap, subst, ◌∙◌, append_assoc, add-one, arith}
 use Rattle.std.specs.Prelude.{IfSome}
 use Rattle.std.specs.Option.{option_map}
-use Rattle.std.specs.List.{AllByRecursion}
+use Rattle.std.specs.List.{AllByRecursion, list_any}
+use Rattle.std.proofs.lemmas.List.Folds.{list_any-append}
 use Rattle.std.proofs.lemmas.List.{append-nil, length-drop, length_push, take_all, take_more, drop_more}
 use Rattle.lgm_gossip.specs.declared.chain_hash.ChainHash.{ChainHash}
 use Rattle.lgm_check.specs.declared.refusal.Refusal.{Refusal}
@@ -21,19 +22,19 @@ use Rattle.lgm_server.specs.Lines.{lines_of, onto_first, TakesLine, HasMore, IsL
 use Rattle.lgm_server.specs.Text.{with_gathered}
 use Rattle.lgm_server.specs.Request.{request_of}
 use Rattle.lgm_server.specs.Reply.{text_of}
-use Rattle.lgm_server.specs.Script.{outcome_of, rows_behind, count_behind, with_outcome, reply_in, rows_after, accepted_after, history_after, history_from, history_of, text_at, text_before}
+use Rattle.lgm_server.specs.Script.{State, opening, outcome_of, state_behind, with_outcome, reply_in, state_after, history_after, history_from, history_of, commits, before_commit, state_of, text_at, text_before}
+use Rattle.lgm_server.proofs.Histories.{fold_from-push}
 use Rattle.lgm_server.proofs.Appending.{appends_both}
 use Rattle.lgm_server.specs.Running.{fault_of, IsWritten, IsAnswered, IsTooMany, IsTooLong}
 
--- k lines were answered, and these are the rows and the number of their accepted items
-pub record IsSoFar (chain : ChainHash) (script : List ℕ) (k : ℕ) (rows : Rows) (count : ℕ) (input old new : Option (List ℕ)) : Type 0 where
+-- k lines were answered, and this is the state behind them
+pub record IsSoFar (chain : ChainHash) (script : List ℕ) (k : ℕ) (state : State) (input old new : Option (List ℕ)) : Type 0 where
   pub rest : option_map lines_of input ≡ Some (drop k (lines_of script))
-  pub rows_is : rows ≡ fold (history_of chain (take k (lines_of script)))
-  pub count_is : count ≡ length (history_of chain (take k (lines_of script)))
+  pub state_is : state ≡ state_of chain (take k (lines_of script))
   pub text : IsWritten chain old new (lines_of script) k
 
-pub SoFar : ChainHash → Option (List ℕ) → ℕ → Rows → ℕ → Option (List ℕ) → Option (List ℕ) → Option (List ℕ) → Type 0
-SoFar chain script k rows count input old new = IfSome script (λ s. IsSoFar chain s k rows count input old new)
+pub SoFar : ChainHash → Option (List ℕ) → ℕ → State → Option (List ℕ) → Option (List ℕ) → Option (List ℕ) → Type 0
+SoFar chain script k state input old new = IfSome script (λ s. IsSoFar chain s k state input old new)
 
 -- ---- one more line
 
@@ -41,40 +42,59 @@ history_from-push : (chain : ChainHash) (history : List Op) (ls : List (List ℕ
 history_from-push chain history [] line = refl
 history_from-push chain history (l ∷ ls) line = history_from-push chain (history_after chain history (request_of l)) ls line
 
-fold_from-push : (rows : Rows) (history : List Op) (op : Op) → fold_from rows (history ++ op ∷ []) ≡ absorbed (fold_from rows history) op
-fold_from-push rows [] op = refl
-fold_from-push rows (o ∷ os) op = fold_from-push (absorbed rows o) os op
+-- the state of a history, of which the first operations were committed
+abbrev state_at : List Op → List Op → State
+state_at history committed = record { rows = fold history; committed = fold committed; accepted = length history }
 
-rows_behind-fold : (history : List Op) (outcome : Result Op Refusal) → rows_behind (fold history) outcome ≡ fold (with_outcome history outcome)
-rows_behind-fold history (Ok op) = sym (fold_from-push empty history op)
-rows_behind-fold history (Err refusal) = refl
+state_behind-outcome : (history committed : List Op) (outcome : Result Op Refusal)
+    → state_behind (state_at history committed) outcome ≡ state_at (with_outcome history outcome) committed
+state_behind-outcome history committed (Ok op) = rw (fold_from-push empty history op, length_push history op) refl
+state_behind-outcome history committed (Err refusal) = refl
 
-count_behind-length : (history : List Op) (outcome : Result Op Refusal) → count_behind (length history) outcome ≡ length (with_outcome history outcome)
-count_behind-length history (Ok op) = sym (length_push history op)
-count_behind-length history (Err refusal) = refl
+-- the lines before the last commit, where one more line is a commit or not
+abbrev before_commit_and : List (List ℕ) → Request → List (List ℕ)
+before_commit_and ls request = cond (commits request) ls (before_commit ls)
 
-rows_after-fold : (chain : ChainHash) (history : List Op) (request : Request) → rows_after chain (fold history) request ≡ fold (history_after chain history request)
-rows_after-fold chain history requests.Quiet = refl
-rows_after-fold chain history requests.Bad = refl
-rows_after-fold chain history requests.Commit = refl
-rows_after-fold chain history (requests.Offer item) = rows_behind-fold history (outcome_of chain (fold history) item)
+before_commit-push : (ls : List (List ℕ)) (line : List ℕ) → before_commit (ls ++ line ∷ []) ≡ before_commit_and ls (request_of line)
+before_commit-push [] line = by (commits (request_of line))
+  where
+    by : (b : Bool) → [] ≡ cond b [] (before_commit [])
+    by true = refl
+    by false = refl
+before_commit-push (l ∷ ls) line =
+    rw (list_any-append (λ x. commits (request_of x)) ls (line ∷ []))
+    (by (commits (request_of line)) (list_any (λ x. commits (request_of x)) ls) (before_commit (ls ++ line ∷ [])) (before_commit-push ls line))
+  where
+    by : (b any : Bool) (rest : List (List ℕ)) → rest ≡ cond b ls (before_commit ls) → cond (any || (b || false)) (l ∷ rest) [] ≡ cond b (l ∷ ls) (cond any (l ∷ before_commit ls) [])
+    by true true rest e = rw e refl
+    by true false rest e = rw e refl
+    by false true rest e = rw e refl
+    by false false rest e = refl
 
-accepted_after-length : (chain : ChainHash) (history : List Op) (request : Request) → accepted_after chain (fold history) (length history) request ≡ length (history_after chain history request)
-accepted_after-length chain history requests.Quiet = refl
-accepted_after-length chain history requests.Bad = refl
-accepted_after-length chain history requests.Commit = refl
-accepted_after-length chain history (requests.Offer item) = count_behind-length history (outcome_of chain (fold history) item)
+by_request : (chain : ChainHash) (ls : List (List ℕ)) (request : Request)
+    → state_after chain (state_of chain ls) request ≡ state_at (history_after chain (history_of chain ls) request) (history_of chain (before_commit_and ls request))
+by_request chain ls requests.Quiet = refl
+by_request chain ls requests.Bad = refl
+by_request chain ls requests.Commit = refl
+by_request chain ls (requests.Query bytes) = refl
+by_request chain ls (requests.Offer item) = state_behind-outcome (history_of chain ls) (history_of chain (before_commit ls)) (outcome_of chain (fold (history_of chain ls)) item)
 
-count_behind-le : (count : ℕ) (outcome : Result Op Refusal) → count_behind count outcome ≤ count + 1
-count_behind-le count (Ok op) = omega arith
-count_behind-le count (Err refusal) = omega arith
+state_after-line : (chain : ChainHash) (ls : List (List ℕ)) (line : List ℕ) → state_after chain (state_of chain ls) (request_of line) ≡ state_of chain (ls ++ line ∷ [])
+state_after-line chain ls line =
+    by_request chain ls (request_of line)
+    ∙ rw (history_from-push chain [] ls line, before_commit-push ls line) refl
+
+state_behind-le : (state : State) (outcome : Result Op Refusal) → (state_behind state outcome).accepted ≤ state.accepted + 1
+state_behind-le state (Ok op) = omega arith
+state_behind-le state (Err refusal) = omega arith
 
 -- a line has one item at most
-pub accepted_after-le : (chain : ChainHash) (rows : Rows) (count : ℕ) (request : Request) → accepted_after chain rows count request ≤ count + 1
-accepted_after-le chain rows count requests.Quiet = omega arith
-accepted_after-le chain rows count requests.Bad = omega arith
-accepted_after-le chain rows count requests.Commit = omega arith
-accepted_after-le chain rows count (requests.Offer item) = count_behind-le count (outcome_of chain rows item)
+pub accepted-le : (chain : ChainHash) (state : State) (request : Request) → (state_after chain state request).accepted ≤ state.accepted + 1
+accepted-le chain state requests.Quiet = omega arith
+accepted-le chain state requests.Bad = omega arith
+accepted-le chain state requests.Commit = omega arith
+accepted-le chain state (requests.Query bytes) = omega arith
+accepted-le chain state (requests.Offer item) = state_behind-le state (outcome_of chain state.rows item)
 
 short-push : (P : List ℕ → Type 0) (xs : List (List ℕ)) (x : List ℕ) → AllByRecursion P xs → P x → AllByRecursion P (xs ++ x ∷ [])
 short-push P [] x all one = (one, tt)
@@ -84,13 +104,12 @@ gathered_more : (taken : Option (List ℕ)) (gathered more : List ℕ) → Appen
 gathered_more None gathered more = refl
 gathered_more (Some bytes) gathered more = ap (λ (s : List ℕ). Some s) (sym (append_assoc bytes gathered more))
 
-pub starts : (chain : ChainHash) (script taken : Option (List ℕ)) → SoFar chain script 0 empty 0 (option_map (λ bytes. [] ++ bytes) script) taken (with_gathered taken [])
+pub starts : (chain : ChainHash) (script taken : Option (List ℕ)) → SoFar chain script 0 opening (option_map (λ bytes. [] ++ bytes) script) taken (with_gathered taken [])
 unfolding SoFar text_before
 starts chain None taken = tt
 starts chain (Some script) taken = record {
   rest = refl;
-  rows_is = refl;
-  count_is = refl;
+  state_is = refl;
   text = record { few = omega arith; short = tt; written = refl };
 }
 
@@ -128,64 +147,62 @@ text_before-suc chain ls k = refl
 text_before-more : (chain : ChainHash) (ls : List (List ℕ)) (k : ℕ) → text_before chain ls (k + 1) ≡ text_before chain ls k ++ text_at chain ls k
 text_before-more chain ls k = rw add-one (text_before-suc chain ls k)
 
-text_is : (chain : ChainHash) (ls : List (List ℕ)) (k : ℕ) (rows : Rows) (count : ℕ) (line : List ℕ) → rows ≡ fold (history_of chain (take k ls)) → count ≡ length (history_of chain (take k ls)) → get_or ls k [] ≡ line
-    → text_at chain ls k ≡ text_of (k + 1) (reply_in chain rows count (request_of line))
+text_is : (chain : ChainHash) (ls : List (List ℕ)) (k : ℕ) (state : State) (line : List ℕ) → state ≡ state_of chain (take k ls) → get_or ls k [] ≡ line
+    → text_at chain ls k ≡ text_of (k + 1) (reply_in chain state (request_of line))
 unfolding text_at
-text_is chain ls k rows count line r n l = rw (r, n, ← l) refl
-
-step_so_far : (chain : ChainHash) (script : List ℕ) (k : ℕ) (rows rows' : Rows) (count count' : ℕ) (line rest : List ℕ) (old mid new : Option (List ℕ))
-    → rows ≡ fold (history_of chain (take k (lines_of script))) → count ≡ length (history_of chain (take k (lines_of script))) → IsWritten chain old mid (lines_of script) k → drop k (lines_of script) ≡ line ∷ lines_of rest
-    → length line ≤ 140000 → rows' ≡ rows_after chain rows (request_of line) → count' ≡ accepted_after chain rows count (request_of line) → Appends mid new (text_of (k + 1) (reply_in chain rows count (request_of line)))
-    → IsSoFar chain script (k + 1) rows' count' (Some rest) old new
-step_so_far chain script k rows rows' count count' line rest old mid new rows_is count_is text e small r n w =
-    let at = stands_at (lines_of script) k line (lines_of rest) e in
-    let history = history_of chain (take k (lines_of script)) in
-    let more : history_of chain (take (k + 1) (lines_of script)) ≡ history_after chain history (request_of line) = ap (history_of chain) at.front ∙ history_from-push chain [] (take k (lines_of script)) line in
-    record {
-      rest = ap (λ (ls : List (List ℕ)). Some ls) (sym at.behind);
-      rows_is = r ∙ ap (λ (x : Rows). rows_after chain x (request_of line)) rows_is ∙ rows_after-fold chain history (request_of line) ∙ ap fold (sym more);
-      count_is = n ∙ ap (λ (x : Rows). accepted_after chain x count (request_of line)) rows_is ∙ ap (λ (x : ℕ). accepted_after chain (fold history) x (request_of line)) count_is ∙ accepted_after-length chain history (request_of line) ∙ ap length (sym more);
-      text = record {
-        few = let lt = at.within in omega arith;
-        short = subst (λ (ls : List (List ℕ)). AllByRecursion (λ l. length l ≤ 140000) ls) (sym at.front) (short-push (λ l. length l ≤ 140000) (take k (lines_of script)) line text.short small);
-        written = subst (λ (t : List ℕ). Appends old new t) (ap (λ (t : List ℕ). text_before chain (lines_of script) k ++ t) (sym (text_is chain (lines_of script) k rows count line rows_is count_is at.here)) ∙ sym (text_before-more chain (lines_of script) k)) (appends_both old mid new (text_before chain (lines_of script) k) (text_of (k + 1) (reply_in chain rows count (request_of line))) text.written w);
-      };
-    }
+text_is chain ls k state line s l = rw (s, ← l) refl
 
 -- what one turn does to the text
-pub record Tells (chain : ChainHash) (rows rows' : Rows) (count count' number : ℕ) (line : List ℕ) (mid new : Option (List ℕ)) : Type 0 where
+pub record Tells (chain : ChainHash) (state state' : State) (number : ℕ) (line : List ℕ) (mid new : Option (List ℕ)) : Type 0 where
   pub short : length line ≤ 140000
-  pub rows_after_it : rows' ≡ rows_after chain rows (request_of line)
-  pub count_after_it : count' ≡ accepted_after chain rows count (request_of line)
-  pub told : Appends mid new (text_of number (reply_in chain rows count (request_of line)))
+  pub behind : state' ≡ state_after chain state (request_of line)
+  pub told : Appends mid new (text_of number (reply_in chain state (request_of line)))
+
+step_so_far : (chain : ChainHash) (script : List ℕ) (k : ℕ) (state state' : State) (line rest : List ℕ) (input old mid new : Option (List ℕ))
+    → IsSoFar chain script k state input old mid → drop k (lines_of script) ≡ line ∷ lines_of rest → Tells chain state state' (k + 1) line mid new
+    → IsSoFar chain script (k + 1) state' (Some rest) old new
+step_so_far chain script k state state' line rest input old mid new so_far e tells =
+    let at = stands_at (lines_of script) k line (lines_of rest) e in
+    let text = so_far.text in
+    record {
+      rest = ap (λ (ls : List (List ℕ)). Some ls) (sym at.behind);
+      state_is =
+          tells.behind ∙ ap (λ (x : State). state_after chain x (request_of line)) so_far.state_is
+          ∙ state_after-line chain (take k (lines_of script)) line ∙ ap (state_of chain) (sym at.front);
+      text = record {
+        few = let lt = at.within in omega arith;
+        short = subst (λ (ls : List (List ℕ)). AllByRecursion (λ l. length l ≤ 140000) ls) (sym at.front) (short-push (λ l. length l ≤ 140000) (take k (lines_of script)) line text.short tells.short);
+        written = subst (λ (t : List ℕ). Appends old new t) (ap (λ (t : List ℕ). text_before chain (lines_of script) k ++ t) (sym (text_is chain (lines_of script) k state line so_far.state_is at.here)) ∙ sym (text_before-more chain (lines_of script) k)) (appends_both old mid new (text_before chain (lines_of script) k) (text_of (k + 1) (reply_in chain state (request_of line))) text.written tells.told);
+      };
+    }
 
 pub told_is : (taken : Option (List ℕ)) (mid : Option (List ℕ)) (gathered gathered' gathered'' bytes : List ℕ) (taken'' : Option (List ℕ))
     → with_gathered taken gathered ≡ mid → gathered' ≡ gathered ++ bytes → with_gathered taken'' gathered'' ≡ with_gathered taken gathered' → Appends mid (with_gathered taken'' gathered'') bytes
 told_is taken mid gathered gathered' gathered'' bytes taken'' before is kept =
     kept ∙ ap (with_gathered taken) is ∙ gathered_more taken gathered bytes ∙ ap (option_map (λ t. t ++ bytes)) before
 
-pub step : (chain : ChainHash) (script : Option (List ℕ)) (k : ℕ) (rows rows' : Rows) (count count' : ℕ) (line : List ℕ) (input input' after' old mid new : Option (List ℕ))
-    → SoFar chain script k rows count input old mid → input' ≡ input → TakesLine input' after' line → Tells chain rows rows' count count' (k + 1) line mid new → SoFar chain script (k + 1) rows' count' after' old new
+pub step : (chain : ChainHash) (script : Option (List ℕ)) (k : ℕ) (state state' : State) (line : List ℕ) (input input' after' old mid new : Option (List ℕ))
+    → SoFar chain script k state input old mid → input' ≡ input → TakesLine input' after' line → Tells chain state state' (k + 1) line mid new → SoFar chain script (k + 1) state' after' old new
 unfolding SoFar
-step chain None k rows rows' count count' line input input' after' old mid new so_far kept takes tells = tt
-step chain (Some script) k rows rows' count count' line input input' None old mid new so_far kept takes tells =
+step chain None k state state' line input input' after' old mid new so_far kept takes tells = tt
+step chain (Some script) k state state' line input input' None old mid new so_far kept takes tells =
     let bad = sym so_far.rest ∙ ap (option_map lines_of) (sym kept) ∙ takes in absurd cc
-step chain (Some script) k rows rows' count count' line input input' (Some rest) old mid new so_far kept takes tells =
+step chain (Some script) k state state' line input input' (Some rest) old mid new so_far kept takes tells =
     let e = some_is (drop k (lines_of script)) (line ∷ lines_of rest) (sym so_far.rest ∙ ap (option_map lines_of) (sym kept) ∙ takes) in
-    step_so_far chain script k rows rows' count count' line rest old mid new so_far.rows_is so_far.count_is so_far.text e tells.short tells.rows_after_it tells.count_after_it tells.told
+    step_so_far chain script k state state' line rest input old mid new so_far e tells
 
 -- ---- how it ends, where all that was gathered is written
 
 written_as : (chain : ChainHash) (old mid new : Option (List ℕ)) (ls : List (List ℕ)) (n : ℕ) → new ≡ mid → IsWritten chain old mid ls n → IsWritten chain old new ls n
 written_as chain old mid new ls n same text = record { few = text.few; short = text.short; written = same ∙ text.written }
 
-pub ends : (chain : ChainHash) (script : Option (List ℕ)) (k : ℕ) (rows : Rows) (count : ℕ) (input input' old mid new : Option (List ℕ))
-    → SoFar chain script k rows count input old mid → input' ≡ input → IsAtEnd input' → k ≤ 10000000 → new ≡ mid → IfSome script (IsAnswered chain old new (record { lines = k; accepted = count }))
+pub ends : (chain : ChainHash) (script : Option (List ℕ)) (k : ℕ) (state : State) (input input' old mid new : Option (List ℕ))
+    → SoFar chain script k state input old mid → input' ≡ input → IsAtEnd input' → k ≤ 10000000 → new ≡ mid → IfSome script (IsAnswered chain old new (record { lines = k; accepted = state.accepted }))
 unfolding SoFar
-ends chain None k rows count input input' old mid new so_far kept ended limit same = tt
-ends chain (Some script) k rows count input None old mid new so_far kept ended limit same =
+ends chain None k state input input' old mid new so_far kept ended limit same = tt
+ends chain (Some script) k state input None old mid new so_far kept ended limit same =
     let bad = sym so_far.rest ∙ ap (option_map lines_of) (sym kept) in absurd cc
-ends chain (Some script) k rows count input (Some s) old mid new so_far kept ended limit same =
+ends chain (Some script) k state input (Some s) old mid new so_far kept ended limit same =
     let none : drop k (lines_of script) ≡ [] = some_is (drop k (lines_of script)) [] (sym so_far.rest ∙ ap (option_map lines_of) (sym kept) ∙ ap (λ (x : List ℕ). Some (lines_of x)) ended) in
     let few = so_far.text.few in
     let all : k ≡ length (lines_of script) = omega (arith, ap length none, length-drop k (lines_of script)) in
@@ -193,7 +210,7 @@ ends chain (Some script) k rows count input (Some s) old mid new so_far kept end
     record {
       lines = all;
       limit = limit;
-      accepted = so_far.count_is ∙ ap (λ (ls : List (List ℕ)). length (history_of chain ls)) whole;
+      accepted = ap (λ (x : State). x.accepted) so_far.state_is ∙ ap (λ (ls : List (List ℕ)). length (history_of chain ls)) whole;
       text = written_as chain old mid new (lines_of script) k same so_far.text;
     }
 
@@ -209,23 +226,23 @@ has_line (b ∷ bs) some = by_test (eqb b 10)
     by_test true = omega arith
     by_test false = onto (lines_of bs)
 
-pub many : (chain : ChainHash) (script : Option (List ℕ)) (rows : Rows) (count : ℕ) (input input' old mid new : Option (List ℕ))
-    → SoFar chain script 10000000 rows count input old mid → input' ≡ input → HasMore input' → new ≡ mid → IfSome script (IsTooMany chain old new)
+pub many : (chain : ChainHash) (script : Option (List ℕ)) (state : State) (input input' old mid new : Option (List ℕ))
+    → SoFar chain script 10000000 state input old mid → input' ≡ input → HasMore input' → new ≡ mid → IfSome script (IsTooMany chain old new)
 unfolding SoFar
-many chain None rows count input input' old mid new so_far kept more same = tt
-many chain (Some script) rows count input None old mid new so_far kept more same =
+many chain None state input input' old mid new so_far kept more same = tt
+many chain (Some script) state input None old mid new so_far kept more same =
     let bad = sym so_far.rest ∙ ap (option_map lines_of) (sym kept) in absurd cc
-many chain (Some script) rows count input (Some s) old mid new so_far kept more same =
+many chain (Some script) state input (Some s) old mid new so_far kept more same =
     let left : drop 10000000 (lines_of script) ≡ lines_of s = some_is (drop 10000000 (lines_of script)) (lines_of s) (sym so_far.rest ∙ ap (option_map lines_of) (sym kept)) in
     record { more = omega (arith, ap length left, length-drop 10000000 (lines_of script), has_line s more); text = written_as chain old mid new (lines_of script) 10000000 same so_far.text }
 
-pub long : (chain : ChainHash) (script : Option (List ℕ)) (k : ℕ) (rows : Rows) (count : ℕ) (input input' old mid new : Option (List ℕ))
-    → SoFar chain script k rows count input old mid → input' ≡ input → k < 10000000 → IsLongerThan 140000 input' → new ≡ mid → IfSome script (IsTooLong chain old new)
+pub long : (chain : ChainHash) (script : Option (List ℕ)) (k : ℕ) (state : State) (input input' old mid new : Option (List ℕ))
+    → SoFar chain script k state input old mid → input' ≡ input → k < 10000000 → IsLongerThan 140000 input' → new ≡ mid → IfSome script (IsTooLong chain old new)
 unfolding SoFar
-long chain None k rows count input input' old mid new so_far kept limit longer same = tt
-long chain (Some script) k rows count input None old mid new so_far kept limit longer same =
+long chain None k state input input' old mid new so_far kept limit longer same = tt
+long chain (Some script) k state input None old mid new so_far kept limit longer same =
     let bad = sym so_far.rest ∙ ap (option_map lines_of) (sym kept) in absurd cc
-long chain (Some script) k rows count input (Some s) old mid new so_far kept limit longer same =
+long chain (Some script) k state input (Some s) old mid new so_far kept limit longer same =
     let e : drop k (lines_of script) ≡ longer.0 ∷ longer.1 = some_is (drop k (lines_of script)) (longer.0 ∷ longer.1) (sym so_far.rest ∙ ap (option_map lines_of) (sym kept) ∙ ap (λ (x : List (List ℕ)). Some x) longer.2) in
     let at = stands_at (lines_of script) k longer.0 longer.1 e in
     record { place = k; limit = limit; long = rw at.here longer.3; text = written_as chain old mid new (lines_of script) k same so_far.text }

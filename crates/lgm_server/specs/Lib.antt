@@ -5,5 +5,6 @@ pub mod Field
 pub mod Item
 pub mod Request
 pub mod Reply
+pub mod Query
 pub mod Script
 pub mod Running

@@ -1,6 +1,8 @@
 -- The text of replies.
 use Rattle.std.specs.Prelude.{ℕ, List, [], ◌∷◌, ◌++◌, codes}
 use Rattle.std.specs.Fmt.{decimal}
+use Rattle.std.specs.List.{flat_map}
+use Rattle.hex.specs.Hex.{encode_lower}
 use Rattle.lgm_check.specs.Refusal.{word_of}
 use Rattle.lgm_server.specs.declared.reply.Reply.{Reply}
 use Rattle.lgm_server.specs.declared.reply.Reply.TheVariants as replies
@@ -9,6 +11,10 @@ use Rattle.lgm_server.specs.declared.reply.Reply.TheVariants as replies
 abbrev pub word_line : ℕ → List ℕ → List ℕ
 word_line number word = decimal number ++ codes " " ++ word ++ codes "\n"
 
+-- N HEX
+abbrev pub message_line : ℕ → List ℕ → List ℕ
+message_line number message = decimal number ++ codes " " ++ encode_lower message ++ codes "\n"
+
 -- the text for the line of that number
 abbrev pub text_of : ℕ → Reply → List ℕ
 text_of number replies.Quiet = []
@@ -16,3 +22,5 @@ text_of number replies.Bad = word_line number (codes "bad")
 text_of number replies.Accepted = word_line number (codes "accepted")
 text_of number (replies.Refused refusal) = word_line number (word_of refusal)
 text_of number (replies.Committed version) = decimal number ++ codes " commit " ++ decimal version ++ codes "\n"
+text_of number replies.NotQuery = word_line number (codes "not-query")
+text_of number (replies.Answers messages) = flat_map (message_line number) messages

@@ -5,12 +5,17 @@ use Rattle.std.specs.Cmp.Lexicographic.{pointwise}
 use Rattle.lgm_server.specs.declared.item.Item.{Item}
 use Rattle.lgm_server.specs.declared.request.Request.{Request}
 use Rattle.lgm_server.specs.declared.request.Request.TheVariants as requests
-use Rattle.lgm_server.specs.Item.{gossip_of, close_of}
+use Rattle.lgm_server.specs.Item.{bytes_of, gossip_of, close_of}
 
 -- an item, or no form of the grammar
 abbrev pub offer : Option Item → Request
 offer (Some item) = requests.Offer item
 offer None = requests.Bad
+
+-- a query, or no form of the grammar
+abbrev pub query : Option (List ℕ) → Request
+query (Some bytes) = requests.Query bytes
+query None = requests.Bad
 
 -- a line for each form
 abbrev pub request_of : List ℕ → Request
@@ -18,5 +23,6 @@ request_of line =
     if (length line == 0) || starts_with nat_eq line (codes "#") then requests.Quiet
     else if pointwise nat_eq line (codes "commit") then requests.Commit
     else if pointwise nat_eq (take 2 line) (codes "m ") then offer (gossip_of (drop 2 line))
+    else if pointwise nat_eq (take 2 line) (codes "q ") then query (bytes_of (drop 2 line))
     else if pointwise nat_eq (take 6 line) (codes "close ") then offer (close_of (drop 6 line))
     else requests.Bad

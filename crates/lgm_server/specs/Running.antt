@@ -1,5 +1,5 @@
 -- What running a script writes.
-use Rattle.std.specs.Prelude.{◌≡◌, ℕ, ◌<◌, ◌≤◌, List, [], length, take, Option, slice_index_or}
+use Rattle.std.specs.Prelude.{◌≡◌, ◌⊎◌, ℕ, ◌<◌, ◌≤◌, List, [], length, take, Option, slice_index_or}
 use Rattle.std.specs.List.{AllByRecursion}
 use Rattle.lgm_gossip.specs.declared.chain_hash.ChainHash.{ChainHash}
 use Rattle.lgm_server.specs.declared.line_reader.LineFault.{LineFault}
@@ -15,6 +15,14 @@ abbrev pub fault_of : LineFault → RunFault
 fault_of lines.Read = faults.Read
 fault_of lines.NoMemory = faults.NoMemory
 fault_of lines.TooLong = faults.LineTooLong
+
+-- a device failed
+abbrev pub IsDeviceFault : RunFault → Type 0
+IsDeviceFault fault = (fault ≡ faults.Read) ⊎ (fault ≡ faults.Write)
+
+-- memory was refused, or the sink failed
+abbrev pub IsAnswerFault : RunFault → Type 0
+IsAnswerFault fault = (fault ≡ faults.NoMemory) ⊎ (fault ≡ faults.Write)
 
 -- none of the first n lines is too long, and their text was written
 pub record IsWritten (chain : ChainHash) (old new : Option (List ℕ)) (lines : List (List ℕ)) (n : ℕ) : Type 0 where

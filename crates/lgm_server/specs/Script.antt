@@ -1,11 +1,12 @@
 -- What a script's lines are told: each by its place, from the lines before it.
-use Rattle.std.specs.Prelude.{ℕ, zero, suc, ◌+◌, List, [], ◌∷◌, ◌++◌, length, take, Result, Ok, Err, slice_index_or}
+use Rattle.std.specs.Prelude.{ℕ, zero, suc, ◌+◌, Bool, true, false, List, [], ◌∷◌, ◌++◌, length, take, Result, Ok, Err, slice_index_or, if◌then◌else◌}
+use Rattle.std.specs.List.{list_any}
 use Rattle.lgm_wire.specs.Reading.{◌>>=◌}
 use Rattle.lgm_gossip.specs.declared.chain_hash.ChainHash.{ChainHash}
 use Rattle.lgm_check.specs.declared.refusal.Refusal.{Refusal}
 use Rattle.lgm_check.specs.Precheck.{checked_of}
 use Rattle.lgm_store.specs.declared.op.Op.{Op}
-use Rattle.lgm_store.specs.Rows.{Rows}
+use Rattle.lgm_store.specs.Rows.{Rows, empty}
 use Rattle.lgm_store.specs.Admission.{admitted, admitted_close}
 use Rattle.lgm_store.specs.History.{absorbed, fold}
 use Rattle.lgm_server.specs.declared.item.Item.{Item}
@@ -16,6 +17,7 @@ use Rattle.lgm_server.specs.declared.reply.Reply.{Reply}
 use Rattle.lgm_server.specs.declared.reply.Reply.TheVariants as replies
 use Rattle.lgm_server.specs.Request.{request_of}
 use Rattle.lgm_server.specs.Reply.{text_of}
+use Rattle.lgm_server.specs.Query.{query_reply}
 
 -- ---- one item
 
@@ -29,30 +31,37 @@ abbrev pub offered : Result Op Refusal → Reply
 offered (Ok op) = replies.Accepted
 offered (Err refusal) = replies.Refused refusal
 
--- the rows and the number of accepted items behind it
-abbrev pub rows_behind : Rows → Result Op Refusal → Rows
-rows_behind rows (Ok op) = absorbed rows op
-rows_behind rows (Err refusal) = rows
+-- ---- one request
 
-abbrev pub count_behind : ℕ → Result Op Refusal → ℕ
-count_behind count (Ok op) = count + 1
-count_behind count (Err refusal) = count
+-- what requests are answered on
+pub record State : Type 0 where
+  -- the rows that all accepted items have left
+  pub rows : Rows
+  -- the rows that those before the last commit have left
+  pub committed : Rows
+  -- how many items were accepted
+  pub accepted : ℕ
 
--- ---- one request, where so many items were accepted and have left these rows
+-- no item was accepted
+abbrev pub opening : State
+opening = record { rows = empty; committed = empty; accepted = 0 }
 
-abbrev pub reply_in : ChainHash → Rows → ℕ → Request → Reply
-reply_in chain rows count requests.Quiet = replies.Quiet
-reply_in chain rows count requests.Bad = replies.Bad
-reply_in chain rows count requests.Commit = replies.Committed count
-reply_in chain rows count (requests.Offer item) = offered (outcome_of chain rows item)
+abbrev pub reply_in : ChainHash → State → Request → Reply
+reply_in chain state requests.Quiet = replies.Quiet
+reply_in chain state requests.Bad = replies.Bad
+reply_in chain state requests.Commit = replies.Committed state.accepted
+reply_in chain state (requests.Query bytes) = query_reply chain state.committed bytes
+reply_in chain state (requests.Offer item) = offered (outcome_of chain state.rows item)
 
-abbrev pub rows_after : ChainHash → Rows → Request → Rows
-rows_after chain rows (requests.Offer item) = rows_behind rows (outcome_of chain rows item)
-rows_after chain rows _ = rows
+-- behind an item that was accepted or refused
+abbrev pub state_behind : State → Result Op Refusal → State
+state_behind state (Ok op) = record state { rows = absorbed state.rows op; accepted = state.accepted + 1 }
+state_behind state (Err refusal) = state
 
-abbrev pub accepted_after : ChainHash → Rows → ℕ → Request → ℕ
-accepted_after chain rows count (requests.Offer item) = count_behind count (outcome_of chain rows item)
-accepted_after chain rows count _ = count
+abbrev pub state_after : ChainHash → State → Request → State
+state_after chain state requests.Commit = record state { committed = state.rows }
+state_after chain state (requests.Offer item) = state_behind state (outcome_of chain state.rows item)
+state_after chain state _ = state
 
 -- ---- all lines
 
@@ -74,11 +83,26 @@ history_from chain history (line ∷ lines) = history_from chain (history_after 
 abbrev pub history_of : ChainHash → List (List ℕ) → List Op
 history_of chain lines = history_from chain [] lines
 
+abbrev pub commits : Request → Bool
+commits requests.Commit = true
+commits _ = false
+
+-- the lines before the last commit, and none if there is none
+abbrev pub before_commit : List (List ℕ) → List (List ℕ)
+before_commit [] = []
+before_commit (line ∷ lines) = if list_any (λ l. commits (request_of l)) lines then line ∷ before_commit lines else []
+
+-- what a request behind these lines is answered on
+abbrev pub state_of : ChainHash → List (List ℕ) → State
+state_of chain lines = record {
+  rows = fold (history_of chain lines);
+  committed = fold (history_of chain (before_commit lines));
+  accepted = length (history_of chain lines);
+}
+
 -- the text for the line at a place, from 0
 unfoldable pub text_at : ChainHash → List (List ℕ) → ℕ → List ℕ
-text_at chain lines k =
-    let history = history_of chain (take k lines) in
-    text_of (k + 1) (reply_in chain (fold history) (length history) (request_of (slice_index_or lines k [])))
+text_at chain lines k = text_of (k + 1) (reply_in chain (state_of chain (take k lines)) (request_of (slice_index_or lines k [])))
 
 -- the text for the first k lines
 unfoldable pub text_before : ChainHash → List (List ℕ) → ℕ → List ℕ

@@ -19,7 +19,7 @@ pub enum Item {
 }
 
 /// The bytes that hexadecimal digits spell, at least one byte.
-fn bytes(alloc: Global, digits: &[u8]) -> Result<Option<Bytes>, AllocError>
+pub fn bytes(alloc: Global, digits: &[u8]) -> Result<Option<Bytes>, AllocError>
     ensures { IfOk result (λ bytes. bytes ≡ bytes_of digits.now) }
 {
     if digits.is_empty() {

@@ -10,6 +10,7 @@ mod field;
 mod item;
 mod line_reader;
 mod memory;
+mod querying;
 mod reply;
 mod request;
 mod running;

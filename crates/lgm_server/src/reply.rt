@@ -1,14 +1,17 @@
 //! What a line is told.
 
 ghost use Rattle.std.specs.Prelude.{◌≡◌, ◌++◌, OnOk};
-ghost use Rattle.lgm_server.specs.Reply.{text_of, word_line};
+ghost use Rattle.std.specs.List.{flat_map};
+ghost use Rattle.lgm_server.specs.Reply.{text_of, word_line, message_line};
 
 use crate::text_buffer::TextBuffer;
 use lgm_check::Refusal;
+use lgm_gossip::Bytes;
+use lgm_query::Replies;
 use std::alloc::AllocError;
 
 /// What a line of a script is told.
-#[derive(Clone, Copy, Debug, PartialEq, Eq)]
+#[derive(Debug, Drop)]
 pub enum Reply {
     /// Nothing.
     Quiet,
@@ -20,12 +23,16 @@ pub enum Reply {
     Refused(Refusal),
     /// So many items were accepted so far.
     Committed(u64),
+    /// Its message is none of the two queries.
+    NotQuery,
+    /// The messages that its query is answered with.
+    Answers(Replies),
 }
 
 impl Reply {
     /// Puts the text for the line of that number, from 1, at the end.
-    pub fn write(self, number: u64, out: &mut TextBuffer) -> Result<(), AllocError>
-        ensures { OnOk result (out.new ≡ out.old ++ text_of number self) }
+    pub fn write(&self, number: u64, out: &mut TextBuffer) -> Result<(), AllocError>
+        ensures { OnOk result (out.new ≡ out.old ++ text_of number self.now) }
     {
         match self {
             Reply::Quiet => Ok(()),
@@ -35,9 +42,11 @@ impl Reply {
             Reply::Committed(version) => {
                 out.push_number(number)?;
                 out.push_bytes(b" commit ")?;
-                out.push_number(version)?;
+                out.push_number(*version)?;
                 out.push_bytes(b"\n")
             }
+            Reply::NotQuery => write_word(number, "not-query", out),
+            Reply::Answers(replies) => write_messages(number, replies.as_slice(), out),
         }
     }
 }
@@ -49,4 +58,22 @@ fn write_word(number: u64, word: &str, out: &mut TextBuffer) -> Result<(), Alloc
     out.push_bytes(b" ")?;
     out.push_bytes(word.as_bytes())?;
     out.push_bytes(b"\n")
+}
+
+fn write_message(number: u64, message: &Bytes, out: &mut TextBuffer) -> Result<(), AllocError>
+    ensures { OnOk result (out.new ≡ out.old ++ message_line number message.now) }
+{
+    out.push_number(number)?;
+    out.push_bytes(b" ")?;
+    out.push_hex(message.as_slice())?;
+    out.push_bytes(b"\n")
+}
+
+fn write_messages(number: u64, messages: &[Bytes], out: &mut TextBuffer) -> Result<(), AllocError>
+    ensures { OnOk result (out.new ≡ out.old ++ flat_map (message_line number) messages.now) }
+{
+    for message in messages {
+        write_message(number, message, out)?;
+    }
+    Ok(())
 }

@@ -1,9 +1,10 @@
 //! What a line asks.
 
 ghost use Rattle.std.specs.Prelude.{◌≡◌, IfOk};
-ghost use Rattle.lgm_server.specs.Request.{offer, request_of};
+ghost use Rattle.lgm_server.specs.Request.{offer, query, request_of};
 
-use crate::item::{Item, close, gossip};
+use crate::item::{Item, bytes, close, gossip};
+use lgm_gossip::Bytes;
 use std::alloc::{AllocError, Global};
 
 /// What a line of a script asks.
@@ -17,6 +18,8 @@ pub enum Request {
     Offer(Item),
     /// To make the accepted items the map that requests are answered on.
     Commit,
+    /// The replies to a query, which is these bytes.
+    Query(Bytes),
 }
 
 /// To accept an item, if there is one.
@@ -25,6 +28,16 @@ fn offer(item: Option<Item>) -> Request
 {
     match item {
         Some(item) => Request::Offer(item),
+        None => Request::Bad,
+    }
+}
+
+/// A query, if there are bytes.
+fn query(bytes: Option<Bytes>) -> Request
+    ensures { result ≡ query bytes }
+{
+    match bytes {
+        Some(bytes) => Request::Query(bytes),
         None => Request::Bad,
     }
 }
@@ -41,6 +54,9 @@ pub fn parse(alloc: Global, line: &[u8]) -> Result<Request, AllocError>
     }
     if let Some(text) = line.strip_prefix(b"m ") {
         return Ok(offer(gossip(alloc, text)?));
+    }
+    if let Some(text) = line.strip_prefix(b"q ") {
+        return Ok(query(bytes(alloc, text)?));
     }
     match line.strip_prefix(b"close ") {
         Some(text) => Ok(offer(close(text))),

@@ -1,10 +1,13 @@
 //! A whole script.
 
 ghost use Rattle.std.specs.Prelude.{◌≡◌, ◌+◌, ◌<◌, ◌^◌, [], true, false, IfSome, IfOk, OnOk, OnErr, IfErr, IsErrOf};
-ghost use Rattle.lgm_server.specs.Device.{IsAtEnd};
+ghost use Rattle.lgm_server.specs.Device.{Appends, IsAtEnd};
 ghost use Rattle.lgm_server.specs.Lines.{ahead, HasMore};
 ghost use Rattle.lgm_server.specs.Text.{with_gathered};
-ghost use Rattle.lgm_server.specs.Running.{fault_of, IsAnswered, IsTooLong, IsTooMany};
+ghost use Rattle.lgm_server.specs.Request.{request_of};
+ghost use Rattle.lgm_server.specs.Reply.{text_of};
+ghost use Rattle.lgm_server.specs.Script.{opening, reply_in, state_after};
+ghost use Rattle.lgm_server.specs.Running.{fault_of, IsDeviceFault, IsAnswerFault, IsAnswered, IsTooLong, IsTooMany};
 ghost use Rattle.lgm_server.specs.declared.running.RunFault.TheVariants.{NoMemory};
 
 use crate::device::{Sink, Source};
@@ -117,20 +120,121 @@ fn flush_before_reading<W: Sink>(
     Ok(())
 }
 
-/// Whether a further line begins.
-fn begins<R: Source>(lines: &mut LineReader, reader: &mut R) -> Result<bool, RunFault>
-    requires { R.failures reader.old + 1 < 2 ^ 64 }
+/// Whether a further line begins. What was gathered is written first if the source has to be read for that.
+fn begins<R: Source, W: Sink>(
+    lines: &mut LineReader,
+    reader: &mut R,
+    text: &mut TextBuffer,
+    writer: &mut W,
+) -> Result<bool, RunFault>
+    requires reader { R.failures reader.old + 1 < 2 ^ 64 }
+    requires writer { W.failures writer.old + 1 < 2 ^ 64 }
     ensures kept { OnOk result (ahead lines.new (R.left reader.new) ≡ ahead lines.old (R.left reader.old)) }
     ensures more { result ≡ Ok true → HasMore (ahead lines.new (R.left reader.new)) }
     ensures end { result ≡ Ok false → IsAtEnd (ahead lines.new (R.left reader.new)) }
-    ensures same { OnOk result (R.failures reader.new ≡ R.failures reader.old) }
-    ensures cause { OnErr result (R.failures reader.old < R.failures reader.new) }
-    ensures err { IfErr result (λ e. e ≡ RunFault.Read) }
+    ensures text { OnOk result (with_gathered (W.taken writer.new) text.new
+        ≡ with_gathered (W.taken writer.old) text.old) }
+    ensures read_alike { OnOk result (R.failures reader.new ≡ R.failures reader.old) }
+    ensures written_alike { OnOk result (W.failures writer.new ≡ W.failures writer.old) }
+    ensures read { IsErrOf result RunFault.Read → R.failures reader.old < R.failures reader.new }
+    ensures write { IsErrOf result RunFault.Write → W.failures writer.old < W.failures writer.new }
+    ensures err { IfErr result IsDeviceFault }
 {
+    flush_before_reading(lines, text, writer)?;
     match lines.begins(reader) {
         Ok(more) => Ok(more),
         Err(_) => Err(RunFault::Read),
     }
+}
+
+/// Answers the line of that number, from 1.
+fn answer<W: Sink>(
+    alloc: Global,
+    chain: &ChainHash,
+    number: u64,
+    line: &[u8],
+    engine: &mut Engine,
+    text: &mut TextBuffer,
+    writer: &mut W,
+) -> Result<(), RunFault>
+    requires engine { engine.old.accepted + 1 < 2 ^ 64 }
+    requires writer { W.failures writer.old + 1 < 2 ^ 64 }
+    ensures state { OnOk result (engine.new ≡ state_after chain.now engine.old (request_of line.now)) }
+    ensures told { OnOk result (Appends (with_gathered (W.taken writer.old) text.old)
+        (with_gathered (W.taken writer.new) text.new)
+        (text_of number (reply_in chain.now engine.old (request_of line.now)))) }
+    ensures same { OnOk result (W.failures writer.new ≡ W.failures writer.old) }
+    ensures write { IsErrOf result RunFault.Write → W.failures writer.old < W.failures writer.new }
+    ensures err { IfErr result IsAnswerFault }
+{
+    let request = parse(alloc, line)?;
+    let reply = engine.answer(alloc, chain, &request)?;
+    reply.write(number, text)?;
+    flush_block(text, writer)
+}
+
+/// Answers the lines of a script, where nothing was read or answered yet.
+fn answer_lines<R: Source, W: Sink>(
+    alloc: Global,
+    reader: &mut R,
+    writer: &mut W,
+    chain: &ChainHash,
+    lines: &mut LineReader,
+    text: &mut TextBuffer,
+    engine: &mut Engine,
+) -> Result<Counts, RunFault>
+    requires lines { lines.old ≡ [] }
+    requires text { text.old ≡ [] }
+    requires engine { engine.old ≡ opening }
+    requires reader { R.failures reader.old + 1 < 2 ^ 64 }
+    requires writer { W.failures writer.old + 1 < 2 ^ 64 }
+
+    // Each line was answered, and nothing else was written.
+    ensures ok { IfOk result (λ counts. IfSome (R.left reader.old)
+        (IsAnswered chain.now (W.taken writer.old) (W.taken writer.new) counts)) }
+
+    // The lines before were answered.
+    ensures too_many { IsErrOf result RunFault.TooManyLines → IfSome (R.left reader.old)
+        (IsTooMany chain.now (W.taken writer.old) (W.taken writer.new)) }
+    ensures too_long { IsErrOf result RunFault.LineTooLong → IfSome (R.left reader.old)
+        (IsTooLong chain.now (W.taken writer.old) (W.taken writer.new)) }
+
+    // A device failed in this call.
+    ensures read { IsErrOf result RunFault.Read → R.failures reader.old < R.failures reader.new }
+    ensures write { IsErrOf result RunFault.Write → W.failures writer.old < W.failures writer.new }
+{
+    let mut line = Vec::new(alloc);
+    for number in 0..MAX_LINES {
+        if !begins(lines, reader, text, writer)? {
+            flush(text, writer)?;
+            return Ok(Counts {
+                lines: number,
+                accepted: engine.accepted(),
+            });
+        }
+        if let Err(fault) = lines.read_line(reader, &mut line) {
+            flush(text, writer)?;
+            return Err(RunFault::from(fault));
+        }
+        answer(
+            alloc,
+            chain,
+            number + 1,
+            line.as_slice(),
+            engine,
+            text,
+            writer,
+        )?;
+    }
+    if begins(lines, reader, text, writer)? {
+        flush(text, writer)?;
+        return Err(RunFault::TooManyLines);
+    }
+    flush(text, writer)?;
+    Ok(Counts {
+        lines: MAX_LINES,
+        accepted: engine.accepted(),
+    })
 }
 
 /// Answers a whole script: its lines, in order, each by the lines before it (see the grammar in `docs/script.md`).
@@ -164,31 +268,13 @@ pub fn run<R: Source, W: Sink>(
     let mut lines = LineReader::new(alloc)?;
     let mut text = TextBuffer::new(alloc)?;
     let mut engine = Engine::new(alloc)?;
-    let mut line = Vec::new(alloc);
-    for number in 0..MAX_LINES {
-        flush_before_reading(&lines, &mut text, writer)?;
-        if !begins(&mut lines, reader)? {
-            flush(&mut text, writer)?;
-            return Ok(Counts {
-                lines: number,
-                accepted: engine.accepted,
-            });
-        }
-        if let Err(fault) = lines.read_line(reader, &mut line) {
-            flush(&mut text, writer)?;
-            return Err(RunFault::from(fault));
-        }
-        let request = parse(alloc, line.as_slice())?;
-        let reply = engine.answer(alloc, chain, &request)?;
-        reply.write(number + 1, &mut text)?;
-        flush_block(&mut text, writer)?;
-    }
-    flush(&mut text, writer)?;
-    if begins(&mut lines, reader)? {
-        return Err(RunFault::TooManyLines);
-    }
-    Ok(Counts {
-        lines: MAX_LINES,
-        accepted: engine.accepted,
-    })
+    answer_lines(
+        alloc,
+        reader,
+        writer,
+        chain,
+        &mut lines,
+        &mut text,
+        &mut engine,
+    )
 }

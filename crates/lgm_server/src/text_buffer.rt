@@ -2,6 +2,7 @@
 
 ghost use Rattle.std.specs.Prelude.{◌≡◌, ◌+◌, ◌≤◌, ◌<◌, ◌^◌, ◌++◌, [], length, decimal, IfOk, OnOk, OnErr};
 ghost use Rattle.lgm_server.specs.Device.{Appends, AppendsSome};
+ghost use Rattle.hex.specs.Hex.{encode_lower};
 ghost use Rattle.lgm_server.specs.Text.{with_gathered};
 
 use crate::device::{Failed, Sink, write_all};
@@ -16,6 +17,7 @@ pub const BLOCK: usize = 65_536;
 /// Contracts see it as the list of its bytes.
 #[derive(Drop)]
 pub struct TextBuffer {
+    alloc: Global,
     gathered: Vec<u8>,
 }
 
@@ -33,6 +35,7 @@ impl TextBuffer {
         ensures { IfOk result (λ buffer. buffer ≡ []) }
     {
         Ok(TextBuffer {
+            alloc,
             gathered: Vec::with_capacity(alloc, BLOCK)?,
         })
     }
@@ -53,6 +56,15 @@ impl TextBuffer {
     {
         let mut digits = itoa::Buffer::new();
         self.push_bytes(digits.format(number).as_bytes())
+    }
+
+    /// Puts the bytes at the end, in hexadecimal digits of lower case.
+    pub fn push_hex(&mut self, bytes: &[u8]) -> Result<(), AllocError>
+        ensures ok { OnOk result (self.new ≡ self.old ++ encode_lower bytes.now) }
+        ensures err { OnErr result (self.new ≡ self.old) }
+    {
+        let digits = hex::encode(self.alloc, bytes)?;
+        self.push_bytes(digits.as_bytes())
     }
 
     /// Writes the whole text, and is then empty.

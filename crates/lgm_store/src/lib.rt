@@ -8,8 +8,10 @@ mod end_counts;
 mod laws;
 mod map;
 mod op;
+mod shared;
 mod try_copy;
 
 pub use laws::rows_ascend;
 pub use map::Map;
 pub use op::Op;
+pub use shared::Shared;

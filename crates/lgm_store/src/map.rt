@@ -10,6 +10,7 @@ mod reading;
 mod replaying;
 
 use crate::end_counts::EndCounts;
+use crate::shared::Shared;
 use lgm_check::{ChannelRow, NodeRow, UpdateRow};
 use lgm_gossip::{Point, Scid};
 use std::alloc::{AllocError, Global};
@@ -22,10 +23,10 @@ use std::marker::Model;
 #[derive(Drop)]
 pub struct Map {
     alloc: Global,
-    channels: BTreeMap<Scid, ChannelRow>,
+    channels: BTreeMap<Scid, Shared<ChannelRow>>,
     /// By the channel and the direction: `true` is that from node 2.
-    updates: BTreeMap<(Scid, bool), UpdateRow>,
-    nodes: BTreeMap<Point, NodeRow>,
+    updates: BTreeMap<(Scid, bool), Shared<UpdateRow>>,
+    nodes: BTreeMap<Point, Shared<NodeRow>>,
     ends: EndCounts,
 }
 

@@ -1,8 +1,8 @@
-//! Copies of rows, and of ordered maps of them.
+//! Copies of ordered maps.
 
 ghost use Rattle.std.specs.Prelude.{◌≡◌, IfOk};
 
-use lgm_check::{ChannelRow, NodeRow, UpdateRow};
+use crate::shared::Shared;
 use std::alloc::{AllocError, Global};
 use std::collections::BTreeMap;
 
@@ -12,21 +12,9 @@ pub(crate) trait TryCopy {
         ensures { IfOk result (λ copy. copy ≡ self.now) };
 }
 
-impl TryCopy for ChannelRow {
-    fn try_copy(&self, alloc: Global) -> Result<ChannelRow, AllocError> {
-        self.copy(alloc)
-    }
-}
-
-impl TryCopy for UpdateRow {
-    fn try_copy(&self, alloc: Global) -> Result<UpdateRow, AllocError> {
-        self.copy(alloc)
-    }
-}
-
-impl TryCopy for NodeRow {
-    fn try_copy(&self, alloc: Global) -> Result<NodeRow, AllocError> {
-        self.copy(alloc)
+impl<T> TryCopy for Shared<T> {
+    fn try_copy(&self, _alloc: Global) -> Result<Shared<T>, AllocError> {
+        self.share()
     }
 }
 

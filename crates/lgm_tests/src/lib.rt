@@ -1,4 +1,4 @@
-//! Tests that cross crates: whole scripts through `run`, over memory.
+//! Tests that cross crates: messages, and whole scripts through `run`, over memory.
 #![tactic(auto)]
 
 #[cfg(test)]
@@ -6,6 +6,9 @@ mod announcements;
 #[cfg(test)]
 mod closes;
 #[cfg(test)]
+mod messages;
+#[cfg(test)]
+mod query_lines;
 mod scripts;
 #[cfg(test)]
 mod updates;

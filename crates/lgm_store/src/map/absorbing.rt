@@ -10,13 +10,14 @@ ghost use Rattle.lgm_store.specs.History.{with_channel, with_update, with_node, 
 use super::Map;
 use crate::end_counts::EndCounts;
 use crate::op::Op;
+use crate::shared::Shared;
 use lgm_check::{ChannelRow, NodeRow, UpdateRow};
 use lgm_gossip::{Point, Scid};
 use std::alloc::AllocError;
 use std::collections::BTreeMap;
 
 impl Map {
-    /// Does an operation, of which it keeps a copy.
+    /// Does an operation, whose row it shares.
     ///
     /// A channel is added unless it is held. An update is kept if its channel is held, and a node if a channel ends at
     /// it, each in place of the row that it had. A close takes a channel out with its updates, and then each node at
@@ -26,37 +27,29 @@ impl Map {
         ensures ok { OnOk result (self.new ≡ absorbed self.old op.now) }
         ensures err { OnErr result (self.new ≡ self.old) }
     {
-        let op = op.copy(self.alloc)?;
-        self.absorb_owned(op)
-    }
-
-    /// The same, without a copy. Want of memory leaves the map as it was, and the operation is dropped.
-    pub fn absorb_owned(&mut self, op: Op) -> Result<(), AllocError>
-        ensures ok { OnOk result (self.new ≡ absorbed self.old op) }
-        ensures err { OnErr result (self.new ≡ self.old) }
-    {
         match op {
-            Op::Channel(row) => self.add_channel(row),
-            Op::Update(row) => self.put_update(row),
-            Op::Node(row) => self.put_node(row),
+            Op::Channel(row) => self.add_channel(row.share()?),
+            Op::Update(row) => self.put_update(row.share()?),
+            Op::Node(row) => self.put_node(row.share()?),
             Op::Close(scid) => {
-                self.close(scid);
+                self.close(*scid);
                 Ok(())
             }
         }
     }
 
-    fn add_channel(&mut self, row: ChannelRow) -> Result<(), AllocError>
+    fn add_channel(&mut self, row: Shared<ChannelRow>) -> Result<(), AllocError>
         ensures ok { OnOk result (self.new ≡ with_channel self.old row) }
         ensures err { OnErr result (self.new ≡ self.old) }
     {
-        if self.channel(row.scid()).is_some() {
+        let scid = row.get().scid();
+        if self.channel(scid).is_some() {
             return Ok(());
         }
         prove!(self.channels.len() < usize::MAX);
-        let (first, second) = (row.node(false), row.node(true));
+        let (first, second) = (row.get().node(false), row.get().node(true));
         self.ends.add(first, second)?;
-        match self.channels.insert(row.scid(), row) {
+        match self.channels.insert(scid, row) {
             Ok(_) => Ok(()),
             Err(refused) => {
                 self.ends.remove(first, second);
@@ -65,25 +58,27 @@ impl Map {
         }
     }
 
-    fn put_update(&mut self, row: UpdateRow) -> Result<(), AllocError>
+    fn put_update(&mut self, row: Shared<UpdateRow>) -> Result<(), AllocError>
         ensures ok { OnOk result (self.new ≡ with_update self.old row) }
         ensures err { OnErr result (self.new ≡ self.old) }
     {
-        if self.channel(row.scid()).is_none() {
+        let (scid, second) = (row.get().scid(), row.get().is_second());
+        if self.channel(scid).is_none() {
             return Ok(());
         }
-        self.updates.insert((row.scid(), row.is_second()), row)?;
+        self.updates.insert((scid, second), row)?;
         Ok(())
     }
 
-    fn put_node(&mut self, row: NodeRow) -> Result<(), AllocError>
+    fn put_node(&mut self, row: Shared<NodeRow>) -> Result<(), AllocError>
         ensures ok { OnOk result (self.new ≡ with_node self.old row) }
         ensures err { OnErr result (self.new ≡ self.old) }
     {
-        if !self.ends_channel(&row.node()) {
+        let node = row.get().node();
+        if !self.ends_channel(&node) {
             return Ok(());
         }
-        self.nodes.insert(row.node(), row)?;
+        self.nodes.insert(node, row)?;
         Ok(())
     }
 
@@ -95,7 +90,7 @@ impl Map {
         };
         self.updates.remove(&(scid, false));
         self.updates.remove(&(scid, true));
-        let (first, second) = (channel.node(false), channel.node(true));
+        let (first, second) = (channel.get().node(false), channel.get().node(true));
         self.ends.remove(first, second);
         drop_unless_ended(&mut self.nodes, &self.ends, &first);
         drop_unless_ended(&mut self.nodes, &self.ends, &second);
@@ -103,7 +98,7 @@ impl Map {
 }
 
 /// The node goes if no channel ends at it any more.
-fn drop_unless_ended(nodes: &mut BTreeMap<Point, NodeRow>, ends: &EndCounts, node: &Point)
+fn drop_unless_ended(nodes: &mut BTreeMap<Point, Shared<NodeRow>>, ends: &EndCounts, node: &Point)
     requires keyed { IsKeyed point_of nodes.old.entries }
     requires ascend { IsOrdered point_cmp nodes.old }
     ensures keyed { IsKeyed point_of nodes.new.entries }

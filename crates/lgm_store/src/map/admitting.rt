@@ -33,7 +33,7 @@ impl Map {
         ensures { Gives Refusal.NoMemory (λ op. op) result (admitted self.now checked.now) }
     {
         self.admits(checked)?;
-        Ok(Op::from(checked.copy(alloc)?))
+        Ok(Op::of(alloc, checked.copy(alloc)?)?)
     }
 
     /// The operation that closes a channel, or 11 `unknown-channel` for one that isn't held. It takes no memory.

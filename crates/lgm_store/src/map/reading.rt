@@ -7,6 +7,7 @@ ghost use Rattle.lgm_store.specs.Reading.{next_channel_of, next_node_of, block_o
 ghost use Rattle.lgm_store.specs.Start.{start_after, IsEndBefore};
 
 use super::Map;
+use crate::shared::found;
 use lgm_check::{ChannelRow, NodeRow, UpdateRow};
 use lgm_gossip::{Point, Scid, Scids};
 use std::alloc::{AllocError, Global};
@@ -17,21 +18,21 @@ impl Map {
     pub fn channel(&self, scid: Scid) -> Option<&ChannelRow>
         ensures { option_copied result ≡ channel_of self.now.channels scid }
     {
-        self.channels.get(&scid)
+        found(self.channels.get(&scid))
     }
 
     /// The row of a channel's direction, if it is held: that from node 2 if `second`, else that from node 1.
     pub fn update(&self, scid: Scid, second: bool) -> Option<&UpdateRow>
         ensures { option_copied result ≡ update_of self.now.updates scid second }
     {
-        self.updates.get(&(scid, second))
+        found(self.updates.get(&(scid, second)))
     }
 
     /// The row of a node, if it is held.
     pub fn node(&self, node: &Point) -> Option<&NodeRow>
         ensures { option_copied result ≡ node_of self.now.nodes node.now }
     {
-        self.nodes.get(node)
+        found(self.nodes.get(node))
     }
 
     /// Whether a held channel ends at the node.
@@ -55,7 +56,7 @@ impl Map {
     {
         let range = (start_after(after), Bound::Unbounded);
         let (_, row) = self.channels.range(range).next()?;
-        Some(row)
+        Some(row.get())
     }
 
     /// The node with the least point above one, byte by byte, or with the least of all.
@@ -64,7 +65,7 @@ impl Map {
     {
         let range = (start_after(after.copied()), Bound::Unbounded);
         let (_, row) = self.nodes.range(range).next()?;
-        Some(row)
+        Some(row.get())
     }
 
     /// The ids of the channels that were funded in the blocks from `from` on and before `to`, ascending. Only these

@@ -24,7 +24,7 @@ pub invariant_of-self-2 : goal.invariant_of-self-2
 invariant_of-self-2 c =
     (closed c.self.inside.channels.entries c.remove.new.self.entries c.self.inside.updates.entries c.remove-2.new.self.entries c.remove-3.new.self.entries
     c.self.inside.nodes.entries c.drop_unless_ended.new.nodes.entries c.drop_unless_ended-2.new.nodes.entries c.self.inside.ends c.remove-4.new.self
-    c.args.scid c.in-Some.channel c.node-first.result c.node-second.result c.node-first.ensures c.node-second.ensures
+    c.args.scid c.in-Some.channel c.node-first.result c.node-second.result (c.node-first.ensures ∙ ap (λ row. row.message.node_id_1) c.get.ensures) (c.node-second.ensures ∙ ap (λ row. row.message.node_id_2) c.get-2.ensures)
     c.remove.ensures.entries (sym c.in-Some.ensures.value) c.remove.ensures.ordered c.remove-2.ensures.entries c.remove-3.ensures.entries c.remove-2.ensures.ordered c.remove-3.ensures.ordered
     c.remove-4.ensures c.drop_unless_ended.ensures.left c.drop_unless_ended-2.ensures.left c.drop_unless_ended-2.ensures.keyed c.drop_unless_ended-2.ensures.ascend c.self.invariant).sound
 
@@ -32,7 +32,7 @@ pub returns : goal.returns
 returns c =
     let left = closed c.self.inside.channels.entries c.remove.new.self.entries c.self.inside.updates.entries c.remove-2.new.self.entries c.remove-3.new.self.entries
     c.self.inside.nodes.entries c.drop_unless_ended.new.nodes.entries c.drop_unless_ended-2.new.nodes.entries c.self.inside.ends c.remove-4.new.self
-    c.args.scid c.in-Some.channel c.node-first.result c.node-second.result c.node-first.ensures c.node-second.ensures
+    c.args.scid c.in-Some.channel c.node-first.result c.node-second.result (c.node-first.ensures ∙ ap (λ row. row.message.node_id_1) c.get.ensures) (c.node-second.ensures ∙ ap (λ row. row.message.node_id_2) c.get-2.ensures)
     c.remove.ensures.entries (sym c.in-Some.ensures.value) c.remove.ensures.ordered c.remove-2.ensures.entries c.remove-3.ensures.entries c.remove-2.ensures.ordered c.remove-3.ensures.ordered
     c.remove-4.ensures c.drop_unless_ended.ensures.left c.drop_unless_ended-2.ensures.left c.drop_unless_ended-2.ensures.keyed c.drop_unless_ended-2.ensures.ascend c.self.invariant in
     let found = lookup-channel c.self.inside.channels.entries c.args.scid c.self.invariant.channels_keyed in

@@ -1,5 +1,6 @@
-use Rattle.std.proofs.Common.{sym, ◌∙◌, ap}
+use Rattle.std.proofs.Common.{◌≡◌, sym, ◌∙◌, ap}
 use Rattle.lgm_store.specs.Rows.{put, by_node, ends_channel}
+use Rattle.lgm_store.specs.Sound.{point_of}
 use Rattle.lgm_store.proofs.Lists.{values-node}
 use Rattle.lgm_store.proofs.Soundness.{IsSound-node}
 use Rattle.lgm_store.proofs.Changes.{with_node-new}
@@ -7,12 +8,14 @@ use Rattle.lgm_store.proofs.map.Map.put_node.Goals as goal
 
 pub invariant_of-self-2 : goal.invariant_of-self-2
 invariant_of-self-2 c =
-    let ended = rw c.node.ensures at (sym c.ends_channel.ensures ∙ c.if-not-ends_channel.false) in
+    let own = c.node-node.ensures ∙ ap point_of c.get.ensures in
+    let ended = rw own at (sym c.ends_channel.ensures ∙ c.if-not-ends_channel.false) in
     IsSound-node c.self.inside.channels.entries c.self.inside.updates.entries c.self.inside.nodes.entries c.insert.new.self.entries c.self.inside.ends
-    c.node-2.result c.args.row c.node-2.ensures c.in_ok-insert.ensures.entries c.insert.ensures.ordered (ap (λ rows. ends_channel rows.channels c.args.row.message.node_id) c.self.view_is ∙ ended) c.self.invariant
+    c.node-node.result c.args.row own c.in_ok-insert.ensures.entries c.insert.ensures.ordered (ap (λ rows. ends_channel rows.channels c.args.row.message.node_id) c.self.view_is ∙ ended) c.self.invariant
 
 pub returns-clause-ok : goal.returns-clause-ok
 returns-clause-ok c =
-    let put_is = values-node c.self.inside.nodes.entries c.insert.new.self.entries c.node-2.result c.args.row c.node-2.ensures c.in_ok-insert.ensures.entries c.self.invariant.nodes_keyed c.insert.ensures.was_ordered in
-    with_node-new c.args.self.now _ c.args.row (rw c.node.ensures at (sym c.ends_channel.ensures ∙ c.if-not-ends_channel.false))
+    let own = c.node-node.ensures ∙ ap point_of c.get.ensures in
+    let put_is = values-node c.self.inside.nodes.entries c.insert.new.self.entries c.node-node.result c.args.row own c.in_ok-insert.ensures.entries c.self.invariant.nodes_keyed c.insert.ensures.was_ordered in
+    with_node-new c.args.self.now _ c.args.row (rw own at (sym c.ends_channel.ensures ∙ c.if-not-ends_channel.false))
     (ap (λ rows. rows.channels) c.self.view_is) (ap (λ rows. rows.updates) c.self.view_is) (put_is ∙ ap (λ rows. put by_node rows.nodes c.args.row) c.self.view_is)

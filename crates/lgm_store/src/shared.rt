@@ -1,0 +1,63 @@
+//! Values with several owners.
+
+ghost use Rattle.std.specs.Prelude.{◌≡◌, IfOk};
+ghost use Rattle.std.specs.Option.{option_copied};
+
+use std::alloc::{AllocError, Global};
+use std::marker::Model;
+use std::sync::Arc;
+
+/// A value with several owners, none of which changes it. Contracts see the value.
+///
+/// The maps and histories that have a row share it, so that a further one costs no copy.
+#[derive(Debug, Drop)]
+pub struct Shared<T> {
+    cell: Arc<T>,
+}
+
+impl<T> Model for Shared<T> {
+    ghost use Rattle.std.specs.Arc.{arc_value};
+
+    ghost Value = { T };
+
+    ghost view = { λ s. arc_value s.cell };
+}
+
+impl<T: Drop> Shared<T> {
+    /// The value, with one owner so far. The only error is want of memory.
+    pub fn new(alloc: Global, value: T) -> Result<Shared<T>, AllocError>
+        ensures { IfOk result (λ shared. shared ≡ value) }
+    {
+        Ok(Shared {
+            cell: Arc::new(alloc, value)?,
+        })
+    }
+}
+
+impl<T> Shared<T> {
+    /// One more owner. The only error is that the count of owners is full, at 2^63.
+    pub fn share(&self) -> Result<Shared<T>, AllocError>
+        ensures { IfOk result (λ shared. shared ≡ self.now) }
+    {
+        Ok(Shared {
+            cell: Arc::try_clone(&self.cell)?,
+        })
+    }
+
+    /// The value, borrowed.
+    pub fn get(&self) -> &T
+        ensures { result.now ≡ self.now }
+    {
+        &self.cell
+    }
+}
+
+/// The value that was found, if any was.
+pub(crate) fn found<T>(shared: Option<&Shared<T>>) -> Option<&T>
+    ensures { option_copied result ≡ option_copied shared.entry }
+{
+    match shared {
+        Some(shared) => Some(shared.get()),
+        None => None,
+    }
+}

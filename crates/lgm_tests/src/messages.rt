@@ -1,0 +1,12 @@
+//! Messages: each type from bytes and to bytes, and each fault in its order.
+
+mod addresses;
+mod copies;
+mod ends;
+mod examples;
+mod faults;
+mod layouts;
+mod lengths;
+mod limits;
+mod records;
+mod words;
