@@ -3,3 +3,5 @@ pub mod Sendings
 pub mod RangeLaws
 pub mod Lengths
 pub mod AskedLaws
+pub mod Walks
+pub mod KnownLaws

@@ -2,3 +2,5 @@ pub mod Piece
 pub mod IdsReply
 pub mod RangeReply
 pub mod Sent
+pub mod Backlog
+pub mod Known

@@ -1,16 +1,23 @@
 //! What a node answers to queries of its map (BOLT 7, "Query Messages").
 //!
-//! [`answer_ids`] gives the messages that are held of some channels, [`answer_range`] the ids of the channels in a range
-//! of blocks. Both give whole messages as bytes, ready to be sent.
+//! [`answer_ids`] gives the messages that are held of some channels, and [`answer_range`] the ids of the channels in a
+//! range of blocks. [`backlog`] gives what of a map passes a [`Filter`]. All of them give whole messages as bytes, ready
+//! to be sent.
 #![tactic(auto)]
 
 mod answering_ids;
 mod answering_range;
+mod backlogs;
 mod encoded;
+mod filter;
+mod newer;
 mod ranges;
 mod replies;
 mod sending;
 
 pub use answering_ids::answer_ids;
 pub use answering_range::answer_range;
+pub use backlogs::backlog;
+pub use filter::Filter;
+pub use newer::news;
 pub use replies::Replies;
