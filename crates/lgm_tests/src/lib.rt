@@ -6,6 +6,8 @@ mod announcements;
 #[cfg(test)]
 mod closes;
 #[cfg(test)]
+mod map;
+#[cfg(test)]
 mod scripts;
 #[cfg(test)]
 mod updates;
