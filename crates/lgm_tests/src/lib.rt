@@ -1,10 +1,14 @@
-//! Tests that cross crates: messages, and whole scripts through `run`, over memory.
+//! Tests that cross crates: messages, the map, and whole scripts through `run`, over memory.
 #![tactic(auto)]
 
 #[cfg(test)]
 mod announcements;
 #[cfg(test)]
 mod closes;
+#[cfg(test)]
+mod filter_lines;
+#[cfg(test)]
+mod map;
 #[cfg(test)]
 mod messages;
 #[cfg(test)]
