@@ -5,3 +5,4 @@ pub mod Lengths
 pub mod AskedLaws
 pub mod Walks
 pub mod KnownLaws
+pub mod CoverLaws

@@ -4,3 +4,4 @@ pub mod RangeReply
 pub mod Sent
 pub mod Backlog
 pub mod Known
+pub mod Cover
