@@ -8,6 +8,7 @@ use std::test::Fail;
 
 /// The channels 1x0x0 and 2x0x0.
 const FIRST: &str = "0000010000000000";
+
 const SECOND: &str = "0000020000000000";
 
 /// A filter of this chain, by its two numbers in hexadecimal digits.
@@ -107,7 +108,9 @@ fn backlog_in_order(rt: HostRuntime) -> Result<(), Fail> {
         "m {second} all 1\nm {first} all 1\nm {by_b} {b} -\nm {by_a} {a} -\nm {other} {b} -\n\
         m {node_b} {b} -\nm {node_a} {a} -\nfilter 1 {all}\ncommit\nfilter 2 {five}\n"
     )?;
-    let backlog = format!(in alloc; "9 to 1 {first}\n9 to 1 {other}\n9 to 1 {second}\n9 to 1 {by_a}\n")?;
+    let backlog = format!(in alloc;
+        "9 to 1 {first}\n9 to 1 {other}\n9 to 1 {second}\n9 to 1 {by_a}\n"
+    )?;
     let want = format!(in alloc;
         "1 accepted\n2 accepted\n3 accepted\n4 accepted\n5 accepted\n6 accepted\n7 accepted\n8 filter\n\
         9 commit 7\n{backlog}9 to 1 {by_b}\n9 to 1 {node_a}\n9 to 1 {node_b}\n10 filter\n\

@@ -5,6 +5,7 @@ use std::test::Fail;
 
 /// The channels 1x0x0 and 2x0x0.
 const FIRST: &str = "0000010000000000";
+
 const SECOND: &str = "0000020000000000";
 
 #[test]
