@@ -1,6 +1,6 @@
 -- Replies to ids that ascend.
 use Rattle.std.proofs.Common.{◌≡◌, ℕ, zero, suc, ◌+◌, ◌-◌, ◌*◌, ◌<◌, ◌≤◌, Bool, true, false, List, [], ◌∷◌, ◌++◌, length, map, take, drop, refl, sym, ap, subst, ◌∙◌, arith, add-one, length-take, length-drop}
-use Rattle.std.specs.Prelude.{All, nat_eq, nat_lt, nat_le, ◌&&◌, slice_index, ◌==◌, if◌then◌else◌}
+use Rattle.std.specs.Prelude.{nat_eq, nat_lt, nat_le, ◌&&◌, slice_index, ◌==◌, if◌then◌else◌}
 use Rattle.std.specs.Cmp.Lexicographic.{pointwise}
 use Rattle.std.specs.List.{AllByRecursion, flat_map, range_with_len}
 use Rattle.std.specs.List.Sorted.{IsStrictlySortedBy}
@@ -17,7 +17,7 @@ use Rattle.lgm_check.specs.declared.row.ChannelRow.{ChannelRow}
 use Rattle.lgm_store.specs.Rows.{Rows, IsAscending, by_id}
 use Rattle.lgm_store.specs.Reading.{block_of, is_between}
 use Rattle.lgm_query.specs.Cover.{CoverRange}
-use Rattle.lgm_query.specs.RangeReply.{range_end, ids_asked_for, reply_count, is_last, ids_at, first_block, last_block, reply_start, reply_end}
+use Rattle.lgm_query.specs.RangeReply.{range_end, ids_asked_for, AreInRange, reply_count, is_last, ids_at, first_block, last_block, reply_start, reply_end}
 use Rattle.lgm_query.proofs.RangeLaws.{All-ids_asked_for}
 
 -- ---- ids that ascend
@@ -52,14 +52,14 @@ blocks ids sorted i j le within = of (slice_index ids i) (slice_index ids j) (no
 
 -- ---- ids in a range
 
-from_first : (query : RangeQuery) (ids : List ℕ) → All (λ id. is_between id query.first_blocknum (range_end query) ≡ true) ids
+from_first : (query : RangeQuery) (ids : List ℕ) → AreInRange query ids
     → (j : ℕ) → j < length ids → query.first_blocknum ≤ block_of (slice_index ids j)
 from_first query ids between j within = of query.first_blocknum (block_of (slice_index ids j)) (range_end query) (between j 0 within)
   where
     of : (a b c : ℕ) → (nat_le a b && nat_lt b c) ≡ true → a ≤ b
     of a b c e = grind (arith, nat_tests)
 
-before_end : (query : RangeQuery) (ids : List ℕ) → All (λ id. is_between id query.first_blocknum (range_end query) ≡ true) ids
+before_end : (query : RangeQuery) (ids : List ℕ) → AreInRange query ids
     → (j : ℕ) → j < length ids → block_of (slice_index ids j) < range_end query
 before_end query ids between j within = of query.first_blocknum (block_of (slice_index ids j)) (range_end query) (between j 0 within)
   where
@@ -117,7 +117,7 @@ start_near end first = by (first + 1 == end) refl
     by true is = rw is (omega arith, omega arith)
     by false is = rw is (omega arith, omega arith)
 
-module _ (query : RangeQuery) (ids : List ℕ) (sorted : IsStrictlySortedBy nat_cmp ids) (between : All (λ id. is_between id query.first_blocknum (range_end query) ≡ true) ids) where
+module _ (query : RangeQuery) (ids : List ℕ) (sorted : IsStrictlySortedBy nat_cmp ids) (between : AreInRange query ids) where
   -- a reply starts no later than the blocks of its ids
   starts : (i j : ℕ) → i < reply_count ids → 4000 * i ≤ j → j < length ids → reply_start query ids i ≤ block_of (slice_index ids j)
   starts zero j within low high = from_first query ids between j high

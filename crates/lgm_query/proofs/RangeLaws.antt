@@ -1,6 +1,6 @@
 -- Replies, put together from their parts.
 use Rattle.std.proofs.Common.{◌≡◌, ℕ, ◌-◌, ◌*◌, ◌≤◌, Bool, true, false, List, length, drop, Option, Result, Ok, Err, refl, ◌∙◌, arith, length-take}
-use Rattle.std.specs.Prelude.{All, IfOk, nat_eq, if◌then◌else◌}
+use Rattle.std.specs.Prelude.{IfOk, nat_eq, if◌then◌else◌}
 use Rattle.std.specs.Cmp.Lexicographic.{pointwise}
 use Rattle.std.specs.Option.{ForSome}
 use Rattle.std.proofs.lemmas.List.{length-map}
@@ -11,14 +11,14 @@ use Rattle.lgm_gossip.specs.declared.timestamps.Timestamps.{Timestamps}
 use Rattle.lgm_gossip.specs.RangeReply.{Reply}
 use Rattle.lgm_store.specs.Rows.{Rows}
 use Rattle.lgm_store.specs.Reading.{is_between}
-use Rattle.lgm_query.specs.RangeReply.{range_end, ids_asked_for, is_last, ids_at, reply_start, reply_end, timestamps_of, all_timestamps_of, asks_for_timestamps, timestamps_asked_for, reply}
+use Rattle.lgm_query.specs.RangeReply.{range_end, ids_asked_for, AreInRange, is_last, ids_at, reply_start, reply_end, timestamps_of, all_timestamps_of, asks_for_timestamps, timestamps_asked_for, reply}
 
 -- the ids that are asked for lie in the range
 pub All-ids_asked_for : (chain : ChainHash) (rows : Rows) (query : RangeQuery)
-    → All (λ id. is_between id query.first_blocknum (range_end query) ≡ true) (ids_asked_for chain rows query)
+    → AreInRange query (ids_asked_for chain rows query)
 All-ids_asked_for chain rows query = by (pointwise nat_eq query.chain_hash.0 chain.0) refl
   where
-    by : (b : Bool) → pointwise nat_eq query.chain_hash.0 chain.0 ≡ b → All (λ id. is_between id query.first_blocknum (range_end query) ≡ true) (ids_asked_for chain rows query)
+    by : (b : Bool) → pointwise nat_eq query.chain_hash.0 chain.0 ≡ b → AreInRange query (ids_asked_for chain rows query)
     by true is = rw is (filter_passes (λ id. is_between id query.first_blocknum (range_end query)) _)
     by false is = rw is (All-nil (λ id. is_between id query.first_blocknum (range_end query) ≡ true))
 

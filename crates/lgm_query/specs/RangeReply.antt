@@ -1,5 +1,5 @@
 -- The replies to a query of a range of blocks: the ids of its channels, in pieces of at most 4,000.
-use Rattle.std.specs.Prelude.{ℕ, zero, suc, ◌+◌, ◌-◌, ◌*◌, max, nat_eq, ◌==◌, Bool, true, false, List, [], length, map, take, drop, Option, Some, None, slice_index, unwrap_or, if◌then◌else◌}
+use Rattle.std.specs.Prelude.{◌≡◌, ℕ, zero, suc, ◌+◌, ◌-◌, ◌*◌, max, nat_eq, ◌==◌, Bool, true, false, List, [], length, map, take, drop, Option, Some, None, slice_index, unwrap_or, All, if◌then◌else◌}
 use Rattle.std.specs.Cmp.Lexicographic.{pointwise}
 use Rattle.std.specs.Int.{bit_at, div_ceil}
 use Rattle.std.specs.List.{range_with_len}
@@ -11,7 +11,7 @@ use Rattle.lgm_gossip.specs.declared.timestamps.Timestamps.{Timestamps}
 use Rattle.lgm_gossip.specs.RangeReply.{Reply}
 use Rattle.lgm_gossip.specs.Spelling.{spelling}
 use Rattle.lgm_store.specs.Rows.{Rows, update_of}
-use Rattle.lgm_store.specs.Reading.{block_of, ids_between_of}
+use Rattle.lgm_store.specs.Reading.{block_of, is_between, ids_between_of}
 
 -- the block that the range of a query ends before; a range of no blocks counts as one block
 abbrev pub range_end : RangeQuery → ℕ
@@ -23,6 +23,10 @@ ids_asked_for chain rows query =
     if pointwise nat_eq query.chain_hash.0 chain.0
     then ids_between_of rows.channels query.first_blocknum (range_end query)
     else []
+
+-- each id lies in the range
+abbrev pub AreInRange : RangeQuery → List ℕ → Type 0
+AreInRange query ids = All (λ id. is_between id query.first_blocknum (range_end query) ≡ true) ids
 
 -- how many replies there are: one for each 4,000 ids that are begun, and one if there are none
 abbrev pub reply_count : List ℕ → ℕ

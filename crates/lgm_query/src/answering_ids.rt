@@ -13,8 +13,9 @@ use std::alloc::{AllocError, Global};
 /// The flags that ask for all that is held of a channel.
 const ALL: u64 = 0b11111;
 
-/// The reply to a `query_short_channel_ids` on a map of `chain`: what is held of the channels, in the query's order, and
-/// then `reply_short_channel_ids_end` (BOLT 7, "The query_short_channel_ids/reply_short_channel_ids_end Messages").
+/// The reply to a `query_short_channel_ids` on a map of `chain`: what is held of the channels, in the query's order,
+/// and then `reply_short_channel_ids_end` (BOLT 7, "The query_short_channel_ids/reply_short_channel_ids_end
+/// Messages").
 ///
 /// The flags of an id choose among its messages: bit 0 the announcement, bits 1 and 2 the updates by node 1 and node 2,
 /// bits 3 and 4 the announcements of node 1 and node 2. Other bits choose nothing. A query without flags asks for all
@@ -66,6 +67,7 @@ fn flags_at(query: &IdsQuery, place: usize) -> u64
 fn end(alloc: Global, query: &IdsQuery, full_information: u8) -> Result<Bytes, AllocError>
     ensures { IfOk result (λ bytes. bytes ≡ end_bytes query.now full_information) }
 {
+    // So the message isn't too long.
     let chain: &[u8] = &query.chain_hash.0;
     prove!(chain.len() == 32);
     let end = IdsEnd {

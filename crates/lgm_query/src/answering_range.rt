@@ -1,8 +1,7 @@
 //! Answers to queries of ranges of blocks.
 
-ghost use Rattle.std.specs.Prelude.{◌≡◌, ◌<◌, ◌≤◌, true, All, IfOk};
-ghost use Rattle.lgm_store.specs.Reading.{is_between};
-ghost use Rattle.lgm_query.specs.RangeReply.{range_end, ids_asked_for, reply_count, timestamp_of, timestamps_of, all_timestamps_of, asks_for_timestamps, timestamps_asked_for, reply_bytes, range_reply};
+ghost use Rattle.std.specs.Prelude.{◌≡◌, ◌<◌, IfOk};
+ghost use Rattle.lgm_query.specs.RangeReply.{ids_asked_for, AreInRange, reply_count, timestamp_of, timestamps_of, all_timestamps_of, asks_for_timestamps, timestamps_asked_for, reply_bytes, range_reply};
 
 use crate::encoded::encoded;
 use crate::ranges::{ids_at, is_last, number_of_blocks, range_end, reply_count, reply_start};
@@ -66,9 +65,10 @@ fn reply(
     place: usize,
 ) -> Result<Bytes, AllocError>
     requires place { place < reply_count ids.now }
-    requires between { All (λ id. is_between id query.now.first_blocknum (range_end query.now) ≡ true) ids.now }
+    requires between { AreInRange query.now ids.now }
     ensures { IfOk result (λ bytes. bytes ≡ reply_bytes map.now query.now ids.now place) }
 {
+    // So the reply isn't too long.
     let chain: &[u8] = &query.chain_hash.0;
     prove!(chain.len() == 32);
     let own = ids_at(ids, place);

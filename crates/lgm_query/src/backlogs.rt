@@ -17,8 +17,8 @@ use std::alloc::{AllocError, Global};
 /// gossip_timestamp_filter Message").
 ///
 /// Channels come first, by their ids: for each its announcement, if an update of it passes, and then the updates by
-/// node 1 and by node 2 that pass. Behind them come the announcements of nodes that pass, by their points. An update and
-/// a node's announcement pass by their own timestamps.
+/// node 1 and by node 2 that pass. Behind them come the announcements of nodes that pass, by their points. An update
+/// and a node's announcement pass by their own timestamps.
 ///
 /// It walks the whole map, and costs a logarithm of it for each channel and node. The only error is want of memory.
 pub fn backlog(alloc: Global, map: &Map, filter: &Filter) -> Result<Replies, AllocError>
@@ -57,7 +57,8 @@ fn push_channel(
     filter: &Filter,
     row: &ChannelRow,
 ) -> Result<(), AllocError>
-    ensures { OnOk result (messages.new.items ≡ messages.old.items ++ passing_channel filter.now map.now row.now) }
+    ensures { OnOk result (messages.new.items
+        ≡ messages.old.items ++ passing_channel filter.now map.now row.now) }
 {
     let first = passing_update(map, filter, row.scid(), false);
     let second = passing_update(map, filter, row.scid(), true);
@@ -71,7 +72,8 @@ fn push_channel(
 
 /// The message of a channel's update, if it is held and passes.
 fn passing_update<'a>(map: &'a Map, filter: &Filter, scid: Scid, second: bool) -> Option<&'a Bytes>
-    ensures { option_copied result ≡ passing_update filter.now (update_of map.now.updates scid second) }
+    ensures { option_copied result
+        ≡ passing_update filter.now (update_of map.now.updates scid second) }
 {
     match map.update(scid, second) {
         Some(row) if filter.passes(row.message.timestamp) => Some(&row.raw),
@@ -87,7 +89,8 @@ fn push_nodes(
     filter: &Filter,
 ) -> Result<(), AllocError>
     requires { IsAscending map.now }
-    ensures { OnOk result (messages.new.items ≡ messages.old.items ++ flat_map (passing_node filter.now) map.now.nodes) }
+    ensures { OnOk result (messages.new.items
+        ≡ messages.old.items ++ flat_map (passing_node filter.now) map.now.nodes) }
 {
     let mut last = None;
     while let Some(row) = map.next_node(last.as_ref()) {
@@ -106,7 +109,8 @@ fn passing_node<'a>(filter: &Filter, row: &'a NodeRow) -> Option<&'a Bytes>
 
 /// Puts a copy of a message at the end, if there is one.
 fn push(alloc: Global, messages: &mut Vec<Bytes>, message: Option<&Bytes>) -> Result<(), AllocError>
-    ensures { OnOk result (messages.new.items ≡ messages.old.items ++ option_to_list (option_copied message.entry)) }
+    ensures { OnOk result (messages.new.items
+        ≡ messages.old.items ++ option_to_list (option_copied message.entry)) }
 {
     if let Some(message) = message {
         messages.push(message.copy(alloc)?)?;

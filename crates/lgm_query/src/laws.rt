@@ -7,8 +7,8 @@ ghost use Rattle.lgm_query.specs.RangeReply.{ids_asked_for};
 ghost use Rattle.lgm_query.specs.Cover.{CoverRange};
 
 /// The replies to a range of blocks cover it, where rows ascend, as those of each map do: they start and end where the
-/// range does, skip no block, hold the blocks of their ids, and have all ids together. A call does nothing: its contract
-/// is the law.
+/// range does, skip no block, hold the blocks of their ids, and have all ids together. A call does nothing: its
+/// contract is the law.
 pub fn replies_cover_range()
     ensures { (chain : ChainHash) (rows : Rows) (query : RangeQuery) → IsAscending rows
         → CoverRange query (ids_asked_for chain rows query) }

@@ -1,8 +1,8 @@
 //! What a node answers to queries of its map (BOLT 7, "Query Messages").
 //!
 //! [`answer_ids`] gives the messages that are held of some channels, and [`answer_range`] the ids of the channels in a
-//! range of blocks. [`backlog`] gives what of a map passes a [`Filter`]. All of them give whole messages as bytes, ready
-//! to be sent.
+//! range of blocks. [`backlog`] gives what passes a [`Filter`] of a map, and [`news`] what is new of it in a later map.
+//! All of them give whole messages as bytes, ready to be sent.
 #![tactic(auto)]
 
 mod answering_ids;

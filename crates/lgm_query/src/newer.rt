@@ -15,8 +15,8 @@ use std::collections::BTreeSet;
 
 /// The messages that pass a filter in a later map and didn't in an earlier one, in the order of [`backlog`].
 ///
-/// Messages are told apart by their bytes. So the announcement of a channel is news once an update of it begins to pass,
-/// and a message that was taken away and came back between the two maps is none.
+/// Messages are told apart by their bytes. So the announcement of a channel is news once an update of it begins to
+/// pass, and a message that was taken away and came back between the two maps is none.
 ///
 /// It walks both maps, and costs a logarithm of them for each channel, node and message. The only error is want of
 /// memory.
@@ -37,7 +37,8 @@ pub fn news(
 
 /// These messages, to be looked up.
 fn known<'a>(alloc: Global, messages: &'a [Bytes]) -> Result<BTreeSet<&'a [u8]>, AllocError>
-    ensures { IfOk result (λ known. (message : List ℕ) → is_known known.keys message ≡ is_among messages.now message) }
+    ensures { IfOk result (λ known. (message : List ℕ)
+        → is_known known.keys message ≡ is_among messages.now message) }
 {
     let mut known = BTreeSet::new(alloc);
     for message in messages {

@@ -1,8 +1,8 @@
 //! The ranges of blocks that replies are about.
 
-ghost use Rattle.std.specs.Prelude.{◌≡◌, ◌+◌, ◌-◌, ◌^◌, ◌<◌, true, All};
-ghost use Rattle.lgm_store.specs.Reading.{block_of, is_between};
-ghost use Rattle.lgm_query.specs.RangeReply.{range_end, reply_count, is_last, ids_at, reply_end, reply_start};
+ghost use Rattle.std.specs.Prelude.{◌≡◌, ◌+◌, ◌-◌, ◌^◌, ◌<◌};
+ghost use Rattle.lgm_store.specs.Reading.{block_of};
+ghost use Rattle.lgm_query.specs.RangeReply.{range_end, AreInRange, reply_count, is_last, ids_at, reply_end, reply_start};
 
 use lgm_gossip::{RangeQuery, Scid};
 
@@ -43,7 +43,7 @@ pub(crate) fn ids_at(ids: &[Scid], place: usize) -> &[Scid]
 /// The block that the reply at a place ends before.
 fn reply_end(query: &RangeQuery, ids: &[Scid], place: usize) -> u64
     requires place { place < reply_count ids.now }
-    requires between { All (λ id. is_between id query.now.first_blocknum (range_end query.now) ≡ true) ids.now }
+    requires between { AreInRange query.now ids.now }
     ensures value { result ≡ reply_end query.now ids.now place }
     ensures most { result < query.now.first_blocknum + 2 ^ 32 }
 {
@@ -74,10 +74,11 @@ pub(crate) fn reply_start(query: &RangeQuery, ids: &[Scid], place: usize) -> u32
 /// How many blocks the reply at a place is about.
 pub(crate) fn number_of_blocks(query: &RangeQuery, ids: &[Scid], place: usize) -> u32
     requires place { place < reply_count ids.now }
-    requires between { All (λ id. is_between id query.now.first_blocknum (range_end query.now) ≡ true) ids.now }
+    requires between { AreInRange query.now ids.now }
     ensures { result ≡ reply_end query.now ids.now place - reply_start query.now ids.now place }
 {
     let start = u64::from(reply_start(query, ids, place));
+    // Where rows ascend, as those of each map do, no reply ends before it starts.
     reply_end(query, ids, place).saturating_sub(start) as u32
 }
 

@@ -100,7 +100,9 @@ impl Sending {
     }
 
     fn send_update(&mut self, map: &Map, scid: Scid, second: bool) -> Result<(), AllocError>
-        ensures { OnOk result (Sends (option_to_list (option_map update (update_of map.now.updates scid second))) self.old self.new) }
+        ensures { OnOk result (Sends
+            (option_to_list (option_map update (update_of map.now.updates scid second)))
+            self.old self.new) }
     {
         match map.update(scid, second) {
             None => Ok(()),
@@ -110,7 +112,9 @@ impl Sending {
 
     /// Sends the announcement of a node, if it is held and wasn't sent.
     fn send_node(&mut self, map: &Map, point: &Point) -> Result<(), AllocError>
-        ensures { OnOk result (Sends (option_to_list (option_map node (node_of map.now.nodes point.now))) self.old self.new) }
+        ensures { OnOk result (Sends
+            (option_to_list (option_map node (node_of map.now.nodes point.now)))
+            self.old self.new) }
     {
         let Some(row) = map.node(point) else {
             return Ok(());
