@@ -12,7 +12,10 @@ mod map;
 #[cfg(test)]
 mod messages;
 #[cfg(test)]
+mod queries;
+#[cfg(test)]
 mod query_lines;
+#[cfg(test)]
 mod scripts;
 #[cfg(test)]
 mod updates;

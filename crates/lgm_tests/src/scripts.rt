@@ -94,3 +94,11 @@ pub fn assert_answers(
     }
     Ok(())
 }
+
+/// What is written for the script.
+pub fn written(alloc: Global, script: &[u8]) -> Result<Vec<u8>, Fail> {
+    let mut reader = MemorySource::new(script, 100_000);
+    let mut writer = MemorySink::new(alloc);
+    run(alloc, &mut reader, &mut writer, &ChainHash([0xc1; 32]))?;
+    Ok(Vec::from_slice(alloc, writer.taken())?)
+}
