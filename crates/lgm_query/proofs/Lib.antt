@@ -6,3 +6,9 @@ pub mod AskedLaws
 pub mod Walks
 pub mod KnownLaws
 pub mod CoverLaws
+pub mod KeyNewsLaws
+pub mod KeyNews
+pub mod Untouched
+pub mod Telling
+pub mod Lying
+pub mod Touching

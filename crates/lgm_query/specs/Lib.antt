@@ -5,3 +5,5 @@ pub mod Sent
 pub mod Backlog
 pub mod Known
 pub mod Cover
+pub mod KeyNews
+pub mod Touched

@@ -50,7 +50,7 @@ fn push_channels(
 }
 
 /// Puts what passes of a channel at the end.
-fn push_channel(
+pub(crate) fn push_channel(
     alloc: Global,
     messages: &mut Vec<Bytes>,
     map: &Map,
@@ -101,14 +101,18 @@ fn push_nodes(
 }
 
 /// The message of a node, if it passes.
-fn passing_node<'a>(filter: &Filter, row: &'a NodeRow) -> Option<&'a Bytes>
+pub(crate) fn passing_node<'a>(filter: &Filter, row: &'a NodeRow) -> Option<&'a Bytes>
     ensures { option_to_list (option_copied result) ≡ passing_node filter.now row.now }
 {
     filter.passes(row.message.timestamp).then_some(&row.raw)
 }
 
 /// Puts a copy of a message at the end, if there is one.
-fn push(alloc: Global, messages: &mut Vec<Bytes>, message: Option<&Bytes>) -> Result<(), AllocError>
+pub(crate) fn push(
+    alloc: Global,
+    messages: &mut Vec<Bytes>,
+    message: Option<&Bytes>,
+) -> Result<(), AllocError>
     ensures { OnOk result (messages.new.items
         ≡ messages.old.items ++ option_to_list (option_copied message.entry)) }
 {

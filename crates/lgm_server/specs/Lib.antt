@@ -8,5 +8,6 @@ pub mod Reply
 pub mod Filters
 pub mod Query
 pub mod Filtering
+pub mod Behind
 pub mod Script
 pub mod Running

@@ -2,7 +2,10 @@
 
 ghost use Rattle.std.specs.Prelude.{◌≡◌, ◌+◌, ◌<◌, ◌^◌, [], Ok, IfErr, IfOk, OnOk, IsErrOf};
 ghost use Rattle.lgm_wire.specs.Reading.{Gives};
+ghost use Rattle.std.specs.List.{AllByRecursion};
 ghost use Rattle.lgm_store.specs.History.{fold_from};
+ghost use Rattle.lgm_query.specs.KeyNews.{TellKeys};
+ghost use Rattle.lgm_query.specs.Touched.{TellsKey};
 ghost use Rattle.lgm_server.specs.Device.{Appends};
 ghost use Rattle.lgm_server.specs.Text.{with_gathered};
 ghost use Rattle.lgm_server.specs.Running.{IsAnswerFault};
@@ -41,21 +44,21 @@ pub struct Engine {
 }
 
 impl Model for Engine {
-    ghost use Rattle.std.specs.Prelude.{◌≡◌};
-    ghost use Rattle.lgm_store.specs.History.{fold_from};
+    ghost use Rattle.lgm_server.specs.Behind.{IsBehind};
     ghost use Rattle.lgm_server.specs.Script.{State};
 
     ghost Value = { State };
 
     ghost view = { λ e. record { rows = e.map; committed = e.committed; accepted = e.accepted; filters = e.filters } };
 
-    ghost invariant = { λ e. e.map ≡ fold_from e.committed e.pending.items };
+    ghost invariant = { λ e. IsBehind e.map e.committed e.pending.items };
 }
 
 /// The operation of an item, if it is accepted.
 #[tactic(auto, unfolding(crate::specs::Script::outcome_of))]
 fn outcome(alloc: Global, chain: &ChainHash, map: &Map, item: &Item) -> Result<Op, Refusal>
-    ensures { Gives Refusal.NoMemory (λ op. op) result (outcome_of chain.now map.now item.now) }
+    ensures value { Gives Refusal.NoMemory (λ op. op) result (outcome_of chain.now map.now item.now) }
+    ensures tells { IfOk result TellsKey }
 {
     match item {
         Item::Gossip(bytes, evidence) => {
@@ -71,6 +74,8 @@ fn outcome(alloc: Global, chain: &ChainHash, map: &Map, item: &Item) -> Result<O
 fn catch_up(map: &mut Map, due: &mut VecDeque<Op>) -> Result<(), AllocError>
     ensures kept { fold_from map.new due.new.items ≡ fold_from map.old due.old.items }
     ensures done { OnOk result (due.new.items ≡ []) }
+    ensures tells { TellKeys map.old → AllByRecursion TellsKey due.old.items
+        → TellKeys map.new × AllByRecursion TellsKey due.new.items }
 {
     while let Some(op) = due.front() {
         map.absorb(op)?;
@@ -101,7 +106,8 @@ impl Engine {
     }
 
     fn accept(&mut self, alloc: Global, op: &Op) -> Result<(), AllocError>
-        requires { self.old.accepted + 1 < 2 ^ 64 }
+        requires accepted { self.old.accepted + 1 < 2 ^ 64 }
+        requires tells { TellsKey op.now }
         ensures { OnOk result (self.new ≡ state_behind self.old (Ok op.now)) }
     {
         self.pending.push_back(op.copy(alloc)?)?;
@@ -152,6 +158,7 @@ impl Engine {
             number,
             &self.committed,
             &self.map,
+            &self.pending,
             &self.filters,
             text,
             writer,

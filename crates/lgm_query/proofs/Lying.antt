@@ -1,0 +1,79 @@
+-- Where news lie: at what operations touch.
+use Rattle.std.proofs.Common.{◌≡◌, ◌⊎◌, inl, inr, ℕ, Bool, true, false, not, ◌||◌, ◌&&◌, cond, List, [], ◌∷◌, ◌++◌, Option, Some, None, refl, sym, ap, ◌∙◌}
+use Rattle.std.specs.Prelude.{nat_eq, ◌==◌}
+use Rattle.std.specs.BTreeMap.{is_at}
+use Rattle.std.specs.Cmp.Lexicographic.{pointwise}
+use Rattle.std.specs.List.{AllByRecursion, filter, find, list_any}
+use Rattle.std.specs.List.Sorted.{IsStrictlySortedBy}
+use Rattle.std.specs.Option.{option_map_or, option_to_list}
+use Rattle.std.specs.Ordering.{nat_cmp}
+use Rattle.std.proofs.lemmas.Bool.{eqb-true}
+use Rattle.std.proofs.lemmas.Cmp.{nat_list_eq_equiv}
+use Rattle.lgm_gossip.specs.declared.point.Point.{Point}
+use Rattle.lgm_check.specs.declared.row.ChannelRow.{ChannelRow}
+use Rattle.lgm_store.specs.declared.op.Op.{Op}
+use Rattle.lgm_store.specs.Rows.{Rows, channel_of, update_of, node_of}
+use Rattle.lgm_store.specs.Ends.{point_cmp}
+use Rattle.lgm_store.specs.History.{absorbed, fold_from}
+use Rattle.lgm_query.specs.declared.filter.Filter.{Filter}
+use Rattle.lgm_query.specs.Backlog.{passing_update, passing_updates, behind_announcement, passing_channel, passing_node, is_among}
+use Rattle.lgm_query.specs.KeyNews.{TellKeys, passing_of_channel, passing_of_node, without_known, news_of_channel, news_of_node, LieAt}
+use Rattle.lgm_query.specs.Touched.{touches_channel, touches_node, TellsKey, Touched, HasTouched}
+use Rattle.lgm_query.proofs.Untouched.{SameChannel, SameNode, channel_untouched, node_untouched, TellKeys-step}
+use Rattle.lgm_query.proofs.KeyNewsLaws.{All-given}
+
+all_known : (known messages : List (List ℕ)) → AllByRecursion (λ m. is_among known m ≡ true) messages → without_known known messages ≡ []
+all_known known [] all = refl
+all_known known (m ∷ ms) all = rw (all.0, all_known known ms all.1) refl
+
+or_true : (b : Bool) → (b || true) ≡ true
+or_true true = refl
+or_true false = refl
+
+each_known : (messages : List (List ℕ)) → AllByRecursion (λ m. is_among messages m ≡ true) messages
+each_known [] = tt
+each_known (m ∷ ms) = (rw (nat_list_eq_equiv.refl m) refl, All-given _ _ _ ms (λ x is other. rw is (or_true _)) (each_known ms) (each_known ms))
+
+-- nothing is new beside itself
+nothing_new : (messages : List (List ℕ)) → without_known messages messages ≡ []
+nothing_new messages = all_known messages messages (each_known messages)
+
+-- the row that is found at an id has it
+found_id : (id : ℕ) (rows : List ChannelRow) (row : ChannelRow) → channel_of rows id ≡ Some row → row.message.short_channel_id ≡ id
+found_id id [] row is = absurd cc
+found_id id (r ∷ rs) row is = by (found_id id rs row) (r.message.short_channel_id == id) refl is
+  where
+    by : (channel_of rs id ≡ Some row → row.message.short_channel_id ≡ id) → (b : Bool) → (r.message.short_channel_id == id) ≡ b → cond (r.message.short_channel_id == id) (Some r) (channel_of rs id) ≡ Some row → row.message.short_channel_id ≡ id
+    by others true test is = let same : Some r ≡ Some row = rw test at is in let own : r ≡ row = cc in ap (λ (x : ChannelRow). x.message.short_channel_id) (sym own) ∙ eqb-true r.message.short_channel_id id test
+    by others false test is = others (rw test at is)
+
+passing_same : (f : Filter) (id : ℕ) (before after : Rows) → SameChannel id before after → passing_of_channel f after id ≡ passing_of_channel f before id
+passing_same f id before after same = ap (λ o. option_map_or (passing_channel f after) o []) same.0 ∙ by (channel_of before.channels id) refl
+  where
+    updates : (row : ChannelRow) → row.message.short_channel_id ≡ id → passing_channel f after row ≡ passing_channel f before row
+    updates row own = rw (own, same.1 false, same.1 true) refl
+
+    by : (o : Option ChannelRow) → channel_of before.channels id ≡ o → option_map_or (passing_channel f after) o [] ≡ option_map_or (passing_channel f before) o []
+    by None is = refl
+    by (Some row) is = updates row (found_id id before.channels row is)
+
+no_channel_news : (f : Filter) (id : ℕ) (before after : Rows) → SameChannel id before after → news_of_channel f before after id ≡ []
+no_channel_news f id before after same = rw (passing_same f id before after same) (nothing_new (passing_of_channel f before id))
+
+no_node_news : (f : Filter) (node : Point) (before after : Rows) → SameNode node before after → news_of_node f before after node ≡ []
+no_node_news f node before after (inl same) = rw same (nothing_new (passing_of_node f before node))
+no_node_news f node before after (inr none) = rw none refl
+
+-- news lie at what operations touch
+pub lie_at : (f : Filter) (before after : Rows) (history : List Op) (touched : Touched) → after ≡ fold_from before history → HasTouched history touched
+    → LieAt f before after touched.channels touched.nodes
+lie_at f before after history touched is has = rw is (record {
+  channels_ascend = has.channels_ascend;
+  nodes_ascend = has.nodes_ascend;
+  of_channels = λ id none. no_channel_news f id before (fold_from before history) (channel_untouched id before history (sym (has.of_channels id) ∙ none));
+  of_nodes = λ node none. no_node_news f node before (fold_from before history) (node_untouched node before history (sym (has.of_nodes node) ∙ none));
+})
+
+pub TellKeys-fold : (rows : Rows) (history : List Op) → TellKeys rows → AllByRecursion TellsKey history → TellKeys (fold_from rows history)
+TellKeys-fold rows [] tell own = tell
+TellKeys-fold rows (op ∷ history) tell own = TellKeys-fold (absorbed rows op) history (TellKeys-step rows op tell own.0) own.1

@@ -1,0 +1,257 @@
+-- What operations leave as it was.
+use Rattle.std.proofs.Common.{◌≡◌, ◌⊎◌, inl, inr, ℕ, Bool, true, false, not, ◌&&◌, ◌||◌, cond, List, [], ◌∷◌, ◌++◌, Option, Some, None, refl, sym, ap, ◌∙◌, arith}
+use Rattle.std.specs.Prelude.{◌==◌, is_some, if◌then◌else◌}
+use Rattle.std.specs.Bool.{beq}
+use Rattle.std.specs.List.{AllByRecursion, filter, find, list_any}
+use Rattle.std.specs.Option.{option_map_or}
+use Rattle.std.specs.declared.cmp.Ordering.{Ordering}
+use Rattle.std.specs.declared.cmp.Ordering.TheVariants.{Less, Equal, Greater}
+use Rattle.std.specs.Ordering.{is_lt, is_gt, is_eq, nat_cmp, bool_cmp, ordering_then}
+use Rattle.std.proofs.lemmas.Bool.Decides.{nat_tests}
+use Rattle.std.proofs.lemmas.Bool.{eqb-true}
+use Rattle.lgm_gossip.specs.declared.point.Point.{Point}
+use Rattle.lgm_check.specs.declared.row.ChannelRow.{ChannelRow}
+use Rattle.lgm_check.specs.declared.row.UpdateRow.{UpdateRow}
+use Rattle.lgm_check.specs.declared.row.NodeRow.{NodeRow}
+use Rattle.lgm_store.specs.declared.op.Op.{Op}
+use Rattle.lgm_store.specs.declared.op.Op.TheVariants as ops
+use Rattle.lgm_store.specs.Rows.{Rows, put, by_id, by_direction, by_node, is_point, is_second, channel_of, update_of, node_of, ends_channel}
+use Rattle.lgm_store.specs.Ends.{point_cmp}
+use Rattle.lgm_store.specs.History.{with_channel, with_update, with_node, without_channel, channels_without, updates_without, ended_nodes, absorbed, fold_from}
+use Rattle.lgm_store.proofs.Counting.{same_point, is_at-point}
+use Rattle.lgm_query.specs.KeyNews.{of_channel, of_node, subject_of, TellKeys}
+use Rattle.lgm_query.specs.Touched.{touches_channel, touches_node, TellsKey}
+
+-- ---- finding in a part of a list
+
+module _ {X : Type 0} (p : X → Bool) where
+  -- what is found is kept
+  find-kept : (q : X → Bool) (xs : List X) → ((x : X) → p x ≡ true → q x ≡ true) → find p (filter q xs) ≡ find p xs
+  find-kept q [] kept = refl
+  find-kept q (x ∷ xs) kept = by (find-kept q xs kept) (p x) refl (q x) refl
+    where
+      by : find p (filter q xs) ≡ find p xs → (a : Bool) → p x ≡ a → (b : Bool) → q x ≡ b → find p (cond (q x) (x ∷ filter q xs) (filter q xs)) ≡ cond (p x) (Some x) (find p xs)
+      by others true is true also = rw (also, is) refl
+      by others true is false also = let never : true ≡ false = sym (kept x is) ∙ also in absurd cc
+      by others false is true also = rw (also, is) others
+      by others false is false also = rw (also, is) others
+
+  -- what would be found goes
+  find-gone : (q : X → Bool) (xs : List X) → ((x : X) → p x ≡ true → q x ≡ false) → find p (filter q xs) ≡ None
+  find-gone q [] gone = refl
+  find-gone q (x ∷ xs) gone = by (find-gone q xs gone) (p x) refl (q x) refl
+    where
+      by : find p (filter q xs) ≡ None → (a : Bool) → p x ≡ a → (b : Bool) → q x ≡ b → find p (cond (q x) (x ∷ filter q xs) (filter q xs)) ≡ None
+      by others true is true also = let never : false ≡ true = sym (gone x is) ∙ also in absurd cc
+      by others true is false also = rw also others
+      by others false is true also = rw (also, is) others
+      by others false is false also = rw also others
+
+  find-first : (xs ys : List X) → find p ys ≡ None → find p (xs ++ ys) ≡ find p xs
+  find-first [] ys none = none
+  find-first (x ∷ xs) ys none = rw (find-first xs ys none) refl
+
+  find-second : (xs ys : List X) → find p xs ≡ None → find p (xs ++ ys) ≡ find p ys
+  find-second [] ys none = refl
+  find-second (x ∷ xs) ys none = by (find-second xs ys) (p x) refl none
+    where
+      by : (find p xs ≡ None → find p (xs ++ ys) ≡ find p ys) → (b : Bool) → p x ≡ b → cond (p x) (Some x) (find p xs) ≡ None → cond (p x) (Some x) (find p (xs ++ ys)) ≡ find p ys
+      by others true is none = let never : Some x ≡ None = rw is at none in absurd cc
+      by others false is none = rw is (others (rw is at none))
+
+  -- a row that is put in its place is not found by a test that it doesn't pass
+  find-put : (order : X → X → Ordering) (xs : List X) (row : X) (o : Ordering) → (o ≡ Equal → ⊥) → p row ≡ false → ((x : X) → p x ≡ true → order x row ≡ o) → find p (put order xs row) ≡ find p xs
+  find-put order xs row Less other fails side =
+      find-first (filter (λ x. is_lt (order x row)) xs) (row ∷ filter (λ x. is_gt (order x row)) xs) (rw (fails, find-gone (λ x. is_gt (order x row)) xs (λ x is. ap is_gt (side x is))) refl)
+      ∙ find-kept (λ x. is_lt (order x row)) xs (λ x is. ap is_lt (side x is))
+  find-put order xs row Equal other fails side = absurd (other refl)
+  find-put order xs row Greater other fails side =
+      find-second (filter (λ x. is_lt (order x row)) xs) (row ∷ filter (λ x. is_gt (order x row)) xs) (find-gone (λ x. is_lt (order x row)) xs (λ x is. ap is_lt (side x is)))
+      ∙ rw fails (find-kept (λ x. is_gt (order x row)) xs (λ x is. ap is_gt (side x is)))
+
+-- ---- what is held of a channel that isn't touched
+
+abbrev pub SameChannel : ℕ → Rows → Rows → Type 0
+SameChannel id before after =
+    (channel_of after.channels id ≡ channel_of before.channels id) × ((second : Bool) → update_of after.updates id second ≡ update_of before.updates id second)
+
+apart : (a b : ℕ) → (a == b) ≡ false → nat_cmp b a ≡ Equal → ⊥
+apart a b differ e = grind (arith, nat_tests)
+
+and_left : (a b : Bool) → (a && b) ≡ true → a ≡ true
+and_left true b e = refl
+and_left false b e = e
+
+then_first : (o p : Ordering) → (o ≡ Equal → ⊥) → ordering_then o p ≡ o
+then_first Less p other = refl
+then_first Equal p other = absurd (other refl)
+then_first Greater p other = refl
+
+put_channel : (id : ℕ) (rows : List ChannelRow) (row : ChannelRow) → (row.message.short_channel_id == id) ≡ false → channel_of (put by_id rows row) id ≡ channel_of rows id
+put_channel id rows row differ =
+    find-put _ by_id rows row (nat_cmp id row.message.short_channel_id) (apart row.message.short_channel_id id differ) differ
+    (λ x is. ap (λ k. nat_cmp k row.message.short_channel_id) (eqb-true x.message.short_channel_id id is))
+
+put_update : (id : ℕ) (second : Bool) (rows : List UpdateRow) (row : UpdateRow) → (row.message.short_channel_id == id) ≡ false → update_of (put by_direction rows row) id second ≡ update_of rows id second
+put_update id second rows row differ =
+    find-put _ by_direction rows row (nat_cmp id row.message.short_channel_id) (apart row.message.short_channel_id id differ) (rw differ refl)
+    (λ x is. let own = eqb-true x.message.short_channel_id id (and_left _ _ is) in
+    ap (λ k. ordering_then (nat_cmp k row.message.short_channel_id) (bool_cmp (is_second x) (is_second row))) own ∙ then_first _ _ (apart row.message.short_channel_id id differ))
+
+other_id : (x id other : ℕ) → (other == id) ≡ false → (x == id) ≡ true → not (x == other) ≡ true
+other_id x id other differ is = grind (arith, nat_tests)
+
+channel_step : (id : ℕ) (rows : Rows) (op : Op) → touches_channel id op ≡ false → SameChannel id rows (absorbed rows op)
+channel_step id rows (ops.Channel row) differ = by (is_some (channel_of rows.channels row.message.short_channel_id))
+  where
+    by : (b : Bool) → SameChannel id rows (if b then rows else record rows { channels = put by_id rows.channels row })
+    by true = (refl, λ second. refl)
+    by false = (put_channel id rows.channels row differ, λ second. refl)
+channel_step id rows (ops.Update row) differ = by (is_some (channel_of rows.channels row.message.short_channel_id))
+  where
+    by : (b : Bool) → SameChannel id rows (if b then record rows { updates = put by_direction rows.updates row } else rows)
+    by true = (refl, λ second. put_update id second rows.updates row differ)
+    by false = (refl, λ second. refl)
+channel_step id rows (ops.Node row) differ = by (ends_channel rows.channels row.message.node_id)
+  where
+    by : (b : Bool) → SameChannel id rows (if b then record rows { nodes = put by_node rows.nodes row } else rows)
+    by true = (refl, λ second. refl)
+    by false = (refl, λ second. refl)
+channel_step id rows (ops.Close other) differ = by (is_some (channel_of rows.channels other))
+  where
+    closed : Rows
+    closed = record {
+      channels = channels_without rows.channels other;
+      updates = updates_without rows.updates other;
+      nodes = ended_nodes (channels_without rows.channels other) rows.nodes;
+    }
+
+    by : (b : Bool) → SameChannel id rows (if b then closed else rows)
+    by true = (
+      find-kept _ _ rows.channels (λ x is. other_id x.message.short_channel_id id other differ is),
+      λ second. find-kept _ _ rows.updates (λ x is. other_id x.message.short_channel_id id other differ (and_left _ _ is)),
+    )
+    by false = (refl, λ second. refl)
+
+or_parts : (a b : Bool) → (a || b) ≡ false → (a ≡ false) × (b ≡ false)
+or_parts true b e = absurd cc
+or_parts false b e = (refl, e)
+
+pub channel_untouched : (id : ℕ) (rows : Rows) (history : List Op) → list_any (touches_channel id) history ≡ false → SameChannel id rows (fold_from rows history)
+channel_untouched id rows [] none = (refl, λ second. refl)
+channel_untouched id rows (op ∷ history) none =
+    let parts = or_parts _ _ none in
+    let first = channel_step id rows op parts.0 in
+    let rest = channel_untouched id (absorbed rows op) history parts.1 in
+    (rest.0 ∙ first.0, λ second. rest.1 second ∙ first.1 second)
+
+-- ---- what is held of a node that isn't touched: the same, or nothing any more
+
+abbrev pub SameNode : Point → Rows → Rows → Type 0
+SameNode node before after = (node_of after.nodes node ≡ node_of before.nodes node) ⊎ (node_of after.nodes node ≡ None)
+
+point_apart : (a b : Point) → is_point a b ≡ false → point_cmp b a ≡ Equal → ⊥
+point_apart a b differ e =
+    let own : b ≡ a = same_point b a (sym (is_at-point b a) ∙ ap is_eq e) in
+    let self : is_point a b ≡ true = rw own (sym (is_at-point a a) ∙ ap is_eq (rw own at e)) in
+    let never : false ≡ true = sym differ ∙ self in absurd cc
+
+put_node : (node : Point) (rows : List NodeRow) (row : NodeRow) → is_point row.message.node_id node ≡ false → node_of (put by_node rows row) node ≡ node_of rows node
+put_node node rows row differ =
+    find-put _ by_node rows row (point_cmp node row.message.node_id) (point_apart row.message.node_id node differ) differ
+    (λ x is. ap (λ k. point_cmp k row.message.node_id) (same_point x.message.node_id node is))
+
+ended_same : (node : Point) (channels : List ChannelRow) (rows : List NodeRow) → (b : Bool) → ends_channel channels node ≡ b
+    → (node_of (ended_nodes channels rows) node ≡ node_of rows node) ⊎ (node_of (ended_nodes channels rows) node ≡ None)
+ended_same node channels rows true is = inl (find-kept _ _ rows (λ x own. ap (ends_channel channels) (same_point x.message.node_id node own) ∙ is))
+ended_same node channels rows false is = inr (find-gone _ _ rows (λ x own. ap (ends_channel channels) (same_point x.message.node_id node own) ∙ is))
+
+node_step : (node : Point) (rows : Rows) (op : Op) → touches_node node op ≡ false → SameNode node rows (absorbed rows op)
+node_step node rows (ops.Channel row) differ = by (is_some (channel_of rows.channels row.message.short_channel_id))
+  where
+    by : (b : Bool) → SameNode node rows (if b then rows else record rows { channels = put by_id rows.channels row })
+    by true = inl refl
+    by false = inl refl
+node_step node rows (ops.Update row) differ = by (is_some (channel_of rows.channels row.message.short_channel_id))
+  where
+    by : (b : Bool) → SameNode node rows (if b then record rows { updates = put by_direction rows.updates row } else rows)
+    by true = inl refl
+    by false = inl refl
+node_step node rows (ops.Node row) differ = by (ends_channel rows.channels row.message.node_id)
+  where
+    by : (b : Bool) → SameNode node rows (if b then record rows { nodes = put by_node rows.nodes row } else rows)
+    by true = inl (put_node node rows.nodes row differ)
+    by false = inl refl
+node_step node rows (ops.Close other) differ = by (is_some (channel_of rows.channels other))
+  where
+    closed : Rows
+    closed = record {
+      channels = channels_without rows.channels other;
+      updates = updates_without rows.updates other;
+      nodes = ended_nodes (channels_without rows.channels other) rows.nodes;
+    }
+
+    by : (b : Bool) → SameNode node rows (if b then closed else rows)
+    by true = ended_same node (channels_without rows.channels other) rows.nodes (ends_channel (channels_without rows.channels other) node) refl
+    by false = inl refl
+
+both_steps : (node : Point) (before mid after : Rows) → SameNode node before mid → SameNode node mid after → SameNode node before after
+both_steps node before mid after (inl first) (inl second) = inl (second ∙ first)
+both_steps node before mid after (inr first) (inl second) = inr (second ∙ first)
+both_steps node before mid after first (inr second) = inr second
+
+pub node_untouched : (node : Point) (rows : Rows) (history : List Op) → list_any (touches_node node) history ≡ false → SameNode node rows (fold_from rows history)
+node_untouched node rows [] none = inl refl
+node_untouched node rows (op ∷ history) none =
+    let parts = or_parts _ _ none in
+    both_steps node rows (absorbed rows op) (fold_from (absorbed rows op) history) (node_step node rows op parts.0) (node_untouched node (absorbed rows op) history parts.1)
+
+-- ---- bytes go on telling their keys
+
+All-filter : {X : Type 0} (P : X → Type 0) (q : X → Bool) (xs : List X) → AllByRecursion P xs → AllByRecursion P (filter q xs)
+All-filter P q [] all = tt
+All-filter P q (x ∷ xs) all = by (All-filter P q xs all.1) (q x)
+  where
+    by : AllByRecursion P (filter q xs) → (b : Bool) → AllByRecursion P (cond b (x ∷ filter q xs) (filter q xs))
+    by others true = (all.0, others)
+    by others false = others
+
+All-put : {X : Type 0} (P : X → Type 0) (order : X → X → Ordering) (xs : List X) (x : X) → AllByRecursion P xs → P x → AllByRecursion P (put order xs x)
+All-put P order xs x all own = onto (filter (λ y. is_lt (order y x)) xs) (All-filter P _ xs all)
+  where
+    onto : (ys : List _) → AllByRecursion P ys → AllByRecursion P (ys ++ x ∷ filter (λ y. is_gt (order y x)) xs)
+    onto [] lesser = (own, All-filter P _ xs all)
+    onto (y ∷ ys) lesser = (lesser.0, onto ys lesser.1)
+
+pub TellKeys-step : (rows : Rows) (op : Op) → TellKeys rows → TellsKey op → TellKeys (absorbed rows op)
+TellKeys-step rows (ops.Channel row) tell own = by (is_some (channel_of rows.channels row.message.short_channel_id))
+  where
+    by : (b : Bool) → TellKeys (if b then rows else record rows { channels = put by_id rows.channels row })
+    by true = tell
+    by false = record { channels = All-put _ by_id rows.channels row tell.channels own; updates = tell.updates; nodes = tell.nodes }
+TellKeys-step rows (ops.Update row) tell own = by (is_some (channel_of rows.channels row.message.short_channel_id))
+  where
+    by : (b : Bool) → TellKeys (if b then record rows { updates = put by_direction rows.updates row } else rows)
+    by true = record { channels = tell.channels; updates = All-put _ by_direction rows.updates row tell.updates own; nodes = tell.nodes }
+    by false = tell
+TellKeys-step rows (ops.Node row) tell own = by (ends_channel rows.channels row.message.node_id)
+  where
+    by : (b : Bool) → TellKeys (if b then record rows { nodes = put by_node rows.nodes row } else rows)
+    by true = record { channels = tell.channels; updates = tell.updates; nodes = All-put _ by_node rows.nodes row tell.nodes own }
+    by false = tell
+TellKeys-step rows (ops.Close other) tell own = by (is_some (channel_of rows.channels other))
+  where
+    closed : Rows
+    closed = record {
+      channels = channels_without rows.channels other;
+      updates = updates_without rows.updates other;
+      nodes = ended_nodes (channels_without rows.channels other) rows.nodes;
+    }
+
+    by : (b : Bool) → TellKeys (if b then closed else rows)
+    by true = record {
+      channels = All-filter _ _ rows.channels tell.channels;
+      updates = All-filter _ _ rows.updates tell.updates;
+      nodes = All-filter _ _ rows.nodes tell.nodes;
+    }
+    by false = tell

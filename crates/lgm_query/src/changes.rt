@@ -1,0 +1,51 @@
+//! What operations touch.
+
+ghost use Rattle.std.specs.Prelude.{◌++◌, ◌∷◌, [], List, OnOk};
+ghost use Rattle.lgm_store.specs.declared.op.Op.{Op};
+ghost use Rattle.lgm_query.specs.Touched.{HasTouched};
+
+use lgm_gossip::{Point, Scid};
+use lgm_store::Op;
+use std::alloc::{AllocError, Global};
+use std::collections::BTreeSet;
+use std::marker::Model;
+
+/// The channels that operations touch, and the nodes that they may give an announcement: of others there are no news.
+#[derive(Drop)]
+pub struct Changes {
+    pub(crate) channels: BTreeSet<Scid>,
+    pub(crate) nodes: BTreeSet<Point>,
+}
+
+impl Model for Changes {
+    ghost use Rattle.lgm_query.specs.Touched.{Touched};
+
+    ghost Value = { Touched };
+
+    ghost view = { λ c. record { channels = c.channels.keys; nodes = c.nodes.keys } };
+}
+
+impl Changes {
+    /// What no operations touch.
+    pub fn new(alloc: Global) -> Changes
+        ensures { HasTouched [] result }
+    {
+        Changes {
+            channels: BTreeSet::new(alloc),
+            nodes: BTreeSet::new(alloc),
+        }
+    }
+
+    /// With what a further operation touches. The only error is want of memory.
+    pub fn touch(&mut self, op: &Op) -> Result<(), AllocError>
+        ensures { OnOk result ((history : List Op) → HasTouched history self.old → HasTouched (history ++ op.now ∷ []) self.new) }
+    {
+        match op {
+            Op::Channel(row) => self.channels.insert(row.get().scid())?,
+            Op::Update(row) => self.channels.insert(row.get().scid())?,
+            Op::Node(row) => self.nodes.insert(row.get().node())?,
+            Op::Close(scid) => self.channels.insert(*scid)?,
+        };
+        Ok(())
+    }
+}
