@@ -1,6 +1,6 @@
 //! Answers, one after the other.
 
-ghost use Rattle.std.specs.Prelude.{◌≡◌, ◌+◌, ◌<◌, ◌^◌, [], Ok, IfErr, IfOk, OnOk, IsErrOf};
+ghost use Rattle.std.specs.Prelude.{◌≡◌, ◌+◌, ◌<◌, ◌^◌, [], drop, Ok, IfErr, IfOk, OnOk, IsErrOf};
 ghost use Rattle.lgm_wire.specs.Reading.{Gives};
 ghost use Rattle.std.specs.List.{AllByRecursion};
 ghost use Rattle.lgm_store.specs.History.{fold_from};
@@ -57,8 +57,7 @@ impl Model for Engine {
 /// The operation of an item, if it is accepted.
 #[tactic(auto, unfolding(crate::specs::Script::outcome_of))]
 fn outcome(alloc: Global, chain: &ChainHash, map: &Map, item: &Item) -> Result<Op, Refusal>
-    ensures value { Gives Refusal.NoMemory (λ op. op) result (outcome_of chain.now map.now item.now) }
-    ensures tells { IfOk result TellsKey }
+    ensures { Gives Refusal.NoMemory (λ op. op) result (outcome_of chain.now map.now item.now) }
 {
     match item {
         Item::Gossip(bytes, evidence) => {
@@ -70,6 +69,13 @@ fn outcome(alloc: Global, chain: &ChainHash, map: &Map, item: &Item) -> Result<O
     }
 }
 
+/// Takes the first operation out.
+fn forget_first(due: &mut VecDeque<Op>)
+    ensures { due.new.items ≡ drop 1 due.old.items }
+{
+    due.pop_front();
+}
+
 /// Does what is due, from the first on. Each operation is due until it is done.
 fn catch_up(map: &mut Map, due: &mut VecDeque<Op>) -> Result<(), AllocError>
     ensures kept { fold_from map.new due.new.items ≡ fold_from map.old due.old.items }
@@ -79,7 +85,7 @@ fn catch_up(map: &mut Map, due: &mut VecDeque<Op>) -> Result<(), AllocError>
 {
     while let Some(op) = due.front() {
         map.absorb(op)?;
-        due.pop_front();
+        forget_first(due);
     }
     Ok(())
 }

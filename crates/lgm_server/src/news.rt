@@ -25,8 +25,8 @@ fn changes_of(alloc: Global, due: &VecDeque<Op>) -> Result<Changes, AllocError>
     ensures { IfOk result (λ changes. HasTouched due.now.items changes) }
 {
     let mut changes = Changes::new(alloc);
-    for op in due {
-        changes.touch(op)?;
+    for place in 0..due.len() {
+        changes.touch(&due[place])?;
     }
     Ok(changes)
 }

@@ -1,4 +1,5 @@
 use Rattle.std.proofs.Common.{rules}
+use Rattle.lgm_query.proofs.Lying.{lie_at, TellKeys-fold}
 use Rattle.lgm_server.proofs.Appending.{appends_both, appends_nothing}
 use Rattle.lgm_server.proofs.news.send_news.Goals as goal
 
@@ -10,3 +11,9 @@ loop-own-preserved g c = record {
 
 pub returns-clause-told : goal.returns-clause-told
 returns-clause-told g c = c.loop-own.invariant.whole _ (rw c.in-None.ensures.steps.0 (appends_nothing _))
+
+pub send_news_to-requires-clause-after : goal.send_news_to-requires-clause-after
+send_news_to-requires-clause-after g c = rw c.requires.behind (TellKeys-fold c.args.before.now c.args.due.now.items c.requires.before c.requires.due)
+
+pub send_news_to-requires-clause-changes : goal.send_news_to-requires-clause-changes
+send_news_to-requires-clause-changes g c = lie_at c.in-Some.own.now.filter c.args.before.now c.args.after.now c.args.due.now.items c.in_ok-changes.changes c.requires.behind c.in_ok-changes.ensures
