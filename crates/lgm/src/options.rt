@@ -1,5 +1,8 @@
 //! The words of the command line.
 
+ghost use Rattle.std.specs.Prelude.{◌≡◌};
+ghost use Rattle.lgm.specs.declared.options.BadWords.TheVariants.{NoMemory};
+
 use clap::builder::ValueParser;
 use clap::{Arg, ArgAction, Command, Error};
 use hex::FromHex;
@@ -27,6 +30,8 @@ pub enum BadWords {
 }
 
 impl From<AllocError> for BadWords {
+    ghost from_gives = { λ _ e. e ≡ NoMemory };
+
     fn from(_e: AllocError) -> BadWords {
         BadWords::NoMemory
     }
