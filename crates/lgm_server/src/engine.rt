@@ -1,11 +1,8 @@
 //! Answers, one after the other.
 
-ghost use Rattle.std.specs.Prelude.{◌≡◌, ◌+◌, ◌<◌, ◌^◌, [], drop, Ok, IfErr, IfOk, OnOk, IsErrOf};
+ghost use Rattle.std.specs.Prelude.{◌≡◌, ◌+◌, ◌<◌, ◌^◌, [], ◌∷◌, ◌++◌, drop, IfErr, IfOk, OnOk, OnErr, IsErrOf};
 ghost use Rattle.lgm_wire.specs.Reading.{Gives};
-ghost use Rattle.std.specs.List.{AllByRecursion};
-ghost use Rattle.lgm_store.specs.History.{fold_from};
-ghost use Rattle.lgm_query.specs.KeyNews.{TellKeys};
-ghost use Rattle.lgm_query.specs.Touched.{TellsKey};
+ghost use Rattle.lgm_store.specs.History.{absorbed, fold_from};
 ghost use Rattle.lgm_server.specs.Device.{Appends};
 ghost use Rattle.lgm_server.specs.Text.{with_gathered};
 ghost use Rattle.lgm_server.specs.Running.{IsAnswerFault};
@@ -30,12 +27,17 @@ use lgm_store::{Map, Op};
 use std::alloc::{AllocError, Global};
 use std::collections::VecDeque;
 use std::marker::Model;
+use std::mem::swap;
 
 /// The state between two lines. Contracts see the rows of all accepted items, those of the items before the last
 /// commit, the number of accepted items, and the filters of peers.
 #[derive(Drop)]
 pub struct Engine {
+    /// The map of all accepted items, but for what is due.
     map: Map,
+    /// What that map has yet to do, in order.
+    due: VecDeque<Op>,
+    /// The map of the items before the last commit.
     committed: Map,
     /// What was accepted since the last commit.
     pending: VecDeque<Op>,
@@ -44,14 +46,15 @@ pub struct Engine {
 }
 
 impl Model for Engine {
+    ghost use Rattle.lgm_store.specs.History.{absorbed, fold_from};
     ghost use Rattle.lgm_server.specs.Behind.{IsBehind};
     ghost use Rattle.lgm_server.specs.Script.{State};
 
     ghost Value = { State };
 
-    ghost view = { λ e. record { rows = e.map; committed = e.committed; accepted = e.accepted; filters = e.filters } };
+    ghost view = { λ e. record { rows = fold_from e.map e.due.items; committed = e.committed; accepted = e.accepted; filters = e.filters } };
 
-    ghost invariant = { λ e. IsBehind e.map e.committed e.pending.items };
+    ghost invariant = { λ e. IsBehind (fold_from e.map e.due.items) e.committed e.pending.items };
 }
 
 /// The operation of an item, if it is accepted.
@@ -80,12 +83,30 @@ fn forget_first(due: &mut VecDeque<Op>)
 fn catch_up(map: &mut Map, due: &mut VecDeque<Op>) -> Result<(), AllocError>
     ensures kept { fold_from map.new due.new.items ≡ fold_from map.old due.old.items }
     ensures done { OnOk result (due.new.items ≡ []) }
-    ensures tells { TellKeys map.old → AllByRecursion TellsKey due.old.items
-        → TellKeys map.new × AllByRecursion TellsKey due.new.items }
 {
     while let Some(op) = due.front() {
         map.absorb(op)?;
         forget_first(due);
+    }
+    Ok(())
+}
+
+/// Does an operation, which is pending from then on. Want of memory leaves all as it was.
+fn accept(
+    alloc: Global,
+    map: &mut Map,
+    pending: &mut VecDeque<Op>,
+    op: Op,
+) -> Result<(), AllocError>
+    ensures done { OnOk result (map.new ≡ absorbed map.old op) }
+    ensures pending { OnOk result (pending.new.items ≡ pending.old.items ++ op ∷ []) }
+    ensures same { OnErr result (map.new ≡ map.old) }
+    ensures none { OnErr result (pending.new.items ≡ pending.old.items) }
+{
+    pending.push_back(op.copy(alloc)?)?;
+    if let Err(refused) = map.absorb(&op) {
+        pending.pop_back();
+        return Err(refused);
     }
     Ok(())
 }
@@ -97,6 +118,7 @@ impl Engine {
     {
         Ok(Engine {
             map: Map::new(alloc)?,
+            due: VecDeque::new(alloc),
             committed: Map::new(alloc)?,
             pending: VecDeque::new(alloc),
             accepted: 0,
@@ -111,28 +133,16 @@ impl Engine {
         self.accepted
     }
 
-    fn accept(&mut self, alloc: Global, op: &Op) -> Result<(), AllocError>
-        requires accepted { self.old.accepted + 1 < 2 ^ 64 }
-        requires tells { TellsKey op.now }
-        ensures { OnOk result (self.new ≡ state_behind self.old (Ok op.now)) }
-    {
-        self.pending.push_back(op.copy(alloc)?)?;
-        if let Err(refused) = self.map.absorb(op) {
-            self.pending.pop_back();
-            return Err(refused);
-        }
-        self.accepted += 1;
-        Ok(())
-    }
-
     fn offer(&mut self, alloc: Global, chain: &ChainHash, item: &Item) -> Result<Reply, AllocError>
         requires { self.old.accepted + 1 < 2 ^ 64 }
         ensures reply { IfOk result (λ reply. reply ≡ offered (outcome_of chain.now self.old.rows item.now)) }
         ensures state { OnOk result (self.new ≡ state_behind self.old (outcome_of chain.now self.old.rows item.now)) }
     {
+        catch_up(&mut self.map, &mut self.due)?;
         match outcome(alloc, chain, &self.map, item) {
             Ok(op) => {
-                self.accept(alloc, &op)?;
+                accept(alloc, &mut self.map, &mut self.pending, op)?;
+                self.accepted += 1;
                 Ok(Reply::Accepted)
             }
             Err(Refusal::NoMemory) => Err(AllocError),
@@ -159,6 +169,7 @@ impl Engine {
         ensures err { IfErr result IsAnswerFault }
     {
         send_count(number, self.accepted, text, writer)?;
+        catch_up(&mut self.map, &mut self.due)?;
         send_news(
             alloc,
             number,
@@ -169,7 +180,9 @@ impl Engine {
             text,
             writer,
         )?;
-        catch_up(&mut self.committed, &mut self.pending)?;
+        // What was committed takes the map's place, and does what is due before the next item.
+        swap(&mut self.map, &mut self.committed);
+        swap(&mut self.due, &mut self.pending);
         Ok(())
     }
 

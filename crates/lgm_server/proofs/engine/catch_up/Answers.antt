@@ -1,8 +1,5 @@
-use Rattle.std.proofs.Common.{◌≡◌, ◌<◌, ◌∷◌, length, drop, rules, sym, ap, subst, ◌∙◌}
-use Rattle.std.specs.List.{AllByRecursion}
+use Rattle.std.proofs.Common.{◌≡◌, ◌<◌, ◌∷◌, length, drop, rules, sym, ap, ◌∙◌}
 use Rattle.lgm_store.specs.History.{fold_from}
-use Rattle.lgm_query.specs.Touched.{TellsKey}
-use Rattle.lgm_query.proofs.Untouched.{TellKeys-step}
 use Rattle.lgm_server.proofs.Histories.{first_and_rest}
 use Rattle.lgm_server.proofs.engine.catch_up.Goals as goal
 
@@ -13,10 +10,4 @@ loop-op-preserved c =
     let rest = c.forget_first.new.due.items in
     let some : 0 < length items = search rules in
     let parts : items ≡ op ∷ rest = first_and_rest items op some ∙ ap (λ first. first ∷ drop 1 items) (sym c.in-Some.ensures.lookup) ∙ ap (λ others. op ∷ others) (sym c.forget_first.ensures) in
-    record {
-      kept = ap (λ map. fold_from map rest) c.in_ok-absorb.ensures.ok ∙ ap (fold_from c.loop-op.map) (sym parts) ∙ c.loop-op.invariant.kept;
-      tells = λ map_tells due_tells.
-          let both = c.loop-op.invariant.tells map_tells due_tells in
-          let all = subst (AllByRecursion TellsKey) parts both.1 in
-          (rw c.in_ok-absorb.ensures.ok (TellKeys-step c.loop-op.map op both.0 all.0), all.1);
-    }
+    ap (λ map. fold_from map rest) c.in_ok-absorb.ensures.ok ∙ ap (fold_from c.loop-op.map) (sym parts) ∙ c.loop-op.invariant

@@ -1,0 +1,9 @@
+use Rattle.std.proofs.Common.{ap}
+use Rattle.lgm_server.proofs.Behind.{published_behind}
+use Rattle.lgm_server.proofs.engine.Engine.commit.Goals as goal
+
+pub invariant_of-self-2 : goal.invariant_of-self-2
+invariant_of-self-2 g c =
+    published_behind c.self.inside.map c.catch_up.new.map c.self.inside.committed c.swap.new.x c.swap.new.y c.self.inside.due.items c.catch_up.new.due.items
+    c.self.inside.pending.items c.swap-2.new.x.items c.swap-2.new.y.items c.in_ok-catch_up.ensures.kept c.in_ok-catch_up.ensures.done
+    c.swap.ensures.x_after c.swap.ensures.y_after (ap (λ q. q.items) c.swap-2.ensures.x_after) (ap (λ q. q.items) c.swap-2.ensures.y_after) c.self.invariant
