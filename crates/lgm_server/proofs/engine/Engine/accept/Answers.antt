@@ -1,5 +1,4 @@
-use Rattle.std.proofs.Common.{◌≡◌, sym, ap, ◌∙◌, ◌++◌, ◌∷◌, []}
-use Rattle.std.specs.List.{AllByRecursion}
+use Rattle.std.proofs.Common.{sym, ap, ◌∙◌, ◌++◌, ◌∷◌, []}
 use Rattle.lgm_store.specs.History.{absorbed, fold_from}
 use Rattle.lgm_query.specs.Touched.{TellsKey}
 use Rattle.lgm_server.proofs.Histories.{fold_from-push}
