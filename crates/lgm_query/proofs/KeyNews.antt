@@ -1,16 +1,17 @@
 -- The news of channels and of nodes, key by key.
-use Rattle.std.proofs.Common.{◌≡◌, ℕ, Bool, true, false, not, ◌||◌, ◌&&◌, cond, List, [], ◌∷◌, ◌++◌, Option, Some, None, refl, sym, ap, ◌∙◌, arith}
-use Rattle.std.specs.Prelude.{nat_eq, ◌==◌}
-use Rattle.std.specs.Bool.{beq}
+use Rattle.std.proofs.Common.{◌≡◌, ℕ, Bool, true, false, not, cond, List, [], ◌∷◌, ◌++◌, Option, Some, None, refl, sym, ap, ◌∙◌, arith}
+use Rattle.std.specs.Prelude.{nat_eq}
 use Rattle.std.specs.Cmp.Lexicographic.{pointwise}
-use Rattle.std.specs.List.{AllByRecursion, filter, find, flat_map, list_any}
+use Rattle.std.specs.List.{AllByRecursion, find, flat_map, list_any}
 use Rattle.std.specs.List.Sorted.{IsStrictlySortedBy}
 use Rattle.std.specs.Option.{option_map_or, option_to_list}
 use Rattle.std.specs.declared.cmp.Ordering.{Ordering}
 use Rattle.std.specs.declared.cmp.Ordering.TheVariants.{Less, Equal, Greater}
 use Rattle.std.specs.Ordering.{is_eq, nat_cmp, ordering_reverse}
 use Rattle.std.proofs.lemmas.Bool.Decides.{nat_tests}
-use Rattle.std.proofs.lemmas.Bool.{eqb-true}
+use Rattle.std.proofs.lemmas.Bool.{eqb-true, and_parts}
+use Rattle.std.proofs.lemmas.Map.Lookups.{exact_unsigned}
+use Rattle.std.proofs.Math.Bool.{or-false}
 use Rattle.std.proofs.lemmas.Cmp.{nat_cmp_total}
 use Rattle.std.proofs.lemmas.List.Elements.{filter-append}
 use Rattle.std.proofs.lemmas.List.Folds.{list_any-append}
@@ -18,28 +19,18 @@ use Rattle.lgm_gossip.specs.declared.point.Point.{Point}
 use Rattle.lgm_check.specs.declared.row.ChannelRow.{ChannelRow}
 use Rattle.lgm_check.specs.declared.row.UpdateRow.{UpdateRow}
 use Rattle.lgm_check.specs.declared.row.NodeRow.{NodeRow}
-use Rattle.lgm_store.specs.Rows.{Rows, IsAscending, is_point, is_second, channel_of, update_of, node_of}
+use Rattle.lgm_store.specs.Rows.{Rows, IsAscending, update_of}
 use Rattle.lgm_store.specs.Ends.{point_cmp}
+use Rattle.lgm_store.specs.Sound.{id_of, point_of}
 use Rattle.lgm_store.proofs.Counting.{same_point, is_at-point}
 use Rattle.lgm_store.proofs.Lists.{node_total}
 use Rattle.lgm_store.proofs.Ordered.{find-same, filter-alike}
 use Rattle.lgm_query.specs.declared.filter.Filter.{Filter}
-use Rattle.lgm_query.specs.Backlog.{passes, passing_update, passing_updates, behind_announcement, passing_channel, passing_node, backlog, is_among, news}
+use Rattle.lgm_query.specs.Backlog.{passes, passing_update, behind_announcement, passing_channel, passing_node, backlog, is_among, news}
 use Rattle.lgm_query.specs.KeyNews.{Subject, of_channel, of_node, subject_of, TellKeys, passing_of_channel, passing_of_node, without_known, news_of_channel, news_of_node, LieAt}
-use Rattle.lgm_query.proofs.KeyNewsLaws.{other_subject, filter-flat_map, flat_map-alike, among_its_row, along_keys, messages_at, All-given}
+use Rattle.lgm_query.proofs.Ids.{id_test, id_level}
+use Rattle.lgm_query.proofs.KeyNewsLaws.{other_subject, filter-flat_map, flat_map-alike, among_its_row, along_keys, All-given}
 use Rattle.std.specs.BTreeMap.{is_at}
-
-abbrev id_of : ChannelRow → ℕ
-id_of row = row.message.short_channel_id
-
-abbrev point_of : NodeRow → Point
-point_of row = row.message.node_id
-
-same_id : (a b : ℕ) → nat_cmp a b ≡ Equal → a ≡ b
-same_id a b e = grind (arith, nat_tests)
-
-id_test : (a b : ℕ) → is_eq (nat_cmp a b) ≡ (a == b)
-id_test a b = grind (arith, nat_tests)
 
 same_node : (a b : Point) → point_cmp a b ≡ Equal → a ≡ b
 same_node a b e = same_point a b (sym (is_at-point a b) ∙ ap is_eq e)
@@ -76,14 +67,10 @@ found P p (y ∷ ys) x all is = by (found P p ys x all.1) (p y) refl is
     by others true holds is = let same : Some y ≡ Some x = rw holds at is in let own : y ≡ x = cc in (rw (← own) all.0, rw (← own) holds)
     by others false holds is = others (rw holds at is)
 
-and_left : (a b : Bool) → (a && b) ≡ true → a ≡ true
-and_left true b e = refl
-and_left false b e = e
-
 update_about : (rows : Rows) (id : ℕ) (second : Bool) (row : UpdateRow) → TellKeys rows → update_of rows.updates id second ≡ Some row → About (of_channel id) row.raw
 update_about rows id second row tell is =
     let both = found (λ r. subject_of r.raw ≡ of_channel r.message.short_channel_id) _ rows.updates row tell.updates is in
-    both.0 ∙ ap of_channel (eqb-true row.message.short_channel_id id (and_left _ _ both.1))
+    both.0 ∙ ap of_channel (eqb-true row.message.short_channel_id id (and_parts _ _ both.1).0)
 
 passing_about : (f : Filter) (subject : Subject) (o : Option UpdateRow) → ((row : UpdateRow) → o ≡ Some row → About subject row.raw)
     → AllByRecursion (About subject) (option_to_list (passing_update f o))
@@ -131,16 +118,12 @@ none_about h about message (row ∷ rows) other all =
     list_any-append (pointwise nat_eq message) (h row) (flat_map h rows)
     ∙ rw (other_subject message (h row) (about row) all.0 (other row), none_about h about message rows other all.1) refl
 
-or_false : (b : Bool) → (b || false) ≡ b
-or_false true = refl
-or_false false = refl
-
 pub among_channel : (f : Filter) (rows : Rows) (message : List ℕ) (id : ℕ) → IsAscending rows → TellKeys rows → subject_of message ≡ of_channel id
     → is_among (backlog rows f) message ≡ is_among (passing_of_channel f rows id) message
 among_channel f rows message id ascend tell is =
     list_any-append (pointwise nat_eq message) (flat_map (passing_channel f rows) rows.channels) (flat_map (passing_node f) rows.nodes)
     ∙ rw (none_about (passing_node f) (λ row. of_node (point_of row)) message rows.nodes (λ row e. let never : of_channel id ≡ of_node (point_of row) = sym is ∙ e in absurd cc) (nodes_about f rows.nodes tell.nodes))
-    (or_false _)
+    (or-false _)
     ∙ among_its_row id_of nat_cmp nat_cmp_total of_channel channel_apart (passing_channel f rows) message id rows.channels is ascend.channels (channels_about f rows tell rows.channels tell.channels)
     ∙ ap (λ o. is_among (option_map_or (passing_channel f rows) o []) message) (find-same _ _ (λ row. id_test (id_of row) id) rows.channels)
 
@@ -181,9 +164,6 @@ told key c about h g earlier given rows among at some own tell =
     (λ row is own_about. same_as_given earlier (given (key row)) (h row) (All-given _ _ _ (h row) (λ m one other. among m (key row) one) own_about own_about) ∙ at row is)
     own tell
 
-id_level : (a : ℕ) → nat_cmp a a ≡ Equal
-id_level a = grind (arith, nat_tests)
-
 channel_news : (f : Filter) (before after : Rows) (ids : List ℕ) → IsAscending before → IsAscending after → TellKeys before → TellKeys after → IsStrictlySortedBy nat_cmp ids
     → ((id : ℕ) → list_any (is_at (nat_cmp id)) ids ≡ false → news_of_channel f before after id ≡ [])
     → without_known (backlog before f) (flat_map (passing_channel f after) after.channels) ≡ flat_map (news_of_channel f before after) ids
@@ -195,7 +175,7 @@ channel_news f before after ids before_ascends after_ascends before_tells after_
     (λ row is. ap (λ o. without_known (passing_of_channel f before (id_of row)) (option_map_or (passing_channel f after) o []))
     (sym is ∙ find-same _ _ (λ other. id_test (id_of other) (id_of row)) after.channels))
     after.channels (own_rows id_of nat_cmp id_level after.channels after_ascends.channels) (channels_about f after after_tells after.channels after_tells.channels))
-    ∙ along_keys id_of nat_cmp nat_cmp_total same_id (news_of_channel f before after) after.channels ids after_ascends.channels ascend
+    ∙ along_keys id_of nat_cmp nat_cmp_total exact_unsigned (news_of_channel f before after) after.channels ids after_ascends.channels ascend
     (All-each _ after.channels (λ row. lie (id_of row))) (All-each _ ids none)
   where
     none : (id : ℕ) → find (λ row. is_eq (nat_cmp (id_of row) id)) after.channels ≡ None → news_of_channel f before after id ≡ []

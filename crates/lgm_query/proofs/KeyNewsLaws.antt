@@ -1,5 +1,5 @@
 -- News can be told key by key, where bytes tell their keys.
-use Rattle.std.proofs.Common.{◌≡◌, ℕ, Bool, true, false, not, ◌||◌, cond, List, [], ◌∷◌, ◌++◌, Option, Some, None, refl, sym, ap, ◌∙◌}
+use Rattle.std.proofs.Common.{◌≡◌, ℕ, Bool, true, false, ◌||◌, cond, List, [], ◌∷◌, ◌++◌, Option, Some, None, refl, sym, ap, ◌∙◌}
 use Rattle.std.specs.Prelude.{nat_eq}
 use Rattle.std.specs.Cmp.{IsTotalOrder}
 use Rattle.std.specs.Cmp.Lexicographic.{pointwise, same_text}
@@ -9,10 +9,11 @@ use Rattle.std.specs.Option.{option_map_or}
 use Rattle.std.specs.declared.cmp.Ordering.{Ordering}
 use Rattle.std.specs.declared.cmp.Ordering.TheVariants.{Less, Equal, Greater}
 use Rattle.std.specs.Ordering.{is_eq, ordering_reverse}
+use Rattle.std.proofs.Math.Bool.{or-false}
 use Rattle.std.proofs.lemmas.List.Elements.{filter-append}
 use Rattle.std.proofs.lemmas.List.Folds.{list_any-append}
 use Rattle.lgm_query.specs.Backlog.{is_among}
-use Rattle.lgm_query.specs.KeyNews.{Subject, subject_of, without_known}
+use Rattle.lgm_query.specs.KeyNews.{Subject, subject_of}
 
 -- a message about something else isn't among these
 pub other_subject : (message : List ℕ) (messages : List (List ℕ)) (subject : Subject) → AllByRecursion (λ m. subject_of m ≡ subject) messages
@@ -65,16 +66,12 @@ module _ {R K : Type 0} (key : R → K) (c : K → K → Ordering) (total : IsTo
       list_any-append (pointwise nat_eq message) (h row) (flat_map h rows)
       ∙ by (among_its_row message k rows is sorted.1 tell.1) (c (key row) k) refl
     where
-      or_false : (b : Bool) → (b || false) ≡ b
-      or_false true = refl
-      or_false false = refl
-
       differs : (o : Ordering) → c (key row) k ≡ o → (o ≡ Equal → ⊥) → subject_of message ≡ about (key row) → ⊥
       differs o at other e = other (sym at ∙ apart (key row) k (sym e ∙ is))
 
       by : is_among (flat_map h rows) message ≡ is_among (messages_at rows k) message → (o : Ordering) → c (key row) k ≡ o
           → (is_among (h row) message || is_among (flat_map h rows) message) ≡ is_among (option_map_or h (cond (is_eq (c (key row) k)) (Some row) (row_at rows k)) []) message
-      by rest Equal at = rw (at, above_apart message k row rows is at sorted.0 tell.1) (or_false (is_among (h row) message))
+      by rest Equal at = rw (at, above_apart message k row rows is at sorted.0 tell.1) (or-false (is_among (h row) message))
       by rest Less at = rw (at, other_subject message (h row) (about (key row)) tell.0 (differs Less at (λ e. absurd cc))) rest
       by rest Greater at = rw (at, other_subject message (h row) (about (key row)) tell.0 (differs Greater at (λ e. absurd cc))) rest
 

@@ -3,6 +3,7 @@ pub mod Sendings
 pub mod RangeLaws
 pub mod Lengths
 pub mod AskedLaws
+pub mod Ids
 pub mod Walks
 pub mod KnownLaws
 pub mod CoverLaws

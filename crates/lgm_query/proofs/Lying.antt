@@ -1,24 +1,19 @@
 -- Where news lie: at what operations touch.
-use Rattle.std.proofs.Common.{◌≡◌, ◌⊎◌, inl, inr, ℕ, Bool, true, false, not, ◌||◌, ◌&&◌, cond, List, [], ◌∷◌, ◌++◌, Option, Some, None, refl, sym, ap, ◌∙◌}
-use Rattle.std.specs.Prelude.{nat_eq, ◌==◌}
-use Rattle.std.specs.BTreeMap.{is_at}
-use Rattle.std.specs.Cmp.Lexicographic.{pointwise}
-use Rattle.std.specs.List.{AllByRecursion, filter, find, list_any}
-use Rattle.std.specs.List.Sorted.{IsStrictlySortedBy}
-use Rattle.std.specs.Option.{option_map_or, option_to_list}
-use Rattle.std.specs.Ordering.{nat_cmp}
+use Rattle.std.proofs.Common.{◌≡◌, inl, inr, ℕ, Bool, true, false, ◌||◌, cond, List, [], ◌∷◌, Option, Some, None, refl, sym, ap, ◌∙◌}
+use Rattle.std.specs.Prelude.{◌==◌}
+use Rattle.std.specs.List.{AllByRecursion}
+use Rattle.std.specs.Option.{option_map_or}
 use Rattle.std.proofs.lemmas.Bool.{eqb-true}
 use Rattle.std.proofs.lemmas.Cmp.{nat_list_eq_equiv}
 use Rattle.lgm_gossip.specs.declared.point.Point.{Point}
 use Rattle.lgm_check.specs.declared.row.ChannelRow.{ChannelRow}
 use Rattle.lgm_store.specs.declared.op.Op.{Op}
-use Rattle.lgm_store.specs.Rows.{Rows, channel_of, update_of, node_of}
-use Rattle.lgm_store.specs.Ends.{point_cmp}
+use Rattle.lgm_store.specs.Rows.{Rows, channel_of}
 use Rattle.lgm_store.specs.History.{absorbed, fold_from}
 use Rattle.lgm_query.specs.declared.filter.Filter.{Filter}
-use Rattle.lgm_query.specs.Backlog.{passing_update, passing_updates, behind_announcement, passing_channel, passing_node, is_among}
+use Rattle.lgm_query.specs.Backlog.{passing_channel, is_among}
 use Rattle.lgm_query.specs.KeyNews.{TellKeys, passing_of_channel, passing_of_node, without_known, news_of_channel, news_of_node, LieAt}
-use Rattle.lgm_query.specs.Touched.{touches_channel, touches_node, TellsKey, Touched, HasTouched}
+use Rattle.lgm_query.specs.Touched.{TellsKey, Touched, HasTouched}
 use Rattle.lgm_query.proofs.Untouched.{SameChannel, SameNode, channel_untouched, node_untouched, TellKeys-step}
 use Rattle.lgm_query.proofs.KeyNewsLaws.{All-given}
 

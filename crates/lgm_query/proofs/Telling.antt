@@ -1,5 +1,5 @@
 -- What is checked is about its key.
-use Rattle.std.proofs.Common.{◌≡◌, ℕ, Bool, true, false, List, Result, Ok, Err, refl, sym, ap, ◌∙◌}
+use Rattle.std.proofs.Common.{◌≡◌, ℕ, Bool, true, false, List, Result, Ok, Err, refl, ap}
 use Rattle.lgm_wire.specs.Reading.{◌>>=◌}
 use Rattle.lgm_gossip.specs.declared.fault.DecodeFault.{DecodeFault}
 use Rattle.lgm_gossip.specs.declared.message.Message.{Message}

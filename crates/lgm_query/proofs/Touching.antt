@@ -1,21 +1,19 @@
 -- What a further operation touches.
-use Rattle.std.proofs.Common.{◌≡◌, ℕ, Bool, true, false, ◌||◌, cond, List, [], ◌∷◌, ◌++◌, refl, sym, ap, ◌∙◌, arith}
+use Rattle.std.proofs.Common.{◌≡◌, ℕ, Bool, true, false, ◌||◌, cond, List, [], ◌∷◌, ◌++◌, refl, sym, ap, ◌∙◌}
 use Rattle.std.specs.Prelude.{◌==◌}
 use Rattle.std.specs.BTreeMap.{is_at}
 use Rattle.std.specs.List.{list_any}
 use Rattle.std.specs.List.Sorted.{IsStrictlySortedBy}
-use Rattle.std.specs.Ordering.{is_eq, nat_cmp}
-use Rattle.std.proofs.lemmas.Bool.Decides.{nat_tests}
+use Rattle.std.specs.Ordering.{nat_cmp}
+use Rattle.std.proofs.Math.Bool.{or-false}
 use Rattle.std.proofs.lemmas.List.Folds.{list_any-append}
 use Rattle.lgm_gossip.specs.declared.point.Point.{Point}
 use Rattle.lgm_store.specs.declared.op.Op.{Op}
 use Rattle.lgm_store.specs.Rows.{is_point}
 use Rattle.lgm_store.specs.Ends.{point_cmp}
 use Rattle.lgm_store.proofs.Counting.{is_at-point}
+use Rattle.lgm_query.proofs.Ids.{id_test}
 use Rattle.lgm_query.specs.Touched.{touches_channel, touches_node, Touched, HasTouched}
-
-id_test : (a b : ℕ) → is_eq (nat_cmp a b) ≡ (a == b)
-id_test a b = grind (arith, nat_tests)
 
 -- one more is asked last
 asked_last : (b others : Bool) → cond b true others ≡ (others || (b || false))
@@ -24,13 +22,9 @@ asked_last true false = refl
 asked_last false true = refl
 asked_last false false = refl
 
-not_asked : (others : Bool) → (others || false) ≡ others
-not_asked true = refl
-not_asked false = refl
-
 -- a test that the last element fails
 any_front : {X : Type 0} (p : X → Bool) (xs : List X) (x : X) → p x ≡ false → list_any p (xs ++ x ∷ []) ≡ list_any p xs
-any_front p xs x fails = list_any-append p xs (x ∷ []) ∙ rw fails (not_asked (list_any p xs))
+any_front p xs x fails = list_any-append p xs (x ∷ []) ∙ rw fails (or-false (list_any p xs))
 
 pub touched_channel : (history : List Op) (old new : Touched) (op : Op) (id : ℕ) → ((q : ℕ) → touches_channel q op ≡ (id == q)) → ((q : Point) → touches_node q op ≡ false)
     → ((q : ℕ) → list_any (is_at (nat_cmp q)) new.channels ≡ cond (is_at (nat_cmp id) q) true (list_any (is_at (nat_cmp q)) old.channels))

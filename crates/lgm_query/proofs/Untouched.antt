@@ -1,14 +1,12 @@
 -- What operations leave as it was.
-use Rattle.std.proofs.Common.{◌≡◌, ◌⊎◌, inl, inr, ℕ, Bool, true, false, not, ◌&&◌, ◌||◌, cond, List, [], ◌∷◌, ◌++◌, Option, Some, None, refl, sym, ap, ◌∙◌, arith}
+use Rattle.std.proofs.Common.{◌≡◌, ◌⊎◌, inl, inr, ℕ, Bool, true, false, not, cond, List, [], ◌∷◌, ◌++◌, Some, None, refl, sym, ap, ◌∙◌, arith}
 use Rattle.std.specs.Prelude.{◌==◌, is_some, if◌then◌else◌}
-use Rattle.std.specs.Bool.{beq}
 use Rattle.std.specs.List.{AllByRecursion, filter, find, list_any}
-use Rattle.std.specs.Option.{option_map_or}
 use Rattle.std.specs.declared.cmp.Ordering.{Ordering}
 use Rattle.std.specs.declared.cmp.Ordering.TheVariants.{Less, Equal, Greater}
 use Rattle.std.specs.Ordering.{is_lt, is_gt, is_eq, nat_cmp, bool_cmp, ordering_then}
 use Rattle.std.proofs.lemmas.Bool.Decides.{nat_tests}
-use Rattle.std.proofs.lemmas.Bool.{eqb-true}
+use Rattle.std.proofs.lemmas.Bool.{eqb-true, and_parts, or_parts}
 use Rattle.lgm_gossip.specs.declared.point.Point.{Point}
 use Rattle.lgm_check.specs.declared.row.ChannelRow.{ChannelRow}
 use Rattle.lgm_check.specs.declared.row.UpdateRow.{UpdateRow}
@@ -17,9 +15,9 @@ use Rattle.lgm_store.specs.declared.op.Op.{Op}
 use Rattle.lgm_store.specs.declared.op.Op.TheVariants as ops
 use Rattle.lgm_store.specs.Rows.{Rows, put, by_id, by_direction, by_node, is_point, is_second, channel_of, update_of, node_of, ends_channel}
 use Rattle.lgm_store.specs.Ends.{point_cmp}
-use Rattle.lgm_store.specs.History.{with_channel, with_update, with_node, without_channel, channels_without, updates_without, ended_nodes, absorbed, fold_from}
+use Rattle.lgm_store.specs.History.{channels_without, updates_without, ended_nodes, absorbed, fold_from}
 use Rattle.lgm_store.proofs.Counting.{same_point, is_at-point}
-use Rattle.lgm_query.specs.KeyNews.{of_channel, of_node, subject_of, TellKeys}
+use Rattle.lgm_query.specs.KeyNews.{TellKeys}
 use Rattle.lgm_query.specs.Touched.{touches_channel, touches_node, TellsKey}
 
 -- ---- finding in a part of a list
@@ -78,10 +76,6 @@ SameChannel id before after =
 apart : (a b : ℕ) → (a == b) ≡ false → nat_cmp b a ≡ Equal → ⊥
 apart a b differ e = grind (arith, nat_tests)
 
-and_left : (a b : Bool) → (a && b) ≡ true → a ≡ true
-and_left true b e = refl
-and_left false b e = e
-
 then_first : (o p : Ordering) → (o ≡ Equal → ⊥) → ordering_then o p ≡ o
 then_first Less p other = refl
 then_first Equal p other = absurd (other refl)
@@ -95,7 +89,7 @@ put_channel id rows row differ =
 put_update : (id : ℕ) (second : Bool) (rows : List UpdateRow) (row : UpdateRow) → (row.message.short_channel_id == id) ≡ false → update_of (put by_direction rows row) id second ≡ update_of rows id second
 put_update id second rows row differ =
     find-put _ by_direction rows row (nat_cmp id row.message.short_channel_id) (apart row.message.short_channel_id id differ) (rw differ refl)
-    (λ x is. let own = eqb-true x.message.short_channel_id id (and_left _ _ is) in
+    (λ x is. let own = eqb-true x.message.short_channel_id id (and_parts _ _ is).0 in
     ap (λ k. ordering_then (nat_cmp k row.message.short_channel_id) (bool_cmp (is_second x) (is_second row))) own ∙ then_first _ _ (apart row.message.short_channel_id id differ))
 
 other_id : (x id other : ℕ) → (other == id) ≡ false → (x == id) ≡ true → not (x == other) ≡ true
@@ -129,13 +123,9 @@ channel_step id rows (ops.Close other) differ = by (is_some (channel_of rows.cha
     by : (b : Bool) → SameChannel id rows (if b then closed else rows)
     by true = (
       find-kept _ _ rows.channels (λ x is. other_id x.message.short_channel_id id other differ is),
-      λ second. find-kept _ _ rows.updates (λ x is. other_id x.message.short_channel_id id other differ (and_left _ _ is)),
+      λ second. find-kept _ _ rows.updates (λ x is. other_id x.message.short_channel_id id other differ (and_parts _ _ is).0),
     )
     by false = (refl, λ second. refl)
-
-or_parts : (a b : Bool) → (a || b) ≡ false → (a ≡ false) × (b ≡ false)
-or_parts true b e = absurd cc
-or_parts false b e = (refl, e)
 
 pub channel_untouched : (id : ℕ) (rows : Rows) (history : List Op) → list_any (touches_channel id) history ≡ false → SameChannel id rows (fold_from rows history)
 channel_untouched id rows [] none = (refl, λ second. refl)

@@ -1,11 +1,7 @@
 -- Walks of rows that ascend, each time to the least row above the last one.
-use Rattle.std.proofs.Common.{◌≡◌, ℕ, ◌<◌, Bool, true, false, cond, List, [], ◌∷◌, ◌++◌, length, append_assoc, Option, Some, None, refl, sym, ap, ◌∙◌, arith}
-use Rattle.std.proofs.lemmas.Bool.Decides.{nat_tests}
-use Rattle.std.proofs.lemmas.Cmp.{nat_cmp_total, nat_list_cmp_total, on_total}
-use Rattle.std.specs.Prelude.{nat_lt}
+use Rattle.std.proofs.Common.{◌≡◌, ℕ, ◌+◌, ◌<◌, Bool, true, false, cond, List, [], ◌∷◌, ◌++◌, length, append_assoc, Option, Some, None, refl, sym, ap, ◌∙◌, arith}
+use Rattle.std.proofs.lemmas.Cmp.{nat_cmp_total}
 use Rattle.std.specs.Cmp.{IsTotalOrder}
-use Rattle.std.specs.Cmp.Lexicographic.{slice_cmp}
-use Rattle.std.proofs.lemmas.List.{append-nil}
 use Rattle.std.specs.List.{AllByRecursion, filter, find, flat_map}
 use Rattle.std.specs.List.Sorted.{IsStrictlySortedBy}
 use Rattle.std.specs.declared.cmp.Ordering.{Ordering}
@@ -14,8 +10,15 @@ use Rattle.std.specs.Ordering.{is_lt, nat_cmp, ordering_reverse}
 use Rattle.lgm_gossip.specs.declared.point.Point.{Point}
 use Rattle.lgm_check.specs.declared.row.ChannelRow.{ChannelRow}
 use Rattle.lgm_check.specs.declared.row.NodeRow.{NodeRow}
-use Rattle.lgm_store.specs.Rows.{by_id, by_node}
+use Rattle.lgm_store.specs.Rows.{Rows, IsAscending, by_id, by_node}
+use Rattle.lgm_store.specs.Ends.{point_cmp}
+use Rattle.lgm_store.specs.Sound.{id_of, point_of}
 use Rattle.lgm_store.specs.Reading.{next_channel_of, next_node_of}
+use Rattle.lgm_store.proofs.Lists.{node_total}
+use Rattle.lgm_store.proofs.Ordered.{find-same, filter-same}
+use Rattle.lgm_query.specs.declared.filter.Filter.{Filter}
+use Rattle.lgm_query.proofs.Ids.{less_test}
+use Rattle.lgm_query.specs.Backlog.{passing_channel, passing_node, channels_above, nodes_above, backlog_above}
 
 module _ {R : Type 0} where
   -- nothing is found, so nothing passes
@@ -92,17 +95,17 @@ module _ {R K : Type 0} (key : R → K) (c : K → K → Ordering) (total : IsTo
       less_from Greater e = absurd cc
 
   -- the rows above a key, or all
-  abbrev pub rows_above : List R → Option K → List R
+  abbrev rows_above : List R → Option K → List R
   rows_above rows None = rows
   rows_above rows (Some k) = filter (λ row. is_lt (c k (key row))) rows
 
   -- the least of them
-  abbrev pub least_above : List R → Option K → Option R
+  abbrev least_above : List R → Option K → Option R
   least_above rows None = find (λ row. true) rows
   least_above rows (Some k) = find (λ row. is_lt (c k (key row))) rows
 
   -- it stands before those above it
-  pub rows_above-found : (rows : List R) (last : Option K) (row : R) → IsStrictlySortedBy (λ a b. c (key a) (key b)) rows → least_above rows last ≡ Some row
+  rows_above-found : (rows : List R) (last : Option K) (row : R) → IsStrictlySortedBy (λ a b. c (key a) (key b)) rows → least_above rows last ≡ Some row
       → rows_above rows last ≡ row ∷ rows_above rows (Some (key row))
   rows_above-found rows None row sorted found =
       sym (filter-all (λ other. true) rows (all_true rows)) ∙ filter-found (λ other. true) (λ low high is less. refl) rows row sorted found
@@ -113,72 +116,79 @@ module _ {R K : Type 0} (key : R → K) (c : K → K → Ordering) (total : IsTo
   rows_above-found rows (Some k) row sorted found = filter-found (λ other. is_lt (c k (key other))) (up_above k) rows row sorted found
 
   -- there is none, so there are none
-  pub rows_above-none : (rows : List R) (last : Option K) → least_above rows last ≡ None → rows_above rows last ≡ []
+  rows_above-none : (rows : List R) (last : Option K) → least_above rows last ≡ None → rows_above rows last ≡ []
   rows_above-none [] None none = refl
   rows_above-none (first ∷ rows) None none = absurd cc
   rows_above-none rows (Some k) none = filter-none (λ other. is_lt (c k (key other))) rows none
 
 -- ---- channels
 
--- the channels above an id, or all
-abbrev pub channels_above : List ChannelRow → Option ℕ → List ChannelRow
-channels_above = rows_above (λ (row : ChannelRow). row.message.short_channel_id) nat_cmp nat_cmp_total
-
-less_test : (a b : ℕ) → nat_lt a b ≡ is_lt (nat_cmp a b)
-less_test a b = grind (arith, nat_tests)
-
-find-agree : {R : Type 0} (p q : R → Bool) → ((row : R) → p row ≡ q row) → (rows : List R) → find p rows ≡ find q rows
-find-agree p q same [] = refl
-find-agree p q same (row ∷ rows) = rw (same row, find-agree p q same rows) refl
-
-next_channel-least : (rows : List ChannelRow) (last : Option ℕ)
-    → next_channel_of rows last ≡ least_above (λ (row : ChannelRow). row.message.short_channel_id) nat_cmp nat_cmp_total rows last
+next_channel-least : (rows : List ChannelRow) (last : Option ℕ) → next_channel_of rows last ≡ least_above id_of nat_cmp nat_cmp_total rows last
 next_channel-least rows None = refl
-next_channel-least rows (Some id) = find-agree _ _ (λ row. less_test id row.message.short_channel_id) rows
+next_channel-least rows (Some id) = find-same _ _ (λ row. less_test id (id_of row)) rows
 
-pub channels_above-next : (rows : List ChannelRow) (last : Option ℕ) (row : ChannelRow) → IsStrictlySortedBy by_id rows → next_channel_of rows last ≡ Some row
-    → channels_above rows last ≡ row ∷ channels_above rows (Some row.message.short_channel_id)
-channels_above-next rows last row sorted found = rows_above-found _ nat_cmp nat_cmp_total rows last row sorted (sym (next_channel-least rows last) ∙ found)
+channels-rows_above : (rows : List ChannelRow) (last : Option ℕ) → channels_above rows last ≡ rows_above id_of nat_cmp nat_cmp_total rows last
+channels-rows_above rows None = refl
+channels-rows_above rows (Some id) = filter-same _ _ (λ row. less_test id (id_of row)) rows
 
-pub channels_above-end : (rows : List ChannelRow) (last : Option ℕ) → next_channel_of rows last ≡ None → channels_above rows last ≡ []
-channels_above-end rows last none = rows_above-none _ nat_cmp nat_cmp_total rows last (sym (next_channel-least rows last) ∙ none)
+channels_above-next : (rows : List ChannelRow) (last : Option ℕ) (row : ChannelRow) → IsStrictlySortedBy by_id rows → next_channel_of rows last ≡ Some row
+    → channels_above rows last ≡ row ∷ channels_above rows (Some (id_of row))
+channels_above-next rows last row sorted found =
+    channels-rows_above rows last
+    ∙ rows_above-found id_of nat_cmp nat_cmp_total rows last row sorted (sym (next_channel-least rows last) ∙ found)
+    ∙ ap (λ others. row ∷ others) (sym (channels-rows_above rows (Some (id_of row))))
+
+channels_above-end : (rows : List ChannelRow) (last : Option ℕ) → next_channel_of rows last ≡ None → channels_above rows last ≡ []
+channels_above-end rows last none =
+    channels-rows_above rows last ∙ rows_above-none id_of nat_cmp nat_cmp_total rows last (sym (next_channel-least rows last) ∙ none)
 
 -- ---- nodes
 
-abbrev pub point_cmp : Point → Point → Ordering
-point_cmp a b = slice_cmp nat_cmp a.0 b.0
-
-pub point_total : IsTotalOrder point_cmp
-point_total = on_total (λ (p : Point). p.0) nat_list_cmp_total
-
--- the nodes above a point, or all
-abbrev pub nodes_above : List NodeRow → Option Point → List NodeRow
-nodes_above = rows_above (λ (row : NodeRow). row.message.node_id) point_cmp point_total
-
-next_node-least : (rows : List NodeRow) (last : Option Point) → next_node_of rows last ≡ least_above (λ (row : NodeRow). row.message.node_id) point_cmp point_total rows last
+next_node-least : (rows : List NodeRow) (last : Option Point) → next_node_of rows last ≡ least_above point_of point_cmp node_total rows last
 next_node-least rows None = refl
 next_node-least rows (Some point) = refl
 
-pub nodes_above-next : (rows : List NodeRow) (last : Option Point) (row : NodeRow) → IsStrictlySortedBy by_node rows → next_node_of rows last ≡ Some row
-    → nodes_above rows last ≡ row ∷ nodes_above rows (Some row.message.node_id)
-nodes_above-next rows last row sorted found = rows_above-found _ point_cmp point_total rows last row sorted (sym (next_node-least rows last) ∙ found)
+nodes-rows_above : (rows : List NodeRow) (last : Option Point) → nodes_above rows last ≡ rows_above point_of point_cmp node_total rows last
+nodes-rows_above rows None = refl
+nodes-rows_above rows (Some point) = refl
 
-pub nodes_above-end : (rows : List NodeRow) (last : Option Point) → next_node_of rows last ≡ None → nodes_above rows last ≡ []
-nodes_above-end rows last none = rows_above-none _ point_cmp point_total rows last (sym (next_node-least rows last) ∙ none)
+nodes_above-next : (rows : List NodeRow) (last : Option Point) (row : NodeRow) → IsStrictlySortedBy by_node rows → next_node_of rows last ≡ Some row
+    → nodes_above rows last ≡ row ∷ nodes_above rows (Some (point_of row))
+nodes_above-next rows last row sorted found =
+    nodes-rows_above rows last ∙ rows_above-found point_of point_cmp node_total rows last row sorted (sym (next_node-least rows last) ∙ found)
 
--- ---- what is gathered on the way
+nodes_above-end : (rows : List NodeRow) (last : Option Point) → next_node_of rows last ≡ None → nodes_above rows last ≡ []
+nodes_above-end rows last none =
+    nodes-rows_above rows last ∙ rows_above-none point_of point_cmp node_total rows last (sym (next_node-least rows last) ∙ none)
 
-module _ {R : Type 0} (f : R → List (List ℕ)) where
-  -- a row further
-  pub flat_map-walked : (before after whole : List (List ℕ)) (rest others : List R) (row : R) → rest ≡ row ∷ others → after ≡ before ++ f row
-      → before ++ flat_map f rest ≡ whole → after ++ flat_map f others ≡ whole
-  flat_map-walked before after whole rest others row step more is =
-      rw (more, append_assoc before (f row) (flat_map f others)) (rw step at is)
+-- ---- both
+
+-- how many rows are still to come
+abbrev pub rows_left : Rows → Option ℕ → Option Point → ℕ
+rows_left rows channel node = length (channels_above rows.channels channel) + length (nodes_above rows.nodes node)
+
+module _ (f : Filter) (rows : Rows) (ascend : IsAscending rows) (channel : Option ℕ) (node : Option Point) where
+  -- a channel further
+  pub channel_walked : (row : ChannelRow) (id : ℕ) → next_channel_of rows.channels channel ≡ Some row → id ≡ row.message.short_channel_id
+      → (backlog_above rows f channel node ≡ passing_channel f rows row ++ backlog_above rows f (Some id) node) × (rows_left rows (Some id) node < rows_left rows channel node)
+  channel_walked row id found own =
+      let step = channels_above-next rows.channels channel row ascend.channels found in
+      let here = passing_channel f rows row in
+      let others = flat_map (passing_channel f rows) (channels_above rows.channels (Some (id_of row))) in
+      let of_nodes = flat_map (passing_node f) (nodes_above rows.nodes node) in
+      rw own (rw step (append_assoc here others of_nodes), rw step (omega arith))
+
+  -- a node further, behind all channels
+  pub node_walked : (row : NodeRow) (point : Point) → next_channel_of rows.channels channel ≡ None → next_node_of rows.nodes node ≡ Some row → point ≡ row.message.node_id
+      → (backlog_above rows f channel node ≡ passing_node f row ++ backlog_above rows f channel (Some point)) × (rows_left rows channel (Some point) < rows_left rows channel node)
+  node_walked row point none found own =
+      let no_channels = channels_above-end rows.channels channel none in
+      let step = nodes_above-next rows.nodes node row ascend.nodes found in
+      rw own (rw (no_channels, step) refl, rw step (omega arith))
 
   -- no row is left
-  pub flat_map-end : (before whole : List (List ℕ)) (rest : List R) → rest ≡ [] → before ++ flat_map f rest ≡ whole → before ≡ whole
-  flat_map-end before whole rest none is = sym (append-nil before) ∙ rw none at is
-
--- fewer rows are left
-pub fewer : {R : Type 0} (rest others : List R) (row : R) → rest ≡ row ∷ others → length others < length rest
-fewer rest others row step = rw step (omega arith)
+  pub all_walked : next_channel_of rows.channels channel ≡ None → next_node_of rows.nodes node ≡ None → backlog_above rows f channel node ≡ []
+  all_walked no_channel no_node =
+      let no_channels = channels_above-end rows.channels channel no_channel in
+      let no_nodes = nodes_above-end rows.nodes node no_node in
+      rw (no_channels, no_nodes) refl

@@ -1,8 +1,10 @@
 -- What filters pass: the messages that a map holds, and those that are new in a later map.
 use Rattle.std.specs.Prelude.{ℕ, ◌+◌, Bool, true, false, ◌&&◌, not, nat_eq, nat_le, nat_lt, List, [], ◌∷◌, ◌++◌, filter, Option, Some, None, if◌then◌else◌}
-use Rattle.std.specs.Cmp.Lexicographic.{pointwise}
+use Rattle.std.specs.Cmp.Lexicographic.{pointwise, slice_cmp}
 use Rattle.std.specs.List.{flat_map, list_any}
 use Rattle.std.specs.Option.{option_to_list}
+use Rattle.std.specs.Ordering.{is_lt, nat_cmp}
+use Rattle.lgm_gossip.specs.declared.point.Point.{Point}
 use Rattle.lgm_check.specs.declared.row.ChannelRow.{ChannelRow}
 use Rattle.lgm_check.specs.declared.row.UpdateRow.{UpdateRow}
 use Rattle.lgm_check.specs.declared.row.NodeRow.{NodeRow}
@@ -37,9 +39,27 @@ passing_channel f rows row = behind_announcement row (passing_updates f rows row
 abbrev pub passing_node : Filter → NodeRow → List (List ℕ)
 passing_node f row = if passes f row.message.timestamp then row.raw ∷ [] else []
 
+-- what passes of channels, and then of nodes
+abbrev pub passing_rows : Filter → Rows → List ChannelRow → List NodeRow → List (List ℕ)
+passing_rows f rows channels nodes = flat_map (passing_channel f rows) channels ++ flat_map (passing_node f) nodes
+
 -- what passes of a map: channels by their ids, and then nodes
 abbrev pub backlog : Rows → Filter → List (List ℕ)
-backlog rows f = flat_map (passing_channel f rows) rows.channels ++ flat_map (passing_node f) rows.nodes
+backlog rows f = passing_rows f rows rows.channels rows.nodes
+
+-- the channels above an id, or all
+abbrev pub channels_above : List ChannelRow → Option ℕ → List ChannelRow
+channels_above rows None = rows
+channels_above rows (Some id) = filter (λ row. nat_lt id row.message.short_channel_id) rows
+
+-- the nodes above a point, byte by byte, or all
+abbrev pub nodes_above : List NodeRow → Option Point → List NodeRow
+nodes_above rows None = rows
+nodes_above rows (Some node) = filter (λ row. is_lt (slice_cmp nat_cmp node.0 row.message.node_id.0)) rows
+
+-- what passes of a map above a channel and above a node
+abbrev pub backlog_above : Rows → Filter → Option ℕ → Option Point → List (List ℕ)
+backlog_above rows f channel node = passing_rows f rows (channels_above rows.channels channel) (nodes_above rows.nodes node)
 
 -- a message is one of these
 abbrev pub is_among : List (List ℕ) → List ℕ → Bool

@@ -5,8 +5,8 @@ ghost use Rattle.std.specs.List.{list_any};
 ghost use Rattle.lgm_query.specs.Backlog.{is_among, news};
 ghost use Rattle.lgm_query.specs.Known.{is_known};
 
-use crate::backlogs::backlog;
 use crate::filter::Filter;
+use crate::gathering::backlog;
 use crate::replies::Replies;
 use lgm_gossip::Bytes;
 use lgm_store::Map;

@@ -1,15 +1,15 @@
 -- How far a script was answered.
-use Rattle.std.proofs.Common.{◌≡◌, ℕ, zero, suc, ◌+◌, ◌<◌, ◌≤◌, List, [], ◌∷◌, ◌++◌, length, get_or, take, drop, Bool, true, false, ◌||◌, cond, eqb, Option, Some, None, Result, Ok, Err, refl, sym, ap, subst, ◌∙◌, append_assoc, add-one, arith}
+use Rattle.std.proofs.Common.{◌≡◌, ℕ, suc, ◌+◌, ◌<◌, ◌≤◌, List, [], ◌∷◌, ◌++◌, length, get_or, take, drop, Bool, true, false, ◌||◌, cond, eqb, Option, Some, None, Result, Ok, Err, refl, sym, ap, subst, ◌∙◌, add-one, arith}
 use Rattle.std.specs.Prelude.{IfSome}
 use Rattle.std.specs.Option.{option_map}
 use Rattle.std.specs.List.{AllByRecursion, list_any}
 use Rattle.std.proofs.lemmas.List.Folds.{list_any-append}
-use Rattle.std.proofs.lemmas.List.{append-nil, length-drop, length_push, take_all, take_more, drop_more}
+use Rattle.std.proofs.lemmas.List.{length-drop, length_push, take_all, take_more, drop_more}
 use Rattle.lgm_gossip.specs.declared.chain_hash.ChainHash.{ChainHash}
 use Rattle.lgm_check.specs.declared.refusal.Refusal.{Refusal}
 use Rattle.lgm_store.specs.declared.op.Op.{Op}
-use Rattle.lgm_store.specs.Rows.{Rows, empty}
-use Rattle.lgm_store.specs.History.{absorbed, fold_from, fold}
+use Rattle.lgm_store.specs.Rows.{empty}
+use Rattle.lgm_store.specs.History.{fold}
 use Rattle.lgm_server.specs.declared.line_reader.LineFault.{LineFault}
 use Rattle.lgm_server.specs.declared.line_reader.LineFault.TheVariants as lines
 use Rattle.lgm_server.specs.declared.request.Request.{Request}
@@ -108,10 +108,6 @@ short-push : (P : List ℕ → Type 0) (xs : List (List ℕ)) (x : List ℕ) →
 short-push P [] x all one = (one, tt)
 short-push P (y ∷ ys) x all one = (all.0, short-push P ys x all.1 one)
 
-gathered_more : (taken : Option (List ℕ)) (gathered more : List ℕ) → Appends (with_gathered taken gathered) (with_gathered taken (gathered ++ more)) more
-gathered_more None gathered more = refl
-gathered_more (Some bytes) gathered more = ap (λ (s : List ℕ). Some s) (sym (append_assoc bytes gathered more))
-
 pub starts : (chain : ChainHash) (script taken : Option (List ℕ)) → SoFar chain script 0 opening (option_map (λ bytes. [] ++ bytes) script) taken (with_gathered taken [])
 unfolding SoFar text_before
 starts chain None taken = tt
@@ -183,11 +179,6 @@ step_so_far chain script k state state' line rest input old mid new so_far e tel
         written = subst (λ (t : List ℕ). Appends old new t) (ap (λ (t : List ℕ). text_before chain (lines_of script) k ++ t) (sym (text_is chain (lines_of script) k state line so_far.state_is at.here)) ∙ sym (text_before-more chain (lines_of script) k)) (appends_both old mid new (text_before chain (lines_of script) k) (text_in chain (k + 1) state (request_of line)) text.written tells.told);
       };
     }
-
-pub told_is : (taken : Option (List ℕ)) (mid : Option (List ℕ)) (gathered gathered' gathered'' bytes : List ℕ) (taken'' : Option (List ℕ))
-    → with_gathered taken gathered ≡ mid → gathered' ≡ gathered ++ bytes → with_gathered taken'' gathered'' ≡ with_gathered taken gathered' → Appends mid (with_gathered taken'' gathered'') bytes
-told_is taken mid gathered gathered' gathered'' bytes taken'' before is kept =
-    kept ∙ ap (with_gathered taken) is ∙ gathered_more taken gathered bytes ∙ ap (option_map (λ t. t ++ bytes)) before
 
 pub step : (chain : ChainHash) (script : Option (List ℕ)) (k : ℕ) (state state' : State) (line : List ℕ) (input input' after' old mid new : Option (List ℕ))
     → SoFar chain script k state input old mid → input' ≡ input → TakesLine input' after' line → Tells chain state state' (k + 1) line mid new → SoFar chain script (k + 1) state' after' old new

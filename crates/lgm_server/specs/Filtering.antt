@@ -1,4 +1,4 @@
--- What a filter line sets and gets.
+-- What a filter line sets.
 use Rattle.std.specs.Prelude.{ℕ, nat_eq, List, Result, Ok, Err, if◌then◌else◌}
 use Rattle.std.specs.Cmp.Lexicographic.{pointwise}
 use Rattle.lgm_gossip.specs.declared.chain_hash.ChainHash.{ChainHash}
@@ -8,9 +8,7 @@ use Rattle.lgm_gossip.specs.declared.fault.DecodeFault.{DecodeFault}
 use Rattle.lgm_gossip.specs.MessageReading.{message_at}
 use Rattle.lgm_check.specs.Refusal.{refusal_of}
 use Rattle.lgm_check.specs.declared.refusal.Refusal.TheVariants as refusals
-use Rattle.lgm_store.specs.Rows.{Rows}
 use Rattle.lgm_query.specs.declared.filter.Filter.{Filter}
-use Rattle.lgm_query.specs.Backlog.{backlog}
 use Rattle.lgm_server.specs.declared.reply.Reply.{Reply}
 use Rattle.lgm_server.specs.declared.reply.Reply.TheVariants as replies
 
@@ -26,8 +24,3 @@ filter_in chain (Err fault) = Err (replies.Refused (refusal_of fault))
 -- the same of bytes
 abbrev pub filter_read : ChainHash → List ℕ → Result Filter Reply
 filter_read chain bytes = filter_in chain (message_at bytes)
-
--- a filter gets what passes it of these rows
-abbrev pub filter_reply : ℕ → Rows → Result Filter Reply → Reply
-filter_reply peer rows (Ok filter) = replies.Filtered peer (backlog rows filter)
-filter_reply peer rows (Err reply) = reply

@@ -1,5 +1,5 @@
 -- The text of replies.
-use Rattle.std.specs.Prelude.{ℕ, List, [], ◌∷◌, ◌++◌, Option, Some, None, codes}
+use Rattle.std.specs.Prelude.{ℕ, List, [], ◌++◌, Option, Some, None, codes}
 use Rattle.std.specs.Fmt.{decimal}
 use Rattle.std.specs.List.{flat_map}
 use Rattle.hex.specs.Hex.{encode_lower}
@@ -33,4 +33,3 @@ text_of number (replies.Refused refusal) = word_line number (word_of refusal)
 text_of number replies.NotQuery = word_line number (codes "not-query")
 text_of number replies.NotFilter = word_line number (codes "not-filter")
 text_of number (replies.Answers messages) = flat_map (message_line number None) messages
-text_of number (replies.Filtered peer messages) = word_line number (codes "filter") ++ flat_map (message_line number (Some peer)) messages

@@ -1,5 +1,5 @@
 -- What a script's lines are told: each by its place, from the lines before it.
-use Rattle.std.specs.Prelude.{ℕ, zero, suc, ◌+◌, Bool, true, false, List, [], ◌∷◌, ◌++◌, length, take, Some, Result, Ok, Err, slice_index_or, if◌then◌else◌}
+use Rattle.std.specs.Prelude.{ℕ, zero, suc, ◌+◌, Bool, true, false, List, [], ◌∷◌, ◌++◌, length, take, Some, Result, Ok, Err, slice_index_or, codes, if◌then◌else◌}
 use Rattle.std.specs.List.{flat_map, list_any}
 use Rattle.lgm_wire.specs.Reading.{◌>>=◌}
 use Rattle.lgm_gossip.specs.declared.chain_hash.ChainHash.{ChainHash}
@@ -8,7 +8,7 @@ use Rattle.lgm_check.specs.Precheck.{checked_of}
 use Rattle.lgm_store.specs.declared.op.Op.{Op}
 use Rattle.lgm_store.specs.Rows.{Rows, empty, put}
 use Rattle.lgm_query.specs.declared.filter.Filter.{Filter}
-use Rattle.lgm_query.specs.Backlog.{news}
+use Rattle.lgm_query.specs.Backlog.{backlog, news}
 use Rattle.lgm_store.specs.Admission.{admitted, admitted_close}
 use Rattle.lgm_store.specs.History.{absorbed, fold}
 use Rattle.lgm_server.specs.declared.item.Item.{Item}
@@ -20,8 +20,8 @@ use Rattle.lgm_server.specs.declared.reply.Reply.TheVariants as replies
 use Rattle.lgm_server.specs.Request.{request_of}
 use Rattle.lgm_server.specs.declared.filters.PeerFilter.{PeerFilter}
 use Rattle.lgm_server.specs.Filters.{by_peer}
-use Rattle.lgm_server.specs.Filtering.{filter_read, filter_reply}
-use Rattle.lgm_server.specs.Reply.{text_of, commit_line, message_line}
+use Rattle.lgm_server.specs.Filtering.{filter_read}
+use Rattle.lgm_server.specs.Reply.{text_of, word_line, commit_line, message_line}
 use Rattle.lgm_server.specs.Query.{query_reply}
 
 -- ---- one item
@@ -62,13 +62,19 @@ abbrev pub commit_text : ℕ → State → List ℕ
 commit_text number state =
     commit_line number state.accepted ++ flat_map (news_text number state.committed state.rows) state.filters
 
+-- the word of a filter, and then what passes it of these rows, or else the reply
+abbrev pub filter_text : ℕ → ℕ → Rows → Result Filter Reply → List ℕ
+filter_text number peer rows (Ok filter) =
+    word_line number (codes "filter") ++ flat_map (message_line number (Some peer)) (backlog rows filter)
+filter_text number peer rows (Err reply) = text_of number reply
+
 -- the text for a request, the line of that number
 abbrev pub text_in : ChainHash → ℕ → State → Request → List ℕ
 text_in chain number state requests.Quiet = text_of number replies.Quiet
 text_in chain number state requests.Bad = text_of number replies.Bad
 text_in chain number state requests.Commit = commit_text number state
 text_in chain number state (requests.Query bytes) = text_of number (query_reply chain state.committed bytes)
-text_in chain number state (requests.Filter peer bytes) = text_of number (filter_reply peer state.committed (filter_read chain bytes))
+text_in chain number state (requests.Filter peer bytes) = filter_text number peer state.committed (filter_read chain bytes)
 text_in chain number state (requests.Offer item) = text_of number (offered (outcome_of chain state.rows item))
 
 -- filters with that of a peer, if it is one

@@ -6,8 +6,8 @@ ghost use Rattle.lgm_store.specs.History.{absorbed, fold_from};
 ghost use Rattle.lgm_server.specs.Device.{Appends};
 ghost use Rattle.lgm_server.specs.Text.{with_gathered};
 ghost use Rattle.lgm_server.specs.Running.{IsAnswerFault};
-ghost use Rattle.lgm_server.specs.Filtering.{filter_reply, filter_read};
-ghost use Rattle.lgm_server.specs.Script.{outcome_of, offered, opening, commit_text, text_in, state_behind, with_filter, state_after};
+ghost use Rattle.lgm_server.specs.Filtering.{filter_read};
+ghost use Rattle.lgm_server.specs.Script.{outcome_of, offered, opening, commit_text, filter_text, text_in, state_behind, with_filter, state_after};
 
 use crate::device::Sink;
 use crate::filtering::read_filter;
@@ -18,11 +18,10 @@ use crate::querying::answer_query;
 use crate::reply::Reply;
 use crate::request::Request;
 use crate::run_fault::RunFault;
-use crate::sending::send_count;
+use crate::sending::{send_backlog, send_count, send_word};
 use crate::text_buffer::TextBuffer;
 use lgm_check::{Refusal, precheck};
 use lgm_gossip::ChainHash;
-use lgm_query::backlog;
 use lgm_store::{Map, Op};
 use std::alloc::{AllocError, Global};
 use std::collections::VecDeque;
@@ -186,24 +185,33 @@ impl Engine {
         Ok(())
     }
 
-    /// Gives a peer the filter that these bytes are, if they are one.
-    fn set_filter(
+    /// Gives a peer the filter that these bytes are, if they are one, and sends it what passes of the committed items.
+    fn set_filter<W: Sink>(
         &mut self,
         alloc: Global,
         chain: &ChainHash,
+        number: u64,
         peer: u16,
         bytes: &[u8],
-    ) -> Result<Reply, AllocError>
-        ensures reply { IfOk result (λ reply. reply ≡ filter_reply peer self.old.committed (filter_read chain.now bytes.now)) }
+        text: &mut TextBuffer,
+        writer: &mut W,
+    ) -> Result<(), RunFault>
+        requires { W.failures writer.old + 1 < 2 ^ 64 }
         ensures state { OnOk result (self.new ≡ with_filter self.old peer (filter_read chain.now bytes.now)) }
+        ensures told { OnOk result (Appends (with_gathered (W.taken writer.old) text.old)
+            (with_gathered (W.taken writer.new) text.new)
+            (filter_text number peer self.old.committed (filter_read chain.now bytes.now))) }
+        ensures same { OnOk result (W.failures writer.new ≡ W.failures writer.old) }
+        ensures write { IsErrOf result RunFault.Write → W.failures writer.old < W.failures writer.new }
+        ensures err { IfErr result IsAnswerFault }
     {
         match read_filter(alloc, chain, bytes)? {
             Ok(filter) => {
-                let messages = backlog(alloc, &self.committed, &filter)?;
                 self.filters.set(PeerFilter { peer, filter })?;
-                Ok(Reply::Filtered(peer, messages))
+                send_word(number, "filter", text, writer)?;
+                send_backlog(number, peer, &self.committed, &filter, text, writer)
             }
-            Err(reply) => Ok(reply),
+            Err(reply) => reply.send(number, text, writer),
         }
     }
 
@@ -234,7 +242,8 @@ impl Engine {
             Request::Offer(item) => self.offer(alloc, chain, item)?,
             Request::Query(bytes) => answer_query(alloc, chain, &self.committed, bytes.as_slice())?,
             Request::Filter(peer, bytes) => {
-                self.set_filter(alloc, chain, *peer, bytes.as_slice())?
+                let bytes = bytes.as_slice();
+                return self.set_filter(alloc, chain, number, *peer, bytes, text, writer);
             }
         };
         reply.send(number, text, writer)

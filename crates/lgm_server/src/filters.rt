@@ -1,6 +1,7 @@
 //! The filters of peers.
 
 ghost use Rattle.std.specs.Prelude.{◌≡◌, [], OnOk, OnErr};
+ghost use Rattle.std.specs.BTreeMap.{values};
 ghost use Rattle.lgm_store.specs.Rows.{put};
 ghost use Rattle.lgm_server.specs.Filters.{by_peer};
 
@@ -21,7 +22,7 @@ pub struct PeerFilter {
 /// The filter that each peer has. Contracts see them in a list, peers ascending.
 #[derive(Drop)]
 pub struct Filters {
-    pub filters: BTreeMap<u16, PeerFilter>,
+    filters: BTreeMap<u16, PeerFilter>,
 }
 
 impl Model for Filters {
@@ -46,6 +47,13 @@ impl Filters {
         Filters {
             filters: BTreeMap::new(alloc),
         }
+    }
+
+    /// The filters by their peers' numbers.
+    pub fn as_map(&self) -> &BTreeMap<u16, PeerFilter>
+        ensures { values result.now ≡ self.now }
+    {
+        &self.filters
     }
 
     /// Gives a peer a filter, in place of the one that it had. Want of memory leaves all as they were.

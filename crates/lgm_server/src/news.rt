@@ -77,11 +77,12 @@ pub fn send_news<W: Sink>(
     ensures write { IsErrOf result RunFault.Write → W.failures writer.old < W.failures writer.new }
     ensures err { IfErr result IsAnswerFault }
 {
-    if filters.filters.is_empty() {
+    let filters = filters.as_map();
+    if filters.is_empty() {
         return Ok(());
     }
     let changes = changes_of(alloc, due)?;
-    for (_, own) in &filters.filters {
+    for (_, own) in filters {
         send_news_to(alloc, number, before, after, &changes, own, text, writer)?;
     }
     Ok(())

@@ -30,8 +30,6 @@ pub enum Reply {
     NotFilter,
     /// The messages that its query is answered with.
     Answers(Replies),
-    /// The messages that pass the filter of a peer.
-    Filtered(u16, Replies),
 }
 
 impl Reply {
@@ -58,10 +56,6 @@ impl Reply {
             Reply::NotFilter => send_word(number, "not-filter", text, writer),
             Reply::Answers(messages) => {
                 send_messages(number, None, messages.as_slice(), text, writer)
-            }
-            Reply::Filtered(peer, messages) => {
-                send_word(number, "filter", text, writer)?;
-                send_messages(number, Some(*peer), messages.as_slice(), text, writer)
             }
         }
     }

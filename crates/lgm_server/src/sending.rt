@@ -2,6 +2,7 @@
 
 ghost use Rattle.std.specs.Prelude.{◌≡◌, ◌+◌, ◌<◌, ◌^◌, ◌++◌, [], IfErr, OnOk, OnErr, IsErrOf};
 ghost use Rattle.std.specs.List.{flat_map};
+ghost use Rattle.lgm_query.specs.Backlog.{backlog};
 ghost use Rattle.lgm_server.specs.Device.{Appends};
 ghost use Rattle.lgm_server.specs.Text.{with_gathered};
 ghost use Rattle.lgm_server.specs.Reply.{word_line, commit_line, lead, message_line};
@@ -11,6 +12,8 @@ use crate::device::Sink;
 use crate::run_fault::RunFault;
 use crate::text_buffer::TextBuffer;
 use lgm_gossip::Bytes;
+use lgm_query::{Backlog, Filter};
+use lgm_store::Map;
 use std::alloc::AllocError;
 
 /// Writes what was gathered.
@@ -139,6 +142,29 @@ fn send_message<W: Sink>(
 {
     push_message(number, peer, message, text)?;
     flush_block(text, writer)
+}
+
+/// Sends a peer what passes its filter of a map, each message in a line of its own, as it is walked.
+pub fn send_backlog<W: Sink>(
+    number: u64,
+    peer: u16,
+    map: &Map,
+    filter: &Filter,
+    text: &mut TextBuffer,
+    writer: &mut W,
+) -> Result<(), RunFault>
+    requires { W.failures writer.old + 1 < 2 ^ 64 }
+    ensures told { OnOk result (Appends (with_gathered (W.taken writer.old) text.old)
+        (with_gathered (W.taken writer.new) text.new)
+        (flat_map (message_line number (Some peer)) (backlog map.now filter.now))) }
+    ensures same { OnOk result (W.failures writer.new ≡ W.failures writer.old) }
+    ensures write { IsErrOf result RunFault.Write → W.failures writer.old < W.failures writer.new }
+    ensures err { IfErr result IsAnswerFault }
+{
+    for message in Backlog::of(map, filter) {
+        send_message(number, Some(peer), message, text, writer)?;
+    }
+    Ok(())
 }
 
 /// Sends messages, each in a line of its own, which may be for a peer.

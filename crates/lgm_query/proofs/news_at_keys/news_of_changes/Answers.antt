@@ -1,4 +1,4 @@
-use Rattle.std.proofs.Common.{◌≡◌, ◌++◌, List, ℕ, sym, ap, ◌∙◌}
+use Rattle.std.proofs.Common.{◌++◌, List, ℕ, sym, ap, ◌∙◌}
 use Rattle.std.specs.List.{flat_map}
 use Rattle.lgm_query.specs.KeyNews.{news_of_channel, news_of_node}
 use Rattle.lgm_query.proofs.KeyNews.{news_at_keys}

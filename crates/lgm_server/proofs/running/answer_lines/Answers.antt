@@ -1,10 +1,10 @@
-use Rattle.std.proofs.Common.{arith, rules, ◌∙◌, ◌+◌, ◌≡◌, ℕ, List, ap, sym, subst, refl}
+use Rattle.std.proofs.Common.{arith, rules, ◌∙◌, ◌+◌, ◌≡◌, ℕ, ap, subst}
 use Rattle.lgm_server.specs.Device.{Appends}
 use Rattle.lgm_server.specs.Lines.{ahead}
 use Rattle.lgm_server.specs.Text.{with_gathered}
 use Rattle.lgm_server.specs.Request.{request_of}
 use Rattle.lgm_server.specs.Script.{text_in, state_after}
-use Rattle.lgm_server.proofs.Progress.{SoFar, Tells, starts, step, ends, many, long, too_long_only, accepted-le}
+use Rattle.lgm_server.proofs.Progress.{SoFar, starts, step, ends, many, long, too_long_only, accepted-le}
 use Rattle.lgm_server.proofs.running.answer_lines.Goals as goal
 
 pub loop-number-init : goal.loop-number-init
