@@ -1,6 +1,7 @@
 pub mod Ordered
 pub mod Counting
 pub mod Lists
+pub mod Holding
 pub mod Soundness
 pub mod Changes
 pub mod Walking

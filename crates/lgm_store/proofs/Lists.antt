@@ -26,10 +26,10 @@ use Rattle.lgm_store.proofs.Counting.{is_at-point}
 
 -- ---- channels
 
-id_test : (k id : ℕ) → is_eq (nat_cmp id k) ≡ eqb k id
+pub id_test : (k id : ℕ) → is_eq (nat_cmp id k) ≡ eqb k id
 id_test k id = grind (arith, nat_tests)
 
-same_id : (a b : ℕ) → nat_cmp a b ≡ Equal → a ≡ b
+pub same_id : (a b : ℕ) → nat_cmp a b ≡ Equal → a ≡ b
 same_id a b e = grind (arith, nat_tests)
 
 pub lookup-channel : (entries : List (ℕ × ChannelRow)) (id : ℕ) → IsKeyed id_of entries → lookup (is_at (nat_cmp id)) entries ≡ channel_of (values_of entries) id
@@ -99,27 +99,6 @@ IsKeyed-update entries new k row own is keyed = rw (is, own) (IsKeyed-insert dir
 pub values-update : (entries new : List ((ℕ × Bool) × UpdateRow)) (k : ℕ × Bool) (row : UpdateRow) → k ≡ direction_of row → new ≡ insert_entry direction_cmp entries k row
     → IsKeyed direction_of entries → IsStrictlySortedBy direction_cmp (keys_of entries) → values_of new ≡ put by_direction (values_of entries) row
 values-update entries new k row own is keyed sorted = rw (is, own) (values-insert direction_cmp direction_of direction_total row entries keyed sorted)
-
--- both directions of a channel are taken out
-pub values-no_updates : (entries mid new : List ((ℕ × Bool) × UpdateRow)) (id : ℕ) → mid ≡ remove_entry (is_at (direction_cmp (id, false))) entries
-    → new ≡ remove_entry (is_at (direction_cmp (id, true))) mid
-    → IsKeyed direction_of entries → IsStrictlySortedBy direction_cmp (keys_of entries) → IsStrictlySortedBy direction_cmp (keys_of mid)
-    → values_of new ≡ updates_without (values_of entries) id
-values-no_updates entries mid new id first second keyed sorted sorted' =
-    let keyed' : IsKeyed direction_of mid = rw first (IsKeyed-remove direction_cmp direction_of (is_at (direction_cmp (id, false))) entries keyed) in
-    ap values_of second ∙ values-remove direction_cmp direction_of direction_total (id, true) mid keyed' sorted'
-    ∙ ap (filter (λ row. not (is_eq (direction_cmp (id, true) (direction_of row))))) (ap values_of first ∙ values-remove direction_cmp direction_of direction_total (id, false) entries keyed sorted)
-    ∙ filter-filter _ _ (values_of entries)
-    ∙ filter-same _ _ (λ row. neither row) (values_of entries)
-  where
-    neither : (row : UpdateRow) → (not (is_eq (direction_cmp (id, false) (direction_of row))) && not (is_eq (direction_cmp (id, true) (direction_of row)))) ≡ not (eqb row.message.short_channel_id id)
-    neither row = rw (direction_test (direction_of row) id false, direction_test (direction_of row) id true) (by (eqb row.message.short_channel_id id) (is_second row))
-      where
-        by : (a b : Bool) → (not (a && beq b false) && not (a && beq b true)) ≡ not a
-        by true true = refl
-        by true false = refl
-        by false true = refl
-        by false false = refl
 
 -- ---- nodes
 

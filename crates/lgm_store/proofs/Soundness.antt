@@ -4,7 +4,7 @@ use Rattle.std.specs.Prelude.{count_by, unwrap_or, is_some, if◌then◌else◌}
 use Rattle.std.specs.Option.{option_map}
 use Rattle.std.specs.List.{AllByRecursion, filter, list_any, sum_by}
 use Rattle.std.specs.List.Sorted.{IsStrictlySortedBy}
-use Rattle.std.specs.Map.{lookup, remove_entry, keys_of, values_of}
+use Rattle.std.specs.Map.{lookup, remove_entry, set_value, keys_of, values_of}
 use Rattle.std.specs.BTreeMap.{is_at, insert_entry}
 use Rattle.std.specs.Ordering.{nat_cmp}
 use Rattle.std.proofs.lemmas.Cmp.{nat_cmp_total}
@@ -16,13 +16,16 @@ use Rattle.lgm_gossip.specs.declared.point.Point.{Point}
 use Rattle.lgm_check.specs.declared.row.ChannelRow.{ChannelRow}
 use Rattle.lgm_check.specs.declared.row.UpdateRow.{UpdateRow}
 use Rattle.lgm_check.specs.declared.row.NodeRow.{NodeRow}
+use Rattle.lgm_store.specs.declared.held.Held.{Held}
 use Rattle.lgm_store.specs.Keyed.{IsKeyed}
+use Rattle.lgm_store.specs.Held.{alone, with_update_in, channel_entries, update_entries}
 use Rattle.lgm_store.specs.Rows.{is_point, ends_at, ends_channel}
 use Rattle.lgm_store.specs.History.{channels_without, updates_without, ended_nodes}
 use Rattle.lgm_store.specs.Ends.{point_cmp, channel_count, entry_of, kept, Counts, number_at, stays_beside}
 use Rattle.lgm_store.specs.Sound.{direction_cmp, IsSound, AreEnded, id_of, direction_of, point_of}
 use Rattle.lgm_store.proofs.Counting.{either, number_at-counts, same_point}
-use Rattle.lgm_store.proofs.Lists.{IsKeyed-channel, IsKeyed-update, IsKeyed-node, values-node, values-no_channel, values-no_updates}
+use Rattle.lgm_store.proofs.Lists.{IsKeyed-channel, IsKeyed-update, IsKeyed-node, values-node, values-no_channel}
+use Rattle.lgm_store.proofs.Holding.{keys-channels, lookup-channels, insert-channels, remove-channels, set-channels, channel-with, ascend-updates, set-updates, insert-updates, values-without, keyed-without}
 use Rattle.lgm_store.proofs.Ordered.{IsKeyed-remove, filter-alike, filter-filter}
 
 -- ---- the count tells whether a channel ends at a node
@@ -54,20 +57,20 @@ number_at-bound ends entries node counted small =
 
 -- ---- no rows
 
-pub IsSound-empty : (channels : List (ℕ × ChannelRow)) (updates : List ((ℕ × Bool) × UpdateRow)) (nodes : List (Point × NodeRow)) (ends : List (Point × ℕ))
-    → IsStrictlySortedBy nat_cmp (keys_of channels) → IsStrictlySortedBy direction_cmp (keys_of updates) → IsStrictlySortedBy point_cmp (keys_of nodes)
-    → channels ≡ [] → updates ≡ [] → nodes ≡ [] → ends ≡ [] → IsSound channels updates nodes ends
-IsSound-empty channels updates nodes ends channels_ascend updates_ascend nodes_ascend c u n e =
-    record {
-      channels_keyed = rw c tt;
-      updates_keyed = rw u tt;
-      nodes_keyed = rw n tt;
-      channels_ascend = channels_ascend;
-      updates_ascend = updates_ascend;
-      nodes_ascend = nodes_ascend;
-      nodes_ended = rw n tt;
-      counted = rw (e, c) (λ _. refl);
-    }
+pub IsSound-empty : (held : List (ℕ × Held)) (nodes : List (Point × NodeRow)) (ends : List (Point × ℕ)) → held ≡ [] → nodes ≡ [] → ends ≡ []
+    → IsSound (channel_entries held) (update_entries held) nodes ends
+unfolding IsStrictlySortedBy
+IsSound-empty held nodes ends h n e =
+    rw (h, n, e) (record {
+      channels_keyed = tt;
+      updates_keyed = tt;
+      nodes_keyed = tt;
+      channels_ascend = tt;
+      updates_ascend = tt;
+      nodes_ascend = tt;
+      nodes_ended = tt;
+      counted = λ _. refl;
+    })
 
 -- ---- a channel more
 
@@ -121,13 +124,26 @@ IsSound-channel channels new updates nodes ends ends' id row first second own fi
           ∙ ap kept (rw (first_is, second_is) refl ∙ sym (counts node));
     }
 
+-- the same of channels with their updates
+pub IsSound-held : (held new : List (ℕ × Held)) (nodes : List (Point × NodeRow)) (ends ends' : List (Point × ℕ))
+    → (id : ℕ) (row : ChannelRow) (first second : Point) → id ≡ id_of row → first ≡ row.message.node_id_1 → second ≡ row.message.node_id_2
+    → new ≡ insert_entry nat_cmp held id (alone row) → lookup (is_at (nat_cmp id)) held ≡ None → IsStrictlySortedBy nat_cmp (keys_of new)
+    → ((number : Point → ℕ) → Counts ends number → Counts ends' (λ q. number q + either first second q))
+    → IsSound (channel_entries held) (update_entries held) nodes ends → IsSound (channel_entries new) (update_entries new) nodes ends'
+IsSound-held held new nodes ends ends' id row first second own first_is second_is is none ascend adds sound =
+    let channels_is : channel_entries new ≡ insert_entry nat_cmp (channel_entries held) id row = ap channel_entries is ∙ insert-channels id (alone row) held in
+    let updates_is : update_entries new ≡ update_entries held = ap update_entries is ∙ insert-updates id row held none in
+    let none' : lookup (is_at (nat_cmp id)) (channel_entries held) ≡ None = lookup-channels (is_at (nat_cmp id)) held ∙ ap (option_map (λ h. h.channel)) none in
+    let ascend' : IsStrictlySortedBy nat_cmp (keys_of (channel_entries new)) = rw (keys-channels new) ascend in
+    rw updates_is (IsSound-channel (channel_entries held) (channel_entries new) (update_entries held) nodes ends ends' id row first second own first_is second_is channels_is none' ascend' adds sound)
+
 -- the count of a channel that didn't come in after all
-pub IsSound-undone : (channels new : List (ℕ × ChannelRow)) (updates : List ((ℕ × Bool) × UpdateRow)) (nodes : List (Point × NodeRow)) (ends mid ends' : List (Point × ℕ))
-    → (first second : Point) → new ≡ channels
+pub IsSound-undone : (held new : List (ℕ × Held)) (nodes : List (Point × NodeRow)) (ends mid ends' : List (Point × ℕ))
+    → (first second : Point) → new ≡ held
     → ((number : Point → ℕ) → Counts ends number → Counts mid (λ q. number q + either first second q))
     → ((number : Point → ℕ) → Counts mid number → Counts ends' (λ q. number q - either first second q))
-    → IsSound channels updates nodes ends → IsSound new updates nodes ends'
-IsSound-undone channels new updates nodes ends mid ends' first second is adds removes sound =
+    → IsSound (channel_entries held) (update_entries held) nodes ends → IsSound (channel_entries new) (update_entries new) nodes ends'
+IsSound-undone held new nodes ends mid ends' first second is adds removes sound =
     rw is (record {
       channels_keyed = sound.channels_keyed;
       updates_keyed = sound.updates_keyed;
@@ -137,8 +153,8 @@ IsSound-undone channels new updates nodes ends mid ends' first second is adds re
       nodes_ascend = sound.nodes_ascend;
       nodes_ended = sound.nodes_ended;
       counted = λ node.
-          removes (λ q. channel_count (values_of channels) q + either first second q) (adds (channel_count (values_of channels)) sound.counted) node
-          ∙ ap kept (add-sub_cancel (channel_count (values_of channels) node) (either first second node));
+          removes (λ q. channel_count (values_of (channel_entries held)) q + either first second q) (adds (channel_count (values_of (channel_entries held))) sound.counted) node
+          ∙ ap kept (add-sub_cancel (channel_count (values_of (channel_entries held)) node) (either first second node));
     })
 
 -- the counts of another index
@@ -204,6 +220,16 @@ IsSound-update channels updates new nodes ends k row own is ascend sound =
       nodes_ended = sound.nodes_ended;
       counted = sound.counted;
     }
+
+-- the same of channels with their updates
+pub IsSound-put : (held new : List (ℕ × Held)) (nodes : List (Point × NodeRow)) (ends : List (Point × ℕ)) (id : ℕ) (second : Bool) (row : UpdateRow) (old : Held)
+    → (id, second) ≡ direction_of row → lookup (is_at (nat_cmp id)) held ≡ Some old → new ≡ set_value (is_at (nat_cmp id)) held (with_update_in second old row)
+    → IsStrictlySortedBy nat_cmp (keys_of held) → IsStrictlySortedBy nat_cmp (keys_of new)
+    → IsSound (channel_entries held) (update_entries held) nodes ends → IsSound (channel_entries new) (update_entries new) nodes ends
+IsSound-put held new nodes ends id second row old own found is ascend ascend' sound =
+    let channels_is : channel_entries new ≡ channel_entries held = ap channel_entries is ∙ set-channels (is_at (nat_cmp id)) held old (with_update_in second old row) found (channel-with second old row) in
+    let updates_is : update_entries new ≡ insert_entry direction_cmp (update_entries held) (id, second) row = ap update_entries is ∙ set-updates id second row held old ascend found in
+    rw channels_is (IsSound-update (channel_entries held) (update_entries held) (update_entries new) nodes ends (id, second) row own updates_is (ascend-updates new ascend') sound)
 
 -- ---- a channel less
 
@@ -281,48 +307,50 @@ AreEnded-ended_nodes channels (row ∷ rows) = by (AreEnded-ended_nodes channels
     by others false is = rw is others
 
 -- what a close leaves of the maps
-pub record IsClosed (channels new : List (ℕ × ChannelRow)) (updates new_updates : List ((ℕ × Bool) × UpdateRow)) (nodes new_nodes : List (Point × NodeRow)) (ends : List (Point × ℕ)) (id : ℕ) : Type 0 where
-  pub channels_left : values_of new ≡ channels_without (values_of channels) id
-  pub updates_left : values_of new_updates ≡ updates_without (values_of updates) id
-  pub nodes_left : values_of new_nodes ≡ ended_nodes (values_of new) (values_of nodes)
-  pub sound : IsSound new new_updates new_nodes ends
+pub record IsClosed (held new : List (ℕ × Held)) (nodes new_nodes : List (Point × NodeRow)) (ends : List (Point × ℕ)) (id : ℕ) : Type 0 where
+  pub channels_left : values_of (channel_entries new) ≡ channels_without (values_of (channel_entries held)) id
+  pub updates_left : values_of (update_entries new) ≡ updates_without (values_of (update_entries held)) id
+  pub nodes_left : values_of new_nodes ≡ ended_nodes (values_of (channel_entries new)) (values_of nodes)
+  pub sound : IsSound (channel_entries new) (update_entries new) new_nodes ends
 
-pub closed : (channels new : List (ℕ × ChannelRow)) (updates mid_updates new_updates : List ((ℕ × Bool) × UpdateRow)) (nodes mid new_nodes : List (Point × NodeRow)) (ends ends' : List (Point × ℕ))
-    → (id : ℕ) (row : ChannelRow) (first second : Point) → first ≡ row.message.node_id_1 → second ≡ row.message.node_id_2
-    → new ≡ remove_entry (is_at (nat_cmp id)) channels → lookup (is_at (nat_cmp id)) channels ≡ Some row → IsStrictlySortedBy nat_cmp (keys_of new)
-    → mid_updates ≡ remove_entry (is_at (direction_cmp (id, false))) updates → new_updates ≡ remove_entry (is_at (direction_cmp (id, true))) mid_updates
-    → IsStrictlySortedBy direction_cmp (keys_of mid_updates) → IsStrictlySortedBy direction_cmp (keys_of new_updates)
+pub closed : (held new : List (ℕ × Held)) (nodes mid new_nodes : List (Point × NodeRow)) (ends ends' : List (Point × ℕ))
+    → (id : ℕ) (gone : Held) (first second : Point) → first ≡ gone.channel.message.node_id_1 → second ≡ gone.channel.message.node_id_2
+    → new ≡ remove_entry (is_at (nat_cmp id)) held → lookup (is_at (nat_cmp id)) held ≡ Some gone → IsStrictlySortedBy nat_cmp (keys_of held) → IsStrictlySortedBy nat_cmp (keys_of new)
     → ((number : Point → ℕ) → Counts ends number → Counts ends' (λ q. number q - either first second q))
     → values_of mid ≡ filter (stays_beside ends' first) (values_of nodes) → values_of new_nodes ≡ filter (stays_beside ends' second) (values_of mid)
     → IsKeyed point_of new_nodes → IsStrictlySortedBy point_cmp (keys_of new_nodes)
-    → IsSound channels updates nodes ends
-    → IsClosed channels new updates new_updates nodes new_nodes ends' id
-closed channels new updates mid_updates new_updates nodes mid new_nodes ends ends' id row first second first_is second_is is found ascend mid_is updates_is mid_ascend updates_ascend removes one two nodes_keyed nodes_ascend sound =
-    let counts : (node : Point) → channel_count (values_of new) node + either first second node ≡ channel_count (values_of channels) node =
-    λ node. rw (first_is, second_is) (channel_count-remove channels new id row is found node) in
-    let counted : Counts ends' (channel_count (values_of new)) =
+    → IsSound (channel_entries held) (update_entries held) nodes ends
+    → IsClosed held new nodes new_nodes ends' id
+closed held new nodes mid new_nodes ends ends' id gone first second first_is second_is is found ascend ascend' removes one two nodes_keyed nodes_ascend sound =
+    let channels = channel_entries held in
+    let left_channels = channel_entries new in
+    let channels_is : left_channels ≡ remove_entry (is_at (nat_cmp id)) channels = ap channel_entries is ∙ remove-channels (is_at (nat_cmp id)) held in
+    let found' : lookup (is_at (nat_cmp id)) channels ≡ Some gone.channel = lookup-channels (is_at (nat_cmp id)) held ∙ ap (option_map (λ h. h.channel)) found in
+    let counts : (node : Point) → channel_count (values_of left_channels) node + either first second node ≡ channel_count (values_of channels) node =
+    λ node. rw (first_is, second_is) (channel_count-remove channels left_channels id gone.channel channels_is found' node) in
+    let counted : Counts ends' (channel_count (values_of left_channels)) =
     λ node. removes (channel_count (values_of channels)) sound.counted node
-    ∙ ap kept (ap (λ n. n - either first second node) (sym (counts node)) ∙ add-sub_cancel (channel_count (values_of new) node) (either first second node)) in
-    let left : values_of new_nodes ≡ ended_nodes (values_of new) (values_of nodes) =
+    ∙ ap kept (ap (λ n. n - either first second node) (sym (counts node)) ∙ add-sub_cancel (channel_count (values_of left_channels) node) (either first second node)) in
+    let left : values_of new_nodes ≡ ended_nodes (values_of left_channels) (values_of nodes) =
     two ∙ ap (filter (stays_beside ends' second)) one
-    ∙ ended_nodes-left (values_of channels) (values_of new) ends' first second (values_of nodes) counts (λ node. ends-counted ends' (values_of new) node counted) sound.nodes_ended in
+    ∙ ended_nodes-left (values_of channels) (values_of left_channels) ends' first second (values_of nodes) counts (λ node. ends-counted ends' (values_of left_channels) node counted) sound.nodes_ended in
     record {
-      channels_left = values-no_channel channels new id is sound.channels_keyed sound.channels_ascend;
-      updates_left = values-no_updates updates mid_updates new_updates id mid_is updates_is sound.updates_keyed sound.updates_ascend mid_ascend;
+      channels_left = values-no_channel channels left_channels id channels_is sound.channels_keyed sound.channels_ascend;
+      updates_left = ap (λ es. values_of (update_entries es)) is ∙ values-without id held ascend sound.updates_keyed;
       nodes_left = left;
       sound = record {
-        channels_keyed = rw is (IsKeyed-remove nat_cmp id_of (is_at (nat_cmp id)) channels sound.channels_keyed);
-        updates_keyed = rw (updates_is, mid_is) (IsKeyed-remove direction_cmp direction_of _ _ (IsKeyed-remove direction_cmp direction_of _ updates sound.updates_keyed));
+        channels_keyed = rw channels_is (IsKeyed-remove nat_cmp id_of (is_at (nat_cmp id)) channels sound.channels_keyed);
+        updates_keyed = rw is (keyed-without (is_at (nat_cmp id)) held sound.updates_keyed);
         nodes_keyed = nodes_keyed;
-        channels_ascend = ascend;
-        updates_ascend = updates_ascend;
+        channels_ascend = rw (keys-channels new) ascend';
+        updates_ascend = ascend-updates new ascend';
         nodes_ascend = nodes_ascend;
-        nodes_ended = rw left (AreEnded-ended_nodes (values_of new) (values_of nodes));
+        nodes_ended = rw left (AreEnded-ended_nodes (values_of left_channels) (values_of nodes));
         counted = counted;
       };
     }
 
 -- a close of a channel that isn't held
-pub IsSound-unchanged : (channels new : List (ℕ × ChannelRow)) (updates : List ((ℕ × Bool) × UpdateRow)) (nodes : List (Point × NodeRow)) (ends : List (Point × ℕ))
-    → new ≡ channels → IsSound channels updates nodes ends → IsSound new updates nodes ends
-IsSound-unchanged channels new updates nodes ends is sound = rw is sound
+pub IsSound-unchanged : (held new : List (ℕ × Held)) (nodes : List (Point × NodeRow)) (ends : List (Point × ℕ))
+    → new ≡ held → IsSound (channel_entries held) (update_entries held) nodes ends → IsSound (channel_entries new) (update_entries new) nodes ends
+IsSound-unchanged held new nodes ends is sound = rw is sound

@@ -3,6 +3,7 @@ pub mod Admission
 pub mod History
 pub mod Reading
 pub mod Keyed
+pub mod Held
 pub mod Ends
 pub mod Sound
 pub mod Start

@@ -5,6 +5,7 @@
 #![tactic(auto)]
 
 mod end_counts;
+mod held;
 mod laws;
 mod map;
 mod op;

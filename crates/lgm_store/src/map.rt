@@ -10,8 +10,9 @@ mod reading;
 mod replaying;
 
 use crate::end_counts::EndCounts;
+use crate::held::Held;
 use crate::shared::Shared;
-use lgm_check::{ChannelRow, NodeRow, UpdateRow};
+use lgm_check::NodeRow;
 use lgm_gossip::{Point, Scid};
 use std::alloc::{AllocError, Global};
 use std::collections::BTreeMap;
@@ -23,9 +24,8 @@ use std::marker::Model;
 #[derive(Drop)]
 pub struct Map {
     alloc: Global,
-    channels: BTreeMap<Scid, Shared<ChannelRow>>,
-    /// By the channel and the direction: `true` is that from node 2.
-    updates: BTreeMap<(Scid, bool), Shared<UpdateRow>>,
+    /// Channels with their updates.
+    channels: BTreeMap<Scid, Held>,
     nodes: BTreeMap<Point, Shared<NodeRow>>,
     ends: EndCounts,
 }
@@ -35,16 +35,18 @@ impl Model for Map {
 
     ghost Value = { Rows };
 
+    ghost use Rattle.std.specs.Map.{values_of};
     ghost use Rattle.std.specs.BTreeMap.{values};
+    ghost use Rattle.lgm_store.specs.Held.{channel_entries, update_entries};
     ghost use Rattle.lgm_store.specs.Sound.{IsSound};
 
     ghost view = { λ m. record {
-      channels = values m.channels;
-      updates = values m.updates;
+      channels = values_of (channel_entries m.channels.entries);
+      updates = values_of (update_entries m.channels.entries);
       nodes = values m.nodes;
     } };
 
-    ghost invariant = { λ m. IsSound m.channels.entries m.updates.entries m.nodes.entries m.ends };
+    ghost invariant = { λ m. IsSound (channel_entries m.channels.entries) (update_entries m.channels.entries) m.nodes.entries m.ends };
 }
 
 impl Map {
@@ -55,7 +57,6 @@ impl Map {
         Ok(Map {
             alloc,
             channels: BTreeMap::new(alloc),
-            updates: BTreeMap::new(alloc),
             nodes: BTreeMap::new(alloc),
             ends: EndCounts::new(alloc),
         })

@@ -9,6 +9,7 @@ ghost use Rattle.lgm_store.specs.History.{with_channel, with_update, with_node, 
 
 use super::Map;
 use crate::end_counts::EndCounts;
+use crate::held::Held;
 use crate::op::Op;
 use crate::shared::Shared;
 use lgm_check::{ChannelRow, NodeRow, UpdateRow};
@@ -29,7 +30,10 @@ impl Map {
     {
         match op {
             Op::Channel(row) => self.add_channel(row.share()?),
-            Op::Update(row) => self.put_update(row.share()?),
+            Op::Update(row) => {
+                self.put_update(row.share()?);
+                Ok(())
+            }
             Op::Node(row) => self.put_node(row.share()?),
             Op::Close(scid) => {
                 self.close(*scid);
@@ -43,13 +47,13 @@ impl Map {
         ensures err { OnErr result (self.new ≡ self.old) }
     {
         let scid = row.get().scid();
-        if self.channel(scid).is_some() {
+        if self.held(scid).is_some() {
             return Ok(());
         }
         prove!(self.channels.len() < usize::MAX);
         let (first, second) = (row.get().node(false), row.get().node(true));
         self.ends.add(first, second)?;
-        match self.channels.insert(scid, row) {
+        match self.channels.insert(scid, Held::new(row)) {
             Ok(_) => Ok(()),
             Err(refused) => {
                 self.ends.remove(first, second);
@@ -58,16 +62,14 @@ impl Map {
         }
     }
 
-    fn put_update(&mut self, row: Shared<UpdateRow>) -> Result<(), AllocError>
-        ensures ok { OnOk result (self.new ≡ with_update self.old row) }
-        ensures err { OnErr result (self.new ≡ self.old) }
+    fn put_update(&mut self, row: Shared<UpdateRow>)
+        ensures { self.new ≡ with_update self.old row }
     {
         let (scid, second) = (row.get().scid(), row.get().is_second());
-        if self.channel(scid).is_none() {
-            return Ok(());
-        }
-        self.updates.insert((scid, second), row)?;
-        Ok(())
+        let Some(held) = self.channels.get_mut(&scid) else {
+            return;
+        };
+        held.put_update(second, row);
     }
 
     fn put_node(&mut self, row: Shared<NodeRow>) -> Result<(), AllocError>
@@ -85,12 +87,10 @@ impl Map {
     fn close(&mut self, scid: Scid)
         ensures { self.new ≡ without_channel self.old scid }
     {
-        let Some(channel) = self.channels.remove(&scid) else {
+        let Some(held) = self.channels.remove(&scid) else {
             return;
         };
-        self.updates.remove(&(scid, false));
-        self.updates.remove(&(scid, true));
-        let (first, second) = (channel.get().node(false), channel.get().node(true));
+        let (first, second) = (held.channel.get().node(false), held.channel.get().node(true));
         self.ends.remove(first, second);
         drop_unless_ended(&mut self.nodes, &self.ends, &first);
         drop_unless_ended(&mut self.nodes, &self.ends, &second);

@@ -60,13 +60,13 @@ impl Map {
         ensures { let id = row.now.message.short_channel_id in
             result ≡ update_admission (channel_of self.now.channels id) (update_of self.now.updates id (is_second row.now)) row.now signer.now }
     {
-        let Some(channel) = self.channel(row.scid()) else {
+        let Some(held) = self.held(row.scid()) else {
             return Err(Refusal::UnknownChannel);
         };
-        if *signer != channel.node(row.is_second()) {
+        if *signer != held.channel.get().node(row.is_second()) {
             return Err(Refusal::Signature);
         }
-        match self.update(row.scid(), row.is_second()) {
+        match held.update(row.is_second()) {
             Some(held) if held.message.timestamp >= row.message.timestamp => Err(Refusal::NotNewer),
             _ => Ok(()),
         }

@@ -14,7 +14,6 @@ impl Map {
         Ok(Map {
             alloc,
             channels: copy_map(alloc, &self.channels)?,
-            updates: copy_map(alloc, &self.updates)?,
             nodes: copy_map(alloc, &self.nodes)?,
             ends: self.ends.copy(alloc)?,
         })

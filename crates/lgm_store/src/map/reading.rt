@@ -1,12 +1,14 @@
 //! What a map holds.
 
-ghost use Rattle.std.specs.Prelude.{◌≡◌, ℕ, ◌*◌, ◌^◌, ◌<◌, ◌≤◌, IfOk, length};
-ghost use Rattle.std.specs.Option.{option_copied};
+ghost use Rattle.std.specs.Prelude.{◌≡◌, ℕ, Bool, ◌*◌, ◌^◌, ◌<◌, ◌≤◌, IfOk, length};
+ghost use Rattle.std.specs.Option.{option_copied, option_map, option_and_then};
+ghost use Rattle.lgm_store.specs.Held.{update_in};
 ghost use Rattle.lgm_store.specs.Rows.{IsAscending, channel_of, update_of, node_of, ends_channel};
 ghost use Rattle.lgm_store.specs.Reading.{next_channel_of, next_node_of, block_of, is_between, ids_between_of};
 ghost use Rattle.lgm_store.specs.Start.{start_after, IsEndBefore};
 
 use super::Map;
+use crate::held::Held;
 use crate::shared::found;
 use lgm_check::{ChannelRow, NodeRow, UpdateRow};
 use lgm_gossip::{Point, Scid, Scids};
@@ -14,18 +16,27 @@ use std::alloc::{AllocError, Global};
 use std::ops::Bound;
 
 impl Map {
+    /// A channel with its updates, if it is held.
+    pub(crate) fn held(&self, scid: Scid) -> Option<&Held>
+        ensures channel { option_map (λ held. held.channel) (option_copied result) ≡ channel_of self.now.channels scid }
+        ensures update { (second : Bool) → option_and_then (update_in second) (option_copied result) ≡ update_of self.now.updates scid second }
+    {
+        self.channels.get(&scid)
+    }
+
     /// The row of a channel, if it is held.
     pub fn channel(&self, scid: Scid) -> Option<&ChannelRow>
         ensures { option_copied result ≡ channel_of self.now.channels scid }
     {
-        found(self.channels.get(&scid))
+        let held = self.held(scid)?;
+        Some(held.channel.get())
     }
 
     /// The row of a channel's direction, if it is held: that from node 2 if `second`, else that from node 1.
     pub fn update(&self, scid: Scid, second: bool) -> Option<&UpdateRow>
         ensures { option_copied result ≡ update_of self.now.updates scid second }
     {
-        found(self.updates.get(&(scid, second)))
+        self.held(scid)?.update(second)
     }
 
     /// The row of a node, if it is held.
@@ -55,8 +66,8 @@ impl Map {
         ensures { option_copied result ≡ next_channel_of self.now.channels after }
     {
         let range = (start_after(after), Bound::Unbounded);
-        let (_, row) = self.channels.range(range).next()?;
-        Some(row.get())
+        let (_, held) = self.channels.range(range).next()?;
+        Some(held.channel.get())
     }
 
     /// The node with the least point above one, byte by byte, or with the least of all.

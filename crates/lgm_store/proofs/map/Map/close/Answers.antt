@@ -3,41 +3,37 @@ use Rattle.std.specs.Prelude.{is_some}
 use Rattle.std.specs.Map.{values_of}
 use Rattle.lgm_store.specs.Rows.{channel_of}
 use Rattle.lgm_store.specs.History.{channels_without, updates_without, ended_nodes}
-use Rattle.lgm_store.proofs.Lists.{lookup-channel}
+use Rattle.lgm_store.proofs.Holding.{ascend-held}
 use Rattle.lgm_store.proofs.Soundness.{closed, IsSound-unchanged}
-use Rattle.lgm_store.proofs.Changes.{without_channel-held, without_channel-none}
+use Rattle.lgm_store.proofs.Changes.{is_held, without_channel-held, without_channel-none}
 use Rattle.lgm_store.proofs.map.Map.close.Goals as goal
 
 pub invariant_of-self : goal.invariant_of-self
 invariant_of-self c =
-    IsSound-unchanged c.self.inside.channels.entries c.remove.new.self.entries c.self.inside.updates.entries c.self.inside.nodes.entries c.self.inside.ends
-    c.in_default.ensures.unchanged c.self.invariant
+    IsSound-unchanged c.self.inside.channels.entries c.remove.new.self.entries c.self.inside.nodes.entries c.self.inside.ends c.in_default.ensures.unchanged c.self.invariant
 
 pub returns-in_default : goal.returns-in_default
 returns-in_default c =
-    let found = lookup-channel c.self.inside.channels.entries c.args.scid c.self.invariant.channels_keyed in
-    let none : is_some (channel_of c.args.self.now.channels c.args.scid) ≡ false =
-    ap (λ rows. is_some (channel_of rows.channels c.args.scid)) (sym c.self.view_is) ∙ ap is_some (sym found ∙ sym c.in_default.ensures.value) in
-    rw c.in_default.ensures.unchanged (c.self.view_is ∙ without_channel-none c.args.self.now c.args.scid none)
+    let held = is_held c.self.inside.channels.entries c.args.self.now.channels c.args.scid c.self.invariant.channels_keyed (ap (λ rows. rows.channels) c.self.view_is) in
+    rw c.in_default.ensures.unchanged (c.self.view_is ∙ without_channel-none c.args.self.now c.args.scid (sym held ∙ ap is_some (sym c.in_default.ensures.value)))
 
 pub invariant_of-self-2 : goal.invariant_of-self-2
 invariant_of-self-2 c =
-    (closed c.self.inside.channels.entries c.remove.new.self.entries c.self.inside.updates.entries c.remove-2.new.self.entries c.remove-3.new.self.entries
-    c.self.inside.nodes.entries c.drop_unless_ended.new.nodes.entries c.drop_unless_ended-2.new.nodes.entries c.self.inside.ends c.remove-4.new.self
-    c.args.scid c.in-Some.channel c.node-first.result c.node-second.result (c.node-first.ensures ∙ ap (λ row. row.message.node_id_1) c.get.ensures) (c.node-second.ensures ∙ ap (λ row. row.message.node_id_2) c.get-2.ensures)
-    c.remove.ensures.entries (sym c.in-Some.ensures.value) c.remove.ensures.ordered c.remove-2.ensures.entries c.remove-3.ensures.entries c.remove-2.ensures.ordered c.remove-3.ensures.ordered
-    c.remove-4.ensures c.drop_unless_ended.ensures.left c.drop_unless_ended-2.ensures.left c.drop_unless_ended-2.ensures.keyed c.drop_unless_ended-2.ensures.ascend c.self.invariant).sound
+    (closed c.self.inside.channels.entries c.remove.new.self.entries c.self.inside.nodes.entries c.drop_unless_ended.new.nodes.entries c.drop_unless_ended-2.new.nodes.entries
+    c.self.inside.ends c.remove-2.new.self c.args.scid c.in-Some.held c.node-first.result c.node-second.result
+    (c.node-first.ensures ∙ ap (λ row. row.message.node_id_1) c.get.ensures) (c.node-second.ensures ∙ ap (λ row. row.message.node_id_2) c.get-2.ensures)
+    c.remove.ensures.entries (sym c.in-Some.ensures.value) (ascend-held c.self.inside.channels.entries c.self.invariant.channels_ascend) c.remove.ensures.ordered
+    c.remove-2.ensures c.drop_unless_ended.ensures.left c.drop_unless_ended-2.ensures.left c.drop_unless_ended-2.ensures.keyed c.drop_unless_ended-2.ensures.ascend c.self.invariant).sound
 
 pub returns : goal.returns
 returns c =
-    let left = closed c.self.inside.channels.entries c.remove.new.self.entries c.self.inside.updates.entries c.remove-2.new.self.entries c.remove-3.new.self.entries
-    c.self.inside.nodes.entries c.drop_unless_ended.new.nodes.entries c.drop_unless_ended-2.new.nodes.entries c.self.inside.ends c.remove-4.new.self
-    c.args.scid c.in-Some.channel c.node-first.result c.node-second.result (c.node-first.ensures ∙ ap (λ row. row.message.node_id_1) c.get.ensures) (c.node-second.ensures ∙ ap (λ row. row.message.node_id_2) c.get-2.ensures)
-    c.remove.ensures.entries (sym c.in-Some.ensures.value) c.remove.ensures.ordered c.remove-2.ensures.entries c.remove-3.ensures.entries c.remove-2.ensures.ordered c.remove-3.ensures.ordered
-    c.remove-4.ensures c.drop_unless_ended.ensures.left c.drop_unless_ended-2.ensures.left c.drop_unless_ended-2.ensures.keyed c.drop_unless_ended-2.ensures.ascend c.self.invariant in
-    let found = lookup-channel c.self.inside.channels.entries c.args.scid c.self.invariant.channels_keyed in
+    let left = closed c.self.inside.channels.entries c.remove.new.self.entries c.self.inside.nodes.entries c.drop_unless_ended.new.nodes.entries c.drop_unless_ended-2.new.nodes.entries
+    c.self.inside.ends c.remove-2.new.self c.args.scid c.in-Some.held c.node-first.result c.node-second.result
+    (c.node-first.ensures ∙ ap (λ row. row.message.node_id_1) c.get.ensures) (c.node-second.ensures ∙ ap (λ row. row.message.node_id_2) c.get-2.ensures)
+    c.remove.ensures.entries (sym c.in-Some.ensures.value) (ascend-held c.self.inside.channels.entries c.self.invariant.channels_ascend) c.remove.ensures.ordered
+    c.remove-2.ensures c.drop_unless_ended.ensures.left c.drop_unless_ended-2.ensures.left c.drop_unless_ended-2.ensures.keyed c.drop_unless_ended-2.ensures.ascend c.self.invariant in
     let held : is_some (channel_of c.args.self.now.channels c.args.scid) ≡ true =
-    ap (λ rows. is_some (channel_of rows.channels c.args.scid)) (sym c.self.view_is) ∙ ap is_some (sym found ∙ sym c.in-Some.ensures.value) in
+    sym (is_held c.self.inside.channels.entries c.args.self.now.channels c.args.scid c.self.invariant.channels_keyed (ap (λ rows. rows.channels) c.self.view_is)) ∙ ap is_some (sym c.in-Some.ensures.value) in
     without_channel-held c.args.self.now _ c.args.scid held
     (left.channels_left ∙ ap (λ rows. channels_without rows.channels c.args.scid) c.self.view_is)
     (left.updates_left ∙ ap (λ rows. updates_without rows.updates c.args.scid) c.self.view_is)

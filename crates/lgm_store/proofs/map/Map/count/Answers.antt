@@ -1,8 +1,9 @@
 use Rattle.std.proofs.Common.{ap}
+use Rattle.lgm_store.specs.Held.{channel_entries, update_entries}
 use Rattle.lgm_store.proofs.Ascending.{IsAscending-sound}
 use Rattle.lgm_store.proofs.map.Map.count.Goals as goal
 
 pub returns-clause-ascend : goal.returns-clause-ascend
 returns-clause-ascend c =
-    IsAscending-sound c.self.inside.channels.entries c.self.inside.updates.entries c.self.inside.nodes.entries c.self.inside.ends c.args.self.now c.self.invariant
+    IsAscending-sound (channel_entries c.self.inside.channels.entries) (update_entries c.self.inside.channels.entries) c.self.inside.nodes.entries c.self.inside.ends c.args.self.now c.self.invariant
     (ap (λ rows. rows.channels) c.self.view_is) (ap (λ rows. rows.updates) c.self.view_is) (ap (λ rows. rows.nodes) c.self.view_is)

@@ -1,5 +1,6 @@
 use Rattle.std.proofs.Common.{◌≡◌, sym, ◌∙◌, ap}
 use Rattle.lgm_store.specs.Rows.{put, by_node, ends_channel}
+use Rattle.lgm_store.specs.Held.{channel_entries, update_entries}
 use Rattle.lgm_store.specs.Sound.{point_of}
 use Rattle.lgm_store.proofs.Lists.{values-node}
 use Rattle.lgm_store.proofs.Soundness.{IsSound-node}
@@ -10,7 +11,7 @@ pub invariant_of-self-2 : goal.invariant_of-self-2
 invariant_of-self-2 c =
     let own = c.node-node.ensures ∙ ap point_of c.get.ensures in
     let ended = rw own at (sym c.ends_channel.ensures ∙ c.if-not-ends_channel.false) in
-    IsSound-node c.self.inside.channels.entries c.self.inside.updates.entries c.self.inside.nodes.entries c.insert.new.self.entries c.self.inside.ends
+    IsSound-node (channel_entries c.self.inside.channels.entries) (update_entries c.self.inside.channels.entries) c.self.inside.nodes.entries c.insert.new.self.entries c.self.inside.ends
     c.node-node.result c.args.row own c.in_ok-insert.ensures.entries c.insert.ensures.ordered (ap (λ rows. ends_channel rows.channels c.args.row.message.node_id) c.self.view_is ∙ ended) c.self.invariant
 
 pub returns-clause-ok : goal.returns-clause-ok
