@@ -16,13 +16,13 @@ use Rattle.lgm_server.proofs.Telling.{All-push}
 pub accepted_behind : (map mid new committed : Rows) (due none pending pushed : List Op) (op : Op) → fold_from mid none ≡ fold_from map due → none ≡ []
     → new ≡ absorbed mid op → pushed ≡ pending ++ op ∷ [] → TellsKey op → IsBehind (fold_from map due) committed pending → IsBehind (fold_from new none) committed pushed
 accepted_behind map mid new committed due none pending pushed op kept done absorbs pushes tells old =
-    let tell = All-push TellsKey pending op old.due_tells tells in
+    let tell = All-push TellsKey pending op old.pending_tells tells in
     record {
       behind =
           ap (fold_from new) done ∙ absorbs ∙ ap (λ rows. absorbed rows op) (ap (fold_from mid) (sym done) ∙ kept ∙ old.behind)
           ∙ sym (fold_from-push committed pending op) ∙ ap (fold_from committed) (sym pushes);
       committed_tells = old.committed_tells;
-      due_tells = rw pushes tell;
+      pending_tells = rw pushes tell;
     }
 
 -- the maps change places, and what was pending is due
@@ -30,5 +30,5 @@ pub published_behind : (map mid committed map' committed' : Rows) (due none pend
     → map' ≡ committed → committed' ≡ mid → due' ≡ pending → pending' ≡ none → IsBehind (fold_from map due) committed pending → IsBehind (fold_from map' due') committed' pending'
 published_behind map mid committed map' committed' due none pending due' pending' kept done map_is committed_is due_is pending_is old =
     let same : fold_from committed pending ≡ fold_from mid none = sym old.behind ∙ sym kept in
-    let tells : TellKeys mid = subst TellKeys (same ∙ ap (fold_from mid) done) (TellKeys-fold committed pending old.committed_tells old.due_tells) in
-    rw (map_is, committed_is, due_is, pending_is) (record { behind = same; committed_tells = tells; due_tells = rw done tt })
+    let tells : TellKeys mid = subst TellKeys (same ∙ ap (fold_from mid) done) (TellKeys-fold committed pending old.committed_tells old.pending_tells) in
+    rw (map_is, committed_is, due_is, pending_is) (record { behind = same; committed_tells = tells; pending_tells = rw done tt })

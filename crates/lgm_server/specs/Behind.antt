@@ -7,8 +7,8 @@ use Rattle.lgm_store.specs.History.{fold_from}
 use Rattle.lgm_query.specs.KeyNews.{TellKeys}
 use Rattle.lgm_query.specs.Touched.{TellsKey}
 
--- the committed rows are those of all items but the operations that are due, and messages tell the keys of their rows
-pub record IsBehind (rows committed : Rows) (due : List Op) : Type 0 where
-  pub behind : rows ≡ fold_from committed due
+-- the rows are the committed ones behind which the pending operations were done, and messages tell the keys of their rows
+pub record IsBehind (rows committed : Rows) (pending : List Op) : Type 0 where
+  pub behind : rows ≡ fold_from committed pending
   pub committed_tells : TellKeys committed
-  pub due_tells : AllByRecursion TellsKey due
+  pub pending_tells : AllByRecursion TellsKey pending

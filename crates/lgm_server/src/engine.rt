@@ -34,10 +34,10 @@ use std::mem::swap;
 pub struct Engine {
     /// The map of all accepted items, but for what is due.
     map: Map,
-    /// What that map has yet to do, in order.
-    due: VecDeque<Op>,
     /// The map of the items before the last commit.
     committed: Map,
+    /// What the first map has yet to do, in order.
+    due: VecDeque<Op>,
     /// What was accepted since the last commit.
     pending: VecDeque<Op>,
     accepted: u64,
@@ -117,8 +117,8 @@ impl Engine {
     {
         Ok(Engine {
             map: Map::new(alloc)?,
-            due: VecDeque::new(alloc),
             committed: Map::new(alloc)?,
+            due: VecDeque::new(alloc),
             pending: VecDeque::new(alloc),
             accepted: 0,
             filters: Filters::new(alloc),
