@@ -1,6 +1,5 @@
 -- Channels with their updates, in one ordered map, as two ordered maps.
-use Rattle.std.proofs.Common.{◌≡◌, ℕ, Bool, true, false, not, cond, List, [], ◌∷◌, ◌++◌, length, Option, Some, None, refl, sym, ap, ◌∙◌, eqb, arith}
-use Rattle.std.specs.Prelude.{if◌then◌else◌}
+use Rattle.std.proofs.Common.{◌≡◌, ℕ, Bool, true, false, cond, List, [], ◌∷◌, ◌++◌, length, Option, Some, None, refl, sym, ap, ◌∙◌, eqb, arith}
 use Rattle.std.specs.Option.{option_map, option_and_then}
 use Rattle.std.specs.List.{AllByRecursion, filter}
 use Rattle.std.specs.List.Sorted.{IsStrictlySortedBy}
@@ -284,7 +283,7 @@ set-updates id second row (e ∷ es) old sorted found = by (set-updates id secon
         let found' : lookup (is_at (nat_cmp id)) es ≡ Some old = rw is at found in
         let past : (b : Bool) → direction_cmp (id, second) (e.0, b) ≡ Greater = λ b. rw is refl in
         rw (is, others found') (sym (insert-past e.0 false e.1.first _ (id, second) row (past false)
-            ∙ ap (λ (xs : Updates). update_entry e.0 false e.1.first ++ xs) (insert-past e.0 true e.1.second _ (id, second) row (past true))))
+        ∙ ap (λ (xs : Updates). update_entry e.0 false e.1.first ++ xs) (insert-past e.0 true e.1.second _ (id, second) row (past true))))
 
 -- a channel without updates leaves them
 pub insert-updates : (id : ℕ) (row : ChannelRow) (es : List (ℕ × Held)) → lookup (is_at (nat_cmp id)) es ≡ None → update_entries (insert_entry nat_cmp es id (alone row)) ≡ update_entries es
@@ -319,7 +318,7 @@ values-without id (e ∷ es) sorted keyed = by (values-without id es sorted.1 (k
     by others Equal is =
         let own : eqb e.0 id ≡ true = sym (id_test e.0 id) ∙ rw is refl in
         rw is (ap (λ (xs : List (ℕ × Held)). values_of (update_entries xs)) (sym (remove-above id es (above-equal id e.0 es is sorted.0))) ∙ others
-            ∙ sym (without-own id e.0 false e.1.first _ keyed own ∙ without-own id e.0 true e.1.second _ rest own))
+        ∙ sym (without-own id e.0 false e.1.first _ keyed own ∙ without-own id e.0 true e.1.second _ rest own))
     by others Greater is =
         let other : eqb e.0 id ≡ false = sym (id_test e.0 id) ∙ rw is refl in
         rw is (without-other id e.0 false e.1.first _ _ keyed other (without-other id e.0 true e.1.second _ _ rest other others))

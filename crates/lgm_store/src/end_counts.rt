@@ -85,11 +85,8 @@ impl EndCounts {
         ensures ok { OnOk result (Sets self.old self.new point (number_at self.old point + 1)) }
         ensures err { OnErr result (self.new ≡ self.old) }
     {
-        if let Some(number) = self.counts.get_mut(&point) {
-            *number += 1;
-            return Ok(());
-        }
-        self.counts.insert(point, 1)?;
+        let number = self.counts.entry(point)?.or_insert(0);
+        *number += 1;
         Ok(())
     }
 

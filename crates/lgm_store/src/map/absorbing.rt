@@ -90,7 +90,10 @@ impl Map {
         let Some(held) = self.channels.remove(&scid) else {
             return;
         };
-        let (first, second) = (held.channel.get().node(false), held.channel.get().node(true));
+        let (first, second) = (
+            held.channel.get().node(false),
+            held.channel.get().node(true),
+        );
         self.ends.remove(first, second);
         drop_unless_ended(&mut self.nodes, &self.ends, &first);
         drop_unless_ended(&mut self.nodes, &self.ends, &second);

@@ -1,4 +1,4 @@
-use Rattle.std.proofs.Common.{◌≡◌, sym, ◌∙◌, ap}
+use Rattle.std.proofs.Common.{sym, ◌∙◌, ap}
 use Rattle.lgm_store.specs.Rows.{put, by_node, ends_channel}
 use Rattle.lgm_store.specs.Held.{channel_entries, update_entries}
 use Rattle.lgm_store.specs.Sound.{point_of}
