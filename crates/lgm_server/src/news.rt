@@ -21,12 +21,12 @@ use std::alloc::{AllocError, Global};
 use std::collections::VecDeque;
 
 /// What operations touch.
-fn changes_of(alloc: Global, due: &VecDeque<Op>) -> Result<Changes, AllocError>
-    ensures { IfOk result (λ changes. HasTouched due.now.items changes) }
+fn changes_of(alloc: Global, pending: &VecDeque<Op>) -> Result<Changes, AllocError>
+    ensures { IfOk result (λ changes. HasTouched pending.now.items changes) }
 {
     let mut changes = Changes::new(alloc);
-    for place in 0..due.len() {
-        changes.touch(&due[place])?;
+    for place in 0..pending.len() {
+        changes.touch(&pending[place])?;
     }
     Ok(changes)
 }
@@ -56,20 +56,20 @@ fn send_news_to<W: Sink>(
 }
 
 /// Sends to each peer with a filter what is new for it in the later map, peers ascending. The later map came of the
-/// earlier one by the operations that are due.
+/// earlier one by the operations that are pending.
 pub fn send_news<W: Sink>(
     alloc: Global,
     number: u64,
     before: &Map,
     after: &Map,
-    due: &VecDeque<Op>,
+    pending: &VecDeque<Op>,
     filters: &Filters,
     text: &mut TextBuffer,
     writer: &mut W,
 ) -> Result<(), RunFault>
-    requires behind { after.now ≡ fold_from before.now due.now.items }
+    requires behind { after.now ≡ fold_from before.now pending.now.items }
     requires before { TellKeys before.now }
-    requires due { AllByRecursion TellsKey due.now.items }
+    requires pending { AllByRecursion TellsKey pending.now.items }
     requires writer { W.failures writer.old + 1 < 2 ^ 64 }
     ensures told { OnOk result (Appends (with_gathered (W.taken writer.old) text.old)
         (with_gathered (W.taken writer.new) text.new) (flat_map (news_text number before.now after.now) filters.now)) }
@@ -81,7 +81,7 @@ pub fn send_news<W: Sink>(
     if filters.is_empty() {
         return Ok(());
     }
-    let changes = changes_of(alloc, due)?;
+    let changes = changes_of(alloc, pending)?;
     for (_, own) in filters {
         send_news_to(alloc, number, before, after, &changes, own, text, writer)?;
     }

@@ -4,4 +4,4 @@ use Rattle.lgm_server.proofs.news.changes_of.Given as goal
 
 -- what the first operations touch
 abbrev pub invariant-loop-place : goal.invariant-loop-place
-invariant-loop-place l = HasTouched (take l.place l.due.items) l.changes
+invariant-loop-place l = HasTouched (take l.place l.pending.items) l.changes

@@ -13,7 +13,7 @@ pub returns-clause-told : goal.returns-clause-told
 returns-clause-told g c = c.loop-own.invariant.whole _ (rw c.in-None.ensures.steps.0 (appends_nothing _))
 
 pub send_news_to-requires-clause-after : goal.send_news_to-requires-clause-after
-send_news_to-requires-clause-after g c = rw c.requires.behind (TellKeys-fold c.args.before.now c.args.due.now.items c.requires.before c.requires.due)
+send_news_to-requires-clause-after g c = rw c.requires.behind (TellKeys-fold c.args.before.now c.args.pending.now.items c.requires.before c.requires.pending)
 
 pub send_news_to-requires-clause-changes : goal.send_news_to-requires-clause-changes
-send_news_to-requires-clause-changes g c = lie_at c.in-Some.own.now.filter c.args.before.now c.args.after.now c.args.due.now.items c.in_ok-changes.changes c.requires.behind c.in_ok-changes.ensures
+send_news_to-requires-clause-changes g c = lie_at c.in-Some.own.now.filter c.args.before.now c.args.after.now c.args.pending.now.items c.in_ok-changes.changes c.requires.behind c.in_ok-changes.ensures
