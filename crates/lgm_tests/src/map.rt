@@ -1,4 +1,4 @@
-//! The map beside a plain program, histories, and want of memory.
+//! The map beside a plain program, what scripts of made items are told, histories, and want of memory.
 
 mod beside;
 mod comparing;
@@ -6,4 +6,5 @@ mod histories;
 mod item;
 mod made;
 mod memory;
+mod news_beside;
 mod plain;

@@ -1,7 +1,8 @@
 //! Items for maps, by small numbers, and the messages that they are.
 
 use lgm_check::{Evidence, Funding, Refusal, Sig, precheck};
-use lgm_gossip::{ChainHash, Point, Scid};
+use lgm_gossip::{Bytes, ChainHash, Point, Scid};
+use lgm_server::Item as Offer;
 use lgm_store::{Map, Op};
 use std::alloc::{AllocError, Global};
 
@@ -131,8 +132,8 @@ pub fn take_message(
     Ok(op)
 }
 
-fn take_close(map: &mut Map, id: u64) -> Result<Op, Refusal> {
-    let op = map.admit_close(Scid::from_u64(id))?;
+fn take_close(map: &mut Map, scid: Scid) -> Result<Op, Refusal> {
+    let op = map.admit_close(scid)?;
     map.absorb(&op)?;
     Ok(op)
 }
@@ -153,15 +154,13 @@ pub fn funded(sat: u64) -> Evidence {
     }
 }
 
-/// Offers an item to a map, which absorbs what it admits. The mark stands behind the message's last field, and a channel
-/// has as many satoshi.
-pub fn take(alloc: Global, map: &mut Map, item: &Item, mark: u16) -> Result<Op, Refusal> {
+/// What an item offers to a map. The mark stands behind the message's last field, and a channel has as many satoshi.
+pub fn offer_of(alloc: Global, item: &Item, mark: u16) -> Result<Offer, AllocError> {
     let rest = mark.to_be_bytes();
-    match *item {
+    let (message, evidence) = match *item {
         Item::Channel { id, nodes } => {
             let ends = (point_of(nodes.0), point_of(nodes.1));
-            let message = channel(alloc, id, ends, &rest)?;
-            take_message(alloc, map, message.as_slice(), &funded(u64::from(mark)))
+            (channel(alloc, id, ends, &rest)?, funded(u64::from(mark)))
         }
         Item::Update {
             id,
@@ -170,18 +169,33 @@ pub fn take(alloc: Global, map: &mut Map, item: &Item, mark: u16) -> Result<Op, 
             signer,
         } => {
             let message = update(alloc, id, flags, timestamp, 0, &rest)?;
-            take_message(alloc, map, message.as_slice(), &by(point_of(signer)))
+            (message, by(point_of(signer)))
         }
         Item::Node {
             node: number,
             timestamp,
         } => {
             let point = point_of(number);
-            let message = node(alloc, point, timestamp, &rest)?;
-            take_message(alloc, map, message.as_slice(), &by(point))
+            (node(alloc, point, timestamp, &rest)?, by(point))
         }
-        Item::Close { id } => take_close(map, id),
+        Item::Close { id } => return Ok(Offer::Close(Scid::from_u64(id))),
+    };
+    Ok(Offer::Gossip(Bytes::from_vec(message), evidence))
+}
+
+/// Offers this to a map, which absorbs what it admits.
+pub fn take_offer(alloc: Global, map: &mut Map, offer: &Offer) -> Result<Op, Refusal> {
+    match offer {
+        Offer::Gossip(message, evidence) => {
+            take_message(alloc, map, message.as_slice(), evidence)
+        }
+        Offer::Close(scid) => take_close(map, *scid),
     }
+}
+
+/// Offers an item to a map, with a mark.
+pub fn take(alloc: Global, map: &mut Map, item: &Item, mark: u16) -> Result<Op, Refusal> {
+    take_offer(alloc, map, &offer_of(alloc, item, mark)?)
 }
 
 /// The word of what became of an item.
