@@ -7,7 +7,7 @@ use Rattle.lgm_query.specs.KeyNews.{TellKeys}
 use Rattle.lgm_query.specs.Touched.{TellsKey}
 use Rattle.lgm_query.proofs.Lying.{TellKeys-fold}
 use Rattle.lgm_server.specs.Behind.{IsBehind}
-use Rattle.lgm_server.proofs.Histories.{fold_from-push}
+use Rattle.lgm_store.proofs.Histories.{fold_from-push}
 use Rattle.lgm_server.proofs.Telling.{All-push}
 
 -- the map `mid` is `map` with what was due done

@@ -23,7 +23,7 @@ use Rattle.lgm_server.specs.Lines.{lines_of, onto_first, TakesLine, HasMore, IsL
 use Rattle.lgm_server.specs.Text.{with_gathered}
 use Rattle.lgm_server.specs.Request.{request_of}
 use Rattle.lgm_server.specs.Script.{State, opening, outcome_of, state_behind, with_outcome, text_in, state_after, history_after, history_from, history_of, commits, before_commit, filters_after, filters_from, filters_of, state_of, text_at, text_before}
-use Rattle.lgm_server.proofs.Histories.{fold_from-push}
+use Rattle.lgm_store.proofs.Histories.{fold_from-push}
 use Rattle.lgm_server.proofs.Appending.{appends_both}
 use Rattle.lgm_server.specs.Running.{fault_of, IsWritten, IsAnswered, IsTooMany, IsTooLong}
 

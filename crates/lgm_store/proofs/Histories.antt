@@ -5,7 +5,7 @@ use Rattle.lgm_store.specs.declared.op.Op.{Op}
 use Rattle.lgm_store.specs.Rows.{Rows, empty}
 use Rattle.lgm_store.specs.History.{absorbed, fold_from, fold}
 
-fold_from-push : (rows : Rows) (ops : List Op) (op : Op) → fold_from rows (ops ++ op ∷ []) ≡ absorbed (fold_from rows ops) op
+pub fold_from-push : (rows : Rows) (ops : List Op) (op : Op) → fold_from rows (ops ++ op ∷ []) ≡ absorbed (fold_from rows ops) op
 fold_from-push rows [] op = refl
 fold_from-push rows (first ∷ ops) op = fold_from-push (absorbed rows first) ops op
 
