@@ -100,11 +100,6 @@ module _ {R K : Type 0} (key : R → K) (c : K → K → Ordering) (total : IsTo
   abbrev KeyGives : List R → K → Type 0
   KeyGives rows k = row_of_key rows k ≡ None → g k ≡ []
 
-  not_equal : (o : Ordering) → (o ≡ Equal → ⊥) → is_eq o ≡ false
-  not_equal Less other = refl
-  not_equal Equal other = absurd (other refl)
-  not_equal Greater other = refl
-
   none_above : (k : K) (ks : List K) → AllByRecursion (λ other. c k other ≡ Less) ks → is_key_among ks k ≡ false
   none_above k [] above = refl
   none_above k (other ∷ ks) above = rw (above.0, none_above k ks above.1) refl

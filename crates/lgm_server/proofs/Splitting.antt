@@ -57,10 +57,6 @@ begins_with b (c ∷ line) rest one =
 
 -- ---- where the source tells its bytes
 
-pub takes_nothing : (input : Option (List ℕ)) → Takes input input []
-takes_nothing None = refl
-takes_nothing (Some s) = refl
-
 -- a piece, and the line feed after it if there is one, were taken after the line so far
 pub takes_piece : (old left : Option (List ℕ)) (buffered buffered' line line' ending : List ℕ) → Takes old (ahead buffered left) line → MovesPiece buffered buffered' line line' ending → Takes old (ahead buffered' left) (line' ++ ending)
 takes_piece old None buffered buffered' line line' ending takes moves = takes

@@ -18,9 +18,6 @@ use Rattle.lgm_server.specs.declared.item.Item.{Item}
 use Rattle.lgm_server.specs.declared.item.Item.TheVariants.{Gossip, Close}
 use Rattle.lgm_server.specs.Script.{outcome_of}
 
-pub TellKeys-empty : TellKeys empty
-TellKeys-empty = record { channels = tt; updates = tt; nodes = tt }
-
 pub All-push : {X : Type 0} (P : X → Type 0) (xs : List X) (x : X) → AllByRecursion P xs → P x → AllByRecursion P (xs ++ x ∷ [])
 All-push P [] x all own = (own, tt)
 All-push P (y ∷ ys) x all own = (all.0, All-push P ys x all.1 own)

@@ -49,12 +49,3 @@ range_shrinks rest n le some = omega (arith, length-take (length rest - n) (drop
 pub no_failure : (n : ℕ) (bytes : List ℕ) → (n ≡ 0 → ⊥) → write_failures (took n) bytes ≡ 0
 no_failure n [] some = refl
 no_failure n (b ∷ bs) some = rw (ne_eqb n 0 some) refl
-
-pub stuck_failure : (n : ℕ) (bytes : List ℕ) → n ≡ 0 → 0 < length bytes → write_failures (took n) bytes ≡ 1
-stuck_failure n [] none some = absurd (omega arith)
-stuck_failure n (b ∷ bs) none some = rw none refl
-
-pub sent_stuck : (old mid new : Option (List ℕ)) (bytes rest : List ℕ) (n : ℕ) → Sent old mid bytes rest → Appends mid new (take n rest) → AppendsSome old new bytes
-sent_stuck old mid new bytes rest n sent writes =
-    let more = sent_more old mid new bytes rest n sent writes in
-    (more.count, more.taken)

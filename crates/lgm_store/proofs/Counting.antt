@@ -27,9 +27,6 @@ pub kept-above : (n : ℕ) → 0 < n → kept n ≡ Some n
 kept-above zero above = absurd (omega arith)
 kept-above (suc n) above = refl
 
-pub kept-zero : (n : ℕ) → n ≡ 0 → kept n ≡ None
-kept-zero n is = rw is refl
-
 -- a kept number, read
 pub unwrap_or-kept : (n : ℕ) → unwrap_or (kept n) 0 ≡ n
 unwrap_or-kept zero = refl
@@ -79,10 +76,6 @@ number_at-here : (old mid : List (Point × ℕ)) (p : Point) (n : ℕ) → Sets 
 number_at-here old mid p n sets =
     let here : is_at (point_cmp p) p ≡ true = is_at-point p p ∙ is_point-self p in
     ap (λ o. unwrap_or o 0) (rw here at (sets p)) ∙ unwrap_or-kept n
-
--- two points that are not one are not both a third
-apart_at : (first second q : Point) → is_point second first ≡ false → is_point first q ≡ true → is_point second q ≡ false
-apart_at first second q apart is = ap (is_point second) (sym (same_point first q is)) ∙ apart
 
 -- one more at each of two points
 pub Counts-add : (old mid new : List (Point × ℕ)) (first second : Point) (number : Point → ℕ) → is_point second first ≡ false
