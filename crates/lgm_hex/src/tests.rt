@@ -1,0 +1,67 @@
+//! Texts from outside, and the errors of `hex`.
+
+use crate::{append, decode, decode_array, decode_into, decode_to_slice, encode_to_slice};
+use hex::FromHexError;
+use std::test::Fail;
+
+const BYTES: [u8; 16] = *b"\x00\x01\x09\x0a\x0f\x10\x1f\x7f\x80\x99\x9a\xa0\xef\xf0\xfe\xff";
+
+const LOWER: &[u8] = b"0001090a0f101f7f80999aa0eff0feff";
+
+const MIXED: &[u8] = b"0001090A0f101F7f80999aA0EfF0fEFf";
+
+#[test]
+fn decodes_either_case(rt: HostRuntime) -> Result<(), Fail> {
+    assert_eq!(rt; decode(rt.alloc(), LOWER)?.as_slice(), BYTES.as_slice());
+    assert_eq!(rt; decode(rt.alloc(), MIXED)?.as_slice(), BYTES.as_slice());
+    assert_eq!(rt; decode_array::<16>(MIXED)?, BYTES);
+    Ok(())
+}
+
+#[test]
+fn decodes_short_and_odd_parts(rt: HostRuntime) -> Result<(), Fail> {
+    let mut out = [0u8; 4];
+    decode_to_slice(b"6b697769", &mut out)?;
+    assert_eq!(rt; out.as_slice(), b"kiwi".as_slice());
+    let mut out = [0u8; 12];
+    decode_to_slice(b"48656c6c6f20776f726c6421", &mut out)?;
+    assert_eq!(rt; out.as_slice(), b"Hello world!".as_slice());
+    Ok(())
+}
+
+#[test]
+fn decodes_into_a_kept_vector(rt: HostRuntime) -> Result<(), Fail> {
+    let mut bytes = b"what was there before".to_vec(rt.alloc())?;
+    decode_into(&mut bytes, MIXED)?;
+    assert_eq!(rt; bytes.as_slice(), BYTES.as_slice());
+    let bad = FromHexError::InvalidHexCharacter { c: 'g', index: 1 };
+    assert_eq!(rt; decode_into(&mut bytes, b"0g"), Err(bad));
+    assert_eq!(rt; bytes.as_slice(), b"".as_slice());
+    Ok(())
+}
+
+#[test]
+fn refuses_as_hex_does(rt: HostRuntime) -> Result<(), Fail> {
+    assert_eq!(rt;
+        decode_array::<16>(&LOWER[..31]),
+        Err(FromHexError::OddLength)
+    );
+    assert_eq!(rt;
+        decode_array::<15>(LOWER),
+        Err(FromHexError::InvalidStringLength)
+    );
+    let bad = FromHexError::InvalidHexCharacter { c: 'g', index: 17 };
+    assert_eq!(rt; decode_array::<10>(b"0123456789abcdefAgCD"), Err(bad));
+    Ok(())
+}
+
+#[test]
+fn encodes(rt: HostRuntime) -> Result<(), Fail> {
+    let mut out = [0u8; 32];
+    encode_to_slice(&BYTES, &mut out)?;
+    assert_eq!(rt; out.as_slice(), LOWER);
+    let mut text = b"6 ".to_vec(rt.alloc())?;
+    append(&mut text, b"kiwi")?;
+    assert_eq!(rt; text.as_slice(), b"6 6b697769".as_slice());
+    Ok(())
+}
