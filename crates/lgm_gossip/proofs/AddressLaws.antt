@@ -1,5 +1,5 @@
 -- Address descriptors: what is read is spelled so, and what is spelled so is read.
-use Rattle.std.proofs.Common.{◌≡◌, ℕ, suc, ◌+◌, ◌%◌, ◌^◌, ◌<◌, ◌⊎◌, Bool, cond, eqb, List, [], ◌∷◌, ◌++◌, length, Result, Ok, Err, refl, sym, ap, subst, ◌∙◌, append_assoc, arith, inl, inr}
+use Rattle.std.proofs.Common.{◌≡◌, ℕ, ◌%◌, ◌^◌, ◌<◌, cond, eqb, List, [], ◌∷◌, ◌++◌, length, Result, Ok, Err, refl, sym, ap, subst, ◌∙◌, append_assoc, arith, inl, inr}
 use Rattle.std.specs.List.{flat_map, AllByRecursion}
 use Rattle.std.specs.Int.{w8, w16, to_be_bytes}
 use Rattle.std.proofs.lemmas.Bool.{eqb-true}
@@ -11,7 +11,7 @@ use Rattle.lgm_gossip.specs.declared.fault.DecodeFault.TheVariants.{Cut}
 use Rattle.lgm_gossip.specs.declared.address.Address.{Address}
 use Rattle.lgm_gossip.specs.declared.address.Address.TheVariants as addresses
 use Rattle.lgm_gossip.specs.FieldReading.{fixed_at, number_at}
-use Rattle.lgm_gossip.specs.Addresses.{descriptor, AddressFits, BeginsWith, IsLongest}
+use Rattle.lgm_gossip.specs.Addresses.{descriptor, AddressFits, IsLongest}
 use Rattle.lgm_gossip.specs.AddressesReading.{address_at, descriptor_at}
 use Rattle.lgm_gossip.proofs.WireLaws.{chosen, bind_ok, ok_is, IsBytes, IsBytes-rest, IsBytes-back, wide16}
 use Rattle.lgm_gossip.proofs.FieldLaws.{Takes, fixed_field, number_field, wide8}

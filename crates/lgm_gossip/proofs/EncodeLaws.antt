@@ -1,17 +1,16 @@
 -- Parts that say the fields of a message, and what joining them gives.
-use Rattle.std.proofs.Common.{◌≡◌, ℕ, ◌+◌, ◌^◌, ◌<◌, ◌≤◌, ◌↔◌, List, [], ◌∷◌, ◌++◌, length, take, get_or, Bor, Option, Some, None, Result, Ok, Err, refl, sym, ap, subst, ◌∙◌, append_assoc, arith, inl, inr}
+use Rattle.std.proofs.Common.{◌≡◌, ℕ, ◌^◌, ◌<◌, ◌≤◌, ◌↔◌, List, [], ◌∷◌, ◌++◌, length, get_or, Bor, Some, None, Result, Ok, Err, refl, sym, ap, subst, ◌∙◌, append_assoc, arith, inl, inr}
 use Rattle.std.specs.Prelude.{IfOk}
 use Rattle.std.specs.List.{flat_map, AllByRecursion}
 use Rattle.std.specs.Int.{w8, w16, w32, w64, to_be_bytes}
 use Rattle.std.proofs.lemmas.Bool.{cases_lt}
 use Rattle.std.proofs.lemmas.List.{append-nil, length-append}
-use Rattle.std.proofs.lemmas.List.Concat.{flat_map-cons}
 use Rattle.lgm_gossip.specs.declared.part.Part.{Part}
 use Rattle.lgm_gossip.specs.declared.part.Part.TheVariants as parts
 use Rattle.lgm_gossip.specs.declared.encode_fault.EncodeFault.{EncodeFault}
 use Rattle.lgm_gossip.specs.declared.encode_fault.EncodeFault.TheVariants.{TooLong}
 use Rattle.lgm_gossip.specs.Streams.{TlvRecord, record_bytes, bigsize_bytes, IsBigSize}
-use Rattle.lgm_gossip.specs.Fields.{Joined, ◌⌢◌, Encloses, fixed, number, counted, rest, dropped}
+use Rattle.lgm_gossip.specs.Fields.{◌⌢◌, Encloses, fixed, number, counted, rest, dropped}
 use Rattle.lgm_gossip.specs.Optional.{optional}
 use Rattle.lgm_gossip.specs.Part.{text, texts, PartFits}
 use Rattle.lgm_gossip.specs.declared.message.Message.{Message}
@@ -20,7 +19,7 @@ use Rattle.lgm_gossip.specs.declared.timestamps.Timestamps.{Timestamps}
 use Rattle.lgm_gossip.specs.EncodedIds.{encoded_ids}
 use Rattle.lgm_gossip.specs.QueryFlags.{IsQueryFlags}
 use Rattle.lgm_gossip.specs.TimestampList.{pair_bytes, PairFits, IsTimestampList}
-use Rattle.lgm_gossip.specs.Message.{Spells, Wire}
+use Rattle.lgm_gossip.specs.Message.{Wire}
 use Rattle.lgm_gossip.specs.MessageReading.{message_at}
 use Rattle.lgm_gossip.specs.Spelling.{counted_text, ids_text, flags_text, pairs_text, option_text, typed, spelling, Encodes, MessageEncodes}
 use Rattle.lgm_gossip.proofs.PartLaws.{front_len}

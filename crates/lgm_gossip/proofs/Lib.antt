@@ -1,4 +1,5 @@
 pub mod WireLaws
+pub mod MemoryLaws
 pub mod FieldLaws
 pub mod OptionalLaws
 pub mod CellLaws

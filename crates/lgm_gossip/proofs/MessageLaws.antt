@@ -1,12 +1,12 @@
 -- The laws of messages: what is read is spelled so, and what is spelled so is read.
-use Rattle.std.proofs.Common.{◌≡◌, ℕ, ◌+◌, ◌*◌, ◌/◌, ◌%◌, ◌<◌, ◌≤◌, ◌⊎◌, ◌↔◌, Bool, true, false, cond, eqb, ltb, List, [], ◌∷◌, ◌++◌, length, Option, Some, None, Result, Ok, Err, refl, ap, sym, subst, ◌∙◌, arith, inl, inr}
+use Rattle.std.proofs.Common.{◌≡◌, ℕ, ◌+◌, ◌*◌, ◌/◌, ◌%◌, ◌<◌, ◌≤◌, false, cond, eqb, ltb, List, [], ◌∷◌, ◌++◌, length, None, Result, Ok, Err, refl, ap, sym, subst, ◌∙◌, arith, inl, inr}
 use Rattle.std.specs.Prelude.{IfOk, MatchResult}
 use Rattle.std.specs.Int.{w16, to_be_bytes}
 use Rattle.std.specs.Result.{result_err}
 use Rattle.std.proofs.lemmas.Bool.{eqb-true, ltb-false, le-ltb}
 use Rattle.lgm_wire.specs.Reading.{◌>>=◌, Gives}
 use Rattle.lgm_gossip.specs.declared.fault.DecodeFault.{DecodeFault}
-use Rattle.lgm_gossip.specs.declared.fault.DecodeFault.TheVariants.{Long, UnknownEven, UnknownOdd, Short, NoMemory}
+use Rattle.lgm_gossip.specs.declared.fault.DecodeFault.TheVariants.{Long, UnknownEven, UnknownOdd, NoMemory}
 use Rattle.lgm_gossip.specs.declared.message.Message.{Message}
 use Rattle.lgm_gossip.specs.declared.message.Message.TheVariants as messages
 use Rattle.lgm_gossip.specs.Message.{Wire, Spells}

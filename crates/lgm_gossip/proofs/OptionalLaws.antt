@@ -1,5 +1,5 @@
 -- What may stand behind the last field: what is read is spelled so, and what is spelled so is read.
-use Rattle.std.proofs.Common.{◌≡◌, ℕ, ◌+◌, ◌%◌, ◌<◌, ◌≤◌, ◌⊎◌, Bool, true, false, cond, eqb, List, [], ◌∷◌, ◌++◌, length, get_or, drop, Option, Some, None, Result, Ok, Err, refl, sym, ap, subst, ◌∙◌, arith, inl, inr}
+use Rattle.std.proofs.Common.{◌≡◌, ℕ, ◌+◌, ◌%◌, ◌<◌, ◌≤◌, ◌⊎◌, false, cond, eqb, List, [], ◌∷◌, length, get_or, drop, Option, Some, None, Result, Ok, Err, refl, sym, ap, subst, ◌∙◌, arith, inl, inr}
 use Rattle.std.specs.Prelude.{IfOk}
 use Rattle.std.specs.Option.{ForSome}
 use Rattle.std.specs.List.{AllByRecursion}
@@ -12,8 +12,8 @@ use Rattle.lgm_wire.specs.Reading.{◌>>=◌, Gives}
 use Rattle.lgm_wire.specs.Tlv.{RisesFrom}
 use Rattle.lgm_gossip.specs.declared.fault.DecodeFault.{DecodeFault}
 use Rattle.lgm_gossip.specs.declared.fault.DecodeFault.TheVariants.{TlvKind, NoMemory}
-use Rattle.lgm_gossip.specs.Streams.{TlvRecord, IsTlvStream, tlvs_of}
-use Rattle.lgm_gossip.specs.Optional.{value_of, SameOption, IsOptional, optional}
+use Rattle.lgm_gossip.specs.Streams.{TlvRecord, tlvs_of}
+use Rattle.lgm_gossip.specs.Optional.{value_of, SameOption, optional}
 use Rattle.lgm_gossip.specs.OptionalReading.{or_tlv, stream_at, after_record, after_records, optional_of, optional_at}
 use Rattle.lgm_gossip.proofs.WireLaws.{chosen, bind_ok, ok_is, IsBytes, stream_takes, values_fit, whole_read}
 use Rattle.lgm_gossip.proofs.FieldLaws.{IsText, IsLast}
@@ -125,7 +125,7 @@ unfolding optional_of
 optional_text {A} {read} {F} law = record {
   takes = λ bytes o fits e.
       let a = bind_ok (stream_at bytes) (λ records. after_records read None records) o e in
-      let stream = stream_takes bytes a.0 fits (stream_ok (tlvs_of bytes) a.0 a.1) in
+      let stream = stream_takes a.0 bytes fits (stream_ok (tlvs_of bytes) a.0 a.1) in
       let t = records_take law None a.0 o stream.rises (values_fit a.0 bytes fits stream.whole) a.2 in
       record { records = a.0; stream = stream; odd = t.0; value = t.1 };
   again = λ o bytes is.

@@ -1,5 +1,5 @@
 -- Query flags: what is read is spelled so, and what is spelled so is read.
-use Rattle.std.proofs.Common.{◌≡◌, ℕ, zero, suc, ◌+◌, ◌-◌, ◌^◌, ◌<◌, ◌≤◌, ◌⊎◌, Bool, true, false, cond, eqb, not, List, [], ◌∷◌, ◌++◌, length, drop, Result, Ok, Err, refl, sym, ap, subst, ◌∙◌, append_assoc, arith, inl, inr}
+use Rattle.std.proofs.Common.{◌≡◌, ℕ, zero, suc, ◌+◌, ◌-◌, ◌^◌, ◌<◌, ◌≤◌, eqb, not, List, [], ◌∷◌, ◌++◌, length, drop, Result, Ok, Err, refl, sym, ap, subst, ◌∙◌, append_assoc, arith, inl, inr}
 use Rattle.std.specs.List.{flat_map, AllByRecursion}
 use Rattle.std.proofs.lemmas.Bool.{eqb-true, not-false}
 use Rattle.std.proofs.lemmas.List.{append-nil}
@@ -7,8 +7,8 @@ use Rattle.std.proofs.lemmas.List.Concat.{flat_map-cons}
 use Rattle.lgm_wire.specs.declared.fault.WireFault.{WireFault}
 use Rattle.lgm_wire.specs.Reading.{◌>>=◌}
 use Rattle.lgm_gossip.specs.declared.fault.DecodeFault.{DecodeFault}
-use Rattle.lgm_gossip.specs.declared.fault.DecodeFault.TheVariants.{Encoding, Flags, NoMemory}
-use Rattle.lgm_gossip.specs.Streams.{bigsize_bytes, IsBigSize, bigsize_at}
+use Rattle.lgm_gossip.specs.declared.fault.DecodeFault.TheVariants.{Encoding, Flags}
+use Rattle.lgm_gossip.specs.Streams.{bigsize_bytes, bigsize_at}
 use Rattle.lgm_gossip.specs.QueryFlags.{IsQueryFlags}
 use Rattle.lgm_gossip.specs.QueryFlagsReading.{or_flags, flag_at, all_flags_at, query_flags_at}
 use Rattle.lgm_gossip.proofs.WireLaws.{chosen, bind_ok, ok_is, IsBytes, IsBytes-rest, bigsize_spelled, bigsize_at-bigsize_bytes, ReadsBig, big_found, big_not_found}

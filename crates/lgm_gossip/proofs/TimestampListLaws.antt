@@ -1,11 +1,10 @@
 -- Timestamps: what is read is spelled so, and what is spelled so is read.
-use Rattle.std.proofs.Common.{◌≡◌, ℕ, ◌+◌, ◌*◌, ◌/◌, ◌%◌, ◌^◌, ◌<◌, ◌⊎◌, Bool, true, false, cond, eqb, not, List, [], ◌∷◌, ◌++◌, length, map, take, drop, Result, Ok, Err, refl, sym, ap, subst, ◌∙◌, arith, inl, inr}
-use Rattle.std.specs.List.{flat_map, AllByRecursion}
+use Rattle.std.proofs.Common.{◌≡◌, ℕ, ◌*◌, ◌/◌, ◌%◌, true, cond, eqb, not, List, [], ◌∷◌, ◌++◌, length, map, take, drop, Ok, Err, refl, sym, ap, subst, ◌∙◌, arith, inl, inr}
+use Rattle.std.specs.List.{flat_map}
 use Rattle.std.specs.Int.{w32, from_be_bytes, to_be_bytes}
 use Rattle.std.specs.Simd.{first_chunks}
 use Rattle.std.proofs.lemmas.Bool.{eqb-true, eq-eqb, not-false}
 use Rattle.std.proofs.lemmas.List.{take-append-drop, length-take, length-drop}
-use Rattle.lgm_gossip.specs.declared.fault.DecodeFault.{DecodeFault}
 use Rattle.lgm_gossip.specs.declared.fault.DecodeFault.TheVariants.{Encoding, TlvKind}
 use Rattle.lgm_gossip.specs.declared.timestamps.Timestamps.{Timestamps}
 use Rattle.lgm_gossip.specs.TimestampList.{pair_bytes, PairFits, IsTimestampList}

@@ -1,20 +1,17 @@
 -- What the laws of messages need of the wire: its lemmas under one roof, and a few of the same kind.
-use Rattle.std.proofs.Common.{◌≡◌, ℕ, zero, suc, ◌+◌, ◌<◌, ◌≤◌, ◌⊎◌, ◌↔◌, List, [], ◌∷◌, ◌++◌, length, get_or, take, drop, Option, Some, None, Result, Ok, Err, refl, sym, ap, subst, ◌∙◌, append_assoc, arith, inl, inr}
+use Rattle.std.proofs.Common.{◌≡◌, ℕ, ◌≤◌, ◌↔◌, List, [], ◌∷◌, ◌++◌, length, take, drop, Result, Ok, Err, refl, sym, ap, ◌∙◌, arith, inl, inr}
 use Rattle.std.specs.List.{flat_map, AllByRecursion}
 use Rattle.std.proofs.lemmas.Bool.{cases_lt}
-use Rattle.std.proofs.lemmas.List.{take-append-drop, take_at, drop_at, length-append, get_or_append_left, get_or_past}
+use Rattle.std.proofs.lemmas.List.{take-append-drop, take_at, length-append, get_or_append_left, get_or_past}
 use Rattle.std.proofs.lemmas.List.Concat.{flat_map-cons}
 use Rattle.lgm_wire.specs.declared.fault.WireFault.{WireFault}
-use Rattle.lgm_wire.specs.Reading.{◌>>=◌}
 use Rattle.lgm_wire.specs.BigSize.{bigsize_bytes, IsBigSize}
-use Rattle.lgm_wire.specs.Tlv.{TlvRecord, record_bytes, Fits, RisesFrom, IsTlvStream}
+use Rattle.lgm_wire.specs.Tlv.{TlvRecord, record_bytes}
 use Rattle.lgm_wire.specs.BigSizeReading.{bigsize_at}
-use Rattle.lgm_wire.specs.TlvReading.{record_at, tlvs_at, tlvs_of}
-use Rattle.lgm_wire.proofs.TlvLaws.{RecordSpelled, record_spelled}
 pub use Rattle.lgm_wire.proofs.ReadingLaws.{chosen, bind_ok, ok_is}
 pub use Rattle.lgm_wire.proofs.Bytes.{IsBytes, IsBytes-take, IsBytes-drop, IsBytes-rest, IsBytes-back, IsWide, wide16, wide32, wide64}
 pub use Rattle.lgm_wire.proofs.BigSizeLaws.{bigsize_spelled, bigsize_at-bigsize_bytes, length-bigsize_bytes}
-pub use Rattle.lgm_wire.proofs.TlvLaws.{whole_read}
+pub use Rattle.lgm_wire.proofs.TlvLaws.{whole_read, stream_takes, two_bytes}
 
 pub IsBytes-front : (bytes front left : List ℕ) → bytes ≡ front ++ left → IsBytes bytes → IsBytes front
 IsBytes-front bytes front left e fits i =
@@ -22,37 +19,6 @@ IsBytes-front bytes front left e fits i =
       | inl lt ↦ rw (← get_or_append_left front left 0 i lt, ← e) (fits i)
       | inr le ↦ rw (get_or_past front i 0 le) (omega arith)
     ]
-
--- a stream that was read: its records, and that they are bytes
-pub record IsStream (last : Option ℕ) (bytes : List ℕ) (l : List TlvRecord) : Type 0 where
-  pub fits : AllByRecursion Fits l
-  pub rises : RisesFrom last l
-  pub whole : bytes ≡ flat_map record_bytes l
-
-tlvs_take : (n : ℕ) (last : Option ℕ) (bytes : List ℕ) (l : List TlvRecord) → IsBytes bytes → length bytes ≤ n → tlvs_at n last bytes ≡ Ok l → IsStream last bytes l
-unfolding tlvs_at
-tlvs_take n last [] l fits le e = subst (λ (x : List TlvRecord). IsStream last [] x) (ok_is [] l e) (record { fits = tt; rises = tt; whole = refl })
-tlvs_take zero last (b ∷ bs) l fits le e = absurd (omega arith)
-tlvs_take (suc n) last (b ∷ bs) l fits le e =
-    let first = bind_ok (record_at last (b ∷ bs)) (λ x. tlvs_at n (Some x.0.kind) x.1 >>= λ others. Ok (x.0 ∷ others)) l e in
-    let r = first.0.0 in
-    let left = first.0.1 in
-    let t = record_spelled last (b ∷ bs) r left fits first.1 in
-    let others = bind_ok (tlvs_at n (Some r.kind) left) (λ others. Ok (r ∷ others)) l first.2 in
-    let len : length left < length (b ∷ bs) = omega (arith, ap length t.parts, length-append (record_bytes r) left, length-append (bigsize_bytes r.kind ++ bigsize_bytes (length r.value)) r.value, length-append (bigsize_bytes r.kind) (bigsize_bytes (length r.value)), length-bigsize_bytes r.kind) in
-    let s = tlvs_take n (Some r.kind) left others.0 t.rest_fits (omega arith) others.1 in
-    subst (λ (x : List TlvRecord). IsStream last (b ∷ bs) x) (ok_is (r ∷ others.0) l others.2) (record {
-      fits = (t.fits, s.fits);
-      rises = (t.above, s.rises);
-      whole = t.parts ∙ ap (λ (x : List ℕ). record_bytes r ++ x) s.whole ∙ sym (flat_map-cons record_bytes r others.0);
-    })
-
--- what is read as a stream is one
-pub stream_takes : (bytes : List ℕ) (l : List TlvRecord) → IsBytes bytes → tlvs_of bytes ≡ Ok l → IsTlvStream l bytes
-unfolding tlvs_of
-stream_takes bytes l fits e =
-    let s = tlvs_take (length bytes) None bytes l fits (omega arith) e in
-    record { fits = s.fits; rises = s.rises; whole = s.whole }
 
 -- the values of records are bytes
 pub values_fit : (l : List TlvRecord) (bytes : List ℕ) → IsBytes bytes → bytes ≡ flat_map record_bytes l → AllByRecursion (λ r. IsBytes r.value) l

@@ -15,6 +15,7 @@ pub mod RangeQuery
 pub mod RangeReply
 pub mod FilterMsg
 pub mod Message
+pub mod Memory
 pub mod FieldReading
 pub mod OptionalReading
 pub mod EncodedIdsReading

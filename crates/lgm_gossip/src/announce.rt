@@ -1,7 +1,7 @@
 //! `channel_announcement`.
 
 ghost use Rattle.std.specs.Prelude.{◌≡◌, IfOk};
-ghost use Rattle.lgm_wire.specs.Reading.{Gives};
+ghost use Rattle.lgm_gossip.specs.Memory.{GivesIf, Keeps, announce_kept};
 
 use crate::bytes::Bytes;
 use crate::chain_hash::ChainHash;
@@ -21,22 +21,27 @@ use std::alloc::{AllocError, Global};
 pub struct Announce {
     /// The signature of node 1, 64 bytes, as the other three.
     pub node_signature_1: [u8; 64],
+    /// The signature of node 2.
     pub node_signature_2: [u8; 64],
     /// The signature by the first bitcoin key.
     pub bitcoin_signature_1: [u8; 64],
+    /// The signature by the second bitcoin key.
     pub bitcoin_signature_2: [u8; 64],
     /// Feature bits, numbered from the least bit of the last byte.
     pub features: Bytes,
     /// The chain that holds the funding output.
     pub chain_hash: ChainHash,
+    /// The channel's name: where on the chain its funding output stands.
     pub short_channel_id: Scid,
-    /// The lesser of the two nodes.
+    /// The lesser of the two nodes, byte by byte, in a lawful message.
     pub node_id_1: Point,
+    /// The greater of the two nodes.
     pub node_id_2: Point,
-    /// The keys that the funding output pays to.
+    /// The key of node 1 that the funding output pays to, with the other one.
     pub bitcoin_key_1: Point,
+    /// The key of node 2 that the funding output pays to, with the other one.
     pub bitcoin_key_2: Point,
-    /// What stands behind the last field.
+    /// What stands behind the last field, kept so that the message can be sent on as it came.
     pub rest: Bytes,
 }
 
@@ -59,7 +64,8 @@ impl Announce {
     /// The fields, read from left to right, of the bytes behind the type.
     #[tactic(auto, unfolding(crate::specs::AnnounceReading::announce_at))]
     pub(crate) fn read(alloc: Global, bytes: &[u8]) -> Result<Announce, DecodeFault>
-        ensures { Gives DecodeFault.NoMemory (λ m. m) result (announce_at bytes.now) }
+        ensures { GivesIf (Keeps announce_kept (announce_at bytes.now)) DecodeFault.NoMemory (λ m. m) result
+            (announce_at bytes.now) }
     {
         let (node_signature_1, rest) = fixed(bytes)?;
         let (node_signature_2, rest) = fixed(rest)?;

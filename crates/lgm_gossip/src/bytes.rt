@@ -1,6 +1,6 @@
 //! Bytes that are kept.
 
-ghost use Rattle.std.specs.Prelude.{◌≡◌, ℕ, List, IfOk};
+ghost use Rattle.std.specs.Prelude.{◌≡◌, ℕ, ◌<◌, List, length, IfOk, OnErr};
 
 use std::alloc::{AllocError, Global};
 use std::marker::Model;
@@ -25,18 +25,25 @@ impl Bytes {
         Bytes { items }
     }
 
-    /// A copy of a slice. The only error is want of memory.
+    /// A copy of a slice. The only error is want of memory, of which no bytes need any.
     pub fn from_slice(alloc: Global, bytes: &[u8]) -> Result<Bytes, AllocError>
-        ensures { IfOk result (λ copy. copy ≡ bytes.now) }
+        ensures ok { IfOk result (λ copy. copy ≡ bytes.now) }
+        ensures memory { OnErr result (0 < length bytes.now) }
     {
+        if bytes.is_empty() {
+            return Ok(Bytes {
+                items: Vec::new(alloc),
+            });
+        }
         Ok(Bytes {
             items: Vec::from_slice(alloc, bytes)?,
         })
     }
 
-    /// A copy. The only error is want of memory.
+    /// A copy. The only error is want of memory, of which no bytes need any.
     pub fn copy(&self, alloc: Global) -> Result<Bytes, AllocError>
-        ensures { IfOk result (λ copy. copy ≡ self.now) }
+        ensures ok { IfOk result (λ copy. copy ≡ self.now) }
+        ensures memory { OnErr result (0 < length self.now) }
     {
         Bytes::from_slice(alloc, self.as_slice())
     }

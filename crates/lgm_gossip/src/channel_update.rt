@@ -1,7 +1,7 @@
 //! `channel_update`.
 
 ghost use Rattle.std.specs.Prelude.{◌≡◌, IfOk};
-ghost use Rattle.lgm_wire.specs.Reading.{Gives};
+ghost use Rattle.lgm_gossip.specs.Memory.{GivesIf, Keeps, channel_update_kept};
 
 use crate::bytes::Bytes;
 use crate::chain_hash::ChainHash;
@@ -21,10 +21,12 @@ pub struct ChannelUpdate {
     pub signature: [u8; 64],
     /// The chain that holds the funding output.
     pub chain_hash: ChainHash,
+    /// The channel's name.
     pub short_channel_id: Scid,
     /// Seconds since 1970. Of two updates of a direction the one with the greater number holds.
     pub timestamp: u32,
-    /// Bit 0 must be set, bit 1 says that the update isn't to be forwarded.
+    /// Bit 1 says that the update isn't to be sent on (`dont_forward`). No other bit is looked at: bit 0, which senders
+    /// set, says that there is an `htlc_maximum_msat`, which is always read.
     pub message_flags: u8,
     /// Bit 0 is the direction: 0 from node 1, 1 from node 2. Bit 1 says that the direction is disabled.
     pub channel_flags: u8,
@@ -38,7 +40,7 @@ pub struct ChannelUpdate {
     pub fee_proportional_millionths: u32,
     /// The greatest amount that is forwarded, in thousandths of a satoshi.
     pub htlc_maximum_msat: u64,
-    /// What stands behind the last field.
+    /// What stands behind the last field, kept so that the message can be sent on as it came.
     pub rest: Bytes,
 }
 
@@ -60,7 +62,8 @@ impl ChannelUpdate {
     /// The fields, read from left to right, of the bytes behind the type.
     #[tactic(auto, unfolding(crate::specs::ChannelUpdateReading::channel_update_at))]
     pub(crate) fn read(alloc: Global, bytes: &[u8]) -> Result<ChannelUpdate, DecodeFault>
-        ensures { Gives DecodeFault.NoMemory (λ m. m) result (channel_update_at bytes.now) }
+        ensures { GivesIf (Keeps channel_update_kept (channel_update_at bytes.now)) DecodeFault.NoMemory (λ m. m) result
+            (channel_update_at bytes.now) }
     {
         let (signature, rest) = fixed(bytes)?;
         let (chain_hash, rest) = fixed(rest)?;

@@ -1,8 +1,9 @@
 //! Messages from bytes.
 
-ghost use Rattle.std.specs.Prelude.{◌≡◌, IfOk, IfErr, MatchResult, ◌⊎◌, ◌<◌, ℕ, List, None, slice_index};
-ghost use Rattle.lgm_wire.specs.Reading.{Gives};
+ghost use Rattle.std.specs.Prelude.{◌≡◌, Ok, IfOk, IfErr, MatchResult, ◌⊎◌, ◌<◌, ℕ, List, None, slice_index};
+ghost use Rattle.lgm_wire.specs.Reading.{Sees, Gives};
 ghost use Rattle.lgm_gossip.specs.Message.{Wire};
+ghost use Rattle.lgm_gossip.specs.Memory.{GivesIf, BodyTakesMemory, TakesMemory};
 ghost use Rattle.lgm_gossip.specs.MessageReading.{body_at, message_at, fault};
 ghost use Rattle.lgm_gossip.specs.declared.message.Message.{Message};
 
@@ -20,7 +21,8 @@ use std::alloc::Global;
 
 #[tactic(auto, unfolding(crate::specs::MessageReading::body_at))]
 fn body(alloc: Global, kind: u16, bytes: &[u8]) -> Result<Message, DecodeFault>
-    ensures { Gives DecodeFault.NoMemory (λ m. m) result (body_at kind bytes.now) }
+    ensures { GivesIf (BodyTakesMemory kind bytes.now) DecodeFault.NoMemory (λ m. m) result
+        (body_at kind bytes.now) }
 {
     match kind {
         256 => Ok(Message::Announce(Announce::read(alloc, bytes)?)),
@@ -38,7 +40,7 @@ fn body(alloc: Global, kind: u16, bytes: &[u8]) -> Result<Message, DecodeFault>
 
 #[tactic(auto, unfolding(crate::specs::MessageReading::message_at))]
 fn message(alloc: Global, bytes: &[u8]) -> Result<Message, DecodeFault>
-    ensures { Gives DecodeFault.NoMemory (λ m. m) result (message_at bytes.now) }
+    ensures { GivesIf (TakesMemory bytes.now) DecodeFault.NoMemory (λ m. m) result (message_at bytes.now) }
 {
     if bytes.len() > MAX_LEN {
         return Err(DecodeFault::Long);
@@ -51,8 +53,14 @@ fn message(alloc: Global, bytes: &[u8]) -> Result<Message, DecodeFault>
 
 /// The message that the bytes spell, its two bytes of type first (BOLT 7).
 ///
-/// Any bytes of any length may be given. The faults come in the order of [`DecodeFault`]'s variants, and of the fields
-/// from left to right. It takes no more memory than the message keeps.
+/// Any bytes of any length may be given. A message's length and its type are looked at first (`Long`, `Short`,
+/// `UnknownEven`, `UnknownOdd`), and then its fields from left to right: the first field at fault decides (`Cut`,
+/// `Encoding`, `Ids`). Of the records behind the last field a fault of their stream comes first (`Tlv`), and else the
+/// first record at fault decides: `TlvKind` where it is even and unknown or malformed, `Encoding` where its encoding is
+/// unknown, `Flags` where query flags are malformed or not one for each id.
+///
+/// Memory is taken for what the message keeps, and for a list of its records while it is read. A message that keeps
+/// nothing of variable length takes none, nor does a fault of an announcement or an update.
 pub fn decode(alloc: Global, bytes: &[u8]) -> Result<Message, DecodeFault>
     // What is found is spelled by the bytes, and nothing else is.
     ensures found { IfOk result (λ m. Wire m bytes.now) }
@@ -64,12 +72,21 @@ pub fn decode(alloc: Global, bytes: &[u8]) -> Result<Message, DecodeFault>
 
     // The same in one: what reading the bytes gives.
     ensures exact { Gives DecodeFault.NoMemory (λ m. m) result (message_at bytes.now) }
+
+    // Memory can run out only where it is asked for: else the result is what reading gives.
+    ensures memory { Sees (λ m. m) result (message_at bytes.now) ⊎ TakesMemory bytes.now }
 {
     message(alloc, bytes)
 }
 
-/// Laws of the messages: bytes spell at most one, and spell one exactly where they have no fault.
+/// Laws of the messages, of which the contract is the statement; the call does nothing.
+///
+/// Reading the bytes from left to right gives a message exactly where they spell it. They spell at most one, and spell
+/// one exactly where they have no fault.
 pub fn one_message()
+    ensures read { (m : Message) (b : List ℕ) → ((i : ℕ) → slice_index b i < 256)
+        → message_at b ≡ Ok m → Wire m b }
+    ensures again { (m : Message) (b : List ℕ) → Wire m b → message_at b ≡ Ok m }
     ensures once { (m n : Message) (b : List ℕ) → Wire m b → Wire n b → m ≡ n }
     ensures spelled { (b : List ℕ) → ((i : ℕ) → slice_index b i < 256)
         → fault b ≡ None → (m : Message) × Wire m b }

@@ -1,7 +1,8 @@
 //! Encoded channel ids, as queries and replies hold them.
 
-ghost use Rattle.lgm_wire.specs.Reading.{Gives};
+ghost use Rattle.std.specs.Prelude.{◌<◌, length};
 ghost use Rattle.lgm_gossip.specs.EncodedIdsReading.{ids_of, encoded_ids_at};
+ghost use Rattle.lgm_gossip.specs.Memory.{GivesIf};
 
 use crate::fault::DecodeFault;
 use crate::fields::counted;
@@ -11,10 +12,10 @@ use std::alloc::Global;
 
 /// The ids that the bytes are.
 fn ids(alloc: Global, bytes: &[u8]) -> Result<Vec<Scid>, DecodeFault>
-    ensures { Gives DecodeFault.NoMemory (λ ids. ids.items) result (ids_of bytes.now) }
+    ensures { GivesIf (1 < length bytes.now) DecodeFault.NoMemory (λ ids. ids.items) result (ids_of bytes.now) }
 {
     match bytes {
-        [] => Ok(Vec::new(alloc)),
+        [] | [0] => Ok(Vec::new(alloc)),
         [0, rest @ ..] => {
             let (chunks, left) = rest.as_chunks::<8>();
             if !left.is_empty() {
@@ -33,7 +34,8 @@ fn ids(alloc: Global, bytes: &[u8]) -> Result<Vec<Scid>, DecodeFault>
 
 /// The ids at the front, behind their length, and the bytes after them.
 pub(crate) fn encoded_ids(alloc: Global, bytes: &[u8]) -> Result<(Scids, &[u8]), DecodeFault>
-    ensures { Gives DecodeFault.NoMemory (λ x. (x.0, x.1.now)) result (encoded_ids_at bytes.now) }
+    ensures { GivesIf (3 < length bytes.now) DecodeFault.NoMemory (λ x. (x.0, x.1.now)) result
+        (encoded_ids_at bytes.now) }
 {
     let (text, rest) = counted(bytes)?;
     Ok((Scids::from_vec(ids(alloc, text)?), rest))

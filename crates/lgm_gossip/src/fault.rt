@@ -7,7 +7,8 @@ use lgm_wire::WireFault;
 use std::alloc::{AllocError, AllocFailed};
 use thiserror::Error;
 
-/// The first fault of bytes that spell no message, in the order in which it is looked for, or want of memory.
+/// The first fault of bytes that spell no message, or want of memory. [`decode`](crate::decode) says in which order they
+/// are looked for.
 #[derive(Clone, Copy, Debug, PartialEq, Eq, Error)]
 pub enum DecodeFault {
     /// More than 65,535 bytes.
@@ -25,7 +26,7 @@ pub enum DecodeFault {
     /// A field, taken from left to right, goes past the end.
     #[error("a field goes past the end")]
     Cut,
-    /// Encoded channel ids begin with this byte in place of 0, the only encoding that is known.
+    /// Encoded channel ids, query flags or timestamps begin with this byte in place of 0, the only encoding that is known.
     #[error("unknown encoding {0}")]
     Encoding(u8),
     /// Encoded channel ids aren't eight bytes each.
@@ -34,13 +35,14 @@ pub enum DecodeFault {
     /// The bytes behind the last field aren't a stream of records.
     #[error("not a TLV stream: {0}")]
     Tlv(WireFault),
-    /// A record of this type is even and unknown, or malformed.
+    /// A record of this type is even and unknown, or it is of type 1 and malformed: options that aren't one number in its
+    /// shortest form, or timestamps that aren't a pair for each channel id.
     #[error("record {0} is unknown or malformed")]
     TlvKind(u64),
-    /// Query flags are none, or not as many as the channel ids.
+    /// Query flags aren't one number in its shortest form for each channel id.
     #[error("query flags don't fit the channel ids")]
     Flags,
-    /// Memory was refused.
+    /// Memory was refused. It says nothing of the bytes.
     #[error("out of memory")]
     NoMemory,
 }

@@ -15,6 +15,7 @@ use std::alloc::Global;
 /// gossip_timestamp_filter Message").
 #[derive(Clone, Copy, Debug, PartialEq, Eq)]
 pub struct FilterMsg {
+    /// The chain whose gossip is wanted.
     pub chain_hash: ChainHash,
     /// The least timestamp that is wanted, in seconds since 1970.
     pub first_timestamp: u32,

@@ -1,8 +1,9 @@
 //! `query_short_channel_ids`.
 
-ghost use Rattle.std.specs.Prelude.{◌≡◌, length, None, List, ℕ, IfOk};
+ghost use Rattle.std.specs.Prelude.{◌≡◌, ◌<◌, length, None, List, ℕ, IfOk};
 ghost use Rattle.std.specs.Option.{ForSome};
 ghost use Rattle.lgm_wire.specs.Reading.{Gives};
+ghost use Rattle.lgm_gossip.specs.Memory.{GivesIf};
 ghost use Rattle.lgm_wire.specs.TlvView.{record_of, records_of};
 ghost use Rattle.lgm_gossip.specs.OptionalReading.{optional_of, after_record, after_records};
 ghost use Rattle.lgm_gossip.specs.QueryFlagsReading.{query_flags_at};
@@ -27,8 +28,9 @@ use std::marker::Model;
 /// query_short_channel_ids/reply_short_channel_ids_end Messages"). Where there are flags, there is one for each id.
 #[derive(Debug, Drop)]
 pub struct IdsQuery {
+    /// The chain that is asked about.
     pub chain_hash: ChainHash,
-    /// The channels that are asked for.
+    /// The channels that are asked for, in the order of the message.
     pub ids: Scids,
     /// What is wanted of each, if the query says it; else all of it.
     pub flags: Option<QueryFlags>,
@@ -65,7 +67,7 @@ fn with_record(
 
 /// The flags, if the records have them.
 fn known(alloc: Global, count: usize, records: &[Tlv]) -> Result<Option<QueryFlags>, DecodeFault>
-    ensures { Gives DecodeFault.NoMemory (λ flags. flags) result
+    ensures { GivesIf (0 < length records.now) DecodeFault.NoMemory (λ flags. flags) result
         (after_records (query_flags_at count) None (records_of records.now)) }
 {
     let mut flags = None;
@@ -78,7 +80,7 @@ fn known(alloc: Global, count: usize, records: &[Tlv]) -> Result<Option<QueryFla
 /// The flags, one for each id, if the stream of records has them.
 #[tactic(auto, unfolding(crate::specs::OptionalReading::optional_of))]
 fn optional(alloc: Global, ids: &Scids, bytes: &[u8]) -> Result<Option<QueryFlags>, DecodeFault>
-    ensures exact { Gives DecodeFault.NoMemory (λ found. found) result
+    ensures exact { GivesIf (1 < length bytes.now) DecodeFault.NoMemory (λ found. found) result
         (optional_of (query_flags_at (length ids.now)) bytes.now) }
     ensures one_each { IfOk result (λ found. ForSome found (λ flags. length flags ≡ length ids.now)) }
 {
@@ -97,7 +99,7 @@ impl IdsQuery {
     /// The fields, read from left to right, of the bytes behind the type.
     #[tactic(auto, unfolding(crate::specs::IdsQueryReading::ids_query_at))]
     pub(crate) fn read(alloc: Global, bytes: &[u8]) -> Result<IdsQuery, DecodeFault>
-        ensures { Gives DecodeFault.NoMemory (λ m. m) result (ids_query_at bytes.now) }
+        ensures { GivesIf (35 < length bytes.now) DecodeFault.NoMemory (λ m. m) result (ids_query_at bytes.now) }
     {
         let (chain_hash, rest) = fixed(bytes)?;
         let (ids, rest) = encoded_ids(alloc, rest)?;

@@ -1,7 +1,7 @@
 //! `node_announcement`.
 
 ghost use Rattle.std.specs.Prelude.{◌≡◌, IfOk};
-ghost use Rattle.lgm_wire.specs.Reading.{Gives};
+ghost use Rattle.lgm_gossip.specs.Memory.{GivesIf, Keeps, node_announce_kept};
 
 use crate::bytes::Bytes;
 use crate::encode_fault::EncodeFault;
@@ -23,6 +23,7 @@ pub struct NodeAnnounce {
     pub features: Bytes,
     /// Seconds since 1970. Of two announcements of a node the one with the greater number holds.
     pub timestamp: u32,
+    /// The node that is announced, and that signs.
     pub node_id: Point,
     /// Red, green and blue.
     pub rgb_color: [u8; 3],
@@ -30,7 +31,7 @@ pub struct NodeAnnounce {
     pub alias: [u8; 32],
     /// Address descriptors, as they came: [`addresses`](crate::addresses) reads them.
     pub addresses: Bytes,
-    /// What stands behind the last field.
+    /// What stands behind the last field, kept so that the message can be sent on as it came.
     pub rest: Bytes,
 }
 
@@ -54,7 +55,8 @@ impl NodeAnnounce {
     /// The fields, read from left to right, of the bytes behind the type.
     #[tactic(auto, unfolding(crate::specs::NodeAnnounceReading::node_announce_at))]
     pub(crate) fn read(alloc: Global, bytes: &[u8]) -> Result<NodeAnnounce, DecodeFault>
-        ensures { Gives DecodeFault.NoMemory (λ m. m) result (node_announce_at bytes.now) }
+        ensures { GivesIf (Keeps node_announce_kept (node_announce_at bytes.now)) DecodeFault.NoMemory (λ m. m) result
+            (node_announce_at bytes.now) }
     {
         let (signature, rest) = fixed(bytes)?;
         let (features, rest) = counted(rest)?;

@@ -4,7 +4,7 @@ ghost use Rattle.std.specs.Prelude.{◌≡◌};
 ghost use Rattle.lgm_gossip.specs.Point.{is_lawful};
 
 /// A point in its compressed form: 33 bytes, which order byte by byte (BOLT 1, "Fundamental Types").
-#[derive(Clone, Copy, Debug, PartialEq, Eq, PartialOrd, Ord)]
+#[derive(Clone, Copy, Debug, PartialEq, Eq, PartialOrd, Ord, Hash)]
 pub struct Point(pub [u8; 33]);
 
 impl Point {

@@ -1,7 +1,8 @@
 //! `query_channel_range`.
 
-ghost use Rattle.std.specs.Prelude.{length};
-ghost use Rattle.lgm_wire.specs.Reading.{Sees, Gives};
+ghost use Rattle.std.specs.Prelude.{◌<◌, length};
+ghost use Rattle.lgm_wire.specs.Reading.{Sees};
+ghost use Rattle.lgm_gossip.specs.Memory.{GivesIf};
 ghost use Rattle.lgm_wire.specs.TlvView.{record_of, records_of};
 ghost use Rattle.lgm_gossip.specs.OptionalReading.{optional_of, after_record, after_records};
 ghost use Rattle.lgm_gossip.specs.RangeQueryReading.{options_at};
@@ -22,6 +23,7 @@ use std::alloc::Global;
 /// blocks (BOLT 7, "The query_channel_range and reply_channel_range Messages").
 #[derive(Clone, Copy, Debug, PartialEq, Eq)]
 pub struct RangeQuery {
+    /// The chain that is asked about.
     pub chain_hash: ChainHash,
     /// The height of the first block.
     pub first_blocknum: u32,
@@ -66,7 +68,8 @@ fn known(records: &[Tlv]) -> Result<Option<u64>, DecodeFault>
 /// The options, if the stream of records has them.
 #[tactic(auto, unfolding(crate::specs::OptionalReading::optional_of))]
 fn optional(alloc: Global, bytes: &[u8]) -> Result<Option<u64>, DecodeFault>
-    ensures { Gives DecodeFault.NoMemory (λ options. options) result (optional_of options_at bytes.now) }
+    ensures { GivesIf (1 < length bytes.now) DecodeFault.NoMemory (λ options. options) result
+        (optional_of options_at bytes.now) }
 {
     known(records(alloc, bytes)?.as_slice())
 }
@@ -79,7 +82,7 @@ impl RangeQuery {
     /// The fields, read from left to right, of the bytes behind the type.
     #[tactic(auto, unfolding(crate::specs::RangeQueryReading::range_query_at))]
     pub(crate) fn read(alloc: Global, bytes: &[u8]) -> Result<RangeQuery, DecodeFault>
-        ensures { Gives DecodeFault.NoMemory (λ m. m) result (range_query_at bytes.now) }
+        ensures { GivesIf (40 < length bytes.now) DecodeFault.NoMemory (λ m. m) result (range_query_at bytes.now) }
     {
         let (chain_hash, rest) = fixed(bytes)?;
         let (first_blocknum, rest) = number32(rest)?;

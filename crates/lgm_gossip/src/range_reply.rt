@@ -1,8 +1,9 @@
 //! `reply_channel_range`.
 
-ghost use Rattle.std.specs.Prelude.{◌≡◌, length, None, List, IfOk};
+ghost use Rattle.std.specs.Prelude.{◌≡◌, ◌<◌, length, None, List, IfOk};
 ghost use Rattle.std.specs.Option.{ForSome};
 ghost use Rattle.lgm_wire.specs.Reading.{Gives};
+ghost use Rattle.lgm_gossip.specs.Memory.{GivesIf};
 ghost use Rattle.lgm_wire.specs.TlvView.{record_of, records_of};
 ghost use Rattle.lgm_gossip.specs.OptionalReading.{optional_of, after_record, after_records};
 ghost use Rattle.lgm_gossip.specs.TimestampListReading.{timestamps_at};
@@ -27,6 +28,7 @@ use std::marker::Model;
 /// reply_channel_range Messages"). Where there are timestamps, there is a pair for each id. Checksums aren't kept.
 #[derive(Debug, Drop)]
 pub struct RangeReply {
+    /// The chain of the query.
     pub chain_hash: ChainHash,
     /// The height of the first block.
     pub first_blocknum: u32,
@@ -34,7 +36,7 @@ pub struct RangeReply {
     pub number_of_blocks: u32,
     /// 1 in the last reply to a query, else 0. Kept as it came.
     pub sync_complete: u8,
-    /// The channels, ascending.
+    /// The channels, in the order of the message. Whether they ascend isn't looked at.
     pub ids: Scids,
     /// When the updates of each were made, if the query asked for it.
     pub timestamps: Option<TimestampList>,
@@ -78,7 +80,7 @@ fn with_record(
 
 /// The timestamps, if the records have them.
 fn known(alloc: Global, count: usize, records: &[Tlv]) -> Result<Option<TimestampList>, DecodeFault>
-    ensures { Gives DecodeFault.NoMemory (λ pairs. pairs) result
+    ensures { GivesIf (0 < length records.now) DecodeFault.NoMemory (λ pairs. pairs) result
         (after_records (timestamps_at count) None (records_of records.now)) }
 {
     let mut timestamps = None;
@@ -91,7 +93,7 @@ fn known(alloc: Global, count: usize, records: &[Tlv]) -> Result<Option<Timestam
 /// The timestamps, one pair for each id, if the stream of records has them.
 #[tactic(auto, unfolding(crate::specs::OptionalReading::optional_of))]
 fn optional(alloc: Global, ids: &Scids, bytes: &[u8]) -> Result<Option<TimestampList>, DecodeFault>
-    ensures exact { Gives DecodeFault.NoMemory (λ found. found) result
+    ensures exact { GivesIf (1 < length bytes.now) DecodeFault.NoMemory (λ found. found) result
         (optional_of (timestamps_at (length ids.now)) bytes.now) }
     ensures one_each { IfOk result (λ found. ForSome found (λ timestamps. length timestamps ≡ length ids.now)) }
 {
@@ -110,7 +112,7 @@ impl RangeReply {
     /// The fields, read from left to right, of the bytes behind the type.
     #[tactic(auto, unfolding(crate::specs::RangeReplyReading::range_reply_at))]
     pub(crate) fn read(alloc: Global, bytes: &[u8]) -> Result<RangeReply, DecodeFault>
-        ensures { Gives DecodeFault.NoMemory (λ m. m) result (range_reply_at bytes.now) }
+        ensures { GivesIf (44 < length bytes.now) DecodeFault.NoMemory (λ m. m) result (range_reply_at bytes.now) }
     {
         let (chain_hash, rest) = fixed(bytes)?;
         let (first_blocknum, rest) = number32(rest)?;

@@ -201,11 +201,55 @@ pub broken_read : (b : List ℕ) (f : WireFault) → IsFirstFault b f → tlvs_o
 unfolding tlvs_of
 broken_read b f broken = ap (λ (s : List ℕ). tlvs_at (length s) None s) broken.parts ∙ tlvs_broken (length (flat_map record_bytes broken.before ++ broken.rest)) None broken.before broken.rest f broken.fits broken.rises broken.more broken.is (omega arith)
 
+-- ---- what is read as a stream is one
+
+-- the records behind one of the last type
+pub record IsStream (last : Option ℕ) (bytes : List ℕ) (l : List TlvRecord) : Type 0 where
+  pub fits : AllByRecursion Fits l
+  pub rises : RisesFrom last l
+  pub whole : bytes ≡ flat_map record_bytes l
+
+tlvs_take : (n : ℕ) (last : Option ℕ) (bytes : List ℕ) (l : List TlvRecord) → IsBytes bytes → length bytes ≤ n → tlvs_at n last bytes ≡ Ok l → IsStream last bytes l
+unfolding tlvs_at
+tlvs_take n last [] l fits le e = subst (λ (x : List TlvRecord). IsStream last [] x) (ok_is [] l e) (record { fits = tt; rises = tt; whole = refl })
+tlvs_take zero last (b ∷ bs) l fits le e = absurd (omega arith)
+tlvs_take (suc n) last (b ∷ bs) l fits le e =
+    let first = bind_ok (record_at last (b ∷ bs)) (λ x. tlvs_at n (Some x.0.kind) x.1 >>= λ others. Ok (x.0 ∷ others)) l e in
+    let r = first.0.0 in
+    let left = first.0.1 in
+    let t = record_spelled last (b ∷ bs) r left fits first.1 in
+    let others = bind_ok (tlvs_at n (Some r.kind) left) (λ others. Ok (r ∷ others)) l first.2 in
+    let len : length left < length (b ∷ bs) = omega (arith, ap length t.parts, record_len r left) in
+    let s = tlvs_take n (Some r.kind) left others.0 t.rest_fits (omega arith) others.1 in
+    subst (λ (x : List TlvRecord). IsStream last (b ∷ bs) x) (ok_is (r ∷ others.0) l others.2) (record {
+      fits = (t.fits, s.fits);
+      rises = (t.above, s.rises);
+      whole = t.parts ∙ ap (λ (x : List ℕ). record_bytes r ++ x) s.whole ∙ sym (flat_map-cons record_bytes r others.0);
+    })
+
+pub stream_takes : (l : List TlvRecord) (bytes : List ℕ) → IsBytes bytes → tlvs_of bytes ≡ Ok l → IsTlvStream l bytes
+unfolding tlvs_of
+stream_takes l bytes fits e =
+    let s = tlvs_take (length bytes) None bytes l fits (omega arith) e in
+    record { fits = s.fits; rises = s.rises; whole = s.whole }
+
+-- ---- what has no record
+
+-- a record has two bytes at least
+pub two_bytes : (r : TlvRecord) (rest : List ℕ) → 2 ≤ length (record_bytes r ++ rest)
+two_bytes r rest = omega (arith, length-append (record_bytes r) rest, length-append (bigsize_bytes r.kind ++ bigsize_bytes (length r.value)) r.value, length-append (bigsize_bytes r.kind) (bigsize_bytes (length r.value)), length-bigsize_bytes r.kind, length-bigsize_bytes (length r.value))
+
+-- so where one was read, there were two bytes at least
+pub has_two_bytes : (bytes : List ℕ) (front : List TlvRecord) (rest : List ℕ) (last : Option ℕ) (r : TlvRecord) (after : List ℕ) → IsBytes bytes → IsRead bytes front rest last → record_at last rest ≡ Ok (r, after) → 2 ≤ length bytes
+has_two_bytes bytes front rest last r after small so_far e =
+    let t = record_spelled last rest r after (IsBytes-back bytes (flat_map record_bytes front) rest so_far.parts small) e in
+    omega (arith, ap length so_far.parts, length-append (flat_map record_bytes front) rest, ap length t.parts, two_bytes r after)
+
 -- ---- two readings of one stream
 
 -- a reading that has come to the end is the only one
-pub is_only : (bytes : List ℕ) (front l : List TlvRecord) → IsTlvStream front bytes → IsTlvStream l bytes → front ≡ l
-is_only bytes front l whole other = ok_is front l (sym (whole_read front bytes whole) ∙ whole_read l bytes other)
+pub is_only : (front l : List TlvRecord) (bytes : List ℕ) → IsTlvStream front bytes → IsTlvStream l bytes → front ≡ l
+is_only front l bytes whole other = ok_is front l (sym (whole_read front bytes whole) ∙ whole_read l bytes other)
 
 -- and bytes with a fault have none
 pub no_fault : (bytes : List ℕ) (f : WireFault) (l : List TlvRecord) → IsFirstFault bytes f → IsTlvStream l bytes → ⊥

@@ -1,7 +1,7 @@
 //! BigSize: a number of up to 64 bits in one, three, five or nine bytes, whichever is the fewest
 //! (BOLT 1, Fundamental Types and Appendix A).
 
-ghost use Rattle.std.specs.Prelude.{◌≡◌, ℕ, ◌≤◌, ◌<◌, ◌↔◌, ◌⊎◌, ◌++◌, length, take, OnOk, OnErr, IfErr, List};
+ghost use Rattle.std.specs.Prelude.{◌≡◌, ℕ, ◌≤◌, ◌<◌, ◌↔◌, ◌⊎◌, ◌++◌, ◌+◌, length, take, vec_len, vec_capacity, OnOk, OnErr, IfErr, List};
 ghost use Rattle.std.specs.Int.{w16, w32, w64};
 ghost use Rattle.lgm_wire.specs.BigSize.{IsBigSize, bigsize_bytes, form_len, form_value};
 ghost use Rattle.lgm_wire.specs.Reading.{Sees};
@@ -88,11 +88,15 @@ pub fn read_bigsize(bytes: &[u8]) -> Result<(u64, usize), WireFault>
     Ok((value, bytes.len() - rest.len()))
 }
 
-/// Appends the BigSize of a number: 1, 3, 5 or 9 bytes. On `NoMemory` the bytes are as before.
-/// (BOLT 1, Fundamental Types.)
+/// Appends the BigSize of a number: 1, 3, 5 or 9 bytes. Memory is asked for only where the vector
+/// has no room for them. On `NoMemory` the bytes are as before. (BOLT 1, Fundamental Types.)
 pub fn write_bigsize(out: &mut Vec<u8>, value: u64) -> Result<(), NoMemory>
     ensures ok { OnOk result (out.new.items ≡ out.old.items ++ bigsize_bytes value) }
     ensures err { OnErr result (out.new.items ≡ out.old.items) }
+
+    // It fails only where room was missing, and room never shrinks.
+    ensures full { OnErr result (vec_capacity out.old < vec_len out.old + length (bigsize_bytes value)) }
+    ensures room { vec_capacity out.old ≤ vec_capacity out.new }
 {
     match value {
         0..=0xfc => out.extend_from_slice(&[value as u8]),

@@ -1,7 +1,7 @@
 //! TLV streams: records of a type, a length and a value, their types rising strictly
 //! (BOLT 1, Type-Length-Value Format and Appendix B).
 
-ghost use Rattle.std.specs.Prelude.{◌≡◌, ℕ, List, ◌++◌, ◌⊎◌, OnOk, OnErr, IfOk, IfErr, MatchResult};
+ghost use Rattle.std.specs.Prelude.{◌≡◌, ℕ, ◌+◌, ◌<◌, ◌≤◌, List, ◌++◌, ◌⊎◌, length, slice_index, Ok, vec_len, vec_capacity, OnOk, OnErr, IfOk, IfErr, MatchResult};
 ghost use Rattle.lgm_wire.specs.Reading.{Sees, Gives};
 ghost use Rattle.lgm_wire.specs.Tlv.{TlvRecord, IsTlvStream, record_bytes};
 ghost use Rattle.lgm_wire.specs.TlvReading.{IsFirstFault, record_at, tlvs_of};
@@ -80,6 +80,9 @@ pub fn read_tlvs<'a>(alloc: Global, bytes: &'a [u8]) -> Result<Tlvs<'a>, WireFau
 
     ensures fault { IfErr result (λ e. (e ≡ WireFault.NoMemory) ⊎ IsFirstFault bytes.now e) }
 
+    // Fewer than two bytes hold no record, and take no memory.
+    ensures memory { length bytes.now < 2 → Sees (λ tlvs. tlvs) result (tlvs_of bytes.now) }
+
     // The same in one, for readers built on this one.
     ensures exact { Gives WireFault.NoMemory (λ tlvs. tlvs) result (tlvs_of bytes.now) }
 {
@@ -96,12 +99,17 @@ pub fn read_tlvs<'a>(alloc: Global, bytes: &'a [u8]) -> Result<Tlvs<'a>, WireFau
 }
 
 /// Appends a record: the BigSize of its type, the BigSize of its length, and its value. That the
-/// types of a stream rise is left to the caller. On `NoMemory` the bytes are as before.
-/// (BOLT 1, Type-Length-Value Format.)
+/// types of a stream rise is left to the caller. Memory is asked for only where the vector has no
+/// room for the record. On `NoMemory` the bytes are as before. (BOLT 1, Type-Length-Value Format.)
 pub fn write_tlv(out: &mut Vec<u8>, kind: u64, value: &[u8]) -> Result<(), NoMemory>
     ensures ok { OnOk result (out.new.items ≡
         out.old.items ++ record_bytes (record { kind = kind; value = value.now })) }
     ensures err { OnErr result (out.new.items ≡ out.old.items) }
+
+    // It fails only where room was missing, and room never shrinks.
+    ensures full { OnErr result (vec_capacity out.old <
+        vec_len out.old + length (record_bytes (record { kind = kind; value = value.now }))) }
+    ensures room { vec_capacity out.old ≤ vec_capacity out.new }
 {
     let start = out.len();
     let written = append_parts(out, kind, value);
@@ -116,8 +124,24 @@ fn append_parts(out: &mut Vec<u8>, kind: u64, value: &[u8]) -> Result<(), NoMemo
     ensures ok { OnOk result (out.new.items ≡
         out.old.items ++ record_bytes (record { kind = kind; value = value.now })) }
     ensures err { OnErr result ((more : List ℕ) × (out.new.items ≡ out.old.items ++ more)) }
+    ensures full { OnErr result (vec_capacity out.old <
+        vec_len out.old + length (record_bytes (record { kind = kind; value = value.now }))) }
+    ensures room { vec_capacity out.old ≤ vec_capacity out.new }
 {
     write_bigsize(out, kind)?;
     write_bigsize(out, value.len() as u64)?;
     out.extend_from_slice(value)
 }
+
+/// The laws of TLV streams, of which the contract is the statement; the call does nothing.
+///
+/// Reading the bytes from left to right gives records exactly where the bytes are their stream, so
+/// bytes are the stream of one list of records at most.
+pub fn one_stream()
+    ensures read { (records : List TlvRecord) (b : List ℕ) → ((i : ℕ) → slice_index b i < 256) →
+        tlvs_of b ≡ Ok records → IsTlvStream records b }
+    ensures spelled { (records : List TlvRecord) (b : List ℕ) →
+        IsTlvStream records b → tlvs_of b ≡ Ok records }
+    ensures once { (m n : List TlvRecord) (b : List ℕ) →
+        IsTlvStream m b → IsTlvStream n b → m ≡ n }
+{}

@@ -1,7 +1,7 @@
 //! Truncated integers, `tu16`, `tu32` and `tu64`: a number in as few bytes as it needs, the
 //! highest one first, its length known from outside (BOLT 1, Fundamental Types).
 
-ghost use Rattle.std.specs.Prelude.{◌≡◌, ℕ, List, ◌++◌, ◌≤◌, ◌<◌, ◌^◌, ◌↔◌, ◌⊎◌, ◌==◌, take_while, length, OnOk, OnErr, IfErr};
+ghost use Rattle.std.specs.Prelude.{◌≡◌, ℕ, List, ◌++◌, ◌≤◌, ◌<◌, ◌^◌, ◌↔◌, ◌⊎◌, ◌==◌, ◌+◌, take_while, length, vec_len, vec_capacity, OnOk, OnErr, IfErr};
 ghost use Rattle.lgm_wire.specs.TruncatedInteger.{IsTruncatedInteger, StartsWithZero, number_of, truncated_bytes};
 ghost use Rattle.lgm_wire.specs.TruncatedIntegerReading.{truncated_of};
 
@@ -58,11 +58,16 @@ fn leading_zeros(bytes: &[u8]) -> usize
     bytes.iter().take_while(|byte| **byte == 0).count()
 }
 
-/// Appends a number as a truncated integer, which takes 0 to 8 bytes. On `NoMemory` the bytes are
-/// as before. (BOLT 1, Fundamental Types.)
+/// Appends a number as a truncated integer, which takes 0 to 8 bytes. Memory is asked for only
+/// where the vector has no room for them. On `NoMemory` the bytes are as before. (BOLT 1,
+/// Fundamental Types.)
 pub fn write_tu(out: &mut Vec<u8>, value: u64) -> Result<(), NoMemory>
     ensures ok { OnOk result (out.new.items ≡ out.old.items ++ truncated_bytes value) }
     ensures err { OnErr result (out.new.items ≡ out.old.items) }
+
+    // It fails only where room was missing, and room never shrinks.
+    ensures full { OnErr result (vec_capacity out.old < vec_len out.old + length (truncated_bytes value)) }
+    ensures room { vec_capacity out.old ≤ vec_capacity out.new }
 {
     let digits = value.to_be_bytes();
     let zeros = leading_zeros(&digits);

@@ -2,7 +2,7 @@ use Rattle.std.proofs.Common.{◌≡◌, Err, ap, ◌∙◌, arith, rules, inr}
 use Rattle.std.proofs.lemmas.List.{map_push}
 use Rattle.std.proofs.lemmas.Result.{err_from_is_err_and}
 use Rattle.lgm_wire.specs.TlvView.{record_of, records_of}
-use Rattle.lgm_wire.proofs.TlvLaws.{goes_on, shrinks, whole_stream, first_fault, whole_read, broken_read, is_only, no_fault}
+use Rattle.lgm_wire.proofs.TlvLaws.{goes_on, shrinks, whole_stream, first_fault, whole_read, broken_read, is_only, no_fault, has_two_bytes}
 use Rattle.lgm_wire.proofs.tlv.read_tlvs.Goals as goal
 
 pub loop-rest-smaller : goal.loop-rest-smaller
@@ -19,8 +19,9 @@ returns c =
     let whole = whole_stream c.args.bytes.now front c.loop-rest.rest.now c.loop-rest.last c.loop-rest.invariant (search rules) in
     record {
       found = whole;
-      only = λ l other. is_only c.args.bytes.now front l whole other;
+      only = λ l other. is_only front l c.args.bytes.now whole other;
       fault = tt;
+      memory = λ few. whole_read front c.args.bytes.now whole;
       exact = whole_read front c.args.bytes.now whole;
     }
 
@@ -34,5 +35,11 @@ returns-in_err-tlv c =
       found = tt;
       only = λ l other. absurd (no_fault c.args.bytes.now fault l first other);
       fault = inr first;
+      memory = λ few. broken_read c.args.bytes.now fault first;
       exact = inr (broken_read c.args.bytes.now fault first);
     })
+
+pub returns-in_err-push-clause-memory : goal.returns-in_err-push-clause-memory
+returns-in_err-push-clause-memory c few =
+    let some = has_two_bytes c.args.bytes.now (records_of c.loop-rest.items.items) c.loop-rest.rest.now c.loop-rest.last (record_of c.in_ok-tlv.tlv) c.in_ok-tlv.after.now (λ i. omega (arith, c.type_inv.bytes i)) c.loop-rest.invariant c.in_ok-tlv.ensures in
+    absurd (omega (arith, some, few))

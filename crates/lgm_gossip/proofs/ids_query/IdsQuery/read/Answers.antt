@@ -1,0 +1,24 @@
+use Rattle.std.proofs.Common.{arith, rules, inl, inr}
+use Rattle.std.proofs.lemmas.Result.{err_from_is_err_and}
+use Rattle.lgm_gossip.specs.EncodedIdsReading.{ids_of}
+use Rattle.lgm_gossip.specs.IdsQueryReading.{ids_query_at}
+use Rattle.lgm_gossip.proofs.MemoryLaws.{fixed_len, enclosed_len}
+use Rattle.lgm_gossip.proofs.ids_query.IdsQuery.read.Goals as goal
+
+pub returns-in_err-ids : goal.returns-in_err-ids
+unfolding ids_query_at
+returns-in_err-ids c =
+    let p = err_from_is_err_and c.from_residual-in_err-ids.result c.from_residual-in_err-ids.ensures.1 in
+    rw (p.1, p.2) (elim c.in_err-ids.ensures [
+      | inl none ↦ inl (omega (arith, none.0, fixed_len 32 _ _ c.in_ok-chain_hash.ensures), none.1)
+      | inr fault ↦ inr (search rules)
+    ])
+
+pub returns-in_err-flags : goal.returns-in_err-flags
+unfolding ids_query_at
+returns-in_err-flags c =
+    let p = err_from_is_err_and c.from_residual-in_err-flags.result c.from_residual-in_err-flags.ensures.1 in
+    rw (p.1, p.2) (elim c.in_err-flags.ensures.exact [
+      | inl none ↦ inl (omega (arith, none.0, fixed_len 32 _ _ c.in_ok-chain_hash.ensures, enclosed_len ids_of c.in_ok-chain_hash.rest.now (c.in_ok-ids.ids, c.in_ok-ids.rest.now) c.in_ok-ids.ensures), none.1)
+      | inr fault ↦ inr (search rules)
+    ])
