@@ -1,2 +1,4 @@
 pub mod Refusal
 pub mod Precheck
+pub mod Accepted
+pub mod Raw

@@ -1,5 +1,5 @@
 -- The check of a message without a map: the row to be, or the first refusal.
-use Rattle.std.specs.Prelude.{◌≡◌, ℕ, ◌/◌, ◌%◌, ◌==◌, List, Bool, true, false, not, ◌&&◌, nat_eq, nat_le, Result, Ok, Err, if◌then◌else◌}
+use Rattle.std.specs.Prelude.{ℕ, ◌/◌, ◌%◌, ◌==◌, List, Bool, false, not, ◌&&◌, nat_eq, nat_le, Result, Ok, Err, if◌then◌else◌}
 use Rattle.std.specs.Cmp.Lexicographic.{pointwise, slice_cmp}
 use Rattle.std.specs.Ordering.{is_lt, nat_cmp}
 use Rattle.lgm_wire.specs.Reading.{◌>>=◌}

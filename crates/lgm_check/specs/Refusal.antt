@@ -5,7 +5,7 @@ use Rattle.lgm_gossip.specs.declared.fault.DecodeFault.TheVariants as faults
 use Rattle.lgm_check.specs.declared.refusal.Refusal.{Refusal}
 use Rattle.lgm_check.specs.declared.refusal.Refusal.TheVariants as refusals
 
--- the number, from 1 in the order in which they are looked for
+-- the number, from 1 on
 abbrev pub number_of : Refusal → Option ℕ
 number_of refusals.Malformed = Some 1
 number_of refusals.UnknownEven = Some 2
@@ -22,6 +22,7 @@ number_of refusals.Known = Some 12
 number_of refusals.Conflict = Some 13
 number_of refusals.UnknownNode = Some 14
 number_of refusals.NotNewer = Some 15
+number_of refusals.Banned = Some 16
 number_of refusals.NoMemory = None
 
 -- the word
@@ -41,6 +42,7 @@ word_of refusals.Known = codes "known"
 word_of refusals.Conflict = codes "conflict"
 word_of refusals.UnknownNode = codes "unknown-node"
 word_of refusals.NotNewer = codes "not-newer"
+word_of refusals.Banned = codes "banned"
 word_of refusals.NoMemory = []
 
 -- the refusal of bytes that spell no message: a type outside the table is unknown-even or ignored, any other fault malformed

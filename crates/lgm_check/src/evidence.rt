@@ -5,7 +5,9 @@ use lgm_gossip::Point;
 /// What the caller found out about a message.
 #[derive(Clone, Copy, Debug, PartialEq, Eq)]
 pub struct Evidence {
+    /// The verdict on the signatures: four of an announcement of a channel, one of any other message.
     pub sig: Sig,
+    /// The verdict on the funding output, which only an announcement of a channel needs.
     pub funding: Funding,
 }
 

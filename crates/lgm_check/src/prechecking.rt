@@ -1,11 +1,18 @@
 //! The check of a message without a map.
 
-ghost use Rattle.std.specs.Prelude.{◌≡◌};
-ghost use Rattle.lgm_wire.specs.Reading.{Gives};
+ghost use Rattle.std.specs.Prelude.{◌≡◌, ℕ, ◌<◌, ◌⊎◌, List, Ok, IfOk, IsOk, MatchResult, slice_index};
+ghost use Rattle.lgm_wire.specs.Reading.{Sees, Gives};
+ghost use Rattle.lgm_gossip.specs.Memory.{GivesIf, TakesMemory};
+ghost use Rattle.lgm_gossip.specs.declared.chain_hash.ChainHash.{ChainHash};
+ghost use Rattle.lgm_check.specs.declared.evidence.Evidence.{Evidence};
+ghost use Rattle.lgm_check.specs.declared.row.Checked.{Checked};
+ghost use Rattle.lgm_check.specs.Raw.{bytes_of, IsLent};
+ghost use Rattle.lgm_check.specs.Accepted.{IsAccepted};
 ghost use Rattle.lgm_check.specs.Precheck.{require as requirement, has_lawful_points, are_in_order, capacity_of, is_all_four, is_private, signer_of};
 ghost use Rattle.lgm_check.specs.Precheck.{checked_announce, checked_update, checked_node, checked_of};
 
 use crate::evidence::{Evidence, Funding, Sig};
+use crate::raw::Raw;
 use crate::refusal::Refusal;
 use crate::row::{ChannelRow, Checked, NodeRow, UpdateRow};
 use lgm_gossip::{Announce, Bytes, ChainHash, ChannelUpdate, Message, NodeAnnounce, Point, decode};
@@ -14,12 +21,14 @@ use std::alloc::Global;
 /// The most satoshi that a channel can have: all that there will ever be.
 pub const MAX_SAT: u64 = 2_100_000_000_000_000;
 
+/// Nothing where the test holds, else the refusal.
 fn require(holds: bool, refusal: Refusal) -> Result<(), Refusal>
     ensures { result ≡ requirement holds refusal }
 {
     if holds { Ok(()) } else { Err(refusal) }
 }
 
+/// Whether the nodes and the bitcoin keys are compressed points, by their first byte.
 fn has_lawful_points(message: &Announce) -> bool
     ensures { result ≡ has_lawful_points message.now }
 {
@@ -29,6 +38,7 @@ fn has_lawful_points(message: &Announce) -> bool
         && message.bitcoin_key_2.lawful()
 }
 
+/// Whether node 1 is less than node 2, byte by byte.
 fn are_in_order(message: &Announce) -> bool
     ensures { result ≡ are_in_order message.now }
 {
@@ -45,28 +55,31 @@ fn capacity(funding: Funding) -> Result<u64, Refusal>
     }
 }
 
+/// Whether all four signatures are right.
 fn is_all_four(sig: Sig) -> bool
     ensures { result ≡ is_all_four sig }
 {
     matches!(sig, Sig::AllFour(true))
 }
 
+/// The row of a `channel_announcement`, or its first refusal.
 #[tactic(auto, unfolding(crate::specs::Precheck::checked_announce))]
 fn announce(
     alloc: Global,
     chain: &ChainHash,
     message: Announce,
-    bytes: &[u8],
+    raw: Raw,
     evidence: &Evidence,
 ) -> Result<Checked, Refusal>
-    ensures { Gives Refusal.NoMemory (λ c. c) result (checked_announce chain.now message bytes.now evidence.now) }
+    ensures { GivesIf (IsLent raw.entry × IsOk (checked_announce chain.now message (bytes_of raw.entry) evidence.now))
+        Refusal.NoMemory (λ c. c) result (checked_announce chain.now message (bytes_of raw.entry) evidence.now) }
 {
     require(message.chain_hash == *chain, Refusal::Chain)?;
     require(has_lawful_points(&message), Refusal::Point)?;
     require(are_in_order(&message), Refusal::NodeOrder)?;
     let sat = capacity(evidence.funding)?;
     require(is_all_four(evidence.sig), Refusal::Signature)?;
-    let raw = Bytes::from_slice(alloc, bytes)?;
+    let raw = raw.into_bytes(alloc)?;
     Ok(Checked::Channel(ChannelRow { message, sat, raw }))
 }
 
@@ -87,37 +100,62 @@ fn signer(sig: Sig) -> Result<Point, Refusal>
     }
 }
 
+/// The row of a `channel_update`, or its first refusal.
 #[tactic(auto, unfolding(crate::specs::Precheck::checked_update))]
 fn update(
     alloc: Global,
     chain: &ChainHash,
     message: ChannelUpdate,
-    bytes: &[u8],
+    raw: Raw,
     evidence: &Evidence,
 ) -> Result<Checked, Refusal>
-    ensures { Gives Refusal.NoMemory (λ c. c) result (checked_update chain.now message bytes.now evidence.now) }
+    ensures { GivesIf (IsLent raw.entry × IsOk (checked_update chain.now message (bytes_of raw.entry) evidence.now))
+        Refusal.NoMemory (λ c. c) result (checked_update chain.now message (bytes_of raw.entry) evidence.now) }
 {
     require(message.chain_hash == *chain, Refusal::Chain)?;
     require(!is_private(&message), Refusal::Private)?;
     let signer = signer(evidence.sig)?;
-    let raw = Bytes::from_slice(alloc, bytes)?;
+    let raw = raw.into_bytes(alloc)?;
     Ok(Checked::Update(UpdateRow { message, raw }, signer))
 }
 
+/// The row of a `node_announcement`, or its first refusal.
 #[tactic(auto, unfolding(crate::specs::Precheck::checked_node))]
 fn node(
     alloc: Global,
     message: NodeAnnounce,
-    bytes: &[u8],
+    raw: Raw,
     evidence: &Evidence,
 ) -> Result<Checked, Refusal>
-    ensures { Gives Refusal.NoMemory (λ c. c) result (checked_node message bytes.now evidence.now) }
+    ensures { GivesIf (IsLent raw.entry × IsOk (checked_node message (bytes_of raw.entry) evidence.now))
+        Refusal.NoMemory (λ c. c) result (checked_node message (bytes_of raw.entry) evidence.now) }
 {
     require(message.node_id.lawful(), Refusal::Point)?;
     let signer = signer(evidence.sig)?;
     require(signer == message.node_id, Refusal::Signature)?;
-    let raw = Bytes::from_slice(alloc, bytes)?;
+    let raw = raw.into_bytes(alloc)?;
     Ok(Checked::Node(NodeRow { message, raw }))
+}
+
+/// The row of any message, or its first refusal.
+#[tactic(auto, unfolding(crate::specs::Precheck::checked_of))]
+fn check(
+    alloc: Global,
+    chain: &ChainHash,
+    raw: Raw,
+    evidence: &Evidence,
+) -> Result<Checked, Refusal>
+    ensures exact { GivesIf (TakesMemory (bytes_of raw.entry)
+        ⊎ (IsLent raw.entry × IsOk (checked_of chain.now (bytes_of raw.entry) evidence.now)))
+        Refusal.NoMemory (λ c. c) result (checked_of chain.now (bytes_of raw.entry) evidence.now) }
+    ensures accepted { IfOk result (λ made. IsAccepted chain.now (bytes_of raw.entry) evidence.now made) }
+{
+    match decode(alloc, raw.as_slice())? {
+        Message::Announce(message) => announce(alloc, chain, message, raw, evidence),
+        Message::ChannelUpdate(message) => update(alloc, chain, message, raw, evidence),
+        Message::NodeAnnounce(message) => node(alloc, message, raw, evidence),
+        _ => Err(Refusal::NotGossip),
+    }
 }
 
 /// The row that a message would add to a map, or the first refusal of the order of [`Refusal`]'s numbers up to 10
@@ -128,19 +166,57 @@ fn node(
 /// channel 5 `chain`, 6 `point`, 7 `node-order`, 9 `funding` and 10 `signature` follow, for an update 5 `chain`,
 /// 8 `private` and 10 `signature` (nobody's), for an announcement of a node 6 `point` and 10 `signature` (not the
 /// node's). Any bytes of any length may be given.
-#[tactic(auto, unfolding(crate::specs::Precheck::checked_of))]
+///
+/// `NoMemory` is no verdict on the message: memory was refused for what [`decode`] keeps of it, or for the row's copy of
+/// an accepted message. No refusal needs memory but for what is decoded.
 pub fn precheck(
     alloc: Global,
     chain: &ChainHash,
     bytes: &[u8],
     evidence: &Evidence,
 ) -> Result<Checked, Refusal>
-    ensures { Gives Refusal.NoMemory (λ c. c) result (checked_of chain.now bytes.now evidence.now) }
+    // What is accepted is accepted rightly, and nothing else is.
+    ensures accepted { IfOk result (λ made. IsAccepted chain.now bytes.now evidence.now made) }
+    ensures only { (made : Checked) → IsAccepted chain.now bytes.now evidence.now made
+        → MatchResult result (λ found. found ≡ made) (λ e. e ≡ Refusal.NoMemory) }
+
+    // The row, or the first refusal of the order.
+    ensures exact { Gives Refusal.NoMemory (λ made. made) result (checked_of chain.now bytes.now evidence.now) }
+
+    // Memory can run out only where decoding asks for it, or for the copy of an accepted message.
+    ensures memory { Sees (λ made. made) result (checked_of chain.now bytes.now evidence.now)
+        ⊎ (TakesMemory bytes.now ⊎ IsOk (checked_of chain.now bytes.now evidence.now)) }
 {
-    match decode(alloc, bytes)? {
-        Message::Announce(message) => announce(alloc, chain, message, bytes, evidence),
-        Message::ChannelUpdate(message) => update(alloc, chain, message, bytes, evidence),
-        Message::NodeAnnounce(message) => node(alloc, message, bytes, evidence),
-        _ => Err(Refusal::NotGossip),
-    }
+    check(alloc, chain, Raw::Lent(bytes), evidence)
 }
+
+/// The same as [`precheck`], with bytes that move into the row: they aren't copied. Where the message is refused they
+/// are let go.
+pub fn precheck_owned(
+    alloc: Global,
+    chain: &ChainHash,
+    bytes: Bytes,
+    evidence: &Evidence,
+) -> Result<Checked, Refusal>
+    ensures accepted { IfOk result (λ made. IsAccepted chain.now bytes evidence.now made) }
+    ensures only { (made : Checked) → IsAccepted chain.now bytes evidence.now made
+        → MatchResult result (λ found. found ≡ made) (λ e. e ≡ Refusal.NoMemory) }
+    ensures exact { Gives Refusal.NoMemory (λ made. made) result (checked_of chain.now bytes evidence.now) }
+
+    // Memory can run out only where decoding asks for it.
+    ensures memory { Sees (λ made. made) result (checked_of chain.now bytes evidence.now) ⊎ TakesMemory bytes }
+{
+    check(alloc, chain, Raw::Given(bytes), evidence)
+}
+
+/// What is accepted: a law, of which the contract is the statement; the call does nothing.
+///
+/// Testing in the order of the refusals gives a row exactly where the message is one that is to be accepted, of one of
+/// three types, and the row is that of the message: its fields, its bytes, and what the evidence says of it.
+pub fn accepted_exactly()
+    ensures accepted { (chain : ChainHash) (bytes : List ℕ) (evidence : Evidence) (made : Checked)
+        → ((i : ℕ) → slice_index bytes i < 256)
+        → checked_of chain bytes evidence ≡ Ok made → IsAccepted chain bytes evidence made }
+    ensures only { (chain : ChainHash) (bytes : List ℕ) (evidence : Evidence) (made : Checked)
+        → IsAccepted chain bytes evidence made → checked_of chain bytes evidence ≡ Ok made }
+{}

@@ -8,7 +8,7 @@ use lgm_gossip::DecodeFault;
 use std::alloc::AllocError;
 use thiserror::Error;
 
-/// Why an item isn't accepted, in the order in which the reasons are looked for, or want of memory.
+/// Why an item isn't accepted, or want of memory. The reasons have numbers and words, with which outcomes are written.
 #[derive(Clone, Copy, Debug, PartialEq, Eq, Error)]
 pub enum Refusal {
     /// 1: the bytes spell no message.
@@ -47,7 +47,7 @@ pub enum Refusal {
     /// 12: the channel is held, between the same nodes.
     #[error("known")]
     Known,
-    /// 13: the channel is held, between other nodes.
+    /// 13: the channel is held, between other nodes. It is never given: such an announcement bans the nodes of both.
     #[error("conflict")]
     Conflict,
     /// 14: no held channel ends at the node.
@@ -56,13 +56,16 @@ pub enum Refusal {
     /// 15: the held update or node announcement is as new, or newer.
     #[error("not-newer")]
     NotNewer,
+    /// 16: a node of the message is banned.
+    #[error("banned")]
+    Banned,
     /// Memory was refused. This is no outcome, and has no number and no word.
     #[error("out of memory")]
     NoMemory,
 }
 
 impl Refusal {
-    /// Its number, 1 to 15. Want of memory has none.
+    /// Its number, 1 to 16. Want of memory has none.
     pub fn number(self) -> Option<u8>
         ensures { result ≡ number_of self }
     {
@@ -82,6 +85,7 @@ impl Refusal {
             Refusal::Conflict => Some(13),
             Refusal::UnknownNode => Some(14),
             Refusal::NotNewer => Some(15),
+            Refusal::Banned => Some(16),
             Refusal::NoMemory => None,
         }
     }
@@ -106,6 +110,7 @@ impl Refusal {
             Refusal::Conflict => "conflict",
             Refusal::UnknownNode => "unknown-node",
             Refusal::NotNewer => "not-newer",
+            Refusal::Banned => "banned",
             Refusal::NoMemory => "",
         }
     }

@@ -110,6 +110,20 @@ impl NodeRow {
     }
 }
 
+/// The nodes of two announcements of one channel that don't agree on them, some perhaps equal. Both were lawful, so all
+/// four are banned.
+#[derive(Clone, Copy, Debug, PartialEq, Eq)]
+pub struct BanRow {
+    /// Node 1 of the channel that was held.
+    pub held1: Point,
+    /// Node 2 of the channel that was held.
+    pub held2: Point,
+    /// Node 1 of the new announcement.
+    pub new1: Point,
+    /// Node 2 of the new announcement.
+    pub new2: Point,
+}
+
 /// A message that is lawful by itself, as the row to be.
 #[derive(Debug, Drop)]
 pub enum Checked {
