@@ -1,6 +1,6 @@
 -- Rows that ascend.
 use Rattle.std.proofs.Common.{◌≡◌, ℕ, Bool, true, false, cond, List, [], ◌∷◌, ◌++◌, refl, sym, ap, ◌∙◌}
-use Rattle.std.specs.Prelude.{is_some, if◌then◌else◌}
+use Rattle.std.specs.Prelude.{is_some, ◌||◌, if◌then◌else◌}
 use Rattle.std.specs.List.{AllByRecursion, filter}
 use Rattle.std.specs.List.Sorted.{IsStrictlySortedBy}
 use Rattle.std.specs.Map.{keys_of, values_of}
@@ -13,11 +13,12 @@ use Rattle.lgm_gossip.specs.declared.point.Point.{Point}
 use Rattle.lgm_check.specs.declared.row.ChannelRow.{ChannelRow}
 use Rattle.lgm_check.specs.declared.row.UpdateRow.{UpdateRow}
 use Rattle.lgm_check.specs.declared.row.NodeRow.{NodeRow}
+use Rattle.lgm_check.specs.declared.row.BanRow.{BanRow}
 use Rattle.lgm_store.specs.declared.op.Op.{Op}
 use Rattle.lgm_store.specs.declared.op.Op.TheVariants as ops
 use Rattle.lgm_store.specs.Keyed.{IsKeyed}
-use Rattle.lgm_store.specs.Rows.{Rows, IsAscending, empty, put, by_id, by_direction, by_node, channel_of, ends_channel}
-use Rattle.lgm_store.specs.History.{absorbed, fold_from, fold, channels_without, updates_without, ended_nodes}
+use Rattle.lgm_store.specs.Rows.{Rows, IsAscending, empty, put, by_id, by_direction, by_node, by_point, channel_of, ends_channel, ends_banned}
+use Rattle.lgm_store.specs.History.{absorbed, fold_from, fold, with_banned, channels_without, updates_without, ended_nodes}
 use Rattle.lgm_store.specs.Ends.{point_cmp}
 use Rattle.lgm_store.specs.Sound.{direction_cmp, IsSound, id_of, direction_of, point_of}
 use Rattle.lgm_store.proofs.Lists.{direction_total, node_total}
@@ -36,13 +37,17 @@ module _ {K R : Type 0} (cmp : K → K → Ordering) (key : R → K) where
   ascend-values [] keyed sorted = tt
   ascend-values (e ∷ es) keyed sorted = (above_all e.0 e.1 es keyed.0 keyed.1 sorted.0, ascend-values es keyed.1 sorted.1)
 
+pub ascend-channels : (entries : List (ℕ × ChannelRow)) → IsKeyed id_of entries → IsStrictlySortedBy nat_cmp (keys_of entries) → IsStrictlySortedBy by_id (values_of entries)
+ascend-channels entries keyed sorted = ascend-values nat_cmp id_of entries keyed sorted
+
 pub IsAscending-sound : (channels : List (ℕ × ChannelRow)) (updates : List ((ℕ × Bool) × UpdateRow)) (nodes : List (Point × NodeRow)) (ends : List (Point × ℕ)) (rows : Rows)
-    → IsSound channels updates nodes ends → values_of channels ≡ rows.channels → values_of updates ≡ rows.updates → values_of nodes ≡ rows.nodes → IsAscending rows
-IsAscending-sound channels updates nodes ends rows sound c u n =
+    → IsSound channels updates nodes ends → IsStrictlySortedBy point_cmp rows.banned → values_of channels ≡ rows.channels → values_of updates ≡ rows.updates → values_of nodes ≡ rows.nodes → IsAscending rows
+IsAscending-sound channels updates nodes ends rows sound banned c u n =
     record {
       channels = rw (← c) (ascend-values nat_cmp id_of channels sound.channels_keyed sound.channels_ascend);
       updates = rw (← u) (ascend-values direction_cmp direction_of updates sound.updates_keyed sound.updates_ascend);
       nodes = rw (← n) (ascend-values point_cmp point_of nodes sound.nodes_keyed sound.nodes_ascend);
+      banned = banned;
     }
 
 -- ---- the rows of a history
@@ -114,21 +119,27 @@ by_direction_total = on_total direction_of direction_total
 by_node_total : IsTotalOrder by_node
 by_node_total = on_total point_of node_total
 
+-- points more
+pub ascend-with_banned : (points : List Point) (ban : BanRow) → IsStrictlySortedBy by_point points → IsStrictlySortedBy by_point (with_banned points ban)
+ascend-with_banned points ban ascend =
+    let put-point : (ps : List Point) (p : Point) → IsStrictlySortedBy by_point ps → IsStrictlySortedBy by_point (put by_point ps p) = λ ps p a. ascend-put by_point node_total ps p a in
+    put-point _ ban.new2 (put-point _ ban.new1 (put-point _ ban.held2 (put-point points ban.held1 ascend)))
+
 pub IsAscending-absorbed : (rows : Rows) (op : Op) → IsAscending rows → IsAscending (absorbed rows op)
-IsAscending-absorbed rows (ops.Channel row) ascend = by (is_some (channel_of rows.channels row.message.short_channel_id))
+IsAscending-absorbed rows (ops.Channel row) ascend = by (is_some (channel_of rows.channels row.message.short_channel_id) || ends_banned rows.banned row)
   where
     by : (b : Bool) → IsAscending (if b then rows else record rows { channels = put by_id rows.channels row })
     by true = ascend
-    by false = record { channels = ascend-put by_id id_total rows.channels row ascend.channels; updates = ascend.updates; nodes = ascend.nodes }
+    by false = record { channels = ascend-put by_id id_total rows.channels row ascend.channels; updates = ascend.updates; nodes = ascend.nodes; banned = ascend.banned }
 IsAscending-absorbed rows (ops.Update row) ascend = by (is_some (channel_of rows.channels row.message.short_channel_id))
   where
     by : (b : Bool) → IsAscending (if b then record rows { updates = put by_direction rows.updates row } else rows)
-    by true = record { channels = ascend.channels; updates = ascend-put by_direction by_direction_total rows.updates row ascend.updates; nodes = ascend.nodes }
+    by true = record { channels = ascend.channels; updates = ascend-put by_direction by_direction_total rows.updates row ascend.updates; nodes = ascend.nodes; banned = ascend.banned }
     by false = ascend
 IsAscending-absorbed rows (ops.Node row) ascend = by (ends_channel rows.channels row.message.node_id)
   where
     by : (b : Bool) → IsAscending (if b then record rows { nodes = put by_node rows.nodes row } else rows)
-    by true = record { channels = ascend.channels; updates = ascend.updates; nodes = ascend-put by_node by_node_total rows.nodes row ascend.nodes }
+    by true = record { channels = ascend.channels; updates = ascend.updates; nodes = ascend-put by_node by_node_total rows.nodes row ascend.nodes; banned = ascend.banned }
     by false = ascend
 IsAscending-absorbed rows (ops.Close id) ascend = by (is_some (channel_of rows.channels id))
   where
@@ -136,13 +147,22 @@ IsAscending-absorbed rows (ops.Close id) ascend = by (is_some (channel_of rows.c
       channels = channels_without rows.channels id;
       updates = updates_without rows.updates id;
       nodes = ended_nodes (channels_without rows.channels id) rows.nodes;
+      banned = rows.banned;
     } else rows)
     by true = record {
       channels = ascend-filter by_id _ rows.channels ascend.channels;
       updates = ascend-filter by_direction _ rows.updates ascend.updates;
       nodes = ascend-filter by_node _ rows.nodes ascend.nodes;
+      banned = ascend.banned;
     }
     by false = ascend
+IsAscending-absorbed rows (ops.Ban ban) ascend =
+    record {
+      channels = ascend-filter by_id _ rows.channels ascend.channels;
+      updates = ascend-filter by_direction _ rows.updates ascend.updates;
+      nodes = ascend-filter by_node _ rows.nodes ascend.nodes;
+      banned = ascend-with_banned rows.banned ban ascend.banned;
+    }
 
 fold_from-ascends : (rows : Rows) (history : List Op) → IsAscending rows → IsAscending (fold_from rows history)
 fold_from-ascends rows [] ascend = ascend
@@ -150,4 +170,4 @@ fold_from-ascends rows (op ∷ others) ascend = fold_from-ascends (absorbed rows
 
 pub fold-ascends : (history : List Op) → IsAscending (fold history)
 unfolding IsStrictlySortedBy
-fold-ascends history = fold_from-ascends empty history (record { channels = tt; updates = tt; nodes = tt })
+fold-ascends history = fold_from-ascends empty history (record { channels = tt; updates = tt; nodes = tt; banned = tt })

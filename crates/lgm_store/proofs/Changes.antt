@@ -1,6 +1,6 @@
 -- What operations do to rows, from what the maps that keep them did.
-use Rattle.std.proofs.Common.{◌≡◌, ℕ, true, false, List, Option, Some, None, Bor, refl, sym, ap, ◌∙◌}
-use Rattle.std.specs.Prelude.{is_some}
+use Rattle.std.proofs.Common.{◌≡◌, ℕ, Bool, true, false, List, Option, Some, None, Bor, refl, sym, ap, ◌∙◌}
+use Rattle.std.specs.Prelude.{is_some, ◌||◌, if◌then◌else◌}
 use Rattle.std.specs.Option.{option_copied, option_map}
 use Rattle.std.specs.Map.{lookup, values_of}
 use Rattle.std.specs.BTreeMap.{is_at}
@@ -11,7 +11,7 @@ use Rattle.lgm_check.specs.declared.row.NodeRow.{NodeRow}
 use Rattle.lgm_store.specs.declared.held.Held.{Held}
 use Rattle.lgm_store.specs.Keyed.{IsKeyed}
 use Rattle.lgm_store.specs.Held.{channel_entries}
-use Rattle.lgm_store.specs.Rows.{Rows, put, by_id, by_direction, by_node, channel_of, ends_channel}
+use Rattle.lgm_store.specs.Rows.{Rows, put, by_id, by_direction, by_node, channel_of, ends_channel, ends_banned}
 use Rattle.lgm_store.specs.History.{with_channel, with_update, with_node, without_channel, channels_without, updates_without, ended_nodes}
 use Rattle.lgm_store.specs.Sound.{id_of}
 use Rattle.lgm_store.proofs.Lists.{lookup-channel}
@@ -43,24 +43,35 @@ pub not_held : (entries : List (ℕ × Held)) (rows : List ChannelRow) (id : ℕ
 not_held entries rows id keyed is none = none_from (lookup (is_at (nat_cmp id)) entries) (is_held entries rows id keyed is ∙ none)
 
 pub with_channel-new : (rows new : Rows) (row : ChannelRow) → is_some (channel_of rows.channels row.message.short_channel_id) ≡ false
-    → new.channels ≡ put by_id rows.channels row → new.updates ≡ rows.updates → new.nodes ≡ rows.nodes → new ≡ with_channel rows row
-with_channel-new rows new row none c u n = rw (none, ← c, ← u, ← n) refl
+    → ends_banned rows.banned row ≡ false
+    → new.channels ≡ put by_id rows.channels row → new.updates ≡ rows.updates → new.nodes ≡ rows.nodes → new.banned ≡ rows.banned → new ≡ with_channel rows row
+with_channel-new rows new row none allowed c u n b = rw (none, allowed, ← c, ← u, ← n, ← b) refl
+
+pub with_channel-held : (rows : Rows) (row : ChannelRow) → is_some (channel_of rows.channels row.message.short_channel_id) ≡ true → rows ≡ with_channel rows row
+with_channel-held rows row held = rw held refl
+
+pub with_channel-banned : (rows : Rows) (row : ChannelRow) → ends_banned rows.banned row ≡ true → rows ≡ with_channel rows row
+with_channel-banned rows row banned = by (is_some (channel_of rows.channels row.message.short_channel_id))
+  where
+    by : (b : Bool) → rows ≡ (if b || ends_banned rows.banned row then rows else record rows { channels = put by_id rows.channels row })
+    by true = refl
+    by false = rw banned refl
 
 pub with_update-new : (rows new : Rows) (row : UpdateRow) → is_some (channel_of rows.channels row.message.short_channel_id) ≡ true
-    → new.channels ≡ rows.channels → new.updates ≡ put by_direction rows.updates row → new.nodes ≡ rows.nodes → new ≡ with_update rows row
-with_update-new rows new row held c u n = rw (held, ← c, ← u, ← n) refl
+    → new.channels ≡ rows.channels → new.updates ≡ put by_direction rows.updates row → new.nodes ≡ rows.nodes → new.banned ≡ rows.banned → new ≡ with_update rows row
+with_update-new rows new row held c u n b = rw (held, ← c, ← u, ← n, ← b) refl
 
 pub with_update-none : (rows : Rows) (row : UpdateRow) → is_some (channel_of rows.channels row.message.short_channel_id) ≡ false → rows ≡ with_update rows row
 with_update-none rows row none = rw none refl
 
 pub with_node-new : (rows new : Rows) (row : NodeRow) → ends_channel rows.channels row.message.node_id ≡ true
-    → new.channels ≡ rows.channels → new.updates ≡ rows.updates → new.nodes ≡ put by_node rows.nodes row → new ≡ with_node rows row
-with_node-new rows new row ended c u n = rw (ended, ← c, ← u, ← n) refl
+    → new.channels ≡ rows.channels → new.updates ≡ rows.updates → new.nodes ≡ put by_node rows.nodes row → new.banned ≡ rows.banned → new ≡ with_node rows row
+with_node-new rows new row ended c u n b = rw (ended, ← c, ← u, ← n, ← b) refl
 
 pub without_channel-held : (rows new : Rows) (id : ℕ) → is_some (channel_of rows.channels id) ≡ true
     → new.channels ≡ channels_without rows.channels id → new.updates ≡ updates_without rows.updates id → new.nodes ≡ ended_nodes (channels_without rows.channels id) rows.nodes
-    → new ≡ without_channel rows id
-without_channel-held rows new id held c u n = rw (held, ← n, ← c, ← u) refl
+    → new.banned ≡ rows.banned → new ≡ without_channel rows id
+without_channel-held rows new id held c u n b = rw (held, ← n, ← c, ← u, ← b) refl
 
 pub without_channel-none : (rows : Rows) (id : ℕ) → is_some (channel_of rows.channels id) ≡ false → rows ≡ without_channel rows id
 without_channel-none rows id none = rw none refl

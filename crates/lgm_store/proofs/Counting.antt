@@ -40,9 +40,9 @@ number_at-counts entries number p counts = rw (counts p) (unwrap_or-kept (number
 pub Sets-none : (old : List (Point × ℕ)) (p : Point) → entry_of old p ≡ None → Sets old old p (number_at old p - 1)
 Sets-none old p none q = by (is_point p q) refl
   where
-    by : (b : Bool) → is_point p q ≡ b → entry_of old q ≡ cond (is_at (point_cmp p) q) (kept (number_at old p - 1)) (entry_of old q)
-    by true is = rw (is_at-point p q, is, none) (ap (entry_of old) (sym (same_point p q is)) ∙ none)
-    by false is = rw (is_at-point p q, is) refl
+    by : (b : Bool) → is_point p q ≡ b → entry_of old q ≡ cond (is_point p q) (kept (number_at old p - 1)) (entry_of old q)
+    by true is = rw (is, none) (ap (entry_of old) (sym (same_point p q is)) ∙ none)
+    by false is = rw is refl
 
 -- an index in which a point has another number
 pub Counts-set : (old new : List (Point × ℕ)) (p : Point) (n : ℕ) (number other : Point → ℕ) → Sets old new p n
@@ -50,8 +50,8 @@ pub Counts-set : (old new : List (Point × ℕ)) (p : Point) (n : ℕ) (number o
 Counts-set old new p n number other sets counts here apart q = by (is_point p q) refl
   where
     by : (b : Bool) → is_point p q ≡ b → entry_of new q ≡ kept (other q)
-    by true is = sets q ∙ rw (is_at-point p q, is) (ap kept here ∙ ap (λ (x : Point). kept (other x)) (same_point p q is))
-    by false is = sets q ∙ rw (is_at-point p q, is) (counts q ∙ ap kept (apart q is))
+    by true is = sets q ∙ rw is (ap kept here ∙ ap (λ (x : Point). kept (other x)) (same_point p q is))
+    by false is = sets q ∙ rw is (counts q ∙ ap kept (apart q is))
 
 -- how many of two points a point is, both counting once
 abbrev pub either : Point → Point → Point → ℕ
@@ -69,13 +69,12 @@ Counts-add_same old new p other number same sets counts =
 pub number_at-apart : (old mid : List (Point × ℕ)) (first second : Point) (n : ℕ) → is_point second first ≡ false → Sets old mid first n
     → number_at mid second ≡ number_at old second
 number_at-apart old mid first second n apart sets =
-    let other : is_at (point_cmp first) second ≡ false = is_at-point first second ∙ nat_list_eq_equiv.symm first.0 second.0 ∙ apart in
+    let other : is_point first second ≡ false = nat_list_eq_equiv.symm first.0 second.0 ∙ apart in
     ap (λ o. unwrap_or o 0) (rw other at (sets second))
 
 number_at-here : (old mid : List (Point × ℕ)) (p : Point) (n : ℕ) → Sets old mid p n → number_at mid p ≡ n
 number_at-here old mid p n sets =
-    let here : is_at (point_cmp p) p ≡ true = is_at-point p p ∙ is_point-self p in
-    ap (λ o. unwrap_or o 0) (rw here at (sets p)) ∙ unwrap_or-kept n
+    ap (λ o. unwrap_or o 0) (rw is_point-self at (sets p)) ∙ unwrap_or-kept n
 
 -- one more at each of two points
 pub Counts-add : (old mid new : List (Point × ℕ)) (first second : Point) (number : Point → ℕ) → is_point second first ≡ false
@@ -106,8 +105,8 @@ Counts-undo old mid new p number sets sets' counts q = by (is_point p q) refl
     by : (b : Bool) → is_point p q ≡ b → entry_of new q ≡ kept (number q)
     by true is =
         let here : number_at mid p - 1 ≡ number p = let n = number_at-here old mid p (number_at old p + 1) sets in let k = number_at-counts old number p counts in omega arith in
-        sets' q ∙ rw (is_at-point p q, is) (ap kept here ∙ ap (λ (x : Point). kept (number x)) (same_point p q is))
-    by false is = sets' q ∙ rw (is_at-point p q, is) (sets q ∙ rw (is_at-point p q, is) (counts q))
+        sets' q ∙ rw is (ap kept here ∙ ap (λ (x : Point). kept (number x)) (same_point p q is))
+    by false is = sets' q ∙ rw is (sets q ∙ rw is (counts q))
 
 -- one less at two points that are one
 pub Counts-remove_same : (old new : List (Point × ℕ)) (p other : Point) (number : Point → ℕ) → is_point other p ≡ true
@@ -142,15 +141,15 @@ Counts-remove old mid new first second number apart sets sets' counts =
 
 -- a number above 0, put at a point
 pub Sets-put : (old inside new : List (Point × ℕ)) (p : Point) (n m : ℕ) → inside ≡ old → n ≡ m → 0 < m
-    → ((q : Point) → entry_of new q ≡ cond (is_at (point_cmp p) q) (Some n) (entry_of inside q)) → Sets old new p m
+    → ((q : Point) → entry_of new q ≡ cond (is_point p q) (Some n) (entry_of inside q)) → Sets old new p m
 Sets-put old inside new p n m view_is is above puts q = rw (kept-above m above, ← is, ← view_is) (puts q)
 
 -- a point taken out
 pub Sets-out : (old inside mid new : List (Point × ℕ)) (p : Point) (n m : ℕ) → inside ≡ old → m ≡ 0
-    → ((q : Point) → entry_of mid q ≡ cond (is_at (point_cmp p) q) (Some n) (entry_of inside q))
-    → ((q : Point) → entry_of new q ≡ cond (is_at (point_cmp p) q) None (entry_of mid q)) → Sets old new p m
-Sets-out old inside mid new p n m view_is none written out q = by (is_at (point_cmp p) q) refl
+    → ((q : Point) → entry_of mid q ≡ cond (is_point p q) (Some n) (entry_of inside q))
+    → ((q : Point) → entry_of new q ≡ cond (is_point p q) None (entry_of mid q)) → Sets old new p m
+Sets-out old inside mid new p n m view_is none written out q = by (is_point p q) refl
   where
-    by : (b : Bool) → is_at (point_cmp p) q ≡ b → entry_of new q ≡ cond (is_at (point_cmp p) q) (kept m) (entry_of old q)
+    by : (b : Bool) → is_point p q ≡ b → entry_of new q ≡ cond (is_point p q) (kept m) (entry_of old q)
     by true is = out q ∙ rw (is, none) refl
     by false is = out q ∙ rw (is, written q, is) (ap (λ es. entry_of es q) view_is)

@@ -7,3 +7,6 @@ pub mod Changes
 pub mod Walking
 pub mod Histories
 pub mod Ascending
+pub mod Bans
+pub mod HeldRows
+pub mod Lawful

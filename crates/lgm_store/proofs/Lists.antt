@@ -105,7 +105,7 @@ values-update entries new k row own is keyed sorted = rw (is, own) (values-inser
 pub node_total : IsTotalOrder point_cmp
 node_total = on_total (λ (p : Point). p.0) nat_list_cmp_total
 
-same_node : (a b : Point) → point_cmp a b ≡ Equal → a ≡ b
+pub same_node : (a b : Point) → point_cmp a b ≡ Equal → a ≡ b
 same_node a b e =
     let bytes : a.0 ≡ b.0 = exact_bytes a.0 b.0 e in
     ap (λ (x : List ℕ). let point : Point = record { 0 = x } in point) bytes

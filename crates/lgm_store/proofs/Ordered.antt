@@ -1,5 +1,5 @@
 -- Ordered maps and the rows that they hold: looking a row up, and putting one in its place.
-use Rattle.std.proofs.Common.{◌≡◌, Bool, true, false, not, ◌&&◌, cond, List, [], ◌∷◌, ◌++◌, append_assoc, refl, sym, ap, ◌∙◌}
+use Rattle.std.proofs.Common.{◌≡◌, Bool, true, false, not, ◌&&◌, cond, List, [], ◌∷◌, refl, sym, ap, ◌∙◌}
 use Rattle.std.specs.List.{AllByRecursion, filter, find}
 use Rattle.std.specs.Map.{lookup, remove_entry, keys_of, values_of}
 use Rattle.std.specs.BTreeMap.{is_at, insert_entry}
@@ -118,27 +118,6 @@ module _ {K R : Type 0} (cmp : K → K → Ordering) (key : R → K) where
       by : IsKeyed key (remove_entry test es) → (b : Bool) → IsKeyed key (cond b es (e ∷ remove_entry test es))
       by others true = keyed.1
       by others false = (keyed.0, others)
-
--- a key above all others is put at the end
-pub insert_entry-last : {K R : Type 0} (cmp : K → K → Ordering) → IsTotalOrder cmp → (entries : List (K × R)) (k : K) (row : R) (rest : List (K × R))
-    → IsStrictlySortedBy cmp (keys_of (entries ++ (k, row) ∷ rest)) → insert_entry cmp entries k row ≡ entries ++ (k, row) ∷ []
-unfolding IsStrictlySortedBy
-insert_entry-last {K} {R} cmp total [] k row rest sorted = refl
-insert_entry-last {K} {R} cmp total (e ∷ es) k row rest sorted =
-    let above : cmp k e.0 ≡ Greater = total.antisymm k e.0 ∙ ap ordering_reverse (last es sorted.0) in
-    rw (above, insert_entry-last cmp total es k row rest sorted.1) refl
-  where
-    last : (fs : List (K × R)) → AllByRecursion (λ other. cmp e.0 other ≡ Less) (keys_of (fs ++ (k, row) ∷ rest)) → cmp e.0 k ≡ Less
-    last [] a = a.0
-    last (f ∷ fs) a = last fs a.1
-
--- a copy, one entry longer
-pub insert_entry-more : {K R : Type 0} (cmp : K → K → Ordering) → IsTotalOrder cmp → (all copy left rest new : List (K × R)) (k : K) (row made : R)
-    → copy ++ left ≡ all → left ≡ (k, row) ∷ rest → made ≡ row → new ≡ insert_entry cmp copy k made → IsStrictlySortedBy cmp (keys_of all) → new ++ rest ≡ all
-insert_entry-more {K} {R} cmp total all copy left rest new k row made parts first same is sorted =
-    let whole : copy ++ (k, row) ∷ rest ≡ all = ap (λ (es : List (K × R)). copy ++ es) (sym first) ∙ parts in
-    let ascend : IsStrictlySortedBy cmp (keys_of (copy ++ (k, row) ∷ rest)) = rw whole sorted in
-    rw (is, same, insert_entry-last cmp total copy k row rest ascend) (append_assoc copy ((k, row) ∷ []) rest ∙ whole)
 
 -- ---- tests that answer alike
 

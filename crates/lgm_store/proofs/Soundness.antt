@@ -297,7 +297,7 @@ ended_nodes-left channels new ends first second nodes counts index ended =
     along (row ∷ rows) ended = (stays channels new ends first second row counts index ended.0, along rows ended.1)
 
 -- at those a channel ends
-AreEnded-ended_nodes : (channels : List ChannelRow) (nodes : List NodeRow) → AreEnded channels (ended_nodes channels nodes)
+pub AreEnded-ended_nodes : (channels : List ChannelRow) (nodes : List NodeRow) → AreEnded channels (ended_nodes channels nodes)
 AreEnded-ended_nodes channels [] = tt
 AreEnded-ended_nodes channels (row ∷ rows) = by (AreEnded-ended_nodes channels rows) (ends_channel channels row.message.node_id) refl
   where

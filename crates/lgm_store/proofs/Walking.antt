@@ -14,7 +14,7 @@ use Rattle.lgm_check.specs.declared.row.ChannelRow.{ChannelRow}
 use Rattle.lgm_check.specs.declared.row.NodeRow.{NodeRow}
 use Rattle.lgm_store.specs.Keyed.{IsKeyed}
 use Rattle.lgm_store.specs.Ends.{point_cmp}
-use Rattle.lgm_store.specs.Reading.{next_channel_of, next_node_of, block_of, is_between, ids_between_of}
+use Rattle.lgm_store.specs.Reading.{next_channel_of, next_node_of, block_of, is_between}
 use Rattle.lgm_store.specs.Sound.{id_of, point_of}
 use Rattle.lgm_store.specs.Start.{start_after, IsEndBefore}
 
@@ -98,7 +98,7 @@ forward (Excluded b) start from to least below end_is = not_above start b (omega
 forward Unbounded start from to least below end_is = tt
 
 -- what is between the blocks is in the range
-within : (end : Bound ℕ) (start from to id : ℕ) → ((id : ℕ) → id < start → block_of id < from) → IsEndBefore to end → is_between id from to ≡ true
+pub within : (end : Bound ℕ) (start from to id : ℕ) → ((id : ℕ) → id < start → block_of id < from) → IsEndBefore to end → is_between id from to ≡ true
     → range_contains nat_cmp (Included start) end id ≡ true
 within end start from to id earlier end_is between = rw (low (is_le (nat_cmp start id)) refl, high end end_is) refl
   where
@@ -129,20 +129,13 @@ within end start from to id earlier end_is between = rw (low (is_le (nat_cmp sta
         rw (not_up_to id b id_before) refl
     high Unbounded end_is = refl
 
-pub ids_between-range : (entries : List (ℕ × ChannelRow)) (end : Bound ℕ) (start from to : ℕ) → IsKeyed id_of entries
-    → ((id : ℕ) → id < start → block_of id < from) → IsEndBefore to end
-    → filter (λ id. is_between id from to) (map (λ e. e.0) (entries_between nat_cmp (Included start) end entries)) ≡ ids_between_of (values_of entries) from to
-ids_between-range entries end start from to keyed earlier end_is =
-    filter-filter_keys (λ id. is_between id from to) (λ e. range_contains nat_cmp (Included start) end e.0) (λ e. within end start from to e.0 earlier end_is) entries
-    ∙ ap (filter (λ id. is_between id from to)) (keys-keyed id_of entries keyed)
+-- a range from an id to itself doesn't run backwards
+pub backward : (start : ℕ) → is_gt (nat_cmp start start) ≡ false
+backward start = grind (arith, nat_tests)
 
--- no block is between, the wrong way round
-pub ids_between-none : (rows : List ChannelRow) (from to : ℕ) → to ≤ from → ids_between_of rows from to ≡ []
-ids_between-none rows from to le = along (map id_of rows)
-  where
-    no : (id : ℕ) → is_between id from to ≡ false
-    no id = grind (arith, nat_tests)
-
-    along : (ids : List ℕ) → filter (λ id. is_between id from to) ids ≡ []
-    along [] = refl
-    along (id ∷ ids) = rw (no id, along ids) refl
+-- no id is between blocks, the wrong way round
+pub never : (id from to : ℕ) → to ≤ from → is_between id from to ≡ true → ⊥
+never id from to le between =
+    let no : is_between id from to ≡ false = grind (arith, nat_tests) in
+    let never : true ≡ false = sym between ∙ no in
+    absurd cc

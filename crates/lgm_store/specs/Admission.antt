@@ -1,10 +1,11 @@
 -- Whether an item is admitted to a map of these rows.
-use Rattle.std.specs.Prelude.{ℕ, Bool, true, ◌&&◌, nat_lt, is_some, Option, Some, None, Result, Ok, Err, if◌then◌else◌}
+use Rattle.std.specs.Prelude.{◌≡◌, ◌⊎◌, ℕ, Bool, true, not, ◌&&◌, nat_lt, List, is_some, Option, Some, None, Result, Ok, Err, if◌then◌else◌}
 use Rattle.lgm_wire.specs.Reading.{◌>>=◌}
 use Rattle.lgm_gossip.specs.declared.point.Point.{Point}
 use Rattle.lgm_check.specs.declared.row.ChannelRow.{ChannelRow}
 use Rattle.lgm_check.specs.declared.row.UpdateRow.{UpdateRow}
 use Rattle.lgm_check.specs.declared.row.NodeRow.{NodeRow}
+use Rattle.lgm_check.specs.declared.row.BanRow.{BanRow}
 use Rattle.lgm_check.specs.declared.row.Checked.{Checked}
 use Rattle.lgm_check.specs.declared.row.Checked.TheVariants as messages
 use Rattle.lgm_check.specs.declared.refusal.Refusal.{Refusal}
@@ -12,22 +13,32 @@ use Rattle.lgm_check.specs.declared.refusal.Refusal.TheVariants as refusals
 use Rattle.lgm_check.specs.Precheck.{require}
 use Rattle.lgm_store.specs.declared.op.Op.{Op}
 use Rattle.lgm_store.specs.declared.op.Op.TheVariants as ops
-use Rattle.lgm_store.specs.Rows.{Rows, is_point, is_second, channel_of, update_of, node_of, ends_channel}
-
--- what an admitted message does
-abbrev pub op_of : Checked → Op
-op_of (messages.Channel row) = ops.Channel row
-op_of (messages.Update row signer) = ops.Update row
-op_of (messages.Node row) = ops.Node row
+use Rattle.lgm_store.specs.Rows.{Rows, is_point, is_second, channel_of, update_of, node_of, ends_channel, is_banned, ends_banned}
 
 -- two rows are between the same nodes
 abbrev pub have_same_nodes : ChannelRow → ChannelRow → Bool
 have_same_nodes a b = is_point a.message.node_id_1 b.message.node_id_1 && is_point a.message.node_id_2 b.message.node_id_2
 
--- an announcement of a channel, beside the held row of its id: known if that is between the same nodes, conflict if not
-abbrev pub channel_admission : Option ChannelRow → ChannelRow → Result (Unit {0}) Refusal
-channel_admission None row = Ok tt
-channel_admission (Some held) row = Err (if have_same_nodes held row then refusals.Known else refusals.Conflict)
+-- the nodes of two channels
+abbrev pub ban_of : ChannelRow → ChannelRow → BanRow
+ban_of held row = record {
+  held1 = held.message.node_id_1;
+  held2 = held.message.node_id_2;
+  new1 = row.message.node_id_1;
+  new2 = row.message.node_id_2;
+}
+
+-- an announcement of a channel that has no banned node, beside the held row of its id: it adds a channel if there is
+-- none, is known if that is between the same nodes, and bans the nodes of both if not
+abbrev pub announced : Option ChannelRow → ChannelRow → Result Op Refusal
+announced None row = Ok (ops.Channel row)
+announced (Some held) row = if have_same_nodes held row then Err refusals.Known else Ok (ops.Ban (ban_of held row))
+
+-- an announcement of a channel, beside the banned points and the held row of its id
+abbrev pub channel_admission : List Point → Option ChannelRow → ChannelRow → Result Op Refusal
+channel_admission banned held row = do
+  allowed ← require (not (ends_banned banned row)) refusals.Banned
+  announced held row
 
 -- the node that an update is by
 abbrev pub node_by : ChannelRow → UpdateRow → Point
@@ -39,34 +50,47 @@ update_is_newer None row = true
 update_is_newer (Some held) row = nat_lt held.message.timestamp row.message.timestamp
 
 -- an update, beside the held rows of its channel and of its direction
-abbrev pub update_admission : Option ChannelRow → Option UpdateRow → UpdateRow → Point → Result (Unit {0}) Refusal
+abbrev pub update_admission : Option ChannelRow → Option UpdateRow → UpdateRow → Point → Result Op Refusal
 update_admission None held row signer = Err refusals.UnknownChannel
 update_admission (Some channel) held row signer = do
   signed ← require (is_point signer (node_by channel row)) refusals.Signature
-  require (update_is_newer held row) refusals.NotNewer
+  newer ← require (update_is_newer held row) refusals.NotNewer
+  Ok (ops.Update row)
 
 -- a node's announcement is newer than the held one
 abbrev pub node_is_newer : Option NodeRow → NodeRow → Bool
 node_is_newer None row = true
 node_is_newer (Some held) row = nat_lt held.message.timestamp row.message.timestamp
 
--- a node's announcement, beside whether a channel ends at the node and its held row
-abbrev pub node_admission : Bool → Option NodeRow → NodeRow → Result (Unit {0}) Refusal
-node_admission ends held row = do
+-- a node's announcement, beside whether the node is banned, whether a channel ends at it, and its held row
+abbrev pub node_admission : Bool → Bool → Option NodeRow → NodeRow → Result Op Refusal
+node_admission banned ends held row = do
+  allowed ← require (not banned) refusals.Banned
   known ← require ends refusals.UnknownNode
-  require (node_is_newer held row) refusals.NotNewer
-
-abbrev pub admission_of : Rows → Checked → Result (Unit {0}) Refusal
-admission_of rows (messages.Channel row) = channel_admission (channel_of rows.channels row.message.short_channel_id) row
-admission_of rows (messages.Update row signer) =
-    update_admission (channel_of rows.channels row.message.short_channel_id) (update_of rows.updates row.message.short_channel_id (is_second row)) row signer
-admission_of rows (messages.Node row) =
-    node_admission (ends_channel rows.channels row.message.node_id) (node_of rows.nodes row.message.node_id) row
+  newer ← require (node_is_newer held row) refusals.NotNewer
+  Ok (ops.Node row)
 
 -- the operation of an admitted message
 abbrev pub admitted : Rows → Checked → Result Op Refusal
-admitted rows checked = admission_of rows checked >>= λ _. Ok (op_of checked)
+admitted rows (messages.Channel row) =
+    channel_admission rows.banned (channel_of rows.channels row.message.short_channel_id) row
+admitted rows (messages.Update row signer) =
+    update_admission (channel_of rows.channels row.message.short_channel_id) (update_of rows.updates row.message.short_channel_id (is_second row)) row signer
+admitted rows (messages.Node row) =
+    node_admission (is_banned rows.banned row.message.node_id) (ends_channel rows.channels row.message.node_id) (node_of rows.nodes row.message.node_id) row
 
 -- the operation of an admitted close: that of a channel that is held
 abbrev pub admitted_close : Rows → ℕ → Result Op Refusal
 admitted_close rows id = require (is_some (channel_of rows.channels id)) refusals.UnknownChannel >>= λ _. Ok (ops.Close id)
+
+-- what a call answers that is to give an operation: that, or want of memory where the operation keeps a row; a refusal
+-- and a ban are always given
+abbrev pub Admits : Result Op Refusal → Result Op Refusal → Type 0
+Admits answer (Ok (ops.Ban ban)) = answer ≡ Ok (ops.Ban ban)
+Admits answer (Ok op) = (answer ≡ Ok op) ⊎ (answer ≡ Err refusals.NoMemory)
+Admits answer (Err refusal) = answer ≡ Err refusal
+
+-- what a call answers that is to give an operation and to do it: that, or want of memory; a refusal is always given
+abbrev pub Offers : Result Op Refusal → Result Op Refusal → Type 0
+Offers answer (Ok op) = (answer ≡ Ok op) ⊎ (answer ≡ Err refusals.NoMemory)
+Offers answer (Err refusal) = answer ≡ Err refusal

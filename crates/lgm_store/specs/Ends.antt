@@ -1,18 +1,15 @@
 -- How many channels end at each point, as an index keeps it.
 use Rattle.std.specs.Prelude.{◌≡◌, ℕ, Bool, not, ◌||◌, is_some, zero, suc, List, Option, Some, None, unwrap_or, cond, count_by}
-use Rattle.std.specs.Cmp.Lexicographic.{slice_cmp}
 use Rattle.std.specs.declared.cmp.Ordering.{Ordering}
-use Rattle.std.specs.Ordering.{nat_cmp}
 use Rattle.std.specs.Map.{lookup}
-use Rattle.std.specs.BTreeMap.{is_at}
 use Rattle.lgm_gossip.specs.declared.point.Point.{Point}
 use Rattle.lgm_check.specs.declared.row.ChannelRow.{ChannelRow}
 use Rattle.lgm_check.specs.declared.row.NodeRow.{NodeRow}
-use Rattle.lgm_store.specs.Rows.{ends_at, is_point}
+use Rattle.lgm_store.specs.Rows.{by_point, ends_at, is_point}
 
 -- the order of points, byte by byte
 abbrev pub point_cmp : Point → Point → Ordering
-point_cmp a b = slice_cmp nat_cmp a.0 b.0
+point_cmp a b = by_point a b
 
 -- how many channels end at the node; one whose two ends are the node counts once
 abbrev pub channel_count : List ChannelRow → Point → ℕ
@@ -25,7 +22,7 @@ kept (suc n) = Some (suc n)
 
 -- what the index has for a point
 abbrev pub entry_of : List (Point × ℕ) → Point → Option ℕ
-entry_of entries point = lookup (is_at (point_cmp point)) entries
+entry_of entries point = lookup (is_point point) entries
 
 -- the number that the index has for a point
 abbrev pub number_at : List (Point × ℕ) → Point → ℕ
@@ -33,7 +30,7 @@ number_at entries point = unwrap_or (entry_of entries point) 0
 
 -- the index has another number at a point, and those that it had at the others
 abbrev pub Sets : List (Point × ℕ) → List (Point × ℕ) → Point → ℕ → Type 0
-Sets old new point number = (q : Point) → entry_of new q ≡ cond (is_at (point_cmp point) q) (kept number) (entry_of old q)
+Sets old new point number = (q : Point) → entry_of new q ≡ cond (is_point point q) (kept number) (entry_of old q)
 
 -- the index has these numbers
 abbrev pub Counts : List (Point × ℕ) → (Point → ℕ) → Type 0

@@ -1,16 +1,18 @@
 -- What operations do to rows, and the rows that a history leaves.
-use Rattle.std.specs.Prelude.{ℕ, List, [], ◌∷◌, ◌==◌, not, filter, is_some, if◌then◌else◌}
+use Rattle.std.specs.Prelude.{ℕ, List, [], ◌∷◌, ◌==◌, ◌||◌, not, filter, is_some, if◌then◌else◌}
 use Rattle.lgm_check.specs.declared.row.ChannelRow.{ChannelRow}
 use Rattle.lgm_check.specs.declared.row.UpdateRow.{UpdateRow}
 use Rattle.lgm_check.specs.declared.row.NodeRow.{NodeRow}
+use Rattle.lgm_gossip.specs.declared.point.Point.{Point}
+use Rattle.lgm_check.specs.declared.row.BanRow.{BanRow}
 use Rattle.lgm_store.specs.declared.op.Op.{Op}
 use Rattle.lgm_store.specs.declared.op.Op.TheVariants as ops
-use Rattle.lgm_store.specs.Rows.{Rows, empty, put, by_id, by_direction, by_node, channel_of, ends_channel}
+use Rattle.lgm_store.specs.Rows.{Rows, empty, put, by_id, by_direction, by_node, by_point, channel_of, ends_channel, ends_banned}
 
--- with a channel more, unless it is held
+-- with a channel more, unless it is held or a node of it is banned
 abbrev pub with_channel : Rows → ChannelRow → Rows
 with_channel rows row =
-    if is_some (channel_of rows.channels row.message.short_channel_id) then rows
+    if is_some (channel_of rows.channels row.message.short_channel_id) || ends_banned rows.banned row then rows
     else record rows { channels = put by_id rows.channels row }
 
 -- with an update, if its channel is held
@@ -44,8 +46,38 @@ without_channel rows id =
       channels = channels_without rows.channels id;
       updates = updates_without rows.updates id;
       nodes = ended_nodes (channels_without rows.channels id) rows.nodes;
+      banned = rows.banned;
     }
     else rows
+
+-- four points more, each once
+abbrev pub with_banned : List Point → BanRow → List Point
+with_banned points ban = put by_point (put by_point (put by_point (put by_point points ban.held1) ban.held2) ban.new1) ban.new2
+
+-- the channels that end at no banned node
+abbrev pub allowed_channels : List Point → List ChannelRow → List ChannelRow
+allowed_channels banned rows = filter (λ row. not (ends_banned banned row)) rows
+
+-- those that end at one
+abbrev pub banned_channels : List Point → List ChannelRow → List ChannelRow
+banned_channels banned rows = filter (ends_banned banned) rows
+
+-- the updates without those of these channels
+abbrev pub updates_beside : List ChannelRow → List UpdateRow → List UpdateRow
+updates_beside gone rows = filter (λ row. not (is_some (channel_of gone row.message.short_channel_id))) rows
+
+-- with these points banned: the channels that end at one go, with their updates, and then each node goes at which no channel ends
+abbrev pub banning : Rows → List Point → Rows
+banning rows banned = record {
+  channels = allowed_channels banned rows.channels;
+  updates = updates_beside (banned_channels banned rows.channels) rows.updates;
+  nodes = ended_nodes (allowed_channels banned rows.channels) rows.nodes;
+  banned = banned;
+}
+
+-- with the nodes of two channels banned
+abbrev pub with_ban : Rows → BanRow → Rows
+with_ban rows ban = banning rows (with_banned rows.banned ban)
 
 -- the rows after an operation
 abbrev pub absorbed : Rows → Op → Rows
@@ -53,6 +85,7 @@ absorbed rows (ops.Channel row) = with_channel rows row
 absorbed rows (ops.Update row) = with_update rows row
 absorbed rows (ops.Node row) = with_node rows row
 absorbed rows (ops.Close id) = without_channel rows id
+absorbed rows (ops.Ban ban) = with_ban rows ban
 
 -- the rows after further operations, in order
 abbrev pub fold_from : Rows → List Op → Rows

@@ -1,9 +1,12 @@
 pub mod Rows
 pub mod Admission
+pub mod Decided
 pub mod History
 pub mod Reading
 pub mod Keyed
 pub mod Held
+pub mod HeldAt
+pub mod Laws
 pub mod Ends
 pub mod Sound
 pub mod Start

@@ -28,3 +28,7 @@ is_between id from to = nat_le from (block_of id) && nat_lt (block_of id) to
 abbrev pub ids_between_of : List ChannelRow → ℕ → ℕ → List ℕ
 ids_between_of rows from to =
     filter (λ id. is_between id from to) (map (λ row. row.message.short_channel_id) rows)
+
+-- the channels of those ids
+abbrev pub channels_between_of : List ChannelRow → ℕ → ℕ → List ChannelRow
+channels_between_of rows from to = filter (λ row. is_between row.message.short_channel_id from to) rows

@@ -1,4 +1,4 @@
--- The rows of a map: three lists that ascend, with no key twice.
+-- The rows of a map: four lists that ascend, with no key twice.
 use Rattle.std.specs.Prelude.{ℕ, ◌%◌, Bool, ◌||◌, List, [], ◌∷◌, ◌++◌, Option, ◌==◌, ◌&&◌, nat_eq, filter, find}
 use Rattle.std.specs.Bool.{beq}
 use Rattle.std.specs.List.{list_any}
@@ -18,10 +18,12 @@ pub record Rows : Type 0 where
   pub updates : List UpdateRow
   -- by node, byte by byte
   pub nodes : List NodeRow
+  -- the points of banned nodes, byte by byte
+  pub banned : List Point
 
 -- no rows
 abbrev pub empty : Rows
-empty = record { channels = []; updates = []; nodes = [] }
+empty = record { channels = []; updates = []; nodes = []; banned = [] }
 
 -- the same point
 abbrev pub is_point : Point → Point → Bool
@@ -43,11 +45,15 @@ by_direction a b =
 abbrev pub by_node : NodeRow → NodeRow → Ordering
 by_node a b = slice_cmp nat_cmp a.message.node_id.0 b.message.node_id.0
 
+abbrev pub by_point : Point → Point → Ordering
+by_point a b = slice_cmp nat_cmp a.0 b.0
+
 -- the lists ascend, with no key twice
 pub record IsAscending (rows : Rows) : Type 0 where
   pub channels : IsStrictlySortedBy by_id rows.channels
   pub updates : IsStrictlySortedBy by_direction rows.updates
   pub nodes : IsStrictlySortedBy by_node rows.nodes
+  pub banned : IsStrictlySortedBy by_point rows.banned
 
 -- a row in its place: behind the rows of lesser keys, before those of greater ones, and instead of that of its own
 abbrev pub put : {R : Type 0} → (R → R → Ordering) → List R → R → List R
@@ -74,3 +80,11 @@ ends_at node row = is_point row.message.node_id_1 node || is_point row.message.n
 -- whether a channel ends at the node
 abbrev pub ends_channel : List ChannelRow → Point → Bool
 ends_channel rows node = list_any (ends_at node) rows
+
+-- whether the node is banned
+abbrev pub is_banned : List Point → Point → Bool
+is_banned points node = list_any (is_point node) points
+
+-- whether the channel ends at a banned node
+abbrev pub ends_banned : List Point → ChannelRow → Bool
+ends_banned points row = is_banned points row.message.node_id_1 || is_banned points row.message.node_id_2

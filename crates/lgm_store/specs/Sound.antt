@@ -40,3 +40,8 @@ pub record IsSound (channels : List (ℕ × ChannelRow)) (updates : List ((ℕ �
   pub nodes_ascend : IsStrictlySortedBy point_cmp (keys_of nodes)
   pub nodes_ended : AreEnded (values_of channels) (values_of nodes)
   pub counted : Counts ends (channel_count (values_of channels))
+
+-- and the banned points ascend
+pub record IsKept (channels : List (ℕ × ChannelRow)) (updates : List ((ℕ × Bool) × UpdateRow)) (nodes : List (Point × NodeRow)) (ends : List (Point × ℕ)) (banned : List Point) : Type 0 where
+  pub rows : IsSound channels updates nodes ends
+  pub banned_ascend : IsStrictlySortedBy point_cmp banned

@@ -5,16 +5,16 @@ ghost use Rattle.lgm_gossip.specs.declared.point.Point.{Point};
 ghost use Rattle.lgm_store.specs.Rows.{is_point};
 ghost use Rattle.lgm_store.specs.Ends.{entry_of, number_at, Sets, Counts};
 
-use crate::try_copy::copy_map;
+use crate::seed::Seed;
 use lgm_gossip::Point;
 use std::alloc::{AllocError, Global};
-use std::collections::BTreeMap;
+use std::collections::HashMap;
 use std::marker::Model;
 
 /// How many channels end at each point. A point at which none ends takes no room.
 #[derive(Drop)]
 pub(crate) struct EndCounts {
-    counts: BTreeMap<Point, u64>,
+    counts: HashMap<Point, u64, Seed>,
 }
 
 impl Model for EndCounts {
@@ -27,12 +27,13 @@ impl Model for EndCounts {
 }
 
 impl EndCounts {
-    pub(crate) fn new(alloc: Global) -> EndCounts
-        ensures { result ≡ [] }
+    /// No channel yet. It takes no memory; the points are hashed by the seed.
+    pub(crate) fn new(alloc: Global, seed: [u8; 16]) -> Result<EndCounts, AllocError>
+        ensures { IfOk result (λ ends. ends ≡ []) }
     {
-        EndCounts {
-            counts: BTreeMap::new(alloc),
-        }
+        Ok(EndCounts {
+            counts: HashMap::with_capacity_and_hasher(alloc, 0, Seed::new(seed))?,
+        })
     }
 
     pub(crate) fn contains(&self, point: &Point) -> bool
@@ -72,11 +73,11 @@ impl EndCounts {
     }
 
     /// A copy. The only error is want of memory.
-    pub(crate) fn copy(&self, alloc: Global) -> Result<EndCounts, AllocError>
+    pub(crate) fn copy(&self) -> Result<EndCounts, AllocError>
         ensures { IfOk result (λ copy. copy ≡ self.now) }
     {
         Ok(EndCounts {
-            counts: copy_map(alloc, &self.counts)?,
+            counts: self.counts.clone()?,
         })
     }
 
@@ -85,8 +86,11 @@ impl EndCounts {
         ensures ok { OnOk result (Sets self.old self.new point (number_at self.old point + 1)) }
         ensures err { OnErr result (self.new ≡ self.old) }
     {
-        let number = self.counts.entry(point)?.or_insert(0);
-        *number += 1;
+        if let Some(number) = self.counts.get_mut(&point) {
+            *number += 1;
+            return Ok(());
+        }
+        self.counts.insert(point, 1)?;
         Ok(())
     }
 

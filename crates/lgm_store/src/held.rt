@@ -1,22 +1,27 @@
 //! A channel with its updates.
 
-ghost use Rattle.std.specs.Prelude.{◌≡◌, IfOk};
-ghost use Rattle.std.specs.Option.{option_copied};
+ghost use Rattle.std.specs.Prelude.{◌≡◌, Some, IfOk, OnErr, if◌then◌else◌};
+ghost use Rattle.std.specs.Option.{option_copied, option_map};
 ghost use Rattle.lgm_store.specs.Held.{alone, update_in, with_update_in};
+ghost use Rattle.lgm_store.specs.Rows.{is_second};
+ghost use Rattle.lgm_store.specs.Admission.{update_admission, Offers};
+ghost use Rattle.lgm_store.specs.Decided.{update_op, updating};
 
-use crate::shared::{Shared, found};
-use crate::try_copy::TryCopy;
-use lgm_check::{ChannelRow, UpdateRow};
+use crate::dated::Dated;
+use crate::named::Named;
+use crate::shared::Shared;
+use lgm_check::{ChannelRow, Refusal, UpdateRow};
+use lgm_gossip::{Point, Scid};
 use std::alloc::{AllocError, Global};
 
 /// A channel, and the update of each of its directions that has one.
 #[derive(Drop)]
-pub(crate) struct Held {
-    pub(crate) channel: Shared<ChannelRow>,
+pub struct Held {
+    channel: Named,
     /// That from node 1.
-    first: Option<Shared<UpdateRow>>,
+    first: Option<Dated>,
     /// That from node 2.
-    second: Option<Shared<UpdateRow>>,
+    second: Option<Dated>,
 }
 
 impl Held {
@@ -25,21 +30,81 @@ impl Held {
         ensures { result ≡ alone channel }
     {
         Held {
-            channel,
+            channel: Named::new(channel),
             first: None,
             second: None,
         }
     }
 
+    /// The channel's row.
+    pub fn row(&self) -> &ChannelRow
+        ensures { result.now ≡ self.now.channel }
+    {
+        self.channel.row()
+    }
+
+    /// The channel's name. It is at hand without its row.
+    pub fn scid(&self) -> Scid
+        ensures { result ≡ self.now.channel.message.short_channel_id }
+    {
+        self.channel.scid()
+    }
+
+    /// Node 2 if `second`, else node 1. It is at hand without the row.
+    pub fn node(&self, second: bool) -> &Point
+        ensures { result.now ≡ (if second then self.now.channel.message.node_id_2 else self.now.channel.message.node_id_1) }
+    {
+        self.channel.node(second)
+    }
+
     /// The update from node 2 if `second`, else that from node 1.
-    pub(crate) fn update(&self, second: bool) -> Option<&UpdateRow>
+    pub fn update(&self, second: bool) -> Option<&UpdateRow>
         ensures { option_copied result ≡ update_in second self.now }
     {
-        if second {
-            found(self.second.as_ref())
-        } else {
-            found(self.first.as_ref())
+        match self.dated(second) {
+            Some(dated) => Some(dated.row()),
+            None => None,
         }
+    }
+
+    /// The timestamp of that update, in seconds since 1970. It is at hand without the update's row.
+    pub fn update_time(&self, second: bool) -> Option<u32>
+        ensures { result ≡ option_map (λ row. row.message.timestamp) (update_in second self.now) }
+    {
+        match self.dated(second) {
+            Some(dated) => Some(dated.time()),
+            None => None,
+        }
+    }
+
+    /// Whether an update that this point signed is admitted.
+    pub(crate) fn admit_update(&self, row: &UpdateRow, signer: &Point) -> Result<(), Refusal>
+        ensures { update_op row.now result ≡ update_admission (Some self.now.channel) (update_in (is_second row.now) self.now) row.now signer.now }
+    {
+        if *signer != *self.node(row.is_second()) {
+            return Err(Refusal::Signature);
+        }
+        match self.update_time(row.is_second()) {
+            Some(time) if time >= row.message.timestamp => Err(Refusal::NotNewer),
+            _ => Ok(()),
+        }
+    }
+
+    /// Puts an update that is admitted, and gives its row. A refusal or want of memory leaves all as it was.
+    pub(crate) fn offer_update(
+        &mut self,
+        alloc: Global,
+        row: UpdateRow,
+        signer: &Point,
+    ) -> Result<Shared<UpdateRow>, Refusal>
+        ensures admission { Offers (updating result) (update_admission (Some self.old.channel) (update_in (is_second row) self.old) row signer.now) }
+        ensures accepted { IfOk result (λ put. (put ≡ row) × (self.new ≡ with_update_in (is_second row) self.old row)) }
+        ensures refused { OnErr result (self.new ≡ self.old) }
+    {
+        self.admit_update(&row, signer)?;
+        let row = Shared::new(alloc, row)?;
+        self.put_update(row.get().is_second(), row.share()?);
+        Ok(row)
     }
 
     /// Puts an update in the place of that from node 2 if `second`, else of that from node 1.
@@ -47,29 +112,41 @@ impl Held {
         ensures { self.new ≡ with_update_in second self.old row }
     {
         if second {
-            self.second = Some(row);
+            self.second = Some(Dated::new(row));
         } else {
-            self.first = Some(row);
+            self.first = Some(Dated::new(row));
+        }
+    }
+
+    fn dated(&self, second: bool) -> Option<&Dated>
+        ensures { option_copied result ≡ update_in second self.now }
+    {
+        if second {
+            self.second.as_ref()
+        } else {
+            self.first.as_ref()
         }
     }
 }
 
-/// One more owner, if there is an update.
-fn shared(update: &Option<Shared<UpdateRow>>) -> Result<Option<Shared<UpdateRow>>, AllocError>
-    ensures { IfOk result (λ copy. copy ≡ update.now) }
-{
-    match update {
-        Some(row) => Ok(Some(row.share()?)),
-        None => Ok(None),
+impl Clone for Held {
+    ghost is_clone = { λ held copy. copy ≡ held };
+
+    fn clone(&self) -> Result<Held, AllocError> {
+        Ok(Held {
+            channel: self.channel.clone()?,
+            first: copied(&self.first)?,
+            second: copied(&self.second)?,
+        })
     }
 }
 
-impl TryCopy for Held {
-    fn try_copy(&self, _alloc: Global) -> Result<Held, AllocError> {
-        Ok(Held {
-            channel: self.channel.share()?,
-            first: shared(&self.first)?,
-            second: shared(&self.second)?,
-        })
+/// One more owner, if there is an update.
+fn copied(update: &Option<Dated>) -> Result<Option<Dated>, AllocError>
+    ensures { IfOk result (λ copy. copy ≡ update.now) }
+{
+    match update {
+        Some(dated) => Ok(Some(dated.clone()?)),
+        None => Ok(None),
     }
 }

@@ -2,17 +2,26 @@
 //!
 //! A [`Map`] is seen as its rows, in lists that ascend. An item is first admitted, which gives an [`Op`] or a refusal,
 //! and then absorbed. A list of operations is a history, and a map is the fold of one.
+//!
+//! Two lawful announcements of one channel that name other nodes contradict each other: the nodes of both are banned,
+//! which is this project's own rule, and their channels go. A ban lasts as long as the map.
 #![tactic(auto)]
 
+mod banned;
+mod dated;
 mod end_counts;
 mod held;
 mod laws;
 mod map;
+mod named;
 mod op;
+mod seed;
 mod shared;
-mod try_copy;
+mod walks;
 
-pub use laws::rows_ascend;
+pub use held::Held;
+pub use laws::{histories_are_lawful, rows_ascend};
 pub use map::Map;
 pub use op::Op;
 pub use shared::Shared;
+pub use walks::{Channels, ChannelsBetween, Nodes};

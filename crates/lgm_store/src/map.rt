@@ -5,10 +5,13 @@ ghost use Rattle.lgm_store.specs.Rows.{empty};
 
 mod absorbing;
 mod admitting;
+mod banning;
 mod copying;
+mod offering;
 mod reading;
 mod replaying;
 
+use crate::banned::Banned;
 use crate::end_counts::EndCounts;
 use crate::held::Held;
 use crate::shared::Shared;
@@ -18,9 +21,10 @@ use std::alloc::{AllocError, Global};
 use std::collections::BTreeMap;
 use std::marker::Model;
 
-/// The public channels, directions and nodes, as far as they were announced. Contracts see its rows.
+/// The public channels, directions and nodes, as far as they were announced, and the banned nodes. Contracts see its
+/// rows.
 ///
-/// Each call on one item costs a logarithm of the map.
+/// Each call on one item costs a logarithm of the map, but a ban, which walks the channels once.
 #[derive(Drop)]
 pub struct Map {
     alloc: Global,
@@ -28,6 +32,7 @@ pub struct Map {
     channels: BTreeMap<Scid, Held>,
     nodes: BTreeMap<Point, Shared<NodeRow>>,
     ends: EndCounts,
+    banned: Banned,
 }
 
 impl Model for Map {
@@ -38,27 +43,41 @@ impl Model for Map {
     ghost use Rattle.std.specs.Map.{values_of};
     ghost use Rattle.std.specs.BTreeMap.{values};
     ghost use Rattle.lgm_store.specs.Held.{channel_entries, update_entries};
-    ghost use Rattle.lgm_store.specs.Sound.{IsSound};
+    ghost use Rattle.lgm_store.specs.Sound.{IsKept};
 
     ghost view = { λ m. record {
       channels = values_of (channel_entries m.channels.entries);
       updates = values_of (update_entries m.channels.entries);
       nodes = values m.nodes;
+      banned = m.banned;
     } };
 
-    ghost invariant = { λ m. IsSound (channel_entries m.channels.entries) (update_entries m.channels.entries) m.nodes.entries m.ends };
+    ghost invariant = { λ m. IsKept (channel_entries m.channels.entries) (update_entries m.channels.entries) m.nodes.entries m.ends m.banned };
 }
 
 impl Map {
     /// A map with no rows. It takes no memory yet.
+    ///
+    /// Where points come from strangers, take [`Map::with_seed`].
     pub fn new(alloc: Global) -> Result<Map, AllocError>
+        ensures { IfOk result (λ map. map ≡ empty) }
+    {
+        Map::with_seed(alloc, [0; 16])
+    }
+
+    /// A map with no rows, which finds points by hashes that begin with this seed. It takes no memory yet.
+    ///
+    /// No answer depends on the seed. A random one keeps a stranger from choosing points whose hashes are alike, each
+    /// of which would cost a search through the others.
+    pub fn with_seed(alloc: Global, seed: [u8; 16]) -> Result<Map, AllocError>
         ensures { IfOk result (λ map. map ≡ empty) }
     {
         Ok(Map {
             alloc,
             channels: BTreeMap::new(alloc),
             nodes: BTreeMap::new(alloc),
-            ends: EndCounts::new(alloc),
+            ends: EndCounts::new(alloc, seed)?,
+            banned: Banned::new(alloc),
         })
     }
 }

@@ -52,6 +52,14 @@ impl<T> Shared<T> {
     }
 }
 
+impl<T: Drop> Clone for Shared<T> {
+    ghost is_clone = { λ shared copy. copy ≡ shared };
+
+    fn clone(&self) -> Result<Shared<T>, AllocError> {
+        self.share()
+    }
+}
+
 /// The value that was found, if any was.
 pub(crate) fn found<T>(shared: Option<&Shared<T>>) -> Option<&T>
     ensures { option_copied result ≡ option_copied shared.entry }

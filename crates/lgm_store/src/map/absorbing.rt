@@ -1,7 +1,8 @@
 //! What operations do to a map.
 
-ghost use Rattle.std.specs.Prelude.{◌≡◌, OnOk, OnErr, filter};
+ghost use Rattle.std.specs.Prelude.{◌≡◌, false, OnOk, OnErr, filter, is_some};
 ghost use Rattle.std.specs.BTreeMap.{values, IsOrdered};
+ghost use Rattle.lgm_store.specs.Rows.{channel_of, ends_banned};
 ghost use Rattle.lgm_store.specs.Keyed.{IsKeyed};
 ghost use Rattle.lgm_store.specs.Ends.{point_cmp, stays_beside};
 ghost use Rattle.lgm_store.specs.Sound.{point_of};
@@ -20,10 +21,12 @@ use std::collections::BTreeMap;
 impl Map {
     /// Does an operation, whose row it shares.
     ///
-    /// A channel is added unless it is held. An update is kept if its channel is held, and a node if a channel ends at
-    /// it, each in place of the row that it had. A close takes a channel out with its updates, and then each node at
-    /// which no channel ends any more; of a channel that isn't held it does nothing. Want of memory leaves the map as
-    /// it was.
+    /// A channel is added unless it is held, or a node of it is banned. An update is kept if its channel is held, and a
+    /// node if a channel ends at it, each in place of the row that it had. A close takes a channel out with its
+    /// updates, and then each node at which no channel ends any more; of a channel that isn't held it does nothing. A
+    /// ban bans its four points, and takes out the channels that end at a banned node with their updates, and then
+    /// each node at which no channel ends any more; it walks the channels once. Want of memory leaves the map as it
+    /// was.
     pub fn absorb(&mut self, op: &Op) -> Result<(), AllocError>
         ensures ok { OnOk result (self.new ≡ absorbed self.old op.now) }
         ensures err { OnErr result (self.new ≡ self.old) }
@@ -39,6 +42,7 @@ impl Map {
                 self.close(*scid);
                 Ok(())
             }
+            Op::Ban(ban) => self.ban(*ban),
         }
     }
 
@@ -46,10 +50,21 @@ impl Map {
         ensures ok { OnOk result (self.new ≡ with_channel self.old row) }
         ensures err { OnErr result (self.new ≡ self.old) }
     {
-        let scid = row.get().scid();
-        if self.held(scid).is_some() {
+        if self.held(row.get().scid()).is_some() || self.banned.ends(row.get()) {
             return Ok(());
         }
+        self.insert_channel(row)?;
+        Ok(())
+    }
+
+    /// Adds a channel that isn't held, and that has no banned node.
+    pub(crate) fn insert_channel(&mut self, row: Shared<ChannelRow>) -> Result<(), AllocError>
+        requires new { is_some (channel_of self.old.channels row.message.short_channel_id) ≡ false }
+        requires allowed { ends_banned self.old.banned row ≡ false }
+        ensures ok { OnOk result (self.new ≡ with_channel self.old row) }
+        ensures err { OnErr result (self.new ≡ self.old) }
+    {
+        let scid = row.get().scid();
         prove!(self.channels.len() < usize::MAX);
         let (first, second) = (row.get().node(false), row.get().node(true));
         self.ends.add(first, second)?;
@@ -72,7 +87,7 @@ impl Map {
         held.put_update(second, row);
     }
 
-    fn put_node(&mut self, row: Shared<NodeRow>) -> Result<(), AllocError>
+    pub(crate) fn put_node(&mut self, row: Shared<NodeRow>) -> Result<(), AllocError>
         ensures ok { OnOk result (self.new ≡ with_node self.old row) }
         ensures err { OnErr result (self.new ≡ self.old) }
     {
@@ -84,16 +99,13 @@ impl Map {
         Ok(())
     }
 
-    fn close(&mut self, scid: Scid)
+    pub(crate) fn close(&mut self, scid: Scid)
         ensures { self.new ≡ without_channel self.old scid }
     {
         let Some(held) = self.channels.remove(&scid) else {
             return;
         };
-        let (first, second) = (
-            held.channel.get().node(false),
-            held.channel.get().node(true),
-        );
+        let (first, second) = (*held.node(false), *held.node(true));
         self.ends.remove(first, second);
         drop_unless_ended(&mut self.nodes, &self.ends, &first);
         drop_unless_ended(&mut self.nodes, &self.ends, &second);

@@ -1,39 +1,64 @@
 //! Whether an item is admitted.
 
 ghost use Rattle.std.specs.Prelude.{◌≡◌};
-ghost use Rattle.lgm_wire.specs.Reading.{Gives};
-ghost use Rattle.lgm_store.specs.Rows.{channel_of, update_of, node_of, ends_channel, is_second};
-ghost use Rattle.lgm_store.specs.Admission.{have_same_nodes, channel_admission, update_admission, node_admission, admission_of, admitted, admitted_close};
+ghost use Rattle.lgm_store.specs.Rows.{channel_of, update_of, node_of, ends_channel, is_banned, is_second};
+ghost use Rattle.lgm_store.specs.Admission.{have_same_nodes, channel_admission, update_admission, node_admission, admitted, admitted_close, Admits};
+ghost use Rattle.lgm_store.specs.Decided.{channel_op, update_op, node_op};
 
 use super::Map;
 use crate::op::Op;
-use lgm_check::{ChannelRow, Checked, NodeRow, Refusal, UpdateRow};
+use crate::shared::Shared;
+use lgm_check::{BanRow, ChannelRow, Checked, NodeRow, Refusal, UpdateRow};
 use lgm_gossip::{Point, Scid};
 use std::alloc::Global;
 
 impl Map {
-    /// Whether a message is admitted, or why it isn't, by the first reason of these. It takes no memory.
+    /// The operation of a message that is admitted, or why it isn't, by the first reason of these.
     ///
-    /// A `channel_announcement`: 12 `known` for a channel that is held between the same nodes, 13 `conflict` for one
-    /// that is held between others. A `node_announcement`: 14 `unknown-node` if no held channel ends at the node, 15
-    /// `not-newer` if its timestamp isn't above the held one. A `channel_update`: 11 `unknown-channel`, 10 `signature`
-    /// if another point signed it than the node of its direction, 15 `not-newer` as above (BOLT 7).
-    pub fn admits(&self, checked: &Checked) -> Result<(), Refusal>
-        ensures { result ≡ admission_of self.now checked.now }
+    /// A `channel_announcement`: 16 `banned` if a node of it is banned, 12 `known` for a channel that is held between
+    /// the same nodes. For one that is held between other nodes the operation is a ban of the nodes of both. A
+    /// `node_announcement`: 16 `banned` if the node is, 14 `unknown-node` if no held channel ends at it, 15 `not-newer`
+    /// if its timestamp isn't above the held one. A `channel_update`: 11 `unknown-channel`, 10 `signature` if another
+    /// point signed it than the node of its direction, 15 `not-newer` as above (BOLT 7).
+    ///
+    /// Memory is asked for only where a row is to be kept: a refusal and a ban take none.
+    pub fn admit(&self, alloc: Global, checked: &Checked) -> Result<Op, Refusal>
+        ensures { Admits result (admitted self.now checked.now) }
     {
         match checked {
-            Checked::Channel(row) => self.admits_channel(row),
-            Checked::Update(row, signer) => self.admits_update(row, signer),
-            Checked::Node(row) => self.admits_node(row),
+            Checked::Channel(row) => match self.admit_channel(row)? {
+                Some(ban) => Ok(Op::Ban(ban)),
+                None => Ok(Op::Channel(Shared::new(alloc, row.copy(alloc)?)?)),
+            },
+            Checked::Update(row, signer) => {
+                self.admit_update(row, signer)?;
+                Ok(Op::Update(Shared::new(alloc, row.copy(alloc)?)?))
+            }
+            Checked::Node(row) => {
+                self.admit_node(row)?;
+                Ok(Op::Node(Shared::new(alloc, row.copy(alloc)?)?))
+            }
         }
     }
 
-    /// The operation of an admitted message, or the refusal of [`Map::admits`].
-    pub fn admit(&self, alloc: Global, checked: &Checked) -> Result<Op, Refusal>
-        ensures { Gives Refusal.NoMemory (λ op. op) result (admitted self.now checked.now) }
+    /// The same of a message that is given away: its row is kept and not copied.
+    pub fn admit_owned(&self, alloc: Global, checked: Checked) -> Result<Op, Refusal>
+        ensures { Admits result (admitted self.now checked) }
     {
-        self.admits(checked)?;
-        Ok(Op::of(alloc, checked.copy(alloc)?)?)
+        match checked {
+            Checked::Channel(row) => match self.admit_channel(&row)? {
+                Some(ban) => Ok(Op::Ban(ban)),
+                None => Ok(Op::Channel(Shared::new(alloc, row)?)),
+            },
+            Checked::Update(row, signer) => {
+                self.admit_update(&row, &signer)?;
+                Ok(Op::Update(Shared::new(alloc, row)?))
+            }
+            Checked::Node(row) => {
+                self.admit_node(&row)?;
+                Ok(Op::Node(Shared::new(alloc, row)?))
+            }
+        }
     }
 
     /// The operation that closes a channel, or 11 `unknown-channel` for one that isn't held. It takes no memory.
@@ -46,37 +71,43 @@ impl Map {
         }
     }
 
-    fn admits_channel(&self, row: &ChannelRow) -> Result<(), Refusal>
-        ensures { result ≡ channel_admission (channel_of self.now.channels row.now.message.short_channel_id) row.now }
+    /// The ban that an announcement of a channel asks for, if it doesn't add the channel.
+    pub(crate) fn admit_channel(&self, row: &ChannelRow) -> Result<Option<BanRow>, Refusal>
+        ensures { channel_op row.now result ≡ channel_admission self.now.banned (channel_of self.now.channels row.now.message.short_channel_id) row.now }
     {
+        if self.banned.ends(row) {
+            return Err(Refusal::Banned);
+        }
         match self.channel(row.scid()) {
-            None => Ok(()),
+            None => Ok(None),
             Some(held) if have_same_nodes(held, row) => Err(Refusal::Known),
-            Some(_) => Err(Refusal::Conflict),
+            Some(held) => Ok(Some(BanRow {
+                held1: held.node(false),
+                held2: held.node(true),
+                new1: row.node(false),
+                new2: row.node(true),
+            })),
         }
     }
 
-    fn admits_update(&self, row: &UpdateRow, signer: &Point) -> Result<(), Refusal>
+    fn admit_update(&self, row: &UpdateRow, signer: &Point) -> Result<(), Refusal>
         ensures { let id = row.now.message.short_channel_id in
-            result ≡ update_admission (channel_of self.now.channels id) (update_of self.now.updates id (is_second row.now)) row.now signer.now }
+            update_op row.now result ≡ update_admission (channel_of self.now.channels id) (update_of self.now.updates id (is_second row.now)) row.now signer.now }
     {
-        let Some(held) = self.held(row.scid()) else {
-            return Err(Refusal::UnknownChannel);
-        };
-        if *signer != held.channel.get().node(row.is_second()) {
-            return Err(Refusal::Signature);
-        }
-        match held.update(row.is_second()) {
-            Some(held) if held.message.timestamp >= row.message.timestamp => Err(Refusal::NotNewer),
-            _ => Ok(()),
+        match self.held(row.scid()) {
+            Some(held) => held.admit_update(row, signer),
+            None => Err(Refusal::UnknownChannel),
         }
     }
 
-    fn admits_node(&self, row: &NodeRow) -> Result<(), Refusal>
+    pub(crate) fn admit_node(&self, row: &NodeRow) -> Result<(), Refusal>
         ensures { let node = row.now.message.node_id in
-            result ≡ node_admission (ends_channel self.now.channels node) (node_of self.now.nodes node) row.now }
+            node_op row.now result ≡ node_admission (is_banned self.now.banned node) (ends_channel self.now.channels node) (node_of self.now.nodes node) row.now }
     {
         let node = row.node();
+        if self.banned(&node) {
+            return Err(Refusal::Banned);
+        }
         if !self.ends_channel(&node) {
             return Err(Refusal::UnknownNode);
         }

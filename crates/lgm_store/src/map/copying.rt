@@ -3,7 +3,6 @@
 ghost use Rattle.std.specs.Prelude.{◌≡◌, IfOk};
 
 use super::Map;
-use crate::try_copy::copy_map;
 use std::alloc::{AllocError, Global};
 
 impl Map {
@@ -13,9 +12,10 @@ impl Map {
     {
         Ok(Map {
             alloc,
-            channels: copy_map(alloc, &self.channels)?,
-            nodes: copy_map(alloc, &self.nodes)?,
-            ends: self.ends.copy(alloc)?,
+            channels: self.channels.clone()?,
+            nodes: self.nodes.clone()?,
+            ends: self.ends.copy()?,
+            banned: self.banned.copy()?,
         })
     }
 }

@@ -1,25 +1,36 @@
 //! What a map holds.
 
-ghost use Rattle.std.specs.Prelude.{◌≡◌, ℕ, Bool, ◌*◌, ◌^◌, ◌<◌, ◌≤◌, IfOk, length};
+ghost use Rattle.std.specs.Prelude.{◌≡◌, ℕ, Bool, ◌*◌, ◌^◌, ◌<◌, ◌≤◌, IfOk, length, map};
 ghost use Rattle.std.specs.Option.{option_copied, option_map, option_and_then};
 ghost use Rattle.lgm_store.specs.Held.{update_in};
-ghost use Rattle.lgm_store.specs.Rows.{IsAscending, channel_of, update_of, node_of, ends_channel};
-ghost use Rattle.lgm_store.specs.Reading.{next_channel_of, next_node_of, block_of, is_between, ids_between_of};
+ghost use Rattle.lgm_store.specs.HeldAt.{held_at};
+ghost use Rattle.lgm_store.specs.Laws.{IsLawful};
+ghost use Rattle.lgm_store.specs.Rows.{IsAscending, channel_of, update_of, node_of, ends_channel, is_banned};
+ghost use Rattle.lgm_store.specs.Reading.{next_channel_of, next_node_of, block_of, ids_between_of, channels_between_of};
 ghost use Rattle.lgm_store.specs.Start.{start_after, IsEndBefore};
 
 use super::Map;
 use crate::held::Held;
 use crate::shared::found;
+use crate::walks::{Channels, ChannelsBetween, Nodes};
 use lgm_check::{ChannelRow, NodeRow, UpdateRow};
 use lgm_gossip::{Point, Scid, Scids};
 use std::alloc::{AllocError, Global};
 use std::ops::Bound;
 
 impl Map {
+    /// What holds of the rows of any map. A call does nothing: its contract is the law.
+    pub fn rows_are_lawful(&self)
+        ensures { IsLawful self.now }
+    {
+        let _ = &self.alloc;
+    }
+
     /// A channel with its updates, if it is held.
-    pub(crate) fn held(&self, scid: Scid) -> Option<&Held>
+    pub fn held(&self, scid: Scid) -> Option<&Held>
         ensures channel { option_map (λ held. held.channel) (option_copied result) ≡ channel_of self.now.channels scid }
         ensures update { (second : Bool) → option_and_then (update_in second) (option_copied result) ≡ update_of self.now.updates scid second }
+        ensures held { option_copied result ≡ option_map (held_at self.now) (channel_of self.now.channels scid) }
     {
         self.channels.get(&scid)
     }
@@ -29,7 +40,7 @@ impl Map {
         ensures { option_copied result ≡ channel_of self.now.channels scid }
     {
         let held = self.held(scid)?;
-        Some(held.channel.get())
+        Some(held.row())
     }
 
     /// The row of a channel's direction, if it is held: that from node 2 if `second`, else that from node 1.
@@ -53,6 +64,13 @@ impl Map {
         self.ends.contains(node)
     }
 
+    /// Whether the node is banned. It takes no memory.
+    pub fn banned(&self, node: &Point) -> bool
+        ensures { result ≡ is_banned self.now.banned node.now }
+    {
+        self.banned.contains(node)
+    }
+
     /// The number of channels.
     pub fn count(&self) -> usize
         ensures value { result ≡ length self.now.channels }
@@ -67,7 +85,7 @@ impl Map {
     {
         let range = (start_after(after), Bound::Unbounded);
         let (_, held) = self.channels.range(range).next()?;
-        Some(held.channel.get())
+        Some(held.row())
     }
 
     /// The node with the least point above one, byte by byte, or with the least of all.
@@ -79,21 +97,47 @@ impl Map {
         Some(row.get())
     }
 
+    /// The channels with their updates, by id.
+    pub fn channels(&self) -> Channels<'_>
+        ensures { result ≡ map (held_at self.now) self.now.channels }
+    {
+        let all: (Bound<Scid>, Bound<Scid>) = (Bound::Unbounded, Bound::Unbounded);
+        Channels::new(self.channels.range(all))
+    }
+
+    /// The nodes, by point.
+    pub fn nodes(&self) -> Nodes<'_>
+        ensures { result ≡ self.now.nodes }
+    {
+        let all: (Bound<Point>, Bound<Point>) = (Bound::Unbounded, Bound::Unbounded);
+        Nodes::new(self.nodes.range(all))
+    }
+
+    /// The channels that were funded in the blocks from `from` on and before `to`, with their updates, by id. Only these
+    /// blocks are walked.
+    pub fn channels_between(&self, from: u64, to: u64) -> ChannelsBetween<'_>
+        ensures { result ≡ map (held_at self.now) (channels_between_of self.now.channels from to) }
+    {
+        let start = start_of(from);
+        let end = if from < to {
+            end_before(to)
+        } else {
+            Bound::Excluded(start)
+        };
+        let entries = self.channels.range((Bound::Included(start), end));
+        ChannelsBetween::new(entries, from, to)
+    }
+
     /// The ids of the channels that were funded in the blocks from `from` on and before `to`, ascending. Only these
     /// blocks are walked.
     pub fn ids_between(&self, alloc: Global, from: u64, to: u64) -> Result<Scids, AllocError>
         ensures { IfOk result (λ ids. ids ≡ ids_between_of self.now.channels from to) }
     {
-        if from >= to {
-            return Ok(Scids::from_vec(Vec::new(alloc)));
+        let mut ids = Vec::new(alloc);
+        for held in self.channels_between(from, to) {
+            ids.push(held.scid())?;
         }
-        let ids = self
-            .channels
-            .range((Bound::Included(start_of(from)), end_before(to)))
-            .map(|(scid, _)| *scid);
-        // The test matters where `from` is past the last block that an id can name.
-        let ids = ids.filter(|scid| is_between(*scid, from, to));
-        Ok(Scids::from_vec(ids.collect(alloc)?))
+        Ok(Scids::from_vec(ids))
     }
 }
 
@@ -116,13 +160,6 @@ fn end_before(block: u64) -> Bound<Scid>
         Some(end) => Bound::Excluded(Scid::from_u64(end)),
         None => Bound::Unbounded,
     }
-}
-
-fn is_between(scid: Scid, from: u64, to: u64) -> bool
-    ensures { result ≡ is_between scid from to }
-{
-    let block = u64::from(scid.block());
-    from <= block && block < to
 }
 
 /// The start of what lies above.

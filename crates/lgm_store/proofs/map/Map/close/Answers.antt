@@ -10,32 +10,40 @@ use Rattle.lgm_store.proofs.map.Map.close.Goals as goal
 
 pub invariant_of-self : goal.invariant_of-self
 invariant_of-self c =
-    IsSound-unchanged c.self.inside.channels.entries c.remove.new.self.entries c.self.inside.nodes.entries c.self.inside.ends c.in_default.ensures.unchanged c.self.invariant
+    record {
+      rows =
+          IsSound-unchanged c.self.inside.channels.entries c.remove.new.self.entries c.self.inside.nodes.entries c.self.inside.ends c.in_default.ensures.unchanged c.self.invariant.rows;
+      banned_ascend = c.self.invariant.banned_ascend;
+    }
 
 pub returns-in_default : goal.returns-in_default
 returns-in_default c =
-    let held = is_held c.self.inside.channels.entries c.args.self.now.channels c.args.scid c.self.invariant.channels_keyed (ap (λ rows. rows.channels) c.self.view_is) in
+    let held = is_held c.self.inside.channels.entries c.args.self.now.channels c.args.scid c.self.invariant.rows.channels_keyed (ap (λ rows. rows.channels) c.self.view_is) in
     rw c.in_default.ensures.unchanged (c.self.view_is ∙ without_channel-none c.args.self.now c.args.scid (sym held ∙ ap is_some (sym c.in_default.ensures.value)))
 
 pub invariant_of-self-2 : goal.invariant_of-self-2
 invariant_of-self-2 c =
-    (closed c.self.inside.channels.entries c.remove.new.self.entries c.self.inside.nodes.entries c.drop_unless_ended.new.nodes.entries c.drop_unless_ended-2.new.nodes.entries
-    c.self.inside.ends c.remove-2.new.self c.args.scid c.in-Some.held c.node-first.result c.node-second.result
-    (c.node-first.ensures ∙ ap (λ row. row.message.node_id_1) c.get.ensures) (c.node-second.ensures ∙ ap (λ row. row.message.node_id_2) c.get-2.ensures)
-    c.remove.ensures.entries (sym c.in-Some.ensures.value) (ascend-held c.self.inside.channels.entries c.self.invariant.channels_ascend) c.remove.ensures.ordered
-    c.remove-2.ensures c.drop_unless_ended.ensures.left c.drop_unless_ended-2.ensures.left c.drop_unless_ended-2.ensures.keyed c.drop_unless_ended-2.ensures.ascend c.self.invariant).sound
+    record {
+      rows =
+          (closed c.self.inside.channels.entries c.remove.new.self.entries c.self.inside.nodes.entries c.drop_unless_ended.new.nodes.entries c.drop_unless_ended-2.new.nodes.entries
+          c.self.inside.ends c.remove-2.new.self c.args.scid c.in-Some.held c.node.result.now c.node-2.result.now
+          c.node.ensures c.node-2.ensures
+          c.remove.ensures.entries (sym c.in-Some.ensures.value) (ascend-held c.self.inside.channels.entries c.self.invariant.rows.channels_ascend) c.remove.ensures.ordered
+          c.remove-2.ensures c.drop_unless_ended.ensures.left c.drop_unless_ended-2.ensures.left c.drop_unless_ended-2.ensures.keyed c.drop_unless_ended-2.ensures.ascend c.self.invariant.rows).sound;
+      banned_ascend = c.self.invariant.banned_ascend;
+    }
 
 pub returns : goal.returns
 returns c =
     let left = closed c.self.inside.channels.entries c.remove.new.self.entries c.self.inside.nodes.entries c.drop_unless_ended.new.nodes.entries c.drop_unless_ended-2.new.nodes.entries
-    c.self.inside.ends c.remove-2.new.self c.args.scid c.in-Some.held c.node-first.result c.node-second.result
-    (c.node-first.ensures ∙ ap (λ row. row.message.node_id_1) c.get.ensures) (c.node-second.ensures ∙ ap (λ row. row.message.node_id_2) c.get-2.ensures)
-    c.remove.ensures.entries (sym c.in-Some.ensures.value) (ascend-held c.self.inside.channels.entries c.self.invariant.channels_ascend) c.remove.ensures.ordered
-    c.remove-2.ensures c.drop_unless_ended.ensures.left c.drop_unless_ended-2.ensures.left c.drop_unless_ended-2.ensures.keyed c.drop_unless_ended-2.ensures.ascend c.self.invariant in
+    c.self.inside.ends c.remove-2.new.self c.args.scid c.in-Some.held c.node.result.now c.node-2.result.now
+    c.node.ensures c.node-2.ensures
+    c.remove.ensures.entries (sym c.in-Some.ensures.value) (ascend-held c.self.inside.channels.entries c.self.invariant.rows.channels_ascend) c.remove.ensures.ordered
+    c.remove-2.ensures c.drop_unless_ended.ensures.left c.drop_unless_ended-2.ensures.left c.drop_unless_ended-2.ensures.keyed c.drop_unless_ended-2.ensures.ascend c.self.invariant.rows in
     let held : is_some (channel_of c.args.self.now.channels c.args.scid) ≡ true =
-    sym (is_held c.self.inside.channels.entries c.args.self.now.channels c.args.scid c.self.invariant.channels_keyed (ap (λ rows. rows.channels) c.self.view_is)) ∙ ap is_some (sym c.in-Some.ensures.value) in
+    sym (is_held c.self.inside.channels.entries c.args.self.now.channels c.args.scid c.self.invariant.rows.channels_keyed (ap (λ rows. rows.channels) c.self.view_is)) ∙ ap is_some (sym c.in-Some.ensures.value) in
     without_channel-held c.args.self.now _ c.args.scid held
     (left.channels_left ∙ ap (λ rows. channels_without rows.channels c.args.scid) c.self.view_is)
     (left.updates_left ∙ ap (λ rows. updates_without rows.updates c.args.scid) c.self.view_is)
     (left.nodes_left ∙ ap (λ channels. ended_nodes channels (values_of c.self.inside.nodes.entries)) left.channels_left
-    ∙ ap (λ rows. ended_nodes (channels_without rows.channels c.args.scid) rows.nodes) c.self.view_is)
+    ∙ ap (λ rows. ended_nodes (channels_without rows.channels c.args.scid) rows.nodes) c.self.view_is) (ap (λ rows. rows.banned) c.self.view_is)

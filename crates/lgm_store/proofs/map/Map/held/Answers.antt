@@ -6,14 +6,21 @@ use Rattle.lgm_store.specs.Held.{update_in, channel_entries, update_entries}
 use Rattle.lgm_store.specs.Rows.{channel_of, update_of}
 use Rattle.lgm_store.proofs.Lists.{lookup-channel, lookup-update}
 use Rattle.lgm_store.proofs.Holding.{ascend-held, lookup-channels, lookup-updates}
+use Rattle.lgm_store.proofs.HeldRows.{found-is_held_at}
 use Rattle.lgm_store.proofs.map.Map.held.Goals as goal
 
 pub returns-clause-channel : goal.returns-clause-channel
 returns-clause-channel c =
     ap (option_map (λ held. held.channel)) c.get.ensures.value ∙ sym (lookup-channels (is_at (nat_cmp c.args.scid)) c.self.inside.channels.entries)
-    ∙ lookup-channel (channel_entries c.self.inside.channels.entries) c.args.scid c.self.invariant.channels_keyed ∙ ap (λ rows. channel_of rows.channels c.args.scid) c.self.view_is
+    ∙ lookup-channel (channel_entries c.self.inside.channels.entries) c.args.scid c.self.invariant.rows.channels_keyed ∙ ap (λ rows. channel_of rows.channels c.args.scid) c.self.view_is
 
 pub returns-clause-update : goal.returns-clause-update
 returns-clause-update c second =
-    ap (option_and_then (update_in second)) c.get.ensures.value ∙ sym (lookup-updates c.args.scid second c.self.inside.channels.entries (ascend-held c.self.inside.channels.entries c.self.invariant.channels_ascend))
-    ∙ lookup-update (update_entries c.self.inside.channels.entries) c.args.scid second c.self.invariant.updates_keyed ∙ ap (λ rows. update_of rows.updates c.args.scid second) c.self.view_is
+    ap (option_and_then (update_in second)) c.get.ensures.value ∙ sym (lookup-updates c.args.scid second c.self.inside.channels.entries (ascend-held c.self.inside.channels.entries c.self.invariant.rows.channels_ascend))
+    ∙ lookup-update (update_entries c.self.inside.channels.entries) c.args.scid second c.self.invariant.rows.updates_keyed ∙ ap (λ rows. update_of rows.updates c.args.scid second) c.self.view_is
+
+pub returns-clause-held : goal.returns-clause-held
+returns-clause-held c =
+    let sound = c.self.invariant.rows in
+    c.get.ensures.value ∙ found-is_held_at c.self.inside.channels.entries c.args.self.now c.args.scid sound.channels_keyed sound.updates_keyed
+    (ascend-held c.self.inside.channels.entries sound.channels_ascend) (ap (λ rows. rows.channels) c.self.view_is) (ap (λ rows. rows.updates) c.self.view_is)

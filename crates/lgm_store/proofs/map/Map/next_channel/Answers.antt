@@ -23,11 +23,11 @@ returns-in_err-held c =
     let between = c.range.ensures.between tt ∙ ap (λ start. entries_between nat_cmp start Unbounded c.self.inside.channels.entries) c.start_after.ensures in
     ap option_copied c.from_residual.ensures ∙ ap first_channel (sym c.in_err-held.ensures.steps.0 ∙ between)
     ∙ first-filtered (range_contains nat_cmp (start_after c.args.after) Unbounded) c.self.inside.channels.entries
-    ∙ sym (next_channel-between (channel_entries c.self.inside.channels.entries) c.args.after c.self.invariant.channels_keyed) ∙ ap (λ rows. next_channel_of rows.channels c.args.after) c.self.view_is
+    ∙ sym (next_channel-between (channel_entries c.self.inside.channels.entries) c.args.after c.self.invariant.rows.channels_keyed) ∙ ap (λ rows. next_channel_of rows.channels c.args.after) c.self.view_is
 
 pub returns : goal.returns
 returns c =
     let between = c.range.ensures.between tt ∙ ap (λ start. entries_between nat_cmp start Unbounded c.self.inside.channels.entries) c.start_after.ensures in
-    ap some_row c.get.ensures ∙ ap first_channel (sym c.in_ok-held.ensures.steps ∙ between)
+    ap some_row c.row.ensures ∙ ap first_channel (sym c.in_ok-held.ensures.steps ∙ between)
     ∙ first-filtered (range_contains nat_cmp (start_after c.args.after) Unbounded) c.self.inside.channels.entries
-    ∙ sym (next_channel-between (channel_entries c.self.inside.channels.entries) c.args.after c.self.invariant.channels_keyed) ∙ ap (λ rows. next_channel_of rows.channels c.args.after) c.self.view_is
+    ∙ sym (next_channel-between (channel_entries c.self.inside.channels.entries) c.args.after c.self.invariant.rows.channels_keyed) ∙ ap (λ rows. next_channel_of rows.channels c.args.after) c.self.view_is

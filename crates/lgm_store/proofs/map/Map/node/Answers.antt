@@ -5,5 +5,5 @@ use Rattle.lgm_store.proofs.map.Map.node.Goals as goal
 
 pub returns : goal.returns
 returns c =
-    c.found.ensures ∙ c.get.ensures.value ∙ lookup-node c.self.inside.nodes.entries c.args.node.now c.self.invariant.nodes_keyed
+    c.found.ensures ∙ c.get.ensures.value ∙ lookup-node c.self.inside.nodes.entries c.args.node.now c.self.invariant.rows.nodes_keyed
     ∙ ap (λ rows. node_of rows.nodes c.args.node.now) c.self.view_is

@@ -11,12 +11,16 @@ pub invariant_of-self-2 : goal.invariant_of-self-2
 invariant_of-self-2 c =
     let own = c.node-node.ensures ∙ ap point_of c.get.ensures in
     let ended = rw own at (sym c.ends_channel.ensures ∙ c.if-not-ends_channel.false) in
-    IsSound-node (channel_entries c.self.inside.channels.entries) (update_entries c.self.inside.channels.entries) c.self.inside.nodes.entries c.insert.new.self.entries c.self.inside.ends
-    c.node-node.result c.args.row own c.in_ok-insert.ensures.entries c.insert.ensures.ordered (ap (λ rows. ends_channel rows.channels c.args.row.message.node_id) c.self.view_is ∙ ended) c.self.invariant
+    record {
+      rows =
+          IsSound-node (channel_entries c.self.inside.channels.entries) (update_entries c.self.inside.channels.entries) c.self.inside.nodes.entries c.insert.new.self.entries c.self.inside.ends
+          c.node-node.result c.args.row own c.in_ok-insert.ensures.entries c.insert.ensures.ordered (ap (λ rows. ends_channel rows.channels c.args.row.message.node_id) c.self.view_is ∙ ended) c.self.invariant.rows;
+      banned_ascend = c.self.invariant.banned_ascend;
+    }
 
 pub returns-clause-ok : goal.returns-clause-ok
 returns-clause-ok c =
     let own = c.node-node.ensures ∙ ap point_of c.get.ensures in
-    let put_is = values-node c.self.inside.nodes.entries c.insert.new.self.entries c.node-node.result c.args.row own c.in_ok-insert.ensures.entries c.self.invariant.nodes_keyed c.insert.ensures.was_ordered in
+    let put_is = values-node c.self.inside.nodes.entries c.insert.new.self.entries c.node-node.result c.args.row own c.in_ok-insert.ensures.entries c.self.invariant.rows.nodes_keyed c.insert.ensures.was_ordered in
     with_node-new c.args.self.now _ c.args.row (rw own at (sym c.ends_channel.ensures ∙ c.if-not-ends_channel.false))
-    (ap (λ rows. rows.channels) c.self.view_is) (ap (λ rows. rows.updates) c.self.view_is) (put_is ∙ ap (λ rows. put by_node rows.nodes c.args.row) c.self.view_is)
+    (ap (λ rows. rows.channels) c.self.view_is) (ap (λ rows. rows.updates) c.self.view_is) (put_is ∙ ap (λ rows. put by_node rows.nodes c.args.row) c.self.view_is) (ap (λ rows. rows.banned) c.self.view_is)

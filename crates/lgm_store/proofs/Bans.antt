@@ -1,0 +1,252 @@
+-- Bans: closing the channels that end at banned points, one after the other.
+use Rattle.std.proofs.Common.{◌≡◌, ℕ, Bool, true, false, not, ◌&&◌, ◌||◌, cond, List, [], ◌∷◌, ◌++◌, ◌+◌, ◌<◌, length, take, get_or, map, Some, refl, sym, ap, ◌∙◌, eqb, arith}
+use Rattle.std.specs.Prelude.{is_some}
+use Rattle.std.specs.List.{AllByRecursion, filter, list_any}
+use Rattle.std.specs.List.Sorted.{IsStrictlySortedBy}
+use Rattle.std.specs.Map.{keys_of, values_of}
+use Rattle.std.specs.BTreeMap.{insert_entry}
+use Rattle.std.specs.BTreeSet.{insert_key}
+use Rattle.std.specs.declared.cmp.Ordering.{Ordering}
+use Rattle.std.specs.declared.cmp.Ordering.TheVariants.{Less, Equal, Greater}
+use Rattle.std.specs.Ordering.{nat_cmp, match_ordering}
+use Rattle.std.proofs.lemmas.Bool.Decides.{nat_tests}
+use Rattle.std.proofs.lemmas.Grind.{take_at_read}
+use Rattle.lgm_gossip.specs.declared.point.Point.{Point}
+use Rattle.lgm_check.specs.declared.row.ChannelRow.{ChannelRow}
+use Rattle.lgm_check.specs.declared.row.UpdateRow.{UpdateRow}
+use Rattle.lgm_check.specs.declared.row.NodeRow.{NodeRow}
+use Rattle.lgm_store.specs.Keyed.{IsKeyed}
+use Rattle.lgm_store.specs.Ends.{point_cmp}
+use Rattle.lgm_store.specs.Rows.{Rows, put, by_point, by_id, channel_of, ends_at, ends_channel, ends_banned}
+use Rattle.lgm_store.specs.History.{without_channel, channels_without, updates_without, ended_nodes, allowed_channels, banned_channels, updates_beside, banning}
+use Rattle.lgm_store.specs.Sound.{AreEnded, id_of}
+use Rattle.lgm_store.proofs.Ascending.{ascend-filter}
+use Rattle.lgm_store.proofs.Lists.{node_total, same_node}
+use Rattle.lgm_store.proofs.Ordered.{values-insert, filter-filter, filter-same}
+use Rattle.lgm_store.proofs.Soundness.{AreEnded-ended_nodes}
+
+-- the rows with channels closed, in order
+abbrev pub closed_all : Rows → List ℕ → Rows
+closed_all rows [] = rows
+closed_all rows (id ∷ ids) = closed_all (without_channel rows id) ids
+
+pub closed_all-push : (rows : Rows) (ids : List ℕ) (id : ℕ) → closed_all rows (ids ++ id ∷ []) ≡ without_channel (closed_all rows ids) id
+closed_all-push rows [] id = refl
+closed_all-push rows (first ∷ ids) id = closed_all-push (without_channel rows first) ids id
+
+-- one more
+pub closed_all-more : (rows : Rows) (ids : List ℕ) (i : ℕ) (id : ℕ) → i < length ids → id ≡ get_or ids i id
+    → closed_all rows (take (i + 1) ids) ≡ without_channel (closed_all rows (take i ids)) id
+closed_all-more rows ids i id in_range is = ap (closed_all rows) ((take_at_read ids i id in_range).1) ∙ closed_all-push rows (take i ids) (get_or ids i id) ∙ ap (without_channel (closed_all rows (take i ids))) (sym is)
+
+-- ---- a channel whose id is the least of those that go
+
+another : (a b : ChannelRow) → by_id a b ≡ Less → eqb (id_of b) (id_of a) ≡ false
+another a b less = let is : nat_cmp (id_of a) (id_of b) ≡ Less = less in grind (arith, nat_tests)
+
+other : (a b : ChannelRow) → by_id a b ≡ Less → eqb (id_of a) (id_of b) ≡ false
+other a b less = let is : nat_cmp (id_of a) (id_of b) ≡ Less = less in grind (arith, nat_tests)
+
+same : (id : ℕ) → eqb id id ≡ true
+same id = grind (arith, nat_tests)
+
+-- rows above a row all stay where its id goes
+stay : (row : ChannelRow) (rows : List ChannelRow) → AllByRecursion (λ other. by_id row other ≡ Less) rows → channels_without rows (id_of row) ≡ rows
+stay row [] above = refl
+stay row (x ∷ xs) above = rw (another row x above.0, stay row xs above.1) refl
+
+All-filter : (P : ChannelRow → Type 0) (p : ChannelRow → Bool) (rows : List ChannelRow) → AllByRecursion P rows → AllByRecursion P (filter p rows)
+All-filter P p [] all = tt
+All-filter P p (x ∷ xs) all = by (All-filter P p xs all.1) (p x)
+  where
+    by : AllByRecursion P (filter p xs) → (b : Bool) → AllByRecursion P (cond b (x ∷ filter p xs) (filter p xs))
+    by others true = (all.0, others)
+    by others false = others
+
+-- the first of the rows that pass a test goes: the others that pass are left
+record Going (p : ChannelRow → Bool) (rows : List ChannelRow) (first : ChannelRow) (rest : List ChannelRow) : Type 0 where
+  passing : filter p (channels_without rows (id_of first)) ≡ rest
+  failing : filter (λ row. not (p row)) (channels_without rows (id_of first)) ≡ filter (λ row. not (p row)) rows
+  held : is_some (channel_of rows (id_of first)) ≡ true
+
+going : (p : ChannelRow → Bool) (rows : List ChannelRow) (first : ChannelRow) (rest : List ChannelRow) → IsStrictlySortedBy by_id rows → filter p rows ≡ first ∷ rest
+    → Going p rows first rest
+unfolding IsStrictlySortedBy
+going p [] first rest sorted is = absurd cc
+going p (x ∷ xs) first rest sorted is = by (going p xs first rest sorted.1) (p x) refl is
+  where
+    by : (filter p xs ≡ first ∷ rest → Going p xs first rest) → (b : Bool) → p x ≡ b → cond (p x) (x ∷ filter p xs) (filter p xs) ≡ first ∷ rest → Going p (x ∷ xs) first rest
+    by others true here is =
+        let parts : x ∷ filter p xs ≡ first ∷ rest = rw here at is in
+        let first_is : x ≡ first = cc in
+        let rest_is : filter p xs ≡ rest = cc in
+        rw (← first_is) (record {
+          passing = rw (same (id_of x), stay x xs sorted.0) rest_is;
+          failing = rw (same (id_of x), stay x xs sorted.0, here) refl;
+          held = rw (same (id_of x)) refl;
+        })
+    by others false here is =
+        let later : filter p xs ≡ first ∷ rest = rw here at is in
+        let left = others later in
+        let above : AllByRecursion (λ y. by_id x y ≡ Less) (first ∷ rest) = rw later at (All-filter (λ y. by_id x y ≡ Less) p xs sorted.0) in
+        record {
+          passing = rw (other x first above.0, here) left.passing;
+          failing = rw (other x first above.0, here, left.failing) refl;
+          held = rw (other x first above.0) left.held;
+        }
+
+-- ---- the step
+
+-- the updates of channels that go, one of them first
+updates-step : (first : ChannelRow) (rest : List ChannelRow) (updates : List UpdateRow)
+    → updates_beside rest (updates_without updates (id_of first)) ≡ updates_beside (first ∷ rest) updates
+updates-step first rest updates = filter-filter _ _ updates ∙ filter-same _ _ (λ row. by row (eqb row.message.short_channel_id (id_of first)) (turned row.message.short_channel_id (id_of first))) updates
+  where
+    turned : (a b : ℕ) → eqb b a ≡ eqb a b
+    turned a b = grind (arith, nat_tests)
+
+    by : (row : UpdateRow) (b : Bool) → eqb (id_of first) row.message.short_channel_id ≡ b
+        → (not b && not (is_some (channel_of rest row.message.short_channel_id)))
+        ≡ not (is_some (cond (eqb (id_of first) row.message.short_channel_id) (Some first) (channel_of rest row.message.short_channel_id)))
+    by row true is = rw is refl
+    by row false is = rw is refl
+
+-- nodes that are dropped at once, or in two steps
+any-filter : (p q : ChannelRow → Bool) (rows : List ChannelRow) → list_any q (filter p rows) ≡ true → list_any q rows ≡ true
+any-filter p q [] any = any
+any-filter p q (x ∷ xs) any = by (any-filter p q xs) (p x) any
+  where
+    or_true : (b : Bool) → (b || true) ≡ true
+    or_true true = refl
+    or_true false = refl
+
+    at : (b : Bool) → (list_any q (filter p xs) ≡ true → list_any q xs ≡ true) → (b || list_any q (filter p xs)) ≡ true → (b || list_any q xs) ≡ true
+    at true others any = refl
+    at false others any = others any
+
+    by : (list_any q (filter p xs) ≡ true → list_any q xs ≡ true) → (b : Bool) → list_any q (cond b (x ∷ filter p xs) (filter p xs)) ≡ true → (q x || list_any q xs) ≡ true
+    by others true any = at (q x) others any
+    by others false any = rw (others any) (or_true (q x))
+
+nodes-step : (p : ChannelRow → Bool) (channels : List ChannelRow) (nodes : List NodeRow) → ended_nodes (filter p channels) (ended_nodes channels nodes) ≡ ended_nodes (filter p channels) nodes
+nodes-step p channels nodes = filter-filter _ _ nodes ∙ filter-same _ _ (λ row. by row (ends_channel (filter p channels) row.message.node_id) refl) nodes
+  where
+    and_false : (b : Bool) → (b && false) ≡ false
+    and_false true = refl
+    and_false false = refl
+
+    by : (row : NodeRow) (b : Bool) → ends_channel (filter p channels) row.message.node_id ≡ b
+        → (ends_channel channels row.message.node_id && ends_channel (filter p channels) row.message.node_id) ≡ ends_channel (filter p channels) row.message.node_id
+    by row true is = rw (is, any-filter p (ends_at row.message.node_id) channels is) refl
+    by row false is = rw is (and_false (ends_channel channels row.message.node_id))
+
+-- ---- all of them
+
+-- no channel ends at a banned point
+nothing : (banned : List Point) (rows : List ChannelRow) → banned_channels banned rows ≡ [] → allowed_channels banned rows ≡ rows
+nothing banned [] none = refl
+nothing banned (x ∷ xs) none = by (nothing banned xs) (ends_banned banned x) refl none
+  where
+    by : (banned_channels banned xs ≡ [] → allowed_channels banned xs ≡ xs) → (b : Bool) → ends_banned banned x ≡ b
+        → cond (ends_banned banned x) (x ∷ banned_channels banned xs) (banned_channels banned xs) ≡ []
+        → cond (not (ends_banned banned x)) (x ∷ allowed_channels banned xs) (allowed_channels banned xs) ≡ x ∷ xs
+    by others true is none = let never : x ∷ banned_channels banned xs ≡ [] = rw is at none in absurd cc
+    by others false is none = let later : banned_channels banned xs ≡ [] = rw is at none in rw (is, others later) refl
+
+all_stay : {R : Type 0} (rows : List R) → filter (λ row. true) rows ≡ rows
+all_stay [] = refl
+all_stay (x ∷ xs) = rw (all_stay xs) refl
+
+all_ended : (channels : List ChannelRow) (nodes : List NodeRow) → AreEnded channels nodes → ended_nodes channels nodes ≡ nodes
+all_ended channels [] ended = refl
+all_ended channels (x ∷ xs) ended = rw (ended.0, all_ended channels xs ended.1) refl
+
+pub banning-none : (rows : Rows) (banned : List Point) → rows.banned ≡ banned → banned_channels banned rows.channels ≡ [] → AreEnded rows.channels rows.nodes → rows ≡ banning rows banned
+banning-none rows banned is none ended =
+    let channels = nothing banned rows.channels none in
+    let updates : updates_beside (banned_channels banned rows.channels) rows.updates ≡ rows.updates = rw none (all_stay rows.updates) in
+    rw (channels, updates, all_ended rows.channels rows.nodes ended, ← is) refl
+
+-- rows by their lists
+rows_same : (a b : Rows) → a.channels ≡ b.channels → a.updates ≡ b.updates → a.nodes ≡ b.nodes → a.banned ≡ b.banned → a ≡ b
+rows_same a b c u n p =
+    let rows : List ChannelRow → List UpdateRow → List NodeRow → List Point → Rows = λ cs us ns ps. record { channels = cs; updates = us; nodes = ns; banned = ps } in
+    ap (λ cs. rows cs a.updates a.nodes a.banned) c ∙ ap (λ us. rows b.channels us a.nodes a.banned) u
+    ∙ ap (λ ns. rows b.channels b.updates ns a.banned) n ∙ ap (λ ps. rows b.channels b.updates b.nodes ps) p
+
+-- without a channel that is held
+abbrev closing : Rows → ℕ → Rows
+closing rows id = record {
+  channels = channels_without rows.channels id;
+  updates = updates_without rows.updates id;
+  nodes = ended_nodes (channels_without rows.channels id) rows.nodes;
+  banned = rows.banned;
+}
+
+pub closed_all-bans : (ids : List ℕ) (rows : Rows) (banned : List Point) → rows.banned ≡ banned → ids ≡ map id_of (banned_channels banned rows.channels)
+    → IsStrictlySortedBy by_id rows.channels → AreEnded rows.channels rows.nodes → closed_all rows ids ≡ banning rows banned
+closed_all-bans [] rows banned is ids_are ascend ended = by (banned_channels banned rows.channels) refl ids_are
+  where
+    by : (gone : List ChannelRow) → banned_channels banned rows.channels ≡ gone → [] ≡ map id_of gone → rows ≡ banning rows banned
+    by [] gone_is ids_are = banning-none rows banned is gone_is ended
+    by (x ∷ xs) gone_is ids_are = absurd cc
+closed_all-bans (id ∷ ids) rows banned is ids_are ascend ended =
+    by (closed_all-bans ids (closing rows id) banned is) (banned_channels banned rows.channels) refl ids_are
+  where
+    by : (ids ≡ map id_of (banned_channels banned (channels_without rows.channels id)) → IsStrictlySortedBy by_id (channels_without rows.channels id)
+        → AreEnded (channels_without rows.channels id) (ended_nodes (channels_without rows.channels id) rows.nodes) → closed_all (closing rows id) ids ≡ banning (closing rows id) banned)
+        → (gone : List ChannelRow) → banned_channels banned rows.channels ≡ gone → id ∷ ids ≡ map id_of gone → closed_all (without_channel rows id) ids ≡ banning rows banned
+    by others [] gone_is ids_are = absurd cc
+    by others (first ∷ rest) gone_is ids_are =
+        let id_is : id ≡ id_of first = cc in
+        let rest_is : ids ≡ map id_of rest = cc in
+        let g = going (ends_banned banned) rows.channels first rest ascend gone_is in
+        let passing : banned_channels banned (channels_without rows.channels id) ≡ rest = rw id_is g.passing in
+        let failing : allowed_channels banned (channels_without rows.channels id) ≡ allowed_channels banned rows.channels = rw id_is g.failing in
+        let held : is_some (channel_of rows.channels id) ≡ true = rw id_is g.held in
+        let closes : without_channel rows id ≡ closing rows id = rw held refl in
+        let later = others (rest_is ∙ ap (map id_of) (sym passing)) (ascend-filter by_id _ rows.channels ascend) (AreEnded-ended_nodes (channels_without rows.channels id) rows.nodes) in
+        let updates : updates_beside (banned_channels banned (channels_without rows.channels id)) (updates_without rows.updates id) ≡ updates_beside (banned_channels banned rows.channels) rows.updates =
+        ap (λ gone. updates_beside gone (updates_without rows.updates id)) passing ∙ ap (λ i. updates_beside rest (updates_without rows.updates i)) id_is
+        ∙ updates-step first rest rows.updates ∙ ap (λ gone. updates_beside gone rows.updates) (sym gone_is) in
+        let nodes : ended_nodes (allowed_channels banned (channels_without rows.channels id)) (ended_nodes (channels_without rows.channels id) rows.nodes) ≡ ended_nodes (allowed_channels banned rows.channels) rows.nodes =
+        nodes-step (λ row. not (ends_banned banned row)) (channels_without rows.channels id) rows.nodes ∙ ap (λ channels. ended_nodes channels rows.nodes) failing in
+        ap (λ r. closed_all r ids) closes ∙ later ∙ rows_same (banning (closing rows id) banned) (banning rows banned) failing updates nodes refl
+
+-- ---- the set of banned points
+
+-- a point is put where an ordered set keeps it
+pub keys-insert : (points : List Point) (p : Point) → IsStrictlySortedBy by_point points → insert_key by_point points p ≡ put by_point points p
+keys-insert points p sorted =
+    by points ∙ values-insert point_cmp (λ (q : Point). q) node_total p (twice points) (keyed points) (rw (keys points) sorted) ∙ ap (λ ps. put by_point ps p) (values points)
+  where
+    twice : List Point → List (Point × Point)
+    twice [] = []
+    twice (x ∷ xs) = (x, x) ∷ twice xs
+
+    keys : (xs : List Point) → keys_of (twice xs) ≡ xs
+    keys [] = refl
+    keys (x ∷ xs) = rw (keys xs) refl
+
+    values : (xs : List Point) → values_of (twice xs) ≡ xs
+    values [] = refl
+    values (x ∷ xs) = rw (values xs) refl
+
+    keyed : (xs : List Point) → IsKeyed (λ (q : Point). q) (twice xs)
+    keyed [] = tt
+    keyed (x ∷ xs) = (refl, keyed xs)
+
+    by : (xs : List Point) → insert_key by_point xs p ≡ values_of (insert_entry point_cmp (twice xs) p p)
+    by [] = refl
+    by (x ∷ xs) = at (by xs) (by_point p x) refl
+      where
+        at : insert_key by_point xs p ≡ values_of (insert_entry point_cmp (twice xs) p p) → (o : Ordering) → by_point p x ≡ o
+            → match_ordering o (p ∷ x ∷ xs) (x ∷ xs) (x ∷ insert_key by_point xs p)
+            ≡ values_of (match_ordering o ((p, p) ∷ (x, x) ∷ twice xs) ((x, p) ∷ twice xs) ((x, x) ∷ insert_entry point_cmp (twice xs) p p))
+        at others Less is = rw (values xs) refl
+        at others Equal is = rw (values xs, ← same_node p x is) refl
+        at others Greater is = rw others refl
+
+pub any-same : {X : Type 0} (p q : X → Bool) → ((x : X) → p x ≡ q x) → (xs : List X) → list_any p xs ≡ list_any q xs
+any-same p q same [] = refl
+any-same p q same (x ∷ xs) = rw (same x, any-same p q same xs) refl

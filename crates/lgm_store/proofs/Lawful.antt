@@ -1,0 +1,257 @@
+-- What holds of the rows that histories leave.
+use Rattle.std.proofs.Common.{◌≡◌, ℕ, Bool, true, false, not, ◌||◌, cond, List, [], ◌∷◌, ◌++◌, Some, refl, sym, ap, ◌∙◌, eqb, arith}
+use Rattle.std.specs.Prelude.{is_some, if◌then◌else◌}
+use Rattle.std.specs.List.{AllByRecursion, filter, find, list_any}
+use Rattle.std.specs.declared.cmp.Ordering.{Ordering}
+use Rattle.std.specs.declared.cmp.Ordering.TheVariants.{Less, Equal, Greater}
+use Rattle.std.specs.Ordering.{is_lt, is_gt, nat_cmp}
+use Rattle.std.proofs.lemmas.List.Folds.{list_any-append}
+use Rattle.std.proofs.lemmas.Map.Views.{any-filter_same}
+use Rattle.std.proofs.lemmas.Bool.Decides.{nat_tests}
+use Rattle.lgm_gossip.specs.declared.point.Point.{Point}
+use Rattle.lgm_check.specs.declared.row.ChannelRow.{ChannelRow}
+use Rattle.lgm_store.specs.declared.op.Op.{Op}
+use Rattle.lgm_store.specs.declared.op.Op.TheVariants as ops
+use Rattle.lgm_store.specs.Rows.{Rows, empty, put, by_id, by_direction, by_node, channel_of, ends_at, ends_channel, ends_banned}
+use Rattle.lgm_store.specs.History.{absorbed, fold_from, fold, with_banned, channels_without, updates_without, ended_nodes, allowed_channels, banned_channels}
+use Rattle.lgm_store.specs.Laws.{IsLawful, AreHeld, AreEnded, AreAllowed}
+use Rattle.lgm_store.specs.Sound.{id_of}
+use Rattle.lgm_store.proofs.Ascending.{fold-ascends}
+use Rattle.lgm_store.proofs.Soundness.{AreEnded-ended_nodes}
+
+-- ---- rows that are put, and rows that a filter keeps
+
+All-filtered : {R : Type 0} (P Q : R → Type 0) (p : R → Bool) (rows : List R) → ((x : R) → p x ≡ true → P x → Q x) → AllByRecursion P rows → AllByRecursion Q (filter p rows)
+All-filtered {R} P Q p [] give all = tt
+All-filtered {R} P Q p (x ∷ xs) give all = by (All-filtered P Q p xs give all.1) (p x) refl
+  where
+    by : AllByRecursion Q (filter p xs) → (b : Bool) → p x ≡ b → AllByRecursion Q (cond b (x ∷ filter p xs) (filter p xs))
+    by others true is = (give x is all.0, others)
+    by others false is = others
+
+All-more : {R : Type 0} (P Q : R → Type 0) (rows : List R) → ((x : R) → P x → Q x) → AllByRecursion P rows → AllByRecursion Q rows
+All-more {R} P Q [] give all = tt
+All-more {R} P Q (x ∷ xs) give all = (give x all.0, All-more P Q xs give all.1)
+
+All-joined : {R : Type 0} (P : R → Type 0) (xs ys : List R) → AllByRecursion P xs → AllByRecursion P ys → AllByRecursion P (xs ++ ys)
+All-joined {R} P [] ys all all' = all'
+All-joined {R} P (x ∷ xs) ys all all' = (all.0, All-joined P xs ys all.1 all')
+
+All-put : {R : Type 0} (P : R → Type 0) (order : R → R → Ordering) (rows : List R) (row : R) → P row → AllByRecursion P rows → AllByRecursion P (put order rows row)
+All-put {R} P order rows row here all =
+    All-joined P _ _ (All-filtered P P _ rows (λ x is p. p) all) (here, All-filtered P P _ rows (λ x is p. p) all)
+
+-- a test that found a row finds one still, where a row is put
+any-put : {R : Type 0} (p : R → Bool) (order : R → R → Ordering) (row : R) (rows : List R) → AllByRecursion (λ x. order x row ≡ Equal → p x ≡ true → p row ≡ true) rows
+    → list_any p rows ≡ true → list_any p (put order rows row) ≡ true
+any-put {R} p order row rows alike any = list_any-append p (filter (λ x. is_lt (order x row)) rows) (row ∷ filter (λ x. is_gt (order x row)) rows) ∙ parts rows alike any
+  where
+    or_true : (b : Bool) → (b || true) ≡ true
+    or_true true = refl
+    or_true false = refl
+
+    middle : (a b : Bool) → (a || (true || b)) ≡ true
+    middle a b = or_true a
+
+    last : (a b : Bool) → (a || (b || true)) ≡ true
+    last a b = ap (λ (x : Bool). a || x) (or_true b) ∙ or_true a
+
+    parts : (xs : List R) → AllByRecursion (λ x. order x row ≡ Equal → p x ≡ true → p row ≡ true) xs → list_any p xs ≡ true
+        → (list_any p (filter (λ x. is_lt (order x row)) xs) || (p row || list_any p (filter (λ x. is_gt (order x row)) xs))) ≡ true
+    parts [] alike any = absurd cc
+    parts (x ∷ xs) alike any = at (parts xs alike.1) (order x row) refl (p x) refl any
+      where
+        at : (list_any p xs ≡ true → (list_any p (filter (λ x. is_lt (order x row)) xs) || (p row || list_any p (filter (λ x. is_gt (order x row)) xs))) ≡ true)
+            → (o : Ordering) → order x row ≡ o → (b : Bool) → p x ≡ b → (p x || list_any p xs) ≡ true
+            → (list_any p (cond (is_lt (order x row)) (x ∷ filter (λ x. is_lt (order x row)) xs) (filter (λ x. is_lt (order x row)) xs))
+            || (p row || list_any p (cond (is_gt (order x row)) (x ∷ filter (λ x. is_gt (order x row)) xs) (filter (λ x. is_gt (order x row)) xs)))) ≡ true
+        at others Less is true here any = rw (is, here) refl
+        at others Less is false here any = rw (is, here) (others (rw here at any))
+        at others Equal is true here any = rw (is, alike.0 is here) (middle (list_any p (filter (λ x. is_lt (order x row)) xs)) (list_any p (filter (λ x. is_gt (order x row)) xs)))
+        at others Equal is false here any = rw is (others (rw here at any))
+        at others Greater is true here any = rw (is, here) (last (list_any p (filter (λ x. is_lt (order x row)) xs)) (p row))
+        at others Greater is false here any = rw (is, here) (others (rw here at any))
+
+-- ---- what is held
+
+is_some-find : {R : Type 0} (p : R → Bool) (rows : List R) → is_some (find p rows) ≡ list_any p rows
+is_some-find {R} p [] = refl
+is_some-find {R} p (x ∷ xs) = by (is_some-find p xs) (p x)
+  where
+    by : is_some (find p xs) ≡ list_any p xs → (b : Bool) → is_some (cond b (Some x) (find p xs)) ≡ (b || list_any p xs)
+    by others true = refl
+    by others false = others
+
+-- whether a channel is of an id
+abbrev is_of : ℕ → ChannelRow → Bool
+is_of id row = eqb row.message.short_channel_id id
+
+held_any : (rows : List ChannelRow) (id : ℕ) → is_some (channel_of rows id) ≡ list_any (is_of id) rows
+held_any rows id = is_some-find (is_of id) rows
+
+-- a row that isn't held has no like
+no_like : (rows : List ChannelRow) (row : ChannelRow) → is_some (channel_of rows (id_of row)) ≡ false → AllByRecursion (λ x. by_id x row ≡ Equal → ⊥) rows
+no_like [] row none = tt
+no_like (x ∷ xs) row none = by (no_like xs row) (eqb (id_of x) (id_of row)) refl none
+  where
+    like : (a b : ℕ) → nat_cmp a b ≡ Equal → eqb a b ≡ true
+    like a b e = grind (arith, nat_tests)
+
+    by : (is_some (channel_of xs (id_of row)) ≡ false → AllByRecursion (λ x. by_id x row ≡ Equal → ⊥) xs) → (b : Bool) → eqb (id_of x) (id_of row) ≡ b
+        → is_some (cond (eqb (id_of x) (id_of row)) (Some x) (channel_of xs (id_of row))) ≡ false → AllByRecursion (λ x. by_id x row ≡ Equal → ⊥) (x ∷ xs)
+    by others true is none = let never : true ≡ false = rw is at none in absurd cc
+    by others false is none =
+        let rest : is_some (channel_of xs (id_of row)) ≡ false = rw is at none in
+        ((λ e. let never : true ≡ false = sym (like (id_of x) (id_of row) e) ∙ is in absurd cc), others rest)
+
+-- a channel more holds what was held
+any-channel : (p : ChannelRow → Bool) (rows : List ChannelRow) (row : ChannelRow) → is_some (channel_of rows (id_of row)) ≡ false → list_any p rows ≡ true → list_any p (put by_id rows row) ≡ true
+any-channel p rows row none any = any-put p by_id row rows (All-more (λ x. by_id x row ≡ Equal → ⊥) _ rows (λ x never e here. absurd (never e)) (no_like rows row none)) any
+
+held-more : (rows : List ChannelRow) (row : ChannelRow) (id : ℕ) → is_some (channel_of rows (id_of row)) ≡ false → is_some (channel_of rows id) ≡ true → is_some (channel_of (put by_id rows row) id) ≡ true
+held-more rows row id none held = held_any (put by_id rows row) id ∙ any-channel (is_of id) rows row none (sym (held_any rows id) ∙ held)
+
+-- another channel less
+held-without : (rows : List ChannelRow) (gone id : ℕ) → not (eqb id gone) ≡ true → is_some (channel_of rows id) ≡ true → is_some (channel_of (channels_without rows gone) id) ≡ true
+held-without rows gone id apart held =
+    held_any (channels_without rows gone) id
+    ∙ any-filter_same (is_of id) (λ row. not (eqb (id_of row) gone)) true (λ row is. ap (λ k. not (eqb k gone)) (same (id_of row) id is) ∙ apart) rows
+    ∙ sym (held_any rows id) ∙ held
+  where
+    same : (a b : ℕ) → eqb a b ≡ true → a ≡ b
+    same a b e = grind (arith, nat_tests)
+
+-- a test finds a row among those that pass another, or among the others
+any-parts : {R : Type 0} (t q : R → Bool) (rows : List R) → list_any t rows ≡ true → list_any t (filter q rows) ≡ false → list_any t (filter (λ x. not (q x)) rows) ≡ true
+any-parts {R} t q [] any none = any
+any-parts {R} t q (x ∷ xs) any none = by (any-parts t q xs) (q x) refl (t x) refl any none
+  where
+    by : (list_any t xs ≡ true → list_any t (filter q xs) ≡ false → list_any t (filter (λ x. not (q x)) xs) ≡ true)
+        → (b : Bool) → q x ≡ b → (d : Bool) → t x ≡ d → (t x || list_any t xs) ≡ true → list_any t (cond (q x) (x ∷ filter q xs) (filter q xs)) ≡ false
+        → list_any t (cond (not (q x)) (x ∷ filter (λ x. not (q x)) xs) (filter (λ x. not (q x)) xs)) ≡ true
+    by others true is true here any none = let never : true ≡ false = rw (is, here) at none in absurd cc
+    by others true is false here any none = rw is (others (rw here at any) (rw (is, here) at none))
+    by others false is true here any none = rw (is, here) refl
+    by others false is false here any none = rw (is, here) (others (rw here at any) (rw is at none))
+
+held-allowed : (banned : List Point) (rows : List ChannelRow) (id : ℕ) → not (is_some (channel_of (banned_channels banned rows) id)) ≡ true → is_some (channel_of rows id) ≡ true
+    → is_some (channel_of (allowed_channels banned rows) id) ≡ true
+held-allowed banned rows id gone held =
+    held_any (allowed_channels banned rows) id
+    ∙ any-parts (is_of id) (ends_banned banned) rows (sym (held_any rows id) ∙ held) (sym (held_any (banned_channels banned rows) id) ∙ none (is_some (channel_of (banned_channels banned rows) id)) gone)
+  where
+    none : (b : Bool) → not b ≡ true → b ≡ false
+    none true e = absurd cc
+    none false e = refl
+
+-- ---- each operation keeps what holds
+
+pub AreHeld-absorbed : (rows : Rows) (op : Op) → AreHeld rows → AreHeld (absorbed rows op)
+AreHeld-absorbed rows (ops.Channel row) held = by (is_some (channel_of rows.channels (id_of row))) refl (ends_banned rows.banned row)
+  where
+    by : (b : Bool) → is_some (channel_of rows.channels (id_of row)) ≡ b → (d : Bool) → AreHeld (if b || d then rows else record rows { channels = put by_id rows.channels row })
+    by true is d = held
+    by false is true = held
+    by false is false = All-more (λ u. is_some (channel_of rows.channels u.message.short_channel_id) ≡ true) _ rows.updates (λ u h. held-more rows.channels row u.message.short_channel_id is h) held
+AreHeld-absorbed rows (ops.Update row) held = by (is_some (channel_of rows.channels row.message.short_channel_id)) refl
+  where
+    by : (b : Bool) → is_some (channel_of rows.channels row.message.short_channel_id) ≡ b → AreHeld (if b then record rows { updates = put by_direction rows.updates row } else rows)
+    by true is = All-put (λ u. is_some (channel_of rows.channels u.message.short_channel_id) ≡ true) by_direction rows.updates row is held
+    by false is = held
+AreHeld-absorbed rows (ops.Node row) held = by (ends_channel rows.channels row.message.node_id)
+  where
+    by : (b : Bool) → AreHeld (if b then record rows { nodes = put by_node rows.nodes row } else rows)
+    by true = held
+    by false = held
+AreHeld-absorbed rows (ops.Close id) held = by (is_some (channel_of rows.channels id))
+  where
+    by : (b : Bool) → AreHeld (if b then record {
+      channels = channels_without rows.channels id;
+      updates = updates_without rows.updates id;
+      nodes = ended_nodes (channels_without rows.channels id) rows.nodes;
+      banned = rows.banned;
+    } else rows)
+    by true = All-filtered (λ u. is_some (channel_of rows.channels u.message.short_channel_id) ≡ true) _ _ rows.updates (λ u apart h. held-without rows.channels id u.message.short_channel_id apart h) held
+    by false = held
+AreHeld-absorbed rows (ops.Ban ban) held =
+    All-filtered (λ u. is_some (channel_of rows.channels u.message.short_channel_id) ≡ true) _ _ rows.updates
+    (λ u gone h. held-allowed (with_banned rows.banned ban) rows.channels u.message.short_channel_id gone h) held
+
+pub AreEnded-absorbed : (rows : Rows) (op : Op) → AreEnded rows → AreEnded (absorbed rows op)
+AreEnded-absorbed rows (ops.Channel row) ended = by (is_some (channel_of rows.channels (id_of row))) refl (ends_banned rows.banned row)
+  where
+    by : (b : Bool) → is_some (channel_of rows.channels (id_of row)) ≡ b → (d : Bool) → AreEnded (if b || d then rows else record rows { channels = put by_id rows.channels row })
+    by true is d = ended
+    by false is true = ended
+    by false is false = All-more (λ n. ends_channel rows.channels n.message.node_id ≡ true) _ rows.nodes (λ n e. any-channel (ends_at n.message.node_id) rows.channels row is e) ended
+AreEnded-absorbed rows (ops.Update row) ended = by (is_some (channel_of rows.channels row.message.short_channel_id))
+  where
+    by : (b : Bool) → AreEnded (if b then record rows { updates = put by_direction rows.updates row } else rows)
+    by true = ended
+    by false = ended
+AreEnded-absorbed rows (ops.Node row) ended = by (ends_channel rows.channels row.message.node_id) refl
+  where
+    by : (b : Bool) → ends_channel rows.channels row.message.node_id ≡ b → AreEnded (if b then record rows { nodes = put by_node rows.nodes row } else rows)
+    by true is = All-put (λ n. ends_channel rows.channels n.message.node_id ≡ true) by_node rows.nodes row is ended
+    by false is = ended
+AreEnded-absorbed rows (ops.Close id) ended = by (is_some (channel_of rows.channels id))
+  where
+    by : (b : Bool) → AreEnded (if b then record {
+      channels = channels_without rows.channels id;
+      updates = updates_without rows.updates id;
+      nodes = ended_nodes (channels_without rows.channels id) rows.nodes;
+      banned = rows.banned;
+    } else rows)
+    by true = AreEnded-ended_nodes (channels_without rows.channels id) rows.nodes
+    by false = ended
+AreEnded-absorbed rows (ops.Ban ban) ended = AreEnded-ended_nodes (allowed_channels (with_banned rows.banned ban) rows.channels) rows.nodes
+
+pub AreAllowed-absorbed : (rows : Rows) (op : Op) → AreAllowed rows → AreAllowed (absorbed rows op)
+AreAllowed-absorbed rows (ops.Channel row) allowed = by (is_some (channel_of rows.channels (id_of row))) (ends_banned rows.banned row) refl
+  where
+    by : (b : Bool) (d : Bool) → ends_banned rows.banned row ≡ d → AreAllowed (if b || d then rows else record rows { channels = put by_id rows.channels row })
+    by true d is = allowed
+    by false true is = allowed
+    by false false is = All-put (λ x. ends_banned rows.banned x ≡ false) by_id rows.channels row is allowed
+AreAllowed-absorbed rows (ops.Update row) allowed = by (is_some (channel_of rows.channels row.message.short_channel_id))
+  where
+    by : (b : Bool) → AreAllowed (if b then record rows { updates = put by_direction rows.updates row } else rows)
+    by true = allowed
+    by false = allowed
+AreAllowed-absorbed rows (ops.Node row) allowed = by (ends_channel rows.channels row.message.node_id)
+  where
+    by : (b : Bool) → AreAllowed (if b then record rows { nodes = put by_node rows.nodes row } else rows)
+    by true = allowed
+    by false = allowed
+AreAllowed-absorbed rows (ops.Close id) allowed = by (is_some (channel_of rows.channels id))
+  where
+    by : (b : Bool) → AreAllowed (if b then record {
+      channels = channels_without rows.channels id;
+      updates = updates_without rows.updates id;
+      nodes = ended_nodes (channels_without rows.channels id) rows.nodes;
+      banned = rows.banned;
+    } else rows)
+    by true = All-filtered (λ x. ends_banned rows.banned x ≡ false) (λ x. ends_banned rows.banned x ≡ false) _ rows.channels (λ x is p. p) allowed
+    by false = allowed
+AreAllowed-absorbed rows (ops.Ban ban) allowed =
+    All-filtered (λ x. ends_banned rows.banned x ≡ false) _ _ rows.channels (λ x is p. none (ends_banned (with_banned rows.banned ban) x) is) allowed
+  where
+    none : (b : Bool) → not b ≡ true → b ≡ false
+    none true e = absurd cc
+    none false e = refl
+
+-- ---- histories
+
+pub fold_from-keeps : (P : Rows → Type 0) → ((rows : Rows) (op : Op) → P rows → P (absorbed rows op)) → (rows : Rows) (history : List Op) → P rows → P (fold_from rows history)
+fold_from-keeps P keeps rows [] here = here
+fold_from-keeps P keeps rows (op ∷ others) here = fold_from-keeps P keeps (absorbed rows op) others (keeps rows op here)
+
+pub fold-lawful : (history : List Op) → IsLawful (fold history)
+fold-lawful history = record {
+  ascend = fold-ascends history;
+  held = fold_from-keeps AreHeld AreHeld-absorbed empty history tt;
+  ended = fold_from-keeps AreEnded AreEnded-absorbed empty history tt;
+}
+
+pub fold-allowed : (history : List Op) → AreAllowed (fold history)
+fold-allowed history = fold_from-keeps AreAllowed AreAllowed-absorbed empty history tt

@@ -1,0 +1,150 @@
+//! Walks along a map.
+
+ghost use Rattle.std.specs.Prelude.{◌≡◌, filter};
+ghost use Rattle.std.specs.Map.{values_of};
+ghost use Rattle.std.specs.Iterator.{YieldsFirstRef, item_count};
+ghost use Rattle.lgm_store.specs.Reading.{is_between};
+
+use crate::held::Held;
+use crate::shared::Shared;
+use lgm_check::NodeRow;
+use lgm_gossip::{Point, Scid};
+use std::collections::btree_map::Range;
+use std::marker::Model;
+
+/// Channels of a map with their updates, by id. Contracts see the list of those that are still to come.
+///
+/// A step costs no search, and takes no memory.
+#[derive(Drop)]
+pub struct Channels<'a> {
+    entries: Range<'a, Scid, Held>,
+}
+
+impl<'a> Model for Channels<'a> {
+    ghost use Rattle.std.specs.Prelude.{List};
+    ghost use Rattle.std.specs.Map.{values_of};
+    ghost use Rattle.lgm_store.specs.declared.held.Held.{Held};
+
+    ghost Value = { List Held };
+
+    ghost view = { λ c. values_of c.entries };
+}
+
+impl<'a> Channels<'a> {
+    pub(crate) fn new(entries: Range<'a, Scid, Held>) -> Channels<'a>
+        ensures { result ≡ values_of entries.entry }
+    {
+        Channels { entries }
+    }
+}
+
+impl<'a> Iterator for Channels<'a> {
+    type Item = &'a Held;
+
+    ghost next_gives = { YieldsFirstRef (λ left. left) };
+
+    ghost remaining = { item_count (λ left. left) };
+
+    fn next(&mut self) -> Option<&'a Held> {
+        match self.entries.next() {
+            Some((_, held)) => Some(held),
+            None => None,
+        }
+    }
+}
+
+/// The channels of a range of blocks, with their updates, by id. Contracts see the list of those that are still to come.
+///
+/// A step costs no search, and takes no memory.
+#[derive(Drop)]
+pub struct ChannelsBetween<'a> {
+    /// These, but for the ids of other blocks.
+    entries: Range<'a, Scid, Held>,
+    from: u64,
+    to: u64,
+}
+
+impl<'a> Model for ChannelsBetween<'a> {
+    ghost use Rattle.std.specs.Prelude.{List, filter};
+    ghost use Rattle.std.specs.Map.{values_of};
+    ghost use Rattle.lgm_store.specs.declared.held.Held.{Held};
+    ghost use Rattle.lgm_store.specs.Reading.{is_between};
+
+    ghost Value = { List Held };
+
+    ghost view = { λ c. values_of (filter (λ e. is_between e.0 c.from c.to) c.entries) };
+}
+
+impl<'a> ChannelsBetween<'a> {
+    pub(crate) fn new(entries: Range<'a, Scid, Held>, from: u64, to: u64) -> ChannelsBetween<'a>
+        ensures { result ≡ values_of (filter (λ e. is_between e.0 from to) entries.entry) }
+    {
+        ChannelsBetween { entries, from, to }
+    }
+}
+
+impl<'a> Iterator for ChannelsBetween<'a> {
+    type Item = &'a Held;
+
+    ghost next_gives = { YieldsFirstRef (λ left. left) };
+
+    ghost remaining = { item_count (λ left. left) };
+
+    fn next(&mut self) -> Option<&'a Held> {
+        while let Some((scid, held)) = self.entries.next() {
+            if is_between(*scid, self.from, self.to) {
+                return Some(held);
+            }
+        }
+        None
+    }
+}
+
+/// Whether an id's block is at least `from` and below `to`.
+fn is_between(scid: Scid, from: u64, to: u64) -> bool
+    ensures { result ≡ is_between scid from to }
+{
+    let block = u64::from(scid.block());
+    from <= block && block < to
+}
+
+/// Nodes of a map, by point. Contracts see the list of those that are still to come.
+///
+/// A step costs no search, and takes no memory.
+#[derive(Drop)]
+pub struct Nodes<'a> {
+    entries: Range<'a, Point, Shared<NodeRow>>,
+}
+
+impl<'a> Model for Nodes<'a> {
+    ghost use Rattle.std.specs.Prelude.{List};
+    ghost use Rattle.std.specs.Map.{values_of};
+    ghost use Rattle.lgm_check.specs.declared.row.NodeRow.{NodeRow};
+
+    ghost Value = { List NodeRow };
+
+    ghost view = { λ n. values_of n.entries };
+}
+
+impl<'a> Nodes<'a> {
+    pub(crate) fn new(entries: Range<'a, Point, Shared<NodeRow>>) -> Nodes<'a>
+        ensures { result ≡ values_of entries.entry }
+    {
+        Nodes { entries }
+    }
+}
+
+impl<'a> Iterator for Nodes<'a> {
+    type Item = &'a NodeRow;
+
+    ghost next_gives = { YieldsFirstRef (λ left. left) };
+
+    ghost remaining = { item_count (λ left. left) };
+
+    fn next(&mut self) -> Option<&'a NodeRow> {
+        match self.entries.next() {
+            Some((_, row)) => Some(row.get()),
+            None => None,
+        }
+    }
+}
