@@ -14,12 +14,13 @@ use Rattle.std.proofs.lemmas.Map.Lookups.{exact_unsigned}
 use Rattle.std.proofs.Math.Bool.{or-false}
 use Rattle.std.proofs.lemmas.Cmp.{nat_cmp_total}
 use Rattle.std.proofs.lemmas.List.Elements.{filter-append}
-use Rattle.std.proofs.lemmas.List.Folds.{list_any-append}
+use Rattle.std.proofs.lemmas.List.Folds.{flat_map-map, list_any-append}
 use Rattle.lgm_gossip.specs.declared.point.Point.{Point}
 use Rattle.lgm_check.specs.declared.row.ChannelRow.{ChannelRow}
 use Rattle.lgm_check.specs.declared.row.UpdateRow.{UpdateRow}
 use Rattle.lgm_check.specs.declared.row.NodeRow.{NodeRow}
 use Rattle.lgm_store.specs.Rows.{Rows, IsAscending, update_of}
+use Rattle.lgm_store.specs.HeldAt.{held_at}
 use Rattle.lgm_store.specs.Ends.{point_cmp}
 use Rattle.lgm_store.specs.Sound.{id_of, point_of}
 use Rattle.lgm_store.proofs.Counting.{same_point, is_at-point}
@@ -27,10 +28,17 @@ use Rattle.lgm_store.proofs.Lists.{node_total}
 use Rattle.lgm_store.proofs.Ordered.{find-same, filter-alike}
 use Rattle.lgm_query.specs.declared.filter.Filter.{Filter}
 use Rattle.lgm_query.specs.Backlog.{passes, passing_update, behind_announcement, passing_channel, passing_node, backlog, is_among, news}
-use Rattle.lgm_query.specs.KeyNews.{Subject, of_channel, of_node, subject_of, TellKeys, passing_of_channel, passing_of_node, without_known, news_of_channel, news_of_node, LieAt}
+use Rattle.lgm_query.specs.KeyNews.{Subject, of_channel, of_node, subject_of, TellKeys, passing_of_channel, passing_of_node, without_known, news_of_channel, news_of_node}
 use Rattle.lgm_query.proofs.Ids.{id_test, id_level}
 use Rattle.lgm_query.proofs.KeyNewsLaws.{other_subject, filter-flat_map, flat_map-alike, among_its_row, along_keys, All-given}
 use Rattle.std.specs.BTreeMap.{is_at}
+
+-- nothing is new of channels and nodes that aren't among these, which ascend
+pub record LieAt (f : Filter) (before after : Rows) (ids : List ℕ) (nodes : List Point) : Type 0 where
+  pub channels_ascend : IsStrictlySortedBy nat_cmp ids
+  pub nodes_ascend : IsStrictlySortedBy point_cmp nodes
+  pub of_channels : (id : ℕ) → list_any (is_at (nat_cmp id)) ids ≡ false → news_of_channel f before after id ≡ []
+  pub of_nodes : (node : Point) → list_any (is_at (point_cmp node)) nodes ≡ false → news_of_node f before after node ≡ []
 
 same_node : (a b : Point) → point_cmp a b ≡ Equal → a ≡ b
 same_node a b e = same_point a b (sym (is_at-point a b) ∙ ap is_eq e)
@@ -81,18 +89,25 @@ passing_about f subject (Some row) about = by (passes f row.message.timestamp)
     by true = (about row refl, tt)
     by false = tt
 
+-- what passes of a row's channel
+abbrev pub passing_at : Filter → Rows → ChannelRow → List (List ℕ)
+passing_at f rows row = passing_channel f (held_at rows row)
+
+backlog_rows : (f : Filter) (rows : Rows) → backlog rows f ≡ flat_map (passing_at f rows) rows.channels ++ flat_map (passing_node f) rows.nodes
+backlog_rows f rows = ap (λ (messages : List (List ℕ)). messages ++ flat_map (passing_node f) rows.nodes) (flat_map-map (passing_channel f) (held_at rows) rows.channels)
+
 behind_about : (subject : Subject) (row : ChannelRow) (updates : List (List ℕ)) → About subject row.raw → AllByRecursion (About subject) updates → AllByRecursion (About subject) (behind_announcement row updates)
 behind_about subject row [] own all = tt
 behind_about subject row (u ∷ us) own all = (own, all)
 
-channel_about : (f : Filter) (rows : Rows) (row : ChannelRow) → TellKeys rows → About (of_channel (id_of row)) row.raw → AllByRecursion (About (of_channel (id_of row))) (passing_channel f rows row)
+channel_about : (f : Filter) (rows : Rows) (row : ChannelRow) → TellKeys rows → About (of_channel (id_of row)) row.raw → AllByRecursion (About (of_channel (id_of row))) (passing_at f rows row)
 channel_about f rows row tell own =
     behind_about _ row _ own
     (All-append _ _ _ (passing_about f _ (update_of rows.updates (id_of row) false) (λ u is. update_about rows (id_of row) false u tell is))
     (passing_about f _ (update_of rows.updates (id_of row) true) (λ u is. update_about rows (id_of row) true u tell is)))
 
 channels_about : (f : Filter) (rows : Rows) → TellKeys rows → (channels : List ChannelRow) → AllByRecursion (λ row. subject_of row.raw ≡ of_channel (id_of row)) channels
-    → AllByRecursion (λ row. AllByRecursion (About (of_channel (id_of row))) (passing_channel f rows row)) channels
+    → AllByRecursion (λ row. AllByRecursion (About (of_channel (id_of row))) (passing_at f rows row)) channels
 channels_about f rows tell [] own = tt
 channels_about f rows tell (row ∷ channels) own = (channel_about f rows row tell own.0, channels_about f rows tell channels own.1)
 
@@ -121,17 +136,19 @@ none_about h about message (row ∷ rows) other all =
 pub among_channel : (f : Filter) (rows : Rows) (message : List ℕ) (id : ℕ) → IsAscending rows → TellKeys rows → subject_of message ≡ of_channel id
     → is_among (backlog rows f) message ≡ is_among (passing_of_channel f rows id) message
 among_channel f rows message id ascend tell is =
-    list_any-append (pointwise nat_eq message) (flat_map (passing_channel f rows) rows.channels) (flat_map (passing_node f) rows.nodes)
+    ap (λ (messages : List (List ℕ)). is_among messages message) (backlog_rows f rows)
+    ∙ list_any-append (pointwise nat_eq message) (flat_map (passing_at f rows) rows.channels) (flat_map (passing_node f) rows.nodes)
     ∙ rw (none_about (passing_node f) (λ row. of_node (point_of row)) message rows.nodes (λ row e. let never : of_channel id ≡ of_node (point_of row) = sym is ∙ e in absurd cc) (nodes_about f rows.nodes tell.nodes))
     (or-false _)
-    ∙ among_its_row id_of nat_cmp nat_cmp_total of_channel channel_apart (passing_channel f rows) message id rows.channels is ascend.channels (channels_about f rows tell rows.channels tell.channels)
-    ∙ ap (λ o. is_among (option_map_or (passing_channel f rows) o []) message) (find-same _ _ (λ row. id_test (id_of row) id) rows.channels)
+    ∙ among_its_row id_of nat_cmp nat_cmp_total of_channel channel_apart (passing_at f rows) message id rows.channels is ascend.channels (channels_about f rows tell rows.channels tell.channels)
+    ∙ ap (λ o. is_among (option_map_or (passing_at f rows) o []) message) (find-same _ _ (λ row. id_test (id_of row) id) rows.channels)
 
 pub among_node : (f : Filter) (rows : Rows) (message : List ℕ) (node : Point) → IsAscending rows → TellKeys rows → subject_of message ≡ of_node node
     → is_among (backlog rows f) message ≡ is_among (passing_of_node f rows node) message
 among_node f rows message node ascend tell is =
-    list_any-append (pointwise nat_eq message) (flat_map (passing_channel f rows) rows.channels) (flat_map (passing_node f) rows.nodes)
-    ∙ rw (none_about (passing_channel f rows) (λ row. of_channel (id_of row)) message rows.channels (λ row e. let never : of_node node ≡ of_channel (id_of row) = sym is ∙ e in absurd cc) (channels_about f rows tell rows.channels tell.channels))
+    ap (λ (messages : List (List ℕ)). is_among messages message) (backlog_rows f rows)
+    ∙ list_any-append (pointwise nat_eq message) (flat_map (passing_at f rows) rows.channels) (flat_map (passing_node f) rows.nodes)
+    ∙ rw (none_about (passing_at f rows) (λ row. of_channel (id_of row)) message rows.channels (λ row e. let never : of_node node ≡ of_channel (id_of row) = sym is ∙ e in absurd cc) (channels_about f rows tell rows.channels tell.channels))
     (among_its_row point_of point_cmp node_total of_node node_apart (passing_node f) message node rows.nodes is ascend.nodes (nodes_about f rows.nodes tell.nodes))
     ∙ ap (λ o. is_among (option_map_or (passing_node f) o []) message) (find-same _ _ (λ row. is_at-point (point_of row) node) rows.nodes)
 
@@ -166,20 +183,20 @@ told key c about h g earlier given rows among at some own tell =
 
 channel_news : (f : Filter) (before after : Rows) (ids : List ℕ) → IsAscending before → IsAscending after → TellKeys before → TellKeys after → IsStrictlySortedBy nat_cmp ids
     → ((id : ℕ) → list_any (is_at (nat_cmp id)) ids ≡ false → news_of_channel f before after id ≡ [])
-    → without_known (backlog before f) (flat_map (passing_channel f after) after.channels) ≡ flat_map (news_of_channel f before after) ids
+    → without_known (backlog before f) (flat_map (passing_at f after) after.channels) ≡ flat_map (news_of_channel f before after) ids
 channel_news f before after ids before_ascends after_ascends before_tells after_tells ascend lie =
-    filter-flat_map _ (passing_channel f after) after.channels
+    filter-flat_map _ (passing_at f after) after.channels
     ∙ flat_map-alike _ (λ row. news_of_channel f before after (id_of row)) after.channels
-    (told id_of nat_cmp of_channel (passing_channel f after) (news_of_channel f before after) (backlog before f) (passing_of_channel f before) after.channels
+    (told id_of nat_cmp of_channel (passing_at f after) (news_of_channel f before after) (backlog before f) (passing_of_channel f before) after.channels
     (λ m id about. among_channel f before m id before_ascends before_tells about)
-    (λ row is. ap (λ o. without_known (passing_of_channel f before (id_of row)) (option_map_or (passing_channel f after) o []))
+    (λ row is. ap (λ o. without_known (passing_of_channel f before (id_of row)) (option_map_or (passing_at f after) o []))
     (sym is ∙ find-same _ _ (λ other. id_test (id_of other) (id_of row)) after.channels))
     after.channels (own_rows id_of nat_cmp id_level after.channels after_ascends.channels) (channels_about f after after_tells after.channels after_tells.channels))
     ∙ along_keys id_of nat_cmp nat_cmp_total exact_unsigned (news_of_channel f before after) after.channels ids after_ascends.channels ascend
     (All-each _ after.channels (λ row. lie (id_of row))) (All-each _ ids none)
   where
     none : (id : ℕ) → find (λ row. is_eq (nat_cmp (id_of row) id)) after.channels ≡ None → news_of_channel f before after id ≡ []
-    none id is = ap (λ o. without_known (passing_of_channel f before id) (option_map_or (passing_channel f after) o [])) (sym (find-same _ _ (λ row. id_test (id_of row) id) after.channels) ∙ is)
+    none id is = ap (λ o. without_known (passing_of_channel f before id) (option_map_or (passing_at f after) o [])) (sym (find-same _ _ (λ row. id_test (id_of row) id) after.channels) ∙ is)
 
 node_news : (f : Filter) (before after : Rows) (nodes : List Point) → IsAscending before → IsAscending after → TellKeys before → TellKeys after → IsStrictlySortedBy point_cmp nodes
     → ((node : Point) → list_any (is_at (point_cmp node)) nodes ≡ false → news_of_node f before after node ≡ [])
@@ -202,7 +219,8 @@ node_news f before after nodes before_ascends after_ascends before_tells after_t
 pub news_at_keys : (f : Filter) (before after : Rows) (ids : List ℕ) (nodes : List Point) → IsAscending before → IsAscending after → TellKeys before → TellKeys after
     → LieAt f before after ids nodes → news before after f ≡ flat_map (news_of_channel f before after) ids ++ flat_map (news_of_node f before after) nodes
 news_at_keys f before after ids nodes before_ascends after_ascends before_tells after_tells lie =
-    filter-append _ (flat_map (passing_channel f after) after.channels) (flat_map (passing_node f) after.nodes)
+    ap (without_known (backlog before f)) (backlog_rows f after)
+    ∙ filter-append _ (flat_map (passing_at f after) after.channels) (flat_map (passing_node f) after.nodes)
     ∙ rw (
       channel_news f before after ids before_ascends after_ascends before_tells after_tells lie.channels_ascend lie.of_channels,
       node_news f before after nodes before_ascends after_ascends before_tells after_tells lie.nodes_ascend lie.of_nodes,

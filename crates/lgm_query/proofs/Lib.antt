@@ -4,7 +4,6 @@ pub mod RangeLaws
 pub mod Lengths
 pub mod AskedLaws
 pub mod Ids
-pub mod Walks
 pub mod KnownLaws
 pub mod CoverLaws
 pub mod KeyNewsLaws

@@ -1,20 +1,22 @@
 -- Where news lie: at what operations touch.
-use Rattle.std.proofs.Common.{◌≡◌, inl, inr, ℕ, Bool, true, false, ◌||◌, cond, List, [], ◌∷◌, Option, Some, None, refl, sym, ap, ◌∙◌}
+use Rattle.std.proofs.Common.{◌≡◌, ◌⊎◌, inl, inr, ℕ, Bool, true, false, ◌||◌, cond, List, [], ◌∷◌, ◌++◌, Option, Some, None, refl, sym, ap, ◌∙◌}
 use Rattle.std.specs.Prelude.{◌==◌}
-use Rattle.std.specs.List.{AllByRecursion}
+use Rattle.std.specs.List.{AllByRecursion, flat_map}
 use Rattle.std.specs.Option.{option_map_or}
 use Rattle.std.proofs.lemmas.Bool.{eqb-true}
 use Rattle.std.proofs.lemmas.Cmp.{nat_list_eq_equiv}
 use Rattle.lgm_gossip.specs.declared.point.Point.{Point}
 use Rattle.lgm_check.specs.declared.row.ChannelRow.{ChannelRow}
 use Rattle.lgm_store.specs.declared.op.Op.{Op}
-use Rattle.lgm_store.specs.Rows.{Rows, channel_of}
+use Rattle.lgm_store.specs.Rows.{Rows, IsAscending, channel_of}
 use Rattle.lgm_store.specs.History.{absorbed, fold_from}
 use Rattle.lgm_query.specs.declared.filter.Filter.{Filter}
-use Rattle.lgm_query.specs.Backlog.{passing_channel, is_among}
-use Rattle.lgm_query.specs.KeyNews.{TellKeys, passing_of_channel, passing_of_node, without_known, news_of_channel, news_of_node, LieAt}
+use Rattle.lgm_query.specs.Backlog.{is_among, news}
+use Rattle.lgm_query.specs.KeyNews.{TellKeys, passing_of_channel, passing_of_node, without_known, news_of_channel, news_of_node}
 use Rattle.lgm_query.specs.Touched.{TellsKey, Touched, HasTouched}
-use Rattle.lgm_query.proofs.Untouched.{SameChannel, SameNode, channel_untouched, node_untouched, TellKeys-step}
+use Rattle.lgm_query.specs.ComesOf.{ComesOf}
+use Rattle.lgm_query.proofs.KeyNews.{passing_at, LieAt, news_at_keys}
+use Rattle.lgm_query.proofs.Untouched.{SameChannel, NoChannel, SameNode, channel_untouched, node_untouched, TellKeys-step}
 use Rattle.lgm_query.proofs.KeyNewsLaws.{All-given}
 
 all_known : (known messages : List (List ℕ)) → AllByRecursion (λ m. is_among known m ≡ true) messages → without_known known messages ≡ []
@@ -43,32 +45,41 @@ found_id id (r ∷ rs) row is = by (found_id id rs row) (r.message.short_channel
     by others false test is = others (rw test at is)
 
 passing_same : (f : Filter) (id : ℕ) (before after : Rows) → SameChannel id before after → passing_of_channel f after id ≡ passing_of_channel f before id
-passing_same f id before after same = ap (λ o. option_map_or (passing_channel f after) o []) same.0 ∙ by (channel_of before.channels id) refl
+passing_same f id before after same = ap (λ o. option_map_or (passing_at f after) o []) same.0 ∙ by (channel_of before.channels id) refl
   where
-    updates : (row : ChannelRow) → row.message.short_channel_id ≡ id → passing_channel f after row ≡ passing_channel f before row
+    updates : (row : ChannelRow) → row.message.short_channel_id ≡ id → passing_at f after row ≡ passing_at f before row
     updates row own = rw (own, same.1 false, same.1 true) refl
 
-    by : (o : Option ChannelRow) → channel_of before.channels id ≡ o → option_map_or (passing_channel f after) o [] ≡ option_map_or (passing_channel f before) o []
+    by : (o : Option ChannelRow) → channel_of before.channels id ≡ o → option_map_or (passing_at f after) o [] ≡ option_map_or (passing_at f before) o []
     by None is = refl
     by (Some row) is = updates row (found_id id before.channels row is)
 
-no_channel_news : (f : Filter) (id : ℕ) (before after : Rows) → SameChannel id before after → news_of_channel f before after id ≡ []
-no_channel_news f id before after same = rw (passing_same f id before after same) (nothing_new (passing_of_channel f before id))
+no_channel_news : (f : Filter) (id : ℕ) (before after : Rows) → SameChannel id before after ⊎ NoChannel id after → news_of_channel f before after id ≡ []
+no_channel_news f id before after (inl same) = rw (passing_same f id before after same) (nothing_new (passing_of_channel f before id))
+no_channel_news f id before after (inr none) = rw none refl
 
 no_node_news : (f : Filter) (node : Point) (before after : Rows) → SameNode node before after → news_of_node f before after node ≡ []
 no_node_news f node before after (inl same) = rw same (nothing_new (passing_of_node f before node))
 no_node_news f node before after (inr none) = rw none refl
 
 -- news lie at what operations touch
-pub lie_at : (f : Filter) (before after : Rows) (history : List Op) (touched : Touched) → after ≡ fold_from before history → HasTouched history touched
+pub lie_at : (f : Filter) (before after : Rows) (history : List Op) (touched : Touched) → IsAscending before → after ≡ fold_from before history → HasTouched history touched
     → LieAt f before after touched.channels touched.nodes
-lie_at f before after history touched is has = rw is (record {
+lie_at f before after history touched ascend is has = rw is (record {
   channels_ascend = has.channels_ascend;
   nodes_ascend = has.nodes_ascend;
-  of_channels = λ id none. no_channel_news f id before (fold_from before history) (channel_untouched id before history (sym (has.of_channels id) ∙ none));
+  of_channels = λ id none. no_channel_news f id before (fold_from before history) (channel_untouched id before history ascend (sym (has.of_channels id) ∙ none));
   of_nodes = λ node none. no_node_news f node before (fold_from before history) (node_untouched node before history (sym (has.of_nodes node) ∙ none));
 })
 
 pub TellKeys-fold : (rows : Rows) (history : List Op) → TellKeys rows → AllByRecursion TellsKey history → TellKeys (fold_from rows history)
 TellKeys-fold rows [] tell own = tell
 TellKeys-fold rows (op ∷ history) tell own = TellKeys-fold (absorbed rows op) history (TellKeys-step rows op tell own.0) own.1
+
+-- the news of a map that came of an earlier one
+pub news_of_touched : (f : Filter) (before after : Rows) (touched : Touched) → IsAscending before → IsAscending after → ComesOf before after touched
+    → news before after f ≡ flat_map (news_of_channel f before after) touched.channels ++ flat_map (news_of_node f before after) touched.nodes
+news_of_touched f before after touched before_ascends after_ascends comes =
+    news_at_keys f before after touched.channels touched.nodes before_ascends after_ascends comes.rows_tell
+    (rw comes.folds (TellKeys-fold before comes.history comes.rows_tell comes.history_tells))
+    (lie_at f before after comes.history touched before_ascends comes.folds comes.touches)

@@ -1,17 +1,19 @@
 -- Replies, put together from their parts.
-use Rattle.std.proofs.Common.{◌≡◌, ℕ, ◌-◌, ◌*◌, ◌≤◌, Bool, true, false, List, length, drop, Option, Result, Ok, Err, refl, ◌∙◌, arith, length-take}
+use Rattle.std.proofs.Common.{◌≡◌, ℕ, ◌-◌, ◌*◌, ◌≤◌, Bool, true, false, List, [], ◌∷◌, length, map, take, drop, Option, Some, None, Result, Ok, Err, refl, ap, ◌∙◌, arith, length-take, length-drop}
 use Rattle.std.specs.Prelude.{IfOk, nat_eq, if◌then◌else◌}
 use Rattle.std.specs.Cmp.Lexicographic.{pointwise}
 use Rattle.std.specs.Option.{ForSome}
-use Rattle.std.proofs.lemmas.List.{length-map}
+use Rattle.std.proofs.lemmas.List.{take-map, drop-map}
 use Rattle.std.proofs.lemmas.List.Elements.{filter_passes, All-nil}
 use Rattle.lgm_gossip.specs.declared.chain_hash.ChainHash.{ChainHash}
 use Rattle.lgm_gossip.specs.declared.range_query.RangeQuery.{RangeQuery}
 use Rattle.lgm_gossip.specs.declared.timestamps.Timestamps.{Timestamps}
 use Rattle.lgm_gossip.specs.RangeReply.{Reply}
+use Rattle.lgm_check.specs.declared.row.ChannelRow.{ChannelRow}
+use Rattle.lgm_store.specs.HeldAt.{held_at}
 use Rattle.lgm_store.specs.Rows.{Rows}
-use Rattle.lgm_store.specs.Reading.{is_between}
-use Rattle.lgm_query.specs.RangeReply.{range_end, ids_asked_for, AreInRange, is_last, ids_at, reply_start, reply_end, timestamps_of, all_timestamps_of, asks_for_timestamps, timestamps_asked_for, reply}
+use Rattle.lgm_store.specs.Reading.{is_between, ids_between_of, channels_between_of}
+use Rattle.lgm_query.specs.RangeReply.{range_end, ids_asked_for, AreInRange, is_last, piece_at, ids_at, reply_start, reply_end, timestamps_of, timestamps_in, all_timestamps_of, timestamps_beside, asks_for_timestamps, timestamps_asked_for, reply}
 
 -- the ids that are asked for lie in the range
 pub All-ids_asked_for : (chain : ChainHash) (rows : Rows) (query : RangeQuery)
@@ -27,12 +29,42 @@ pub length-ids_at : (ids : List ℕ) (i : ℕ) → length (ids_at ids i) ≤ 400
 length-ids_at ids i = omega (arith, length-take 4000 (drop (4000 * i) ids))
 
 -- there is a pair of timestamps for each id
-pub ForSome-timestamps_asked_for : (rows : Rows) (query : RangeQuery) (ids : List ℕ) → ForSome (timestamps_asked_for rows query ids) (λ pairs. length pairs ≡ length ids)
-ForSome-timestamps_asked_for rows query ids = by (asks_for_timestamps query) refl
+pub ForSome-piece : (query : RangeQuery) (times : List Timestamps) (ids : List ℕ) (i : ℕ) (pairs : Option (List Timestamps)) → (asks_for_timestamps query ≡ true → length times ≡ length ids)
+    → pairs ≡ (if asks_for_timestamps query then Some (piece_at times i) else None) → ForSome pairs (λ own. length own ≡ length (ids_at ids i))
+ForSome-piece query times ids i pairs beside is = rw is (by (asks_for_timestamps query) refl)
   where
-    by : (b : Bool) → asks_for_timestamps query ≡ b → ForSome (timestamps_asked_for rows query ids) (λ pairs. length pairs ≡ length ids)
-    by true is = rw is (λ pairs e. let same : all_timestamps_of rows ids ≡ pairs = cc in rw (← same) (length-map ids (timestamps_of rows)))
-    by false is = rw is (λ pairs e. absurd cc)
+    by : (b : Bool) → asks_for_timestamps query ≡ b → ForSome (if b then Some (piece_at times i) else None) (λ own. length own ≡ length (ids_at ids i))
+    by true asks = λ own e.
+        let same : piece_at times i ≡ own = cc in
+        let many : length times ≡ length ids = beside asks in
+        rw (← same) (omega (arith, length-take 4000 (drop (4000 * i) times), length-take 4000 (drop (4000 * i) ids), length-drop (4000 * i) times, length-drop (4000 * i) ids, many))
+    by false asks = λ own e. absurd cc
+
+-- the timestamps beside the ids in a range, channel by channel
+pub timestamps-walked : (rows : Rows) (from to : ℕ) (channels : List ChannelRow)
+    → map timestamps_in (map (held_at rows) (channels_between_of channels from to)) ≡ all_timestamps_of rows (ids_between_of channels from to)
+timestamps-walked rows from to [] = refl
+timestamps-walked rows from to (row ∷ channels) = by (is_between row.message.short_channel_id from to) refl (timestamps-walked rows from to channels)
+  where
+    by : (b : Bool) → is_between row.message.short_channel_id from to ≡ b
+        → map timestamps_in (map (held_at rows) (channels_between_of channels from to)) ≡ all_timestamps_of rows (ids_between_of channels from to)
+        → map timestamps_in (map (held_at rows) (channels_between_of (row ∷ channels) from to)) ≡ all_timestamps_of rows (ids_between_of (row ∷ channels) from to)
+    by true is rest = rw (is, rest) refl
+    by false is rest = rw is rest
+
+pub timestamps-all : (chain : ChainHash) (rows : Rows) (query : RangeQuery) (times : List Timestamps) → asks_for_timestamps query ≡ true → pointwise nat_eq query.chain_hash.0 chain.0 ≡ true
+    → times ≡ map timestamps_in (map (held_at rows) (channels_between_of rows.channels query.first_blocknum (range_end query)))
+    → times ≡ timestamps_beside rows query (ids_asked_for chain rows query)
+timestamps-all chain rows query times asks known is = rw (asks, known) (is ∙ timestamps-walked rows query.first_blocknum (range_end query) rows.channels)
+
+-- the part of a reply, of what all ids have, is that of its ids
+pub timestamps-piece : (rows : Rows) (query : RangeQuery) (ids : List ℕ) (i : ℕ)
+    → (if asks_for_timestamps query then Some (piece_at (timestamps_beside rows query ids) i) else None) ≡ timestamps_asked_for rows query (ids_at ids i)
+timestamps-piece rows query ids i = by (asks_for_timestamps query) refl
+  where
+    by : (b : Bool) → asks_for_timestamps query ≡ b → (if asks_for_timestamps query then Some (piece_at (timestamps_beside rows query ids) i) else None) ≡ timestamps_asked_for rows query (ids_at ids i)
+    by true is = rw is (ap Some (ap (take 4000) (drop-map (timestamps_of rows) (4000 * i) ids) ∙ take-map (timestamps_of rows) 4000 (drop (4000 * i) ids)))
+    by false is = rw is refl
 
 -- a reply whose parts are right
 pub reply-parts : (rows : Rows) (query : RangeQuery) (ids : List ℕ) (i first number complete : ℕ) (own : List ℕ) (pairs : Option (List Timestamps))

@@ -1,9 +1,9 @@
 -- Pieces that are sent one after the other.
-use Rattle.std.proofs.Common.{◌≡◌, ℕ, Bool, true, false, ◌||◌, not, cond, List, [], ◌∷◌, ◌++◌, map, refl, sym, ap, ◌∙◌, append_assoc}
+use Rattle.std.proofs.Common.{◌≡◌, ℕ, Bool, true, false, ◌||◌, cond, List, [], ◌∷◌, ◌++◌, map, refl, sym, ap, ◌∙◌, append_assoc}
 use Rattle.std.specs.Cmp.Lexicographic.{texts_ties}
 use Rattle.std.specs.List.{list_any}
 use Rattle.std.specs.BTreeMap.{is_at}
-use Rattle.std.specs.Prelude.{◌==◌, Option, Some, Result, Ok, Err, OnOk}
+use Rattle.std.specs.Prelude.{◌==◌, Option, Some, None, Result, Ok, Err, OnOk}
 use Rattle.std.specs.Int.{bit_at}
 use Rattle.std.specs.Option.{option_map, option_to_list}
 use Rattle.std.proofs.lemmas.List.{append-nil, map-append}
@@ -12,7 +12,10 @@ use Rattle.lgm_gossip.specs.declared.point.Point.{Point}
 use Rattle.lgm_check.specs.declared.row.ChannelRow.{ChannelRow}
 use Rattle.lgm_check.specs.declared.row.UpdateRow.{UpdateRow}
 use Rattle.lgm_check.specs.declared.row.NodeRow.{NodeRow}
-use Rattle.lgm_store.specs.Rows.{Rows, is_point, update_of, node_of}
+use Rattle.lgm_store.specs.declared.held.Held.{Held}
+use Rattle.lgm_store.specs.Rows.{is_point, node_of}
+use Rattle.lgm_store.proofs.Counting.{same_point}
+use Rattle.std.proofs.Math.Bool.{or-false}
 use Rattle.lgm_store.specs.Ends.{point_cmp}
 use Rattle.lgm_query.specs.Piece.{Piece, channel, update, node, bytes_of, are_of_one_node, with_nodes_once}
 use Rattle.lgm_query.specs.IdsReply.{if_set, chosen_of}
@@ -87,55 +90,79 @@ known row old new inserts pieces are q =
     by false is true old_is = rw (is, old_is) refl
     by false is false old_is = rw (is, old_is) refl
 
+-- the row that is found at a point is that node's
+found_node : (nodes : List NodeRow) (point : Point) (row : NodeRow) → node_of nodes point ≡ Some row → row.message.node_id ≡ point
+found_node [] point row is = absurd cc
+found_node (r ∷ rs) point row is = by (found_node rs point row) (is_point r.message.node_id point) refl is
+  where
+    by : (node_of rs point ≡ Some row → row.message.node_id ≡ point) → (b : Bool) → is_point r.message.node_id point ≡ b → cond (is_point r.message.node_id point) (Some r) (node_of rs point) ≡ Some row → row.message.node_id ≡ point
+    by others true test is = let same : Some r ≡ Some row = rw test at is in let own : r ≡ row = cc in ap (λ (x : NodeRow). x.message.node_id) (sym own) ∙ same_point r.message.node_id point test
+    by others false test is = others (rw test at is)
+
 -- the announcement of a node that wasn't sent yet
-pub Sends-new_node : (row : NodeRow) (found : Option NodeRow) (key : Point) (keys : List Point) (old new : Sent) → Some row ≡ found → key ≡ row.message.node_id → old.nodes ≡ keys
-    → true ≡ not (list_any (is_at (point_cmp key)) keys)
-    → ((q : Point) → list_any (is_at (point_cmp q)) new.nodes ≡ cond (is_at (point_cmp key) q) true (list_any (is_at (point_cmp q)) keys))
-    → new.messages ≡ old.messages ++ row.raw ∷ [] → Sends (option_to_list (option_map node found)) old new
-Sends-new_node row found key keys old new held own were absent inserts message =
-    let absent' : list_any (is_at (point_cmp row.message.node_id)) old.nodes ≡ false = rw (were, ← own) (not_true (list_any (is_at (point_cmp key)) keys) absent) in
+Sends-new_node : (nodes : List NodeRow) (row : NodeRow) (point : Point) (keys : List Point) (old new : Sent) → Some row ≡ node_of nodes point → old.nodes ≡ keys
+    → list_any (is_at (point_cmp point)) keys ≡ false
+    → ((q : Point) → list_any (is_at (point_cmp q)) new.nodes ≡ cond (is_at (point_cmp point) q) true (list_any (is_at (point_cmp q)) keys))
+    → new.messages ≡ old.messages ++ row.raw ∷ [] → Sends (option_to_list (option_map node (node_of nodes point))) old new
+Sends-new_node nodes row point keys old new held were absent inserts message =
+    let own : row.message.node_id ≡ point = found_node nodes point row (sym held) in
+    let absent' : list_any (is_at (point_cmp row.message.node_id)) old.nodes ≡ false = rw (were, own) absent in
     let inserts' : (q : Point) → list_any (is_at (point_cmp q)) new.nodes ≡ cond (is_at (point_cmp row.message.node_id) q) true (list_any (is_at (point_cmp q)) old.nodes) =
-    λ q. rw (were, ← own) (inserts q) in
+    λ q. rw (were, own) (inserts q) in
     rw (← held) (λ pieces are. record {
       messages = message ∙ ap (λ (ms : List (List ℕ)). ms ++ row.raw ∷ []) are.messages
           ∙ sym (map-append bytes_of (with_nodes_once pieces) (node row ∷ []))
           ∙ ap (map bytes_of) (sym (with_nodes_once-push pieces (node row) ∙ rw (again row pieces, ← are.nodes row.message.node_id, absent') refl));
       nodes = known row old new inserts' pieces are.nodes;
     })
-  where
-    not_true : (b : Bool) → true ≡ not b → b ≡ false
-    not_true true e = absurd cc
-    not_true false e = refl
 
--- that of one that was
-pub Sends-old_node : (row : NodeRow) (found : Option NodeRow) (key : Point) (keys : List Point) (old new : Sent) → Some row ≡ found → key ≡ row.message.node_id → old.nodes ≡ keys
-    → false ≡ not (list_any (is_at (point_cmp key)) keys)
-    → ((q : Point) → list_any (is_at (point_cmp q)) new.nodes ≡ cond (is_at (point_cmp key) q) true (list_any (is_at (point_cmp q)) keys))
-    → new.messages ≡ old.messages → Sends (option_to_list (option_map node found)) old new
-Sends-old_node row found key keys old new held own were present inserts same =
-    let present' : list_any (is_at (point_cmp row.message.node_id)) old.nodes ≡ true = rw (were, ← own) (not_false (list_any (is_at (point_cmp key)) keys) present) in
-    let inserts' : (q : Point) → list_any (is_at (point_cmp q)) new.nodes ≡ cond (is_at (point_cmp row.message.node_id) q) true (list_any (is_at (point_cmp q)) old.nodes) =
-    λ q. rw (were, ← own) (inserts q) in
-    rw (← held) (λ pieces are. record {
-      messages = same ∙ are.messages
-          ∙ ap (map bytes_of) (sym (with_nodes_once-push pieces (node row) ∙ rw (again row pieces, ← are.nodes row.message.node_id, present') (append-nil (with_nodes_once pieces))));
-      nodes = known row old new inserts' pieces are.nodes;
-    })
+-- that of one that was, if it is held
+pub Sends-known_node : (nodes : List NodeRow) (point : Point) (keys : List Point) (old new : Sent) → old.nodes ≡ keys → list_any (is_at (point_cmp point)) keys ≡ true → new ≡ old
+    → Sends (option_to_list (option_map node (node_of nodes point))) old new
+Sends-known_node nodes point keys old new were present same = rw same (by (node_of nodes point) refl)
   where
-    not_false : (b : Bool) → false ≡ not b → b ≡ true
-    not_false true e = refl
-    not_false false e = absurd cc
+    here : list_any (is_at (point_cmp point)) old.nodes ≡ true
+    here = rw were present
+
+    none_more : (row : NodeRow) (pieces : List Piece) → list_any (is_of_node row.message.node_id) pieces ≡ true → (q : Point) (b : Bool) → is_point row.message.node_id q ≡ b
+        → list_any (is_of_node q) pieces ≡ (list_any (is_of_node q) pieces || (is_point row.message.node_id q || false))
+    none_more row pieces sent q true is =
+        let same : row.message.node_id ≡ q = same_point row.message.node_id q is in
+        let there : list_any (is_of_node q) pieces ≡ true = rw (← same) sent in
+        rw (there) refl
+    none_more row pieces sent q false is = rw is (sym (or-false (list_any (is_of_node q) pieces)))
+
+    by : (o : Option NodeRow) → node_of nodes point ≡ o → Sends (option_to_list (option_map node o)) old old
+    by None is = Sends-none old
+    by (Some row) is =
+        let own : row.message.node_id ≡ point = found_node nodes point row is in
+        λ pieces are.
+        let sent : list_any (is_of_node row.message.node_id) pieces ≡ true = sym (are.nodes row.message.node_id) ∙ rw own here in
+        record {
+          messages = are.messages ∙ ap (map bytes_of) (sym (with_nodes_once-push pieces (node row) ∙ rw (again row pieces, sent) (append-nil (with_nodes_once pieces))));
+          nodes = λ q. are.nodes q ∙ none_more row pieces sent q (is_point row.message.node_id q) refl ∙ sym (list_any-append (is_of_node q) pieces (node row ∷ []));
+        }
 
 -- a message that is put at the end
-pub OnOk-channel : {E : Type 0} (r : Result (Unit {0}) E) (row : ChannelRow) (old new : Sent)
-    → OnOk r (new.messages ≡ old.messages ++ row.raw ∷ []) → OnOk r (new.nodes ≡ old.nodes) → OnOk r (Sends (channel row ∷ []) old new)
-OnOk-channel (Ok u) row old new message same = Sends-channel row old new message same
-OnOk-channel (Err e) row old new message same = tt
+pub OnOk-channel : {E : Type 0} (r : Result (Unit {0}) E) (row own : ChannelRow) (old new : Sent) → row ≡ own
+    → OnOk r (new.messages ≡ old.messages ++ row.raw ∷ []) → OnOk r (new.nodes ≡ old.nodes) → OnOk r (Sends (channel own ∷ []) old new)
+OnOk-channel (Ok u) row own old new is message same = rw (← is) (Sends-channel row old new message same)
+OnOk-channel (Err e) row own old new is message same = tt
 
 pub OnOk-update : {E : Type 0} (r : Result (Unit {0}) E) (row : UpdateRow) (found : Option UpdateRow) (old new : Sent) → Some row ≡ found
     → OnOk r (new.messages ≡ old.messages ++ row.raw ∷ []) → OnOk r (new.nodes ≡ old.nodes) → OnOk r (Sends (option_to_list (option_map update found)) old new)
 OnOk-update (Ok u) row found old new held message same = rw (← held) (Sends-update row old new message same)
 OnOk-update (Err e) row found old new held message same = tt
+
+pub OnOk-node : {E : Type 0} (r : Result (Unit {0}) E) (nodes : List NodeRow) (row : NodeRow) (point : Point) (keys inserted : List Point) (old mid new : Sent) → Some row ≡ node_of nodes point
+    → old.nodes ≡ keys → list_any (is_at (point_cmp point)) keys ≡ false
+    → ((q : Point) → list_any (is_at (point_cmp q)) inserted ≡ cond (is_at (point_cmp point) q) true (list_any (is_at (point_cmp q)) keys))
+    → mid.messages ≡ old.messages → mid.nodes ≡ inserted → OnOk r (new.messages ≡ mid.messages ++ row.raw ∷ []) → OnOk r (new.nodes ≡ mid.nodes)
+    → OnOk r (Sends (option_to_list (option_map node (node_of nodes point))) old new)
+OnOk-node (Ok u) nodes row point keys inserted old mid new held were absent inserts kept with message same =
+    Sends-new_node nodes row point keys old new held were absent (λ q. ap (list_any (is_at (point_cmp q))) (same ∙ with) ∙ inserts q)
+    (message ∙ ap (λ (ms : List (List ℕ)). ms ++ row.raw ∷ []) kept)
+OnOk-node (Err e) nodes row point keys inserted old mid new held were absent inserts kept with message same = tt
 
 -- what a set bit chooses
 pub Sends-set : (flags bit : ℕ) (piece : Option Piece) (b : Bool) (old mid new : Sent) → b ≡ (bit_at flags bit == 1) → b ≡ true → new ≡ mid
@@ -147,12 +174,12 @@ pub Sends-unset : (flags bit : ℕ) (piece : Option Piece) (b : Bool) (old new :
 Sends-unset flags bit piece b old new tests is same = rw (same, ← tests, is) (Sends-none old)
 
 -- what the five bits choose
-pub Sends-chosen : (rows : Rows) (id flags : ℕ) (row : ChannelRow) (a b c d e f : Sent)
-    → Sends (if_set flags 0 (Some (channel row))) a b
-    → Sends (if_set flags 1 (option_map update (update_of rows.updates id false))) b c
-    → Sends (if_set flags 2 (option_map update (update_of rows.updates id true))) c d
-    → Sends (if_set flags 3 (option_map node (node_of rows.nodes row.message.node_id_1))) d e
-    → Sends (if_set flags 4 (option_map node (node_of rows.nodes row.message.node_id_2))) e f
-    → Sends (chosen_of rows id flags row) a f
-Sends-chosen rows id flags row a b c d e f announcement update_1 update_2 node_1 node_2 =
+pub Sends-chosen : (nodes : List NodeRow) (flags : ℕ) (held : Held) (a b c d e f : Sent)
+    → Sends (if_set flags 0 (Some (channel held.channel))) a b
+    → Sends (if_set flags 1 (option_map update held.first)) b c
+    → Sends (if_set flags 2 (option_map update held.second)) c d
+    → Sends (if_set flags 3 (option_map node (node_of nodes held.channel.message.node_id_1))) d e
+    → Sends (if_set flags 4 (option_map node (node_of nodes held.channel.message.node_id_2))) e f
+    → Sends (chosen_of nodes flags held) a f
+Sends-chosen nodes flags held a b c d e f announcement update_1 update_2 node_1 node_2 =
     Sends-then _ _ a e f (Sends-then _ _ a d e (Sends-then _ _ a c d (Sends-then _ _ a b c announcement update_1) update_2) node_1) node_2

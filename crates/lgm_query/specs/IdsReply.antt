@@ -1,5 +1,5 @@
 -- The reply to a query of some channels: what is held of each, and then the end.
-use Rattle.std.specs.Prelude.{ℕ, false, true, nat_eq, ◌==◌, List, [], ◌∷◌, ◌++◌, map, Option, Some, unwrap_or, if◌then◌else◌}
+use Rattle.std.specs.Prelude.{ℕ, nat_eq, ◌==◌, List, [], ◌∷◌, ◌++◌, map, Option, Some, unwrap_or, if◌then◌else◌}
 use Rattle.std.specs.Cmp.Lexicographic.{pointwise}
 use Rattle.std.specs.Int.{bit_at}
 use Rattle.std.specs.List.{flat_map, zip}
@@ -8,8 +8,10 @@ use Rattle.lgm_gossip.specs.declared.chain_hash.ChainHash.{ChainHash}
 use Rattle.lgm_gossip.specs.declared.message.Message.TheVariants as messages
 use Rattle.lgm_gossip.specs.IdsQuery.{Query}
 use Rattle.lgm_gossip.specs.Spelling.{spelling}
-use Rattle.lgm_check.specs.declared.row.ChannelRow.{ChannelRow}
-use Rattle.lgm_store.specs.Rows.{Rows, channel_of, update_of, node_of}
+use Rattle.lgm_check.specs.declared.row.NodeRow.{NodeRow}
+use Rattle.lgm_store.specs.declared.held.Held.{Held}
+use Rattle.lgm_store.specs.HeldAt.{held_at}
+use Rattle.lgm_store.specs.Rows.{Rows, channel_of, node_of}
 use Rattle.lgm_query.specs.Piece.{Piece, channel, update, node, bytes_of, with_nodes_once}
 
 -- a piece that is held, if the bit of the flags is set
@@ -17,17 +19,17 @@ abbrev pub if_set : ℕ → ℕ → Option Piece → List Piece
 if_set flags bit piece = if bit_at flags bit == 1 then option_to_list piece else []
 
 -- what the flags choose of a held channel, in the order of the bits; higher bits choose nothing
-abbrev pub chosen_of : Rows → ℕ → ℕ → ChannelRow → List Piece
-chosen_of rows id flags row =
-    if_set flags 0 (Some (channel row))
-    ++ if_set flags 1 (option_map update (update_of rows.updates id false))
-    ++ if_set flags 2 (option_map update (update_of rows.updates id true))
-    ++ if_set flags 3 (option_map node (node_of rows.nodes row.message.node_id_1))
-    ++ if_set flags 4 (option_map node (node_of rows.nodes row.message.node_id_2))
+abbrev pub chosen_of : List NodeRow → ℕ → Held → List Piece
+chosen_of nodes flags held =
+    if_set flags 0 (Some (channel held.channel))
+    ++ if_set flags 1 (option_map update held.first)
+    ++ if_set flags 2 (option_map update held.second)
+    ++ if_set flags 3 (option_map node (node_of nodes held.channel.message.node_id_1))
+    ++ if_set flags 4 (option_map node (node_of nodes held.channel.message.node_id_2))
 
 -- what the flags choose of a channel: nothing if it isn't held
 abbrev pub chosen : Rows → ℕ × ℕ → List Piece
-chosen rows place = option_map_or (chosen_of rows place.0 place.1) (channel_of rows.channels place.0) []
+chosen rows place = option_map_or (λ row. chosen_of rows.nodes place.1 (held_at rows row)) (channel_of rows.channels place.0) []
 
 -- the flags for each id: all five where the query has none
 abbrev pub flags_of : Query → List ℕ

@@ -1,17 +1,14 @@
 -- News, key by key: what is new of a channel and of a node.
-use Rattle.std.specs.Prelude.{◌≡◌, ℕ, not, false, List, [], filter, Result, Ok}
-use Rattle.std.specs.BTreeMap.{is_at}
-use Rattle.std.specs.List.{AllByRecursion, list_any}
-use Rattle.std.specs.List.Sorted.{IsStrictlySortedBy}
-use Rattle.std.specs.Ordering.{nat_cmp}
+use Rattle.std.specs.Prelude.{◌≡◌, ℕ, not, List, [], filter, Result, Ok}
+use Rattle.std.specs.List.{AllByRecursion}
 use Rattle.std.specs.Option.{option_map_or}
 use Rattle.lgm_gossip.specs.declared.fault.DecodeFault.{DecodeFault}
 use Rattle.lgm_gossip.specs.declared.message.Message.{Message}
 use Rattle.lgm_gossip.specs.declared.message.Message.TheVariants as messages
 use Rattle.lgm_gossip.specs.declared.point.Point.{Point}
 use Rattle.lgm_gossip.specs.MessageReading.{message_at}
+use Rattle.lgm_store.specs.HeldAt.{held_at}
 use Rattle.lgm_store.specs.Rows.{Rows, channel_of, node_of}
-use Rattle.lgm_store.specs.Ends.{point_cmp}
 use Rattle.lgm_query.specs.declared.filter.Filter.{Filter}
 use Rattle.lgm_query.specs.Backlog.{passing_channel, passing_node, is_among}
 
@@ -38,7 +35,7 @@ pub record TellKeys (rows : Rows) : Type 0 where
 
 -- what passes of a channel, and of a node: nothing if it isn't held
 abbrev pub passing_of_channel : Filter → Rows → ℕ → List (List ℕ)
-passing_of_channel f rows id = option_map_or (passing_channel f rows) (channel_of rows.channels id) []
+passing_of_channel f rows id = option_map_or (λ row. passing_channel f (held_at rows row)) (channel_of rows.channels id) []
 
 abbrev pub passing_of_node : Filter → Rows → Point → List (List ℕ)
 passing_of_node f rows node = option_map_or (passing_node f) (node_of rows.nodes node) []
@@ -53,10 +50,3 @@ news_of_channel f before after id = without_known (passing_of_channel f before i
 
 abbrev pub news_of_node : Filter → Rows → Rows → Point → List (List ℕ)
 news_of_node f before after node = without_known (passing_of_node f before node) (passing_of_node f after node)
-
--- nothing is new of channels and nodes that aren't among these, which ascend
-pub record LieAt (f : Filter) (before after : Rows) (ids : List ℕ) (nodes : List Point) : Type 0 where
-  pub channels_ascend : IsStrictlySortedBy nat_cmp ids
-  pub nodes_ascend : IsStrictlySortedBy point_cmp nodes
-  pub of_channels : (id : ℕ) → list_any (is_at (nat_cmp id)) ids ≡ false → news_of_channel f before after id ≡ []
-  pub of_nodes : (node : Point) → list_any (is_at (point_cmp node)) nodes ≡ false → news_of_node f before after node ≡ []

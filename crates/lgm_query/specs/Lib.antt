@@ -1,4 +1,5 @@
 pub mod Piece
+pub mod Reply
 pub mod IdsReply
 pub mod RangeReply
 pub mod Sent
@@ -7,3 +8,5 @@ pub mod Known
 pub mod Cover
 pub mod KeyNews
 pub mod Touched
+pub mod Differences
+pub mod ComesOf

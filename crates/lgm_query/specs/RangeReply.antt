@@ -10,6 +10,8 @@ use Rattle.lgm_gossip.specs.declared.range_query.RangeQuery.{RangeQuery}
 use Rattle.lgm_gossip.specs.declared.timestamps.Timestamps.{Timestamps}
 use Rattle.lgm_gossip.specs.RangeReply.{Reply}
 use Rattle.lgm_gossip.specs.Spelling.{spelling}
+use Rattle.lgm_check.specs.declared.row.UpdateRow.{UpdateRow}
+use Rattle.lgm_store.specs.declared.held.Held.{Held}
 use Rattle.lgm_store.specs.Rows.{Rows, update_of}
 use Rattle.lgm_store.specs.Reading.{block_of, is_between, ids_between_of}
 
@@ -35,9 +37,13 @@ reply_count ids = max 1 (div_ceil (length ids) 4000)
 abbrev pub is_last : List ℕ → ℕ → Bool
 is_last ids i = i + 1 == reply_count ids
 
+-- the part of reply i
+abbrev pub piece_at : {X : Type 0} → List X → ℕ → List X
+piece_at items i = take 4000 (drop (4000 * i) items)
+
 -- the ids of reply i
 abbrev pub ids_at : List ℕ → ℕ → List ℕ
-ids_at ids i = take 4000 (drop (4000 * i) ids)
+ids_at ids i = piece_at ids i
 
 -- the block of the first id of reply i, and that of its last one, if it is full
 abbrev pub first_block : List ℕ → ℕ → ℕ
@@ -58,12 +64,16 @@ reply_start query ids (suc i) =
     if first_block ids (suc i) + 1 == end then end - 1 else end
 
 -- the timestamp of an update, or 0 where none is held
-abbrev pub timestamp_of : Rows → ℕ → Bool → ℕ
-timestamp_of rows id second = option_map_or (λ row. row.message.timestamp) (update_of rows.updates id second) 0
+abbrev pub timestamp_of : Option UpdateRow → ℕ
+timestamp_of row = option_map_or (λ row. row.message.timestamp) row 0
 
 -- the timestamps of a channel's updates
 abbrev pub timestamps_of : Rows → ℕ → Timestamps
-timestamps_of rows id = record { node_1 = timestamp_of rows id false; node_2 = timestamp_of rows id true }
+timestamps_of rows id = record { node_1 = timestamp_of (update_of rows.updates id false); node_2 = timestamp_of (update_of rows.updates id true) }
+
+-- the same of a channel with its updates
+abbrev pub timestamps_in : Held → Timestamps
+timestamps_in held = record { node_1 = timestamp_of held.first; node_2 = timestamp_of held.second }
 
 abbrev pub all_timestamps_of : Rows → List ℕ → List Timestamps
 all_timestamps_of rows ids = map (timestamps_of rows) ids
@@ -71,6 +81,10 @@ all_timestamps_of rows ids = map (timestamps_of rows) ids
 -- whether the query asks for timestamps: bit 0 of its options
 abbrev pub asks_for_timestamps : RangeQuery → Bool
 asks_for_timestamps query = bit_at (unwrap_or query.options 0) 0 == 1
+
+-- those of all ids, if the query asks for them
+abbrev pub timestamps_beside : Rows → RangeQuery → List ℕ → List Timestamps
+timestamps_beside rows query ids = if asks_for_timestamps query then all_timestamps_of rows ids else []
 
 -- the timestamps of these channels, if the query asks for them
 abbrev pub timestamps_asked_for : Rows → RangeQuery → List ℕ → Option (List Timestamps)

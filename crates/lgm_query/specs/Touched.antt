@@ -5,30 +5,37 @@ use Rattle.std.specs.List.{list_any}
 use Rattle.std.specs.List.Sorted.{IsStrictlySortedBy}
 use Rattle.std.specs.Ordering.{nat_cmp}
 use Rattle.lgm_gossip.specs.declared.point.Point.{Point}
+use Rattle.lgm_check.specs.declared.row.Checked.{Checked}
+use Rattle.lgm_check.specs.declared.row.Checked.TheVariants as checked
 use Rattle.lgm_store.specs.declared.op.Op.{Op}
 use Rattle.lgm_store.specs.declared.op.Op.TheVariants as ops
 use Rattle.lgm_store.specs.Rows.{is_point}
 use Rattle.lgm_store.specs.Ends.{point_cmp}
 use Rattle.lgm_query.specs.KeyNews.{of_channel, of_node, subject_of}
 
--- whether the operation may change what is held of a channel
+-- whether the operation may give a channel an announcement or an update
 abbrev pub touches_channel : ℕ → Op → Bool
 touches_channel id (ops.Channel row) = row.message.short_channel_id == id
 touches_channel id (ops.Update row) = row.message.short_channel_id == id
-touches_channel id (ops.Node row) = false
-touches_channel id (ops.Close other) = other == id
+touches_channel id _ = false
 
 -- whether it may give a node an announcement
 abbrev pub touches_node : Point → Op → Bool
 touches_node node (ops.Node row) = is_point row.message.node_id node
 touches_node node _ = false
 
--- its bytes are about the key of its row
+-- the bytes that it brings are about the key of its row
 abbrev pub TellsKey : Op → Type 0
 TellsKey (ops.Channel row) = subject_of row.raw ≡ of_channel row.message.short_channel_id
 TellsKey (ops.Update row) = subject_of row.raw ≡ of_channel row.message.short_channel_id
 TellsKey (ops.Node row) = subject_of row.raw ≡ of_node row.message.node_id
-TellsKey (ops.Close id) = Unit {0}
+TellsKey _ = Unit {0}
+
+-- the bytes of a checked message are about the key of its row
+abbrev pub CheckedTellsKey : Checked → Type 0
+CheckedTellsKey (checked.Channel row) = subject_of row.raw ≡ of_channel row.message.short_channel_id
+CheckedTellsKey (checked.Update row signer) = subject_of row.raw ≡ of_channel row.message.short_channel_id
+CheckedTellsKey (checked.Node row) = subject_of row.raw ≡ of_node row.message.node_id
 
 pub record Touched : Type 0 where
   pub channels : List ℕ

@@ -5,6 +5,7 @@ ghost use Rattle.lgm_query.specs.IdsReply.{flags_of, messages_asked_for, end_byt
 
 use crate::encoded::encoded;
 use crate::replies::Replies;
+use crate::reply::Reply;
 use crate::sending::Sending;
 use lgm_gossip::{Bytes, ChainHash, IdsEnd, IdsQuery, Message};
 use lgm_store::Map;
@@ -22,13 +23,14 @@ const ALL: u64 = 0b11111;
 /// five of each. An id that comes again is answered again, but the announcement of a node is sent at its first place
 /// only. A query of another chain gets the end alone, whose `full_information` is then 0.
 ///
-/// It costs a logarithm of the map for each id. The only error is want of memory.
-pub fn answer_ids(
+/// It costs a logarithm of the map for each id. It takes memory for a reference to each message and for the point of
+/// each node that is sent, whatever the messages' lengths. The only error is want of memory.
+pub fn answer_ids<'a>(
     alloc: Global,
     chain: &ChainHash,
-    map: &Map,
+    map: &'a Map,
     query: &IdsQuery,
-) -> Result<Replies, AllocError>
+) -> Result<Replies<'a>, AllocError>
     ensures { IfOk result (λ replies. replies ≡ ids_reply chain.now map.now query.now) }
 {
     let is_known = query.chain_hash == *chain;
@@ -37,12 +39,12 @@ pub fn answer_ids(
     } else {
         Vec::new(alloc)
     };
-    messages.push(end(alloc, query, u8::from(is_known))?)?;
+    messages.push(Reply::made(end(alloc, query, u8::from(is_known))?))?;
     Ok(Replies::from_vec(messages))
 }
 
 /// What is held of the channels that are asked for.
-fn held(alloc: Global, map: &Map, query: &IdsQuery) -> Result<Vec<Bytes>, AllocError>
+fn held<'a>(alloc: Global, map: &'a Map, query: &IdsQuery) -> Result<Vec<Reply<'a>>, AllocError>
     ensures { IfOk result (λ held. held.items ≡ messages_asked_for map.now query.now) }
 {
     let mut sending = Sending::new(alloc);

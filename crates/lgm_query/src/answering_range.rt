@@ -1,15 +1,19 @@
 //! Answers to queries of ranges of blocks.
 
-ghost use Rattle.std.specs.Prelude.{◌≡◌, ◌<◌, IfOk};
-ghost use Rattle.lgm_query.specs.RangeReply.{ids_asked_for, AreInRange, reply_count, timestamp_of, timestamps_of, all_timestamps_of, asks_for_timestamps, timestamps_asked_for, reply_bytes, range_reply};
+ghost use Rattle.std.specs.Prelude.{◌≡◌, ◌*◌, ◌<◌, ◌≤◌, true, length, IfOk, if◌then◌else◌};
+ghost use Rattle.lgm_store.specs.Rows.{Rows};
+ghost use Rattle.lgm_query.specs.RangeReply.{ids_asked_for, AreInRange, reply_count, piece_at, timestamps_in, timestamps_beside, asks_for_timestamps, reply_bytes, range_reply};
 
 use crate::encoded::encoded;
-use crate::ranges::{ids_at, is_last, number_of_blocks, range_end, reply_count, reply_start};
+use crate::ranges::{
+    ids_at, is_last, number_of_blocks, piece_at, range_end, reply_count, reply_start,
+};
 use crate::replies::Replies;
+use crate::reply::Reply;
 use lgm_gossip::{
     Bytes, ChainHash, Message, RangeQuery, RangeReply, Scid, Scids, TimestampList, Timestamps,
 };
-use lgm_store::Map;
+use lgm_store::{Held, Map};
 use std::alloc::{AllocError, Global};
 
 /// The replies to a `query_channel_range` on a map of `chain`, each a `reply_channel_range` (BOLT 7, "The
@@ -22,21 +26,23 @@ use std::alloc::{AllocError, Global};
 /// range ends, and has `sync_complete` 1. Bit 0 of the options asks for the timestamps of the updates; checksums are
 /// never sent. A query of another chain gets one reply over the range, with no ids.
 ///
-/// It costs a logarithm of the map, and as much for each id with timestamps. The only error is want of memory.
-pub fn answer_range(
+/// It costs a logarithm of the map, and a step for each channel of the range, as does the memory that it takes. The
+/// only error is want of memory.
+pub fn answer_range<'a>(
     alloc: Global,
     chain: &ChainHash,
-    map: &Map,
+    map: &'a Map,
     query: &RangeQuery,
-) -> Result<Replies, AllocError>
+) -> Result<Replies<'a>, AllocError>
     ensures { IfOk result (λ replies. replies ≡ range_reply chain.now map.now query.now) }
 {
     let ids = ids_asked_for(alloc, chain, map, query)?;
-    let ids = ids.as_slice();
+    let times = timestamps_beside(alloc, chain, map, query)?;
+    let (ids, times) = (ids.as_slice(), times.as_slice());
     let count = reply_count(ids);
     let mut replies = Vec::with_capacity(alloc, count)?;
     for place in 0..count {
-        replies.push(reply(alloc, map, query, ids, place)?)?;
+        replies.push(Reply::made(reply(alloc, query, ids, times, place)?))?;
     }
     Ok(Replies::from_vec(replies))
 }
@@ -59,14 +65,16 @@ fn ids_asked_for(
 /// The reply at a place.
 fn reply(
     alloc: Global,
-    map: &Map,
     query: &RangeQuery,
     ids: &[Scid],
+    times: &[Timestamps],
     place: usize,
 ) -> Result<Bytes, AllocError>
     requires place { place < reply_count ids.now }
     requires between { AreInRange query.now ids.now }
-    ensures { IfOk result (λ bytes. bytes ≡ reply_bytes map.now query.now ids.now place) }
+    requires times { asks_for_timestamps query.now ≡ true → length times.now ≡ length ids.now }
+    ensures { (rows : Rows) → times.now ≡ timestamps_beside rows query.now ids.now
+        → IfOk result (λ bytes. bytes ≡ reply_bytes rows query.now ids.now place) }
 {
     // So the reply isn't too long.
     let chain: &[u8] = &query.chain_hash.0;
@@ -78,32 +86,45 @@ fn reply(
         number_of_blocks: number_of_blocks(query, ids, place),
         sync_complete: u8::from(is_last(ids, place)),
         ids: Scids::from_vec(Vec::from_slice(alloc, own)?),
-        timestamps: timestamps_asked_for(alloc, map, query, own)?,
+        timestamps: timestamps_at(alloc, query, times, place)?,
     };
     encoded(alloc, &Message::RangeReply(message))
 }
 
-/// The timestamps of these channels, if the query asks for them.
-fn timestamps_asked_for(
+/// The timestamps of all ids that are asked for, if the query asks for them.
+fn timestamps_beside(
     alloc: Global,
+    chain: &ChainHash,
     map: &Map,
     query: &RangeQuery,
-    ids: &[Scid],
+) -> Result<Vec<Timestamps>, AllocError>
+    ensures { IfOk result (λ times. times.items ≡ timestamps_beside map.now query.now (ids_asked_for chain.now map.now query.now)) }
+{
+    let mut times = Vec::new(alloc);
+    if !asks_for_timestamps(query) || query.chain_hash != *chain {
+        return Ok(times);
+    }
+    for held in map.channels_between(u64::from(query.first_blocknum), range_end(query)) {
+        times.push(timestamps_of(held))?;
+    }
+    Ok(times)
+}
+
+/// The timestamps in the reply at a place, if the query asks for them.
+fn timestamps_at(
+    alloc: Global,
+    query: &RangeQuery,
+    times: &[Timestamps],
+    place: usize,
 ) -> Result<Option<TimestampList>, AllocError>
-    ensures { IfOk result (λ pairs. pairs ≡ timestamps_asked_for map.now query.now ids.now) }
+    requires { asks_for_timestamps query.now ≡ true → 4000 * place ≤ length times.now }
+    ensures { IfOk result (λ pairs. pairs ≡ if asks_for_timestamps query.now then Some (piece_at times.now place) else None) }
 {
     if !asks_for_timestamps(query) {
         return Ok(None);
     }
-    Ok(Some(TimestampList::from_vec(all_timestamps_of(alloc, map, ids)?)))
-}
-
-fn all_timestamps_of(alloc: Global, map: &Map, ids: &[Scid]) -> Result<Vec<Timestamps>, AllocError>
-    ensures { IfOk result (λ pairs. pairs.items ≡ all_timestamps_of map.now ids.now) }
-{
-    ids.iter()
-        .map(|scid| timestamps_of(map, *scid))
-        .collect(alloc)
+    let own = Vec::from_slice(alloc, piece_at(times, place))?;
+    Ok(Some(TimestampList::from_vec(own)))
 }
 
 /// Whether bit 0 of the options is set.
@@ -113,21 +134,12 @@ fn asks_for_timestamps(query: &RangeQuery) -> bool
     query.options.unwrap_or(0) % 2 == 1
 }
 
-fn timestamps_of(map: &Map, scid: Scid) -> Timestamps
-    ensures { result ≡ timestamps_of map.now scid }
+/// The timestamps of a channel's updates, 0 where none is held.
+fn timestamps_of(held: &Held) -> Timestamps
+    ensures { result ≡ timestamps_in held.now }
 {
     Timestamps {
-        node_1: timestamp_of(map, scid, false),
-        node_2: timestamp_of(map, scid, true),
-    }
-}
-
-/// The timestamp of a channel's update, or 0 where none is held.
-fn timestamp_of(map: &Map, scid: Scid, second: bool) -> u32
-    ensures { result ≡ timestamp_of map.now scid second }
-{
-    match map.update(scid, second) {
-        None => 0,
-        Some(row) => row.message.timestamp,
+        node_1: held.update_time(false).unwrap_or(0),
+        node_2: held.update_time(true).unwrap_or(0),
     }
 }

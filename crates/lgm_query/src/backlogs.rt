@@ -2,13 +2,12 @@
 
 ghost use Rattle.std.specs.Prelude.{◌≡◌, List, ℕ, ◌++◌};
 ghost use Rattle.std.specs.Iterator.{YieldsFirstRef, item_count};
-ghost use Rattle.lgm_store.specs.Rows.{IsAscending};
-ghost use Rattle.lgm_query.specs.Backlog.{backlog, backlog_above};
+ghost use Rattle.lgm_query.specs.Backlog.{passing_rows, backlog};
 
 use crate::filter::Filter;
 use crate::passing::Passing;
-use lgm_gossip::{Bytes, Point, Scid};
-use lgm_store::Map;
+use lgm_gossip::Bytes;
+use lgm_store::{Channels, Map, Nodes};
 use std::marker::Model;
 
 /// The messages of a map that pass a filter, as they are sent to a peer that sets it (BOLT 7, "The
@@ -18,23 +17,20 @@ use std::marker::Model;
 /// node 1 and by node 2 that pass. Behind them come the announcements of nodes that pass, by their points. An update
 /// and a node's announcement pass by their own timestamps.
 ///
-/// It takes no memory. The whole walk costs a logarithm of the map for each channel and node.
+/// It takes no memory, and searches for nothing: the whole walk costs what the map holds.
 #[derive(Drop)]
 pub struct Backlog<'a> {
-    map: &'a Map,
     filter: Filter,
     /// What is left of the last row.
     passing: Passing<'a>,
-    last_channel: Option<Scid>,
-    last_node: Option<Point>,
+    channels: Channels<'a>,
+    nodes: Nodes<'a>,
 }
 
 impl<'a> Model for Backlog<'a> {
     ghost Value = { List (List ℕ) };
 
-    ghost view = { λ b. b.passing ++ backlog_above b.map.now b.filter b.last_channel b.last_node };
-
-    ghost invariant = { λ b. IsAscending b.map.now };
+    ghost view = { λ b. b.passing ++ passing_rows b.filter b.channels b.nodes };
 }
 
 impl<'a> Backlog<'a> {
@@ -42,14 +38,11 @@ impl<'a> Backlog<'a> {
     pub fn of(map: &'a Map, filter: &Filter) -> Backlog<'a>
         ensures { result ≡ backlog map.now filter.now }
     {
-        // The count says that rows ascend.
-        let _ = map.count();
         Backlog {
-            map,
             filter: *filter,
             passing: Passing::none(),
-            last_channel: None,
-            last_node: None,
+            channels: map.channels(),
+            nodes: map.nodes(),
         }
     }
 }
@@ -62,17 +55,14 @@ impl<'a> Iterator for Backlog<'a> {
     ghost remaining = { item_count (λ left. left) };
 
     fn next(&mut self) -> Option<&'a Bytes> {
-        let map = self.map;
         'rows: loop {
             if let Some(message) = self.passing.next() {
                 return Some(message);
             }
-            if let Some(row) = map.next_channel(self.last_channel) {
-                self.passing = Passing::of_channel(map, &self.filter, row);
-                self.last_channel = Some(row.scid());
-            } else if let Some(row) = map.next_node(self.last_node.as_ref()) {
+            if let Some(held) = self.channels.next() {
+                self.passing = Passing::of_channel(&self.filter, held);
+            } else if let Some(row) = self.nodes.next() {
                 self.passing = Passing::of_node(&self.filter, row);
-                self.last_node = Some(row.node());
             } else {
                 return None;
             }

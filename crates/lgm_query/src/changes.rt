@@ -1,6 +1,6 @@
 //! What operations touch.
 
-ghost use Rattle.std.specs.Prelude.{◌++◌, ◌∷◌, [], List, OnOk};
+ghost use Rattle.std.specs.Prelude.{◌≡◌, ◌++◌, ◌∷◌, [], List, OnOk, OnErr};
 ghost use Rattle.lgm_store.specs.declared.op.Op.{Op};
 ghost use Rattle.lgm_query.specs.Touched.{HasTouched};
 
@@ -10,7 +10,8 @@ use std::alloc::{AllocError, Global};
 use std::collections::BTreeSet;
 use std::marker::Model;
 
-/// The channels that operations touch, and the nodes that they may give an announcement: of others there are no news.
+/// The channels that operations may give an announcement or an update, and the nodes that they may give an announcement:
+/// of others there are no news.
 #[derive(Drop)]
 pub struct Changes {
     pub(crate) channels: BTreeSet<Scid>,
@@ -36,15 +37,17 @@ impl Changes {
         }
     }
 
-    /// With what a further operation touches. The only error is want of memory.
+    /// With what a further operation touches. The only error is want of memory, which leaves them as they were.
     pub fn touch(&mut self, op: &Op) -> Result<(), AllocError>
-        ensures { OnOk result ((history : List Op) → HasTouched history self.old → HasTouched (history ++ op.now ∷ []) self.new) }
+        ensures ok { OnOk result ((history : List Op) → HasTouched history self.old → HasTouched (history ++ op.now ∷ []) self.new) }
+        ensures err { OnErr result (self.new ≡ self.old) }
     {
         match op {
             Op::Channel(row) => self.channels.insert(row.get().scid())?,
             Op::Update(row) => self.channels.insert(row.get().scid())?,
             Op::Node(row) => self.nodes.insert(row.get().node())?,
-            Op::Close(scid) => self.channels.insert(*scid)?,
+            // They only take rows away.
+            Op::Close(_) | Op::Ban(_) => false,
         };
         Ok(())
     }

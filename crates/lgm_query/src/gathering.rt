@@ -6,16 +6,17 @@ ghost use Rattle.lgm_query.specs.Backlog.{backlog};
 use crate::backlogs::Backlog;
 use crate::filter::Filter;
 use crate::replies::Replies;
+use crate::reply::Reply;
 use lgm_store::Map;
 use std::alloc::{AllocError, Global};
 
-/// Copies of the messages of a [`Backlog`]. The only error is want of memory.
-pub fn backlog(alloc: Global, map: &Map, filter: &Filter) -> Result<Replies, AllocError>
+/// The messages of a [`Backlog`], lent by the map. The only error is want of memory.
+pub fn backlog<'a>(alloc: Global, map: &'a Map, filter: &Filter) -> Result<Replies<'a>, AllocError>
     ensures { IfOk result (λ replies. replies ≡ backlog map.now filter.now) }
 {
     let mut messages = Vec::with_capacity(alloc, map.count())?;
     for message in Backlog::of(map, filter) {
-        messages.push(message.copy(alloc)?)?;
+        messages.push(Reply::held(message))?;
     }
     Ok(Replies::from_vec(messages))
 }

@@ -8,7 +8,7 @@ ghost use Rattle.lgm_query.specs.Known.{is_known};
 use crate::filter::Filter;
 use crate::gathering::backlog;
 use crate::replies::Replies;
-use lgm_gossip::Bytes;
+use crate::reply::Reply;
 use lgm_store::Map;
 use std::alloc::{AllocError, Global};
 use std::collections::BTreeSet;
@@ -18,14 +18,14 @@ use std::collections::BTreeSet;
 /// Messages are told apart by their bytes. So the announcement of a channel is news once an update of it begins to
 /// pass, and a message that was taken away and came back between the two maps is none.
 ///
-/// It walks both maps, and costs a logarithm of them for each channel, node and message. The only error is want of
-/// memory.
-pub fn news(
+/// It walks both maps, and costs a logarithm of them for each message. Its memory is a few references to each message,
+/// whatever its length. The only error is want of memory.
+pub fn news<'a>(
     alloc: Global,
     before: &Map,
-    after: &Map,
+    after: &'a Map,
     filter: &Filter,
-) -> Result<Replies, AllocError>
+) -> Result<Replies<'a>, AllocError>
     ensures { IfOk result (λ replies. replies ≡ news before.now after.now filter.now) }
 {
     let earlier = backlog(alloc, before, filter)?;
@@ -36,7 +36,7 @@ pub fn news(
 }
 
 /// These messages, to be looked up.
-fn known<'a>(alloc: Global, messages: &'a [Bytes]) -> Result<BTreeSet<&'a [u8]>, AllocError>
+fn known<'a>(alloc: Global, messages: &'a [Reply<'_>]) -> Result<BTreeSet<&'a [u8]>, AllocError>
     ensures { IfOk result (λ known. (message : List ℕ)
         → is_known known.keys message ≡ is_among messages.now message) }
 {

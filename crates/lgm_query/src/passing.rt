@@ -3,14 +3,16 @@
 ghost use Rattle.std.specs.Prelude.{◌≡◌, List, ℕ, [], ◌++◌};
 ghost use Rattle.std.specs.Iterator.{YieldsFirstRef, item_count};
 ghost use Rattle.std.specs.Option.{option_copied, option_to_list};
-ghost use Rattle.lgm_store.specs.Rows.{update_of};
+ghost use Rattle.lgm_store.specs.Held.{update_in};
 ghost use Rattle.lgm_query.specs.Backlog.{is_among, passing_update, passing_channel, passing_node};
-ghost use Rattle.lgm_query.specs.KeyNews.{passing_of_channel, passing_of_node};
+ghost use Rattle.lgm_query.specs.KeyNews.{without_known};
+ghost use Rattle.lgm_query.specs.Differences.{news_of_channel_pair, news_of_node_pair};
 
 use crate::filter::Filter;
-use lgm_check::{ChannelRow, NodeRow};
-use lgm_gossip::{Bytes, Point, Scid};
-use lgm_store::Map;
+use crate::pairs::{ChannelPair, NodePair};
+use lgm_check::NodeRow;
+use lgm_gossip::Bytes;
+use lgm_store::Held;
 use std::marker::Model;
 
 /// The messages that pass of one channel, or of one node. Contracts see the list of those that are still to come.
@@ -40,17 +42,17 @@ impl<'a> Passing<'a> {
         }
     }
 
-    /// Those of a channel's row: its announcement, if an update of it passes, and then the updates that pass.
-    pub(crate) fn of_channel(map: &'a Map, filter: &Filter, row: &'a ChannelRow) -> Passing<'a>
-        ensures { result ≡ passing_channel filter.now map.now row.now }
+    /// Those of a channel: its announcement, if an update of it passes, and then the updates that pass.
+    pub(crate) fn of_channel(filter: &Filter, held: &'a Held) -> Passing<'a>
+        ensures { result ≡ passing_channel filter.now held.now }
     {
-        let first = passing_update(map, filter, row.scid(), false);
-        let second = passing_update(map, filter, row.scid(), true);
+        let first = passing_update(filter, held, false);
+        let second = passing_update(filter, held, true);
         if first.is_none() && second.is_none() {
             return Passing::none();
         }
         Passing {
-            announcement: Some(&row.raw),
+            announcement: Some(&held.row().raw),
             first,
             second,
         }
@@ -70,28 +72,41 @@ impl<'a> Passing<'a> {
         }
     }
 
-    /// Those of a channel, none if it isn't held.
-    pub(crate) fn at_channel(map: &'a Map, filter: &Filter, scid: Scid) -> Passing<'a>
-        ensures { result ≡ passing_of_channel filter.now map.now scid }
+    /// Those of a channel that didn't pass before.
+    pub(crate) fn news_of_channel(filter: &Filter, pair: &ChannelPair<'a>) -> Passing<'a>
+        ensures { result ≡ news_of_channel_pair filter.now pair.now }
     {
-        match map.channel(scid) {
-            Some(row) => Passing::of_channel(map, filter, row),
-            None => Passing::none(),
+        let passing = Passing::of_channel(filter, pair.after);
+        match pair.before {
+            None => passing,
+            Some(held) => passing.without(&Passing::of_channel(filter, held)),
         }
     }
 
-    /// That of a node, none if it isn't held.
-    pub(crate) fn at_node(map: &'a Map, filter: &Filter, node: &Point) -> Passing<'a>
-        ensures { result ≡ passing_of_node filter.now map.now node.now }
+    /// That of a node, unless it passed before.
+    pub(crate) fn news_of_node(filter: &Filter, pair: &NodePair<'a>) -> Passing<'a>
+        ensures { result ≡ news_of_node_pair filter.now pair.now }
     {
-        match map.node(node) {
-            Some(row) => Passing::of_node(filter, row),
-            None => Passing::none(),
+        let passing = Passing::of_node(filter, pair.after);
+        match pair.before {
+            None => passing,
+            Some(row) => passing.without(&Passing::of_node(filter, row)),
+        }
+    }
+
+    /// Those that aren't known.
+    fn without(self, known: &Passing<'_>) -> Passing<'a>
+        ensures { result ≡ without_known known.now self.entry }
+    {
+        Passing {
+            announcement: unless_known(self.announcement, known),
+            first: unless_known(self.first, known),
+            second: unless_known(self.second, known),
         }
     }
 
     /// Whether a message is among those that are still to come.
-    pub(crate) fn contains(&self, message: &Bytes) -> bool
+    fn contains(&self, message: &Bytes) -> bool
         ensures { result ≡ is_among self.now message.now }
     {
         is_one(self.announcement, message)
@@ -125,13 +140,23 @@ fn is_one(one: Option<&Bytes>, message: &Bytes) -> bool
     one.is_some_and(|one| message.as_slice() == one.as_slice())
 }
 
-/// The message of a channel's update, if it is held and passes.
-fn passing_update<'a>(map: &'a Map, filter: &Filter, scid: Scid, second: bool) -> Option<&'a Bytes>
-    ensures { option_copied result
-        ≡ passing_update filter.now (update_of map.now.updates scid second) }
+/// The message, unless it is known.
+fn unless_known<'a>(message: Option<&'a Bytes>, known: &Passing<'_>) -> Option<&'a Bytes>
+    ensures { option_to_list (option_copied result) ≡ without_known known.now (option_to_list (option_copied message.entry)) }
 {
-    match map.update(scid, second) {
-        Some(row) if filter.passes(row.message.timestamp) => Some(&row.raw),
+    match message {
+        Some(message) if !known.contains(message) => Some(message),
         _ => None,
     }
+}
+
+/// The message of a channel's update, if it is held and passes. Of one that doesn't, only the timestamp is looked at.
+fn passing_update<'a>(filter: &Filter, held: &'a Held, second: bool) -> Option<&'a Bytes>
+    ensures { option_copied result ≡ passing_update filter.now (update_in second held.now) }
+{
+    let time = held.update_time(second)?;
+    if !filter.passes(time) {
+        return None;
+    }
+    Some(&held.update(second)?.raw)
 }

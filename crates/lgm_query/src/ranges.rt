@@ -1,8 +1,8 @@
 //! The ranges of blocks that replies are about.
 
-ghost use Rattle.std.specs.Prelude.{◌≡◌, ◌+◌, ◌-◌, ◌^◌, ◌<◌};
+ghost use Rattle.std.specs.Prelude.{◌≡◌, ◌+◌, ◌-◌, ◌*◌, ◌^◌, ◌<◌, ◌≤◌, length};
 ghost use Rattle.lgm_store.specs.Reading.{block_of};
-ghost use Rattle.lgm_query.specs.RangeReply.{range_end, AreInRange, reply_count, is_last, ids_at, reply_end, reply_start};
+ghost use Rattle.lgm_query.specs.RangeReply.{range_end, AreInRange, reply_count, is_last, piece_at, ids_at, reply_end, reply_start};
 
 use lgm_gossip::{RangeQuery, Scid};
 
@@ -36,7 +36,15 @@ pub(crate) fn ids_at(ids: &[Scid], place: usize) -> &[Scid]
     requires { place < reply_count ids.now }
     ensures { result.now ≡ ids_at ids.now place }
 {
-    let (_, rest) = ids.split_at(place * MOST_IDS);
+    piece_at(ids, place)
+}
+
+/// What belongs to the ids of the reply at a place, of what all ids have.
+pub(crate) fn piece_at<T>(items: &[T], place: usize) -> &[T]
+    requires { 4000 * place ≤ length items.now }
+    ensures { result.now ≡ piece_at items.now place }
+{
+    let (_, rest) = items.split_at(place * MOST_IDS);
     &rest[..rest.len().min(MOST_IDS)]
 }
 

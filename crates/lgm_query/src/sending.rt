@@ -2,28 +2,28 @@
 
 ghost use Rattle.std.specs.Prelude.{◌≡◌, ◌/◌, ◌%◌, ◌^◌, ◌<◌, ◌++◌, ◌==◌, ◌∷◌, [], IfOk, OnOk, Some};
 ghost use Rattle.std.specs.Int.{bit_at};
-ghost use Rattle.std.specs.Option.{option_copied, option_map, option_to_list};
-ghost use Rattle.lgm_store.specs.Rows.{update_of, node_of};
+ghost use Rattle.std.specs.Option.{option_map, option_to_list};
+ghost use Rattle.lgm_store.specs.Held.{update_in};
+ghost use Rattle.lgm_store.specs.Rows.{node_of};
 ghost use Rattle.lgm_query.specs.Piece.{channel, update, node};
 ghost use Rattle.lgm_query.specs.IdsReply.{chosen_of, chosen};
 ghost use Rattle.lgm_query.specs.Sent.{AreSent, Sends};
 
-use lgm_check::ChannelRow;
+use crate::reply::Reply;
 use lgm_gossip::{Bytes, Point, Scid};
-use lgm_store::Map;
+use lgm_store::{Held, Map};
 use std::alloc::{AllocError, Global};
 use std::collections::BTreeSet;
 use std::marker::Model;
 
 /// Messages to be sent, and the nodes whose announcements are among them.
 #[derive(Drop)]
-pub(crate) struct Sending {
-    alloc: Global,
-    messages: Vec<Bytes>,
+pub(crate) struct Sending<'a> {
+    messages: Vec<Reply<'a>>,
     nodes: BTreeSet<Point>,
 }
 
-impl Model for Sending {
+impl<'a> Model for Sending<'a> {
     ghost use Rattle.lgm_query.specs.Sent.{Sent};
 
     ghost Value = { Sent };
@@ -31,21 +31,20 @@ impl Model for Sending {
     ghost view = { λ s. record { messages = s.messages.items; nodes = s.nodes.keys } };
 }
 
-impl Sending {
+impl<'a> Sending<'a> {
     /// No messages. It takes no memory yet.
-    pub(crate) fn new(alloc: Global) -> Sending
+    pub(crate) fn new(alloc: Global) -> Sending<'a>
         ensures { AreSent [] result }
     {
         Sending {
-            alloc,
             messages: Vec::new(alloc),
             nodes: BTreeSet::new(alloc),
         }
     }
 
     /// The messages.
-    pub(crate) fn into_messages(self) -> Vec<Bytes>
-        ensures { result.items ≡ self.messages }
+    pub(crate) fn into_messages(self) -> Vec<Reply<'a>>
+        ensures { result.items ≡ self.entry.messages }
     {
         let Sending { messages, .. } = self;
         messages
@@ -54,83 +53,76 @@ impl Sending {
     /// Sends what the flags choose of a channel, if it is held. The only error is want of memory.
     pub(crate) fn send_chosen(
         &mut self,
-        map: &Map,
+        map: &'a Map,
         scid: Scid,
         flags: u64,
     ) -> Result<(), AllocError>
         ensures { OnOk result (Sends (chosen map.now (scid, flags)) self.old self.new) }
     {
-        match map.channel(scid) {
+        match map.held(scid) {
             None => Ok(()),
-            Some(row) => self.send_chosen_of(map, scid, flags, row),
+            Some(held) => self.send_chosen_of(map, flags, held),
         }
     }
 
-    fn send_chosen_of(
-        &mut self,
-        map: &Map,
-        scid: Scid,
-        flags: u64,
-        row: &ChannelRow,
-    ) -> Result<(), AllocError>
-        ensures { OnOk result (Sends (chosen_of map.now scid flags row.now) self.old self.new) }
+    fn send_chosen_of(&mut self, map: &'a Map, flags: u64, held: &'a Held) -> Result<(), AllocError>
+        ensures { OnOk result (Sends (chosen_of map.now.nodes flags held.now) self.old self.new) }
     {
         if is_set(flags, 0) {
-            self.send_channel(row)?;
+            self.send_channel(held)?;
         }
         if is_set(flags, 1) {
-            self.send_update(map, scid, false)?;
+            self.send_update(held, false)?;
         }
         if is_set(flags, 2) {
-            self.send_update(map, scid, true)?;
+            self.send_update(held, true)?;
         }
         if is_set(flags, 3) {
-            self.send_node(map, &row.message.node_id_1)?;
+            self.send_node(map, &held.row().message.node_id_1)?;
         }
         if is_set(flags, 4) {
-            self.send_node(map, &row.message.node_id_2)?;
+            self.send_node(map, &held.row().message.node_id_2)?;
         }
         Ok(())
     }
 
-    fn send_channel(&mut self, row: &ChannelRow) -> Result<(), AllocError>
-        ensures { OnOk result (Sends (channel row.now ∷ []) self.old self.new) }
+    fn send_channel(&mut self, held: &'a Held) -> Result<(), AllocError>
+        ensures { OnOk result (Sends (channel held.now.channel ∷ []) self.old self.new) }
     {
-        self.push(&row.raw)
+        self.push(&held.row().raw)
     }
 
-    fn send_update(&mut self, map: &Map, scid: Scid, second: bool) -> Result<(), AllocError>
-        ensures { OnOk result (Sends
-            (option_to_list (option_map update (update_of map.now.updates scid second)))
-            self.old self.new) }
+    fn send_update(&mut self, held: &'a Held, second: bool) -> Result<(), AllocError>
+        ensures { OnOk result (Sends (option_to_list (option_map update (update_in second held.now))) self.old self.new) }
     {
-        match map.update(scid, second) {
+        match held.update(second) {
             None => Ok(()),
             Some(row) => self.push(&row.raw),
         }
     }
 
-    /// Sends the announcement of a node, if it is held and wasn't sent.
-    fn send_node(&mut self, map: &Map, point: &Point) -> Result<(), AllocError>
+    /// Sends the announcement of a node, if it is held and wasn't sent. One that was sent isn't looked up again.
+    fn send_node(&mut self, map: &'a Map, point: &Point) -> Result<(), AllocError>
         ensures { OnOk result (Sends
             (option_to_list (option_map node (node_of map.now.nodes point.now)))
             self.old self.new) }
     {
+        if self.nodes.contains(point) {
+            return Ok(());
+        }
         let Some(row) = map.node(point) else {
             return Ok(());
         };
-        if self.nodes.insert(row.node())? {
-            self.push(&row.raw)?;
-        }
-        Ok(())
+        self.nodes.insert(*point)?;
+        self.push(&row.raw)
     }
 
-    /// Puts a copy of a message at the end.
-    fn push(&mut self, message: &Bytes) -> Result<(), AllocError>
+    /// Puts a message at the end.
+    fn push(&mut self, message: &'a Bytes) -> Result<(), AllocError>
         ensures messages { OnOk result (self.new.messages ≡ self.old.messages ++ message.now ∷ []) }
         ensures nodes { OnOk result (self.new.nodes ≡ self.old.nodes) }
     {
-        self.messages.push(message.copy(self.alloc)?)?;
+        self.messages.push(Reply::held(message))?;
         Ok(())
     }
 }

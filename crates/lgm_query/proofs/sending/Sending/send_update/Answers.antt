@@ -1,8 +1,8 @@
-use Rattle.lgm_store.specs.Rows.{update_of}
+use Rattle.lgm_store.specs.Held.{update_in}
 use Rattle.lgm_query.proofs.Sendings.{OnOk-update}
 use Rattle.lgm_query.proofs.sending.Sending.send_update.Goals as goal
 
 pub returns-in-Some : goal.returns-in-Some
 returns-in-Some c =
-    OnOk-update c.push.result c.in-Some.row.now (update_of c.args.map.now.updates c.args.scid c.args.second) c.args.self.now c.push.new.self
+    OnOk-update c.push.result c.in-Some.row.now (update_in c.args.second c.args.held.now) c.args.self.now c.push.new.self
     c.in-Some.ensures c.push.ensures.messages c.push.ensures.nodes

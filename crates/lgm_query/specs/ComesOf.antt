@@ -1,0 +1,16 @@
+-- A map that came of an earlier one by operations.
+use Rattle.std.specs.Prelude.{◌≡◌, List}
+use Rattle.std.specs.List.{AllByRecursion}
+use Rattle.lgm_store.specs.declared.op.Op.{Op}
+use Rattle.lgm_store.specs.Rows.{Rows}
+use Rattle.lgm_store.specs.History.{fold_from}
+use Rattle.lgm_query.specs.KeyNews.{TellKeys}
+use Rattle.lgm_query.specs.Touched.{Touched, HasTouched, TellsKey}
+
+-- the later rows are the earlier ones with operations done, which touch these keys; bytes tell the keys of their rows
+pub record ComesOf (before after : Rows) (touched : Touched) : Type 0 where
+  pub history : List Op
+  pub folds : after ≡ fold_from before history
+  pub touches : HasTouched history touched
+  pub rows_tell : TellKeys before
+  pub history_tells : AllByRecursion TellsKey history

@@ -1,0 +1,110 @@
+//! What changed between two maps.
+
+ghost use Rattle.std.specs.Prelude.{◌≡◌, IfOk};
+ghost use Rattle.std.specs.List.{flat_map};
+ghost use Rattle.lgm_query.specs.declared.filter.Filter.{Filter};
+ghost use Rattle.lgm_query.specs.Backlog.{news};
+ghost use Rattle.lgm_query.specs.KeyNews.{news_of_channel, news_of_node};
+ghost use Rattle.lgm_query.specs.ComesOf.{ComesOf};
+ghost use Rattle.lgm_query.specs.Differences.{TwoMaps, news_of_channel_pair, news_of_node_pair, news_of_pairs};
+
+use crate::changes::Changes;
+use crate::filter::Filter;
+use crate::news_walk::News;
+use crate::pairs::{ChannelPair, NodePair};
+use lgm_gossip::{Point, Scid};
+use lgm_store::Map;
+use std::alloc::{AllocError, Global};
+use std::collections::BTreeSet;
+use std::marker::Model;
+
+/// What changed between an earlier map and a later one: of each channel and node that operations touched, the rows of
+/// both. Contracts see the rows of the two maps.
+///
+/// It is made once, and tells each peer its news.
+#[derive(Drop)]
+pub struct Differences<'a> {
+    before: &'a Map,
+    after: &'a Map,
+    channels: Vec<ChannelPair<'a>>,
+    nodes: Vec<NodePair<'a>>,
+}
+
+impl<'a> Model for Differences<'a> {
+    ghost Value = { TwoMaps };
+
+    ghost view = { λ d. record { before = d.before.now; after = d.after.now } };
+
+    ghost invariant = { λ d. (f : Filter) → news_of_pairs f d.channels.items d.nodes.items ≡ news d.before.now d.after.now f };
+}
+
+impl<'a> Differences<'a> {
+    /// Those of a map that came of an earlier one by operations, which touched these. The messages of both maps, and of
+    /// the operations, are about the channel or node of their row, as those of each message that was checked are.
+    ///
+    /// It costs a logarithm of the maps for each touched channel and node. The only error is want of memory.
+    pub fn between(
+        alloc: Global,
+        before: &'a Map,
+        after: &'a Map,
+        changes: &Changes,
+    ) -> Result<Differences<'a>, AllocError>
+        requires { ComesOf before.now after.now changes.now }
+        ensures { IfOk result (λ differences. differences ≡ record { before = before.now; after = after.now }) }
+    {
+        before.rows_are_lawful();
+        after.rows_are_lawful();
+        Ok(Differences {
+            before,
+            after,
+            channels: channel_pairs(alloc, before, after, &changes.channels)?,
+            nodes: node_pairs(alloc, before, after, &changes.nodes)?,
+        })
+    }
+
+    /// The news of [`news`](crate::news) from the earlier map to the later one, as they are walked. It takes no memory,
+    /// and looks at no more than what was touched.
+    pub fn news<'b>(&'b self, filter: &Filter) -> News<'b, 'a>
+        ensures { result ≡ news self.now.before self.now.after filter.now }
+    {
+        News::of(filter, self.channels.as_slice(), self.nodes.as_slice())
+    }
+}
+
+/// What the maps have of channels, of which the later map has each.
+fn channel_pairs<'a>(
+    alloc: Global,
+    before: &'a Map,
+    after: &'a Map,
+    scids: &BTreeSet<Scid>,
+) -> Result<Vec<ChannelPair<'a>>, AllocError>
+    ensures { IfOk result (λ pairs. (f : Filter)
+        → flat_map (news_of_channel_pair f) pairs.items ≡ flat_map (news_of_channel f before.now after.now) scids.now.keys) }
+{
+    let mut pairs = Vec::new(alloc);
+    for scid in scids {
+        if let Some(pair) = ChannelPair::at(before, after, *scid) {
+            pairs.push(pair)?;
+        }
+    }
+    Ok(pairs)
+}
+
+/// What the maps have of nodes, of which the later map has each.
+fn node_pairs<'a>(
+    alloc: Global,
+    before: &'a Map,
+    after: &'a Map,
+    nodes: &BTreeSet<Point>,
+) -> Result<Vec<NodePair<'a>>, AllocError>
+    ensures { IfOk result (λ pairs. (f : Filter)
+        → flat_map (news_of_node_pair f) pairs.items ≡ flat_map (news_of_node f before.now after.now) nodes.now.keys) }
+{
+    let mut pairs = Vec::new(alloc);
+    for node in nodes {
+        if let Some(pair) = NodePair::at(before, after, node) {
+            pairs.push(pair)?;
+        }
+    }
+    Ok(pairs)
+}

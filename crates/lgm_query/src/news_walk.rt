@@ -1,0 +1,71 @@
+//! What is new, as it is walked.
+
+ghost use Rattle.std.specs.Prelude.{◌≡◌, List, ℕ, ◌++◌};
+ghost use Rattle.std.specs.Iterator.{YieldsFirstRef, item_count};
+ghost use Rattle.std.specs.Slice.Iter.{iter_rest};
+ghost use Rattle.lgm_query.specs.Differences.{news_of_pairs};
+
+use crate::filter::Filter;
+use crate::pairs::{ChannelPair, NodePair};
+use crate::passing::Passing;
+use lgm_gossip::Bytes;
+use std::marker::Model;
+use std::slice;
+
+/// The messages that pass a filter in a later map and didn't in an earlier one, in the order of a
+/// [`Backlog`](crate::Backlog). Contracts see the list of those that are still to come.
+#[derive(Drop)]
+pub struct News<'b, 'a> {
+    filter: Filter,
+    /// What is left of the last row.
+    passing: Passing<'a>,
+    channels: slice::Iter<'b, ChannelPair<'a>>,
+    nodes: slice::Iter<'b, NodePair<'a>>,
+}
+
+impl<'b, 'a> Model for News<'b, 'a> {
+    ghost Value = { List (List ℕ) };
+
+    ghost view = { λ n. n.passing ++ news_of_pairs n.filter (iter_rest n.channels) (iter_rest n.nodes) };
+}
+
+impl<'b, 'a> News<'b, 'a> {
+    /// Those of channels, and then those of nodes.
+    pub(crate) fn of(
+        filter: &Filter,
+        channels: &'b [ChannelPair<'a>],
+        nodes: &'b [NodePair<'a>],
+    ) -> News<'b, 'a>
+        ensures { result ≡ news_of_pairs filter.now channels.now nodes.now }
+    {
+        News {
+            filter: *filter,
+            passing: Passing::none(),
+            channels: channels.iter(),
+            nodes: nodes.iter(),
+        }
+    }
+}
+
+impl<'b, 'a> Iterator for News<'b, 'a> {
+    type Item = &'a Bytes;
+
+    ghost next_gives = { YieldsFirstRef (λ left. left) };
+
+    ghost remaining = { item_count (λ left. left) };
+
+    fn next(&mut self) -> Option<&'a Bytes> {
+        'rows: loop {
+            if let Some(message) = self.passing.next() {
+                return Some(message);
+            }
+            if let Some(pair) = self.channels.next() {
+                self.passing = Passing::news_of_channel(&self.filter, pair);
+            } else if let Some(pair) = self.nodes.next() {
+                self.passing = Passing::news_of_node(&self.filter, pair);
+            } else {
+                return None;
+            }
+        }
+    }
+}
