@@ -6,7 +6,7 @@ mod starting;
 #[cfg(test)]
 mod tests;
 
-use lgm_server::{FromRead, ToWrite};
+use lgm_script::{FromRead, ToWrite};
 use std::process::ExitCode;
 use std::{env, io};
 

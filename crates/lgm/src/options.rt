@@ -5,7 +5,6 @@ ghost use Rattle.lgm.specs.declared.options.BadWords.TheVariants.{NoMemory};
 
 use clap::builder::ValueParser;
 use clap::{Arg, ArgAction, Command, Error};
-use hex::FromHex;
 use lgm_gossip::ChainHash;
 use std::alloc::{AllocError, Global};
 
@@ -77,7 +76,7 @@ pub fn parse(alloc: Global, words: &[String]) -> Result<Options, BadWords> {
     };
     let digits = run.get_str("chain").unwrap_or("");
     let workers = run.get_one::<u64>("workers").unwrap_or(4);
-    match <[u8; 32] as FromHex>::from_hex(digits) {
+    match lgm_hex::decode_array::<32>(digits.as_bytes()) {
         Ok(bytes) => Ok(Options {
             chain: ChainHash(bytes),
             workers,

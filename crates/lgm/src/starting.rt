@@ -5,7 +5,8 @@ ghost use Rattle.std.specs.Prelude.{◌+◌, ◌<◌, ◌^◌};
 use crate::options::{BadWords, parse};
 use clap::Error;
 use clap::error::ErrorKind;
-use lgm_server::{RunFault, Sink, Source, run, write_all};
+use lgm_script::{Sink, Source, write_all};
+use lgm_server::{RunFault, run};
 use std::alloc::Global;
 
 /// Exit statuses.

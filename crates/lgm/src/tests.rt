@@ -1,5 +1,5 @@
 use crate::starting::start;
-use lgm_server::{MemorySink, MemorySource};
+use lgm_script::{Failed, MemorySink, MemorySource, Sink, Source};
 use std::alloc::Global;
 use std::test::Fail;
 
@@ -89,5 +89,98 @@ fn a_fault_has_its_line(rt: HostRuntime) -> Result<(), Fail> {
     assert_eq!(rt; status, 1);
     assert_eq!(rt; writer.taken(), b"1 commit 0\n".as_slice());
     assert_eq!(rt; errors.taken(), b"lgm: line too long\n".as_slice());
+    Ok(())
+}
+
+/// A source that gives a text once, and then fails.
+#[derive(Drop)]
+struct BrokenSource<'a> {
+    text: MemorySource<'a>,
+    is_broken: bool,
+    failures: u64,
+}
+
+impl Source for BrokenSource<'_> {
+    ghost use Rattle.std.specs.Prelude.{None};
+
+    ghost left = { λ _. None };
+
+    ghost failures = { λ s. s.failures };
+
+    fn read(&mut self, buffer: &mut [u8]) -> Result<usize, Failed> {
+        if !self.is_broken {
+            self.is_broken = true;
+            if let Ok(n) = self.text.read(buffer) {
+                return Ok(n);
+            }
+        }
+        self.failures += 1;
+        Err(Failed)
+    }
+}
+
+/// A sink that takes nothing.
+#[derive(Drop)]
+struct FullSink {
+    failures: u64,
+}
+
+impl Sink for FullSink {
+    ghost use Rattle.std.specs.Prelude.{None};
+
+    ghost taken = { λ _. None };
+
+    ghost failures = { λ s. s.failures };
+
+    fn write(&mut self, bytes: &[u8]) -> Result<usize, Failed> {
+        if !bytes.is_empty() {
+            self.failures += 1;
+        }
+        Ok(0)
+    }
+}
+
+const RUN: [&str; 4] = ["lgm", "run", "--chain", CHAIN];
+
+#[test]
+fn a_failed_read_has_its_line(rt: HostRuntime) -> Result<(), Fail> {
+    let alloc = rt.alloc();
+    let words = words(alloc, &RUN)?;
+    let mut reader = BrokenSource {
+        text: MemorySource::new(b"commit\ncomm", 100),
+        is_broken: false,
+        failures: 0,
+    };
+    let mut writer = MemorySink::new(alloc);
+    let mut errors = MemorySink::new(alloc);
+    let status = start(
+        alloc,
+        words.as_slice(),
+        &mut reader,
+        &mut writer,
+        &mut errors,
+    );
+    assert_eq!(rt; status, 1);
+    assert_eq!(rt; writer.taken(), b"1 commit 0\n".as_slice());
+    assert_eq!(rt; errors.taken(), b"lgm: read failed\n".as_slice());
+    Ok(())
+}
+
+#[test]
+fn a_failed_write_has_its_line(rt: HostRuntime) -> Result<(), Fail> {
+    let alloc = rt.alloc();
+    let words = words(alloc, &RUN)?;
+    let mut reader = MemorySource::new(b"commit\n", 100);
+    let mut writer = FullSink { failures: 0 };
+    let mut errors = MemorySink::new(alloc);
+    let status = start(
+        alloc,
+        words.as_slice(),
+        &mut reader,
+        &mut writer,
+        &mut errors,
+    );
+    assert_eq!(rt; status, 1);
+    assert_eq!(rt; errors.taken(), b"lgm: write failed\n".as_slice());
     Ok(())
 }

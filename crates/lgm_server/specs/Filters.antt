@@ -1,7 +1,10 @@
 -- The filters of peers.
-use Rattle.std.specs.Prelude.{ℕ}
+use Rattle.std.specs.Prelude.{ℕ, Option, List}
+use Rattle.std.specs.Option.{option_map}
+use Rattle.std.specs.List.{filter_map, range_with_len}
 use Rattle.std.specs.declared.cmp.Ordering.{Ordering}
 use Rattle.std.specs.Ordering.{nat_cmp}
+use Rattle.lgm_query.specs.declared.filter.Filter.{Filter}
 use Rattle.lgm_server.specs.declared.filters.PeerFilter.{PeerFilter}
 
 abbrev pub peer_of : PeerFilter → ℕ
@@ -10,3 +13,11 @@ peer_of own = own.peer
 -- peers ascend by their numbers
 abbrev pub by_peer : PeerFilter → PeerFilter → Ordering
 by_peer a b = nat_cmp (peer_of a) (peer_of b)
+
+-- the filter of a peer, if it has one
+abbrev pub peer_filter : (ℕ → Option Filter) → ℕ → Option PeerFilter
+peer_filter filter_at peer = option_map (λ filter. record { peer = peer; filter = filter }) (filter_at peer)
+
+-- the filters of the peers from a number on, so many, ascending
+abbrev pub filters_from : (ℕ → Option Filter) → ℕ → ℕ → List PeerFilter
+filters_from filter_at first count = filter_map (peer_filter filter_at) (range_with_len first count)

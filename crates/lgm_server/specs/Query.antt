@@ -9,19 +9,16 @@ use Rattle.lgm_check.specs.Refusal.{refusal_of}
 use Rattle.lgm_store.specs.Rows.{Rows}
 use Rattle.lgm_query.specs.IdsReply.{ids_reply}
 use Rattle.lgm_query.specs.RangeReply.{range_reply}
-use Rattle.lgm_server.specs.declared.reply.Reply.{Reply}
-use Rattle.lgm_server.specs.declared.reply.Reply.TheVariants as replies
+use Rattle.lgm_server.specs.declared.objection.Objection.{Objection}
+use Rattle.lgm_server.specs.declared.objection.Objection.TheVariants as objections
 
 -- the messages for each of the two queries
-abbrev pub answer_of : ChainHash → Rows → Message → Reply
-answer_of chain rows (messages.IdsQuery query) = replies.Answers (ids_reply chain rows query)
-answer_of chain rows (messages.RangeQuery query) = replies.Answers (range_reply chain rows query)
-answer_of chain rows _ = replies.NotQuery
+abbrev pub answer_to : ChainHash → Rows → Result Message DecodeFault → Result (List (List ℕ)) Objection
+answer_to chain rows (Ok (messages.IdsQuery query)) = Ok (ids_reply chain rows query)
+answer_to chain rows (Ok (messages.RangeQuery query)) = Ok (range_reply chain rows query)
+answer_to chain rows (Ok _) = Err objections.NotQuery
+answer_to chain rows (Err fault) = Err (objections.Refused (refusal_of fault))
 
-abbrev pub answer_read : ChainHash → Rows → Result Message DecodeFault → Reply
-answer_read chain rows (Ok message) = answer_of chain rows message
-answer_read chain rows (Err fault) = replies.Refused (refusal_of fault)
-
--- the reply to these bytes
-abbrev pub query_reply : ChainHash → Rows → List ℕ → Reply
-query_reply chain rows bytes = answer_read chain rows (message_at bytes)
+-- the messages for these bytes, or why there are none
+abbrev pub query_answer : ChainHash → Rows → List ℕ → Result (List (List ℕ)) Objection
+query_answer chain rows bytes = answer_to chain rows (message_at bytes)

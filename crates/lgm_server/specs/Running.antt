@@ -1,50 +1,63 @@
 -- What running a script writes.
-use Rattle.std.specs.Prelude.{◌≡◌, ◌⊎◌, ℕ, ◌<◌, ◌≤◌, List, [], length, take, Option, slice_index_or}
+use Rattle.std.specs.Prelude.{◌≡◌, ◌⊎◌, ℕ, ◌<◌, ◌≤◌, List, [], ◌++◌, length, take, Option, Some, filter, slice_index_or}
 use Rattle.std.specs.List.{AllByRecursion}
 use Rattle.lgm_gossip.specs.declared.chain_hash.ChainHash.{ChainHash}
-use Rattle.lgm_server.specs.declared.line_reader.LineFault.{LineFault}
-use Rattle.lgm_server.specs.declared.line_reader.LineFault.TheVariants as lines
+use Rattle.lgm_script.specs.declared.output.SendFault.{SendFault}
+use Rattle.lgm_script.specs.declared.output.SendFault.TheVariants as sending
+use Rattle.lgm_script.specs.declared.reading.LineFault.{LineFault}
+use Rattle.lgm_script.specs.declared.reading.LineFault.TheVariants as lines
+use Rattle.lgm_script.specs.Lines.{ends_line, lines_of}
 use Rattle.lgm_server.specs.declared.run_fault.RunFault.{RunFault}
 use Rattle.lgm_server.specs.declared.run_fault.RunFault.TheVariants as faults
 use Rattle.lgm_server.specs.declared.running.Counts.{Counts}
-use Rattle.lgm_server.specs.Device.{Appends}
-use Rattle.lgm_server.specs.Lines.{lines_of}
-use Rattle.lgm_server.specs.Script.{history_of, text_before}
+use Rattle.lgm_server.specs.Outcomes.{history_of}
+use Rattle.lgm_server.specs.Script.{requests_of, items_of, text_before}
 
-abbrev pub fault_of : LineFault → RunFault
-fault_of lines.Read = faults.Read
-fault_of lines.NoMemory = faults.NoMemory
-fault_of lines.TooLong = faults.LineTooLong
+abbrev pub line_fault : LineFault → RunFault
+line_fault lines.Read = faults.Read
+line_fault lines.Write = faults.Write
+line_fault lines.TooLong = faults.LineTooLong
 
--- a device failed
-abbrev pub IsDeviceFault : RunFault → Type 0
-IsDeviceFault fault = (fault ≡ faults.Read) ⊎ (fault ≡ faults.Write)
+abbrev pub send_fault : SendFault → RunFault
+send_fault sending.Write = faults.Write
+send_fault sending.NoMemory = faults.NoMemory
 
--- memory was refused, or the sink failed
-abbrev pub IsAnswerFault : RunFault → Type 0
-IsAnswerFault fault = (fault ≡ faults.NoMemory) ⊎ (fault ≡ faults.Write)
+-- none of the first n lines is too long, and their text was told
+pub record IsTold (chain : ChainHash) (told : List ℕ → Type 0) (script : List ℕ) (n : ℕ) : Type 0 where
+  pub few : n ≤ length (lines_of script)
+  pub short : AllByRecursion (λ line. length line ≤ 140000) (take n (lines_of script))
+  pub text : told (text_before chain (requests_of script) n)
 
--- none of the first n lines is too long, and their text was written
-pub record IsWritten (chain : ChainHash) (old new : Option (List ℕ)) (lines : List (List ℕ)) (n : ℕ) : Type 0 where
-  pub few : n ≤ length lines
-  pub short : AllByRecursion (λ line. length line ≤ 140000) (take n lines)
-  pub written : Appends old new (text_before chain lines n)
-
--- all lines are within the limits, and the whole text was written
-pub record IsAnswered (chain : ChainHash) (old new : Option (List ℕ)) (counts : Counts) (script : List ℕ) : Type 0 where
+-- all lines are within the limits, and the whole text was told
+pub record IsAnswered (chain : ChainHash) (told : List ℕ → Type 0) (counts : Counts) (script : List ℕ) : Type 0 where
   pub lines : counts.lines ≡ length (lines_of script)
   pub limit : counts.lines ≤ 10000000
-  pub accepted : counts.accepted ≡ length (history_of chain (lines_of script))
-  pub text : IsWritten chain old new (lines_of script) counts.lines
+  pub accepted : counts.accepted ≡ length (history_of chain (items_of (requests_of script)))
+  pub text : IsTold chain told script counts.lines
 
--- one more line than the limit begins, and the text of the lines before it was written
-pub record IsTooMany (chain : ChainHash) (old new : Option (List ℕ)) (script : List ℕ) : Type 0 where
+-- one more line than the limit begins, and the text of the lines before it was told
+pub record IsTooMany (chain : ChainHash) (told : List ℕ → Type 0) (script : List ℕ) : Type 0 where
   pub more : 10000000 < length (lines_of script)
-  pub text : IsWritten chain old new (lines_of script) 10000000
+  pub text : IsTold chain told script 10000000
 
--- a line is too long, and the text of the lines before it was written
-pub record IsTooLong (chain : ChainHash) (old new : Option (List ℕ)) (script : List ℕ) : Type 0 where
+-- a line is too long, and the text of the lines before it was told
+pub record IsTooLong (chain : ChainHash) (told : List ℕ → Type 0) (script : List ℕ) : Type 0 where
   pub place : ℕ
   pub limit : place < 10000000
   pub long : 140000 < length (slice_index_or (lines_of script) place [])
-  pub text : IsWritten chain old new (lines_of script) place
+  pub text : IsTold chain told script place
+
+-- the first n lines of a script were read, each to its line feed or to the end, where this is left of it
+pub record AreRead (script : List ℕ) (left : Option (List ℕ)) (n : ℕ) : Type 0 where
+  pub front : List ℕ
+  pub rest : List ℕ
+  pub parts : script ≡ front ++ rest
+  pub left_is : left ≡ Some rest
+  pub whole : (n ≤ length (filter ends_line front)) ⊎ (rest ≡ [])
+
+-- some of the lines were answered, all of which were read, and nothing but a first part of their text was told
+pub record IsCutShort (chain : ChainHash) (told_part : List ℕ → Type 0) (left : Option (List ℕ)) (script : List ℕ) : Type 0 where
+  pub answered : ℕ
+  pub few : answered ≤ length (lines_of script)
+  pub read : AreRead script left answered
+  pub text : told_part (text_before chain (requests_of script) answered)

@@ -1,44 +1,61 @@
--- What a script's lines are told: each by its place, from the lines before it.
-use Rattle.std.specs.Prelude.{ℕ, zero, suc, ◌+◌, Bool, true, false, List, [], ◌∷◌, ◌++◌, length, take, Some, Result, Ok, Err, slice_index_or, codes, if◌then◌else◌}
-use Rattle.std.specs.List.{flat_map, list_any}
-use Rattle.lgm_wire.specs.Reading.{◌>>=◌}
+-- What a script's requests are told: each by its place, from the requests before it.
+use Rattle.std.specs.Prelude.{ℕ, zero, suc, ◌+◌, ◌==◌, Bool, true, false, List, [], ◌∷◌, ◌++◌, length, take, map, Option, Some, None, slice_index_or, codes, if◌then◌else◌}
+use Rattle.std.specs.List.{filter_map, last_or, list_any}
+use Rattle.std.specs.Result.{result_ok, result_err}
 use Rattle.lgm_gossip.specs.declared.chain_hash.ChainHash.{ChainHash}
-use Rattle.lgm_check.specs.declared.refusal.Refusal.{Refusal}
-use Rattle.lgm_check.specs.Precheck.{checked_of}
-use Rattle.lgm_store.specs.declared.op.Op.{Op}
-use Rattle.lgm_store.specs.Rows.{Rows, empty, put}
+use Rattle.lgm_store.specs.Rows.{Rows}
+use Rattle.lgm_store.specs.History.{fold}
 use Rattle.lgm_query.specs.declared.filter.Filter.{Filter}
-use Rattle.lgm_query.specs.Backlog.{backlog, news}
-use Rattle.lgm_store.specs.Admission.{admitted, admitted_close}
-use Rattle.lgm_store.specs.History.{absorbed, fold}
-use Rattle.lgm_server.specs.declared.item.Item.{Item}
-use Rattle.lgm_server.specs.declared.item.Item.TheVariants.{Gossip, Close}
-use Rattle.lgm_server.specs.declared.request.Request.{Request}
-use Rattle.lgm_server.specs.declared.request.Request.TheVariants as requests
-use Rattle.lgm_server.specs.declared.reply.Reply.{Reply}
-use Rattle.lgm_server.specs.declared.reply.Reply.TheVariants as replies
-use Rattle.lgm_server.specs.Request.{request_of}
+use Rattle.lgm_script.specs.declared.item.Item.{Item}
+use Rattle.lgm_script.specs.declared.request.Request.{Request}
+use Rattle.lgm_script.specs.declared.request.Request.TheVariants as requests
+use Rattle.lgm_script.specs.Lines.{lines_of}
+use Rattle.lgm_script.specs.Request.{request_of}
+use Rattle.lgm_script.specs.Text.{word_line}
 use Rattle.lgm_server.specs.declared.filters.PeerFilter.{PeerFilter}
-use Rattle.lgm_server.specs.Filters.{by_peer}
+use Rattle.lgm_server.specs.Outcomes.{outcome_of, history_of}
+use Rattle.lgm_server.specs.Filters.{filters_from}
 use Rattle.lgm_server.specs.Filtering.{filter_read}
-use Rattle.lgm_server.specs.Reply.{text_of, word_line, commit_line, message_line}
-use Rattle.lgm_server.specs.Query.{query_reply}
+use Rattle.lgm_server.specs.Query.{query_answer}
+use Rattle.lgm_server.specs.Answer.{outcome_text, query_text, filter_text, commit_text}
 
--- ---- one item
+-- what the lines of a script ask
+abbrev pub requests_of : List ℕ → List Request
+requests_of script = map request_of (lines_of script)
 
--- the operation of an item that a map of these rows accepts, or the refusal
-unfoldable pub outcome_of : ChainHash → Rows → Item → Result Op Refusal
-outcome_of chain rows (Gossip bytes evidence) = checked_of chain bytes evidence >>= λ checked. admitted rows checked
-outcome_of chain rows (Close id) = admitted_close rows id
+-- ---- what requests leave
 
--- what it is told
-abbrev pub offered : Result Op Refusal → Reply
-offered (Ok op) = replies.Accepted
-offered (Err refusal) = replies.Refused refusal
+-- the item that is offered
+abbrev pub item_in : Request → Option Item
+item_in (requests.Offer item) = Some item
+item_in _ = None
 
--- ---- one request
+abbrev pub items_of : List Request → List Item
+items_of asked = filter_map item_in asked
 
--- what requests are answered on
+abbrev pub is_commit : Request → Bool
+is_commit requests.Commit = true
+is_commit _ = false
+
+-- the requests before the last commit, and none if there is none
+abbrev pub before_commit : List Request → List Request
+before_commit [] = []
+before_commit (request ∷ others) = if list_any is_commit others then request ∷ before_commit others else []
+
+-- the filter that a request gives a peer, if it is a lawful one for it
+abbrev pub filter_given : ChainHash → ℕ → Request → Option Filter
+filter_given chain peer (requests.Filter other bytes) = if other == peer then result_ok (filter_read chain bytes) else None
+filter_given chain peer _ = None
+
+-- the filter of a peer: the last that it was given
+abbrev pub filter_of : ChainHash → List Request → ℕ → Option Filter
+filter_of chain asked peer = last_or None (filter_map (filter_given chain peer) asked)
+
+-- the filters of the peers, which are numbers below 1,000
+unfoldable pub filters_of : ChainHash → List Request → List PeerFilter
+filters_of chain asked = filters_from (filter_of chain asked) 0 1000
+
+-- what a request is answered on
 pub record State : Type 0 where
   -- the rows that all accepted items have left
   pub rows : Rows
@@ -49,109 +66,31 @@ pub record State : Type 0 where
   -- the filters of peers, peers ascending
   pub filters : List PeerFilter
 
--- no item was accepted, and no filter set
-abbrev pub opening : State
-opening = record { rows = empty; committed = empty; accepted = 0; filters = [] }
-
--- what is new to a peer in later rows
-abbrev pub news_text : ℕ → Rows → Rows → PeerFilter → List ℕ
-news_text number before after own = flat_map (message_line number (Some own.peer)) (news before after own.filter)
-
--- the number of accepted items, and then what is new to each peer
-abbrev pub commit_text : ℕ → State → List ℕ
-commit_text number state =
-    commit_line number state.accepted ++ flat_map (news_text number state.committed state.rows) state.filters
-
--- the word of a filter, and then what passes it of these rows, or else the reply
-abbrev pub filter_text : ℕ → ℕ → Rows → Result Filter Reply → List ℕ
-filter_text number peer rows (Ok filter) =
-    word_line number (codes "filter") ++ flat_map (message_line number (Some peer)) (backlog rows filter)
-filter_text number peer rows (Err reply) = text_of number reply
-
--- the text for a request, the line of that number
-abbrev pub text_in : ChainHash → ℕ → State → Request → List ℕ
-text_in chain number state requests.Quiet = text_of number replies.Quiet
-text_in chain number state requests.Bad = text_of number replies.Bad
-text_in chain number state requests.Commit = commit_text number state
-text_in chain number state (requests.Query bytes) = text_of number (query_reply chain state.committed bytes)
-text_in chain number state (requests.Filter peer bytes) = filter_text number peer state.committed (filter_read chain bytes)
-text_in chain number state (requests.Offer item) = text_of number (offered (outcome_of chain state.rows item))
-
--- filters with that of a peer, if it is one
-abbrev pub filters_with : List PeerFilter → ℕ → Result Filter Reply → List PeerFilter
-filters_with filters peer (Ok filter) = put by_peer filters (record { peer = peer; filter = filter })
-filters_with filters peer (Err reply) = filters
-
--- the same of a state
-abbrev pub with_filter : State → ℕ → Result Filter Reply → State
-with_filter state peer filter = record state { filters = filters_with state.filters peer filter }
-
--- behind an item that was accepted or refused
-abbrev pub state_behind : State → Result Op Refusal → State
-state_behind state (Ok op) = record state { rows = absorbed state.rows op; accepted = state.accepted + 1 }
-state_behind state (Err refusal) = state
-
-abbrev pub state_after : ChainHash → State → Request → State
-state_after chain state requests.Commit = record state { committed = state.rows }
-state_after chain state (requests.Offer item) = state_behind state (outcome_of chain state.rows item)
-state_after chain state (requests.Filter peer bytes) = with_filter state peer (filter_read chain bytes)
-state_after chain state _ = state
-
--- ---- all lines
-
--- a history with the operation of a further request's item, if it is accepted
-abbrev pub with_outcome : List Op → Result Op Refusal → List Op
-with_outcome history (Ok op) = history ++ op ∷ []
-with_outcome history (Err refusal) = history
-
-abbrev pub history_after : ChainHash → List Op → Request → List Op
-history_after chain history (requests.Offer item) = with_outcome history (outcome_of chain (fold history) item)
-history_after chain history _ = history
-
--- the operations of the items that are accepted, in order, behind a history
-abbrev pub history_from : ChainHash → List Op → List (List ℕ) → List Op
-history_from chain history [] = history
-history_from chain history (line ∷ lines) = history_from chain (history_after chain history (request_of line)) lines
-
--- the operations of the items of these lines that are accepted
-abbrev pub history_of : ChainHash → List (List ℕ) → List Op
-history_of chain lines = history_from chain [] lines
-
-abbrev pub commits : Request → Bool
-commits requests.Commit = true
-commits _ = false
-
--- the lines before the last commit, and none if there is none
-abbrev pub before_commit : List (List ℕ) → List (List ℕ)
-before_commit [] = []
-before_commit (line ∷ lines) = if list_any (λ l. commits (request_of l)) lines then line ∷ before_commit lines else []
-
-abbrev pub filters_after : ChainHash → List PeerFilter → Request → List PeerFilter
-filters_after chain filters (requests.Filter peer bytes) = filters_with filters peer (filter_read chain bytes)
-filters_after chain filters _ = filters
-
-abbrev pub filters_from : ChainHash → List PeerFilter → List (List ℕ) → List PeerFilter
-filters_from chain filters [] = filters
-filters_from chain filters (line ∷ lines) = filters_from chain (filters_after chain filters (request_of line)) lines
-
--- the last filter of each peer in these lines, peers ascending
-abbrev pub filters_of : ChainHash → List (List ℕ) → List PeerFilter
-filters_of chain lines = filters_from chain [] lines
-
--- what a request behind these lines is answered on
-abbrev pub state_of : ChainHash → List (List ℕ) → State
-state_of chain lines = record {
-  rows = fold (history_of chain lines);
-  committed = fold (history_of chain (before_commit lines));
-  accepted = length (history_of chain lines);
-  filters = filters_of chain lines;
+-- what a request behind these is answered on
+abbrev pub state_of : ChainHash → List Request → State
+state_of chain asked = record {
+  rows = fold (history_of chain (items_of asked));
+  committed = fold (history_of chain (items_of (before_commit asked)));
+  accepted = length (history_of chain (items_of asked));
+  filters = filters_of chain asked;
 }
 
--- the text for the line at a place, from 0
-unfoldable pub text_at : ChainHash → List (List ℕ) → ℕ → List ℕ
-text_at chain lines k = text_in chain (k + 1) (state_of chain (take k lines)) (request_of (slice_index_or lines k []))
+-- ---- what they are told
 
--- the text for the first k lines
-unfoldable pub text_before : ChainHash → List (List ℕ) → ℕ → List ℕ
-text_before chain lines zero = []
-text_before chain lines (suc k) = text_before chain lines k ++ text_at chain lines k
+-- the text for a request, that of the line of that number
+abbrev pub text_for : ChainHash → ℕ → State → Request → List ℕ
+text_for chain number state requests.Quiet = []
+text_for chain number state requests.Bad = word_line number (codes "bad")
+text_for chain number state (requests.Offer item) = outcome_text number (result_err (outcome_of chain state.rows item))
+text_for chain number state requests.Commit = commit_text number state.accepted state.committed state.rows state.filters
+text_for chain number state (requests.Query bytes) = query_text number (query_answer chain state.committed bytes)
+text_for chain number state (requests.Filter peer bytes) = filter_text number peer state.committed (filter_read chain bytes)
+
+-- the text for the request at a place, from 0
+unfoldable pub text_at : ChainHash → List Request → ℕ → List ℕ
+text_at chain asked k = text_for chain (k + 1) (state_of chain (take k asked)) (slice_index_or asked k requests.Quiet)
+
+-- the text for the first k requests
+unfoldable pub text_before : ChainHash → List Request → ℕ → List ℕ
+text_before chain asked zero = []
+text_before chain asked (suc k) = text_before chain asked k ++ text_at chain asked k

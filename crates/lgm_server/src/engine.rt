@@ -1,27 +1,24 @@
-//! Answers, one after the other.
+//! The state between two lines.
 
-ghost use Rattle.std.specs.Prelude.{◌≡◌, ◌+◌, ◌<◌, ◌^◌, [], ◌∷◌, ◌++◌, drop, IfErr, IfOk, OnOk, OnErr, IsErrOf};
+ghost use Rattle.std.specs.Prelude.{◌≡◌, ◌+◌, ◌<◌, ◌^◌, [], drop, ℕ, Ok, IfErr, IfOk, OnOk, OnErr};
+ghost use Rattle.std.specs.Result.{result_err};
 ghost use Rattle.lgm_wire.specs.Reading.{Gives};
 ghost use Rattle.lgm_store.specs.History.{absorbed, fold_from};
-ghost use Rattle.lgm_server.specs.Device.{Appends};
-ghost use Rattle.lgm_server.specs.Text.{with_gathered};
-ghost use Rattle.lgm_server.specs.Running.{IsAnswerFault};
-ghost use Rattle.lgm_server.specs.Filtering.{filter_read};
-ghost use Rattle.lgm_server.specs.Script.{outcome_of, offered, opening, commit_text, filter_text, text_in, state_behind, with_filter, state_after};
+ghost use Rattle.lgm_query.specs.Touched.{HasTouched};
+ghost use Rattle.lgm_script.specs.Output.{Sends, SendsPart};
+ghost use Rattle.lgm_server.specs.Answer.{query_text, filter_text, commit_text, answer_text};
+ghost use Rattle.lgm_server.specs.Behind.{IsBehind, Keeps};
+ghost use Rattle.lgm_server.specs.Outcomes.{outcome_of};
+ghost use Rattle.lgm_server.specs.Query.{query_answer};
+ghost use Rattle.lgm_server.specs.Steps.{opening, state_behind, state_committed, with_filter};
 
-use crate::device::Sink;
-use crate::filtering::read_filter;
+use crate::answer::Answer;
 use crate::filters::{Filters, PeerFilter};
-use crate::item::Item;
-use crate::news::send_news;
 use crate::querying::answer_query;
-use crate::reply::Reply;
-use crate::request::Request;
-use crate::run_fault::RunFault;
-use crate::sending::{send_backlog, send_count, send_word};
-use crate::text_buffer::TextBuffer;
-use lgm_check::{Refusal, precheck};
+use lgm_check::{Refusal, precheck_owned};
 use lgm_gossip::ChainHash;
+use lgm_query::{Changes, Differences};
+use lgm_script::{Item, Output, SendFault, Sink};
 use lgm_store::{Map, Op};
 use std::alloc::{AllocError, Global};
 use std::collections::VecDeque;
@@ -45,7 +42,7 @@ pub struct Engine {
 }
 
 impl Model for Engine {
-    ghost use Rattle.lgm_store.specs.History.{absorbed, fold_from};
+    ghost use Rattle.lgm_store.specs.History.{fold_from};
     ghost use Rattle.lgm_server.specs.Behind.{IsBehind};
     ghost use Rattle.lgm_server.specs.Script.{State};
 
@@ -56,18 +53,48 @@ impl Model for Engine {
     ghost invariant = { λ e. IsBehind (fold_from e.map e.due.items) e.committed e.pending.items };
 }
 
-/// The operation of an item, if it is accepted.
-#[tactic(auto, unfolding(crate::specs::Script::outcome_of))]
-fn outcome(alloc: Global, chain: &ChainHash, map: &Map, item: &Item) -> Result<Op, Refusal>
-    ensures { Gives Refusal.NoMemory (λ op. op) result (outcome_of chain.now map.now item.now) }
+/// Admits an item and does its operation, which it gives. A refusal or want of memory leaves the map as it was.
+#[tactic(auto, unfolding(crate::specs::Outcomes::outcome_of))]
+fn admit(alloc: Global, chain: &ChainHash, map: &mut Map, item: Item) -> Result<Op, Refusal>
+    ensures outcome { Gives Refusal.NoMemory (λ op. op) result (outcome_of chain.now map.old item) }
+    ensures accepted { IfOk result (λ op. map.new ≡ absorbed map.old op) }
+    ensures refused { OnErr result (map.new ≡ map.old) }
 {
     match item {
         Item::Gossip(bytes, evidence) => {
-            let checked = precheck(alloc, chain, bytes.as_slice(), evidence)?;
-            map.admits(&checked)?;
-            Ok(Op::of(alloc, checked)?)
+            let checked = precheck_owned(alloc, chain, bytes, &evidence)?;
+            map.offer(alloc, checked)
         }
-        Item::Close(scid) => map.admit_close(*scid),
+        Item::Close(scid) => {
+            let close = map.admit_close(scid)?;
+            map.absorb(&close)?;
+            Ok(close)
+        }
+    }
+}
+
+/// Offers an item to a map, and gives its refusal, if it is refused. The operation of one that is accepted is pending
+/// from then on. Want of memory leaves all as it was.
+fn offer(
+    alloc: Global,
+    chain: &ChainHash,
+    map: &mut Map,
+    pending: &mut VecDeque<Op>,
+    item: Item,
+) -> Result<Option<Refusal>, AllocError>
+    ensures refusal { IfOk result (λ refusal. refusal ≡ result_err (outcome_of chain.now map.old item)) }
+    ensures kept { OnOk result (Keeps (outcome_of chain.now map.old item) map.old map.new pending.old.items pending.new.items) }
+    ensures same { OnErr result (map.new ≡ map.old) }
+    ensures none { OnErr result (pending.new.items ≡ pending.old.items) }
+{
+    pending.reserve(1)?;
+    match admit(alloc, chain, map, item) {
+        Ok(op) => match pending.push_back(op) {
+            Ok(()) => Ok(None),
+            Err(_) => unreachable!(),
+        },
+        Err(Refusal::NoMemory) => Err(AllocError),
+        Err(refusal) => Ok(Some(refusal)),
     }
 }
 
@@ -90,24 +117,15 @@ fn catch_up(map: &mut Map, due: &mut VecDeque<Op>) -> Result<(), AllocError>
     Ok(())
 }
 
-/// Does an operation, which is pending from then on. Want of memory leaves all as it was.
-fn accept(
-    alloc: Global,
-    map: &mut Map,
-    pending: &mut VecDeque<Op>,
-    op: Op,
-) -> Result<(), AllocError>
-    ensures done { OnOk result (map.new ≡ absorbed map.old op) }
-    ensures pending { OnOk result (pending.new.items ≡ pending.old.items ++ op ∷ []) }
-    ensures same { OnErr result (map.new ≡ map.old) }
-    ensures none { OnErr result (pending.new.items ≡ pending.old.items) }
+/// What operations touch.
+fn changes_of(alloc: Global, pending: &VecDeque<Op>) -> Result<Changes, AllocError>
+    ensures { IfOk result (λ changes. HasTouched pending.now.items changes) }
 {
-    pending.push_back(op.copy(alloc)?)?;
-    if let Err(refused) = map.absorb(&op) {
-        pending.pop_back();
-        return Err(refused);
+    let mut changes = Changes::new(alloc);
+    for place in 0..pending.len() {
+        changes.touch(&pending[place])?;
     }
-    Ok(())
+    Ok(changes)
 }
 
 impl Engine {
@@ -132,120 +150,122 @@ impl Engine {
         self.accepted
     }
 
-    fn offer(&mut self, alloc: Global, chain: &ChainHash, item: &Item) -> Result<Reply, AllocError>
+    /// Offers an item, and gives its refusal, if it is refused.
+    pub fn offer(
+        &mut self,
+        alloc: Global,
+        chain: &ChainHash,
+        item: Item,
+    ) -> Result<Option<Refusal>, AllocError>
         requires { self.old.accepted + 1 < 2 ^ 64 }
-        ensures reply { IfOk result (λ reply. reply ≡ offered (outcome_of chain.now self.old.rows item.now)) }
-        ensures state { OnOk result (self.new ≡ state_behind self.old (outcome_of chain.now self.old.rows item.now)) }
+        ensures refusal { IfOk result (λ refusal. refusal ≡ result_err (outcome_of chain.now self.old.rows item)) }
+        ensures state { OnOk result (self.new ≡ state_behind self.old (outcome_of chain.now self.old.rows item)) }
     {
         catch_up(&mut self.map, &mut self.due)?;
-        match outcome(alloc, chain, &self.map, item) {
-            Ok(op) => {
-                accept(alloc, &mut self.map, &mut self.pending, op)?;
-                self.accepted += 1;
-                Ok(Reply::Accepted)
-            }
-            Err(Refusal::NoMemory) => Err(AllocError),
-            Err(refusal) => Ok(Reply::Refused(refusal)),
+        let refusal = offer(alloc, chain, &mut self.map, &mut self.pending, item)?;
+        if refusal.is_none() {
+            self.accepted += 1;
         }
+        Ok(refusal)
     }
 
-    /// Makes the accepted items the map that requests are answered on, and sends what is new to the peers. It costs
-    /// what was accepted since the last time.
-    #[tactic(auto, using(crate::proofs::Appending::appends_both))]
-    fn commit<W: Sink>(
+    /// The answer to a query, which is these bytes, on the committed items.
+    pub fn answer_query(
+        &self,
+        alloc: Global,
+        chain: &ChainHash,
+        bytes: &[u8],
+    ) -> Result<Answer<'_>, AllocError>
+        ensures { IfOk result (λ answer. (n : ℕ) → answer_text n answer ≡ query_text n (query_answer chain.now self.now.committed bytes.now)) }
+    {
+        answer_query(alloc, chain, &self.committed, bytes)
+    }
+
+    /// Gives a peer a filter, in place of the one that it had.
+    pub fn set_filter(&mut self, own: PeerFilter) -> Result<(), AllocError>
+        ensures { OnOk result (self.new ≡ with_filter self.old own.peer (Ok own.filter)) }
+    {
+        self.filters.set(own)
+    }
+
+    /// The answer to a filter that was set: what passes it of the committed items.
+    pub fn backlog(&self, own: PeerFilter) -> Answer<'_>
+        ensures { (n : ℕ) → answer_text n result ≡ filter_text n own.peer self.now.committed (Ok own.filter) }
+    {
+        Answer::Backlog(own, &self.committed)
+    }
+
+    /// Makes the accepted items those that requests are answered on, and tells what is new to the peers. It costs what
+    /// was accepted since the last time.
+    pub fn commit<W: Sink>(
         &mut self,
         alloc: Global,
         number: u64,
-        text: &mut TextBuffer,
-        writer: &mut W,
-    ) -> Result<(), RunFault>
-        requires { W.failures writer.old + 1 < 2 ^ 64 }
-        ensures state { OnOk result (self.new ≡ record self.old { committed = self.old.rows }) }
-        ensures told { OnOk result (Appends (with_gathered (W.taken writer.old) text.old)
-            (with_gathered (W.taken writer.new) text.new) (commit_text number self.old)) }
-        ensures same { OnOk result (W.failures writer.new ≡ W.failures writer.old) }
-        ensures write { IsErrOf result RunFault.Write → W.failures writer.old < W.failures writer.new }
-        ensures err { IfErr result IsAnswerFault }
+        output: &mut Output<'_, W>,
+    ) -> Result<(), SendFault>
+        requires { W.failures output.old.writer.now + 1 < 2 ^ 64 }
+        ensures writer { output.new.writer.ghost_name ≡ output.old.writer.ghost_name }
+        ensures state { OnOk result (self.new ≡ state_committed self.old) }
+        ensures told { OnOk result (Sends W.taken W.failures output.old output.new
+            (commit_text number self.old.accepted self.old.committed self.old.rows self.old.filters)) }
+        ensures fault { IfErr result (SendsPart W.taken W.failures output.old output.new
+            (commit_text number self.old.accepted self.old.committed self.old.rows self.old.filters)) }
     {
-        send_count(number, self.accepted, text, writer)?;
         catch_up(&mut self.map, &mut self.due)?;
-        send_news(
+        tell_commit(
             alloc,
             number,
+            self.accepted,
             &self.committed,
             &self.map,
             &self.pending,
             &self.filters,
-            text,
-            writer,
+            output,
         )?;
         // What was committed takes the map's place, and does what is due before the next item.
         swap(&mut self.map, &mut self.committed);
         swap(&mut self.due, &mut self.pending);
         Ok(())
     }
+}
 
-    /// Gives a peer the filter that these bytes are, if they are one, and sends it what passes of the committed items.
-    fn set_filter<W: Sink>(
-        &mut self,
-        alloc: Global,
-        chain: &ChainHash,
-        number: u64,
-        peer: u16,
-        bytes: &[u8],
-        text: &mut TextBuffer,
-        writer: &mut W,
-    ) -> Result<(), RunFault>
-        requires { W.failures writer.old + 1 < 2 ^ 64 }
-        ensures state { OnOk result (self.new ≡ with_filter self.old peer (filter_read chain.now bytes.now)) }
-        ensures told { OnOk result (Appends (with_gathered (W.taken writer.old) text.old)
-            (with_gathered (W.taken writer.new) text.new)
-            (filter_text number peer self.old.committed (filter_read chain.now bytes.now))) }
-        ensures same { OnOk result (W.failures writer.new ≡ W.failures writer.old) }
-        ensures write { IsErrOf result RunFault.Write → W.failures writer.old < W.failures writer.new }
-        ensures err { IfErr result IsAnswerFault }
-    {
-        match read_filter(alloc, chain, bytes)? {
-            Ok(filter) => {
-                self.filters.set(PeerFilter { peer, filter })?;
-                send_word(number, "filter", text, writer)?;
-                send_backlog(number, peer, &self.committed, &filter, text, writer)
-            }
-            Err(reply) => reply.send(number, text, writer),
-        }
+/// The answer to a commit of the later map, which came of the earlier one by the operations that are pending.
+fn committed<'a>(
+    alloc: Global,
+    accepted: u64,
+    before: &'a Map,
+    after: &'a Map,
+    pending: &VecDeque<Op>,
+    filters: &'a Filters,
+) -> Result<Answer<'a>, AllocError>
+    requires { IsBehind after.now before.now pending.now.items }
+    ensures { IfOk result (λ answer. (n : ℕ) → answer_text n answer ≡ commit_text n accepted before.now after.now filters.now) }
+{
+    if filters.as_map().is_empty() {
+        return Ok(Answer::Committed(accepted));
     }
+    let changes = changes_of(alloc, pending)?;
+    let differences = Differences::between(alloc, before, after, &changes)?;
+    Ok(Answer::News(accepted, filters, differences))
+}
 
-    /// Answers a request, the line of that number. Behind it its item is held if it is accepted, its peer has its
-    /// filter if it is one, and what was accepted is committed if it asks for that.
-    pub fn answer<W: Sink>(
-        &mut self,
-        alloc: Global,
-        chain: &ChainHash,
-        number: u64,
-        request: &Request,
-        text: &mut TextBuffer,
-        writer: &mut W,
-    ) -> Result<(), RunFault>
-        requires accepted { self.old.accepted + 1 < 2 ^ 64 }
-        requires writer { W.failures writer.old + 1 < 2 ^ 64 }
-        ensures state { OnOk result (self.new ≡ state_after chain.now self.old request.now) }
-        ensures told { OnOk result (Appends (with_gathered (W.taken writer.old) text.old)
-            (with_gathered (W.taken writer.new) text.new) (text_in chain.now number self.old request.now)) }
-        ensures same { OnOk result (W.failures writer.new ≡ W.failures writer.old) }
-        ensures write { IsErrOf result RunFault.Write → W.failures writer.old < W.failures writer.new }
-        ensures err { IfErr result IsAnswerFault }
-    {
-        let reply = match request {
-            Request::Quiet => Reply::Quiet,
-            Request::Bad => Reply::Bad,
-            Request::Commit => return self.commit(alloc, number, text, writer),
-            Request::Offer(item) => self.offer(alloc, chain, item)?,
-            Request::Query(bytes) => answer_query(alloc, chain, &self.committed, bytes.as_slice())?,
-            Request::Filter(peer, bytes) => {
-                let bytes = bytes.as_slice();
-                return self.set_filter(alloc, chain, number, *peer, bytes, text, writer);
-            }
-        };
-        reply.send(number, text, writer)
-    }
+/// Tells a commit of the later map, which came of the earlier one by the operations that are pending.
+fn tell_commit<W: Sink>(
+    alloc: Global,
+    number: u64,
+    accepted: u64,
+    before: &Map,
+    after: &Map,
+    pending: &VecDeque<Op>,
+    filters: &Filters,
+    output: &mut Output<'_, W>,
+) -> Result<(), SendFault>
+    requires behind { IsBehind after.now before.now pending.now.items }
+    requires writer { W.failures output.old.writer.now + 1 < 2 ^ 64 }
+    ensures writer { output.new.writer.ghost_name ≡ output.old.writer.ghost_name }
+    ensures told { OnOk result (Sends W.taken W.failures output.old output.new (commit_text number accepted before.now after.now filters.now)) }
+    ensures fault { IfErr result (SendsPart W.taken W.failures output.old output.new (commit_text number accepted before.now after.now filters.now)) }
+{
+    let answer = committed(alloc, accepted, before, after, pending, filters)?;
+    answer.send(number, output)
 }

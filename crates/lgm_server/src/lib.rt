@@ -1,33 +1,19 @@
 //! The route server: scripts of gossip, answered line by line.
 //!
-//! [`run`] takes a whole script from a [`Source`] and writes its text to a [`Sink`]. Its contract says which text that
-//! is, line by line, however the source cuts the script.
+//! [`run`] takes a whole script from a [`Source`](lgm_script::Source) and writes its text to a
+//! [`Sink`](lgm_script::Sink). Its contract says which text that is, line by line, however the source cuts the script.
 #![tactic(auto)]
 
-mod device;
+mod answer;
+mod answering;
 mod engine;
-mod field;
 mod filtering;
 mod filters;
-mod item;
-mod line_reader;
-mod memory;
-mod news;
+mod objection;
 mod querying;
-mod reply;
-mod request;
 mod run_fault;
 mod running;
 mod sending;
-mod std_streams;
-mod text_buffer;
 
-pub use device::{Failed, Sink, Source, write_all};
-pub use item::Item;
-pub use memory::{MemorySink, MemorySource};
 pub use run_fault::RunFault;
 pub use running::{Counts, MAX_LINES, run};
-pub use std_streams::{FromRead, ToWrite};
-
-#[cfg(test)]
-mod tests;

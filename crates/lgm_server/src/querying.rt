@@ -1,44 +1,46 @@
 //! Answers to queries.
 
-ghost use Rattle.std.specs.Prelude.{◌≡◌, IfOk};
-ghost use Rattle.lgm_server.specs.Query.{answer_of, query_reply};
+ghost use Rattle.std.specs.Prelude.{◌≡◌, ℕ, IfOk, Ok};
+ghost use Rattle.lgm_server.specs.Query.{answer_to, query_answer};
+ghost use Rattle.lgm_server.specs.Answer.{answer_text, query_text};
 
-use crate::reply::Reply;
+use crate::answer::Answer;
+use crate::objection::Objection;
 use lgm_check::Refusal;
 use lgm_gossip::{ChainHash, Message, decode};
 use lgm_query::{answer_ids, answer_range};
 use lgm_store::Map;
 use std::alloc::{AllocError, Global};
 
-fn answer_message(
+fn answer_message<'a>(
     alloc: Global,
     chain: &ChainHash,
-    map: &Map,
+    map: &'a Map,
     message: &Message,
-) -> Result<Reply, AllocError>
-    ensures { IfOk result (λ reply. reply ≡ answer_of chain.now map.now message.now) }
+) -> Result<Answer<'a>, AllocError>
+    ensures { IfOk result (λ answer. (n : ℕ) → answer_text n answer ≡ query_text n (answer_to chain.now map.now (Ok message.now))) }
 {
     match message {
-        Message::IdsQuery(query) => Ok(Reply::Answers(answer_ids(alloc, chain, map, query)?)),
-        Message::RangeQuery(query) => Ok(Reply::Answers(answer_range(alloc, chain, map, query)?)),
-        _ => Ok(Reply::NotQuery),
+        Message::IdsQuery(query) => Ok(Answer::Messages(answer_ids(alloc, chain, map, query)?)),
+        Message::RangeQuery(query) => Ok(Answer::Messages(answer_range(alloc, chain, map, query)?)),
+        _ => Ok(Answer::Objected(Objection::NotQuery)),
     }
 }
 
-/// The reply to a query, which is these bytes, on a map of the chain.
-pub fn answer_query(
+/// The answer to a query, which is these bytes, on a map of the chain. It lends the messages that the map holds.
+pub fn answer_query<'a>(
     alloc: Global,
     chain: &ChainHash,
-    map: &Map,
+    map: &'a Map,
     bytes: &[u8],
-) -> Result<Reply, AllocError>
-    ensures { IfOk result (λ reply. reply ≡ query_reply chain.now map.now bytes.now) }
+) -> Result<Answer<'a>, AllocError>
+    ensures { IfOk result (λ answer. (n : ℕ) → answer_text n answer ≡ query_text n (query_answer chain.now map.now bytes.now)) }
 {
     match decode(alloc, bytes) {
         Ok(message) => answer_message(alloc, chain, map, &message),
         Err(fault) => match Refusal::from(fault) {
             Refusal::NoMemory => Err(AllocError),
-            refusal => Ok(Reply::Refused(refusal)),
+            refusal => Ok(Answer::Objected(Objection::Refused(refusal))),
         },
     }
 }

@@ -1,14 +1,14 @@
 //! Why a run ends early.
 
 ghost use Rattle.std.specs.Prelude.{◌≡◌};
-ghost use Rattle.lgm_server.specs.Running.{fault_of};
-ghost use Rattle.lgm_server.specs.declared.run_fault.RunFault.TheVariants.{NoMemory};
+ghost use Rattle.lgm_server.specs.Running.{line_fault, send_fault};
+ghost use Rattle.lgm_server.specs.declared.run_fault.RunFault.TheVariants.{Write, NoMemory};
 
-use crate::line_reader::LineFault;
+use lgm_script::{Failed, LineFault, SendFault};
 use std::alloc::AllocError;
 use thiserror::Error;
 
-/// Why a script wasn't run to its end.
+/// Why a script wasn't run to its end. What was written is a beginning of its text.
 #[derive(Clone, Copy, Debug, PartialEq, Eq, Error)]
 pub enum RunFault {
     /// The source failed.
@@ -29,13 +29,24 @@ pub enum RunFault {
 }
 
 impl From<LineFault> for RunFault {
-    ghost from_gives = { λ fault e. e ≡ fault_of fault };
+    ghost from_gives = { λ fault e. e ≡ line_fault fault };
 
     fn from(fault: LineFault) -> RunFault {
         match fault {
             LineFault::Read => RunFault::Read,
-            LineFault::NoMemory => RunFault::NoMemory,
+            LineFault::Write => RunFault::Write,
             LineFault::TooLong => RunFault::LineTooLong,
+        }
+    }
+}
+
+impl From<SendFault> for RunFault {
+    ghost from_gives = { λ fault e. e ≡ send_fault fault };
+
+    fn from(fault: SendFault) -> RunFault {
+        match fault {
+            SendFault::Write => RunFault::Write,
+            SendFault::NoMemory => RunFault::NoMemory,
         }
     }
 }

@@ -1,22 +1,18 @@
 //! A whole script.
 
-ghost use Rattle.std.specs.Prelude.{◌≡◌, ◌+◌, ◌<◌, ◌^◌, [], true, false, IfSome, IfOk, OnOk, OnErr, IfErr, IsErrOf};
-ghost use Rattle.lgm_server.specs.Device.{Appends, IsAtEnd};
-ghost use Rattle.lgm_server.specs.Lines.{ahead, HasMore};
-ghost use Rattle.lgm_server.specs.Text.{with_gathered};
-ghost use Rattle.lgm_server.specs.Request.{request_of};
-ghost use Rattle.lgm_server.specs.Script.{opening, text_in, state_after};
-ghost use Rattle.lgm_server.specs.Running.{fault_of, IsDeviceFault, IsAnswerFault, IsAnswered, IsTooLong, IsTooMany};
+ghost use Rattle.std.specs.Prelude.{◌≡◌, ◌≢◌, ◌+◌, ◌<◌, ◌^◌, [], IfSome, IfOk, IfErr};
+ghost use Rattle.lgm_script.specs.Device.{Appends, AppendsSome};
+ghost use Rattle.lgm_script.specs.Output.{Sends, SendsSome};
+ghost use Rattle.lgm_server.specs.Steps.{opening};
+ghost use Rattle.lgm_server.specs.Running.{IsAnswered, IsTooMany, IsTooLong, IsCutShort};
+ghost use Rattle.lgm_server.specs.Ending.{IsEnded};
 
-use crate::device::{Sink, Source};
+use crate::answering::answer;
 use crate::engine::Engine;
-use crate::line_reader::{LineFault, LineReader};
-use crate::request::parse;
 use crate::run_fault::RunFault;
-use crate::sending::flush;
-use crate::text_buffer::TextBuffer;
 use lgm_gossip::ChainHash;
-use std::alloc::{AllocError, Global};
+use lgm_script::{BLOCK, LineReader, Output, Sink, Source, more_begins, next_line, parse};
+use std::alloc::Global;
 
 /// The most lines that a script has.
 pub const MAX_LINES: u64 = 10_000_000;
@@ -30,145 +26,105 @@ pub struct Counts {
     pub accepted: u64,
 }
 
-/// Writes what was gathered, if the source has to be read for the next line. So an answer never waits for input.
-fn flush_before_reading<W: Sink>(
-    lines: &LineReader,
-    text: &mut TextBuffer,
-    writer: &mut W,
-) -> Result<(), RunFault>
-    requires { W.failures writer.old + 1 < 2 ^ 64 }
-    ensures kept { OnOk result (with_gathered (W.taken writer.new) text.new
-        ≡ with_gathered (W.taken writer.old) text.old) }
-    ensures same { OnOk result (W.failures writer.new ≡ W.failures writer.old) }
-    ensures cause { OnErr result (W.failures writer.old < W.failures writer.new) }
-    ensures err { IfErr result (λ e. e ≡ RunFault.Write) }
-{
-    if lines.must_read() {
-        flush(text, writer)?;
-    }
-    Ok(())
-}
-
-/// Whether a further line begins. What was gathered is written first if the source has to be read for that.
-fn begins<R: Source, W: Sink>(
-    lines: &mut LineReader,
-    reader: &mut R,
-    text: &mut TextBuffer,
-    writer: &mut W,
-) -> Result<bool, RunFault>
-    requires reader { R.failures reader.old + 1 < 2 ^ 64 }
-    requires writer { W.failures writer.old + 1 < 2 ^ 64 }
-    ensures kept { OnOk result (ahead lines.new (R.left reader.new) ≡ ahead lines.old (R.left reader.old)) }
-    ensures more { result ≡ Ok true → HasMore (ahead lines.new (R.left reader.new)) }
-    ensures end { result ≡ Ok false → IsAtEnd (ahead lines.new (R.left reader.new)) }
-    ensures text { OnOk result (with_gathered (W.taken writer.new) text.new
-        ≡ with_gathered (W.taken writer.old) text.old) }
-    ensures read_alike { OnOk result (R.failures reader.new ≡ R.failures reader.old) }
-    ensures written_alike { OnOk result (W.failures writer.new ≡ W.failures writer.old) }
-    ensures read { IsErrOf result RunFault.Read → R.failures reader.old < R.failures reader.new }
-    ensures write { IsErrOf result RunFault.Write → W.failures writer.old < W.failures writer.new }
-    ensures err { IfErr result IsDeviceFault }
-{
-    flush_before_reading(lines, text, writer)?;
-    match lines.begins(reader) {
-        Ok(more) => Ok(more),
-        Err(_) => Err(RunFault::Read),
-    }
-}
-
-/// Answers the line of that number, from 1.
-fn answer<W: Sink>(
-    alloc: Global,
-    chain: &ChainHash,
-    number: u64,
-    line: &[u8],
-    engine: &mut Engine,
-    text: &mut TextBuffer,
-    writer: &mut W,
-) -> Result<(), RunFault>
-    requires engine { engine.old.accepted + 1 < 2 ^ 64 }
-    requires writer { W.failures writer.old + 1 < 2 ^ 64 }
-    ensures state { OnOk result (engine.new ≡ state_after chain.now engine.old (request_of line.now)) }
-    ensures told { OnOk result (Appends (with_gathered (W.taken writer.old) text.old)
-        (with_gathered (W.taken writer.new) text.new)
-        (text_in chain.now number engine.old (request_of line.now))) }
-    ensures same { OnOk result (W.failures writer.new ≡ W.failures writer.old) }
-    ensures write { IsErrOf result RunFault.Write → W.failures writer.old < W.failures writer.new }
-    ensures err { IfErr result IsAnswerFault }
-{
-    let request = parse(alloc, line)?;
-    engine.answer(alloc, chain, number, &request, text, writer)
-}
-
-/// Answers the lines of a script, where nothing was read or answered yet.
+/// Answers the lines of a script, where nothing was read or answered yet. Some of the answers may still be gathered.
 fn answer_lines<R: Source, W: Sink>(
     alloc: Global,
-    reader: &mut R,
-    writer: &mut W,
     chain: &ChainHash,
     lines: &mut LineReader,
-    text: &mut TextBuffer,
+    source: &mut R,
     engine: &mut Engine,
+    output: &mut Output<'_, W>,
 ) -> Result<Counts, RunFault>
     requires lines { lines.old ≡ [] }
-    requires text { text.old ≡ [] }
     requires engine { engine.old ≡ opening }
-    requires reader { R.failures reader.old + 1 < 2 ^ 64 }
-    requires writer { W.failures writer.old + 1 < 2 ^ 64 }
-
-    // Each line was answered, and nothing else was written.
-    ensures ok { IfOk result (λ counts. IfSome (R.left reader.old)
-        (IsAnswered chain.now (W.taken writer.old) (W.taken writer.new) counts)) }
-
-    // The lines before were answered.
-    ensures too_many { IsErrOf result RunFault.TooManyLines → IfSome (R.left reader.old)
-        (IsTooMany chain.now (W.taken writer.old) (W.taken writer.new)) }
-    ensures too_long { IsErrOf result RunFault.LineTooLong → IfSome (R.left reader.old)
-        (IsTooLong chain.now (W.taken writer.old) (W.taken writer.new)) }
-
-    // A device failed in this call.
-    ensures read { IsErrOf result RunFault.Read → R.failures reader.old < R.failures reader.new }
-    ensures write { IsErrOf result RunFault.Write → W.failures writer.old < W.failures writer.new }
+    requires source { R.failures source.old + 1 < 2 ^ 64 }
+    requires writer { W.failures output.old.writer.now + 1 < 2 ^ 64 }
+    ensures writer { output.new.writer.ghost_name ≡ output.old.writer.ghost_name }
+    ensures ok { IfOk result (λ counts. IfSome (R.left source.old)
+        (IsAnswered chain.now (Sends W.taken W.failures output.old output.new) counts)) }
+    ensures too_many { result ≡ Err RunFault.TooManyLines → IfSome (R.left source.old)
+        (IsTooMany chain.now (Sends W.taken W.failures output.old output.new)) }
+    ensures too_long { result ≡ Err RunFault.LineTooLong → IfSome (R.left source.old)
+        (IsTooLong chain.now (Sends W.taken W.failures output.old output.new)) }
+    ensures some { IfSome (R.left source.old)
+        (IsCutShort chain.now (SendsSome W.taken W.failures output.old output.new) (R.left source.new)) }
+    ensures read { result ≡ Err RunFault.Read → R.failures source.old < R.failures source.new }
+    ensures write { result ≡ Err RunFault.Write → W.failures output.old.writer.now < W.failures output.new.writer.now }
+    ensures well { result ≢ Err RunFault.Write → W.failures output.new.writer.now ≡ W.failures output.old.writer.now }
 {
-    let mut line = Vec::new(alloc);
     for number in 0..MAX_LINES {
-        if !begins(lines, reader, text, writer)? {
-            flush(text, writer)?;
+        let Some(count) = next_line(lines, source, output)? else {
             return Ok(Counts {
                 lines: number,
                 accepted: engine.accepted(),
             });
-        }
-        if let Err(fault) = lines.read_line(reader, &mut line) {
-            flush(text, writer)?;
-            return Err(RunFault::from(fault));
-        }
-        answer(
-            alloc,
-            chain,
-            number + 1,
-            line.as_slice(),
-            engine,
-            text,
-            writer,
-        )?;
+        };
+        let request = parse(alloc, lines.line(count))?;
+        lines.drop_line(count);
+        answer(alloc, chain, number + 1, request, engine, output)?;
     }
-    if begins(lines, reader, text, writer)? {
-        flush(text, writer)?;
+    if more_begins(lines, source, output)? {
         return Err(RunFault::TooManyLines);
     }
-    flush(text, writer)?;
     Ok(Counts {
         lines: MAX_LINES,
         accepted: engine.accepted(),
     })
 }
 
+/// Answers a whole script to an output where nothing is gathered, and writes all answers.
+fn answer_all<R: Source, W: Sink>(
+    alloc: Global,
+    chain: &ChainHash,
+    source: &mut R,
+    output: &mut Output<'_, W>,
+) -> Result<Counts, RunFault>
+    requires gathered { output.old.gathered.now.items ≡ [] }
+    requires source { R.failures source.old + 1 < 2 ^ 64 }
+    requires writer { W.failures output.old.writer.now + 1 < 2 ^ 64 }
+    ensures writer { output.new.writer.ghost_name ≡ output.old.writer.ghost_name }
+    ensures ok { IfOk result (λ counts. IfSome (R.left source.old)
+        (IsAnswered chain.now (Appends (W.taken output.old.writer.now) (W.taken output.new.writer.now)) counts)) }
+    ensures too_many { result ≡ Err RunFault.TooManyLines → IfSome (R.left source.old)
+        (IsTooMany chain.now (Appends (W.taken output.old.writer.now) (W.taken output.new.writer.now))) }
+    ensures too_long { result ≡ Err RunFault.LineTooLong → IfSome (R.left source.old)
+        (IsTooLong chain.now (Appends (W.taken output.old.writer.now) (W.taken output.new.writer.now))) }
+    ensures fault { IfErr result (λ _. IfSome (R.left source.old)
+        (IsCutShort chain.now (AppendsSome (W.taken output.old.writer.now) (W.taken output.new.writer.now)) (R.left source.new))) }
+    ensures read { result ≡ Err RunFault.Read → R.failures source.old < R.failures source.new }
+    ensures write { result ≡ Err RunFault.Write → W.failures output.old.writer.now < W.failures output.new.writer.now }
+{
+    let mut lines = LineReader::new(alloc)?;
+    let mut engine = Engine::new(alloc)?;
+    let answered = answer_lines(alloc, chain, &mut lines, source, &mut engine, output);
+    write_answers(answered, output)
+}
+
+/// Writes what is gathered of the answers, unless the writer has failed. Gives how the run ended.
+fn write_answers<W: Sink>(
+    answered: Result<Counts, RunFault>,
+    output: &mut Output<'_, W>,
+) -> Result<Counts, RunFault>
+    requires { answered ≢ Err RunFault.Write → W.failures output.old.writer.now + 1 < 2 ^ 64 }
+    ensures writer { output.new.writer.ghost_name ≡ output.old.writer.ghost_name }
+    ensures ended { IsEnded W.taken W.failures output.old output.new answered result }
+{
+    if let Err(RunFault::Write) = answered {
+        return answered;
+    }
+    match output.flush() {
+        Ok(()) => answered,
+        Err(_) => Err(RunFault::Write),
+    }
+}
+
 /// Answers a whole script: its lines, in order, each by the lines before it (see the grammar in `docs/script.md`).
 ///
 /// What is answered is written before the source is read again, and in blocks otherwise. At `TooManyLines` and
-/// `LineTooLong` the lines before were answered. `Read` and `Write` come only where the device failed in this call; at
-/// any fault the reader and the writer have moved on.
+/// `LineTooLong` the lines before were answered. After each other fault what was written is a beginning of the text of
+/// lines that were read, each to its line feed or to the end; answers that were found before memory was refused are
+/// written. `Read` and `Write` come only where the device failed in this call; at any fault the reader and the writer
+/// have moved on.
 pub fn run<R: Source, W: Sink>(
     alloc: Global,
     reader: &mut R,
@@ -180,28 +136,23 @@ pub fn run<R: Source, W: Sink>(
 
     // Each line was answered, and nothing else was written.
     ensures ok { IfOk result (λ counts. IfSome (R.left reader.old)
-        (IsAnswered chain.now (W.taken writer.old) (W.taken writer.new) counts)) }
+        (IsAnswered chain.now (Appends (W.taken writer.old) (W.taken writer.new)) counts)) }
 
     // The lines before were answered.
-    ensures too_many { IsErrOf result RunFault.TooManyLines → IfSome (R.left reader.old)
-        (IsTooMany chain.now (W.taken writer.old) (W.taken writer.new)) }
-    ensures too_long { IsErrOf result RunFault.LineTooLong → IfSome (R.left reader.old)
-        (IsTooLong chain.now (W.taken writer.old) (W.taken writer.new)) }
+    ensures too_many { result ≡ Err RunFault.TooManyLines → IfSome (R.left reader.old)
+        (IsTooMany chain.now (Appends (W.taken writer.old) (W.taken writer.new))) }
+    ensures too_long { result ≡ Err RunFault.LineTooLong → IfSome (R.left reader.old)
+        (IsTooLong chain.now (Appends (W.taken writer.old) (W.taken writer.new))) }
+
+    // At any fault a beginning of the text of lines that were read was written, and nothing else.
+    ensures fault { IfErr result (λ _. IfSome (R.left reader.old)
+        (IsCutShort chain.now (AppendsSome (W.taken writer.old) (W.taken writer.new)) (R.left reader.new))) }
 
     // A device failed in this call.
-    ensures read { IsErrOf result RunFault.Read → R.failures reader.old < R.failures reader.new }
-    ensures write { IsErrOf result RunFault.Write → W.failures writer.old < W.failures writer.new }
+    ensures read { result ≡ Err RunFault.Read → R.failures reader.old < R.failures reader.new }
+    ensures write { result ≡ Err RunFault.Write → W.failures writer.old < W.failures writer.new }
 {
-    let mut lines = LineReader::new(alloc)?;
-    let mut text = TextBuffer::new(alloc)?;
-    let mut engine = Engine::new(alloc)?;
-    answer_lines(
-        alloc,
-        reader,
-        writer,
-        chain,
-        &mut lines,
-        &mut text,
-        &mut engine,
-    )
+    let mut block = Vec::with_capacity(alloc, BLOCK)?;
+    let mut output = Output::new(&mut block, writer);
+    answer_all(alloc, chain, reader, &mut output)
 }

@@ -1,75 +1,182 @@
-use Rattle.std.proofs.Common.{arith, rules, ◌∙◌, ◌+◌, ◌≡◌, ℕ, ap, subst}
-use Rattle.lgm_server.specs.Device.{Appends}
-use Rattle.lgm_server.specs.Lines.{ahead}
-use Rattle.lgm_server.specs.Text.{with_gathered}
-use Rattle.lgm_server.specs.Request.{request_of}
-use Rattle.lgm_server.specs.Script.{text_in, state_after}
-use Rattle.lgm_server.proofs.Progress.{SoFar, starts, step, ends, many, long, too_long_only, accepted-le}
+use Rattle.std.proofs.Common.{◌≡◌, ◌+◌, ◌≤◌, Bool, [], ℕ, Option, take, refl, sym, ap, subst, ◌∙◌, arith, rules}
+use Rattle.std.proofs.lemmas.List.{length-take}
+use Rattle.std.proofs.lemmas.Result.{err_from_is_err_and}
+use Rattle.lgm_script.specs.Lines.{ahead}
+use Rattle.lgm_script.specs.Output.{seen, Tells}
+use Rattle.lgm_script.specs.Request.{request_of, HasLawfulPeer}
+use Rattle.lgm_script.proofs.Telling.{some_of_all, some_of_part}
+use Rattle.lgm_server.specs.Script.{text_for}
+use Rattle.lgm_server.specs.Steps.{state_after}
+use Rattle.lgm_server.proofs.Stepping.{accepted-le}
+use Rattle.lgm_server.proofs.Progress.{SoFar, starts, step, told_on, ends, many, long, cut, cut_in, failed, line_some, too_long_only}
 use Rattle.lgm_server.proofs.running.answer_lines.Goals as goal
 
 pub loop-number-init : goal.loop-number-init
-loop-number-init g c = rw (c.requires.engine, c.requires.lines, c.requires.text) (record {
-  reader = search rules;
-  writer = search rules;
+loop-number-init g c = rw (c.requires.engine, c.requires.lines) (record {
+  name = refl;
+  source = refl;
+  writer = refl;
   few = omega arith;
-  so_far = starts c.args.chain.now (g.R.Source.left c.args.reader.now) (g.W.Sink.taken c.args.writer.now);
+  so_far = starts c.args.chain.now (g.R.Source.left c.args.source.now) (seen g.W.Sink.taken g.W.Sink.failures c.args.output.now);
 })
 
-pub returns-then-not-branch-clause-ok : goal.returns-then-not-branch-clause-ok
-returns-then-not-branch-clause-ok g c =
-    let before = ahead c.loop-number.lines (g.R.Source.left c.loop-number.reader) in
-    let after = ahead c.begins.new.lines (g.R.Source.left c.begins.new.reader) in
-    let text = with_gathered (g.W.Sink.taken c.loop-number.writer) c.loop-number.text in
-    rw c.accepted.ensures (ends c.args.chain.now (g.R.Source.left c.args.reader.now) c.loop-number.number c.loop-number.engine before after (g.W.Sink.taken c.args.writer.now) text (g.W.Sink.taken c.flush.new.writer)
-    c.loop-number.invariant.so_far c.in_ok-begins.ensures.kept (c.in_ok-begins.ensures.end (search rules)) (omega arith) (c.in_ok-flush.ensures.written ∙ c.in_ok-begins.ensures.text))
+pub returns-in_err-count-clause-too_long : goal.returns-in_err-count-clause-too_long
+returns-in_err-count-clause-too_long g c = λ e.
+    let p = err_from_is_err_and c.from_residual.result c.from_residual.ensures.1 in
+    let chain = c.args.chain.now in
+    let script = g.R.Source.left c.args.source.now in
+    let k = c.loop-number.number in
+    let state = c.loop-number.engine in
+    let input = ahead c.loop-number.lines (g.R.Source.left c.loop-number.source) in
+    let old = seen g.W.Sink.taken g.W.Sink.failures c.args.output.now in
+    let mid = seen g.W.Sink.taken g.W.Sink.failures c.loop-number.output in
+    let new = seen g.W.Sink.taken g.W.Sink.failures c.next_line.new.output in
+    let fault = c.in_err-count.field-0.0 in
+    let is = too_long_only fault p.0 p.2 (sym p.1 ∙ e) in
+    let told = c.in_err-count.ensures.told (λ same. absurd (let here = sym (ap (failed {T = Option ℕ}) is) ∙ same in cc)) in
+    long chain script k state input (ahead c.next_line.new.lines (g.R.Source.left c.next_line.new.source)) old new
+    (told_on chain script k state input old mid new c.loop-number.invariant.so_far told)
+    c.in_err-count.ensures.kept c.loop-number-test.true (c.in_err-count.ensures.too_long (ap (failed {T = Option ℕ}) is))
 
-pub returns-in-Err-clause-too_long : goal.returns-in-Err-clause-too_long
-returns-in-Err-clause-too_long g c = λ e.
-    let before = ahead c.loop-number.lines (g.R.Source.left c.loop-number.reader) in
-    let after = ahead c.begins.new.lines (g.R.Source.left c.begins.new.reader) in
-    let text = with_gathered (g.W.Sink.taken c.loop-number.writer) c.loop-number.text in
-    let too_long = c.in-Err.ensures.too_long (too_long_only c.in-Err.fault c.from.result c.from.ensures e) in
-    long c.args.chain.now (g.R.Source.left c.args.reader.now) c.loop-number.number c.loop-number.engine before after (g.W.Sink.taken c.args.writer.now) text (g.W.Sink.taken c.flush-in-Err.new.writer)
-    c.loop-number.invariant.so_far c.in_ok-begins.ensures.kept c.loop-number-test.true too_long (c.in_ok-flush-2.ensures.written ∙ c.in_ok-begins.ensures.text)
+pub returns-in_err-count-clause-some : goal.returns-in_err-count-clause-some
+returns-in_err-count-clause-some g c =
+    let mid = seen g.W.Sink.taken g.W.Sink.failures c.loop-number.output in
+    let new = seen g.W.Sink.taken g.W.Sink.failures c.next_line.new.output in
+    (cut c.args.chain.now (g.R.Source.left c.args.source.now) c.loop-number.number c.loop-number.engine c.next_line.new.lines (g.R.Source.left c.next_line.new.source)
+    (ahead c.loop-number.lines (g.R.Source.left c.loop-number.source)) (seen g.W.Sink.taken g.W.Sink.failures c.args.output.now) mid new
+    c.loop-number.invariant.so_far c.in_err-count.ensures.kept (line_some {T = Option ℕ} c.in_err-count.field-0.0 mid new c.in_err-count.ensures.told c.in_err-count.ensures.write))
+
+pub returns-in_default-clause-ok : goal.returns-in_default-clause-ok
+returns-in_default-clause-ok g c =
+    let chain = c.args.chain.now in
+    let script = g.R.Source.left c.args.source.now in
+    let k = c.loop-number.number in
+    let state = c.loop-number.engine in
+    let input = ahead c.loop-number.lines (g.R.Source.left c.loop-number.source) in
+    let old = seen g.W.Sink.taken g.W.Sink.failures c.args.output.now in
+    let mid = seen g.W.Sink.taken g.W.Sink.failures c.loop-number.output in
+    let new = seen g.W.Sink.taken g.W.Sink.failures c.next_line.new.output in
+    rw c.accepted.ensures (ends chain script k state input (ahead c.next_line.new.lines (g.R.Source.left c.next_line.new.source)) old new
+    (told_on chain script k state input old mid new c.loop-number.invariant.so_far (c.in_ok-count.ensures.told (λ e. absurd cc)))
+    c.in_ok-count.ensures.kept (c.in_ok-count.ensures.end (search rules)) (omega arith))
+
+pub returns-in_err-request-clause-some : goal.returns-in_err-request-clause-some
+returns-in_err-request-clause-some g c =
+    let mid = seen g.W.Sink.taken g.W.Sink.failures c.loop-number.output in
+    let new = seen g.W.Sink.taken g.W.Sink.failures c.next_line.new.output in
+    (cut c.args.chain.now (g.R.Source.left c.args.source.now) c.loop-number.number c.loop-number.engine c.next_line.new.lines (g.R.Source.left c.next_line.new.source)
+    (ahead c.loop-number.lines (g.R.Source.left c.loop-number.source)) (seen g.W.Sink.taken g.W.Sink.failures c.args.output.now) mid new
+    c.loop-number.invariant.so_far c.in_ok-count.ensures.kept (some_of_all mid new [] (c.in_ok-count.ensures.told (λ e. absurd cc))))
+
+pub returns-in_err-answer-clause-some : goal.returns-in_err-answer-clause-some
+returns-in_err-answer-clause-some g c =
+    let chain = c.args.chain.now in
+    let script = g.R.Source.left c.args.source.now in
+    let k = c.loop-number.number in
+    let state = c.loop-number.engine in
+    let input = ahead c.loop-number.lines (g.R.Source.left c.loop-number.source) in
+    let old = seen g.W.Sink.taken g.W.Sink.failures c.args.output.now in
+    let mid = seen g.W.Sink.taken g.W.Sink.failures c.loop-number.output in
+    let own = seen g.W.Sink.taken g.W.Sink.failures c.next_line.new.output in
+    let new = seen g.W.Sink.taken g.W.Sink.failures c.answer.new.output in
+    let first = rw c.in-Some.is at c.in_ok-count.ensures.line in
+    (cut_in chain script k c.in-Some.count state c.in_ok-request.request c.next_line.new.lines (g.R.Source.left c.next_line.new.source) input old own new
+    (told_on chain script k state input old mid own c.loop-number.invariant.so_far (c.in_ok-count.ensures.told (λ e. absurd cc)))
+    c.in_ok-count.ensures.kept first (c.in_ok-request.ensures.value ∙ ap request_of c.line.ensures)
+    (some_of_part own new (text_for chain (k + 1) state c.in_ok-request.request) c.in_err-answer.field-0.0 c.in_err-answer.ensures.fault))
 
 pub loop-number-preserved : goal.loop-number-preserved
 loop-number-preserved g c =
     let chain = c.args.chain.now in
+    let script = g.R.Source.left c.args.source.now in
     let k = c.loop-number.number in
     let state = c.loop-number.engine in
-    let line = c.read_line.new.line.items in
-    let first = ahead c.loop-number.lines (g.R.Source.left c.loop-number.reader) in
-    let second = ahead c.begins.new.lines (g.R.Source.left c.begins.new.reader) in
-    let third = ahead c.read_line.new.self (g.R.Source.left c.read_line.new.source) in
-    let mid = with_gathered (g.W.Sink.taken c.loop-number.writer) c.loop-number.text in
-    let new = with_gathered (g.W.Sink.taken c.answer.new.writer) c.answer.new.text in
-    let behind : c.answer.new.engine ≡ state_after chain state (request_of line) = c.in_ok-answer.ensures.state ∙ ap (λ l. state_after chain state (request_of l)) c.as_slice.ensures.value in
-    let told : Appends mid new (text_in chain (k + 1) state (request_of line)) = rw (c.in_ok-begins.ensures.text, c.as_slice.ensures.value) at c.in_ok-answer.ensures.told in
+    let count = c.in-Some.count in
+    let buffered = c.next_line.new.lines in
+    let left = g.R.Source.left c.next_line.new.source in
+    let line = take count buffered in
+    let request = c.in_ok-request.request in
+    let input = ahead c.loop-number.lines (g.R.Source.left c.loop-number.source) in
+    let old = seen g.W.Sink.taken g.W.Sink.failures c.args.output.now in
+    let mid = seen g.W.Sink.taken g.W.Sink.failures c.loop-number.output in
+    let own = seen g.W.Sink.taken g.W.Sink.failures c.next_line.new.output in
+    let new = seen g.W.Sink.taken g.W.Sink.failures c.answer.new.output in
+    let first = rw c.in-Some.is at c.in_ok-count.ensures.line in
+    let short : count ≤ 140000 = rw c.in-Some.is at c.in_ok-count.ensures.short in
+    let is : request ≡ request_of line = c.in_ok-request.ensures.value ∙ ap request_of c.line.ensures in
+    let told : Tells mid own [] = c.in_ok-count.ensures.told (λ e. absurd cc) in
+    let behind : c.answer.new.engine ≡ state_after chain state (request_of line) = c.in_ok-answer.ensures.state ∙ ap (state_after chain state) is in
     record {
-      reader = omega (arith, c.in_default.ensures.same, c.in_ok-begins.ensures.read_alike, c.loop-number.invariant.reader);
-      writer = omega (arith, c.in_ok-answer.ensures.same, c.in_ok-begins.ensures.written_alike, c.loop-number.invariant.writer);
+      name = c.in_ok-answer.ensures.writer ∙ c.in_ok-count.ensures.writer ∙ c.loop-number.invariant.name;
+      source = c.in_ok-count.ensures.well (λ e. absurd cc) ∙ c.loop-number.invariant.source;
+      writer = let answered = c.in_ok-answer.ensures.told in answered.well ∙ told.well ∙ c.loop-number.invariant.writer;
       few = let count_is = ap (λ x. x.accepted) behind in omega (arith, count_is, accepted-le chain state (request_of line), c.loop-number.invariant.few);
-      so_far = step chain (g.R.Source.left c.args.reader.now) k state c.answer.new.engine line first second third (g.W.Sink.taken c.args.writer.now) mid new
-          c.loop-number.invariant.so_far c.in_ok-begins.ensures.kept c.in_default.ensures.line
-          (record { short = c.in_default.ensures.short; behind = behind; told = told });
+      so_far = rw c.drop_line.ensures (step chain script k count state c.answer.new.engine buffered left input old own new
+          (told_on chain script k state input old mid own c.loop-number.invariant.so_far told) c.in_ok-count.ensures.kept first
+          (record {
+            short = omega (arith, length-take count buffered);
+            lawful = subst HasLawfulPeer is c.in_ok-request.ensures.peer;
+            behind = behind;
+            told = subst (λ r. Tells own new (text_for chain (k + 1) state r)) is c.in_ok-answer.ensures.told;
+          }));
     }
+
+pub returns-in_err-more_begins-clause-some : goal.returns-in_err-more_begins-clause-some
+returns-in_err-more_begins-clause-some g c =
+    let mid = seen g.W.Sink.taken g.W.Sink.failures c.loop-number.output in
+    let new = seen g.W.Sink.taken g.W.Sink.failures c.more_begins.new.output in
+    (cut c.args.chain.now (g.R.Source.left c.args.source.now) c.loop-number.number c.loop-number.engine c.more_begins.new.lines (g.R.Source.left c.more_begins.new.source)
+    (ahead c.loop-number.lines (g.R.Source.left c.loop-number.source)) (seen g.W.Sink.taken g.W.Sink.failures c.args.output.now) mid new
+    c.loop-number.invariant.so_far c.in_err-more_begins.ensures.kept (line_some {T = Bool} c.in_err-more_begins.field-0.0 mid new c.in_err-more_begins.ensures.told c.in_err-more_begins.ensures.write))
 
 pub returns-then-branch-clause-too_many : goal.returns-then-branch-clause-too_many
 returns-then-branch-clause-too_many g c = λ _.
     let full : c.loop-number.number ≡ 10000000 = omega arith in
-    let before = ahead c.loop-number.lines (g.R.Source.left c.loop-number.reader) in
-    let after = ahead c.begins-2.new.lines (g.R.Source.left c.begins-2.new.reader) in
-    let text = with_gathered (g.W.Sink.taken c.loop-number.writer) c.loop-number.text in
-    let so_far = subst (λ (k : ℕ). SoFar c.args.chain.now (g.R.Source.left c.args.reader.now) k c.loop-number.engine before (g.W.Sink.taken c.args.writer.now) text) full c.loop-number.invariant.so_far in
-    many c.args.chain.now (g.R.Source.left c.args.reader.now) c.loop-number.engine before after (g.W.Sink.taken c.args.writer.now) text (g.W.Sink.taken c.flush-then-branch.new.writer)
-    so_far c.in_ok-begins-2.ensures.kept (c.in_ok-begins-2.ensures.more (search rules)) (c.in_ok-flush-3.ensures.written ∙ c.in_ok-begins-2.ensures.text)
+    let chain = c.args.chain.now in
+    let script = g.R.Source.left c.args.source.now in
+    let state = c.loop-number.engine in
+    let input = ahead c.loop-number.lines (g.R.Source.left c.loop-number.source) in
+    let old = seen g.W.Sink.taken g.W.Sink.failures c.args.output.now in
+    let mid = seen g.W.Sink.taken g.W.Sink.failures c.loop-number.output in
+    let new = seen g.W.Sink.taken g.W.Sink.failures c.more_begins.new.output in
+    let so_far = told_on chain script c.loop-number.number state input old mid new c.loop-number.invariant.so_far (c.in_ok-more_begins.ensures.told (λ e. absurd cc)) in
+    many chain script state c.more_begins.new.lines (g.R.Source.left c.more_begins.new.source) input old new
+    (subst (λ (k : ℕ). SoFar chain script k state input old new) full so_far) c.in_ok-more_begins.ensures.kept (c.in_ok-more_begins.ensures.more (search rules))
+
+pub returns-then-branch-clause-some : goal.returns-then-branch-clause-some
+returns-then-branch-clause-some g c =
+    let mid = seen g.W.Sink.taken g.W.Sink.failures c.loop-number.output in
+    let new = seen g.W.Sink.taken g.W.Sink.failures c.more_begins.new.output in
+    cut c.args.chain.now (g.R.Source.left c.args.source.now) c.loop-number.number c.loop-number.engine c.more_begins.new.lines (g.R.Source.left c.more_begins.new.source)
+    (ahead c.loop-number.lines (g.R.Source.left c.loop-number.source)) (seen g.W.Sink.taken g.W.Sink.failures c.args.output.now) mid new
+    c.loop-number.invariant.so_far c.in_ok-more_begins.ensures.kept (some_of_all mid new [] (c.in_ok-more_begins.ensures.told (λ e. absurd cc)))
 
 pub returns-clause-ok : goal.returns-clause-ok
 returns-clause-ok g c =
     let full : c.loop-number.number ≡ 10000000 = omega arith in
-    let before = ahead c.loop-number.lines (g.R.Source.left c.loop-number.reader) in
-    let after = ahead c.begins-2.new.lines (g.R.Source.left c.begins-2.new.reader) in
-    let text = with_gathered (g.W.Sink.taken c.loop-number.writer) c.loop-number.text in
-    let so_far = subst (λ (k : ℕ). SoFar c.args.chain.now (g.R.Source.left c.args.reader.now) k c.loop-number.engine before (g.W.Sink.taken c.args.writer.now) text) full c.loop-number.invariant.so_far in
-    rw c.accepted-2.ensures (ends c.args.chain.now (g.R.Source.left c.args.reader.now) 10000000 c.loop-number.engine before after (g.W.Sink.taken c.args.writer.now) text (g.W.Sink.taken c.flush-2.new.writer)
-    so_far c.in_ok-begins-2.ensures.kept (c.in_ok-begins-2.ensures.end (search rules)) (omega arith) (c.in_ok-flush-4.ensures.written ∙ c.in_ok-begins-2.ensures.text))
+    let chain = c.args.chain.now in
+    let script = g.R.Source.left c.args.source.now in
+    let state = c.loop-number.engine in
+    let input = ahead c.loop-number.lines (g.R.Source.left c.loop-number.source) in
+    let old = seen g.W.Sink.taken g.W.Sink.failures c.args.output.now in
+    let mid = seen g.W.Sink.taken g.W.Sink.failures c.loop-number.output in
+    let new = seen g.W.Sink.taken g.W.Sink.failures c.more_begins.new.output in
+    let so_far = told_on chain script c.loop-number.number state input old mid new c.loop-number.invariant.so_far (c.in_ok-more_begins.ensures.told (λ e. absurd cc)) in
+    rw c.accepted-2.ensures (ends chain script 10000000 state input (ahead c.more_begins.new.lines (g.R.Source.left c.more_begins.new.source)) old new
+    (subst (λ (k : ℕ). SoFar chain script k state input old new) full so_far) c.in_ok-more_begins.ensures.kept (c.in_ok-more_begins.ensures.end (search rules)) (omega arith))
+
+pub returns-in_default-clause-some : goal.returns-in_default-clause-some
+returns-in_default-clause-some g c =
+    let mid = seen g.W.Sink.taken g.W.Sink.failures c.loop-number.output in
+    let new = seen g.W.Sink.taken g.W.Sink.failures c.next_line.new.output in
+    cut c.args.chain.now (g.R.Source.left c.args.source.now) c.loop-number.number c.loop-number.engine c.next_line.new.lines (g.R.Source.left c.next_line.new.source)
+    (ahead c.loop-number.lines (g.R.Source.left c.loop-number.source)) (seen g.W.Sink.taken g.W.Sink.failures c.args.output.now) mid new
+    c.loop-number.invariant.so_far c.in_ok-count.ensures.kept (some_of_all mid new [] (c.in_ok-count.ensures.told (λ e. absurd cc)))
+
+pub returns-clause-some : goal.returns-clause-some
+returns-clause-some g c =
+    let mid = seen g.W.Sink.taken g.W.Sink.failures c.loop-number.output in
+    let new = seen g.W.Sink.taken g.W.Sink.failures c.more_begins.new.output in
+    cut c.args.chain.now (g.R.Source.left c.args.source.now) c.loop-number.number c.loop-number.engine c.more_begins.new.lines (g.R.Source.left c.more_begins.new.source)
+    (ahead c.loop-number.lines (g.R.Source.left c.loop-number.source)) (seen g.W.Sink.taken g.W.Sink.failures c.args.output.now) mid new
+    c.loop-number.invariant.so_far c.in_ok-more_begins.ensures.kept (some_of_all mid new [] (c.in_ok-more_begins.ensures.told (λ e. absurd cc)))

@@ -1,13 +1,14 @@
 use Rattle.std.proofs.Common.{◌≡◌, ◌≤◌}
-use Rattle.lgm_server.specs.Lines.{ahead}
-use Rattle.lgm_server.specs.Text.{with_gathered}
+use Rattle.lgm_script.specs.Lines.{ahead}
+use Rattle.lgm_script.specs.Output.{seen}
 use Rattle.lgm_server.proofs.Progress.{SoFar}
 use Rattle.lgm_server.proofs.running.answer_lines.Given as goal
 
 abbrev pub invariant-loop-number : goal.invariant-loop-number
 invariant-loop-number g l = record {
-  reader : g.R.Source.failures l.reader ≡ g.R.Source.failures l.fn.reader;
-  writer : g.W.Sink.failures l.writer ≡ g.W.Sink.failures l.fn.writer;
+  name : l.output.writer.ghost_name ≡ l.fn.output.writer.ghost_name;
+  source : g.R.Source.failures l.source ≡ g.R.Source.failures l.fn.source;
+  writer : g.W.Sink.failures l.output.writer.now ≡ g.W.Sink.failures l.fn.output.writer.now;
   few : l.engine.accepted ≤ l.number;
-  so_far : SoFar l.chain (g.R.Source.left l.fn.reader) l.number l.engine (ahead l.lines (g.R.Source.left l.reader)) (g.W.Sink.taken l.fn.writer) (with_gathered (g.W.Sink.taken l.writer) l.text);
+  so_far : SoFar l.chain (g.R.Source.left l.fn.source) l.number l.engine (ahead l.lines (g.R.Source.left l.source)) (seen g.W.Sink.taken g.W.Sink.failures l.fn.output) (seen g.W.Sink.taken g.W.Sink.failures l.output);
 }

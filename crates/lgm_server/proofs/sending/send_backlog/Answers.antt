@@ -1,12 +1,28 @@
-use Rattle.std.proofs.Common.{rules}
-use Rattle.lgm_server.proofs.Appending.{appends_both, appends_nothing}
+use Rattle.std.proofs.Common.{◌∷◌, Some, List, ℕ, refl, sym, ap, ◌∙◌}
+use Rattle.std.specs.List.{flat_map}
+use Rattle.std.proofs.lemmas.Result.{err_from_is_err_and}
+use Rattle.lgm_script.specs.Text.{message_line}
+use Rattle.lgm_script.proofs.Telling.{onward_first, onward_more, onward_stops, onward_ends}
 use Rattle.lgm_server.proofs.sending.send_backlog.Goals as goal
+
+pub loop-message-init : goal.loop-message-init
+loop-message-init g c =
+    record { writer = refl; told = onward_first _ _ _ (ap (flat_map (message_line c.args.number (Some c.args.own.now.peer))) (sym (c.into_iter-message-iterator.ensures.into_iter_gives ∙ c.of-message-items.ensures))) }
 
 pub loop-message-preserved : goal.loop-message-preserved
 loop-message-preserved g c = record {
-  whole = λ final rest. c.loop-message.invariant.whole final (rw c.in-Some.ensures.steps (appends_both _ _ _ _ _ c.in_ok-send_message.ensures.told rest));
-  same = search rules;
+  writer = c.in_ok-send_message.ensures.writer ∙ c.loop-message.invariant.writer;
+  told = onward_more _ _ _ _ _ _ _ c.loop-message.invariant.told
+      (ap (flat_map (message_line c.args.number (Some c.args.own.now.peer))) (c.in-Some.ensures.steps ∙ ap (λ (m : List ℕ). m ∷ c.next.new.self) (sym c.as_slice.ensures)))
+      c.in_ok-send_message.ensures.told;
 }
 
+pub returns-in_err-send_message-clause-fault : goal.returns-in_err-send_message-clause-fault
+returns-in_err-send_message-clause-fault g c =
+    let p = err_from_is_err_and c.from_residual.result c.from_residual.ensures.1 in
+    rw (p.1, p.2) (onward_stops _ _ _ _ _ _ _ _ c.loop-message.invariant.told
+    (ap (flat_map (message_line c.args.number (Some c.args.own.now.peer))) (c.in-Some.ensures.steps ∙ ap (λ (m : List ℕ). m ∷ c.next.new.self) (sym c.as_slice.ensures)))
+    c.in_err-send_message.ensures.fault)
+
 pub returns-clause-told : goal.returns-clause-told
-returns-clause-told g c = c.loop-message.invariant.whole _ (rw c.in-None.ensures.steps.0 (appends_nothing _))
+returns-clause-told g c = onward_ends _ _ _ _ c.loop-message.invariant.told (ap (flat_map (message_line c.args.number (Some c.args.own.now.peer))) c.in-None.ensures.steps.0)

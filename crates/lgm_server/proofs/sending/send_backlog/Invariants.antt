@@ -1,15 +1,14 @@
-use Rattle.std.proofs.Common.{◌≡◌, ℕ, List, Option, Some}
+use Rattle.std.proofs.Common.{◌≡◌, Some}
 use Rattle.std.specs.List.{flat_map}
 use Rattle.lgm_query.specs.Backlog.{backlog}
-use Rattle.lgm_server.specs.Device.{Appends}
-use Rattle.lgm_server.specs.Text.{with_gathered}
-use Rattle.lgm_server.specs.Reply.{message_line}
+use Rattle.lgm_script.specs.Output.{seen}
+use Rattle.lgm_script.specs.Text.{message_line}
+use Rattle.lgm_script.proofs.Telling.{Onward}
 use Rattle.lgm_server.proofs.sending.send_backlog.Given as goal
 
--- what is told and what is left make the whole text
+-- the lines of the first messages were told
 abbrev pub invariant-loop-message : goal.invariant-loop-message
 invariant-loop-message g l = record {
-  whole : (final : Option (List ℕ)) → Appends (with_gathered (g.W.Sink.taken l.writer) l.text) final (flat_map (message_line l.number (Some l.peer)) l.message-iterator)
-      → Appends (with_gathered (g.W.Sink.taken l.initial.writer) l.initial.text) final (flat_map (message_line l.number (Some l.peer)) (backlog l.map l.filter));
-  same : g.W.Sink.failures l.writer ≡ g.W.Sink.failures l.initial.writer;
+  writer : l.output.writer.ghost_name ≡ l.fn.output.writer.ghost_name;
+  told : Onward (seen g.W.Sink.taken g.W.Sink.failures l.fn.output) (seen g.W.Sink.taken g.W.Sink.failures l.output) (flat_map (message_line l.number (Some l.own.peer)) (backlog l.map l.own.filter)) (flat_map (message_line l.number (Some l.own.peer)) l.message-iterator);
 }

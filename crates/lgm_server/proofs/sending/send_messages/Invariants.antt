@@ -1,13 +1,13 @@
-use Rattle.std.proofs.Common.{◌≡◌, take}
+use Rattle.std.proofs.Common.{◌≡◌, drop, None}
 use Rattle.std.specs.List.{flat_map}
-use Rattle.lgm_server.specs.Device.{Appends}
-use Rattle.lgm_server.specs.Text.{with_gathered}
-use Rattle.lgm_server.specs.Reply.{message_line}
+use Rattle.lgm_script.specs.Output.{seen}
+use Rattle.lgm_script.specs.Text.{message_line}
+use Rattle.lgm_script.proofs.Telling.{Onward}
 use Rattle.lgm_server.proofs.sending.send_messages.Given as goal
 
--- the lines of the first messages were sent
+-- the lines of the first messages were told
 abbrev pub invariant-loop-message : goal.invariant-loop-message
 invariant-loop-message g l = record {
-  told : Appends (with_gathered (g.W.Sink.taken l.initial.writer) l.initial.text) (with_gathered (g.W.Sink.taken l.writer) l.text) (flat_map (message_line l.number l.peer) (take l.message-index l.messages));
-  same : g.W.Sink.failures l.writer ≡ g.W.Sink.failures l.initial.writer;
+  writer : l.output.writer.ghost_name ≡ l.fn.output.writer.ghost_name;
+  told : Onward (seen g.W.Sink.taken g.W.Sink.failures l.fn.output) (seen g.W.Sink.taken g.W.Sink.failures l.output) (flat_map (message_line l.number None) l.messages) (flat_map (message_line l.number None) (drop l.message-index l.messages));
 }

@@ -1,6 +1,13 @@
 use Rattle.std.proofs.Common.{ap}
+use Rattle.std.proofs.lemmas.Result.{err_from_is_err_and}
+use Rattle.lgm_script.proofs.Telling.{tells_none}
 use Rattle.lgm_server.proofs.Behind.{published_behind}
 use Rattle.lgm_server.proofs.engine.Engine.commit.Goals as goal
+
+pub returns-in_err-catch_up-clause-fault : goal.returns-in_err-catch_up-clause-fault
+returns-in_err-catch_up-clause-fault g c =
+    let p = err_from_is_err_and c.from_residual.result c.from_residual.ensures.1 in
+    rw (p.1, p.2) (tells_none _ _)
 
 pub invariant_of-self-2 : goal.invariant_of-self-2
 invariant_of-self-2 g c =

@@ -1,0 +1,212 @@
+-- Text that is told in several goes.
+use Rattle.std.proofs.Common.{◌≡◌, ℕ, ◌<◌, Result, Ok, Err, List, [], ◌++◌, length, take, drop, Option, refl, sym, ap, subst, ◌∙◌, append_assoc, arith}
+use Rattle.std.specs.Prelude.{OnOk, IfErr}
+use Rattle.std.proofs.lemmas.List.{append-nil, take-append-drop}
+use Rattle.std.proofs.Math.Seq.{take-append_seam}
+use Rattle.lgm_script.specs.declared.output.SendFault.{SendFault}
+use Rattle.lgm_script.specs.declared.output.SendFault.TheVariants.{Write, NoMemory}
+use Rattle.lgm_script.specs.Device.{Appends, AppendsSome}
+use Rattle.lgm_script.specs.Output.{Told, Tells, TellsPart, TellsSome}
+use Rattle.lgm_script.proofs.Appending.{appends_nothing, appends_both}
+
+-- nothing was told
+pub tells_nothing : (told : Told) → Tells told told []
+tells_nothing told = record {
+  written = [];
+  taken = appends_nothing told.taken;
+  whole = sym (append-nil told.gathered);
+  well = refl;
+}
+
+-- a text behind another one
+pub tells_both : (old mid new : Told) (a b : List ℕ) → Tells old mid a → Tells mid new b → Tells old new (a ++ b)
+tells_both old mid new a b first then = record {
+  written = first.written ++ then.written;
+  taken = appends_both old.taken mid.taken new.taken first.written then.written first.taken then.taken;
+  whole =
+      append_assoc first.written then.written new.gathered
+      ∙ ap (λ (s : List ℕ). first.written ++ s) then.whole
+      ∙ sym (append_assoc first.written mid.gathered b)
+      ∙ ap (λ (s : List ℕ). s ++ b) first.whole
+      ∙ append_assoc old.gathered a b;
+  well = then.well ∙ first.well;
+}
+
+-- a part of a text behind another one
+pub tells_part_behind : (old mid new : Told) (a b : List ℕ) (fault : SendFault) → Tells old mid a → TellsPart mid new b fault → TellsPart old new (a ++ b) fault
+tells_part_behind old mid new a b fault first then = record {
+  written = first.written ++ then.written;
+  lost = then.lost;
+  taken = appends_both old.taken mid.taken new.taken first.written then.written first.taken then.taken;
+  whole =
+      append_assoc (first.written ++ then.written) new.gathered then.lost
+      ∙ append_assoc first.written then.written (new.gathered ++ then.lost)
+      ∙ ap (λ (s : List ℕ). first.written ++ s) (sym (append_assoc then.written new.gathered then.lost) ∙ then.whole)
+      ∙ sym (append_assoc first.written mid.gathered b)
+      ∙ ap (λ (s : List ℕ). s ++ b) first.whole
+      ∙ append_assoc old.gathered a b;
+  cause = λ e. let rise = then.cause e in let same = first.well in omega arith;
+  well = λ e. then.well e ∙ first.well;
+}
+
+-- a part of a text is a part of a longer one
+pub tells_part_more : (old new : Told) (a b : List ℕ) (fault : SendFault) → TellsPart old new a fault → TellsPart old new (a ++ b) fault
+tells_part_more old new a b fault part = record {
+  written = part.written;
+  lost = part.lost ++ b;
+  taken = part.taken;
+  whole =
+      sym (append_assoc (part.written ++ new.gathered) part.lost b)
+      ∙ ap (λ (s : List ℕ). s ++ b) part.whole
+      ∙ append_assoc old.gathered a b;
+  cause = part.cause;
+  well = part.well;
+}
+
+-- where memory was refused, nothing was told
+pub tells_none : (told : Told) (text : List ℕ) → TellsPart told told text NoMemory
+tells_none told text = record {
+  written = [];
+  lost = text;
+  taken = appends_nothing told.taken;
+  whole = refl;
+  cause = λ e. absurd cc;
+  well = λ e. refl;
+}
+
+-- a text was gathered
+pub tells_gathered : (taken : Option (List ℕ)) (failures : ℕ) (gathered gathered' text : List ℕ) → gathered' ≡ gathered ++ text
+    → Tells (record { taken = taken; gathered = gathered; failures = failures }) (record { taken = taken; gathered = gathered'; failures = failures }) text
+tells_gathered taken failures gathered gathered' text is = record { written = []; taken = appends_nothing taken; whole = is; well = refl }
+
+-- where memory was refused and nothing was gathered, nothing was told
+pub tells_same : (taken : Option (List ℕ)) (failures : ℕ) (gathered gathered' text : List ℕ) → gathered' ≡ gathered
+    → TellsPart (record { taken = taken; gathered = gathered; failures = failures }) (record { taken = taken; gathered = gathered'; failures = failures }) text NoMemory
+tells_same taken failures gathered gathered' text is =
+    rw is (tells_none (record { taken = taken; gathered = gathered; failures = failures }) text)
+
+-- some of what was gathered was taken before the sink failed, and the rest is dropped
+pub tells_some : (taken taken' : Option (List ℕ)) (failures failures' : ℕ) (gathered bytes gathered' : List ℕ) → bytes ≡ gathered → AppendsSome taken taken' bytes → gathered' ≡ [] → failures < failures'
+    → TellsPart (record { taken = taken; gathered = gathered; failures = failures }) (record { taken = taken'; gathered = gathered'; failures = failures' }) [] Write
+tells_some taken taken' failures failures' gathered bytes gathered' same some dropped rise = record {
+  written = take some.0 bytes;
+  lost = drop some.0 bytes;
+  taken = some.1;
+  whole =
+      ap (λ (s : List ℕ). (take some.0 bytes ++ s) ++ drop some.0 bytes) dropped
+      ∙ ap (λ (s : List ℕ). s ++ drop some.0 bytes) (append-nil (take some.0 bytes))
+      ∙ take-append-drop some.0 bytes ∙ same ∙ sym (append-nil gathered);
+  cause = λ e. rise;
+  well = λ e. absurd cc;
+}
+
+-- ---- a text that is told line by line
+
+-- a first part of the whole text was told, and this is the rest
+pub record Onward (old mid : Told) (whole rest : List ℕ) : Type 0 where
+  pub done : List ℕ
+  pub told : Tells old mid done
+  pub parts : whole ≡ done ++ rest
+
+-- nothing was told yet
+pub onward_first : (told : Told) (whole rest : List ℕ) → whole ≡ rest → Onward told told whole rest
+onward_first told whole rest same = record { done = []; told = tells_nothing told; parts = same }
+
+-- one line more
+pub onward_more : (old mid new : Told) (whole rest line others : List ℕ) → Onward old mid whole rest → rest ≡ line ++ others → Tells mid new line → Onward old new whole others
+onward_more old mid new whole rest line others on is told = record {
+  done = on.done ++ line;
+  told = tells_both old mid new on.done line on.told told;
+  parts = on.parts ∙ ap (λ (s : List ℕ). on.done ++ s) is ∙ sym (append_assoc on.done line others);
+}
+
+-- a part of one line more, and then a fault
+pub onward_stops : (old mid new : Told) (whole rest line others : List ℕ) (fault : SendFault) → Onward old mid whole rest → rest ≡ line ++ others → TellsPart mid new line fault → TellsPart old new whole fault
+onward_stops old mid new whole rest line others fault on is part =
+    let so_far = tells_part_more old new (on.done ++ line) others fault (tells_part_behind old mid new on.done line fault on.told part) in
+    subst (λ (s : List ℕ). TellsPart old new s fault) (append_assoc on.done line others ∙ ap (λ (s : List ℕ). on.done ++ s) (sym is) ∙ sym on.parts) so_far
+
+-- nothing is left
+pub onward_ends : (old mid : Told) (whole rest : List ℕ) → Onward old mid whole rest → rest ≡ [] → Tells old mid whole
+onward_ends old mid whole rest on none =
+    subst (Tells old mid) (sym (append-nil on.done) ∙ ap (λ (s : List ℕ). on.done ++ s) (sym none) ∙ sym on.parts) on.told
+
+-- what a call told behind a text, or the part of it that it told
+pub told_behind : (result : Result (Unit {0}) SendFault) (old mid new : Told) (a b : List ℕ) → Tells old mid a → OnOk result (Tells mid new b) → OnOk result (Tells old new (a ++ b))
+told_behind (Ok t) old mid new a b first then = tells_both old mid new a b first then
+told_behind (Err fault) old mid new a b first then = tt
+
+pub fault_behind : (result : Result (Unit {0}) SendFault) (old mid new : Told) (a b : List ℕ) → Tells old mid a → IfErr result (TellsPart mid new b) → IfErr result (TellsPart old new (a ++ b))
+fault_behind (Ok t) old mid new a b first then = tt
+fault_behind (Err fault) old mid new a b first then = tells_part_behind old mid new a b fault first then
+
+-- ---- a first part, whatever came then
+
+pub some_of_part : (old new : Told) (text : List ℕ) (fault : SendFault) → TellsPart old new text fault → TellsSome old new text
+some_of_part old new text fault part = record { written = part.written; lost = part.lost; taken = part.taken; whole = part.whole }
+
+pub some_of_all : (old new : Told) (text : List ℕ) → Tells old new text → TellsSome old new text
+some_of_all old new text told = record {
+  written = told.written;
+  lost = [];
+  taken = told.taken;
+  whole = append-nil (told.written ++ new.gathered) ∙ told.whole;
+}
+
+-- where all that is gathered is written at the end, the sink has taken the text
+pub taken_all : (old mid new : Told) (text : List ℕ) → old.gathered ≡ [] → Tells old mid text → Tells mid new [] → new.gathered ≡ [] → Appends old.taken new.taken text
+taken_all old mid new text empty told flushed clear =
+    let both = tells_both old mid new text [] told flushed in
+    let is : both.written ≡ text =
+    sym (append-nil both.written) ∙ ap (λ (s : List ℕ). both.written ++ s) (sym clear) ∙ both.whole ∙ ap (λ (s : List ℕ). s ++ (text ++ [])) empty ∙ append-nil text in
+    subst (Appends old.taken new.taken) is both.taken
+
+-- or a first part of it
+pub taken_some : (old new : Told) (text : List ℕ) → old.gathered ≡ [] → TellsSome old new text → AppendsSome old.taken new.taken text
+taken_some old new text empty some =
+    let front : take (length some.written) text ≡ some.written =
+    ap (λ (s : List ℕ). take (length some.written) s) (ap (λ (s : List ℕ). s ++ text) (sym empty) ∙ sym some.whole ∙ append_assoc some.written new.gathered some.lost)
+    ∙ take-append_seam some.written (new.gathered ++ some.lost) in
+    (length some.written, subst (Appends old.taken new.taken) (sym front) some.taken)
+
+-- a first part, and then a flush
+pub some_flushed : (old mid new : Told) (text : List ℕ) → TellsSome old mid text → Tells mid new [] → TellsSome old new text
+some_flushed old mid new text some flushed = record {
+  written = some.written ++ flushed.written;
+  lost = some.lost;
+  taken = appends_both old.taken mid.taken new.taken some.written flushed.written some.taken flushed.taken;
+  whole =
+      ap (λ (s : List ℕ). s ++ some.lost)
+      (append_assoc some.written flushed.written new.gathered ∙ ap (λ (s : List ℕ). some.written ++ s) (flushed.whole ∙ append-nil mid.gathered))
+      ∙ some.whole;
+}
+
+-- a first part, and then a flush that fails
+pub some_flushed_part : (old mid new : Told) (text : List ℕ) (fault : SendFault) → TellsSome old mid text → TellsPart mid new [] fault → TellsSome old new text
+some_flushed_part old mid new text fault some flushed = record {
+  written = some.written ++ flushed.written;
+  lost = flushed.lost ++ some.lost;
+  taken = appends_both old.taken mid.taken new.taken some.written flushed.written some.taken flushed.taken;
+  whole =
+      sym (append_assoc ((some.written ++ flushed.written) ++ new.gathered) flushed.lost some.lost)
+      ∙ ap (λ (s : List ℕ). s ++ some.lost)
+      (append_assoc (some.written ++ flushed.written) new.gathered flushed.lost
+      ∙ append_assoc some.written flushed.written (new.gathered ++ flushed.lost)
+      ∙ ap (λ (s : List ℕ). some.written ++ s) (sym (append_assoc flushed.written new.gathered flushed.lost) ∙ flushed.whole ∙ append-nil mid.gathered))
+      ∙ some.whole;
+}
+
+-- a first part behind a text
+pub some_behind : (old mid new : Told) (a b : List ℕ) → Tells old mid a → TellsSome mid new b → TellsSome old new (a ++ b)
+some_behind old mid new a b first then = record {
+  written = first.written ++ then.written;
+  lost = then.lost;
+  taken = appends_both old.taken mid.taken new.taken first.written then.written first.taken then.taken;
+  whole =
+      append_assoc (first.written ++ then.written) new.gathered then.lost
+      ∙ append_assoc first.written then.written (new.gathered ++ then.lost)
+      ∙ ap (λ (s : List ℕ). first.written ++ s) (sym (append_assoc then.written new.gathered then.lost) ∙ then.whole)
+      ∙ sym (append_assoc first.written mid.gathered b)
+      ∙ ap (λ (s : List ℕ). s ++ b) first.whole
+      ∙ append_assoc old.gathered a b;
+}

@@ -1,0 +1,28 @@
+//! Scripts: their lines and what a line asks, and the lines of the answers, from a [`Source`] and to a [`Sink`].
+//!
+//! What is read ahead of a source is a [`LineReader`]; text on its way to a sink is an [`Output`]. [`next_line`] finds
+//! one line after the other, and [`parse`] tells what it asks.
+#![tactic(auto)]
+
+mod device;
+mod field;
+mod item;
+mod line_reader;
+mod memory;
+mod output;
+mod reading;
+mod request;
+mod std_streams;
+mod text;
+
+pub use device::{Failed, Sink, Source, write_all};
+pub use item::Item;
+pub use line_reader::{LineReader, MAX_LINE};
+pub use memory::{MemorySink, MemorySource};
+pub use output::{BLOCK, Output, SendFault};
+pub use reading::{LineFault, more_begins, next_line};
+pub use request::{Request, parse};
+pub use std_streams::{FromRead, ToWrite};
+
+#[cfg(test)]
+mod tests;

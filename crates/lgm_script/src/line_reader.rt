@@ -1,0 +1,134 @@
+//! The lines of a script, whatever pieces its source gives.
+
+ghost use Rattle.std.specs.Prelude.{◌≡◌, ◌+◌, ◌≤◌, ◌<◌, ◌^◌, ◌-◌, [], true, false, List, ℕ, Option, length, take, drop, IfOk, IfSome, IfNone, OnOk, OnErr};
+ghost use Rattle.lgm_script.specs.Device.{IsAtEnd};
+ghost use Rattle.lgm_script.specs.Lines.{ahead, HasNoLineFeed, IsFirstLine};
+
+use crate::device::{Failed, Sink, Source};
+use crate::output::Output;
+use memchr::memchr;
+use std::alloc::{AllocError, Global};
+use std::marker::Model;
+
+/// The most bytes that a line has, without its line feed.
+pub const MAX_LINE: usize = 140_000;
+
+/// How many bytes are read ahead at most: more than three of the longest lines.
+const ROOM: usize = 524_288;
+
+/// What was read ahead of a source. It takes all its memory when it is made.
+///
+/// Contracts see the list of the bytes that were read ahead. It is meant for one source: these bytes come before those
+/// that the source has left. Lines are found and lent where they lie.
+#[derive(Drop)]
+pub struct LineReader {
+    buffer: Vec<u8>,
+    start: usize,
+    end: usize,
+}
+
+impl Model for LineReader {
+    ghost use Rattle.std.specs.Prelude.{List, ℕ, length, take, drop, ◌≤◌, ◌≡◌};
+    ghost use Rattle.lgm_script.specs.declared.line_reader.TheConstants.{ROOM};
+
+    ghost Value = { List ℕ };
+
+    ghost view = { λ r. drop r.start (take r.end r.buffer.items) };
+
+    ghost invariant = { λ r. (r.start ≤ r.end) × (r.end ≤ ROOM) × (length r.buffer.items ≡ ROOM) };
+}
+
+impl LineReader {
+    /// A reader with nothing read ahead.
+    pub fn new(alloc: Global) -> Result<LineReader, AllocError>
+        ensures { IfOk result (λ reader. reader ≡ []) }
+    {
+        Ok(LineReader {
+            buffer: Vec::from_elem(alloc, 0, ROOM)?,
+            start: 0,
+            end: 0,
+        })
+    }
+
+    /// The bytes that were read ahead.
+    pub fn buffered(&self) -> &[u8]
+        ensures { result.now ≡ self.now }
+    {
+        &self.buffer[self.start..self.end]
+    }
+
+    /// The length of the first line, if its line feed was read. The first `searched` bytes have none.
+    pub fn find_line(&self, searched: usize) -> Option<usize>
+        requires within { searched ≤ length self.now }
+        requires searched { HasNoLineFeed (take searched self.now) }
+        ensures line { IfSome result (λ count. (left : Option (List ℕ)) → IsFirstLine self.now left count) }
+        ensures none { IfNone result (HasNoLineFeed self.now) }
+    {
+        let place = memchr(b'\n', &self.buffered()[searched..])?;
+        Some(searched + place)
+    }
+
+    /// The first bytes, so many.
+    pub fn line(&self, count: usize) -> &[u8]
+        requires { count ≤ length self.now }
+        ensures { result.now ≡ take count self.now }
+    {
+        &self.buffered()[..count]
+    }
+
+    /// Drops a line of so many bytes, with its line feed if it has one.
+    pub fn drop_line(&mut self, count: usize)
+        requires { count ≤ length self.old }
+        ensures { self.new ≡ drop (count + 1) self.old }
+    {
+        self.start = (self.start + count + 1).min(self.end);
+    }
+
+    /// Reads further bytes ahead, and gives whether there was one. Where it reads, nothing is gathered: so no answer
+    /// waits for input.
+    pub fn read_more<R: Source, W: Sink>(
+        &mut self,
+        source: &mut R,
+        output: &Output<'_, W>,
+    ) -> Result<bool, Failed>
+        requires source { R.failures source.old + 1 < 2 ^ 64 }
+        requires room { length self.old ≤ MAX_LINE }
+        requires answered { output.now.gathered.now.items ≡ [] }
+        ensures kept { ahead self.new (R.left source.new) ≡ ahead self.old (R.left source.old) }
+        ensures front { OnOk result (take (length self.old) self.new ≡ self.old) }
+        ensures more { result ≡ Ok true → length self.old < length self.new }
+        ensures same { result ≡ Ok false → self.new ≡ self.old }
+        ensures end { result ≡ Ok false → IsAtEnd (R.left source.new) }
+        ensures cause { OnErr result (R.failures source.old < R.failures source.new) }
+        ensures well { IfOk result (λ _. R.failures source.new ≡ R.failures source.old) }
+    {
+        let _ = output;
+        let (start, end) = make_room(&mut self.buffer, self.start, self.end);
+        self.start = start;
+        self.end = end;
+        let (_, room) = self.buffer.split_at_mut(end);
+        let count = source.read(room)?;
+        self.end += count;
+        Ok(count > 0)
+    }
+}
+
+/// Moves the bytes between these places to the front if there is no room behind them. Gives their places.
+fn make_room(buffer: &mut Vec<u8>, start: usize, end: usize) -> (usize, usize)
+    requires order { start ≤ end }
+    requires within { end ≤ ROOM }
+    requires short { end - start ≤ MAX_LINE }
+    requires size { length buffer.old.items ≡ ROOM }
+    ensures same { drop result.0 (take result.1 buffer.new.items) ≡ drop start (take end buffer.old.items) }
+    ensures order { result.0 ≤ result.1 }
+    ensures room { result.1 < ROOM }
+    ensures size { length buffer.new.items ≡ ROOM }
+{
+    if end < ROOM {
+        return (start, end);
+    }
+    let count = end - start;
+    let (front, back) = buffer.split_at_mut(start);
+    front[..count].copy_from_slice(&back[..count]);
+    (0, count)
+}

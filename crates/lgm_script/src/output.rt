@@ -1,0 +1,127 @@
+//! Text on its way to a sink.
+
+ghost use Rattle.std.specs.Prelude.{◌≡◌, ◌+◌, ◌<◌, ◌^◌, ◌++◌, [], length, List, ℕ, IfErr, OnOk, OnErr};
+ghost use Rattle.lgm_script.specs.Output.{Sends, SendsPart};
+ghost use Rattle.lgm_script.specs.Text.{word_line, commit_line, message_line};
+ghost use Rattle.lgm_script.specs.declared.output.SendFault.TheVariants.{NoMemory};
+
+use crate::device::{Failed, Sink, write_all};
+use crate::text::{append_count, append_message, append_word};
+use std::alloc::AllocError;
+use thiserror::Error;
+
+/// How many bytes are gathered before they are written.
+pub const BLOCK: usize = 65_536;
+
+/// Why a text wasn't told to its end.
+#[derive(Clone, Copy, Debug, PartialEq, Eq, Error)]
+pub enum SendFault {
+    /// The sink failed, or took no byte.
+    #[error("write failed")]
+    Write,
+    /// Memory was refused.
+    #[error("out of memory")]
+    NoMemory,
+}
+
+impl From<AllocError> for SendFault {
+    ghost from_gives = { λ _ e. e ≡ NoMemory };
+
+    fn from(_e: AllocError) -> SendFault {
+        SendFault::NoMemory
+    }
+}
+
+/// Text on its way to a sink: it is gathered, and written once it fills a block.
+///
+/// Contracts see what the sink took, what is gathered behind it, and how often the sink has failed. Each call tells its
+/// whole text, or at a fault a first part of it. At `NoMemory` each line is gathered whole or not at all, and the sink
+/// is as well as before. At `Write` the first bytes of what was gathered may have been taken, and nothing is gathered
+/// any more, so that nothing is written twice.
+#[derive(Drop)]
+pub struct Output<'a, W> {
+    writer: &'a mut W,
+    gathered: &'a mut Vec<u8>,
+}
+
+impl<'a, W: Sink> Output<'a, W> {
+    /// An output to a sink, whose text is gathered behind what a block of bytes has already.
+    pub fn new(gathered: &'a mut Vec<u8>, writer: &'a mut W) -> Output<'a, W>
+        ensures writer { result.writer.ghost_name ≡ writer.entry.ghost_name }
+        ensures same { result.writer.now ≡ writer.entry.now }
+        ensures gathered { result.gathered.now.items ≡ gathered.entry.now.items }
+    {
+        Output { writer, gathered }
+    }
+
+    /// Writes what is gathered. After `Failed` the first bytes of it may have been taken.
+    pub fn flush(&mut self) -> Result<(), Failed>
+        requires { W.failures self.old.writer.now + 1 < 2 ^ 64 }
+        ensures writer { self.new.writer.ghost_name ≡ self.old.writer.ghost_name }
+        ensures told { OnOk result (Sends W.taken W.failures self.old self.new []) }
+        ensures fault { OnErr result (SendsPart W.taken W.failures self.old self.new [] SendFault.Write) }
+        ensures empty { self.new.gathered.now.items ≡ [] }
+    {
+        let written = write_all(self.writer, self.gathered.as_slice());
+        self.gathered.clear();
+        match written {
+            Ok(()) => Ok(()),
+            Err(failed) => Err(failed),
+        }
+    }
+
+    /// Writes what is gathered, if it fills a block.
+    fn flush_block(&mut self) -> Result<(), SendFault>
+        requires { W.failures self.old.writer.now + 1 < 2 ^ 64 }
+        ensures writer { self.new.writer.ghost_name ≡ self.old.writer.ghost_name }
+        ensures told { OnOk result (Sends W.taken W.failures self.old self.new []) }
+        ensures short { OnOk result (length self.new.gathered.now.items < BLOCK) }
+        ensures fault { IfErr result (SendsPart W.taken W.failures self.old self.new []) }
+    {
+        if self.gathered.len() < BLOCK {
+            return Ok(());
+        }
+        match self.flush() {
+            Ok(()) => Ok(()),
+            Err(_) => Err(SendFault::Write),
+        }
+    }
+
+    /// Tells a word: `N WORD`.
+    pub fn send_word(&mut self, number: u64, word: &str) -> Result<(), SendFault>
+        requires { W.failures self.old.writer.now + 1 < 2 ^ 64 }
+        ensures writer { self.new.writer.ghost_name ≡ self.old.writer.ghost_name }
+        ensures told { OnOk result (Sends W.taken W.failures self.old self.new (word_line number word.now)) }
+        ensures fault { IfErr result (SendsPart W.taken W.failures self.old self.new (word_line number word.now)) }
+    {
+        append_word(self.gathered, number, word)?;
+        self.flush_block()
+    }
+
+    /// Tells the number of accepted items at a commit: `N commit V`.
+    pub fn send_count(&mut self, number: u64, count: u64) -> Result<(), SendFault>
+        requires { W.failures self.old.writer.now + 1 < 2 ^ 64 }
+        ensures writer { self.new.writer.ghost_name ≡ self.old.writer.ghost_name }
+        ensures told { OnOk result (Sends W.taken W.failures self.old self.new (commit_line number count)) }
+        ensures fault { IfErr result (SendsPart W.taken W.failures self.old self.new (commit_line number count)) }
+    {
+        append_count(self.gathered, number, count)?;
+        self.flush_block()
+    }
+
+    /// Tells a message, in hexadecimal digits: `N HEX`, or `N to PEER HEX` where it is for a peer.
+    pub fn send_message(
+        &mut self,
+        number: u64,
+        peer: Option<u16>,
+        message: &[u8],
+    ) -> Result<(), SendFault>
+        requires { W.failures self.old.writer.now + 1 < 2 ^ 64 }
+        ensures writer { self.new.writer.ghost_name ≡ self.old.writer.ghost_name }
+        ensures told { OnOk result (Sends W.taken W.failures self.old self.new (message_line number peer message.now)) }
+        ensures fault { IfErr result (SendsPart W.taken W.failures self.old self.new (message_line number peer message.now)) }
+    {
+        append_message(self.gathered, number, peer, message)?;
+        self.flush_block()
+    }
+}

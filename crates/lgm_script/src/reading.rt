@@ -1,0 +1,117 @@
+//! The next line of a script, before which all answers are written where it has to be read.
+
+ghost use Rattle.std.specs.Prelude.{◌≡◌, ◌≢◌, ◌+◌, ◌≤◌, ◌<◌, ◌^◌, [], true, false, length, take, IfOk, IfErr, IfSome, IsErrOf, OnOk};
+ghost use Rattle.lgm_script.specs.Device.{IsAtEnd};
+ghost use Rattle.lgm_script.specs.Lines.{ahead, IsFirstLine, IsLongerThan};
+ghost use Rattle.lgm_script.specs.Output.{Sends, SendsPart};
+
+use crate::device::{Sink, Source};
+use crate::line_reader::{LineReader, MAX_LINE};
+use crate::output::{Output, SendFault};
+
+/// Why there is no next line.
+#[derive(Clone, Copy, Debug, PartialEq, Eq)]
+pub enum LineFault {
+    /// The source failed.
+    Read,
+    /// The sink failed.
+    Write,
+    /// The line has more than `MAX_LINE` bytes.
+    TooLong,
+}
+
+/// Writes what is gathered, and then reads further bytes ahead. Gives whether there was one.
+fn read_on<R: Source, W: Sink>(
+    lines: &mut LineReader,
+    source: &mut R,
+    output: &mut Output<'_, W>,
+) -> Result<bool, LineFault>
+    requires source { R.failures source.old + 1 < 2 ^ 64 }
+    requires writer { W.failures output.old.writer.now + 1 < 2 ^ 64 }
+    requires room { length lines.old ≤ MAX_LINE }
+    ensures writer { output.new.writer.ghost_name ≡ output.old.writer.ghost_name }
+    ensures kept { ahead lines.new (R.left source.new) ≡ ahead lines.old (R.left source.old) }
+    ensures front { OnOk result (take (length lines.old) lines.new ≡ lines.old) }
+    ensures more { result ≡ Ok true → length lines.old < length lines.new }
+    ensures same { result ≡ Ok false → lines.new ≡ lines.old }
+    ensures end { result ≡ Ok false → IsAtEnd (R.left source.new) }
+    ensures told { result ≢ Err LineFault.Write → Sends W.taken W.failures output.old output.new [] }
+    ensures write { result ≡ Err LineFault.Write → SendsPart W.taken W.failures output.old output.new [] SendFault.Write }
+    ensures read { result ≡ Err LineFault.Read → R.failures source.old < R.failures source.new }
+    ensures well { result ≢ Err LineFault.Read → R.failures source.new ≡ R.failures source.old }
+    ensures short { result ≢ Err LineFault.TooLong }
+{
+    let Ok(()) = output.flush() else {
+        return Err(LineFault::Write);
+    };
+    match lines.read_more(source, output) {
+        Ok(more) => Ok(more),
+        Err(_) => Err(LineFault::Read),
+    }
+}
+
+/// The length of the next line, which then stands at the front of what was read ahead; `None` where no line is left.
+///
+/// Where the line isn't whole in what was read ahead, what is gathered is written before the source is read: so no
+/// answer waits for input. `TooLong` comes at a last line without a line feed, too. No byte is taken.
+pub fn next_line<R: Source, W: Sink>(
+    lines: &mut LineReader,
+    source: &mut R,
+    output: &mut Output<'_, W>,
+) -> Result<Option<usize>, LineFault>
+    requires source { R.failures source.old + 1 < 2 ^ 64 }
+    requires writer { W.failures output.old.writer.now + 1 < 2 ^ 64 }
+    ensures writer { output.new.writer.ghost_name ≡ output.old.writer.ghost_name }
+    ensures kept { ahead lines.new (R.left source.new) ≡ ahead lines.old (R.left source.old) }
+    ensures line { IfOk result (λ found. IfSome found (IsFirstLine lines.new (R.left source.new))) }
+    ensures short { IfOk result (λ found. IfSome found (λ count. count ≤ MAX_LINE)) }
+    ensures end { result ≡ Ok None → IsAtEnd (ahead lines.new (R.left source.new)) }
+    ensures too_long { result ≡ Err LineFault.TooLong → IsLongerThan MAX_LINE (ahead lines.new (R.left source.new)) }
+    ensures told { result ≢ Err LineFault.Write → Sends W.taken W.failures output.old output.new [] }
+    ensures write { result ≡ Err LineFault.Write → SendsPart W.taken W.failures output.old output.new [] SendFault.Write }
+    ensures read { result ≡ Err LineFault.Read → R.failures source.old < R.failures source.new }
+    ensures well { result ≢ Err LineFault.Read → R.failures source.new ≡ R.failures source.old }
+{
+    let mut searched = 0;
+    loop {
+        if let Some(count) = lines.find_line(searched) {
+            return if count > MAX_LINE {
+                Err(LineFault::TooLong)
+            } else {
+                Ok(Some(count))
+            };
+        }
+        searched = lines.buffered().len();
+        if searched > MAX_LINE {
+            return Err(LineFault::TooLong);
+        }
+        if !read_on(lines, source, output)? {
+            return Ok(if searched > 0 { Some(searched) } else { None });
+        }
+    }
+}
+
+/// Whether a further byte is there. It reads the source if nothing was read ahead, and then writes what is gathered
+/// first, as [`next_line`] does.
+pub fn more_begins<R: Source, W: Sink>(
+    lines: &mut LineReader,
+    source: &mut R,
+    output: &mut Output<'_, W>,
+) -> Result<bool, LineFault>
+    requires source { R.failures source.old + 1 < 2 ^ 64 }
+    requires writer { W.failures output.old.writer.now + 1 < 2 ^ 64 }
+    ensures writer { output.new.writer.ghost_name ≡ output.old.writer.ghost_name }
+    ensures kept { ahead lines.new (R.left source.new) ≡ ahead lines.old (R.left source.old) }
+    ensures more { result ≡ Ok true → 0 < length lines.new }
+    ensures end { result ≡ Ok false → IsAtEnd (ahead lines.new (R.left source.new)) }
+    ensures told { result ≢ Err LineFault.Write → Sends W.taken W.failures output.old output.new [] }
+    ensures write { result ≡ Err LineFault.Write → SendsPart W.taken W.failures output.old output.new [] SendFault.Write }
+    ensures read { result ≡ Err LineFault.Read → R.failures source.old < R.failures source.new }
+    ensures well { result ≢ Err LineFault.Read → R.failures source.new ≡ R.failures source.old }
+    ensures short { result ≢ Err LineFault.TooLong }
+{
+    if !lines.buffered().is_empty() {
+        return Ok(true);
+    }
+    read_on(lines, source, output)
+}

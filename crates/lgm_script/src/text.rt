@@ -1,0 +1,116 @@
+//! The lines of the answers, each put behind a text whole or not at all.
+
+ghost use Rattle.std.specs.Prelude.{◌≡◌, ◌++◌, List, ℕ, codes, OnOk, OnErr};
+ghost use Rattle.std.specs.Fmt.{decimal};
+ghost use Rattle.hex.specs.Hex.{encode_lower};
+ghost use Rattle.lgm_script.specs.Text.{word_line, commit_line, lead, message_line};
+ghost use Rattle.lgm_script.specs.Front.{IsFront};
+
+use std::alloc::AllocError;
+
+/// Puts a number behind the text, in decimal digits.
+fn push_number(text: &mut Vec<u8>, number: u64) -> Result<(), AllocError>
+    ensures ok { OnOk result (text.new.items ≡ text.old.items ++ decimal number) }
+    ensures err { OnErr result (IsFront text.old.items text.new.items) }
+{
+    let mut digits = itoa::Buffer::new();
+    text.extend_from_slice(digits.format(number).as_bytes())?;
+    Ok(())
+}
+
+fn push_word(text: &mut Vec<u8>, number: u64, word: &str) -> Result<(), AllocError>
+    ensures ok { OnOk result (text.new.items ≡ text.old.items ++ word_line number word.now) }
+    ensures err { OnErr result (IsFront text.old.items text.new.items) }
+{
+    push_number(text, number)?;
+    text.extend_from_slice(b" ")?;
+    text.extend_from_slice(word.as_bytes())?;
+    text.extend_from_slice(b"\n")?;
+    Ok(())
+}
+
+fn push_count(text: &mut Vec<u8>, number: u64, count: u64) -> Result<(), AllocError>
+    ensures ok { OnOk result (text.new.items ≡ text.old.items ++ commit_line number count) }
+    ensures err { OnErr result (IsFront text.old.items text.new.items) }
+{
+    push_number(text, number)?;
+    text.extend_from_slice(b" commit ")?;
+    push_number(text, count)?;
+    text.extend_from_slice(b"\n")?;
+    Ok(())
+}
+
+/// What stands in front of a message, which may be for a peer.
+fn push_lead(text: &mut Vec<u8>, number: u64, peer: Option<u16>) -> Result<(), AllocError>
+    ensures ok { OnOk result (text.new.items ≡ text.old.items ++ lead number peer) }
+    ensures err { OnErr result (IsFront text.old.items text.new.items) }
+{
+    push_number(text, number)?;
+    let Some(peer) = peer else {
+        text.extend_from_slice(b" ")?;
+        return Ok(());
+    };
+    text.extend_from_slice(b" to ")?;
+    push_number(text, u64::from(peer))?;
+    text.extend_from_slice(b" ")?;
+    Ok(())
+}
+
+fn push_message(
+    text: &mut Vec<u8>,
+    number: u64,
+    peer: Option<u16>,
+    message: &[u8],
+) -> Result<(), AllocError>
+    ensures ok { OnOk result (text.new.items ≡ text.old.items ++ message_line number peer message.now) }
+    ensures err { OnErr result (IsFront text.old.items text.new.items) }
+{
+    push_lead(text, number, peer)?;
+    lgm_hex::append(text, message)?;
+    text.extend_from_slice(b"\n")?;
+    Ok(())
+}
+
+/// Puts the line of a word behind the text. Want of memory leaves it as it was.
+pub(crate) fn append_word(text: &mut Vec<u8>, number: u64, word: &str) -> Result<(), AllocError>
+    ensures ok { OnOk result (text.new.items ≡ text.old.items ++ word_line number word.now) }
+    ensures err { OnErr result (text.new.items ≡ text.old.items) }
+{
+    let length = text.len();
+    let pushed = push_word(text, number, word);
+    if pushed.is_err() {
+        text.truncate(length);
+    }
+    pushed
+}
+
+/// Puts the line of a commit behind the text. Want of memory leaves it as it was.
+pub(crate) fn append_count(text: &mut Vec<u8>, number: u64, count: u64) -> Result<(), AllocError>
+    ensures ok { OnOk result (text.new.items ≡ text.old.items ++ commit_line number count) }
+    ensures err { OnErr result (text.new.items ≡ text.old.items) }
+{
+    let length = text.len();
+    let pushed = push_count(text, number, count);
+    if pushed.is_err() {
+        text.truncate(length);
+    }
+    pushed
+}
+
+/// Puts the line of a message behind the text. Want of memory leaves it as it was.
+pub(crate) fn append_message(
+    text: &mut Vec<u8>,
+    number: u64,
+    peer: Option<u16>,
+    message: &[u8],
+) -> Result<(), AllocError>
+    ensures ok { OnOk result (text.new.items ≡ text.old.items ++ message_line number peer message.now) }
+    ensures err { OnErr result (text.new.items ≡ text.old.items) }
+{
+    let length = text.len();
+    let pushed = push_message(text, number, peer, message);
+    if pushed.is_err() {
+        text.truncate(length);
+    }
+    pushed
+}

@@ -1,0 +1,14 @@
+use Rattle.std.proofs.Common.{◌≡◌, Some}
+use Rattle.std.specs.List.{flat_map}
+use Rattle.lgm_script.specs.Output.{seen}
+use Rattle.lgm_script.specs.Text.{message_line}
+use Rattle.lgm_script.proofs.Telling.{Onward}
+use Rattle.lgm_server.specs.Answer.{news_text}
+use Rattle.lgm_server.proofs.sending.send_news_to.Given as goal
+
+-- the lines of the first messages were told
+abbrev pub invariant-loop-message : goal.invariant-loop-message
+invariant-loop-message g l = record {
+  writer : l.output.writer.ghost_name ≡ l.fn.output.writer.ghost_name;
+  told : Onward (seen g.W.Sink.taken g.W.Sink.failures l.fn.output) (seen g.W.Sink.taken g.W.Sink.failures l.output) (news_text l.number l.differences.before l.differences.after l.own) (flat_map (message_line l.number (Some l.own.peer)) l.message-iterator);
+}

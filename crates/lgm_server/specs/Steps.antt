@@ -1,0 +1,44 @@
+-- The same state, request by request, as the engine keeps it.
+use Rattle.std.specs.Prelude.{ℕ, ◌+◌, List, [], Result, Ok, Err}
+use Rattle.lgm_gossip.specs.declared.chain_hash.ChainHash.{ChainHash}
+use Rattle.lgm_check.specs.declared.refusal.Refusal.{Refusal}
+use Rattle.lgm_store.specs.declared.op.Op.{Op}
+use Rattle.lgm_store.specs.Rows.{empty, put}
+use Rattle.lgm_store.specs.History.{absorbed}
+use Rattle.lgm_query.specs.declared.filter.Filter.{Filter}
+use Rattle.lgm_script.specs.declared.request.Request.{Request}
+use Rattle.lgm_script.specs.declared.request.Request.TheVariants as requests
+use Rattle.lgm_server.specs.declared.filters.PeerFilter.{PeerFilter}
+use Rattle.lgm_server.specs.declared.objection.Objection.{Objection}
+use Rattle.lgm_server.specs.Filters.{by_peer}
+use Rattle.lgm_server.specs.Filtering.{filter_read}
+use Rattle.lgm_server.specs.Outcomes.{outcome_of}
+use Rattle.lgm_server.specs.Script.{State}
+
+-- no item was accepted, and no filter set
+abbrev pub opening : State
+opening = record { rows = empty; committed = empty; accepted = 0; filters = [] }
+
+-- behind an item that was accepted or refused
+abbrev pub state_behind : State → Result Op Refusal → State
+state_behind state (Ok op) = record state { rows = absorbed state.rows op; accepted = state.accepted + 1 }
+state_behind state (Err refusal) = state
+
+-- behind a commit
+abbrev pub state_committed : State → State
+state_committed state = record state { committed = state.rows }
+
+-- filters with that of a peer, if it is one
+abbrev pub filters_with : List PeerFilter → ℕ → Result Filter Objection → List PeerFilter
+filters_with filters peer (Ok filter) = put by_peer filters (record { peer = peer; filter = filter })
+filters_with filters peer (Err objection) = filters
+
+-- behind a filter of a peer
+abbrev pub with_filter : State → ℕ → Result Filter Objection → State
+with_filter state peer filter = record state { filters = filters_with state.filters peer filter }
+
+abbrev pub state_after : ChainHash → State → Request → State
+state_after chain state requests.Commit = state_committed state
+state_after chain state (requests.Offer item) = state_behind state (outcome_of chain state.rows item)
+state_after chain state (requests.Filter peer bytes) = with_filter state peer (filter_read chain bytes)
+state_after chain state _ = state

@@ -1,0 +1,67 @@
+//! What lines are told.
+
+ghost use Rattle.std.specs.Prelude.{◌≡◌, ◌+◌, ◌<◌, ◌^◌, IfErr, OnOk};
+ghost use Rattle.lgm_script.specs.Output.{Sends, SendsPart};
+ghost use Rattle.lgm_server.specs.Answer.{answer_text, outcome_word};
+
+use crate::filters::{Filters, PeerFilter};
+use crate::objection::Objection;
+use crate::sending::{send_filtered, send_messages, send_news};
+use lgm_check::Refusal;
+use lgm_query::{Differences, Replies};
+use lgm_script::{Output, SendFault, Sink};
+use lgm_store::Map;
+
+/// What a line of a script is told. It is decided before it is written, and lends what it tells.
+#[derive(Drop)]
+pub enum Answer<'a> {
+    /// Nothing.
+    Quiet,
+    /// It is no form of the grammar.
+    Bad,
+    /// Its item was accepted, or else refused.
+    Outcome(Option<Refusal>),
+    /// The messages that its query is answered with.
+    Messages(Replies<'a>),
+    /// Its message isn't taken.
+    Objected(Objection),
+    /// A peer has this filter now, and gets what passes it of this map.
+    Backlog(PeerFilter, &'a Map),
+    /// So many items were accepted, and no peer has a filter.
+    Committed(u64),
+    /// So many items were accepted, and each peer gets what is new to it.
+    News(u64, &'a Filters, Differences<'a>),
+}
+
+impl Answer<'_> {
+    /// Tells the answer to the line of that number, from 1.
+    pub fn send<W: Sink>(&self, number: u64, output: &mut Output<'_, W>) -> Result<(), SendFault>
+        requires { W.failures output.old.writer.now + 1 < 2 ^ 64 }
+        ensures writer { output.new.writer.ghost_name ≡ output.old.writer.ghost_name }
+        ensures told { OnOk result (Sends W.taken W.failures output.old output.new (answer_text number self.now)) }
+        ensures fault { IfErr result (SendsPart W.taken W.failures output.old output.new (answer_text number self.now)) }
+    {
+        match self {
+            Answer::Quiet => Ok(()),
+            Answer::Bad => output.send_word(number, "bad"),
+            Answer::Outcome(refusal) => output.send_word(number, outcome_word(*refusal)),
+            Answer::Messages(messages) => send_messages(number, messages.as_slice(), output),
+            Answer::Objected(objection) => output.send_word(number, objection.word()),
+            Answer::Backlog(own, map) => send_filtered(number, own, map, output),
+            Answer::Committed(accepted) => output.send_count(number, *accepted),
+            Answer::News(accepted, filters, differences) => {
+                send_news(number, *accepted, filters, differences, output)
+            }
+        }
+    }
+}
+
+/// The word of an item's outcome.
+fn outcome_word(refusal: Option<Refusal>) -> &'static str
+    ensures { result.now ≡ outcome_word refusal }
+{
+    match refusal {
+        None => "accepted",
+        Some(refusal) => refusal.word(),
+    }
+}
