@@ -1,0 +1,97 @@
+//! The answers of a function at each item of a slice.
+
+ghost use Rattle.std.specs.Prelude.{◌≡◌, ℕ, ◌+◌, ◌<◌, ◌≤◌, length, IfOk};
+ghost use Rattle.std.specs.Fn.{FnReturnsAt};
+ghost use Rattle.lgm_par.specs.Pieces.{piece_start, piece_of, AcceptsItem, AcceptsAll, GivesAll};
+
+use crate::gate::Gate;
+use std::alloc::{AllocError, Global};
+use std::thread;
+use std::thread::Threads;
+
+/// Where a piece begins.
+#[tactic(auto, unfolding(crate::specs::Pieces::piece_start))]
+fn start_of(len: usize, pieces: usize, piece: usize) -> usize
+    requires some { 0 < pieces }
+    requires within { piece ≤ pieces }
+    ensures is { result ≡ piece_start len pieces piece }
+    ensures bound { result ≤ len }
+{
+    piece * (len / pieces) + piece.min(len % pieces)
+}
+
+/// The items of a piece.
+#[tactic(auto, using(crate::proofs::Cutting::starts_rise))]
+pub(crate) fn piece_at<T>(items: &[T], pieces: usize, piece: usize) -> &[T]
+    requires { piece < pieces }
+    ensures { result.now ≡ piece_of items.now pieces piece }
+{
+    let start = start_of(items.len(), pieces, piece);
+    let end = start_of(items.len(), pieces, piece + 1);
+    let (_, rest) = items.split_at(start);
+    let (part, _) = rest.split_at(end - start);
+    part
+}
+
+/// The answer of one item.
+fn answer_at<T, A, F: Fn(&T) -> A>(f: &F, item: &T) -> A
+    requires { AcceptsItem F.Fn f.now item.now }
+    ensures { FnReturnsAt F.Fn f.now item.now result }
+{
+    f(item)
+}
+
+/// The answers of one piece.
+fn map_piece<T, A: Drop, F: Fn(&T) -> A>(
+    alloc: Global,
+    items: &[T],
+    f: &F,
+) -> Result<Vec<A>, AllocError>
+    requires { AcceptsAll F.Fn f.now items.now }
+    ensures { IfOk result (λ answers. GivesAll F.Fn f.now items.now answers.items) }
+{
+    let mut answers = Vec::new(alloc);
+    for item in items {
+        answers.push(answer_at(f, item))?;
+    }
+    Ok(answers)
+}
+
+/// The answers of `f` at each item, in the slice's order, whatever the number of workers and
+/// whatever the gate does.
+///
+/// The slice of n items is cut into p pieces that lie one after the other, p the lesser of
+/// `workers` and n; the first `n mod p` of them are one item longer than the others. Each piece
+/// passes the gate with its number, from 0, and is then done, side by side with the others: on a
+/// thread of its own, or on one that is there where no more can be started. An empty slice starts
+/// no thread and passes no gate. The call waits for all pieces.
+///
+/// `f` must be callable on each item. `AllocError` comes where memory for a list of answers was
+/// refused; what `f` answered until then is dropped.
+pub fn map_chunks<Rt: Threads + Sync, G: Gate, T: Sync, A: Send + Drop, F: Fn(&T) -> A + Sync>(
+    rt: &Rt,
+    alloc: Global,
+    workers: usize,
+    gate: &G,
+    items: &[T],
+    f: &F,
+) -> Result<Vec<A>, AllocError>
+    requires workers { (1 ≤ workers) × (workers ≤ 64) }
+    requires accepts { AcceptsAll F.Fn f.now items.now }
+    ensures { IfOk result (λ answers. GivesAll F.Fn f.now items.now answers.items) }
+{
+    let pieces = workers.min(items.len());
+    let work = |piece: usize| -> Result<Vec<A>, AllocError>
+        requires { (piece < pieces) × AcceptsAll F.Fn f.now items.now }
+        ensures { IfOk result (λ answers. GivesAll F.Fn f.entry.now (piece_of items.entry.now pieces piece) answers.items) }
+    {
+        gate.pass(piece);
+        map_piece(alloc, piece_at(items, pieces, piece), f)
+    };
+    let parts = thread::map_indices(rt, alloc, pieces, &work)?;
+    let mut answers = Vec::new(alloc);
+    for part in parts {
+        answers.append(&mut part?)?;
+    }
+    Ok(answers)
+}

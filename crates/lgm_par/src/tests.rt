@@ -1,0 +1,128 @@
+use crate::gate::{Gate, Open};
+use crate::mapping::{map_chunks, piece_at};
+use std::alloc::Global;
+use std::sync::atomic::{AtomicU64, Ordering};
+use std::thread;
+
+/// The most turns that a piece is held.
+const LIMIT: u64 = 100_000_000;
+
+/// Counts what passes, and holds each piece below a number until so many have begun to pass.
+#[derive(Drop)]
+struct Holding {
+    below: usize,
+    wanted: u64,
+    begun: AtomicU64,
+    pieces: AtomicU64,
+    turns: AtomicU64,
+}
+
+impl Gate for Holding {
+    fn pass(&self, piece: usize) {
+        self.begun.fetch_add(1, Ordering::SeqCst);
+        if piece < 64 {
+            self.pieces.fetch_or(1 << piece, Ordering::SeqCst);
+        }
+        if piece >= self.below {
+            return;
+        }
+        let mut turns = 0;
+        for turn in 0..LIMIT {
+            turns = turn + 1;
+            if self.begun.load(Ordering::SeqCst) >= self.wanted {
+                break;
+            }
+            thread::yield_now();
+        }
+        self.turns.fetch_add(turns, Ordering::SeqCst);
+    }
+}
+
+/// A gate that holds the pieces below a number until so many have begun.
+fn held_below(below: usize, wanted: u64) -> Holding {
+    Holding {
+        below,
+        wanted,
+        begun: AtomicU64::new(0),
+        pieces: AtomicU64::new(0),
+        turns: AtomicU64::new(0),
+    }
+}
+
+/// Only counts.
+fn counting() -> Holding {
+    held_below(0, 0)
+}
+
+fn double(x: &u32) -> u64 {
+    u64::from(*x) * 2
+}
+
+#[test]
+fn ten_items_in_three_pieces(rt: HostRuntime) {
+    let alloc: Global = rt.alloc();
+    let items = [1, 2, 3, 4, 5, 6, 7, 8, 9, 10];
+    let gate = counting();
+    let answers = map_chunks(&rt, alloc, 3, &gate, &items, &double).expect(&rt, "memory");
+    assert_eq!(rt;
+        answers.as_slice(),
+        [2, 4, 6, 8, 10, 12, 14, 16, 18, 20].as_slice()
+    );
+    assert_eq!(rt; gate.begun.load(Ordering::SeqCst), 3);
+    assert_eq!(rt; gate.pieces.load(Ordering::SeqCst), 7);
+    assert_eq!(rt; piece_at(&items, 3, 0).len(), 4);
+    assert_eq!(rt; piece_at(&items, 3, 1).len(), 3);
+    assert_eq!(rt; piece_at(&items, 3, 2).len(), 3);
+}
+
+#[test]
+fn more_workers_than_items(rt: HostRuntime) {
+    let alloc: Global = rt.alloc();
+    let gate = counting();
+    let answers = map_chunks(&rt, alloc, 64, &gate, &[1, 2, 3], &double).expect(&rt, "memory");
+    assert_eq!(rt; answers.as_slice(), [2, 4, 6].as_slice());
+    assert_eq!(rt; gate.begun.load(Ordering::SeqCst), 3);
+    assert_eq!(rt; gate.pieces.load(Ordering::SeqCst), 7);
+}
+
+#[test]
+fn no_items(rt: HostRuntime) {
+    let alloc: Global = rt.alloc();
+    let gate = counting();
+    let answers = map_chunks(&rt, alloc, 4, &gate, &[], &double).expect(&rt, "memory");
+    assert_eq!(rt; answers.len(), 0);
+    assert_eq!(rt; gate.begun.load(Ordering::SeqCst), 0);
+}
+
+#[test]
+fn open_gate(rt: HostRuntime) {
+    let alloc: Global = rt.alloc();
+    let answers = map_chunks(&rt, alloc, 1, &Open, &[1, 2], &double).expect(&rt, "memory");
+    assert_eq!(rt; answers.as_slice(), [2, 4].as_slice());
+}
+
+// The first piece waits for the second, so both run at once.
+#[test]
+fn first_piece_waits_for_the_second(rt: HostRuntime) {
+    let alloc: Global = rt.alloc();
+    let gate = held_below(1, 2);
+    let answers = map_chunks(&rt, alloc, 2, &gate, &[1, 2], &double).expect(&rt, "memory");
+    assert_eq!(rt; answers.as_slice(), [2, 4].as_slice());
+    let turns = gate.turns.load(Ordering::SeqCst);
+    assert!(rt; 0 < turns && turns < LIMIT, "ended at the limit");
+}
+
+// Each of 64 pieces waits for all.
+#[test]
+fn all_pieces_at_once(rt: HostRuntime) {
+    let alloc: Global = rt.alloc();
+    let items = [3; 64];
+    let gate = held_below(64, 64);
+    let answers = map_chunks(&rt, alloc, 64, &gate, &items, &double).expect(&rt, "memory");
+    assert_eq!(rt; answers.as_slice(), [6; 64].as_slice());
+    assert_eq!(rt; gate.begun.load(Ordering::SeqCst), 64);
+    assert!(rt;
+        gate.turns.load(Ordering::SeqCst) < LIMIT,
+        "ended at the limit"
+    );
+}
