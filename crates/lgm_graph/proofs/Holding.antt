@@ -1,0 +1,138 @@
+-- A view of rows holds exactly their edges.
+use Rattle.std.proofs.Common.{◌≡◌, ◌⊎◌, inl, inr, ◌↔◌, ℕ, Bool, true, false, not, List, [], ◌∷◌, get_or, refl, sym, ap, subst, ◌∙◌, Option, Some, None}
+use Rattle.std.specs.List.{IsDistinct, Contains, filter_map, cons_option}
+use Rattle.std.specs.declared.cmp.Ordering.{Ordering}
+use Rattle.std.specs.declared.cmp.Ordering.TheVariants.{Less, Equal, Greater}
+use Rattle.std.specs.Ordering.{ordering_reverse}
+use Rattle.lgm_store.specs.Sound.{direction_cmp}
+use Rattle.lgm_gossip.specs.declared.point.Point.{Point}
+use Rattle.lgm_check.specs.declared.row.ChannelRow.{ChannelRow}
+use Rattle.lgm_check.specs.declared.row.UpdateRow.{UpdateRow}
+use Rattle.lgm_store.specs.Rows.{Rows, IsAscending, is_point, is_second, channel_of}
+use Rattle.lgm_store.proofs.Lists.{direction_total}
+use Rattle.lgm_graph.specs.declared.edge.Edge.{Edge}
+use Rattle.lgm_graph.specs.declared.link.Link.{Link}
+use Rattle.lgm_graph.specs.Edges.{edge_of, edge_in, end_of, carrying, edges_of, takes_payments, AreDirections}
+use Rattle.lgm_graph.specs.Graph.{Graph, IsGraphOf, IsJoined, IsNumbered, number_of, link_of, edge_at, links, edges}
+use Rattle.lgm_graph.specs.Lists.{to_key, IsCut}
+use Rattle.lgm_graph.proofs.Numbers.{get_number}
+use Rattle.lgm_graph.proofs.Places.{get_map}
+use Rattle.lgm_graph.proofs.Carrying.{IsOfChannel, carrying_of, carrying_cut, edge_in-some}
+use Rattle.lgm_graph.proofs.Linking.{Among, Contains-Among, Among-Contains, Among-map, Among-mapped, Among-passes, Among-passed, All_among, zipped_in, zipped_out, link_at, link_there, back_again}
+
+module _ (rows : Rows) (graph : Graph) (distinct : IsDistinct is_point graph.points) (beside : IsGraphOf rows graph) where
+  abbrev takes_to : Edge → Bool
+  takes_to edge = takes_payments graph.known rows.nodes edge.to
+
+  joined_one : (edge : Edge) → Among (carrying rows) edge → IsJoined graph.points edge
+  joined_one edge there = All_among (IsJoined graph.points) (carrying rows) edge beside.shows.joined there
+
+  -- whether an end takes payments stands at its number
+  flag_at : (p : Point) → IsNumbered graph.points p → get_or graph.takes (number_of graph.points p) false ≡ takes_payments graph.known rows.nodes p
+  flag_at p there = ap (λ ts. get_or ts (number_of graph.points p) false) beside.takes
+      ∙ get_map (takes_payments graph.known rows.nodes) graph.points (number_of graph.points p) p false there
+      ∙ ap (takes_payments graph.known rows.nodes) (get_number graph.points p p there)
+
+  held_link : (edge : Edge) → Among (edges_of graph.known rows) edge → Among (links graph) (link_of graph.points edge)
+  held_link edge there =
+      let passed = Among-passed takes_to (carrying rows) edge there in
+      let both = joined_one edge passed.0 in
+      let at : Among (get_or graph.into (number_of graph.points edge.to) []) (link_of graph.points edge) =
+      rw (beside.shows.into_is) (link_there graph.points distinct (carrying rows) beside.shows.joined (λ e. e.to) edge passed.0 both.1) in
+      zipped_in graph.takes graph.into (number_of graph.points edge.to) (link_of graph.points edge) (flag_at edge.to both.1 ∙ passed.1) at
+
+  held_edge : (edge : Edge) → Among (edges graph) edge → Among (edges_of graph.known rows) edge
+  held_edge edge there =
+      let link = Among-mapped (edge_at graph.points) (links graph) edge there in
+      let place = zipped_out graph.takes graph.into link.0 link.1 in
+      let at = subst (λ (ls : List (List Link)). Among (get_or ls place.0 []) link.0) beside.shows.into_is place.2 in
+      let made = link_at graph.points distinct (carrying rows) beside.shows.joined (λ e. e.to) place.0 link.0 at in
+      let both = joined_one made.0 made.1 in
+      let own : made.0 ≡ edge = sym (back_again graph.points distinct (carrying rows) beside.shows.joined made.0 both) ∙ ap (edge_at graph.points) made.2 ∙ link.2 in
+      let flag : takes_to made.0 ≡ true = sym (flag_at made.0.to both.1) ∙ ap (λ n. get_or graph.takes n false) made.3 ∙ place.1 in
+      rw (← own) (Among-passes takes_to (carrying rows) made.0 made.1 flag)
+
+  pub holds : (edge : Edge) → Contains (edges graph) edge ↔ Contains (edges_of graph.known rows) edge
+  holds edge = (
+    λ there. Contains-Among (edges_of graph.known rows) edge (held_edge edge (Among-Contains (edges graph) edge there)),
+    λ there. let among = Among-Contains (edges_of graph.known rows) edge there in
+        let both = joined_one edge (Among-passed takes_to (carrying rows) edge among).0 in
+        Contains-Among (edges graph) edge (rw (← back_again graph.points distinct (carrying rows) beside.shows.joined edge both)
+        (Among-map (edge_at graph.points) (links graph) (link_of graph.points edge) (held_link edge among))),
+  )
+
+-- ---- directions
+
+Among-filter_map : {X Y : Type 0} (g : X → Option Y) (xs : List X) (y : Y) → Among (filter_map g xs) y → (x : X) × Among xs x × (g x ≡ Some y)
+Among-filter_map g [] y none = absurd none
+Among-filter_map g (x ∷ xs) y there = by (Among-filter_map g xs y) (g x) refl there
+  where
+    by : (Among (filter_map g xs) y → (z : _) × Among xs z × (g z ≡ Some y)) → (o : Option _) → g x ≡ o → Among (cons_option (g x) (filter_map g xs)) y → (z : _) × Among (x ∷ xs) z × (g z ≡ Some y)
+    by others None is there = let rest = others (rw is at there) in (rest.0, inr rest.1, rest.2)
+    by others (Some z) is there = which (rw is at there)
+      where
+        which : (z ≡ y) ⊎ Among (filter_map g xs) y → (w : _) × Among (x ∷ xs) w × (g w ≡ Some y)
+        which (inl same) = (x, inl refl, is ∙ ap Some same)
+        which (inr more) = let rest = others more in (rest.0, inr rest.1, rest.2)
+
+-- along the answers one element is at the cut
+cut_once : {X : Type 0} (f : X → Ordering) (xs : List X) (x y : X) → IsCut f xs → Among xs x → Among xs y → f x ≡ Equal → f y ≡ Equal → x ≡ y
+cut_once f [] x y cut none there one two = absurd none
+cut_once f (z ∷ zs) x y (inl below) (inl same) there one two = absurd (let l : f z ≡ Less = below.0 in let e : f z ≡ Equal = ap f same ∙ one in cc)
+cut_once f (z ∷ zs) x y (inl below) (inr more) (inl same) one two = absurd (let l : f z ≡ Less = below.0 in let e : f z ≡ Equal = ap f same ∙ two in cc)
+cut_once f (z ∷ zs) x y (inl below) (inr more) (inr also) one two = cut_once f zs x y below.1 more also one two
+cut_once f (z ∷ zs) x y (inr above) (inl same) (inl also) one two = sym same ∙ also
+cut_once f (z ∷ zs) x y (inr above) (inl same) (inr also) one two = absurd (let g : f y ≡ Greater = All_among (λ w. f w ≡ Greater) zs y above.1 also in cc)
+cut_once f (z ∷ zs) x y (inr above) (inr more) there one two = absurd (let g : f x ≡ Greater = All_among (λ w. f w ≡ Greater) zs x above.1 more in cc)
+
+other_direction : (b c : Bool) → (b ≡ c) ⊎ (not b ≡ c)
+other_direction true true = inl refl
+other_direction true false = inr refl
+other_direction false true = inr refl
+other_direction false false = inl refl
+
+twice_not : (b : Bool) → not (not b) ≡ b
+twice_not true = refl
+twice_not false = refl
+
+self_equal : (o : Ordering) → o ≡ ordering_reverse o → o ≡ Equal
+self_equal Less e = absurd cc
+self_equal Equal e = refl
+self_equal Greater e = absurd cc
+
+key_of : (channels : List ChannelRow) (row : UpdateRow) (e : Edge) → edge_in channels row ≡ Some e → (e.scid ≡ row.message.short_channel_id) × (e.second ≡ is_second row)
+unfolding edge_of
+key_of channels row e is = let found = edge_in-some channels row e is in rw (found.2) (refl, refl)
+
+pub are_directions : (known : Option (List ℕ)) (rows : Rows) → IsAscending rows → AreDirections (edges_of known rows)
+are_directions known rows ascend edge other there also same = by (other_direction edge.second other.second)
+  where
+    carried : (e : Edge) → Contains (edges_of known rows) e → Among (carrying rows) e
+    carried e is = (Among-passed (λ e. takes_payments known rows.nodes e.to) (carrying rows) e (Among-Contains (edges_of known rows) e is)).0
+
+    one : IsOfChannel rows.channels edge
+    one = All_among (IsOfChannel rows.channels) (carrying rows) edge (carrying_of rows.channels rows.updates) (carried edge there)
+
+    two : IsOfChannel rows.channels other
+    two = All_among (IsOfChannel rows.channels) (carrying rows) other (carrying_of rows.channels rows.updates) (carried other also)
+
+    channel : one.channel ≡ two.channel
+    channel = let h : Some one.channel ≡ Some two.channel = sym one.held ∙ ap (channel_of rows.channels) same ∙ two.held in cc
+
+    equal : (id : ℕ) (second : Bool) (e : Edge) → e.scid ≡ id → e.second ≡ second → to_key id second e ≡ Equal
+    equal id second e a b = rw (a, b) (self_equal (direction_cmp (id, second) (id, second)) (direction_total.antisymm (id, second) (id, second)))
+
+    same_edge : edge.second ≡ other.second → edge ≡ other
+    same_edge direction =
+        let made = Among-filter_map (edge_in rows.channels) rows.updates edge (carried edge there) in
+        let key = key_of rows.channels made.0 edge made.2 in
+        cut_once (to_key made.0.message.short_channel_id (is_second made.0)) (carrying rows) edge other (carrying_cut rows.channels rows.updates made.0 ascend.updates) (carried edge there) (carried other also)
+        (equal made.0.message.short_channel_id (is_second made.0) edge key.0 key.1)
+        (equal made.0.message.short_channel_id (is_second made.0) other (sym same ∙ key.0) (sym direction ∙ key.1))
+
+    by : (edge.second ≡ other.second) ⊎ (not edge.second ≡ other.second) → (edge ≡ other) ⊎ ((edge.from ≡ other.to) × (edge.to ≡ other.from))
+    by (inl direction) = inl (same_edge direction)
+    by (inr turned) = inr (
+      one.from ∙ ap (λ (c : ChannelRow). end_of c edge.second) channel ∙ ap (end_of two.channel) (sym (twice_not edge.second) ∙ ap not turned) ∙ sym two.to,
+      one.to ∙ ap (λ (c : ChannelRow). end_of c (not edge.second)) channel ∙ ap (end_of two.channel) turned ∙ sym two.from,
+    )

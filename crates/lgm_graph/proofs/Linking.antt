@@ -1,0 +1,216 @@
+-- Each link stands with its ends, and nowhere else.
+use Rattle.std.proofs.Common.{◌≡◌, ◌⊎◌, inl, inr, ℕ, ◌<◌, Bool, true, false, cond, List, [], ◌∷◌, ◌++◌, length, map, get_or, zero, suc, refl, sym, ap, subst, ◌∙◌, arith, true≢false}
+use Rattle.std.specs.Prelude.{if◌then◌else◌}
+use Rattle.std.specs.List.{AllByRecursion, IsDistinct, Contains, filter, flat_map, zip}
+use Rattle.std.proofs.lemmas.List.{length-map}
+use Rattle.std.proofs.lemmas.Map.Keys.{IsDistinct-head, IsDistinct-tail}
+use Rattle.lgm_gossip.specs.declared.point.Point.{Point}
+use Rattle.lgm_store.specs.Rows.{is_point}
+use Rattle.lgm_store.proofs.Counting.{same_point, is_point-self}
+use Rattle.lgm_graph.specs.declared.edge.Edge.{Edge}
+use Rattle.lgm_graph.specs.declared.link.Link.{Link}
+use Rattle.lgm_graph.specs.Graph.{Graph, IsLinked, AreLinked, IsJoined, IsNumbered, number_of, no_point, link_of, edge_at, links, links_into, links_leaving, links_by}
+use Rattle.lgm_graph.specs.Sound.{IsSound}
+use Rattle.lgm_graph.proofs.Numbers.{get_number}
+use Rattle.lgm_graph.proofs.Showing.{links_at, get_links, turned}
+
+-- ---- members
+
+-- an element of the list
+abbrev pub Among : {X : Type 0} → List X → X → Type 0
+Among [] x = ⊥
+Among (y ∷ ys) x = (y ≡ x) ⊎ Among ys x
+
+module _ {X : Type 0} where
+  pub Contains-Among : (xs : List X) (x : X) → Among xs x → Contains xs x
+  Contains-Among [] x none = absurd none
+  Contains-Among (y ∷ ys) x (inl same) = (zero, omega arith, same)
+  Contains-Among (y ∷ ys) x (inr more) = let rest = Contains-Among ys x more in (suc rest.0, omega (arith, rest.1), rest.2)
+
+  at_place : (xs : List X) (k : ℕ) (x : X) → k < length xs → get_or xs k x ≡ x → Among xs x
+  at_place [] k x lt same = absurd (omega (arith, lt))
+  at_place (y ∷ ys) zero x lt same = inl same
+  at_place (y ∷ ys) (suc k) x lt same = inr (at_place ys k x (omega (arith, lt)) same)
+
+  pub Among-Contains : (xs : List X) (x : X) → Contains xs x → Among xs x
+  Among-Contains xs x there = at_place xs there.0 x there.1 there.2
+
+  pub Among-left : (xs ys : List X) (x : X) → Among xs x → Among (xs ++ ys) x
+  Among-left [] ys x none = absurd none
+  Among-left (z ∷ zs) ys x (inl same) = inl same
+  Among-left (z ∷ zs) ys x (inr more) = inr (Among-left zs ys x more)
+
+  pub Among-right : (xs ys : List X) (x : X) → Among ys x → Among (xs ++ ys) x
+  Among-right [] ys x there = there
+  Among-right (z ∷ zs) ys x there = inr (Among-right zs ys x there)
+
+  pub Among-either : (xs ys : List X) (x : X) → Among (xs ++ ys) x → Among xs x ⊎ Among ys x
+  Among-either [] ys x there = inr there
+  Among-either (z ∷ zs) ys x (inl same) = inl (inl same)
+  Among-either (z ∷ zs) ys x (inr more) = by (Among-either zs ys x more)
+    where
+      by : Among zs x ⊎ Among ys x → Among (z ∷ zs) x ⊎ Among ys x
+      by (inl first) = inl (inr first)
+      by (inr second) = inr second
+
+  pub Among-passes : (p : X → Bool) (xs : List X) (x : X) → Among xs x → p x ≡ true → Among (filter p xs) x
+  Among-passes p [] x none is = absurd none
+  Among-passes p (y ∷ ys) x there is = by (Among-passes p ys x) (p y) refl there
+    where
+      by : (Among ys x → p x ≡ true → Among (filter p ys) x) → (b : Bool) → p y ≡ b → (y ≡ x) ⊎ Among ys x → Among (cond (p y) (y ∷ filter p ys) (filter p ys)) x
+      by others true e (inl same) = rw e (inl same)
+      by others true e (inr more) = rw e (inr (others more is))
+      by others false e (inl same) = absurd (true≢false (sym is ∙ ap p (sym same) ∙ e))
+      by others false e (inr more) = rw e (others more is)
+
+  pub Among-passed : (p : X → Bool) (xs : List X) (x : X) → Among (filter p xs) x → Among xs x × (p x ≡ true)
+  Among-passed p [] x none = absurd none
+  Among-passed p (y ∷ ys) x there = by (Among-passed p ys x) (p y) refl there
+    where
+      by : (Among (filter p ys) x → Among ys x × (p x ≡ true)) → (b : Bool) → p y ≡ b → Among (cond (p y) (y ∷ filter p ys) (filter p ys)) x → Among (y ∷ ys) x × (p x ≡ true)
+      by others true e there = which (rw e at there)
+        where
+          which : (y ≡ x) ⊎ Among (filter p ys) x → Among (y ∷ ys) x × (p x ≡ true)
+          which (inl same) = (inl same, ap p (sym same) ∙ e)
+          which (inr more) = let rest = others more in (inr rest.0, rest.1)
+      by others false e there = let rest = others (rw e at there) in (inr rest.0, rest.1)
+
+  pub All_among : (P : X → Type 0) (xs : List X) (x : X) → AllByRecursion P xs → Among xs x → P x
+  All_among P [] x all none = absurd none
+  All_among P (y ∷ ys) x all (inl same) = rw (← same) all.0
+  All_among P (y ∷ ys) x all (inr more) = All_among P ys x all.1 more
+
+module _ {X Y : Type 0} (f : X → Y) where
+  pub Among-mapped : (xs : List X) (y : Y) → Among (map f xs) y → (x : X) × Among xs x × (f x ≡ y)
+  Among-mapped [] y none = absurd none
+  Among-mapped (x ∷ xs) y (inl same) = (x, inl refl, same)
+  Among-mapped (x ∷ xs) y (inr more) = let rest = Among-mapped xs y more in (rest.0, inr rest.1, rest.2)
+
+  pub Among-map : (xs : List X) (x : X) → Among xs x → Among (map f xs) (f x)
+  Among-map [] x none = absurd none
+  Among-map (y ∷ ys) x (inl same) = inl (ap f same)
+  Among-map (y ∷ ys) x (inr more) = inr (Among-map ys x more)
+
+-- ---- lists by number
+
+module _ {X Y : Type 0} (f : X → List Y) where
+  among_at : (xs : List X) (n : ℕ) (d : X) (y : Y) → Among (get_or (map f xs) n []) y → (n < length xs) × Among (f (get_or xs n d)) y
+  among_at [] n d y none = absurd none
+  among_at (x ∷ xs) zero d y there = (omega arith, there)
+  among_at (x ∷ xs) (suc n) d y there = let rest = among_at xs n d y there in (omega (arith, rest.0), rest.1)
+
+abbrev taken : {Y : Type 0} → Bool × List Y → List Y
+taken node = if node.0 then node.1 else []
+
+module _ {Y : Type 0} where
+  pub zipped_in : (takes : List Bool) (into : List (List Y)) (n : ℕ) (y : Y) → get_or takes n false ≡ true → Among (get_or into n []) y → Among (flat_map (λ (node : Bool × List Y). if node.0 then node.1 else []) (zip takes into)) y
+  zipped_in [] into n y is there = absurd (true≢false (sym is))
+  zipped_in (b ∷ bs) [] n y is there = absurd there
+  zipped_in (b ∷ bs) (l ∷ ls) zero y is there = Among-left (if b then l else []) _ y (let here : Among (if b then l else []) y = rw is there in here)
+  zipped_in (b ∷ bs) (l ∷ ls) (suc n) y is there = Among-right (if b then l else []) _ y (zipped_in bs ls n y is there)
+
+  pub zipped_out : (takes : List Bool) (into : List (List Y)) (y : Y) → Among (flat_map (λ (node : Bool × List Y). if node.0 then node.1 else []) (zip takes into)) y
+      → (n : ℕ) × (get_or takes n false ≡ true) × Among (get_or into n []) y
+  zipped_out [] into y none = absurd none
+  zipped_out (b ∷ bs) [] y none = absurd none
+  zipped_out (b ∷ bs) (l ∷ ls) y there = by (zipped_out bs ls y) (Among-either (if b then l else []) _ y there)
+    where
+      here : (c : Bool) → Among (if c then l else []) y → (c ≡ true) × Among l y
+      here true there = (refl, there)
+      here false there = absurd there
+
+      by : (Among (flat_map (λ (node : Bool × List Y). if node.0 then node.1 else []) (zip bs ls)) y → (n : ℕ) × (get_or bs n false ≡ true) × Among (get_or ls n []) y)
+          → Among (if b then l else []) y ⊎ Among (flat_map (λ (node : Bool × List Y). if node.0 then node.1 else []) (zip bs ls)) y
+          → (n : ℕ) × (get_or (b ∷ bs) n false ≡ true) × Among (get_or (l ∷ ls) n []) y
+      by others (inl first) = let is = here b first in (zero, is.0, is.1)
+      by others (inr second) = let rest = others second in (suc rest.0, rest.1, rest.2)
+
+-- a point's number is its place
+pub number_at : (points : List Point) (n : ℕ) (d : Point) → IsDistinct is_point points → n < length points → number_of points (get_or points n d) ≡ n
+number_at [] n d distinct lt = absurd (omega (arith, lt))
+number_at (p ∷ ps) zero d distinct lt = rw (is_point-self p) refl
+number_at (p ∷ ps) (suc n) d distinct lt =
+    let inner : n < length ps = omega (arith, lt) in
+    rw (turned p (get_or ps n d) (at ps n (IsDistinct-head is_point p ps distinct) inner)) (omega (arith, number_at ps n d (IsDistinct-tail is_point p ps distinct) inner))
+  where
+    at : (qs : List Point) (m : ℕ) → AllByRecursion (λ q. is_point p q ≡ false) qs → m < length qs → is_point p (get_or qs m d) ≡ false
+    at [] m all lt = absurd (omega (arith, lt))
+    at (q ∷ qs) zero all lt = all.0
+    at (q ∷ qs) (suc m) all lt = at qs m all.1 (omega (arith, lt))
+
+-- ---- links
+
+module _ (points : List Point) (distinct : IsDistinct is_point points) (edges : List Edge) (joined : AllByRecursion (IsJoined points) edges) where
+  -- a link at a node is that of an edge with this end
+  pub link_at : (end : Edge → Point) (n : ℕ) (link : Link) → Among (get_or (links_by end points edges) n []) link
+      → (edge : Edge) × Among edges edge × (link_of points edge ≡ link) × (number_of points (end edge) ≡ n)
+  link_at end n link there =
+      let here = among_at (links_at end points edges) points n no_point link there in
+      let made = Among-mapped (link_of points) (filter (λ e. is_point (get_or points n no_point) (end e)) edges) link here.1 in
+      let passed = Among-passed (λ e. is_point (get_or points n no_point) (end e)) edges made.0 made.1 in
+      (made.0, passed.0, made.2, ap (number_of points) (sym (same_point (get_or points n no_point) (end made.0) passed.1)) ∙ number_at points n no_point distinct here.0)
+
+  -- and an edge's link is at its ends
+  pub link_there : (end : Edge → Point) (edge : Edge) → Among edges edge → IsNumbered points (end edge) → Among (get_or (links_by end points edges) (number_of points (end edge)) []) (link_of points edge)
+  link_there end edge there numbered =
+      rw (get_links end points edges (end edge) numbered)
+      (Among-map (link_of points) (filter (λ e. is_point (end edge) (end e)) edges) edge (Among-passes (λ e. is_point (end edge) (end e)) edges edge there (is_point-self (end edge))))
+
+  pub back_again : (edge : Edge) → IsJoined points edge → edge_at points (link_of points edge) ≡ edge
+  back_again edge both = rw (get_number points edge.from no_point both.0, get_number points edge.to no_point both.1) refl
+
+pub are_linked : (graph : Graph) → IsDistinct is_point graph.points → IsSound graph → AreLinked graph
+are_linked graph distinct sound = record {
+  long = sound.long;
+  wide = ap length sound.shows.into_is ∙ length-map graph.points (links_at (λ e. e.to) graph.points sound.edges);
+  unique = distinct;
+  each = λ link there. each link (zipped_out graph.takes graph.into link (Among-Contains (links graph) link there));
+  into = λ n link there. into n link (Among-Contains (links_into graph n) link there);
+  leaving = λ n link there. leaving n link (Among-Contains (links_leaving graph n) link there);
+}
+  where
+    points : List Point
+    points = graph.points
+
+    joined : (edge : Edge) → Among sound.edges edge → IsJoined graph.points edge
+    joined edge there = All_among (IsJoined graph.points) sound.edges edge sound.shows.joined there
+
+    made_into : (n : ℕ) (link : Link) → Among (get_or graph.into n []) link → (edge : Edge) × Among sound.edges edge × (link_of graph.points edge ≡ link) × (number_of graph.points edge.to ≡ n)
+    made_into n link there = link_at graph.points distinct sound.edges sound.shows.joined (λ e. e.to) n link (rw (sound.shows.into_is) at there)
+
+    made_out : (n : ℕ) (link : Link) → Among (get_or graph.out n []) link → (edge : Edge) × Among sound.edges edge × (link_of graph.points edge ≡ link) × (number_of graph.points edge.from ≡ n)
+    made_out n link there = link_at graph.points distinct sound.edges sound.shows.joined (λ e. e.from) n link (rw (sound.shows.out_is) at there)
+
+    takes_it : (n : ℕ) (link : Link) → Among (links_into graph n) link → (get_or graph.takes n false ≡ true) × Among (get_or graph.into n []) link
+    takes_it n link there = by (get_or graph.takes n false) refl there
+      where
+        by : (b : Bool) → get_or graph.takes n false ≡ b → Among (if get_or graph.takes n false then get_or graph.into n [] else []) link → (get_or graph.takes n false ≡ true) × Among (get_or graph.into n []) link
+        by true e there = (e, rw e at there)
+        by false e there = let none : ⊥ = rw e at there in absurd none
+
+    into : (n : ℕ) (link : Link) → Among (links_into graph n) link → (link.to ≡ n) × Contains (links graph) link
+    into n link there =
+        let is = takes_it n link there in
+        let made = made_into n link is.1 in
+        (ap (λ (l : Link). l.to) (sym made.2) ∙ made.3, Contains-Among (links graph) link (zipped_in graph.takes graph.into n link is.0 is.1))
+
+    leaving : (n : ℕ) (link : Link) → Among (links_leaving graph n) link → (link.from ≡ n) × (link.to < length graph.points)
+    leaving n link there =
+        let made = made_out n link there in
+        (ap (λ (l : Link). l.from) (sym made.2) ∙ made.3, rw (← made.2) (joined made.0 made.1).1)
+
+    each : (link : Link) → (n : ℕ) × (get_or graph.takes n false ≡ true) × Among (get_or graph.into n []) link → IsLinked graph link
+    each link place =
+        let made = made_into place.0 link place.2 in
+        let both = joined made.0 made.1 in
+        let end : link.to ≡ place.0 = ap (λ (l : Link). l.to) (sym made.2) ∙ made.3 in
+        let here : Among (links_into graph place.0) link = rw (place.1) place.2 in
+        let out : Among (get_or graph.out (number_of graph.points made.0.from) []) (link_of graph.points made.0) =
+        rw (sound.shows.out_is) (link_there graph.points distinct sound.edges sound.shows.joined (λ e. e.from) made.0 made.1 both.0) in
+        record {
+          from = rw (← made.2) both.0;
+          to = rw (← made.2) both.1;
+          there = Contains-Among (links_into graph link.to) link (subst (λ n. Among (links_into graph n) link) (sym end) here);
+          leaves = Contains-Among (links_leaving graph link.from) link (rw (← made.2) out);
+          back = rw (← made.2) (ap (link_of graph.points) (back_again graph.points distinct sound.edges sound.shows.joined made.0 both));
+        }

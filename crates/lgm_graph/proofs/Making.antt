@@ -1,0 +1,111 @@
+-- Nodes numbered, and edges put behind the others.
+use Rattle.std.proofs.Common.{◌≡◌, ℕ, ◌<◌, ◌^◌, Bool, true, false, cond, not, ◌&&◌, List, [], ◌∷◌, ◌++◌, length, map, set, get_or, refl, sym, ap, subst, ◌∙◌, Option, Some, None}
+use Rattle.std.proofs.lemmas.List.{length-map}
+use Rattle.std.specs.Bool.{beq}
+use Rattle.std.specs.List.{IsDistinct, find}
+use Rattle.std.specs.Option.{option_and_then}
+use Rattle.lgm_gossip.specs.declared.point.Point.{Point}
+use Rattle.lgm_check.specs.declared.row.ChannelRow.{ChannelRow}
+use Rattle.lgm_check.specs.declared.row.UpdateRow.{UpdateRow}
+use Rattle.lgm_store.specs.Rows.{Rows, is_point, is_second, update_of}
+use Rattle.lgm_graph.specs.declared.edge.Edge.{Edge}
+use Rattle.lgm_graph.specs.declared.link.Link.{Link}
+use Rattle.lgm_graph.specs.declared.nodes.Nodes.{Nodes}
+use Rattle.lgm_graph.specs.Edges.{edge_of, edge_on, end_of, carrying, takes_payments}
+use Rattle.lgm_graph.specs.Graph.{Graph, IsGraphOf, number_of, IsNumbered, IsJoined, linked, Shows}
+use Rattle.lgm_graph.specs.Sound.{graph_in, links_in, ShowsIn, IsSound}
+use Rattle.lgm_graph.specs.Walk.{edge_of_direction}
+use Rattle.lgm_graph.proofs.Carrying.{edge_on-is}
+use Rattle.lgm_graph.proofs.Showing.{links_at, shows_push}
+
+-- ---- nodes that look alike
+
+module _ (old new : Nodes) (same : (known : Option (List ℕ)) → graph_in known new ≡ graph_in known old) where
+  pub same_points : new.points.keys ≡ old.points.keys
+  same_points = ap (λ (g : Graph). g.points) (same None)
+
+  pub same_takes : new.takes.items ≡ old.takes.items
+  same_takes = ap (λ (g : Graph). g.takes) (same None)
+
+  pub same_into : map links_in new.into.items ≡ map links_in old.into.items
+  same_into = ap (λ (g : Graph). g.into) (same None)
+
+  pub same_out : map links_in new.out.items ≡ map links_in old.out.items
+  same_out = ap (λ (g : Graph). g.out) (same None)
+
+  pub same_shows : (edges : List Edge) → ShowsIn edges old → ShowsIn edges new
+  same_shows edges = subst (λ (g : Graph). Shows edges g.points g.into g.out) (sym (same None))
+
+-- each node has its lists
+module _ (edges : List Edge) (nodes : Nodes) (shows : ShowsIn edges nodes) where
+  pub into_long : length nodes.into.items ≡ length nodes.points.keys
+  into_long = sym (length-map nodes.into.items links_in) ∙ ap length shows.into_is ∙ length-map nodes.points.keys (links_at (λ e. e.to) nodes.points.keys edges)
+
+  pub out_long : length nodes.out.items ≡ length nodes.points.keys
+  out_long = sym (length-map nodes.out.items links_in) ∙ ap length shows.out_is ∙ length-map nodes.points.keys (links_at (λ e. e.from) nodes.points.keys edges)
+
+-- ---- the ends of a direction
+
+pub end_numbered : (points : List Point) (channel : ChannelRow) (second : Bool) → IsNumbered points channel.message.node_id_1 → IsNumbered points channel.message.node_id_2 → IsNumbered points (end_of channel second)
+end_numbered points channel true first other = other
+end_numbered points channel false first other = first
+
+found_passes : {X : Type 0} (p : X → Bool) (xs : List X) (x : X) → find p xs ≡ Some x → p x ≡ true
+found_passes p [] x is = absurd cc
+found_passes p (y ∷ ys) x is = by (found_passes p ys x) (p y) refl is
+  where
+    by : (find p ys ≡ Some x → p x ≡ true) → (b : Bool) → p y ≡ b → cond (p y) (Some y) (find p ys) ≡ Some x → p x ≡ true
+    by others true e is = let h : Some y ≡ Some x = rw e at is in let own : y ≡ x = cc in rw (← own) e
+    by others false e is = others (rw e at is)
+
+both_true : (a b : Bool) → (a && b) ≡ true → (a ≡ true) × (b ≡ true)
+both_true true b is = (refl, is)
+both_true false b is = absurd cc
+
+same_bool : (a b : Bool) → beq a b ≡ true → a ≡ b
+same_bool true true is = refl
+same_bool false false is = refl
+same_bool true false is = absurd cc
+same_bool false true is = absurd cc
+
+-- an update that is found is of its direction
+pub update_second : (updates : List UpdateRow) (id : ℕ) (second : Bool) (row : UpdateRow) → update_of updates id second ≡ Some row → is_second row ≡ second
+update_second updates id second row is = same_bool (is_second row) second (both_true _ (beq (is_second row) second) (found_passes _ updates row is)).1
+
+pub edge_from : (channel : ChannelRow) (row : UpdateRow) (edge : Edge) → Some edge ≡ edge_on channel row → edge.from ≡ end_of channel (is_second row)
+unfolding edge_of
+edge_from channel row edge is = rw (edge_on-is channel row edge (sym is)) refl
+
+pub edge_to : (channel : ChannelRow) (row : UpdateRow) (edge : Edge) → Some edge ≡ edge_on channel row → edge.to ≡ end_of channel (not (is_second row))
+unfolding edge_of
+edge_to channel row edge is = rw (edge_on-is channel row edge (sym is)) refl
+
+-- the edge of a direction
+pub direction_some : (updates : List UpdateRow) (channel : ChannelRow) (id : ℕ) (second : Bool) (row : UpdateRow) (edge : Edge) → id ≡ channel.message.short_channel_id
+    → Some row ≡ update_of updates id second → Some edge ≡ edge_on channel row → edge_of_direction updates channel second ≡ Some edge
+direction_some updates channel id second row edge own found is =
+    ap (option_and_then (edge_on channel)) (ap (λ id. update_of updates id second) (sym own) ∙ sym found) ∙ sym is
+
+-- ---- a further edge
+
+pub pushed : (old mid new : Nodes) (edges : List Edge) (edge : Edge) (from to : ℕ) (link : Link) → IsDistinct is_point old.points.keys
+    → ((known : Option (List ℕ)) → graph_in known mid ≡ graph_in known old)
+    → from ≡ number_of old.points.keys edge.from → to ≡ number_of old.points.keys edge.to → link ≡ linked edge from to → IsJoined old.points.keys edge
+    → new.points.keys ≡ mid.points.keys
+    → map links_in new.into.items ≡ set (map links_in mid.into.items) to (get_or (map links_in mid.into.items) to [] ++ link ∷ [])
+    → map links_in new.out.items ≡ set (map links_in mid.out.items) from (get_or (map links_in mid.out.items) from [] ++ link ∷ [])
+    → ShowsIn edges old → ShowsIn (edges ++ edge ∷ []) new
+pushed old mid new edges edge from to link distinct same from_is to_is link_is joined points into out shows =
+    rw (points, into, out, link_is, from_is, to_is, same_points old mid same, same_into old mid same, same_out old mid same)
+    (shows_push edges old.points.keys (map links_in old.into.items) (map links_in old.out.items) edge distinct joined shows)
+
+-- ---- whole
+
+-- the view of some rows is sound
+pub sound_of : (rows : Rows) (graph : Graph) → IsGraphOf rows graph → length graph.points < 2 ^ 32 → IsSound graph
+sound_of rows graph beside few = record {
+  few = few;
+  long = ap length beside.takes ∙ length-map graph.points (takes_payments graph.known rows.nodes);
+  edges = carrying rows;
+  shows = beside.shows;
+}

@@ -1,0 +1,72 @@
+-- A point looked up, and numbered where it isn't.
+use Rattle.std.proofs.Common.{◌≡◌, ℕ, ◌+◌, ◌<◌, ◌≤◌, ltb, suc, Bool, true, false, cond, ◌||◌, List, [], ◌∷◌, ◌++◌, length, map, refl, ap, ◌∙◌, Option, Some, None, arith, true≢false, length-append}
+use Rattle.std.specs.List.{list_any, position}
+use Rattle.std.proofs.lemmas.List.{map-append}
+use Rattle.std.proofs.lemmas.Bool.Decides.{nat_tests}
+use Rattle.lgm_gossip.specs.declared.point.Point.{Point}
+use Rattle.lgm_check.specs.declared.row.NodeRow.{NodeRow}
+use Rattle.lgm_store.specs.Rows.{is_point}
+use Rattle.lgm_graph.specs.declared.edge.Edge.{Edge}
+use Rattle.lgm_graph.specs.declared.nodes.Nodes.{Nodes}
+use Rattle.lgm_graph.specs.Edges.{takes_payments}
+use Rattle.lgm_graph.specs.Graph.{number_of, IsNumbered}
+use Rattle.lgm_graph.specs.Sound.{graph_in, links_in, ShowsIn, AreLookedAt}
+use Rattle.lgm_graph.specs.Walk.{KeepsNumbers}
+use Rattle.lgm_graph.proofs.Showing.{shows_more, numbered_append, numbered_last}
+use Rattle.lgm_graph.proofs.Making.{same_points, same_takes, same_into, same_out}
+
+pub any_numbered : (points : List Point) (p : Point) → list_any (is_point p) points ≡ true → IsNumbered points p
+any_numbered [] p any = absurd cc
+any_numbered (r ∷ rs) p any = by (any_numbered rs p) (is_point p r) refl any
+  where
+    by : (list_any (is_point p) rs ≡ true → IsNumbered rs p) → (b : Bool) → is_point p r ≡ b → (is_point p r || list_any (is_point p) rs) ≡ true → IsNumbered (r ∷ rs) p
+    by others true e any = rw e (omega arith)
+    by others false e any = let there = others (rw e at any) in rw e (omega (arith, there))
+
+pub any_not : (points : List Point) (p : Point) → list_any (is_point p) points ≡ false → IsNumbered points p → ⊥
+any_not [] p any there = omega (arith, there)
+any_not (r ∷ rs) p any there = by (any_not rs p) (is_point p r) refl any there
+  where
+    by : (list_any (is_point p) rs ≡ false → IsNumbered rs p → ⊥) → (b : Bool) → is_point p r ≡ b → (is_point p r || list_any (is_point p) rs) ≡ false → IsNumbered (r ∷ rs) p → ⊥
+    by others true e any there = let h : true ≡ false = rw e at any in true≢false h
+    by others false e any there =
+        let next : 1 + number_of rs p ≡ suc (number_of rs p) = omega arith in
+        let fits : suc (number_of rs p) < suc (length rs) = rw (e, next) at there in
+        others (rw e at any) (omega (arith, fits))
+
+-- no point is found, so there is none
+pub position_none : (points : List Point) (p : Point) → position (is_point p) points ≡ None → list_any (is_point p) points ≡ false
+position_none points p none = by (list_any (is_point p) points) refl
+  where
+    found : IsNumbered points p → (b : Bool) → ltb (number_of points p) (length points) ≡ b → cond (ltb (number_of points p) (length points)) (Some (number_of points p)) None ≡ None → ⊥
+    found there true e is = let h : Some (number_of points p) ≡ None = rw e at is in absurd cc
+    found there false e is = let le : length points ≤ number_of points p = grind (arith, nat_tests) in omega (arith, le, there)
+
+    by : (b : Bool) → list_any (is_point p) points ≡ b → list_any (is_point p) points ≡ false
+    by true e = absurd (found (any_numbered points p e) (ltb (number_of points p) (length points)) refl none)
+    by false e = e
+
+module _ (old mid new : Nodes) (point : Point) (takes : Bool) (other : list_any (is_point point) old.points.keys ≡ false)
+    (same : (known : Option (List ℕ)) → graph_in known mid ≡ graph_in known old)
+    (points_is : new.points.keys ≡ mid.points.keys ++ point ∷ []) (takes_is : new.takes.items ≡ mid.takes.items ++ takes ∷ [])
+    (into_is : map links_in new.into.items ≡ map links_in mid.into.items ++ [] ∷ []) (out_is : map links_in new.out.items ≡ map links_in mid.out.items ++ [] ∷ []) where
+  pub further_points : new.points.keys ≡ old.points.keys ++ point ∷ []
+  further_points = points_is ∙ ap (λ ps. ps ++ point ∷ []) (same_points old mid same)
+
+  pub further_number : (number_of new.points.keys point ≡ length old.points.keys) × IsNumbered new.points.keys point
+  further_number = rw further_points (numbered_last old.points.keys point (any_not old.points.keys point other))
+
+  pub further_keeps : KeepsNumbers old.points.keys new.points.keys
+  further_keeps = rw further_points (numbered_append old.points.keys point)
+
+  pub further_few : length new.points.keys ≤ length old.points.keys + 1
+  further_few = omega (arith, ap length further_points, length-append old.points.keys (point ∷ []))
+
+  pub further_takes : (known : Option (List ℕ)) (rows : List NodeRow) → takes ≡ takes_payments known rows point → AreLookedAt known rows old → AreLookedAt known rows new
+  further_takes known rows own all =
+      rw (takes_is, further_points, same_takes old mid same, all, own, map-append (takes_payments known rows) old.points.keys (point ∷ [])) refl
+
+  pub further_shows : (edges : List Edge) → ShowsIn edges old → ShowsIn edges new
+  further_shows edges shows =
+      rw (further_points, into_is, out_is, same_into old mid same, same_out old mid same)
+      (shows_more edges old.points.keys (map links_in old.into.items) (map links_in old.out.items) point (any_not old.points.keys point other) shows)

@@ -1,0 +1,265 @@
+-- Edges that stand with their ends, as they change.
+use Rattle.std.proofs.Common.{◌≡◌, ◌≢◌, inl, inr, ℕ, ◌+◌, ◌<◌, Bool, true, false, cond, List, [], ◌∷◌, ◌++◌, length, map, set, get_or, suc, refl, sym, ap, ◌∙◌, Option, Some, None, option_to_list, arith, true≢false, length-append}
+use Rattle.std.specs.Option.{option_map}
+use Rattle.std.specs.List.{AllByRecursion, IsDistinct, filter}
+use Rattle.std.specs.declared.cmp.Ordering.{Ordering}
+use Rattle.std.specs.declared.cmp.Ordering.TheVariants.{Equal, Greater}
+use Rattle.std.specs.Ordering.{is_lt, is_gt}
+use Rattle.std.proofs.lemmas.List.{map-append}
+use Rattle.std.proofs.lemmas.List.Elements.{filter-append}
+use Rattle.std.proofs.lemmas.Map.Keys.{IsDistinct-head, IsDistinct-tail}
+use Rattle.lgm_gossip.specs.declared.point.Point.{Point}
+use Rattle.lgm_store.specs.Rows.{is_point}
+use Rattle.lgm_store.proofs.Counting.{same_point, is_point-self}
+use Rattle.lgm_graph.specs.declared.edge.Edge.{Edge}
+use Rattle.lgm_graph.specs.declared.link.Link.{Link}
+use Rattle.lgm_graph.specs.Graph.{number_of, IsNumbered, IsJoined, link_of, links_by, Shows}
+use Rattle.lgm_graph.specs.Lists.{to_key, link_key, IsCut, put_at}
+use Rattle.lgm_graph.specs.Walk.{KeepsNumbers}
+use Rattle.lgm_graph.proofs.Carrying.{All_to, IsCut-filter, put_at-none, option_filter, filter-put}
+use Rattle.lgm_graph.proofs.Numbers.{get_number}
+use Rattle.lgm_graph.proofs.Places.{get_map}
+
+-- ---- lists
+
+module _ {X Y : Type 0} where
+  pub map_alike : (F G : X → Y) (xs : List X) → AllByRecursion (λ x. F x ≡ G x) xs → map F xs ≡ map G xs
+  map_alike F G [] all = refl
+  map_alike F G (x ∷ xs) all = rw (all.0, map_alike F G xs all.1) refl
+
+  -- a test behind a map is one before it
+  pub filter-map : (f : X → Y) (p : Y → Bool) (xs : List X) → filter p (map f xs) ≡ map f (filter (λ x. p (f x)) xs)
+  filter-map f p [] = refl
+  filter-map f p (x ∷ xs) = by (filter-map f p xs) (p (f x)) refl
+    where
+      by : filter p (map f xs) ≡ map f (filter (λ x. p (f x)) xs) → (b : Bool) → p (f x) ≡ b
+          → cond (p (f x)) (f x ∷ filter p (map f xs)) (filter p (map f xs)) ≡ map f (cond (p (f x)) (x ∷ filter (λ x. p (f x)) xs) (filter (λ x. p (f x)) xs))
+      by others true e = rw e (ap (λ l. f x ∷ l) others)
+      by others false e = rw e others
+
+  pub put_at-map : (f : X → Y) (h : Y → Ordering) (xs : List X) (o : Option X) → put_at h (map f xs) (option_map f o) ≡ map f (put_at (λ x. h (f x)) xs o)
+  put_at-map f h xs o =
+      rw (filter-map f (λ y. is_lt (h y)) xs, filter-map f (λ y. is_gt (h y)) xs, one o)
+      (sym (map-append f (filter (λ x. is_lt (h (f x))) xs ++ option_to_list o) (filter (λ x. is_gt (h (f x))) xs)
+      ∙ rw (map-append f (filter (λ x. is_lt (h (f x))) xs) (option_to_list o)) refl))
+    where
+      one : (o : Option X) → option_to_list (option_map f o) ≡ map f (option_to_list o)
+      one None = refl
+      one (Some x) = refl
+
+pub All-test : {X : Type 0} (P : X → Type 0) (p : X → Bool) (xs : List X) → AllByRecursion P xs → AllByRecursion P (filter p xs)
+All-test P p [] all = tt
+All-test P p (x ∷ xs) all = by (All-test P p xs all.1) (p x) refl
+  where
+    by : AllByRecursion P (filter p xs) → (b : Bool) → p x ≡ b → AllByRecursion P (cond (p x) (x ∷ filter p xs) (filter p xs))
+    by others true is = rw is (all.0, others)
+    by others false is = rw is others
+
+-- what passes, beside what holds of each
+pub passing : {X : Type 0} (P : X → Type 0) (p : X → Bool) (xs : List X) → AllByRecursion P xs → AllByRecursion (λ x. P x × (p x ≡ true)) (filter p xs)
+passing P p [] all = tt
+passing P p (x ∷ xs) all = by (passing P p xs all.1) (p x) refl
+  where
+    by : AllByRecursion (λ x. P x × (p x ≡ true)) (filter p xs) → (b : Bool) → p x ≡ b → AllByRecursion (λ x. P x × (p x ≡ true)) (cond (p x) (x ∷ filter p xs) (filter p xs))
+    by others true e = rw e ((all.0, e), others)
+    by others false e = rw e others
+
+pub All_append : {X : Type 0} (P : X → Type 0) (xs ys : List X) → AllByRecursion P xs → AllByRecursion P ys → AllByRecursion P (xs ++ ys)
+All_append P [] ys all more = more
+All_append P (x ∷ xs) ys all more = (all.0, All_append P xs ys all.1 more)
+
+pub append-none : {X : Type 0} (ys : List X) → ys ++ [] ≡ ys
+append-none [] = refl
+append-none (y ∷ ys) = ap (λ l. y ∷ l) (append-none ys)
+
+pub turned : (p q : Point) → is_point p q ≡ false → is_point q p ≡ false
+turned p q apart = by (is_point q p) refl
+  where
+    by : (b : Bool) → is_point q p ≡ b → is_point q p ≡ false
+    by true e = let self : is_point p q ≡ true = ap (is_point p) (same_point q p e) ∙ is_point-self p in absurd (true≢false (sym self ∙ apart))
+    by false e = e
+
+-- ---- one place
+
+-- one place of a map over distinct points changes
+pub map_at : {Y : Type 0} (F G : Point → Y) (points : List Point) (p : Point) → IsDistinct is_point points → number_of points p < length points
+    → ((q : Point) → is_point p q ≡ false → G q ≡ F q) → set (map F points) (number_of points p) (G p) ≡ map G points
+map_at F G [] p distinct there other = absurd (omega (arith, there))
+map_at F G (q ∷ qs) p distinct there other = by (map_at F G qs p (IsDistinct-tail is_point q qs distinct)) (is_point p q) refl there
+  where
+    rest : p ≡ q → map F qs ≡ map G qs
+    rest same = map_alike F G qs (All_to _ _ qs (λ r apart. sym (other r (ap (λ s. is_point s r) same ∙ apart))) (IsDistinct-head is_point q qs distinct))
+
+    by : (number_of qs p < length qs → ((r : Point) → is_point p r ≡ false → G r ≡ F r) → set (map F qs) (number_of qs p) (G p) ≡ map G qs)
+        → (b : Bool) → is_point p q ≡ b → number_of (q ∷ qs) p < suc (length qs) → set (F q ∷ map F qs) (number_of (q ∷ qs) p) (G p) ≡ G q ∷ map G qs
+    by others true e lt = let same : p ≡ q = same_point p q e in rw (e, same, rest same) refl
+    by others false e lt =
+        let next : 1 + number_of qs p ≡ suc (number_of qs p) = omega arith in
+        let fits : suc (number_of qs p) < suc (length qs) = rw (e, next) at lt in
+        rw (e, next, sym (other q e)) (ap (λ l. G q ∷ l) (others (omega (arith, fits)) other))
+
+module _ (end : Edge → Point) (points : List Point) where
+  -- the links of a point
+  abbrev pub links_at : List Edge → Point → List Link
+  links_at edges point = map (link_of points) (filter (λ edge. is_point point (end edge)) edges)
+
+  pub get_links : (edges : List Edge) (p : Point) → IsNumbered points p → get_or (links_by end points edges) (number_of points p) [] ≡ links_at edges p
+  get_links edges p there = get_map (links_at edges) points (number_of points p) p [] there ∙ ap (links_at edges) (get_number points p p there)
+
+  -- the edges change at one point
+  pub links_by-set : (edges new : List Edge) (p : Point) → IsDistinct is_point points → IsNumbered points p → ((q : Point) → is_point p q ≡ false → links_at new q ≡ links_at edges q)
+      → set (links_by end points edges) (number_of points p) (links_at new p) ≡ links_by end points new
+  links_by-set edges new p distinct there other = map_at (links_at edges) (links_at new) points p distinct there other
+
+  -- ---- a further edge
+
+  pub links_push : (edges : List Edge) (edge : Edge) → IsDistinct is_point points → IsNumbered points (end edge)
+      → set (links_by end points edges) (number_of points (end edge)) (get_or (links_by end points edges) (number_of points (end edge)) [] ++ link_of points edge ∷ [])
+      ≡ links_by end points (edges ++ edge ∷ [])
+  links_push edges edge distinct there =
+      ap (set (links_by end points edges) (number_of points (end edge))) (rw (get_links edges (end edge) there) (sym own))
+      ∙ links_by-set edges (edges ++ edge ∷ []) (end edge) distinct there other
+    where
+      own : links_at (edges ++ edge ∷ []) (end edge) ≡ links_at edges (end edge) ++ link_of points edge ∷ []
+      own = rw (filter-append (λ e. is_point (end edge) (end e)) edges (edge ∷ []), is_point-self (end edge)) (map-append (link_of points) (filter (λ e. is_point (end edge) (end e)) edges) (edge ∷ []))
+
+      other : (q : Point) → is_point (end edge) q ≡ false → links_at (edges ++ edge ∷ []) q ≡ links_at edges q
+      other q apart = rw (filter-append (λ e. is_point q (end e)) edges (edge ∷ []), turned (end edge) q apart, append-none (filter (λ e. is_point q (end e)) edges)) refl
+
+  -- ---- an edge put in its place
+
+  module _ (id : ℕ) (second : Bool) (edges : List Edge) (edge : Option Edge) (target : Point) (cut : IsCut (to_key id second) edges)
+      (all : AllByRecursion (λ e. to_key id second e ≡ Equal → end e ≡ target) edges) (own : (e : Edge) → edge ≡ Some e → end e ≡ target) where
+    -- the links of a point are in order
+    pub links_cut : (p : Point) → IsCut (link_key id second) (links_at edges p)
+    links_cut p = IsCut-links (filter (λ e. is_point p (end e)) edges) (IsCut-filter (to_key id second) (λ e. is_point p (end e)) edges cut)
+      where
+        above : (es : List Edge) → AllByRecursion (λ e. to_key id second e ≡ Greater) es → AllByRecursion (λ l. link_key id second l ≡ Greater) (map (link_of points) es)
+        above [] a = tt
+        above (e ∷ es) a = (a.0, above es a.1)
+
+        IsCut-links : (es : List Edge) → IsCut (to_key id second) es → IsCut (link_key id second) (map (link_of points) es)
+        IsCut-links [] cut = tt
+        IsCut-links (e ∷ es) (inl below) = inl (below.0, IsCut-links es below.1)
+        IsCut-links (e ∷ es) (inr more) = inr (more.0, above es more.1)
+
+    pub links_put : IsDistinct is_point points → IsNumbered points target
+        → set (links_by end points edges) (number_of points target) (put_at (link_key id second) (get_or (links_by end points edges) (number_of points target) []) (option_map (link_of points) edge))
+        ≡ links_by end points (put_at (to_key id second) edges edge)
+    links_put distinct there =
+        ap (set (links_by end points edges) (number_of points target)) (rw (get_links edges target there) (sym at_target))
+        ∙ links_by-set edges (put_at (to_key id second) edges edge) target distinct there other
+      where
+        test : Point → Edge → Bool
+        test = λ p e. is_point p (end e)
+
+        stays : (o : Option Edge) → edge ≡ o → option_filter (λ e. is_point target (end e)) o ≡ o
+        stays None is = refl
+        stays (Some e) is = let self : is_point target (end e) ≡ true = ap (is_point target) (own e is) ∙ is_point-self target in rw self refl
+
+        at_target : links_at (put_at (to_key id second) edges edge) target ≡ put_at (link_key id second) (links_at edges target) (option_map (link_of points) edge)
+        at_target = ap (map (link_of points)) (filter-put (to_key id second) (λ e. is_point target (end e)) edges edge
+            ∙ ap (put_at (to_key id second) (filter (λ e. is_point target (end e)) edges)) (stays edge refl))
+            ∙ sym (put_at-map (link_of points) (link_key id second) (filter (λ e. is_point target (end e)) edges) edge)
+
+        never : (p : Point) → is_point target p ≡ false → (e : Edge) → end e ≡ target → is_point p (end e) ≡ true → ⊥
+        never p other e is passes =
+            let same : p ≡ target = same_point p (end e) passes ∙ is in
+            let self : is_point target p ≡ true = ap (is_point target) same ∙ is_point-self target in
+            true≢false (sym self ∙ other)
+
+        gone : (p : Point) → is_point target p ≡ false → (o : Option Edge) → edge ≡ o → option_filter (λ e. is_point p (end e)) o ≡ None
+        gone p other None is = refl
+        gone p other (Some e) is = by (is_point p (end e)) refl
+          where
+            by : (b : Bool) → is_point p (end e) ≡ b → cond (is_point p (end e)) (Some e) None ≡ None
+            by true t = absurd (never p other e (own e is) t)
+            by false t = rw t refl
+
+        apart : (p : Point) → is_point target p ≡ false → AllByRecursion (λ e. to_key id second e ≢ Equal) (filter (λ e. is_point p (end e)) edges)
+        apart p other = All_to (λ e. (to_key id second e ≡ Equal → end e ≡ target) × (is_point p (end e) ≡ true)) (λ e. to_key id second e ≢ Equal) _
+            (λ e is k. never p other e (is.0 k) is.1) (passing (λ e. to_key id second e ≡ Equal → end e ≡ target) (λ e. is_point p (end e)) edges all)
+
+        other : (q : Point) → is_point target q ≡ false → links_at (put_at (to_key id second) edges edge) q ≡ links_at edges q
+        other q away = ap (map (link_of points)) (filter-put (to_key id second) (λ e. is_point q (end e)) edges edge
+            ∙ ap (put_at (to_key id second) (filter (λ e. is_point q (end e)) edges)) (gone q away edge refl)
+            ∙ put_at-none (to_key id second) (filter (λ e. is_point q (end e)) edges) (IsCut-filter (to_key id second) (λ e. is_point q (end e)) edges cut) (apart q away))
+
+-- ---- a further point
+
+pub number_append : (points : List Point) (p q : Point) → IsNumbered points q → number_of (points ++ p ∷ []) q ≡ number_of points q
+number_append [] p q there = absurd (omega (arith, there))
+number_append (r ∷ rs) p q there = by (number_append rs p q) (is_point q r) refl there
+  where
+    by : (number_of rs q < length rs → number_of (rs ++ p ∷ []) q ≡ number_of rs q) → (b : Bool) → is_point q r ≡ b → number_of (r ∷ rs) q < suc (length rs)
+        → number_of (r ∷ (rs ++ p ∷ [])) q ≡ number_of (r ∷ rs) q
+    by others true e lt = rw e refl
+    by others false e lt =
+        let next : 1 + number_of rs q ≡ suc (number_of rs q) = omega arith in
+        let fits : suc (number_of rs q) < suc (length rs) = rw (e, next) at lt in
+        rw e (ap (λ n. 1 + n) (others (omega (arith, fits))))
+
+pub numbered_append : (points : List Point) (p : Point) → KeepsNumbers points (points ++ p ∷ [])
+numbered_append points p q there = let same = number_append points p q there in (same, omega (arith, same, there, length-append points (p ∷ [])))
+
+pub numbered_last : (points : List Point) (p : Point) → (IsNumbered points p → ⊥) → (number_of (points ++ p ∷ []) p ≡ length points) × IsNumbered (points ++ p ∷ []) p
+numbered_last [] p new = rw (is_point-self p) (refl, omega arith)
+numbered_last (r ∷ rs) p new = by (numbered_last rs p) (is_point p r) refl new
+  where
+    by : ((IsNumbered rs p → ⊥) → (number_of (rs ++ p ∷ []) p ≡ length rs) × IsNumbered (rs ++ p ∷ []) p) → (b : Bool) → is_point p r ≡ b → (IsNumbered (r ∷ rs) p → ⊥)
+        → (number_of (r ∷ (rs ++ p ∷ [])) p ≡ suc (length rs)) × IsNumbered (r ∷ (rs ++ p ∷ [])) p
+    by others true e new = let there : IsNumbered (r ∷ rs) p = rw e (omega arith) in absurd (new there)
+    by others false e new =
+        let rest = others (λ h. new (let there : IsNumbered (r ∷ rs) p = rw e (omega (arith, h)) in there)) in
+        rw e (omega (arith, rest.0), omega (arith, rest.1))
+
+-- edges by numbers stay
+links_kept : (points more : List Point) (edges : List Edge) → KeepsNumbers points more → AllByRecursion (IsJoined points) edges
+    → AllByRecursion (λ e. link_of points e ≡ link_of more e) edges
+links_kept points more edges keeps joined = All_to (IsJoined points) (λ e. link_of points e ≡ link_of more e) edges
+    (λ e both. let from = keeps e.from both.0 in let to = keeps e.to both.1 in rw (from.0, to.0) refl) joined
+
+-- no edge has an end without a number
+none_at : (end : Edge → Point) (points : List Point) (p : Point) (edges : List Edge) → (IsNumbered points p → ⊥) → AllByRecursion (λ e. IsNumbered points (end e)) edges
+    → filter (λ e. is_point p (end e)) edges ≡ []
+none_at end points p [] new all = refl
+none_at end points p (e ∷ es) new all = by (none_at end points p es new all.1) (is_point p (end e)) refl
+  where
+    by : filter (λ e. is_point p (end e)) es ≡ [] → (b : Bool) → is_point p (end e) ≡ b → cond (is_point p (end e)) (e ∷ filter (λ e. is_point p (end e)) es) (filter (λ e. is_point p (end e)) es) ≡ []
+    by others true is = absurd (new (rw (same_point p (end e) is) all.0))
+    by others false is = rw is others
+
+pub links_more : (end : Edge → Point) (points : List Point) (p : Point) (edges : List Edge) → (IsNumbered points p → ⊥) → AllByRecursion (λ e. IsNumbered points (end e)) edges
+    → AllByRecursion (IsJoined points) edges → links_by end points edges ++ [] ∷ [] ≡ links_by end (points ++ p ∷ []) edges
+links_more end points p edges new all joined =
+    sym (map-append (links_at end (points ++ p ∷ []) edges) points (p ∷ [])
+    ∙ rw (none_at end points p edges new all, map_alike (links_at end (points ++ p ∷ []) edges) (links_at end points edges) points (each points)) refl)
+  where
+    each : (qs : List Point) → AllByRecursion (λ q. links_at end (points ++ p ∷ []) edges q ≡ links_at end points edges q) qs
+    each [] = tt
+    each (q ∷ qs) = (
+      sym (map_alike (link_of points) (link_of (points ++ p ∷ [])) (filter (λ e. is_point q (end e)) edges)
+          (All-test (λ e. link_of points e ≡ link_of (points ++ p ∷ []) e) (λ e. is_point q (end e)) edges (links_kept points (points ++ p ∷ []) edges (numbered_append points p) joined))),
+      each qs,
+    )
+
+pub shows_more : (edges : List Edge) (points : List Point) (into out : List (List Link)) (p : Point) → (IsNumbered points p → ⊥) → Shows edges points into out
+    → Shows edges (points ++ p ∷ []) (into ++ [] ∷ []) (out ++ [] ∷ [])
+shows_more edges points into out p new shows = record {
+  joined = All_to (IsJoined points) (IsJoined (points ++ p ∷ [])) edges
+      (λ e both. ((numbered_append points p e.from both.0).1, (numbered_append points p e.to both.1).1)) shows.joined;
+  into_is = ap (λ ls. ls ++ [] ∷ []) shows.into_is ∙ links_more (λ e. e.to) points p edges new (All_to (IsJoined points) (λ e. IsNumbered points e.to) edges (λ e both. both.1) shows.joined) shows.joined;
+  out_is = ap (λ ls. ls ++ [] ∷ []) shows.out_is ∙ links_more (λ e. e.from) points p edges new (All_to (IsJoined points) (λ e. IsNumbered points e.from) edges (λ e both. both.0) shows.joined) shows.joined;
+}
+
+-- ---- whole
+
+pub shows_push : (edges : List Edge) (points : List Point) (into out : List (List Link)) (edge : Edge) → IsDistinct is_point points → IsJoined points edge → Shows edges points into out
+    → Shows (edges ++ edge ∷ []) points
+    (set into (number_of points edge.to) (get_or into (number_of points edge.to) [] ++ link_of points edge ∷ []))
+    (set out (number_of points edge.from) (get_or out (number_of points edge.from) [] ++ link_of points edge ∷ []))
+shows_push edges points into out edge distinct both shows = record {
+  joined = All_append (IsJoined points) edges (edge ∷ []) shows.joined (both, tt);
+  into_is = rw (shows.into_is) (links_push (λ e. e.to) points edges edge distinct both.1);
+  out_is = rw (shows.out_is) (links_push (λ e. e.from) points edges edge distinct both.0);
+}

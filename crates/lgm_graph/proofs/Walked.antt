@@ -1,0 +1,86 @@
+-- A walk of the channels, step by step.
+use Rattle.std.proofs.Common.{◌≡◌, ℕ, ◌+◌, ◌*◌, ◌<◌, ◌≤◌, Bool, true, false, List, [], ◌∷◌, ◌++◌, length, map, append_assoc, Option, refl, sym, ap, subst, ◌∙◌, arith, length-append}
+use Rattle.std.specs.List.{flat_map}
+use Rattle.std.proofs.lemmas.Grind.{flat_map-append}
+use Rattle.lgm_check.specs.declared.row.ChannelRow.{ChannelRow}
+use Rattle.lgm_store.specs.declared.held.Held.{Held}
+use Rattle.lgm_store.specs.Held.{update_in}
+use Rattle.lgm_store.specs.HeldAt.{held_at}
+use Rattle.lgm_store.specs.Rows.{Rows, IsAscending, update_of}
+use Rattle.lgm_graph.specs.declared.edge.Edge.{Edge}
+use Rattle.lgm_graph.specs.declared.nodes.Nodes.{Nodes}
+use Rattle.lgm_graph.specs.Edges.{carrying}
+use Rattle.lgm_graph.specs.Graph.{Graph, IsGraphOf, IsNumbered, Shows}
+use Rattle.lgm_graph.specs.Sound.{graph_in, ShowsIn, AreLookedAt}
+use Rattle.lgm_graph.specs.Walk.{KeepsNumbers, HasWalked, edges_of_channel}
+use Rattle.lgm_graph.proofs.Carrying.{All_to}
+use Rattle.lgm_graph.proofs.Showing.{All_append, append-none}
+use Rattle.lgm_graph.proofs.ByChannel.{by_channel}
+
+-- an update of a channel in a walk is that of its direction
+pub held_update : (rows : Rows) (channel : ChannelRow) (second : Bool) → update_in second (held_at rows channel) ≡ update_of rows.updates channel.message.short_channel_id second
+held_update rows channel true = refl
+held_update rows channel false = refl
+
+-- few points
+pub walked_points : (rows : Rows) (left : List Held) (graph : Graph) → HasWalked rows left graph → length graph.points ≤ 2 * length rows.channels
+walked_points rows left graph walked = omega (arith, walked.few, ap length walked.parts, length-append walked.done walked.rest)
+
+pub walked_few : (rows : Rows) (left : List Held) (graph : Graph) → HasWalked rows left graph → length rows.channels ≤ 2000000000 → length graph.points + 2 < 4294967296
+walked_few rows left graph walked few = omega (arith, walked_points rows left graph walked, few)
+
+-- the next one is a channel with its updates
+pub walked_own : (rows : Rows) (held : Held) (left : List Held) (graph : Graph) → HasWalked rows (held ∷ left) graph → held ≡ held_at rows held.channel
+walked_own rows held left graph walked = by walked.rest walked.left_is
+  where
+    by : (rest : List ChannelRow) → held ∷ left ≡ map (held_at rows) rest → held ≡ held_at rows held.channel
+    by [] is = absurd cc
+    by (channel ∷ rest) is =
+        let own : held ≡ held_at rows channel = cc in
+        own ∙ ap (held_at rows) (sym (ap (λ (h : Held). h.channel) own))
+
+module _ (known : Option (List ℕ)) (rows : Rows) (held : Held) (left : List Held) (old new : Nodes)
+    (few : length new.points.keys ≤ length old.points.keys + 2) (kept : KeepsNumbers old.points.keys new.points.keys)
+    (first : IsNumbered new.points.keys held.channel.message.node_id_1) (second : IsNumbered new.points.keys held.channel.message.node_id_2)
+    (takes : AreLookedAt known rows.nodes old → AreLookedAt known rows.nodes new)
+    (shows : (edges : List Edge) → ShowsIn edges old → ShowsIn (edges ++ edges_of_channel rows.updates held.channel) new) where
+  pub walked_more : HasWalked rows (held ∷ left) (graph_in known old) → HasWalked rows left (graph_in known new)
+  walked_more walked = by walked.rest walked.parts walked.left_is
+    where
+      more : flat_map (edges_of_channel rows.updates) (walked.done ++ held.channel ∷ []) ≡ flat_map (edges_of_channel rows.updates) walked.done ++ edges_of_channel rows.updates held.channel
+      more = flat_map-append (edges_of_channel rows.updates) walked.done (held.channel ∷ []) ∙ ap (λ l. flat_map (edges_of_channel rows.updates) walked.done ++ l) (append-none (edges_of_channel rows.updates held.channel))
+
+      by : (rest : List ChannelRow) → rows.channels ≡ walked.done ++ rest → held ∷ left ≡ map (held_at rows) rest → HasWalked rows left (graph_in known new)
+      by [] parts is = absurd cc
+      by (channel ∷ rest) parts is =
+          let own : held ≡ held_at rows channel = cc in
+          let others : left ≡ map (held_at rows) rest = cc in
+          let same : held.channel ≡ channel = ap (λ (h : Held). h.channel) own in
+          record {
+            done = walked.done ++ held.channel ∷ [];
+            rest = rest;
+            parts = parts ∙ ap (λ c. walked.done ++ c ∷ rest) (sym same) ∙ sym (append_assoc walked.done (held.channel ∷ []) rest);
+            left_is = others;
+            few = omega (arith, few, walked.few, length-append walked.done (held.channel ∷ []));
+            ends = All_append _ walked.done (held.channel ∷ []) (All_to _ _ walked.done (λ c both. ((kept c.message.node_id_1 both.0).1, (kept c.message.node_id_2 both.1).1)) walked.ends) ((first, second), tt);
+            takes = takes walked.takes;
+            shows = subst (λ es. ShowsIn es new) (sym more) (shows (flat_map (edges_of_channel rows.updates) walked.done) walked.shows);
+          }
+
+-- the whole walk
+pub walked_all : (rows : Rows) (graph : Graph) → IsAscending rows → HasWalked rows [] graph → IsGraphOf rows graph
+walked_all rows graph ascend walked = record {
+  ends = rw all walked.ends;
+  takes = walked.takes;
+  shows = subst (λ es. Shows es graph.points graph.into graph.out) edges walked.shows;
+}
+  where
+    none : (rest : List ChannelRow) → [] ≡ map (held_at rows) rest → rest ≡ []
+    none [] is = refl
+    none (channel ∷ rest) is = absurd cc
+
+    all : rows.channels ≡ walked.done
+    all = walked.parts ∙ ap (λ l. walked.done ++ l) (none walked.rest walked.left_is) ∙ append-none walked.done
+
+    edges : flat_map (edges_of_channel rows.updates) walked.done ≡ carrying rows
+    edges = ap (flat_map (edges_of_channel rows.updates)) (sym all) ∙ by_channel rows.updates rows.channels ascend.updates ascend.channels

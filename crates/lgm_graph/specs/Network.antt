@@ -1,0 +1,8 @@
+-- A map with its view.
+use Rattle.lgm_store.specs.Rows.{Rows}
+use Rattle.lgm_graph.specs.Graph.{Graph}
+
+-- rows, and what the view of them shows
+pub record Charted : Type 0 where
+  pub rows : Rows
+  pub graph : Graph

@@ -1,0 +1,36 @@
+-- How the view of a map is made, channel by channel.
+use Rattle.std.specs.Prelude.{◌≡◌, ◌*◌, ◌≤◌, Bool, false, true, List, ◌++◌, map, flat_map, length, Option, option_to_list}
+use Rattle.std.specs.List.{AllByRecursion}
+use Rattle.std.specs.Option.{option_and_then}
+use Rattle.lgm_gossip.specs.declared.point.Point.{Point}
+use Rattle.lgm_check.specs.declared.row.ChannelRow.{ChannelRow}
+use Rattle.lgm_check.specs.declared.row.UpdateRow.{UpdateRow}
+use Rattle.lgm_store.specs.declared.held.Held.{Held}
+use Rattle.lgm_store.specs.HeldAt.{held_at}
+use Rattle.lgm_store.specs.Rows.{Rows, update_of}
+use Rattle.lgm_graph.specs.declared.edge.Edge.{Edge}
+use Rattle.lgm_graph.specs.Edges.{edge_on, takes_payments}
+use Rattle.lgm_graph.specs.Graph.{Graph, Shows, IsNumbered, number_of}
+
+-- what was numbered stays so
+abbrev pub KeepsNumbers : List Point → List Point → Type 0
+KeepsNumbers old new = (point : Point) → IsNumbered old point → (number_of new point ≡ number_of old point) × IsNumbered new point
+
+-- the edge of a direction of a channel
+abbrev pub edge_of_direction : List UpdateRow → ChannelRow → Bool → Option Edge
+edge_of_direction updates channel second = option_and_then (edge_on channel) (update_of updates channel.message.short_channel_id second)
+
+-- the edges of a channel
+abbrev pub edges_of_channel : List UpdateRow → ChannelRow → List Edge
+edges_of_channel updates channel = option_to_list (edge_of_direction updates channel false) ++ option_to_list (edge_of_direction updates channel true)
+
+-- what a walk with these channels still to come has done: those before them are numbered, and their edges shown
+pub record HasWalked (rows : Rows) (left : List Held) (graph : Graph) : Type 0 where
+  pub done : List ChannelRow
+  pub rest : List ChannelRow
+  pub parts : rows.channels ≡ done ++ rest
+  pub left_is : left ≡ map (held_at rows) rest
+  pub few : length graph.points ≤ 2 * length done
+  pub ends : AllByRecursion (λ channel. IsNumbered graph.points channel.message.node_id_1 × IsNumbered graph.points channel.message.node_id_2) done
+  pub takes : graph.takes ≡ map (takes_payments graph.known rows.nodes) graph.points
+  pub shows : Shows (flat_map (edges_of_channel rows.updates) done) graph.points graph.into graph.out

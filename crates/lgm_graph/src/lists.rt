@@ -1,0 +1,184 @@
+//! Lists of links, by node.
+
+ghost use Rattle.std.specs.Prelude.{◌≡◌, ◌++◌, ◌∷◌, [], ◌<◌, ◌≤◌, suc, take, drop, map, filter, length, slice_index_or, slice_set, option_to_list, OnOk, MatchResult, vec_len};
+ghost use Rattle.std.specs.List.{HoldsAt};
+ghost use Rattle.std.specs.Vec.{vec_capacity};
+ghost use Rattle.std.specs.Ordering.{is_lt, is_gt};
+ghost use Rattle.lgm_graph.specs.Lists.{link_key, IsCut, put_at};
+ghost use Rattle.lgm_graph.specs.Sound.{links_in, HasRoom, is_not_of, is_allowed, banned_at};
+
+use crate::link::Link;
+use crate::nodes::Links;
+use indexmap::IndexSet;
+use lgm_gossip::{Point, Scid};
+use lgm_store::Map;
+use std::alloc::AllocError;
+use std::cmp::Ordering;
+
+/// A link's order to an id and direction.
+fn order(link: &Link, scid: Scid, second: bool) -> Ordering
+    ensures { result ≡ link_key scid second link.now }
+{
+    link.scid.cmp(&scid).then(link.second.cmp(&second))
+}
+
+/// Where the link of an id and direction stands, or would stand.
+fn place(links: &[Link], scid: Scid, second: bool) -> Result<usize, usize>
+    requires { IsCut (link_key scid second) links.now }
+    ensures found { MatchResult result
+        (λ i. (i < length links.now) × (take i links.now ≡ filter (λ x. is_lt (link_key scid second x)) links.now)
+        × (drop (suc i) links.now ≡ filter (λ x. is_gt (link_key scid second x)) links.now))
+        (λ i. (i ≤ length links.now) × (take i links.now ≡ filter (λ x. is_lt (link_key scid second x)) links.now)
+        × (drop i links.now ≡ filter (λ x. is_gt (link_key scid second x)) links.now)) }
+{
+    links.binary_search_by(
+        |link: &Link| -> Ordering
+            ensures { result ≡ link_key scid second link.now }
+        { order(link, scid, second) },
+    )
+}
+
+/// Puts a link in the place of the one that stands there, or takes that one out.
+fn replace(links: &mut Vec<Link>, place: usize, link: Option<Link>)
+    requires { place < length links.old.items }
+    ensures { links.new.items ≡ take place links.old.items ++ option_to_list link ++ drop (suc place) links.old.items }
+{
+    match link {
+        Some(link) => links[place] = link,
+        None => {
+            links.remove(place);
+        }
+    }
+}
+
+/// Puts a link before the one that stands there, if there is a link.
+fn insert(links: &mut Vec<Link>, place: usize, link: Option<Link>)
+    requires room { vec_len links.old < vec_capacity links.old }
+    requires within { place ≤ vec_len links.old }
+    ensures { links.new.items ≡ take place links.old.items ++ option_to_list link ++ drop place links.old.items }
+{
+    if let Some(link) = link {
+        match links.insert(place, link) {
+            Ok(()) => {}
+            Err(_) => unreachable!(),
+        }
+    }
+}
+
+impl Links {
+    /// Room for one more link.
+    fn reserve(&mut self) -> Result<(), AllocError>
+        ensures same { self.new.links.items ≡ self.old.links.items }
+        ensures room { OnOk result (HasRoom self.new) }
+    {
+        self.links.reserve(1)
+    }
+
+    /// Puts a link in the place of that of its id and direction, or takes that one out.
+    fn put(&mut self, scid: Scid, second: bool, link: Option<Link>)
+        requires room { HasRoom self.old }
+        requires cut { IsCut (link_key scid second) self.old.links.items }
+        ensures { self.new.links.items ≡ put_at (link_key scid second) self.old.links.items link }
+    {
+        match place(self.links.as_slice(), scid, second) {
+            Ok(place) => replace(&mut self.links, place, link),
+            Err(place) => insert(&mut self.links, place, link),
+        }
+    }
+
+    /// Puts a link behind the others.
+    fn push(&mut self, link: Link)
+        requires { HasRoom self.old }
+        ensures { self.new.links.items ≡ self.old.links.items ++ link ∷ [] }
+    {
+        self.links.push_reserved(link);
+    }
+}
+
+impl Links {
+    /// Takes the links of a channel out.
+    fn drop_channel(&mut self, scid: Scid)
+        ensures { self.new.links.items ≡ filter (is_not_of scid) self.old.links.items }
+    {
+        self.links.retain(
+            |link: &Link| -> bool
+                ensures { result ≡ is_not_of scid link.now }
+            { link.scid != scid },
+        );
+    }
+}
+
+/// Whether the point of a number is banned.
+fn is_banned(points: &IndexSet<Point>, held: &Map, number: u32) -> bool
+    ensures { result ≡ banned_at points.now.keys held.now.banned number }
+{
+    match points.get_index(number as usize) {
+        Some(point) => held.banned(point),
+        None => false,
+    }
+}
+
+impl Links {
+    /// Takes the links out that join a banned node.
+    fn drop_banned(&mut self, points: &IndexSet<Point>, held: &Map)
+        ensures { self.new.links.items ≡ filter (is_allowed points.now.keys held.now.banned) self.old.links.items }
+    {
+        self.links.retain(
+            |link: &Link| -> bool
+                ensures { result ≡ is_allowed points.entry.now.keys held.entry.now.banned link.now }
+            { !(is_banned(points, held, link.from) || is_banned(points, held, link.to)) },
+        );
+    }
+}
+
+/// Takes the links that join a banned node away from all nodes.
+pub(crate) fn drop_banned(lists: &mut Vec<Links>, points: &IndexSet<Point>, held: &Map)
+    ensures { map links_in lists.new.items ≡ map (filter (is_allowed points.now.keys held.now.banned)) (map links_in lists.old.items) }
+{
+    for i in 0..lists.len() {
+        lists[i].drop_banned(points, held);
+    }
+}
+
+/// Takes the links of a channel away from a node.
+pub(crate) fn drop_at(lists: &mut Vec<Links>, number: usize, scid: Scid)
+    requires { number < length lists.old.items }
+    ensures long { length lists.new.items ≡ length lists.old.items }
+    ensures links { map links_in lists.new.items ≡ slice_set (map links_in lists.old.items) number (filter (is_not_of scid) (slice_index_or (map links_in lists.old.items) number [])) }
+{
+    lists[number].drop_channel(scid);
+}
+
+/// Room for one more link at a node.
+pub(crate) fn reserve_at(lists: &mut Vec<Links>, number: usize) -> Result<(), AllocError>
+    requires { number < length lists.old.items }
+    ensures same { map links_in lists.new.items ≡ map links_in lists.old.items }
+    ensures room { OnOk result (HoldsAt HasRoom lists.new.items number) }
+{
+    lists[number].reserve()
+}
+
+/// Puts a link among those at a node, in the place of that of its id and direction, or takes that one out.
+pub(crate) fn put_at(
+    lists: &mut Vec<Links>,
+    number: usize,
+    scid: Scid,
+    second: bool,
+    link: Option<Link>,
+)
+    requires within { number < length lists.old.items }
+    requires room { HoldsAt HasRoom lists.old.items number }
+    requires cut { IsCut (link_key scid second) (slice_index_or (map links_in lists.old.items) number []) }
+    ensures { map links_in lists.new.items ≡ slice_set (map links_in lists.old.items) number (put_at (link_key scid second) (slice_index_or (map links_in lists.old.items) number []) link) }
+{
+    lists[number].put(scid, second, link);
+}
+
+/// Puts a link behind those at a node.
+pub(crate) fn push_at(lists: &mut Vec<Links>, number: usize, link: Link)
+    requires within { number < length lists.old.items }
+    requires room { HoldsAt HasRoom lists.old.items number }
+    ensures { map links_in lists.new.items ≡ slice_set (map links_in lists.old.items) number (slice_index_or (map links_in lists.old.items) number [] ++ link ∷ []) }
+{
+    lists[number].push(link);
+}

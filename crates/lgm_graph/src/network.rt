@@ -1,0 +1,80 @@
+//! A map with its view.
+
+ghost use Rattle.std.specs.Prelude.{◌≡◌, ◌+◌, ◌*◌, ◌≤◌, length, IfOk, OnOk, OnErr};
+ghost use Rattle.lgm_store.specs.Rows.{empty};
+ghost use Rattle.lgm_store.specs.History.{absorbed};
+ghost use Rattle.lgm_graph.specs.Graph.{IsGraphOf};
+
+use crate::known::Known;
+use crate::view::View;
+use lgm_store::{Map, Op};
+use std::alloc::{AllocError, Global};
+use std::marker::Model;
+
+/// A map with its view as one value: what both absorb, they absorb together. Contracts see the map's rows and what the
+/// view shows, which is always the view of these rows.
+#[derive(Drop)]
+pub struct Network {
+    map: Map,
+    view: View,
+}
+
+impl Model for Network {
+    ghost use Rattle.lgm_graph.specs.Network.{Charted};
+    ghost use Rattle.lgm_graph.specs.Graph.{IsGraphOf};
+
+    ghost Value = { Charted };
+
+    ghost view = { λ n. record { rows = n.map; graph = n.view } };
+
+    ghost invariant = { λ n. IsGraphOf n.map n.view };
+}
+
+impl Network {
+    /// No channels and no nodes. The features of nodes that are known are kept as a copy. The only error is want of
+    /// memory.
+    pub fn new(alloc: Global, known: &Known) -> Result<Network, AllocError>
+        ensures rows { IfOk result (λ network. network.rows ≡ empty) }
+        ensures known { IfOk result (λ network. network.graph.known ≡ known.now) }
+    {
+        Network::of(alloc, Map::new(alloc)?, known)
+    }
+
+    /// A map with its view, made from nothing. The only error is want of memory.
+    pub fn of(alloc: Global, map: Map, known: &Known) -> Result<Network, AllocError>
+        requires { length map.channels ≤ 2000000000 }
+        ensures rows { IfOk result (λ network. network.rows ≡ map) }
+        ensures known { IfOk result (λ network. network.graph.known ≡ known.now) }
+        ensures few { IfOk result (λ network. length network.graph.points ≤ 2 * length map.channels) }
+    {
+        let view = View::of(alloc, &map, known)?;
+        Ok(Network { map, view })
+    }
+
+    /// Does an operation to the map and its view. It numbers at most two points more. The only error is want of memory,
+    /// which leaves both as they were.
+    pub fn absorb(&mut self, op: &Op) -> Result<(), AllocError>
+        requires { length self.old.graph.points ≤ 4294967290 }
+        ensures rows { OnOk result (self.new.rows ≡ absorbed self.old.rows op.now) }
+        ensures known { self.new.graph.known ≡ self.old.graph.known }
+        ensures few { length self.new.graph.points ≤ length self.old.graph.points + 2 }
+        ensures stays { OnErr result (self.new ≡ self.old) }
+    {
+        self.view.apply(&mut self.map, op)
+    }
+
+    /// The map.
+    pub fn map(&self) -> &Map
+        ensures { result.now ≡ self.now.rows }
+    {
+        &self.map
+    }
+
+    /// Its view.
+    pub fn view(&self) -> &View
+        ensures view { result.now ≡ self.now.graph }
+        ensures beside { IsGraphOf self.now.rows self.now.graph }
+    {
+        &self.view
+    }
+}

@@ -1,0 +1,256 @@
+//! Numbered nodes, and the links that hang on each.
+
+ghost use Rattle.std.specs.Prelude.{◌≡◌, ◌++◌, ◌∷◌, [], ℕ, ◌+◌, ◌<◌, ◌≤◌, List, map, filter, length, slice_set, slice_index_or, OnOk, IfOk, Option, Bool, false, if◌then◌else◌};
+ghost use Rattle.std.specs.List.{HoldsAt, list_any};
+ghost use Rattle.indexmap.specs.IndexSet.{spare};
+ghost use Rattle.lgm_gossip.specs.declared.point.Point.{Point as APoint};
+ghost use Rattle.lgm_graph.specs.declared.edge.Edge.{Edge as AnEdge};
+ghost use Rattle.lgm_graph.specs.declared.link.Link.{Link as ALink};
+ghost use Rattle.lgm_graph.specs.Walk.{KeepsNumbers};
+ghost use Rattle.lgm_store.specs.Rows.{is_point};
+ghost use Rattle.lgm_graph.specs.Edges.{takes_payments};
+ghost use Rattle.lgm_graph.specs.Lists.{link_key, IsCut, put_at};
+ghost use Rattle.lgm_graph.specs.Graph.{number_of, IsNumbered};
+ghost use Rattle.lgm_graph.specs.Sound.{graph_in, links_in, HasRoom, HasPlaces, AreFlags, AreInto, AreOut, AreLookedAt, ShowsIn, closed_at, is_allowed};
+
+use crate::known::Known;
+use crate::link::Link;
+use crate::lists;
+use indexmap::IndexSet;
+use lgm_gossip::{Point, Scid};
+use lgm_store::Map;
+use std::alloc::{AllocError, Global};
+
+/// Links, by id and direction.
+#[derive(Drop)]
+pub(crate) struct Links {
+    pub(crate) links: Vec<Link>,
+}
+
+/// Points by number, and for each whether its node takes payments, the links into it and those that leave it.
+#[derive(Drop)]
+pub(crate) struct Nodes {
+    pub(crate) points: IndexSet<Point>,
+    pub(crate) takes: Vec<bool>,
+    pub(crate) into: Vec<Links>,
+    pub(crate) out: Vec<Links>,
+}
+
+/// Whether a node takes payments.
+pub(crate) fn takes_payments(known: &Known, map: &Map, node: &Point) -> bool
+    ensures { result ≡ takes_payments known.now map.now.nodes node.now }
+{
+    match map.node(node) {
+        Some(row) => known.allows(row.message.features.as_slice()),
+        None => true,
+    }
+}
+
+impl Nodes {
+    /// None yet.
+    pub(crate) fn new(alloc: Global) -> Nodes
+        ensures points { result.points.keys ≡ [] }
+        ensures takes { result.takes.items ≡ [] }
+        ensures into { result.into.items ≡ [] }
+        ensures out { result.out.items ≡ [] }
+    {
+        Nodes {
+            points: IndexSet::new(alloc),
+            takes: Vec::new(alloc),
+            into: Vec::new(alloc),
+            out: Vec::new(alloc),
+        }
+    }
+
+    /// The number of a point that has one.
+    pub(crate) fn number_of(&self, point: &Point) -> usize
+        requires { IsNumbered self.now.points.keys point.now }
+        ensures { result ≡ number_of self.now.points.keys point.now }
+    {
+        match self.points.get_index_of(point) {
+            Some(number) => number,
+            None => unreachable!(),
+        }
+    }
+
+    /// Room for so many more nodes.
+    pub(crate) fn reserve(&mut self, more: usize) -> Result<(), AllocError>
+        ensures same { (known : Option (List ℕ)) → graph_in known self.new ≡ graph_in known self.old }
+        ensures places { OnOk result (HasPlaces more self.new) }
+    {
+        self.points.reserve(more)?;
+        self.takes.reserve(more)?;
+        self.into.reserve(more)?;
+        self.out.reserve(more)
+    }
+
+    /// Numbers a further point.
+    pub(crate) fn add(&mut self, alloc: Global, point: Point, takes: bool)
+        requires room { HasPlaces 1 self.old }
+        requires other { list_any (is_point point) self.old.points.keys ≡ false }
+        ensures points { self.new.points.keys ≡ self.old.points.keys ++ point ∷ [] }
+        ensures takes { self.new.takes.items ≡ self.old.takes.items ++ takes ∷ [] }
+        ensures into { map links_in self.new.into.items ≡ map links_in self.old.into.items ++ [] ∷ [] }
+        ensures out { map links_in self.new.out.items ≡ map links_in self.old.out.items ++ [] ∷ [] }
+        ensures places { (more : ℕ) → HasPlaces (more + 1) self.old → HasPlaces more self.new }
+    {
+        push_point(&mut self.points, point);
+        self.takes.push_reserved(takes);
+        let links = Vec::new(alloc);
+        self.into.push_reserved(Links { links });
+        let links = Vec::new(alloc);
+        self.out.push_reserved(Links { links });
+    }
+
+    /// Room for one more link from a node to another.
+    pub(crate) fn reserve_links(&mut self, from: usize, to: usize) -> Result<(), AllocError>
+        requires from { from < length self.old.out.items }
+        requires to { to < length self.old.into.items }
+        ensures same { (known : Option (List ℕ)) → graph_in known self.new ≡ graph_in known self.old }
+        ensures leaving { OnOk result (HoldsAt HasRoom self.new.out.items from) }
+        ensures into { OnOk result (HoldsAt HasRoom self.new.into.items to) }
+    {
+        lists::reserve_at(&mut self.into, to)?;
+        lists::reserve_at(&mut self.out, from)
+    }
+
+    /// Puts a link behind the others of the nodes that it joins.
+    pub(crate) fn push_link(&mut self, from: usize, to: usize, link: Link)
+        requires from { from < length self.old.out.items }
+        requires to { to < length self.old.into.items }
+        requires leaving { HoldsAt HasRoom self.old.out.items from }
+        requires into { HoldsAt HasRoom self.old.into.items to }
+        ensures points { self.new.points.keys ≡ self.old.points.keys }
+        ensures takes { self.new.takes.items ≡ self.old.takes.items }
+        ensures into { map links_in self.new.into.items ≡ slice_set (map links_in self.old.into.items) to (slice_index_or (map links_in self.old.into.items) to [] ++ link ∷ []) }
+        ensures out { map links_in self.new.out.items ≡ slice_set (map links_in self.old.out.items) from (slice_index_or (map links_in self.old.out.items) from [] ++ link ∷ []) }
+    {
+        let copy = link;
+        lists::push_at(&mut self.into, to, copy);
+        lists::push_at(&mut self.out, from, link);
+    }
+
+    /// Puts a link in the place of that of its id and direction at the nodes that it joins, or takes that one out.
+    pub(crate) fn put_link(
+        &mut self,
+        from: usize,
+        to: usize,
+        scid: Scid,
+        second: bool,
+        link: Option<Link>,
+    )
+        requires from { from < length self.old.out.items }
+        requires to { to < length self.old.into.items }
+        requires leaving { HoldsAt HasRoom self.old.out.items from }
+        requires into { HoldsAt HasRoom self.old.into.items to }
+        requires cut_into { IsCut (link_key scid second) (slice_index_or (map links_in self.old.into.items) to []) }
+        requires cut_out { IsCut (link_key scid second) (slice_index_or (map links_in self.old.out.items) from []) }
+        ensures points { self.new.points.keys ≡ self.old.points.keys }
+        ensures takes { self.new.takes.items ≡ self.old.takes.items }
+        ensures into { map links_in self.new.into.items ≡ slice_set (map links_in self.old.into.items) to (put_at (link_key scid second) (slice_index_or (map links_in self.old.into.items) to []) link) }
+        ensures out { map links_in self.new.out.items ≡ slice_set (map links_in self.old.out.items) from (put_at (link_key scid second) (slice_index_or (map links_in self.old.out.items) from []) link) }
+    {
+        let copy = link;
+        lists::put_at(&mut self.into, to, scid, second, copy);
+        lists::put_at(&mut self.out, from, scid, second, link);
+    }
+
+    /// Says anew whether a node takes payments, if it is numbered.
+    pub(crate) fn look_at(&mut self, known: &Known, map: &Map, node: &Point)
+        requires { length self.old.takes.items ≡ length self.old.points.keys }
+        ensures points { self.new.points.keys ≡ self.old.points.keys }
+        ensures into { self.new.into.items ≡ self.old.into.items }
+        ensures out { self.new.out.items ≡ self.old.out.items }
+        ensures takes { (before : APoint → Bool) → AreFlags before self.old
+            → AreFlags (λ q. if is_point node.now q then takes_payments known.now map.now.nodes q else before q) self.new }
+    {
+        // It says that points are distinct.
+        let _ = self.points.len();
+        if let Some(number) = self.points.get_index_of(node) {
+            self.takes[number] = takes_payments(known, map, node);
+        }
+    }
+
+    /// Takes the links of a channel that is gone away from a node, and looks at the node anew.
+    pub(crate) fn close_at(&mut self, known: &Known, map: &Map, node: &Point, scid: Scid)
+        requires numbered { IsNumbered self.old.points.keys node.now }
+        requires takes { length self.old.takes.items ≡ length self.old.points.keys }
+        requires into { length self.old.into.items ≡ length self.old.points.keys }
+        requires out { length self.old.out.items ≡ length self.old.points.keys }
+        ensures points { self.new.points.keys ≡ self.old.points.keys }
+        ensures into_long { length self.new.into.items ≡ length self.old.into.items }
+        ensures out_long { length self.new.out.items ≡ length self.old.out.items }
+        ensures into { (before : APoint → List ALink) → AreInto before self.old → AreInto (closed_at node.now scid before) self.new }
+        ensures out { (before : APoint → List ALink) → AreOut before self.old → AreOut (closed_at node.now scid before) self.new }
+        ensures takes { (before : APoint → Bool) → AreFlags before self.old
+            → AreFlags (λ q. if is_point node.now q then takes_payments known.now map.now.nodes q else before q) self.new }
+    {
+        // It says that points are distinct.
+        let _ = self.points.len();
+        let number = self.number_of(node);
+        lists::drop_at(&mut self.into, number, scid);
+        lists::drop_at(&mut self.out, number, scid);
+        self.look_at(known, map, node);
+    }
+
+    /// Numbers a point, unless it has a number.
+    pub(crate) fn number(&mut self, alloc: Global, known: &Known, held: &Map, point: Point)
+        requires { HasPlaces 1 self.old }
+        ensures few { length self.new.points.keys ≤ length self.old.points.keys + 1 }
+        ensures kept { KeepsNumbers self.old.points.keys self.new.points.keys }
+        ensures numbered { IsNumbered self.new.points.keys point }
+        ensures takes { AreLookedAt known.now held.now.nodes self.old → AreLookedAt known.now held.now.nodes self.new }
+        ensures shows { (edges : List AnEdge) → ShowsIn edges self.old → ShowsIn edges self.new }
+        ensures places { (more : ℕ) → HasPlaces (more + 1) self.old → HasPlaces more self.new }
+    {
+        if self.points.contains(&point) {
+            return;
+        }
+        let takes = takes_payments(known, held, &point);
+        self.add(alloc, point, takes);
+    }
+
+    /// Takes the links of channels away that end at a banned node.
+    pub(crate) fn drop_banned(&mut self, held: &Map)
+        ensures points { self.new.points.keys ≡ self.old.points.keys }
+        ensures takes { self.new.takes.items ≡ self.old.takes.items }
+        ensures into { map links_in self.new.into.items ≡ map (filter (is_allowed self.old.points.keys held.now.banned)) (map links_in self.old.into.items) }
+        ensures out { map links_in self.new.out.items ≡ map (filter (is_allowed self.old.points.keys held.now.banned)) (map links_in self.old.out.items) }
+    {
+        lists::drop_banned(&mut self.into, &self.points, held);
+        lists::drop_banned(&mut self.out, &self.points, held);
+    }
+
+    /// Says anew of each node whether it takes payments.
+    pub(crate) fn look_at_all(&mut self, known: &Known, held: &Map)
+        requires { length self.old.takes.items ≡ length self.old.points.keys }
+        ensures points { self.new.points.keys ≡ self.old.points.keys }
+        ensures into { self.new.into.items ≡ self.old.into.items }
+        ensures out { self.new.out.items ≡ self.old.out.items }
+        ensures takes { AreLookedAt known.now held.now.nodes self.new }
+    {
+        look_at_all(&mut self.takes, self.points.as_slice(), known, held);
+    }
+}
+
+/// Says anew of each point whether its node takes payments.
+fn look_at_all(takes: &mut [bool], points: &[Point], known: &Known, held: &Map)
+    requires { length takes.old ≡ length points.now }
+    ensures { takes.new ≡ map (takes_payments known.now held.now.nodes) points.now }
+{
+    for i in 0..takes.len() {
+        takes[i] = takes_payments(known, held, &points[i]);
+    }
+}
+
+fn push_point(points: &mut IndexSet<Point>, point: Point)
+    requires room { 1 ≤ spare points.old }
+    requires other { list_any (is_point point) points.old.keys ≡ false }
+    ensures keys { points.new.keys ≡ points.old.keys ++ point ∷ [] }
+    ensures places { spare points.old ≤ spare points.new + 1 }
+{
+    match points.insert(point) {
+        Ok(_) => {}
+        Err(_) => unreachable!(),
+    }
+}

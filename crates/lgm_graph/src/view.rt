@@ -1,0 +1,176 @@
+//! The view of a map.
+
+ghost use Rattle.std.specs.Prelude.{◌≡◌, ◌+◌, ◌-◌, ◌^◌, ◌<◌, ◌≤◌, length, min, slice_get, OnOk, OnErr};
+ghost use Rattle.std.specs.List.{position};
+ghost use Rattle.std.specs.Option.{option_copied};
+ghost use Rattle.lgm_store.specs.Rows.{is_point};
+ghost use Rattle.lgm_store.specs.History.{absorbed};
+ghost use Rattle.lgm_graph.specs.Graph.{AreLinked, IsGraphOf, edge_at, edges, takes_at, links_into, links_leaving};
+
+mod applying;
+mod making;
+
+use crate::edge::Edge;
+use crate::known::Known;
+use crate::link::Link;
+use crate::nodes::Nodes;
+use lgm_gossip::Point;
+use lgm_store::{Map, Op};
+use std::alloc::{AllocError, Global};
+use std::marker::Model;
+
+/// The edges of a map, between numbered nodes. Contracts see the points by number, and the links into each node and
+/// those that leave it.
+#[derive(Drop)]
+pub struct View {
+    alloc: Global,
+    known: Known,
+    nodes: Nodes,
+}
+
+impl Model for View {
+    ghost use Rattle.lgm_graph.specs.Graph.{Graph};
+
+    ghost Value = { Graph };
+
+    ghost use Rattle.lgm_graph.specs.Sound.{graph_in, IsSound};
+
+    ghost view = { λ v. graph_in v.known v.nodes };
+
+    ghost invariant = { λ v. IsSound (graph_in v.known v.nodes) };
+}
+
+impl View {
+    /// How many points are numbered: from 0 to one less than this. Different points have different numbers, and each
+    /// edge stands with both of its ends.
+    pub fn nodes(&self) -> usize
+        ensures count { result ≡ length self.now.points }
+        ensures few { result < 2 ^ 32 }
+        ensures linked { AreLinked self.now }
+    {
+        self.nodes.points.len()
+    }
+
+    /// The number of a point, if it has one: each end of a held channel has. It takes no memory.
+    pub fn node_number(&self, point: &Point) -> Option<u32>
+        ensures { result ≡ position (is_point point.now) self.now.points }
+    {
+        let number = self.nodes.points.get_index_of(point)?;
+        Some(number as u32)
+    }
+
+    /// The point of a number, if it is one.
+    pub fn point(&self, number: u32) -> Option<&Point>
+        ensures { option_copied result ≡ slice_get self.now.points number }
+    {
+        self.nodes.points.get_index(number as usize)
+    }
+
+    /// Whether the node of a number takes payments: it has no announcement, or one whose features are known.
+    pub fn takes_payments(&self, number: u32) -> bool
+        ensures { result ≡ takes_at self.now number }
+    {
+        match self.nodes.takes.get(number as usize) {
+            Some(takes) => *takes,
+            None => false,
+        }
+    }
+
+    /// The edges into the node of a number, by id and direction: none where it takes no payments, and of a number that
+    /// isn't given.
+    pub fn links_into(&self, number: u32) -> &[Link]
+        ensures { result.now ≡ links_into self.now number }
+    {
+        if !self.takes_payments(number) {
+            return &[];
+        }
+        match self.nodes.into.get(number as usize) {
+            Some(list) => list.links.as_slice(),
+            None => &[],
+        }
+    }
+
+    /// The edges out of the node of a number, by id and direction, and with them those towards nodes that take no
+    /// payments.
+    pub fn links_leaving(&self, number: u32) -> &[Link]
+        ensures { result.now ≡ links_leaving self.now number }
+    {
+        match self.nodes.out.get(number as usize) {
+            Some(list) => list.links.as_slice(),
+            None => &[],
+        }
+    }
+}
+
+impl View {
+    /// A link as an edge between points.
+    pub fn edge_between(&self, link: &Link) -> Edge
+        requires from { link.now.from < length self.now.points }
+        requires to { link.now.to < length self.now.points }
+        ensures { result ≡ edge_at self.now.points link.now }
+    {
+        Edge {
+            scid: link.scid,
+            second: link.second,
+            from: self.nodes.points.as_slice()[link.from as usize],
+            to: self.nodes.points.as_slice()[link.to as usize],
+            base: link.base,
+            millionths: link.millionths,
+            delta: link.delta,
+            min: link.min,
+            max: link.max,
+        }
+    }
+
+    /// The number of edges. (Of more than 2^64 - 1, of which there are none in any memory, it would be 2^64 - 1.)
+    pub fn edge_count(&self) -> usize
+        ensures { result ≡ min (length (edges self.now)) (2 ^ 64 - 1) }
+    {
+        let nodes = self.nodes();
+        let mut count: usize = 0;
+        for number in 0..nodes {
+            count = count.saturating_add(self.links_into(number as u32).len());
+        }
+        count
+    }
+
+    /// The edge at a place below their number: they are ordered by the node that they go to. It walks the nodes up to
+    /// that one.
+    pub fn edge(&self, place: usize) -> Option<Edge>
+        ensures { result ≡ slice_get (edges self.now) place }
+    {
+        // It says that the ends of links are numbered.
+        let nodes = self.nodes();
+        let mut left = place;
+        for number in 0..nodes {
+            let links = self.links_into(number as u32);
+            if left < links.len() {
+                return Some(self.edge_between(&links[left]));
+            }
+            left -= links.len();
+        }
+        None
+    }
+}
+
+impl View {
+    /// Does an operation to a map and its view, which is the new map's then. It numbers at most two points more, and a
+    /// point keeps its number when its last channel goes. The only error is want of memory, which leaves map and view
+    /// as they were.
+    ///
+    /// An update costs two searches in the lists of the nodes that it joins, a node's announcement one look at its
+    /// features, a close a walk of the edges of its two ends, and a ban, which is rare, one of all edges.
+    pub fn apply(&mut self, map: &mut Map, op: &Op) -> Result<(), AllocError>
+        requires few { length self.old.points ≤ 4294967290 }
+        requires beside { IsGraphOf map.old self.old }
+        ensures map { OnOk result (map.new ≡ absorbed map.old op.now) }
+        ensures beside { OnOk result (IsGraphOf map.new self.new) }
+        ensures known { self.new.known ≡ self.old.known }
+        ensures few { length self.new.points ≤ length self.old.points + 2 }
+        ensures map_stays { OnErr result (map.new ≡ map.old) }
+        ensures stays { OnErr result (self.new ≡ self.old) }
+    {
+        applying::apply(self.alloc, &self.known, &mut self.nodes, map, op)?;
+        Ok(())
+    }
+}
