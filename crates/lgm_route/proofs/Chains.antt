@@ -1,0 +1,155 @@
+-- Two chains of labels, followed side by side.
+use Rattle.std.proofs.Common.{◌≡◌, ℕ, ◌-◌, ◌<◌, List, [], ◌∷◌, ◌++◌, length, sym, ◌∙◌, ap, subst, inl, inr, arith}
+use Rattle.std.proofs.lemmas.List.{append_assoc, append-nil}
+use Rattle.lgm_graph.specs.declared.link.Link.{Link}
+use Rattle.lgm_route.specs.declared.label.Label.{Label}
+use Rattle.lgm_route.specs.Numbered.{ids}
+use Rattle.lgm_route.specs.Searching.{NotAfter, link_in, label_at, Spells, IsSpelled, IdsFirst}
+use Rattle.lgm_route.proofs.Orders.{NotAfter-refl, NotAfter-join}
+use Rattle.lgm_route.proofs.Labels.{Spells-unique}
+
+-- so many edges from the end the chains are at these labels, and what comes then decides
+pub record AreBeside (labels : List Label) (label other here there : Label) (count : ℕ) : Type 0 where
+  pub rest : List Link
+  pub spells : Spells labels here rest
+  pub long : length rest ≡ count
+  pub also : List Link
+  pub spells_also : Spells labels there also
+  pub long_also : length also ≡ count
+  pub first : NotAfter (ids rest) (ids also) → IdsFirst labels label other
+  pub after : NotAfter (ids also) (ids rest) → IdsFirst labels other label
+
+pub beside_start : (labels : List Label) (label other : Label) → IsSpelled labels label → IsSpelled labels other → label.count ≡ other.count →
+    AreBeside labels label other label other label.count
+beside_start labels label other h k e =
+    record {
+      rest = h.0;
+      spells = h.1;
+      long = h.2;
+      also = k.0;
+      spells_also = k.1;
+      long_also = k.2 ∙ sym e;
+      first = λ p rest also s t m n. move rest also s t m n p;
+      after = λ p also rest t s n m. move_back rest also s t m n p;
+    }
+  where
+    same : (rest : List Link) → Spells labels label rest → length rest ≡ label.count → h.0 ≡ rest
+    same rest s m = Spells-unique labels label h.0 rest h.1 s (h.2 ∙ sym m)
+
+    same_also : (also : List Link) → Spells labels other also → length also ≡ other.count → k.0 ≡ also
+    same_also also t n = Spells-unique labels other k.0 also k.1 t (k.2 ∙ sym n)
+
+    move : (rest also : List Link) → Spells labels label rest → Spells labels other also → length rest ≡ label.count → length also ≡ other.count →
+        NotAfter (ids h.0) (ids k.0) → NotAfter (ids rest) (ids also)
+    move rest also s t m n p = subst (λ r. NotAfter (ids r) (ids also)) (same rest s m) (subst (λ r. NotAfter (ids h.0) (ids r)) (same_also also t n) p)
+
+    move_back : (rest also : List Link) → Spells labels label rest → Spells labels other also → length rest ≡ label.count → length also ≡ other.count →
+        NotAfter (ids k.0) (ids h.0) → NotAfter (ids also) (ids rest)
+    move_back rest also s t m n p = subst (λ r. NotAfter (ids also) (ids r)) (same rest s m) (subst (λ r. NotAfter (ids r) (ids h.0)) (same_also also t n) p)
+
+-- where edges are left, each label has one, and leads on
+pub record HasMore (labels : List Label) (label : Label) (rest : List Link) (count : ℕ) : Type 0 where
+  pub next : label.next < length labels
+  pub tail : List Link
+  pub is : rest ≡ link_in label.arc ∷ tail
+  pub spells : Spells labels (label_at labels label.next) tail
+  pub long : length tail ≡ count - 1
+
+pub has_more : (labels : List Label) (label : Label) (rest : List Link) (count : ℕ) →
+    Spells labels label rest → length rest ≡ count → 0 < count → HasMore labels label rest count
+has_more labels label [] count s e p = absurd (omega arith)
+has_more labels label (edge ∷ rest) count s e p =
+    record { next = s.1; tail = rest; is = ap (λ x. x ∷ rest) (sym s.0); spells = s.2; long = omega arith }
+
+-- no edges are spelled anywhere
+pub spells_none : (labels : List Label) (label : Label) (rest : List Link) → length rest ≡ 0 → Spells labels label rest
+spells_none labels label [] e = tt
+spells_none labels label (edge ∷ rest) e = absurd (omega arith)
+
+-- the edges so far, before those that the label spells, are the walk
+pub record IsOnTheWay (labels : List Label) (found here : Label) (count : ℕ) (walk : List Link) : Type 0 where
+  pub rest : List Link
+  pub spells : Spells labels here rest
+  pub long : length rest ≡ count
+  pub whole : Spells labels found (walk ++ rest)
+  pub all : length (walk ++ rest) ≡ found.count
+
+pub way_more : (labels : List Label) (found here : Label) (count : ℕ) (walk : List Link) → (way : IsOnTheWay labels found here count walk) → 0 < count →
+    HasMore labels here way.rest count
+way_more labels found here count walk way left = has_more labels here way.rest count way.spells way.long left
+
+pub way_step : (labels : List Label) (found here : Label) (count : ℕ) (walk : List Link) → IsOnTheWay labels found here count walk → 0 < count →
+    IsOnTheWay labels found (label_at labels here.next) (count - 1) (walk ++ link_in here.arc ∷ [])
+way_step labels found here count walk way left =
+    let more = way_more labels found here count walk way left in
+    let same : walk ++ way.rest ≡ (walk ++ link_in here.arc ∷ []) ++ more.tail = ap (λ r. walk ++ r) more.is ∙ sym (append_assoc walk (link_in here.arc ∷ []) more.tail) in
+    record { rest = more.tail; spells = more.spells; long = more.long; whole = subst (λ r. Spells labels found r) same way.whole; all = subst (λ r. length r ≡ found.count) same way.all }
+
+pub way_last : (labels : List Label) (found here other : Label) (count : ℕ) (walk : List Link) → count ≡ 0 →
+    IsOnTheWay labels found here count walk → IsOnTheWay labels found other count walk
+way_last labels found here other count walk e way =
+    record { rest = way.rest; spells = spells_none labels other way.rest (way.long ∙ e); long = way.long; whole = way.whole; all = way.all }
+
+pub way_end : (labels : List Label) (found here : Label) (count : ℕ) (walk : List Link) → IsOnTheWay labels found here count walk → count ≡ 0 →
+    Spells labels found walk × (length walk ≡ found.count)
+way_end labels found here count walk way e = by way.rest (way.long ∙ e) way.whole way.all
+  where
+    by : (rest : List Link) → length rest ≡ 0 → Spells labels found (walk ++ rest) → length (walk ++ rest) ≡ found.count → Spells labels found walk × (length walk ≡ found.count)
+    by [] long whole all = (subst (λ r. Spells labels found r) (append-nil walk) whole, subst (λ r. length r ≡ found.count) (append-nil walk) all)
+    by (edge ∷ rest) long whole all = absurd (omega arith)
+
+module _ (labels : List Label) (label other here there : Label) (count : ℕ) (beside : AreBeside labels label other here there count) (left : 0 < count) where
+  pub one : HasMore labels here beside.rest count
+  one = has_more labels here beside.rest count beside.spells beside.long left
+
+  pub two : HasMore labels there beside.also count
+  two = has_more labels there beside.also count beside.spells_also beside.long_also left
+
+  pub beside_less : here.arc.scid < there.arc.scid → IdsFirst labels label other
+  beside_less p =
+      beside.first (subst (λ r. NotAfter (ids r) (ids beside.also)) (sym one.is) (subst (λ r. NotAfter (ids (link_in here.arc ∷ one.tail)) (ids r)) (sym two.is)
+      (NotAfter-join here.arc.scid there.arc.scid (ids one.tail) (ids two.tail) (inl p))))
+
+  pub beside_more : there.arc.scid < here.arc.scid → IdsFirst labels other label
+  beside_more p =
+      beside.after (subst (λ r. NotAfter (ids beside.also) (ids r)) (sym one.is) (subst (λ r. NotAfter (ids r) (ids (link_in here.arc ∷ one.tail))) (sym two.is)
+      (NotAfter-join there.arc.scid here.arc.scid (ids two.tail) (ids one.tail) (inl p))))
+
+  pub first_tail : here.arc.scid ≡ there.arc.scid → NotAfter (ids one.tail) (ids two.tail) → IdsFirst labels label other
+  first_tail e p =
+      beside.first (subst (λ r. NotAfter (ids r) (ids beside.also)) (sym one.is) (subst (λ r. NotAfter (ids (link_in here.arc ∷ one.tail)) (ids r)) (sym two.is)
+      (NotAfter-join here.arc.scid there.arc.scid (ids one.tail) (ids two.tail) (inr (e, p)))))
+
+  pub after_tail : here.arc.scid ≡ there.arc.scid → NotAfter (ids two.tail) (ids one.tail) → IdsFirst labels other label
+  after_tail e p =
+      beside.after (subst (λ r. NotAfter (ids beside.also) (ids r)) (sym one.is) (subst (λ r. NotAfter (ids r) (ids (link_in here.arc ∷ one.tail))) (sym two.is)
+      (NotAfter-join there.arc.scid here.arc.scid (ids two.tail) (ids one.tail) (inr (sym e, p)))))
+
+  pub beside_next : here.arc.scid ≡ there.arc.scid →
+      AreBeside labels label other (label_at labels here.next) (label_at labels there.next) (count - 1)
+  beside_next e =
+      record {
+        rest = one.tail;
+        spells = one.spells;
+        long = one.long;
+        also = two.tail;
+        spells_also = two.spells;
+        long_also = two.long;
+        first = first_tail e;
+        after = after_tail e;
+      }
+
+  pub beside_same : here.arc.scid ≡ there.arc.scid → here.next ≡ there.next → IdsFirst labels label other
+  beside_same e n =
+      let same : one.tail ≡ two.tail = Spells-unique labels (label_at labels there.next) one.tail two.tail
+      (subst (λ i. Spells labels (label_at labels i) one.tail) n one.spells) two.spells (one.long ∙ sym two.long) in
+      first_tail e (subst (λ r. NotAfter (ids one.tail) (ids r)) same (NotAfter-refl (ids one.tail)))
+
+pub beside_end : (labels : List Label) (label other here there : Label) (count : ℕ) → AreBeside labels label other here there count → count ≡ 0 →
+    IdsFirst labels label other
+beside_end labels label other here there count beside e = by beside.rest beside.also (beside.long ∙ e) (beside.long_also ∙ e) beside.first
+  where
+    by : (rest also : List Link) → length rest ≡ 0 → length also ≡ 0 → (NotAfter (ids rest) (ids also) → IdsFirst labels label other) → IdsFirst labels label other
+    by [] [] m n f = f (NotAfter-refl [])
+    by [] (edge ∷ also) m n f = absurd (omega arith)
+    by (edge ∷ rest) also m n f = absurd (omega arith)

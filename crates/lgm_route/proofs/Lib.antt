@@ -1,0 +1,9 @@
+pub mod Orders
+pub mod Rests
+pub mod Labels
+pub mod Chains
+pub mod Steps
+pub mod Bounds
+pub mod Crossing
+pub mod HopLaws
+pub mod Visits

@@ -1,0 +1,369 @@
+-- One step of the search: labels compared, added and led on.
+use Rattle.std.proofs.Common.{◌≡◌, ◌⊎◌, ℕ, ◌+◌, ◌*◌, ◌^◌, ◌<◌, ◌≤◌, List, [], ◌∷◌, ◌++◌, length, get_or, Option, Some, None, Bool, true, false, refl, sym, ◌∙◌, ap, subst, inl, inr, arith}
+use Rattle.std.specs.List.{Contains}
+use Rattle.std.proofs.lemmas.List.{get_or_push, length_push, get_or_default, append-nil}
+use Rattle.lgm_graph.specs.Fee.{fee_of}
+use Rattle.lgm_graph.specs.Graph.{Graph, links, links_into, links_leaving, AreLinked}
+use Rattle.lgm_graph.specs.declared.link.Link.{Link}
+use Rattle.lgm_route.specs.declared.trip.Trip.{Trip}
+use Rattle.lgm_route.specs.declared.label.Arc.{Arc}
+use Rattle.lgm_route.specs.declared.label.Label.{Label}
+use Rattle.lgm_route.specs.Numbered.{owed, sent, ids, IsRest, IsUsable, IsLeast, Precedes}
+use Rattle.lgm_route.specs.Searching.{NotAfter, rest_key, walk_key, Serves, no_link, no_arc, link_in, link_at, label_at, no_label, number_at, Spells, IdsFirst, IsLabel, IsWalk, DoesServe, SomeRest, SomeWalk, bound_of, IsNoBetter, IsHopeless, IsPassed, IsLeft, IsSettled, AreLabels, IsFound, IsSearch, Grows, IsBetter, IsOffered, PassesOn, LeadsOn, StandsIn, AreSettled, IsMarked, IsStart}
+use Rattle.lgm_route.proofs.Orders.{NotAfter-refl, NotAfter-trans, NotAfter-join, NotAfter-excludes}
+use Rattle.lgm_route.proofs.Rests.{trichotomy, Serves-refl, Serves-trans}
+use Rattle.lgm_route.proofs.Labels.{Spells-unique, label-unique, label_left, label-grows, hopeless-serves, label-later, at-later, long-later, passed-later, settled-later}
+
+-- the label comes first: by what it owes, then by how many edges it has, then by their ids
+abbrev pub IsBefore : List Label → Label → Label → Type 0
+IsBefore labels x y = (x.owed < y.owed) ⊎ ((x.owed ≡ y.owed) × (x.count < y.count)) ⊎ ((x.owed ≡ y.owed) × (x.count ≡ y.count) × IdsFirst labels x y)
+
+pub before_walk : (edges : List Link) (request : Trip) (labels : List Label) (x y : Label) (walk other : List Link) → IsWalk edges request labels x walk → IsWalk edges request labels y other →
+    IsBefore labels x y → NotAfter (walk_key request walk) (walk_key request other)
+before_walk edges request labels x y walk other h k (inl p) =
+    NotAfter-join (sent request.amount walk) (sent request.amount other) (length walk ∷ ids walk) (length other ∷ ids other) (inl (omega (arith, h.sends, k.sends)))
+before_walk edges request labels x y walk other h k (inr (inl p)) =
+    NotAfter-join (sent request.amount walk) (sent request.amount other) (length walk ∷ ids walk) (length other ∷ ids other)
+    (inr (h.sends ∙ p.0 ∙ sym k.sends, NotAfter-join (length walk) (length other) (ids walk) (ids other) (inl (omega (arith, p.1, h.long, k.long)))))
+before_walk edges request labels x y walk other h k (inr (inr p)) =
+    NotAfter-join (sent request.amount walk) (sent request.amount other) (length walk ∷ ids walk) (length other ∷ ids other)
+    (inr (
+      h.sends ∙ p.0 ∙ sym k.sends,
+      NotAfter-join (length walk) (length other) (ids walk) (ids other)
+          (inr (h.long ∙ p.1 ∙ sym k.long, p.2 walk other h.spells k.spells h.long k.long)),
+    ))
+
+pub before_serves : (edges : List Link) (request : Trip) (labels : List Label) (x y : Label) (rest other : List Link) → IsLabel edges request labels x rest → IsLabel edges request labels y other →
+    x.count ≤ y.count → IsBefore labels x y → Serves request rest other
+before_serves edges request labels x y rest other h k fewer before = record { fewer = omega (arith, h.long, k.long); before = by before }
+  where
+    by : IsBefore labels x y → NotAfter (rest_key request rest) (rest_key request other)
+    by (inl p) = NotAfter-join (owed request.amount rest) (owed request.amount other) (length rest ∷ ids rest) (length other ∷ ids other) (inl (omega (arith, h.owes, k.owes)))
+    by (inr (inl p)) = NotAfter-join (owed request.amount rest) (owed request.amount other) (length rest ∷ ids rest) (length other ∷ ids other)
+        (inr (h.owes ∙ p.0 ∙ sym k.owes, NotAfter-join (length rest) (length other) (ids rest) (ids other) (inl (omega (arith, p.1, h.long, k.long)))))
+    by (inr (inr p)) = NotAfter-join (owed request.amount rest) (owed request.amount other) (length rest ∷ ids rest) (length other ∷ ids other)
+        (inr (
+          h.owes ∙ p.0 ∙ sym k.owes,
+          NotAfter-join (length rest) (length other) (ids rest) (ids other)
+              (inr (h.long ∙ p.1 ∙ sym k.long, p.2 rest other h.spells k.spells h.long k.long)),
+        ))
+
+-- the better of two walks
+module _ (edges : List Link) (request : Trip) (labels : List Label) (start : ℕ) where
+  pub better_first : (new : Label) → SomeWalk edges request labels new → new.owed < start → IsBetter edges request labels start None new (Some new)
+  better_first new some low =
+      record {
+        found_is = (some, low);
+        lower = omega (arith, some.1.few);
+        below = omega arith;
+        keeps = λ walk h. (some.0, some.1, NotAfter-join (sent request.amount some.0) (sent request.amount walk) (length some.0 ∷ ids some.0) (length walk ∷ ids walk) (inl (omega (arith, some.1.sends))));
+        takes = λ walk is. (walk, is, NotAfter-refl (walk_key request walk));
+      }
+
+  pub better_takes : (best new : Label) → IsFound edges request labels start (Some best) → SomeWalk edges request labels new → IsBefore labels new best → IsBetter edges request labels start (Some best) new (Some new)
+  better_takes best new found some before =
+      record {
+        found_is = (some, low before);
+        lower = lower before;
+        below = omega arith;
+        keeps = λ walk h. (some.0, some.1, NotAfter-trans (walk_key request some.0) (walk_key request h.0) (walk_key request walk) (before_walk edges request labels new best some.0 h.0 some.1 h.1 before) h.2);
+        takes = λ walk is. (walk, is, NotAfter-refl (walk_key request walk));
+      }
+    where
+      low : IsBefore labels new best → new.owed < start
+      low (inl p) = omega (arith, found.1)
+      low (inr (inl p)) = omega (arith, found.1, p.0)
+      low (inr (inr p)) = omega (arith, found.1, p.0)
+
+      lower : IsBefore labels new best → new.owed * 32 + new.count ≤ best.owed * 32 + best.count
+      lower (inl p) = omega (arith, some.1.few)
+      lower (inr (inl p)) = omega (arith, p.0, p.1)
+      lower (inr (inr p)) = omega (arith, p.0, p.1)
+
+  pub better_keeps : (best new : Label) → IsFound edges request labels start (Some best) → IsBefore labels best new → IsBetter edges request labels start (Some best) new (Some best)
+  better_keeps best new found before =
+      record {
+        found_is = found;
+        lower = omega arith;
+        below = below before;
+        keeps = λ walk h. h;
+        takes = λ walk is. ((found.0).0, (found.0).1, before_walk edges request labels best new (found.0).0 walk (found.0).1 is before);
+      }
+    where
+      below : IsBefore labels best new → best.owed * 32 + best.count ≤ new.owed * 32 + new.count
+      below (inl p) = omega (arith, (found.0).1.few)
+      below (inr (inl p)) = omega (arith, p.0, p.1)
+      below (inr (inr p)) = omega (arith, p.0, p.1)
+
+pub found_below : (edges : List Link) (request : Trip) (labels : List Label) (start : ℕ) (o : Option Label) → IsFound edges request labels start o → bound_of start o ≤ start * 32
+found_below edges request labels start None h = omega arith
+found_below edges request labels start (Some found) h = omega (arith, h.1, (h.0).1.few)
+
+-- a label that serves is there
+pub offered_there : (edges : List Link) (request : Trip) (labels : List Label) (new : Label) (place : ℕ) → AreLabels edges request labels → place < length labels →
+    (label_at labels place).node ≡ new.node → DoesServe labels (label_at labels place) new → IsOffered edges request labels new labels
+offered_there edges request labels new place are within at serves =
+    record {
+      labelled = are;
+      more = [];
+      is = sym (append-nil labels);
+      has = λ rest is. record {
+        place = place;
+        within = within;
+        at = at;
+        other = (are.sound place within).0;
+        is = (are.sound place within).1;
+        serves = serves edges request (are.sound place within).0 rest (are.sound place within).1 is;
+      };
+    }
+
+label_new : (labels : List Label) (new : Label) (i : ℕ) → length labels ≡ i → label_at (labels ++ new ∷ []) i ≡ new
+label_new labels new i long = get_or_push labels new no_label i long
+
+-- or it is added
+pub offered_new : (edges : List Link) (request : Trip) (labels : List Label) (new : Label) → AreLabels edges request labels →
+    SomeRest edges request labels new → new.count ≤ 19 → IsOffered edges request labels new (labels ++ new ∷ [])
+offered_new edges request labels new are some few =
+    record {
+      labelled = record {
+        some = omega (arith, all, are.some);
+        first = (ap (λ l. l.node) (label_left labels (new ∷ []) 0 (omega (arith, are.some))) ∙ are.first.0, ap (λ l. l.count) (label_left labels (new ∷ []) 0 (omega (arith, are.some))) ∙ are.first.1);
+        sound = λ i within. sound i (trichotomy i (length labels)) within;
+        few = λ i within. low i (trichotomy i (length labels)) within;
+      };
+      more = new ∷ [];
+      is = refl;
+      has = λ rest is. record {
+        place = length labels;
+        within = omega (arith, all);
+        at = ap (λ l. l.node) last;
+        other = rest;
+        is = subst (λ l. IsLabel edges request (labels ++ new ∷ []) l rest) (sym last) (label-grows edges request labels (new ∷ []) new rest is);
+        serves = Serves-refl request rest;
+      };
+    }
+  where
+    all : length (labels ++ new ∷ []) ≡ length labels + 1
+    all = length_push labels new
+
+    last : label_at (labels ++ new ∷ []) (length labels) ≡ new
+    last = label_new labels new (length labels) refl
+
+    sound : (i : ℕ) → (i < length labels) ⊎ (i ≡ length labels) ⊎ (length labels < i) → i < length (labels ++ new ∷ []) → SomeRest edges request (labels ++ new ∷ []) (label_at (labels ++ new ∷ []) i)
+    sound i (inl p) within = (
+      (are.sound i p).0,
+      subst (λ l. IsLabel edges request (labels ++ new ∷ []) l (are.sound i p).0) (sym (label_left labels (new ∷ []) i p))
+          (label-grows edges request labels (new ∷ []) (label_at labels i) (are.sound i p).0 (are.sound i p).1),
+    )
+    sound i (inr (inl e)) within = (some.0, subst (λ l. IsLabel edges request (labels ++ new ∷ []) l some.0) (sym (label_new labels new i (sym e))) (label-grows edges request labels (new ∷ []) new some.0 some.1))
+    sound i (inr (inr p)) within = absurd (omega (arith, all))
+
+    low : (i : ℕ) → (i < length labels) ⊎ (i ≡ length labels) ⊎ (length labels < i) → i < length (labels ++ new ∷ []) → (label_at (labels ++ new ∷ []) i).count ≤ 19
+    low i (inl p) within = omega (arith, are.few i p, ap (λ l. l.count) (label_left labels (new ∷ []) i p))
+    low i (inr (inl e)) within = omega (arith, ap (λ l. l.count) (label_new labels new i (sym e)))
+    low i (inr (inr p)) within = absurd (omega (arith, all))
+
+-- one more edge before a label's rest
+module _ (edges : List Link) (request : Trip) (labels : List Label) (i : ℕ) (arc : Arc) (within : i < length labels) (there : Contains edges (link_in arc))
+    (to : arc.to ≡ (label_at labels i).node) (min : arc.min ≤ request.amount) (max : (label_at labels i).owed ≤ arc.max)
+    (rest : List Link) (is : IsLabel edges request labels (label_at labels i) rest) where
+  step : IsRest edges request arc.from (link_in arc ∷ rest)
+  step = (
+    record { there = there; leaves = refl; above_min = min; below_max = omega (arith, is.owes, max) },
+    subst (λ n. IsRest edges request n rest) (sym to) is.joins,
+  )
+
+  pub one_walk : arc.from ≡ request.payer → (label_at labels i).count ≤ 19 →
+      IsWalk edges request labels (record { owed = (label_at labels i).owed; arc = arc; next = i; node = arc.from; count = (label_at labels i).count + 1 }) (link_in arc ∷ rest)
+  one_walk from few =
+      record {
+        spells = (refl, within, is.spells);
+        long = omega (arith, is.long);
+        some = omega arith;
+        few = omega (arith, few);
+        joins = subst (λ n. IsRest edges request n (link_in arc ∷ rest)) from step;
+        sends = is.owes;
+      }
+
+  pub one_rest : (x : ℕ) → x ≡ (label_at labels i).owed + fee_of (label_at labels i).owed arc.base arc.millionths →
+      IsLabel edges request labels (record { owed = x; arc = arc; next = i; node = arc.from; count = (label_at labels i).count + 1 }) (link_in arc ∷ rest)
+  one_rest x e =
+      record {
+        spells = (refl, within, is.spells);
+        long = omega (arith, is.long);
+        joins = step;
+        owes = ap (λ y. y + fee_of y arc.base arc.millionths) is.owes ∙ sym e;
+      }
+
+-- passing over an edge, seen from an earlier state, or in a later one
+pub passes_from : (edges : List Link) (request : Trip) (low : List ℕ) (start i : ℕ) (labels : List Label) (found : Option Label) (after : List Label) (now : Option Label) (last : List Label) (best : Option Label) (edge : Link) →
+    Grows edges request start labels found after now → i < length labels → PassesOn edges request low start after i last best edge → PassesOn edges request low start labels i last best edge
+passes_from edges request low start i labels found after now last best edge grows within passes rest is to min max =
+    let same = at-later edges request low start labels found after now grows i within in
+    passes rest (subst (λ l. IsLabel edges request after l rest) (sym same) (label-later edges request low start labels found after now grows (label_at labels i) rest is)) (to ∙ ap (λ l. l.node) (sym same)) min max
+
+pub passes_later : (edges : List Link) (request : Trip) (low : List ℕ) (start i : ℕ) (labels : List Label) (after : List Label) (now : Option Label) (last : List Label) (best : Option Label) (edge : Link) →
+    Grows edges request start after now last best → PassesOn edges request low start labels i after now edge → PassesOn edges request low start labels i last best edge
+passes_later edges request low start i labels after now last best edge grows passes rest is to min max =
+    passed-later edges request low start after now last best grows edge rest (passes rest is to min max)
+
+-- each edge into the label's node is in the run of edges into it
+pub all_passed : (graph : Graph) (request : Trip) (low : List ℕ) (start i : ℕ) (labels after : List Label) (now : Option Label) → AreLinked graph →
+    ((j : ℕ) → j < length (links_into graph (label_at labels i).node) → PassesOn (links graph) request low start labels i after now (link_at (links_into graph (label_at labels i).node) j)) →
+    LeadsOn (links graph) request low start labels i after now
+all_passed graph request low start i labels after now linked passes rest is edge there to min max =
+    let run = links_into graph (label_at labels i).node in
+    let place : Contains run edge = subst (λ n. Contains (links_into graph n) edge) to (linked.each edge there).there in
+    let same : link_at run place.0 ≡ edge = subst (λ e. e ≡ edge) (get_or_default run place.0 edge no_link place.1) place.2 in
+    subst (λ e. IsPassed (links graph) request low start after now e rest) same
+    (passes place.0 place.1 rest is (ap (λ e. e.to) same ∙ to) (omega (arith, ap (λ e. e.min) same, min)) (omega (arith, ap (λ e. e.max) same, max)))
+
+-- a label is settled where one is that serves in its place
+pub settled_serves : (edges : List Link) (request : Trip) (low : List ℕ) (start : ℕ) (labels : List Label) (found : Option Label) (x y : Label) (rest : List Link) →
+    x.node ≡ y.node → ((a b : List Link) → IsLabel edges request labels x a → IsLabel edges request labels y b → Serves request a b) → IsLabel edges request labels y rest → IsSettled edges request low start labels found x → IsSettled edges request low start labels found y
+settled_serves edges request low start labels found x y rest node serves is settled =
+    record { rest = rest; is = is; done = subst (λ n. IsHopeless request low (bound_of start found) n rest ⊎ ((other : List Link) × Serves request other rest × IsLeft edges request low start labels found n other)) node (by settled.done) }
+  where
+    better : Serves request settled.rest rest
+    better = serves settled.rest rest settled.is is
+
+    by : IsHopeless request low (bound_of start found) x.node settled.rest ⊎ ((other : List Link) × Serves request other settled.rest × IsLeft edges request low start labels found x.node other) →
+        IsHopeless request low (bound_of start found) x.node rest ⊎ ((other : List Link) × Serves request other rest × IsLeft edges request low start labels found x.node other)
+    by (inl p) = inl (hopeless-serves request low (bound_of start found) x.node settled.rest rest better p)
+    by (inr p) = inr (p.0, Serves-trans request p.0 settled.rest rest p.1 better, p.2)
+
+pub serves_itself : (labels : List Label) (label : Label) → DoesServe labels label label
+serves_itself labels label edges request rest also is also_is =
+    subst (λ r. Serves request rest r) (label-unique edges request labels label rest also is also_is) (Serves-refl request rest)
+
+-- marked labels are settled, and one more
+module _ (edges : List Link) (request : Trip) (low : List ℕ) (start : ℕ) where
+  pub settled_more : (labels : List Label) (found : Option Label) (after : List Label) (now : Option Label) (done marked : List Bool) (i : ℕ) →
+      Grows edges request start labels found after now → AreSettled edges request low start labels found done → IsMarked done i marked → i < length labels →
+      IsSettled edges request low start after now (label_at after i) → AreSettled edges request low start after now marked
+  settled_more labels found after now done marked i grows settled mark within new j is = by (mark.others j is)
+    where
+      long : length labels ≤ length after
+      long = long-later edges request low start labels found after now grows
+
+      by : (j ≡ i) ⊎ (get_or done j false ≡ true) → (j < length after) × IsSettled edges request low start after now (label_at after j)
+      by (inl e) = (omega (arith, long), subst (λ n. IsSettled edges request low start after now (label_at after n)) (sym e) new)
+      by (inr h) =
+          let old = settled j h in (
+            omega (arith, long, old.0),
+            subst (λ l. IsSettled edges request low start after now l) (sym (at-later edges request low start labels found after now grows j old.0))
+                (settled-later edges request low start labels found after now grows (label_at labels j) old.1),
+          )
+
+  -- a label whose rest was led on
+  pub settled_left : (labels : List Label) (found : Option Label) (after : List Label) (now : Option Label) (i : ℕ) →
+      Grows edges request start labels found after now → i < length labels → SomeRest edges request labels (label_at labels i) → LeadsOn edges request low start labels i after now →
+      IsSettled edges request low start after now (label_at after i)
+  settled_left labels found after now i grows within some leads =
+      subst (λ l. IsSettled edges request low start after now l) (sym (at-later edges request low start labels found after now grows i within))
+      (record {
+        rest = some.0;
+        is = label-later edges request low start labels found after now grows (label_at labels i) some.0 some.1;
+        done = inr (some.0, Serves-refl request some.0, leads some.0 some.1);
+      })
+
+  pub settled_hopeless : (labels : List Label) (found : Option Label) (label : Label) → SomeRest edges request labels label →
+      bound_of start found ≤ (label.owed + number_at low label.node) * 32 + label.count → IsSettled edges request low start labels found label
+  settled_hopeless labels found label some h = record { rest = some.0; is = some.1; done = inl (omega (arith, h, some.1.owes, some.1.long)) }
+
+  -- a label for which another stands in
+  pub settled_for : (labels : List Label) (found : Option Label) (after : List Label) (now : Option Label) (i place : ℕ) →
+      Grows edges request start labels found after now → AreLabels edges request labels → i < length labels → StandsIn labels i place →
+      IsSettled edges request low start after now (label_at after place) → IsSettled edges request low start after now (label_at after i)
+  settled_for labels found after now i place grows are within stands settled =
+      settled_serves edges request low start after now (label_at after place) (label_at after i) mine.0
+      (ap (λ l. l.node) (at place stands.within) ∙ stands.node ∙ sym (ap (λ l. l.node) (at i within))) serves mine.1 settled
+    where
+      at : (j : ℕ) → j < length labels → label_at after j ≡ label_at labels j
+      at j inside = at-later edges request low start labels found after now grows j inside
+
+      later : (j : ℕ) → j < length labels → SomeRest edges request after (label_at after j)
+      later j inside = (
+        (are.sound j inside).0,
+        subst (λ l. IsLabel edges request after l (are.sound j inside).0) (sym (at j inside))
+            (label-later edges request low start labels found after now grows (label_at labels j) (are.sound j inside).0 (are.sound j inside).1),
+      )
+
+      mine : SomeRest edges request after (label_at after i)
+      mine = later i within
+
+      serves : (a b : List Link) → IsLabel edges request after (label_at after place) a → IsLabel edges request after (label_at after i) b → Serves request a b
+      serves a b is_a is_b =
+          let p = are.sound place stands.within in
+          let q = are.sound i within in
+          let one : p.0 ≡ a = label-unique edges request after (label_at after place) p.0 a (later place stands.within).1 is_a in
+          let two : q.0 ≡ b = label-unique edges request after (label_at after i) q.0 b mine.1 is_b in
+          subst (λ r. Serves request a r) two (subst (λ r. Serves request r q.0) one (stands.serves edges request p.0 q.0 p.1 q.1))
+
+-- the first label
+pub first_label : (edges : List Link) (request : Trip) (start : ℕ) →
+    IsSearch edges request start (record { owed = request.amount; arc = no_arc; next = 0; node = request.payee; count = 0 } ∷ []) None
+first_label edges request start =
+    record { labelled = record { some = omega arith; first = (refl, refl); sound = λ i within. sound i (trichotomy i 0) within; few = λ i within. few i (trichotomy i 0) within }; found_is = tt }
+  where
+    new : Label
+    new = record { owed = request.amount; arc = no_arc; next = 0; node = request.payee; count = 0 }
+
+    sound : (i : ℕ) → (i < 0) ⊎ (i ≡ 0) ⊎ (0 < i) → i < length (new ∷ []) → SomeRest edges request (new ∷ []) (label_at (new ∷ []) i)
+    sound i (inl p) within = absurd (omega arith)
+    sound i (inr (inl e)) within = subst (λ n. SomeRest edges request (new ∷ []) (label_at (new ∷ []) n)) (sym e) ([], record { spells = tt; long = refl; joins = refl; owes = refl })
+    sound i (inr (inr p)) within = absurd (omega arith)
+
+    few : (i : ℕ) → (i < 0) ⊎ (i ≡ 0) ⊎ (0 < i) → i < length (new ∷ []) → (label_at (new ∷ []) i).count ≤ 19
+    few i (inl p) within = absurd (omega arith)
+    few i (inr (inl e)) within = subst (λ n. (label_at (new ∷ []) n).count ≤ 19) (sym e) (omega arith)
+    few i (inr (inr p)) within = absurd (omega arith)
+
+-- one more edge of a run was passed over
+pub passes_more : (edges run : List Link) (request : Trip) (low : List ℕ) (start i place : ℕ) (labels middle : List Label) (then : Option Label) (after : List Label) (now : Option Label) →
+    ((j : ℕ) → j < place → PassesOn edges request low start labels i middle then (link_at run j)) → Grows edges request start middle then after now →
+    PassesOn edges request low start labels i after now (link_at run place) →
+    (j : ℕ) → j < place + 1 → PassesOn edges request low start labels i after now (link_at run j)
+passes_more edges run request low start i place labels middle then after now before grows new j to = by (trichotomy j place)
+  where
+    by : (j < place) ⊎ (j ≡ place) ⊎ (place < j) → PassesOn edges request low start labels i after now (link_at run j)
+    by (inl p) = passes_later edges request low start i labels middle then after now (link_at run j) grows (before j p)
+    by (inr (inl e)) = subst (λ n. PassesOn edges request low start labels i after now (link_at run n)) (sym e) new
+    by (inr (inr p)) = absurd (omega arith)
+
+-- over the payer's edges goes no more than the most
+pub start_of : (graph : Graph) (most : ℕ) (request : Trip) → AreLinked graph →
+    ((j : ℕ) → j < length (links_leaving graph request.payer) → (link_at (links_leaving graph request.payer) j).max < most) → IsStart (links graph) request most
+start_of graph most request linked above [] usable = absurd (omega (arith, usable.some))
+start_of graph most request linked above (edge ∷ rest) usable =
+    let step = usable.joins.0 in
+    let run = links_leaving graph request.payer in
+    let place : Contains run edge = subst (λ n. Contains (links_leaving graph n) edge) step.leaves (linked.each edge step.there).leaves in
+    let same : link_at run place.0 ≡ edge = subst (λ e. e ≡ edge) (get_or_default run place.0 edge no_link place.1) place.2 in
+    let max = above place.0 place.1 in
+    (edge ∷ rest, usable, omega (arith, step.below_max, max, ap (λ e. e.max) same))
+
+-- the best walk, once none is better, is the least
+pub least_of : (edges : List Link) (request : Trip) (labels : List Label) (start : ℕ) (found : Label) (walk : List Link) →
+    ((other : List Link) → IsUsable edges request other → IsNoBetter edges request labels start (Some found) other) → IsFound edges request labels start (Some found) →
+    Spells labels found walk → length walk ≡ found.count → IsLeast edges request walk
+least_of edges request labels start found walk best is spells long =
+    subst (λ w. IsLeast edges request w) (same (is.0).0 (is.0).1)
+    (record {
+      usable = record { some = omega (arith, (is.0).1.some, (is.0).1.long); few = omega (arith, (is.0).1.few, (is.0).1.long); joins = (is.0).1.joins };
+      first = λ other usable before. by other (best other usable) before;
+    })
+  where
+    same : (w : List Link) → IsWalk edges request labels found w → w ≡ walk
+    same w k = Spells-unique labels found w walk k.spells spells (k.long ∙ sym long)
+
+    by : (other : List Link) → IsNoBetter edges request labels start (Some found) other → Precedes request other (is.0).0 → ⊥
+    by other h before =
+        NotAfter-excludes (walk_key request (is.0).0) (walk_key request other)
+        (subst (λ w. NotAfter (walk_key request w) (walk_key request other)) (same h.0 h.1 ∙ sym (same (is.0).0 (is.0).1)) h.2) before
+
+pub sent_small : (edges : List Link) (request : Trip) (labels : List Label) (start : ℕ) (found : Label) (walk : List Link) → start ≤ 2 ^ 64 →
+    IsFound edges request labels start (Some found) → Spells labels found walk → length walk ≡ found.count → sent request.amount walk < 2 ^ 64
+sent_small edges request labels start found walk low is spells long =
+    let same = Spells-unique labels found (is.0).0 walk (is.0).1.spells spells ((is.0).1.long ∙ sym long) in
+    omega (arith, is.1, (is.0).1.sends, ap (λ w. sent request.amount w) same)

@@ -1,0 +1,19 @@
+use Rattle.std.proofs.Common.{◌≡◌, ◌<◌, ℕ, get_or, true, false, length}
+use Rattle.lgm_graph.specs.Graph.{links}
+use Rattle.lgm_route.specs.Searching.{IsSearch, AreSettled}
+use Rattle.lgm_route.proofs.searching.search.Given as goal
+
+abbrev pub invariant-loop-turn : goal.invariant-loop-turn
+invariant-loop-turn l = record {
+  search : IsSearch (links l.view) l.request l.start l.labels.items l.found;
+  settled : AreSettled (links l.view) l.request l.low l.start l.labels.items l.found l.done.items;
+  long : length l.places.items ≡ length l.low;
+}
+
+abbrev pub invariant-loop-i : goal.invariant-loop-i
+invariant-loop-i l = record {
+  search : IsSearch (links l.view) l.request l.start l.labels.items l.found;
+  settled : AreSettled (links l.view) l.request l.low l.start l.labels.items l.found l.done.items;
+  marked : (j : ℕ) → j < l.i → get_or l.done.items j false ≡ true;
+  long : length l.places.items ≡ length l.low;
+}

@@ -1,0 +1,6 @@
+pub mod Route
+pub mod Routes
+pub mod Answers
+pub mod Numbered
+pub mod Searching
+pub mod Best

@@ -1,0 +1,95 @@
+-- Walks over edges between points, what they cost, and the least one.
+use Rattle.std.specs.Prelude.{◌≡◌, ◌≢◌, ◌⊎◌, ℕ, ◌+◌, ◌≤◌, List, [], ◌∷◌, length, map, Contains, Option, Some, None}
+use Rattle.std.specs.declared.cmp.Ordering.TheVariants.{Less}
+use Rattle.std.specs.Ordering.{nat_cmp}
+use Rattle.std.specs.Cmp.Lexicographic.{slice_cmp}
+use Rattle.lgm_gossip.specs.declared.point.Point.{Point}
+use Rattle.lgm_graph.specs.Fee.{fee_of}
+use Rattle.lgm_graph.specs.declared.edge.Edge.{Edge}
+use Rattle.lgm_route.specs.declared.request.Request.{Request}
+use Rattle.lgm_route.specs.declared.route.Hop.{Hop}
+
+-- what has to reach the first node of these edges so that the amount reaches their end, each node on
+-- the way taking its fee: over each edge goes what is owed at the edges behind it
+abbrev pub owed : ℕ → List Edge → ℕ
+owed amount [] = amount
+owed amount (edge ∷ rest) = let passed = owed amount rest in passed + fee_of passed edge.base edge.millionths
+
+-- what the payer sends: the first edge is its own, and charges nothing
+abbrev pub sent : ℕ → List Edge → ℕ
+sent amount [] = amount
+sent amount (edge ∷ rest) = owed amount rest
+
+-- the expiry that has to reach the first node of these edges
+abbrev pub due : ℕ → List Edge → ℕ
+due expiry [] = expiry
+due expiry (edge ∷ rest) = due expiry rest + edge.delta
+
+-- an edge of the list that leaves the node: the amount is no less than its minimum, and what goes over
+-- it, as the edges behind it need it, no more than its maximum
+pub record IsStep (edges : List Edge) (request : Request) (node : Point) (edge : Edge) (rest : List Edge) : Type 0 where
+  pub there : Contains edges edge
+  pub leaves : edge.from ≡ node
+  pub above_min : edge.min ≤ request.amount
+  pub below_max : owed request.amount rest ≤ edge.max
+
+-- edges that join, from the node to the payee
+abbrev pub IsRest : List Edge → Request → Point → List Edge → Type 0
+IsRest edges request node [] = node ≡ request.payee
+IsRest edges request node (edge ∷ rest) = IsStep edges request node edge rest × IsRest edges request edge.to rest
+
+-- a walk of 1 to 20 edges, from the payer to the payee
+pub record IsUsable (edges : List Edge) (request : Request) (walk : List Edge) : Type 0 where
+  pub some : 1 ≤ length walk
+  pub few : length walk ≤ 20
+  pub joins : IsRest edges request request.payer walk
+
+-- the ids of its channels, from the payer on
+abbrev pub ids : List Edge → List ℕ
+ids walk = map (λ edge. edge.scid) walk
+
+-- the first number in which two lists differ decides: what is sent, then how many edges, then the ids
+abbrev pub Precedes : Request → List Edge → List Edge → Type 0
+Precedes request walk other =
+    slice_cmp nat_cmp
+    (sent request.amount walk ∷ length walk ∷ ids walk)
+    (sent request.amount other ∷ length other ∷ ids other) ≡ Less
+
+-- a usable walk that no usable walk precedes
+pub record IsLeast (edges : List Edge) (request : Request) (walk : List Edge) : Type 0 where
+  pub usable : IsUsable edges request walk
+  pub first : (other : List Edge) → IsUsable edges request other → Precedes request other walk → ⊥
+
+-- the walk as hops: over each edge what is owed and due at the edges behind it
+abbrev pub hops_of : Request → List Edge → List Hop
+hops_of request [] = []
+hops_of request (edge ∷ rest) =
+    record { scid = edge.scid; from = edge.from; to = edge.to; amount = owed request.amount rest; expiry = due request.expiry rest }
+    ∷ hops_of request rest
+
+-- the hops of the least walk, or none where no walk is usable
+abbrev pub IsBest : List Edge → Request → Option (List Hop) → Type 0
+IsBest edges request None = (walk : List Edge) → IsUsable edges request walk → ⊥
+IsBest edges request (Some hops) = (walk : List Edge) × IsLeast edges request walk × (hops ≡ hops_of request walk)
+
+-- two edges of one id are the same one, or go opposite ways
+abbrev pub AreDirections : List Edge → Type 0
+AreDirections edges =
+    (edge other : Edge) → Contains edges edge → Contains edges other → edge.scid ≡ other.scid →
+    (edge ≡ other) ⊎ ((edge.from ≡ other.to) × (edge.to ≡ other.from))
+
+-- some edge of the walk ends at the node
+abbrev pub Visits : Point → List Edge → Type 0
+Visits node [] = ⊥
+Visits node (edge ∷ rest) = (edge.to ≡ node) ⊎ Visits node rest
+
+-- a walk from the node comes back to no node
+abbrev pub IsSimple : Point → List Edge → Type 0
+IsSimple node [] = Unit {0}
+IsSimple node (edge ∷ rest) = (Visits node (edge ∷ rest) → ⊥) × IsSimple edge.to rest
+
+-- a request has one least walk, which comes back to no node
+abbrev pub LeastIsOne : Type 0
+LeastIsOne =
+    (edges : List Edge) (request : Request) (walk other : List Edge) → AreDirections edges → request.payer ≢ request.payee →
+    IsLeast edges request walk → IsLeast edges request other → (walk ≡ other) × IsSimple request.payer walk

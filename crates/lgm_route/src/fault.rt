@@ -1,0 +1,46 @@
+//! Why a payment has no route.
+
+ghost use Rattle.std.specs.Prelude.{◌≡◌};
+ghost use Rattle.lgm_route.specs.declared.fault.RouteFault.TheVariants.{NoMemory};
+
+use std::alloc::{AllocError, AllocFailed};
+use thiserror::Error;
+
+/// Why a payment has no route: the first reason, in the order of the variants, or want of memory.
+#[derive(Clone, Copy, Debug, PartialEq, Eq, Error)]
+pub enum RouteFault {
+    /// The amount is 0 msat.
+    #[error("amount-zero")]
+    AmountZero,
+    /// The amount is above 2,100,000,000,000,000,000 msat, all the bitcoin that there will be.
+    #[error("amount-too-large")]
+    AmountTooLarge,
+    /// The expiry is above the block height 498,000,000.
+    #[error("expiry-too-large")]
+    ExpiryTooLarge,
+    /// The payer is the payee.
+    #[error("self-payment")]
+    SelfPayment,
+    /// No channels lead from the payer to the payee that may carry the amount.
+    #[error("no-route")]
+    NoRoute,
+    /// Memory was refused. It says nothing of the payment.
+    #[error("out of memory")]
+    NoMemory,
+}
+
+impl From<AllocError> for RouteFault {
+    ghost from_gives = { λ _ e. e ≡ NoMemory };
+
+    fn from(_e: AllocError) -> RouteFault {
+        RouteFault::NoMemory
+    }
+}
+
+impl<T: Drop> From<AllocFailed<T>> for RouteFault {
+    ghost from_gives = { λ _ e. e ≡ NoMemory };
+
+    fn from(_e: AllocFailed<T>) -> RouteFault {
+        RouteFault::NoMemory
+    }
+}

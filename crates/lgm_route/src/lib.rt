@@ -1,0 +1,31 @@
+//! Routes of a payment: what a payer sends over which channels so that an amount arrives.
+//!
+//! A [`Request`] names the payment, a [`Route`] the 1 to 20 channels that carry it, with what goes
+//! over each, and a [`RouteFault`] why there is none.
+#![tactic(auto)]
+
+mod comparing;
+mod fault;
+mod heap;
+mod hops;
+mod label;
+mod laws;
+mod leading;
+mod low;
+mod rebuilding;
+mod request;
+mod route;
+mod routing;
+mod searching;
+mod settling;
+mod starting;
+mod trip;
+
+pub use fault::RouteFault;
+pub use laws::least_is_one;
+pub use request::Request;
+pub use route::{Hop, Route};
+pub use routing::least;
+
+#[cfg(test)]
+mod tests;

@@ -1,0 +1,25 @@
+//! What a search begins with.
+
+ghost use Rattle.std.specs.Prelude.{◌^◌, ◌≤◌};
+ghost use Rattle.lgm_route.specs.Searching.{IsStart};
+ghost use Rattle.lgm_graph.specs.Graph.{links, AreLinked};
+
+use crate::trip::Trip;
+use lgm_graph::View;
+
+/// More than any walk sends: over its first edge goes no more than the most of those out of the
+/// payer.
+pub(crate) fn most_sent(view: &View, request: &Trip) -> u128
+    requires { AreLinked view.now }
+    ensures low { result ≤ 2 ^ 64 }
+    ensures start { IsStart (links view.now) request.now result }
+{
+    let mut most = 0;
+    for link in view.links_leaving(request.payer) {
+        let max = link.max as u128 + 1;
+        if most < max {
+            most = max;
+        }
+    }
+    most
+}

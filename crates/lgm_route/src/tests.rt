@@ -1,0 +1,299 @@
+//! Routes over made maps, whose amounts and ids were worked out by hand.
+
+use super::*;
+use lgm_check::{ChannelRow, UpdateRow};
+use lgm_gossip::{Announce, Bytes, ChainHash, ChannelUpdate, Point, Scid};
+use lgm_graph::{Known, View};
+use lgm_store::{Map, Op, Shared};
+use std::alloc::{AllocError, Global};
+use std::process::Abort;
+use std::test::Fail;
+
+/// The node of a number.
+fn point(last: u8) -> Point {
+    let mut bytes = [0; 33];
+    bytes[0] = 2;
+    bytes[32] = last;
+    Point(bytes)
+}
+
+/// What a direction asks for: base fee, millionths, delta, minimum and maximum.
+#[derive(Clone, Copy)]
+struct Terms {
+    base: u32,
+    millionths: u32,
+    delta: u16,
+    min: u64,
+    max: u64,
+}
+
+/// No fee, and any usual amount.
+const FREE: Terms = Terms {
+    base: 0,
+    millionths: 0,
+    delta: 40,
+    min: 1,
+    max: 50_000_000,
+};
+
+fn channel(alloc: Global, scid: Scid, from: u8, to: u8) -> Result<Op, AllocError> {
+    let message = Announce {
+        node_signature_1: [0; 64],
+        node_signature_2: [0; 64],
+        bitcoin_signature_1: [0; 64],
+        bitcoin_signature_2: [0; 64],
+        features: Bytes::from_slice(alloc, &[])?,
+        chain_hash: ChainHash([0; 32]),
+        short_channel_id: scid,
+        node_id_1: point(from),
+        node_id_2: point(to),
+        bitcoin_key_1: point(0),
+        bitcoin_key_2: point(0),
+        rest: Bytes::from_slice(alloc, &[])?,
+    };
+    let row = ChannelRow {
+        message,
+        sat: 2_100_000_000_000_000,
+        raw: Bytes::from_slice(alloc, &[])?,
+    };
+    Ok(Op::Channel(Shared::new(alloc, row)?))
+}
+
+fn update(alloc: Global, scid: Scid, terms: &Terms) -> Result<Op, AllocError> {
+    let message = ChannelUpdate {
+        signature: [0; 64],
+        chain_hash: ChainHash([0; 32]),
+        short_channel_id: scid,
+        timestamp: 1,
+        message_flags: 1,
+        channel_flags: 0,
+        cltv_expiry_delta: terms.delta,
+        htlc_minimum_msat: terms.min,
+        fee_base_msat: terms.base,
+        fee_proportional_millionths: terms.millionths,
+        htlc_maximum_msat: terms.max,
+        rest: Bytes::from_slice(alloc, &[])?,
+    };
+    let raw = Bytes::from_slice(alloc, &[])?;
+    Ok(Op::Update(Shared::new(alloc, UpdateRow { message, raw })?))
+}
+
+/// A channel of the map, and its direction from the first node to the second.
+fn join(
+    map: &mut Map,
+    alloc: Global,
+    scid: Scid,
+    from: u8,
+    to: u8,
+    terms: &Terms,
+) -> Result<(), AllocError> {
+    map.absorb(&channel(alloc, scid, from, to)?)?;
+    map.absorb(&update(alloc, scid, terms)?)
+}
+
+fn answer(
+    rt: &impl Abort,
+    alloc: Global,
+    map: &Map,
+    to: u8,
+    amount: u64,
+    expiry: u32,
+) -> Result<Result<Route, RouteFault>, AllocError> {
+    assert!(rt; map.count() <= 2_000_000_000);
+    let view = View::of(alloc, map, &Known::all())?;
+    let request = Request {
+        payer: point(0),
+        payee: point(to),
+        amount,
+        expiry,
+    };
+    Ok(least(alloc, &view, &request))
+}
+
+/// What the payer sends, its expiry, and the ids of the channels in one list.
+fn told(alloc: Global, route: &Route) -> Result<Vec<u64>, AllocError> {
+    let mut told = Vec::new(alloc);
+    told.push(route.sent())?;
+    told.push(u64::from(route.expiry()))?;
+    for hop in route.as_slice() {
+        told.push(hop.scid.to_u64())?;
+    }
+    Ok(told)
+}
+
+/// That the answer is a route which tells this.
+fn assert_route(
+    rt: &impl Abort,
+    alloc: Global,
+    answer: Result<Route, RouteFault>,
+    expected: &[u64],
+) -> Result<(), AllocError> {
+    match answer {
+        Ok(route) => {
+            let told = told(alloc, &route)?;
+            assert_eq!(rt; told.as_slice(), expected);
+        }
+        Err(fault) => assert!(rt; false, "{fault}"),
+    }
+    Ok(())
+}
+
+/// The second channel charges 200 msat and 2,000 millionths of 4,999,999 msat: 10,199 msat.
+#[test]
+fn fee_of_the_second_channel(rt: HostRuntime) -> Result<(), Fail> {
+    let alloc = rt.alloc();
+    let mut map = Map::new(alloc)?;
+    let first = Terms { delta: 10, ..FREE };
+    let second = Terms {
+        base: 200,
+        millionths: 2000,
+        delta: 20,
+        ..FREE
+    };
+    join(&mut map, alloc, Scid::from_u64(1), 0, 1, &first)?;
+    join(&mut map, alloc, Scid::from_u64(2), 1, 2, &second)?;
+    let found = answer(&rt, alloc, &map, 2, 4_999_999, 700_009)?;
+    assert_route(&rt, alloc, found, &[5_010_198, 700_029, 1, 2])?;
+    Ok(())
+}
+
+/// A minimum holds for the amount alone, not for what goes over the channel.
+#[test]
+fn minimum_at_the_amount(rt: HostRuntime) -> Result<(), Fail> {
+    let alloc = rt.alloc();
+    let second = Terms { base: 200, ..FREE };
+    let mut map = Map::new(alloc)?;
+    join(
+        &mut map,
+        alloc,
+        Scid::from_u64(1),
+        0,
+        1,
+        &Terms { min: 1000, ..FREE },
+    )?;
+    join(&mut map, alloc, Scid::from_u64(2), 1, 2, &second)?;
+    let found = answer(&rt, alloc, &map, 2, 1000, 700_000)?;
+    assert_route(&rt, alloc, found, &[1200, 700_040, 1, 2])?;
+    map.absorb(&Op::Close(Scid::from_u64(1)))?;
+    join(
+        &mut map,
+        alloc,
+        Scid::from_u64(1),
+        0,
+        1,
+        &Terms { min: 1001, ..FREE },
+    )?;
+    let none = answer(&rt, alloc, &map, 2, 1000, 700_000)?;
+    assert_eq!(rt; none.err(), Some(RouteFault::NoRoute));
+    Ok(())
+}
+
+/// Of routes that send the same that of fewer channels, and then that of the lesser id.
+#[test]
+fn ties(rt: HostRuntime) -> Result<(), Fail> {
+    let alloc = rt.alloc();
+    let mut map = Map::new(alloc)?;
+    join(&mut map, alloc, Scid::from_u64(1), 0, 1, &FREE)?;
+    join(&mut map, alloc, Scid::from_u64(2), 1, 2, &FREE)?;
+    join(&mut map, alloc, Scid::from_u64(9), 0, 2, &FREE)?;
+    let found = answer(&rt, alloc, &map, 2, 1000, 700_000)?;
+    assert_route(&rt, alloc, found, &[1000, 700_000, 9])?;
+    join(&mut map, alloc, Scid::from_u64(8), 0, 2, &FREE)?;
+    let found = answer(&rt, alloc, &map, 2, 1000, 700_000)?;
+    assert_route(&rt, alloc, found, &[1000, 700_000, 8])?;
+    Ok(())
+}
+
+/// 20 channels are a route, 21 are none.
+#[test]
+fn twenty_channels(rt: HostRuntime) -> Result<(), Fail> {
+    let alloc = rt.alloc();
+    let mut map = Map::new(alloc)?;
+    for node in 0..21 {
+        join(
+            &mut map,
+            alloc,
+            Scid::from_u64(u64::from(node)),
+            node,
+            node + 1,
+            &FREE,
+        )?;
+    }
+    let found = answer(&rt, alloc, &map, 20, 1000, 700_000)?;
+    assert_eq!(rt; found.as_ref().map(Route::expiry), Ok(700_760));
+    let none = answer(&rt, alloc, &map, 21, 1000, 700_000)?;
+    assert_eq!(rt; none.err(), Some(RouteFault::NoRoute));
+    Ok(())
+}
+
+/// The greatest amount, over a channel that takes it, and the refusals in their order.
+#[test]
+fn refusals(rt: HostRuntime) -> Result<(), Fail> {
+    let alloc = rt.alloc();
+    let most = 2_100_000_000_000_000_000;
+    let mut map = Map::new(alloc)?;
+    join(
+        &mut map,
+        alloc,
+        Scid::from_u64(5),
+        0,
+        2,
+        &Terms { max: most, ..FREE },
+    )?;
+    let found = answer(&rt, alloc, &map, 2, most, 498_000_000)?;
+    assert_route(&rt, alloc, found, &[most, 498_000_000, 5])?;
+    let rows = [
+        (0, 0, 498_000_001, RouteFault::AmountZero),
+        (0, most + 1, 498_000_001, RouteFault::AmountTooLarge),
+        (0, most, 498_000_001, RouteFault::ExpiryTooLarge),
+        (0, most, 498_000_000, RouteFault::SelfPayment),
+        (7, most, 498_000_000, RouteFault::NoRoute),
+    ];
+    for (to, amount, expiry, fault) in rows {
+        let refused = answer(&rt, alloc, &map, to, amount, expiry)?;
+        assert_eq!(rt; refused.err(), Some(fault));
+    }
+    Ok(())
+}
+
+/// A route of two channels, and what it tells of its payer.
+#[test]
+fn two_hops(rt: HostRuntime) -> Result<(), Fail> {
+    let hops = [
+        Hop {
+            scid: Scid::new(600_000, 0, 0),
+            from: point(1),
+            to: point(2),
+            amount: 5_010_198,
+            expiry: 700_029,
+        },
+        Hop {
+            scid: Scid::new(600_000, 1, 0),
+            from: point(2),
+            to: point(3),
+            amount: 4_999_999,
+            expiry: 700_009,
+        },
+    ];
+    let route = Route::of(rt.alloc(), &hops)?;
+    assert_eq!(rt; route.sent(), 5_010_198);
+    assert_eq!(rt; route.expiry(), 700_029);
+    assert_eq!(rt; route.as_slice(), hops.as_slice());
+    Ok(())
+}
+
+/// The words of the refusals, as an answer spells them.
+#[test]
+fn words(rt: HostRuntime) -> Result<(), Fail> {
+    let words = [
+        (RouteFault::AmountZero, "amount-zero"),
+        (RouteFault::AmountTooLarge, "amount-too-large"),
+        (RouteFault::ExpiryTooLarge, "expiry-too-large"),
+        (RouteFault::SelfPayment, "self-payment"),
+        (RouteFault::NoRoute, "no-route"),
+    ];
+    for (fault, word) in words {
+        assert_eq!(rt; format!(in rt.alloc(); "{fault}")?.as_str(), word);
+    }
+    Ok(())
+}
