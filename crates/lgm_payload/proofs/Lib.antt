@@ -1,0 +1,4 @@
+pub mod Records
+pub mod PayloadLaws
+pub mod BuildingLaws
+pub mod OnionLaws

@@ -1,0 +1,3 @@
+pub mod HopPayload
+pub mod Building
+pub mod Reading
