@@ -4,7 +4,11 @@
 #[cfg(test)]
 mod announcements;
 #[cfg(test)]
+mod bans;
+#[cfg(test)]
 mod closes;
+#[cfg(test)]
+mod faults;
 #[cfg(test)]
 mod filter_lines;
 #[cfg(test)]

@@ -1,10 +1,8 @@
-//! The map beside a plain program, what scripts of made items are told, histories, and want of memory.
+//! The map beside a plain program, and histories.
 
 mod beside;
 mod comparing;
 mod histories;
 mod item;
 mod made;
-mod memory;
-mod news_beside;
 mod plain;

@@ -9,15 +9,12 @@ use std::alloc::{AllocError, Global};
 use std::process::Abort;
 use std::test::Fail;
 
-/// A map, the plain program, the operations so far, and what became of the items.
+/// A map, the plain program, and the operations so far.
 #[derive(Drop)]
 struct Both {
     map: Map,
     plain: Plain,
     history: Vec<Op>,
-    words: Vec<&'static str>,
-    /// How many nodes went since their last channel did.
-    lonely: usize,
 }
 
 impl Both {
@@ -26,8 +23,6 @@ impl Both {
             map: Map::new(alloc)?,
             plain: Plain::new(alloc),
             history: Vec::new(alloc),
-            words: Vec::new(alloc),
-            lonely: 0,
         })
     }
 
@@ -38,42 +33,15 @@ impl Both {
         alloc: Global,
         item: &Item,
         mark: u16,
-    ) -> Result<(), AllocError> {
-        let announced = self.plain.nodes.len();
+    ) -> Result<&'static str, AllocError> {
         let answer = take(alloc, &mut self.map, item, mark);
         let word = self.plain.take(item, mark)?;
         assert_eq!(rt; word_of(&answer), word, "item {mark}: {item:?}");
         if let Ok(op) = answer {
             self.history.push(op)?;
         }
-        self.words.push(word)?;
-        let left = announced.saturating_sub(self.plain.nodes.len());
-        self.lonely = self.lonely.saturating_add(left);
-        Ok(())
+        Ok(word)
     }
-}
-
-/// How many items got a word.
-fn count_of(words: &[&'static str], word: &str) -> usize {
-    words.iter().filter(|other| **other == word).count()
-}
-
-/// Each outcome came often enough to show something.
-fn assert_varied(rt: &impl Abort, both: &Both) {
-    for word in [
-        "accepted",
-        "known",
-        "conflict",
-        "unknown-channel",
-        "signature",
-        "not-newer",
-        "unknown-node",
-    ] {
-        let count = count_of(both.words.as_slice(), word);
-        assert!(rt; count >= 10, "{word} came {count} times");
-    }
-    let lonely = both.lonely;
-    assert!(rt; lonely >= 10, "{lonely} nodes went");
 }
 
 /// A copy, and the map that the operations leave, read as the map does.
@@ -84,17 +52,45 @@ fn compare_others(rt: &impl Abort, alloc: Global, both: &Both) -> Result<(), All
     compare(rt, alloc, &replayed, &both.plain)
 }
 
+/// Items made from a seed, and their words.
+fn offer_made(
+    rt: &impl Abort,
+    alloc: Global,
+    seed: u64,
+    words: &mut Vec<&'static str>,
+) -> Result<(), AllocError> {
+    let mut both = Both::new(alloc)?;
+    let mut made = Made::new(seed);
+    for mark in 0..60u16 {
+        let word = both.offer(rt, alloc, &made.item(), mark)?;
+        words.push(word)?;
+        compare(rt, alloc, &both.map, &both.plain)?;
+    }
+    compare_others(rt, alloc, &both)
+}
+
+/// How many items got a word.
+fn count_of(words: &[&'static str], word: &str) -> usize {
+    words.iter().filter(|other| **other == word).count()
+}
+
 #[test]
 fn made_items(rt: HostRuntime) -> Result<(), Fail> {
-    let alloc = rt.alloc();
-    let mut both = Both::new(alloc)?;
-    let mut made = Made::new(1);
-    for mark in 0..800u16 {
-        let item = made.item();
-        both.offer(&rt, alloc, &item, mark)?;
-        compare(&rt, alloc, &both.map, &both.plain)?;
+    let mut words = Vec::new(rt.alloc());
+    for seed in 0..20 {
+        offer_made(&rt, rt.alloc(), seed, &mut words)?;
     }
-    assert_varied(&rt, &both);
-    compare_others(&rt, alloc, &both)?;
+    for word in [
+        "accepted",
+        "known",
+        "unknown-channel",
+        "signature",
+        "not-newer",
+        "unknown-node",
+        "banned",
+    ] {
+        let count = count_of(words.as_slice(), word);
+        assert!(rt; count >= 10, "{word} came {count} times");
+    }
     Ok(())
 }

@@ -130,6 +130,7 @@ fn compare_node(rt: &impl Abort, map: &Map, plain: &Plain, node: u8) {
     );
     let ended = ends(plain.channels.as_slice(), node);
     assert_eq!(rt; map.ends_channel(&point), ended, "ends of {node}");
+    assert_eq!(rt; map.banned(&point), plain.is_banned(node), "ban of {node}");
 }
 
 /// The ids of a range of blocks, the block being an id's highest three bytes of eight.

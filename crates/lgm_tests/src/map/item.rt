@@ -2,7 +2,7 @@
 
 use lgm_check::{Evidence, Funding, Refusal, Sig, precheck};
 use lgm_gossip::{Bytes, ChainHash, Point, Scid};
-use lgm_server::Item as Offer;
+use lgm_script::Item as Offer;
 use lgm_store::{Map, Op};
 use std::alloc::{AllocError, Global};
 

@@ -49,7 +49,7 @@ impl Made {
 
     /// A timestamp that rises slowly, and so is often older than one before, or equal.
     fn timestamp(&mut self) -> u32 {
-        self.count / 40 + u32::from(self.below(6))
+        self.count / 20 + u32::from(self.below(6))
     }
 
     /// The next item.
@@ -68,12 +68,12 @@ impl Made {
         }
     }
 
-    /// A channel: three times of four between the id's usual nodes, which are neighbours, else between any two.
+    /// A channel: fifteen times of sixteen between the id's usual nodes, which are neighbours, else between any two.
     fn channel(&mut self) -> Item {
         let index = self.below(8);
         let mut first = index % 5;
         let mut second = first + 1;
-        if self.below(4) == 0 {
+        if self.below(16) == 0 {
             first = self.below(5);
             second = first + 1 + self.below(5 - first);
         }

@@ -27,6 +27,8 @@ pub struct Plain {
     pub updates: Vec<((u64, bool), Dated)>,
     /// By node.
     pub nodes: Vec<(u8, Dated)>,
+    /// The banned nodes, some more than once.
+    banned: Vec<u8>,
 }
 
 /// What is held for a key.
@@ -83,6 +85,7 @@ impl Plain {
             channels: Vec::new(alloc),
             updates: Vec::new(alloc),
             nodes: Vec::new(alloc),
+            banned: Vec::new(alloc),
         }
     }
 
@@ -101,10 +104,19 @@ impl Plain {
         }
     }
 
+    /// Whether a node is banned.
+    pub fn is_banned(&self, node: u8) -> bool {
+        self.banned.as_slice().contains(&node)
+    }
+
     fn channel(&mut self, id: u64, channel: Channel) -> Result<&'static str, AllocError> {
+        let (first, second) = channel.nodes;
+        if self.is_banned(first) || self.is_banned(second) {
+            return Ok("banned");
+        }
         match held(self.channels.as_slice(), id) {
             Some(held) if held.nodes == channel.nodes => Ok("known"),
-            Some(_) => Ok("conflict"),
+            Some(held) => self.ban([held.nodes.0, held.nodes.1, first, second]),
             None => {
                 self.channels = put(self.alloc, self.channels.as_slice(), id, channel)?;
                 Ok("accepted")
@@ -134,6 +146,9 @@ impl Plain {
     }
 
     fn node(&mut self, node: u8, dated: Dated) -> Result<&'static str, AllocError> {
+        if self.is_banned(node) {
+            return Ok("banned");
+        }
         if !ends(self.channels.as_slice(), node) {
             return Ok("unknown-node");
         }
@@ -149,9 +164,23 @@ impl Plain {
             return "unknown-channel";
         }
         self.channels.retain(|row| row.0 != id);
-        self.updates.retain(|row| row.0.0 != id);
-        let channels = self.channels.as_slice();
-        self.nodes.retain(|row| ends(channels, row.0));
+        self.forget();
         "accepted"
+    }
+
+    fn ban(&mut self, nodes: [u8; 4]) -> Result<&'static str, AllocError> {
+        self.banned.extend_from_slice(&nodes)?;
+        let banned = self.banned.as_slice();
+        self.channels.retain(|row| !banned.contains(&row.1.nodes.0)
+            && !banned.contains(&row.1.nodes.1));
+        self.forget();
+        Ok("accepted")
+    }
+
+    /// Forgets updates without their channel, and nodes without any.
+    fn forget(&mut self) {
+        let channels = self.channels.as_slice();
+        self.updates.retain(|row| held(channels, row.0.0).is_some());
+        self.nodes.retain(|row| ends(channels, row.0));
     }
 }
