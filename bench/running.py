@@ -1,0 +1,80 @@
+"""Makes scripts, runs the program on them, and tells what a run takes."""
+
+import os
+import resource
+import subprocess
+import sys
+import time
+from pathlib import Path
+from typing import NamedTuple
+
+import messages
+
+HERE = Path(__file__).resolve().parent
+PEAK_UNIT = 1 if sys.platform == "darwin" else 1024  # bytes; the unit of ru_maxrss
+ANSWERS = (b"accepted", b"commit", b"filter", b"to")
+FIRST_BYTE = b"01"  # of each message of a reply
+
+
+class Taken(NamedTuple):
+    """What a run took: seconds on the clock, seconds of processors, bytes of memory."""
+
+    wall: float
+    processor: float
+    memory: int
+
+
+class Failed(Exception):
+    """No measure: the program failed, or refused a line."""
+
+
+def make_script(file, channels, workload, seed):
+    """Makes a script in another process, so that this one stays small: see `own_memory`."""
+    with open(file, "wb") as script:
+        subprocess.run(
+            [sys.executable, HERE / "make_script.py", "--channels", str(channels),
+             "--workload", workload, "--seed", str(seed)], stdout=script, check=True)
+
+
+def command(program, workers):
+    """The words that run the program."""
+    return [program, "run", "--chain", messages.CHAIN.hex(), "--workers", str(workers)]
+
+
+def run(words, script):
+    """One run, whose output is thrown away."""
+    with open(script, "rb") as reader:
+        started = time.perf_counter()
+        process = subprocess.Popen(words, stdin=reader, stdout=subprocess.DEVNULL)
+        _, status, usage = os.wait4(process.pid, 0)
+        wall = time.perf_counter() - started
+    process.returncode = os.waitstatus_to_exitcode(status)
+    if process.returncode != 0:
+        raise Failed(f"status {process.returncode}")
+    return Taken(wall, usage.ru_utime + usage.ru_stime, usage.ru_maxrss * PEAK_UNIT)
+
+
+def own_memory():
+    """The most bytes that this process had: no run's peak is counted lower than that."""
+    return resource.getrusage(resource.RUSAGE_SELF).ru_maxrss * PEAK_UNIT
+
+
+def least(runs):
+    """The least of each time, and the most memory."""
+    return Taken(min(run.wall for run in runs), min(run.processor for run in runs),
+                 max(run.memory for run in runs))
+
+
+def bytes_answered(words, script):
+    """A run's bytes of output. Raises `Failed` at an answer that refuses a line."""
+    count = 0
+    with open(script, "rb") as reader, subprocess.Popen(
+            words, stdin=reader, stdout=subprocess.PIPE) as process:
+        for answer in process.stdout:
+            word = answer.split(None, 2)[1]
+            if word not in ANSWERS and not word.startswith(FIRST_BYTE):
+                raise Failed(f"answer {answer.decode().strip()}")
+            count += len(answer)
+    if process.returncode != 0:
+        raise Failed(f"status {process.returncode}")
+    return count

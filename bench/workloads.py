@@ -1,0 +1,106 @@
+"""The lines of scripts of `lgm run` (docs/script.md): what is asked of a made network."""
+
+import messages
+from network import BLOCKS, DAY, FEATURES, NOW
+
+RANGES = 10
+IDS_A_LIST = 1_000
+ROUNDS = 20
+UPDATES_A_ROUND = 1_000
+FILTER_AGES = (14 * DAY, DAY, DAY, 3_600, 3_600, 3_600, 0, 0, 0, 0)  # seconds; one each peer
+ALL_TIMES = 0xFFFFFFFF
+
+
+def announcement_line(network, channel):
+    """A channel's announcement, rightly signed and funded."""
+    message = messages.channel_announcement(
+        network.random.randbytes(messages.ANNOUNCEMENT_SIGNATURES), channel.scid,
+        channel.nodes, (network.point(), network.point()))
+    return f"m {message.hex()} all {channel.capacity}\n"
+
+
+def update_line(network, channel, direction, timestamp):
+    """An update of a channel by the node of its direction."""
+    message = messages.channel_update(
+        network.signature(), channel.scid, timestamp, network.channel_flags(direction),
+        network.terms(channel.capacity))
+    return f"m {message.hex()} {channel.nodes[direction].hex()} -\n"
+
+
+def node_line(network, node):
+    """A node's announcement by itself."""
+    message = messages.node_announcement(
+        network.signature(), network.random.choice(FEATURES), network.timestamp(), node,
+        network.random.randbytes(3), network.alias(node), network.addresses())
+    return f"m {message.hex()} {node.hex()} -\n"
+
+
+def sync(network):
+    """The whole network, as a reply to a query has it: each channel, its updates, its nodes."""
+    seen = set()
+    for channel in network.channels:
+        yield announcement_line(network, channel)
+        for direction in network.directions():
+            yield update_line(network, channel, direction, network.timestamp())
+        for node in channel.nodes:
+            if node not in seen:
+                seen.add(node)
+                if network.is_announced():
+                    yield node_line(network, node)
+    yield "commit\n"
+
+
+def queries(network):
+    """The network, ten ranges of blocks, and each channel asked for once in lists of ids."""
+    yield from sync(network)
+    yield query_line(messages.query_channel_range(0, 0xFFFFFFFF, True))
+    for number in range(1, RANGES):
+        first = network.random.choice(BLOCKS)
+        blocks = network.random.randrange(1, len(BLOCKS) // 4)
+        yield query_line(messages.query_channel_range(first, blocks, number % 2 == 0))
+    scids = [channel.scid for channel in network.channels]
+    network.random.shuffle(scids)
+    for start in range(0, len(scids), IDS_A_LIST):
+        yield ids_line(network, sorted(scids[start:start + IDS_A_LIST]))
+
+
+def query_line(message):
+    """A query as a line."""
+    return f"q {message.hex()}\n"
+
+
+def ids_line(network, scids):
+    """A list of ids; about half of the lists ask by flags for some of the messages alone."""
+    if network.random.randrange(2):
+        return query_line(messages.query_short_channel_ids(scids))
+    flags = bytes(network.random.choice((1, 6, 7, 31)) for _ in scids)
+    return query_line(messages.query_short_channel_ids(scids, flags))
+
+
+def rounds(network):
+    """Rounds of newer updates of any channels, each round with a commit."""
+    timestamp = NOW
+    for _ in range(ROUNDS):
+        for _ in range(UPDATES_A_ROUND):
+            timestamp += 1
+            channel = network.random.choice(network.channels)
+            yield update_line(network, channel, network.random.randrange(2), timestamp)
+        yield "commit\n"
+
+
+def churn(network):
+    """The network, and rounds of updates."""
+    yield from sync(network)
+    yield from rounds(network)
+
+
+def filters(network):
+    """The network, ten peers with filters, and rounds of updates that are news to them."""
+    yield from sync(network)
+    for peer, age in enumerate(FILTER_AGES):
+        message = messages.gossip_timestamp_filter(NOW - age, ALL_TIMES)
+        yield f"filter {peer} {message.hex()}\n"
+    yield from rounds(network)
+
+
+WORKLOADS = {"sync": sync, "queries": queries, "churn": churn, "filters": filters}
