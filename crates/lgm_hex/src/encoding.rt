@@ -13,11 +13,8 @@ fn digit(value: u8) -> u8
     requires { value < 16 }
     ensures { result ≡ slice_index lower_digits value }
 {
-    if value < 10 {
-        b'0' + value
-    } else {
-        b'a' - 10 + value
-    }
+    let letter = if value < 10 { 0 } else { b'a' - 10 - b'0' };
+    b'0' + value + letter
 }
 
 /// Writes two digits for each byte.

@@ -78,10 +78,10 @@ impl<'a> Sending<'a> {
             self.send_update(held, true)?;
         }
         if is_set(flags, 3) {
-            self.send_node(map, &held.row().message.node_id_1)?;
+            self.send_node(map, held.node(false))?;
         }
         if is_set(flags, 4) {
-            self.send_node(map, &held.row().message.node_id_2)?;
+            self.send_node(map, held.node(true))?;
         }
         Ok(())
     }

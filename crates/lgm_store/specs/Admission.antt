@@ -83,14 +83,7 @@ admitted rows (messages.Node row) =
 abbrev pub admitted_close : Rows → ℕ → Result Op Refusal
 admitted_close rows id = require (is_some (channel_of rows.channels id)) refusals.UnknownChannel >>= λ _. Ok (ops.Close id)
 
--- what a call answers that is to give an operation: that, or want of memory where the operation keeps a row; a refusal
--- and a ban are always given
-abbrev pub Admits : Result Op Refusal → Result Op Refusal → Type 0
-Admits answer (Ok (ops.Ban ban)) = answer ≡ Ok (ops.Ban ban)
-Admits answer (Ok op) = (answer ≡ Ok op) ⊎ (answer ≡ Err refusals.NoMemory)
-Admits answer (Err refusal) = answer ≡ Err refusal
-
--- what a call answers that is to give an operation and to do it: that, or want of memory; a refusal is always given
+-- what a call answers that is to give an operation: that, or want of memory; a refusal is always given
 abbrev pub Offers : Result Op Refusal → Result Op Refusal → Type 0
 Offers answer (Ok op) = (answer ≡ Ok op) ⊎ (answer ≡ Err refusals.NoMemory)
 Offers answer (Err refusal) = answer ≡ Err refusal

@@ -64,8 +64,8 @@ impl Banned {
     }
 
     /// These points and four more. The only error is want of memory.
-    pub(crate) fn with(&self, ban: BanRow) -> Result<Banned, AllocError>
-        ensures points { IfOk result (λ more. more ≡ with_banned self.now ban) }
+    pub(crate) fn with(&self, ban: &BanRow) -> Result<Banned, AllocError>
+        ensures points { IfOk result (λ more. more ≡ with_banned self.now ban.now) }
         ensures ascend { IfOk result (λ more. IsStrictlySortedBy by_point more) }
     {
         let mut more = self.copy()?;

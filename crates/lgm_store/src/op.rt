@@ -19,7 +19,7 @@ pub enum Op {
     /// A channel goes, with all that hangs on it.
     Close(Scid),
     /// The nodes of two announcements of one channel are banned, and their channels go.
-    Ban(BanRow),
+    Ban(Shared<BanRow>),
 }
 
 impl Op {
@@ -32,7 +32,7 @@ impl Op {
             Op::Update(row) => Ok(Op::Update(row.share()?)),
             Op::Node(row) => Ok(Op::Node(row.share()?)),
             Op::Close(scid) => Ok(Op::Close(*scid)),
-            Op::Ban(ban) => Ok(Op::Ban(*ban)),
+            Op::Ban(ban) => Ok(Op::Ban(ban.share()?)),
         }
     }
 }

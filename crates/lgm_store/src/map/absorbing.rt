@@ -42,7 +42,7 @@ impl Map {
                 self.close(*scid);
                 Ok(())
             }
-            Op::Ban(ban) => self.ban(*ban),
+            Op::Ban(ban) => self.ban(ban.get()),
         }
     }
 

@@ -2,7 +2,7 @@
 
 ghost use Rattle.std.specs.Prelude.{◌≡◌};
 ghost use Rattle.lgm_store.specs.Rows.{channel_of, update_of, node_of, ends_channel, is_banned, is_second};
-ghost use Rattle.lgm_store.specs.Admission.{have_same_nodes, channel_admission, update_admission, node_admission, admitted, admitted_close, Admits};
+ghost use Rattle.lgm_store.specs.Admission.{have_same_nodes, channel_admission, update_admission, node_admission, admitted, admitted_close, Offers};
 ghost use Rattle.lgm_store.specs.Decided.{channel_op, update_op, node_op};
 
 use super::Map;
@@ -21,13 +21,13 @@ impl Map {
     /// if its timestamp isn't above the held one. A `channel_update`: 11 `unknown-channel`, 10 `signature` if another
     /// point signed it than the node of its direction, 15 `not-newer` as above (BOLT 7).
     ///
-    /// Memory is asked for only where a row is to be kept: a refusal and a ban take none.
+    /// Memory is asked for only for an operation: a refusal takes none.
     pub fn admit(&self, alloc: Global, checked: &Checked) -> Result<Op, Refusal>
-        ensures { Admits result (admitted self.now checked.now) }
+        ensures { Offers result (admitted self.now checked.now) }
     {
         match checked {
             Checked::Channel(row) => match self.admit_channel(row)? {
-                Some(ban) => Ok(Op::Ban(ban)),
+                Some(ban) => Ok(Op::Ban(Shared::new(alloc, ban)?)),
                 None => Ok(Op::Channel(Shared::new(alloc, row.copy(alloc)?)?)),
             },
             Checked::Update(row, signer) => {
@@ -43,11 +43,11 @@ impl Map {
 
     /// The same of a message that is given away: its row is kept and not copied.
     pub fn admit_owned(&self, alloc: Global, checked: Checked) -> Result<Op, Refusal>
-        ensures { Admits result (admitted self.now checked) }
+        ensures { Offers result (admitted self.now checked) }
     {
         match checked {
             Checked::Channel(row) => match self.admit_channel(&row)? {
-                Some(ban) => Ok(Op::Ban(ban)),
+                Some(ban) => Ok(Op::Ban(Shared::new(alloc, ban)?)),
                 None => Ok(Op::Channel(Shared::new(alloc, row)?)),
             },
             Checked::Update(row, signer) => {

@@ -12,8 +12,8 @@ use std::alloc::AllocError;
 
 impl Map {
     /// Bans the nodes of two channels. Want of memory leaves the map as it was.
-    pub(crate) fn ban(&mut self, ban: BanRow) -> Result<(), AllocError>
-        ensures ok { OnOk result (self.new ≡ with_ban self.old ban) }
+    pub(crate) fn ban(&mut self, ban: &BanRow) -> Result<(), AllocError>
+        ensures ok { OnOk result (self.new ≡ with_ban self.old ban.now) }
         ensures err { OnErr result (self.new ≡ self.old) }
     {
         let banned = self.banned.with(ban)?;

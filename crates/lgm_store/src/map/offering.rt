@@ -35,7 +35,8 @@ impl Map {
         ensures refused { OnErr result (self.new ≡ self.old) }
     {
         if let Some(ban) = self.admit_channel(&row)? {
-            self.ban(ban)?;
+            let ban = Shared::new(alloc, ban)?;
+            self.ban(ban.get())?;
             return Ok(Op::Ban(ban));
         }
         let row = Shared::new(alloc, row)?;

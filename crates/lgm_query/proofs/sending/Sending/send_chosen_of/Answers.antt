@@ -27,10 +27,10 @@ returns-in_ok-send_node-2 c =
     ] in
     let node_1 : Sends (if_set c.args.flags 3 (option_map node (node_of c.args.map.now.nodes c.args.held.now.channel.message.node_id_1))) c.if-is_set-3.self c.if-is_set-4.self =
     elim c.if-is_set-4.branch [
-      | then-is_set-4+in_ok-send_node w ↦ Sends-set c.args.flags 3 (option_map node (node_of c.args.map.now.nodes c.args.held.now.channel.message.node_id_1)) c.is_set-4.result c.if-is_set-3.self w.send_node.new.self c.if-is_set-4.self c.is_set-4.ensures w.if-is_set-4.true w.self-is (rw w.row.ensures at w.in_ok-send_node.ensures)
+      | then-is_set-4+in_ok-send_node w ↦ Sends-set c.args.flags 3 (option_map node (node_of c.args.map.now.nodes c.args.held.now.channel.message.node_id_1)) c.is_set-4.result c.if-is_set-3.self w.send_node.new.self c.if-is_set-4.self c.is_set-4.ensures w.if-is_set-4.true w.self-is (rw w.node.ensures at w.in_ok-send_node.ensures)
       | else-is_set-4 w ↦ Sends-unset c.args.flags 3 (option_map node (node_of c.args.map.now.nodes c.args.held.now.channel.message.node_id_1)) c.is_set-4.result c.if-is_set-3.self c.if-is_set-4.self c.is_set-4.ensures w.if-is_set-4.false w.self-is
     ] in
-    let node_2 = Sends-set c.args.flags 4 (option_map node (node_of c.args.map.now.nodes c.args.held.now.channel.message.node_id_2)) c.is_set-5.result c.if-is_set-4.self c.send_node-then-is_set-5.new.self c.send_node-then-is_set-5.new.self c.is_set-5.ensures c.if-is_set-5.true refl (rw c.row-then-is_set-5.ensures at c.in_ok-send_node-2.ensures) in
+    let node_2 = Sends-set c.args.flags 4 (option_map node (node_of c.args.map.now.nodes c.args.held.now.channel.message.node_id_2)) c.is_set-5.result c.if-is_set-4.self c.send_node-then-is_set-5.new.self c.send_node-then-is_set-5.new.self c.is_set-5.ensures c.if-is_set-5.true refl (rw c.node-then-is_set-5.ensures at c.in_ok-send_node-2.ensures) in
     Sends-chosen c.args.map.now.nodes c.args.flags c.args.held.now c.args.self.now c.if-is_set.self c.if-is_set-2.self c.if-is_set-3.self c.if-is_set-4.self c.send_node-then-is_set-5.new.self announcement update_1 update_2 node_1 node_2
 
 pub returns-else-is_set-5 : goal.returns-else-is_set-5
@@ -52,7 +52,7 @@ returns-else-is_set-5 c =
     ] in
     let node_1 : Sends (if_set c.args.flags 3 (option_map node (node_of c.args.map.now.nodes c.args.held.now.channel.message.node_id_1))) c.if-is_set-3.self c.if-is_set-4.self =
     elim c.if-is_set-4.branch [
-      | then-is_set-4+in_ok-send_node w ↦ Sends-set c.args.flags 3 (option_map node (node_of c.args.map.now.nodes c.args.held.now.channel.message.node_id_1)) c.is_set-4.result c.if-is_set-3.self w.send_node.new.self c.if-is_set-4.self c.is_set-4.ensures w.if-is_set-4.true w.self-is (rw w.row.ensures at w.in_ok-send_node.ensures)
+      | then-is_set-4+in_ok-send_node w ↦ Sends-set c.args.flags 3 (option_map node (node_of c.args.map.now.nodes c.args.held.now.channel.message.node_id_1)) c.is_set-4.result c.if-is_set-3.self w.send_node.new.self c.if-is_set-4.self c.is_set-4.ensures w.if-is_set-4.true w.self-is (rw w.node.ensures at w.in_ok-send_node.ensures)
       | else-is_set-4 w ↦ Sends-unset c.args.flags 3 (option_map node (node_of c.args.map.now.nodes c.args.held.now.channel.message.node_id_1)) c.is_set-4.result c.if-is_set-3.self c.if-is_set-4.self c.is_set-4.ensures w.if-is_set-4.false w.self-is
     ] in
     let node_2 = Sends-unset c.args.flags 4 (option_map node (node_of c.args.map.now.nodes c.args.held.now.channel.message.node_id_2)) c.is_set-5.result c.if-is_set-4.self c.if-is_set-4.self c.is_set-5.ensures c.if-is_set-5.false refl in

@@ -32,4 +32,4 @@ returns-clause-ok c =
     c.loop-scid.invariant ∙ ap (closed_all rows) whole
     ∙ closed_all-bans ids rows c.in_ok-banned.banned refl ids_are (ascend-channels (channel_entries c.self.inside.channels.entries) sound.channels_keyed sound.channels_ascend) sound.nodes_ended
     ∙ ap (banning rows) (c.in_ok-banned.ensures.points)
-    ∙ ap (λ r. with_ban r c.args.ban) c.self.view_is
+    ∙ ap (λ r. with_ban r c.args.ban.now) c.self.view_is
