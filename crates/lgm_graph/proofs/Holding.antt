@@ -18,7 +18,8 @@ use Rattle.lgm_graph.specs.Lists.{to_key, IsCut}
 use Rattle.lgm_graph.proofs.Numbers.{get_number}
 use Rattle.lgm_graph.proofs.Places.{get_map}
 use Rattle.lgm_graph.proofs.Carrying.{IsOfChannel, carrying_of, carrying_cut, edge_in-some}
-use Rattle.lgm_graph.proofs.Linking.{Among, Contains-Among, Among-Contains, Among-map, Among-mapped, Among-passes, Among-passed, All_among, zipped_in, zipped_out, link_at, link_there, back_again}
+use Rattle.lgm_graph.proofs.Members.{Among, Contains-Among, Among-Contains, Among-map, Among-mapped, Among-passes, Among-passed, All_among}
+use Rattle.lgm_graph.proofs.Linking.{zipped_in, zipped_out, link_at, link_there, back_again}
 
 module _ (rows : Rows) (graph : Graph) (distinct : IsDistinct is_point graph.points) (beside : IsGraphOf rows graph) where
   abbrev takes_to : Edge → Bool

@@ -1,3 +1,4 @@
+pub mod Members
 mod Cuts
 mod Carrying
 mod Numbers
@@ -17,5 +18,5 @@ mod Closing
 mod Each
 mod Adding
 mod Banning
-mod Holding
+pub mod Holding
 mod Counted

@@ -18,7 +18,7 @@ mod view;
 pub use edge::Edge;
 pub use fees::fee;
 pub use known::Known;
-pub use laws::{edges_are_directions, view_holds_the_edges};
+pub use laws::edges_are_directions;
 pub use link::Link;
 pub use network::Network;
 pub use view::View;

@@ -1,6 +1,6 @@
 //! Lists of links, by node.
 
-ghost use Rattle.std.specs.Prelude.{◌≡◌, ◌++◌, ◌∷◌, [], ◌<◌, ◌≤◌, suc, take, drop, map, filter, length, slice_index_or, slice_set, option_to_list, OnOk, MatchResult, vec_len};
+ghost use Rattle.std.specs.Prelude.{◌≡◌, ◌++◌, ◌∷◌, [], ◌<◌, ◌≤◌, suc, take, drop, map, filter, length, slice_index_or, slice_set, option_to_list, IfOk, OnOk, MatchResult, vec_len};
 ghost use Rattle.std.specs.List.{HoldsAt};
 ghost use Rattle.std.specs.Vec.{vec_capacity};
 ghost use Rattle.std.specs.Ordering.{is_lt, is_gt};
@@ -12,7 +12,7 @@ use crate::nodes::Links;
 use indexmap::IndexSet;
 use lgm_gossip::{Point, Scid};
 use lgm_store::Map;
-use std::alloc::AllocError;
+use std::alloc::{AllocError, Global};
 use std::cmp::Ordering;
 
 /// A link's order to an id and direction.
@@ -129,6 +129,18 @@ impl Links {
             { !(is_banned(points, held, link.from) || is_banned(points, held, link.to)) },
         );
     }
+}
+
+/// Copies of lists. The only error is want of memory.
+pub(crate) fn copies(alloc: Global, lists: &[Links]) -> Result<Vec<Links>, AllocError>
+    ensures { IfOk result (λ copies. map links_in copies.items ≡ map links_in lists.now) }
+{
+    let mut copies = Vec::with_capacity(alloc, lists.len())?;
+    for list in lists {
+        let links = Vec::from_slice(alloc, &list.links)?;
+        copies.push(Links { links })?;
+    }
+    Ok(copies)
 }
 
 /// Takes the links that join a banned node away from all nodes.

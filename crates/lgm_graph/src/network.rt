@@ -51,6 +51,16 @@ impl Network {
         Ok(Network { map, view })
     }
 
+    /// A copy, which has the same rows and shows the same. The only error is want of memory.
+    pub fn copy(&self, alloc: Global) -> Result<Network, AllocError>
+        ensures { IfOk result (λ copy. copy ≡ self.now) }
+    {
+        Ok(Network {
+            map: self.map.copy(alloc)?,
+            view: self.view.copy(alloc)?,
+        })
+    }
+
     /// Does an operation to the map and its view. It numbers at most two points more. The only error is want of memory,
     /// which leaves both as they were.
     pub fn absorb(&mut self, op: &Op) -> Result<(), AllocError>

@@ -36,10 +36,13 @@ pub(crate) struct Nodes {
     pub(crate) out: Vec<Links>,
 }
 
-/// Whether a node takes payments.
+/// Whether a node takes payments. Where all features are known, its announcement isn't looked for.
 pub(crate) fn takes_payments(known: &Known, map: &Map, node: &Point) -> bool
     ensures { result ≡ takes_payments known.now map.now.nodes node.now }
 {
+    if known.is_all() {
+        return true;
+    }
     match map.node(node) {
         Some(row) => known.allows(row.message.features.as_slice()),
         None => true,
@@ -60,6 +63,18 @@ impl Nodes {
             into: Vec::new(alloc),
             out: Vec::new(alloc),
         }
+    }
+
+    /// A copy, which shows the same. The only error is want of memory.
+    pub(crate) fn copy(&self, alloc: Global) -> Result<Nodes, AllocError>
+        ensures { (known : Option (List ℕ)) → IfOk result (λ copy. graph_in known copy ≡ graph_in known self.now) }
+    {
+        Ok(Nodes {
+            points: self.points.clone()?,
+            takes: self.takes.clone()?,
+            into: lists::copies(alloc, &self.into)?,
+            out: lists::copies(alloc, &self.out)?,
+        })
     }
 
     /// The number of a point that has one.

@@ -1,10 +1,12 @@
 //! The view of a map.
 
-ghost use Rattle.std.specs.Prelude.{◌≡◌, ◌+◌, ◌-◌, ◌^◌, ◌<◌, ◌≤◌, length, min, slice_get, OnOk, OnErr};
+ghost use Rattle.std.specs.Prelude.{◌≡◌, ◌↔◌, Contains, ◌+◌, ◌-◌, ◌^◌, ◌<◌, ◌≤◌, length, min, slice_get, IfOk, OnOk, OnErr};
 ghost use Rattle.std.specs.List.{position};
 ghost use Rattle.std.specs.Option.{option_copied};
-ghost use Rattle.lgm_store.specs.Rows.{is_point};
+ghost use Rattle.lgm_store.specs.Rows.{Rows, is_point};
 ghost use Rattle.lgm_store.specs.History.{absorbed};
+ghost use Rattle.lgm_graph.specs.declared.edge.Edge.{Edge as AnEdge};
+ghost use Rattle.lgm_graph.specs.Edges.{edges_of};
 ghost use Rattle.lgm_graph.specs.Graph.{AreLinked, IsGraphOf, edge_at, edges, takes_at, links_into, links_leaving};
 
 mod applying;
@@ -154,6 +156,27 @@ impl View {
 }
 
 impl View {
+    /// A view of rows holds exactly their edges. A call does nothing: its contract is the law.
+    pub fn shows_the_edges(&self)
+        ensures { (rows : Rows) → IsGraphOf rows self.now → (edge : AnEdge) → Contains (edges self.now) edge ↔ Contains (edges_of self.now.known rows) edge }
+    {
+        // Different points have different numbers.
+        self.nodes();
+    }
+}
+
+impl View {
+    /// A copy, which shows the same. The only error is want of memory.
+    pub fn copy(&self, alloc: Global) -> Result<View, AllocError>
+        ensures { IfOk result (λ copy. copy ≡ self.now) }
+    {
+        Ok(View {
+            alloc,
+            known: self.known.copy(alloc)?,
+            nodes: self.nodes.copy(alloc)?,
+        })
+    }
+
     /// Does an operation to a map and its view, which is the new map's then. It numbers at most two points more, and a
     /// point keeps its number when its last channel goes. The only error is want of memory, which leaves map and view
     /// as they were.

@@ -167,6 +167,6 @@ pub(super) fn apply(
         Op::Update(row) => apply_update(known, nodes, map, op, row.get()),
         Op::Node(row) => apply_node(known, nodes, map, op, row.get()),
         Op::Close(scid) => apply_close(known, nodes, map, op, *scid),
-        Op::Ban(ban) => apply_ban(known, nodes, map, op, ban),
+        Op::Ban(ban) => apply_ban(known, nodes, map, op, ban.get()),
     }
 }

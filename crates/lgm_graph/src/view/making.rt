@@ -59,8 +59,8 @@ fn add_channel(
     ensures shows { OnOk result ((edges : List AnEdge) → ShowsIn edges nodes.old
         → ShowsIn (edges ++ edges_of_channel map.now.updates held.now.channel) nodes.new) }
 {
-    let first = number(alloc, nodes, known, map, held.row().node(false))?;
-    let second = number(alloc, nodes, known, map, held.row().node(true))?;
+    let first = number(alloc, nodes, known, map, *held.node(false))?;
+    let second = number(alloc, nodes, known, map, *held.node(true))?;
     add_direction(nodes, map, held, false, first, second)?;
     add_direction(nodes, map, held, true, second, first)?;
     Ok(())
