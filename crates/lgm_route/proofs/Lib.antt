@@ -7,3 +7,4 @@ pub mod Bounds
 pub mod Crossing
 pub mod HopLaws
 pub mod Visits
+pub mod Choosing

@@ -8,9 +8,10 @@ use Rattle.std.proofs.lemmas.Bool.{false≢true}
 use Rattle.lgm_gossip.specs.declared.point.Point.{Point}
 use Rattle.lgm_store.specs.Rows.{is_point}
 use Rattle.lgm_store.proofs.Counting.{same_point, is_point-self}
+use Rattle.lgm_graph.specs.Edges.{AreDirections}
 use Rattle.lgm_graph.specs.declared.edge.Edge.{Edge}
 use Rattle.lgm_route.specs.declared.request.Request.{Request}
-use Rattle.lgm_route.specs.Routes.{owed, sent, ids, IsRest, IsStep, Precedes, IsLeast, AreDirections, Visits, IsSimple}
+use Rattle.lgm_route.specs.Routes.{owed, sent, ids, IsRest, IsStep, walk_key, Precedes, IsLeast, Visits, IsSimple}
 use Rattle.lgm_route.specs.Searching.{NotAfter}
 use Rattle.lgm_route.proofs.Orders.{NotAfter-split, NotAfter-heads}
 use Rattle.lgm_route.proofs.Rests.{raised-le}
@@ -55,10 +56,6 @@ visits_or_not node (edge ∷ rest) = by (same_or_not edge.to node) (visits_or_no
         none : Visits node (edge ∷ rest) → ⊥
         none (inl e) = n e
         none (inr h) = f h
-
--- what is sent, then how many edges, then the ids
-abbrev walk_key : Request → List Edge → List ℕ
-walk_key request walk = sent request.amount walk ∷ length walk ∷ ids walk
 
 -- what owes no more may be passed on wherever the other may
 step-cheaper : (edges : List Edge) (request : Request) (node : Point) (edge : Edge) (rest other : List Edge) →
@@ -139,7 +136,7 @@ same_of (x ∷ xs) (y ∷ ys) h k = by (NotAfter-split x y xs ys h) (NotAfter-sp
     by (inr p) (inl q) tails = absurd (omega (arith, p.0))
     by (inr p) (inr q) tails = let tail = tails p.1 q.1 in cc (p.0, tail)
 
-not_after : (xs ys : List ℕ) → (slice_cmp nat_cmp ys xs ≡ Less → ⊥) → NotAfter xs ys
+pub not_after : (xs ys : List ℕ) → (slice_cmp nat_cmp ys xs ≡ Less → ⊥) → NotAfter xs ys
 not_after xs ys f = by (slice_cmp nat_cmp xs ys) refl
   where
     by : (o : Ordering) → slice_cmp nat_cmp xs ys ≡ o → is_gt (slice_cmp nat_cmp xs ys) ≡ false

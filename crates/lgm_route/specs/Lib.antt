@@ -4,3 +4,5 @@ pub mod Answers
 pub mod Numbered
 pub mod Searching
 pub mod Best
+pub mod Choice
+pub mod Words

@@ -5,6 +5,7 @@ use Rattle.std.specs.Ordering.{nat_cmp}
 use Rattle.std.specs.Cmp.Lexicographic.{slice_cmp}
 use Rattle.lgm_gossip.specs.declared.point.Point.{Point}
 use Rattle.lgm_graph.specs.Fee.{fee_of}
+use Rattle.lgm_graph.specs.Edges.{AreDirections}
 use Rattle.lgm_graph.specs.declared.edge.Edge.{Edge}
 use Rattle.lgm_route.specs.declared.request.Request.{Request}
 use Rattle.lgm_route.specs.declared.route.Hop.{Hop}
@@ -48,12 +49,13 @@ pub record IsUsable (edges : List Edge) (request : Request) (walk : List Edge) :
 abbrev pub ids : List Edge → List ℕ
 ids walk = map (λ edge. edge.scid) walk
 
--- the first number in which two lists differ decides: what is sent, then how many edges, then the ids
+-- what is sent, then how many edges, then the ids
+abbrev pub walk_key : Request → List Edge → List ℕ
+walk_key request walk = sent request.amount walk ∷ length walk ∷ ids walk
+
+-- the first number in which the keys differ decides
 abbrev pub Precedes : Request → List Edge → List Edge → Type 0
-Precedes request walk other =
-    slice_cmp nat_cmp
-    (sent request.amount walk ∷ length walk ∷ ids walk)
-    (sent request.amount other ∷ length other ∷ ids other) ≡ Less
+Precedes request walk other = slice_cmp nat_cmp (walk_key request walk) (walk_key request other) ≡ Less
 
 -- a usable walk that no usable walk precedes
 pub record IsLeast (edges : List Edge) (request : Request) (walk : List Edge) : Type 0 where
@@ -72,12 +74,6 @@ abbrev pub IsBest : List Edge → Request → Option (List Hop) → Type 0
 IsBest edges request None = (walk : List Edge) → IsUsable edges request walk → ⊥
 IsBest edges request (Some hops) = (walk : List Edge) × IsLeast edges request walk × (hops ≡ hops_of request walk)
 
--- two edges of one id are the same one, or go opposite ways
-abbrev pub AreDirections : List Edge → Type 0
-AreDirections edges =
-    (edge other : Edge) → Contains edges edge → Contains edges other → edge.scid ≡ other.scid →
-    (edge ≡ other) ⊎ ((edge.from ≡ other.to) × (edge.to ≡ other.from))
-
 -- some edge of the walk ends at the node
 abbrev pub Visits : Point → List Edge → Type 0
 Visits node [] = ⊥
@@ -88,7 +84,7 @@ abbrev pub IsSimple : Point → List Edge → Type 0
 IsSimple node [] = Unit {0}
 IsSimple node (edge ∷ rest) = (Visits node (edge ∷ rest) → ⊥) × IsSimple edge.to rest
 
--- a request has one least walk, which comes back to no node
+-- where two edges of one id are the same one or go opposite ways, a request has one least walk, which comes back to no node
 abbrev pub LeastIsOne : Type 0
 LeastIsOne =
     (edges : List Edge) (request : Request) (walk other : List Edge) → AreDirections edges → request.payer ≢ request.payee →

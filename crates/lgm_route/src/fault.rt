@@ -1,6 +1,7 @@
 //! Why a payment has no route.
 
 ghost use Rattle.std.specs.Prelude.{◌≡◌};
+ghost use Rattle.lgm_route.specs.Words.{route_word};
 ghost use Rattle.lgm_route.specs.declared.fault.RouteFault.TheVariants.{NoMemory};
 
 use std::alloc::{AllocError, AllocFailed};
@@ -27,6 +28,22 @@ pub enum RouteFault {
     /// Memory was refused. It says nothing of the payment.
     #[error("out of memory")]
     NoMemory,
+}
+
+impl RouteFault {
+    /// Its word, as answers are written. Want of memory has none, and gives no text.
+    pub fn word(self) -> &'static str
+        ensures { result.now ≡ route_word self }
+    {
+        match self {
+            RouteFault::AmountZero => "amount-zero",
+            RouteFault::AmountTooLarge => "amount-too-large",
+            RouteFault::ExpiryTooLarge => "expiry-too-large",
+            RouteFault::SelfPayment => "self-payment",
+            RouteFault::NoRoute => "no-route",
+            RouteFault::NoMemory => "",
+        }
+    }
 }
 
 impl From<AllocError> for RouteFault {

@@ -22,7 +22,7 @@ mod starting;
 mod trip;
 
 pub use fault::RouteFault;
-pub use laws::least_is_one;
+pub use laws::{answer_is_one, least_is_one};
 pub use request::Request;
 pub use route::{Hop, Route};
 pub use routing::least;

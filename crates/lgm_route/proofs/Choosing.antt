@@ -1,0 +1,272 @@
+-- The walk that trial gives is the least one, and the only one.
+use Rattle.std.proofs.Common.{◌≡◌, ◌≢◌, ◌⊎◌, ◌↔◌, ℕ, ◌<◌, ◌≤◌, Bool, List, [], ◌∷◌, length, map, Ordering, zero, suc, true, false, cond, refl, sym, ◌∙◌, ap, subst, inl, inr, arith}
+use Rattle.std.specs.Prelude.{nat_le, nat_lt, nat_eq, is_some, ◌&&◌, filter, Option, Some, None, Result, Ok, Err}
+use Rattle.std.specs.List.{Contains, flat_map, fold}
+use Rattle.std.specs.declared.cmp.Ordering.TheVariants.{Less, Equal, Greater}
+use Rattle.std.specs.Ordering.{nat_cmp, is_lt, is_gt}
+use Rattle.std.specs.Cmp.Lexicographic.{slice_cmp}
+use Rattle.std.proofs.lemmas.Bool.{false≢true}
+use Rattle.std.proofs.lemmas.Bool.Decides.{nat_tests}
+use Rattle.lgm_gossip.specs.declared.point.Point.{Point}
+use Rattle.lgm_store.specs.Rows.{is_point}
+use Rattle.lgm_store.proofs.Counting.{same_point, is_point-self}
+use Rattle.lgm_graph.specs.Edges.{AreDirections}
+use Rattle.lgm_graph.specs.declared.edge.Edge.{Edge}
+use Rattle.lgm_graph.proofs.Members.{Among, Contains-Among, Among-Contains, Among-passes, Among-passed, Among-mapped, Among-map, Among-flat, Among-flattened}
+use Rattle.lgm_route.specs.declared.request.Request.{Request}
+use Rattle.lgm_route.specs.declared.route.Hop.{Hop}
+use Rattle.lgm_route.specs.declared.fault.RouteFault.{RouteFault}
+use Rattle.lgm_route.specs.declared.fault.RouteFault.TheVariants.{AmountZero, AmountTooLarge, ExpiryTooLarge, SelfPayment, NoRoute}
+use Rattle.lgm_route.specs.Routes.{owed, walk_key, hops_of, IsRest, IsStep, IsUsable, IsLeast, Precedes}
+use Rattle.lgm_route.specs.Answers.{refusal, IsFoundOver, IsAnswerBy, IsAnswer}
+use Rattle.lgm_route.specs.Searching.{NotAfter}
+use Rattle.lgm_route.specs.Choice.{lists_of, leads, usable_walks, lesser, least_of, least_walk, found_by, answer_by, answer_of}
+use Rattle.lgm_route.proofs.Orders.{NotAfter-refl, NotAfter-trans, NotAfter-excludes}
+use Rattle.lgm_route.proofs.Visits.{least-unique, not_after}
+
+-- ---- the lists of edges
+
+-- each edge of the list is one of these
+abbrev AreOf : List Edge → List Edge → Type 0
+AreOf edges [] = Unit {0}
+AreOf edges (edge ∷ rest) = Contains edges edge × AreOf edges rest
+
+-- lists of these edges are found
+found_list : (edges walk : List Edge) (most : ℕ) → AreOf edges walk → length walk ≤ most → Among (lists_of edges most) walk
+found_list edges [] zero of few = inl refl
+found_list edges [] (suc more) of few = inl refl
+found_list edges (edge ∷ rest) zero of few = absurd (omega (arith, few))
+found_list edges (edge ∷ rest) (suc more) of few =
+    inr (Among-flat (λ e. map (λ r. e ∷ r) (lists_of edges more)) edges edge (edge ∷ rest) (Among-Contains edges edge of.0)
+    (Among-map (λ r. edge ∷ r) (lists_of edges more) rest (found_list edges rest more of.1 (omega (arith, few)))))
+
+-- what is found is a list of these edges
+list_found : (edges walk : List Edge) (most : ℕ) → Among (lists_of edges most) walk → AreOf edges walk × (length walk ≤ most)
+list_found edges walk zero (inl same) = subst (λ w. AreOf edges w × (length w ≤ zero)) same (tt, omega arith)
+list_found edges walk zero (inr none) = absurd none
+list_found edges walk (suc more) (inl same) = subst (λ w. AreOf edges w × (length w ≤ suc more)) same (tt, omega arith)
+list_found edges walk (suc more) (inr there) =
+    let at = Among-flattened (λ e. map (λ r. e ∷ r) (lists_of edges more)) edges walk there in
+    let tail = Among-mapped (λ r. at.0 ∷ r) (lists_of edges more) walk at.2 in
+    let rest = list_found edges tail.0 more tail.1 in
+    subst (λ w. AreOf edges w × (length w ≤ suc more)) tail.2 ((Contains-Among edges at.0 at.1, rest.0), omega (arith, rest.1))
+
+-- ---- the usable ones
+
+le_true : (a b : ℕ) → a ≤ b → nat_le a b ≡ true
+le_true a b h = grind (arith, nat_tests)
+
+true_le : (a b : ℕ) → nat_le a b ≡ true → a ≤ b
+true_le a b h = grind (arith, nat_tests)
+
+both : (a b : Bool) → (a && b) ≡ true → (a ≡ true) × (b ≡ true)
+both true b h = (refl, h)
+both false b h = absurd (false≢true h)
+
+rests_lead : (edges : List Edge) (request : Request) (node : Point) (walk : List Edge) → IsRest edges request node walk → (leads request node walk ≡ true) × AreOf edges walk
+rests_lead edges request node [] joins = (subst (λ p. is_point node p ≡ true) joins (is_point-self node), tt)
+rests_lead edges request node (edge ∷ rest) joins =
+    let later = rests_lead edges request edge.to rest joins.1 in
+    let here : is_point edge.from node ≡ true = subst (λ p. is_point edge.from p ≡ true) joins.0.leaves (is_point-self edge.from) in
+    let least = le_true edge.min request.amount joins.0.above_min in
+    let most = le_true (owed request.amount rest) edge.max joins.0.below_max in
+    (rw (here, least, most, later.0) refl, (joins.0.there, later.1))
+
+leads_rest : (edges : List Edge) (request : Request) (node : Point) (walk : List Edge) → leads request node walk ≡ true → AreOf edges walk → IsRest edges request node walk
+leads_rest edges request node [] h of = same_point node request.payee h
+leads_rest edges request node (edge ∷ rest) h of =
+    let below = nat_le (owed request.amount rest) edge.max in
+    let above = nat_le edge.min request.amount in
+    let last = both (is_point edge.from node && above && below) (leads request edge.to rest) h in
+    let third = both (is_point edge.from node && above) below last.0 in
+    let second = both (is_point edge.from node) above third.0 in (
+      record {
+        there = of.0;
+        leaves = same_point edge.from node second.0;
+        above_min = true_le edge.min request.amount second.1;
+        below_max = true_le (owed request.amount rest) edge.max third.1;
+      },
+      leads_rest edges request edge.to rest last.1 of.1,
+    )
+
+abbrev is_usable : Request → List Edge → Bool
+is_usable request walk = nat_le 1 (length walk) && leads request request.payer walk
+
+usable_found : (edges : List Edge) (request : Request) (walk : List Edge) → IsUsable edges request walk → Among (usable_walks edges request) walk
+usable_found edges request walk usable =
+    let of = rests_lead edges request request.payer walk usable.joins in
+    let some = le_true 1 (length walk) usable.some in
+    Among-passes (is_usable request) (lists_of edges 20) walk (found_list edges walk 20 of.1 usable.few) (rw (some, of.0) refl)
+
+found_usable : (edges : List Edge) (request : Request) (walk : List Edge) → Among (usable_walks edges request) walk → IsUsable edges request walk
+found_usable edges request walk there =
+    let passed = Among-passed (is_usable request) (lists_of edges 20) walk there in
+    let list = list_found edges walk 20 passed.0 in
+    let is = both (nat_le 1 (length walk)) (leads request request.payer walk) passed.1 in
+    record { some = true_le 1 (length walk) is.0; few = list.1; joins = leads_rest edges request request.payer walk is.1 list.0 }
+
+-- ---- the least of them
+
+-- no walk of the list has a lesser key
+abbrev NoneBefore : Request → List Edge → List (List Edge) → Type 0
+NoneBefore request best walks = (other : List Edge) → Among walks other → NotAfter (walk_key request best) (walk_key request other)
+
+-- the better of two walks
+abbrev IsLesser : Request → List Edge → List Edge → List Edge → Type 0
+IsLesser request walk other best =
+    (NotAfter (walk_key request best) (walk_key request walk) × NotAfter (walk_key request best) (walk_key request other)) × ((best ≡ walk) ⊎ (best ≡ other))
+
+lesser_of : (request : Request) (walk other : List Edge) → IsLesser request walk other (lesser request walk other)
+lesser_of request walk other = by (slice_cmp nat_cmp (walk_key request other) (walk_key request walk)) refl
+  where
+    kept : (slice_cmp nat_cmp (walk_key request other) (walk_key request walk) ≡ Less → ⊥) → IsLesser request walk other walk
+    kept later = ((NotAfter-refl (walk_key request walk), not_after (walk_key request walk) (walk_key request other) later), inl refl)
+
+    by : (o : Ordering) → slice_cmp nat_cmp (walk_key request other) (walk_key request walk) ≡ o → IsLesser request walk other (cond (is_lt (slice_cmp nat_cmp (walk_key request other) (walk_key request walk))) other walk)
+    by Less e = rw e ((before e, NotAfter-refl (walk_key request other)), inr refl)
+      where
+        before : slice_cmp nat_cmp (walk_key request other) (walk_key request walk) ≡ Less → NotAfter (walk_key request other) (walk_key request walk)
+        before is = ap is_gt is
+    by Equal e = rw e (kept (λ less. let bad = sym e ∙ less in absurd cc))
+    by Greater e = rw e (kept (λ less. let bad = sym e ∙ less in absurd cc))
+
+-- with a walk more in front
+one_more : (request : Request) (best walk next last : List Edge) (walks : List (List Edge)) → IsLesser request best walk next →
+    Among (next ∷ walks) last × NoneBefore request last (next ∷ walks) → Among (best ∷ walk ∷ walks) last × NoneBefore request last (best ∷ walk ∷ walks)
+one_more request best walk next last walks is later = (among later.0 is.1, none)
+  where
+    among : Among (next ∷ walks) last → (next ≡ best) ⊎ (next ≡ walk) → Among (best ∷ walk ∷ walks) last
+    among (inl same) (inl e) = inl (sym e ∙ same)
+    among (inl same) (inr e) = inr (inl (sym e ∙ same))
+    among (inr there) e = inr (inr there)
+
+    before : NotAfter (walk_key request last) (walk_key request next)
+    before = later.1 next (inl refl)
+
+    none : NoneBefore request last (best ∷ walk ∷ walks)
+    none other (inl same) = subst (λ w. NotAfter (walk_key request last) (walk_key request w)) same (NotAfter-trans (walk_key request last) (walk_key request next) (walk_key request best) before (is.0).0)
+    none other (inr (inl same)) = subst (λ w. NotAfter (walk_key request last) (walk_key request w)) same (NotAfter-trans (walk_key request last) (walk_key request next) (walk_key request walk) before (is.0).1)
+    none other (inr (inr there)) = later.1 other (inr there)
+
+folded : (request : Request) (best : List Edge) (walks : List (List Edge)) →
+    Among (best ∷ walks) (fold (lesser request) best walks) × NoneBefore request (fold (lesser request) best walks) (best ∷ walks)
+folded request best [] = (inl refl, none)
+  where
+    none : NoneBefore request best (best ∷ [])
+    none other (inl same) = subst (λ w. NotAfter (walk_key request best) (walk_key request w)) same (NotAfter-refl (walk_key request best))
+    none other (inr there) = absurd there
+folded request best (walk ∷ walks) =
+    let next = lesser request best walk in
+    one_more request best walk next (fold (lesser request) next walks) walks (lesser_of request best walk) (folded request next walks)
+
+-- ---- the answer
+
+least_found : (edges : List Edge) (request : Request) (walks : List (List Edge)) → walks ≡ usable_walks edges request →
+    IsFoundOver edges request (found_by request (least_of request walks))
+least_found edges request [] same =
+    (refl, λ walk usable. subst (λ ws. Among ws walk) (sym same) (usable_found edges request walk usable))
+least_found edges request (walk ∷ walks) same = (best, record { usable = usable; first = first }, refl)
+  where
+    best : List Edge
+    best = fold (lesser request) walk walks
+
+    is : Among (walk ∷ walks) best × NoneBefore request best (walk ∷ walks)
+    is = folded request walk walks
+
+    usable : IsUsable edges request best
+    usable = found_usable edges request best (subst (λ ws. Among ws best) same is.0)
+
+    first : (other : List Edge) → IsUsable edges request other → Precedes request other best → ⊥
+    first other able before =
+        NotAfter-excludes (walk_key request best) (walk_key request other) (is.1 other (subst (λ ws. Among ws other) (sym same) (usable_found edges request other able))) before
+
+-- trial gives an answer
+pub tried : (edges : List Edge) (request : Request) → IsAnswer edges request (answer_of edges request)
+unfolding answer_of least_walk
+tried edges request = by (refusal request)
+  where
+    found : IsFoundOver edges request (found_by request (least_walk edges request))
+    found = least_found edges request (usable_walks edges request) refl
+
+    by : (refused : Option RouteFault) → IsAnswerBy refused edges request (answer_by refused request (least_walk edges request))
+    by (Some fault) = refl
+    by None = found
+
+-- ---- there is one
+
+-- a request to the payer itself is refused
+some_fault : (p q r : Bool) → is_some (cond p (Some AmountZero) (cond q (Some AmountTooLarge) (cond r (Some ExpiryTooLarge) (Some SelfPayment)))) ≡ true
+some_fault true q r = refl
+some_fault false true r = refl
+some_fault false false true = refl
+some_fault false false false = refl
+
+point_apart : (request : Request) → refusal request ≡ None → request.payer ≢ request.payee
+point_apart request none same =
+    let self : is_point request.payer request.payee ≡ true = subst (λ p. is_point request.payer p ≡ true) same (is_point-self request.payer) in
+    let refused = some_fault (nat_eq request.amount 0) (nat_lt 2100000000000000000 request.amount) (nat_lt 498000000 request.expiry) in
+    let some : is_some (refusal request) ≡ true = rw self refused in
+    false≢true (sym (ap is_some none) ∙ some)
+
+both_found : (edges : List Edge) (request : Request) (answer other : Result (List Hop) RouteFault) → AreDirections edges → request.payer ≢ request.payee →
+    IsFoundOver edges request answer → IsFoundOver edges request other → answer ≡ other
+both_found edges request (Ok hops) (Ok hops') directions apart found also =
+    let same = least-unique edges request found.0 also.0 directions apart found.1 also.1 in
+    ap Ok (found.2 ∙ ap (hops_of request) same ∙ sym also.2)
+both_found edges request (Ok hops) (Err fault) directions apart found also = absurd (also.1 found.0 found.1.usable)
+both_found edges request (Err fault) (Ok hops) directions apart found also = absurd (found.1 also.0 also.1.usable)
+both_found edges request (Err fault) (Err fault') directions apart found also = ap Err (found.0 ∙ sym also.0)
+
+-- a request has one answer
+pub answer-unique : (edges : List Edge) (request : Request) (answer other : Result (List Hop) RouteFault) → AreDirections edges →
+    IsAnswer edges request answer → IsAnswer edges request other → answer ≡ other
+answer-unique edges request answer other directions is also = by (refusal request) refl is also
+  where
+    by : (refused : Option RouteFault) → refusal request ≡ refused → IsAnswerBy refused edges request answer → IsAnswerBy refused edges request other → answer ≡ other
+    by (Some fault) e is also = is ∙ sym also
+    by None e is also = both_found edges request answer other directions (point_apart request e) is also
+
+-- ---- lists of the same edges have the same answers
+
+abbrev HaveSame : List Edge → List Edge → Type 0
+HaveSame edges others = (edge : Edge) → Contains edges edge ↔ Contains others edge
+
+rest_over : (edges others : List Edge) (request : Request) (node : Point) (walk : List Edge) → ((edge : Edge) → Contains edges edge → Contains others edge) →
+    IsRest edges request node walk → IsRest others request node walk
+rest_over edges others request node [] held joins = joins
+rest_over edges others request node (edge ∷ rest) held joins = (
+  record { there = held edge joins.0.there; leaves = joins.0.leaves; above_min = joins.0.above_min; below_max = joins.0.below_max },
+  rest_over edges others request edge.to rest held joins.1,
+)
+
+usable_over : (edges others : List Edge) (request : Request) (walk : List Edge) → ((edge : Edge) → Contains edges edge → Contains others edge) →
+    IsUsable edges request walk → IsUsable others request walk
+usable_over edges others request walk held usable =
+    record { some = usable.some; few = usable.few; joins = rest_over edges others request request.payer walk held usable.joins }
+
+found_over : (edges others : List Edge) (request : Request) (answer : Result (List Hop) RouteFault) → HaveSame edges others →
+    IsFoundOver edges request answer → IsFoundOver others request answer
+found_over edges others request (Ok hops) same found = (
+  found.0,
+  record {
+    usable = usable_over edges others request found.0 (λ edge. (same edge).0) found.1.usable;
+    first = λ other usable. found.1.first other (usable_over others edges request other (λ edge. (same edge).1) usable);
+  },
+  found.2,
+)
+found_over edges others request (Err fault) same found =
+    (found.0, λ walk usable. found.1 walk (usable_over others edges request walk (λ edge. (same edge).1) usable))
+
+pub answer-over : (edges others : List Edge) (request : Request) (answer : Result (List Hop) RouteFault) → HaveSame edges others →
+    IsAnswer edges request answer → IsAnswer others request answer
+answer-over edges others request answer same is = by (refusal request) is
+  where
+    by : (refused : Option RouteFault) → IsAnswerBy refused edges request answer → IsAnswerBy refused others request answer
+    by (Some fault) is = is
+    by None is = found_over edges others request answer same is
+
+-- the answer is that of trial
+pub answer-tried : (edges others : List Edge) (request : Request) (answer : Result (List Hop) RouteFault) → AreDirections others → HaveSame edges others →
+    IsAnswer edges request answer → answer ≡ answer_of others request
+answer-tried edges others request answer directions same is =
+    answer-unique others request answer (answer_of others request) directions (answer-over edges others request answer same is) (tried others request)

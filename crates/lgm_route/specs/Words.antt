@@ -1,0 +1,13 @@
+-- The words of refusals.
+use Rattle.std.specs.Prelude.{ℕ, List, [], codes}
+use Rattle.lgm_route.specs.declared.fault.RouteFault.{RouteFault}
+use Rattle.lgm_route.specs.declared.fault.RouteFault.TheVariants as faults
+
+-- the word; want of memory has none
+abbrev pub route_word : RouteFault → List ℕ
+route_word faults.AmountZero = codes "amount-zero"
+route_word faults.AmountTooLarge = codes "amount-too-large"
+route_word faults.ExpiryTooLarge = codes "expiry-too-large"
+route_word faults.SelfPayment = codes "self-payment"
+route_word faults.NoRoute = codes "no-route"
+route_word faults.NoMemory = []
