@@ -2,5 +2,6 @@ pub mod Appending
 pub mod WriteLaws
 pub mod Ahead
 pub mod Splitting
-pub mod FieldLaws
+pub mod Decimals
+pub mod FieldsLaws
 pub mod Telling

@@ -1,9 +1,9 @@
 -- Items, as lines spell them.
-use Rattle.std.specs.Prelude.{ℕ, ◌+◌, ◌*◌, ◌^◌, List, [], ◌∷◌, Option, Some, None, true, false, codes, nat_eq, option_and_then, if◌then◌else◌}
+use Rattle.std.specs.Prelude.{ℕ, ◌+◌, ◌*◌, ◌^◌, List, [], ◌∷◌, Option, Some, None, true, false, codes, nat_eq, if◌then◌else◌}
 use Rattle.std.specs.Option.{option_map}
 use Rattle.std.specs.Result.{result_ok}
 use Rattle.std.specs.Cmp.Lexicographic.{pointwise}
-use Rattle.hex.specs.Hex.{decode_of, decode_sized}
+use Rattle.hex.specs.Hex.{decode_of}
 use Rattle.lgm_check.specs.declared.evidence.Evidence.{Evidence}
 use Rattle.lgm_check.specs.declared.evidence.Sig.{Sig}
 use Rattle.lgm_check.specs.declared.evidence.Sig.TheVariants as sigs
@@ -11,7 +11,7 @@ use Rattle.lgm_check.specs.declared.evidence.Funding.{Funding}
 use Rattle.lgm_check.specs.declared.evidence.Funding.TheVariants as fundings
 use Rattle.lgm_script.specs.declared.item.Item.{Item}
 use Rattle.lgm_script.specs.declared.item.Item.TheVariants.{Gossip, Close}
-use Rattle.lgm_script.specs.Field.{fields_at, number_of, number_below}
+use Rattle.lgm_script.specs.Field.{◌>>=◌, fields_of, number_of, number_below, point_of}
 
 -- an even number of hexadecimal digits, at least two
 abbrev pub bytes_of : List ℕ → Option (List ℕ)
@@ -24,7 +24,7 @@ sig_of word =
     if pointwise nat_eq word (codes "all") then Some (sigs.AllFour true)
     else if pointwise nat_eq word (codes "not-all") then Some (sigs.AllFour false)
     else if pointwise nat_eq word (codes "nobody") then Some sigs.Nobody
-    else option_map (λ point. sigs.By (record { 0 = point })) (result_ok (decode_sized word 33))
+    else option_map (λ point. sigs.By point) (point_of word)
 
 -- FUNDING
 abbrev pub funding_of : List ℕ → Option Funding
@@ -35,24 +35,33 @@ funding_of word =
     else option_map (λ sat. fundings.Unspent sat) (number_of word)
 
 -- SIG FUNDING
-abbrev pub evidence_of : List ℕ → Option Evidence
-evidence_of text =
-    option_and_then (λ parts. option_and_then (λ sig. option_map (λ funding. record { sig = sig; funding = funding }) (funding_of parts.1)) (sig_of parts.0)) (fields_at 32 text)
+abbrev pub evidence_of : List (List ℕ) → Option Evidence
+evidence_of (sig ∷ funding ∷ []) = do
+  sig ← sig_of sig
+  funding ← funding_of funding
+  Some (record { sig = sig; funding = funding })
+evidence_of _ = None
 
 -- HEX SIG FUNDING
-abbrev pub gossip_of : List ℕ → Option Item
-gossip_of text =
-    option_and_then (λ parts. option_and_then (λ evidence. option_map (λ bytes. Gossip bytes evidence) (bytes_of parts.0)) (evidence_of parts.1)) (fields_at 32 text)
+abbrev pub gossip_of : List (List ℕ) → Option Item
+gossip_of (hex ∷ verdicts) = do
+  bytes ← bytes_of hex
+  evidence ← evidence_of verdicts
+  Some (Gossip bytes evidence)
+gossip_of [] = None
 
--- the number of a channel's name, from the digits of block, index and output
-abbrev pub place_of : List ℕ → List ℕ → List ℕ → Option ℕ
-place_of block index output =
-    option_and_then (λ b. option_and_then (λ i. option_map (λ o. (b * 2 ^ 24 + i) * 2 ^ 16 + o) (number_below (2 ^ 16) output)) (number_below (2 ^ 24) index)) (number_below (2 ^ 24) block)
+-- BLOCK, INDEX and OUTPUT
+abbrev pub scid_of : List (List ℕ) → Option ℕ
+scid_of (block ∷ index ∷ output ∷ []) = do
+  block ← number_below (2 ^ 24) block
+  index ← number_below (2 ^ 24) index
+  output ← number_below (2 ^ 16) output
+  Some ((block * 2 ^ 24 + index) * 2 ^ 16 + output)
+scid_of _ = None
 
--- SCID
-abbrev pub scid_of : List ℕ → Option ℕ
-scid_of text =
-    option_and_then (λ parts. option_and_then (λ more. place_of parts.0 more.0 more.1) (fields_at 120 parts.1)) (fields_at 120 text)
-
-abbrev pub close_of : List ℕ → Option Item
-close_of text = option_map (λ id. Close id) (scid_of text)
+-- SCID: BLOCKxINDEXxOUTPUT
+abbrev pub close_of : List (List ℕ) → Option Item
+close_of (scid ∷ []) = do
+  id ← scid_of (fields_of 120 scid)
+  Some (Close id)
+close_of _ = None

@@ -1,7 +1,9 @@
 pub mod Device
 pub mod Lines
+pub mod Digits
 pub mod Field
 pub mod Item
+pub mod Payment
 pub mod Request
 pub mod Front
 pub mod Text

@@ -1,5 +1,5 @@
 -- The lines of the answers.
-use Rattle.std.specs.Prelude.{ℕ, List, ◌++◌, Option, Some, None, codes}
+use Rattle.std.specs.Prelude.{ℕ, ◌/◌, ◌%◌, ◌^◌, List, ◌++◌, Option, Some, None, codes}
 use Rattle.std.specs.Fmt.{decimal}
 use Rattle.hex.specs.Hex.{encode_lower}
 
@@ -19,3 +19,16 @@ lead number (Some peer) = decimal number ++ codes " to " ++ decimal peer ++ code
 -- N HEX, or N to PEER HEX
 abbrev pub message_line : ℕ → Option ℕ → List ℕ → List ℕ
 message_line number peer message = lead number peer ++ encode_lower message ++ codes "\n"
+
+-- N route SENT EXPIRY K
+abbrev pub route_line : ℕ → ℕ → ℕ → ℕ → List ℕ
+route_line number sent expiry count =
+    decimal number ++ codes " route " ++ decimal sent ++ codes " " ++ decimal expiry ++ codes " " ++ decimal count ++ codes "\n"
+
+-- a channel's name, from its number: BLOCKxINDEXxOUTPUT
+abbrev pub scid_text : ℕ → List ℕ
+scid_text id = decimal (id / 2 ^ 40) ++ codes "x" ++ decimal (id / 2 ^ 16 % 2 ^ 24) ++ codes "x" ++ decimal (id % 2 ^ 16)
+
+-- N hop SCID HEX
+abbrev pub hop_line : ℕ → ℕ → List ℕ → List ℕ
+hop_line number id payload = decimal number ++ codes " hop " ++ scid_text id ++ codes " " ++ encode_lower payload ++ codes "\n"

@@ -1,18 +1,10 @@
-//! The fields of a line.
+//! What a field spells.
 
 ghost use Rattle.std.specs.Prelude.{◌≡◌, ◌<◌, IfSome};
-ghost use Rattle.std.specs.Option.{option_map};
-ghost use Rattle.lgm_script.specs.Field.{fields_at, further, value_at, number_of, number_below};
+ghost use Rattle.lgm_script.specs.Digits.{further, value_at};
+ghost use Rattle.lgm_script.specs.Field.{number_of, number_below, point_of};
 
-use memchr::memchr;
-
-/// The field in front of the first separator, and what is behind it.
-pub fn split_field(separator: u8, text: &[u8]) -> Option<(&[u8], &[u8])>
-    ensures { option_map (λ parts. (parts.0.now, parts.1.now)) result ≡ fields_at separator text.now }
-{
-    let end = memchr(separator, text)?;
-    Some((&text[..end], &text[end + 1..]))
-}
+use lgm_gossip::Point;
 
 /// The number behind one more digit, if it is below 2^64.
 fn further(value: u64, byte: u8) -> Option<u64>
@@ -38,10 +30,11 @@ fn value(digits: &[u8]) -> Option<u64>
 pub fn number(digits: &[u8]) -> Option<u64>
     ensures { result ≡ number_of digits.now }
 {
-    match digits {
-        [] | [b'0', _, ..] => None,
-        _ => value(digits),
+    let first = *digits.first()?;
+    if first == b'0' && digits.len() > 1 {
+        return None;
     }
+    value(digits)
 }
 
 /// A decimal number without leading zeros, below a limit.
@@ -51,4 +44,14 @@ pub fn number_below(limit: u64, digits: &[u8]) -> Option<u64>
 {
     let number = number(digits)?;
     if number < limit { Some(number) } else { None }
+}
+
+/// A point: any 33 bytes, each as two hexadecimal digits.
+pub fn point(digits: &[u8]) -> Option<Point>
+    ensures { result ≡ point_of digits.now }
+{
+    match lgm_hex::decode_array::<33>(digits) {
+        Ok(bytes) => Some(Point(bytes)),
+        Err(_) => None,
+    }
 }

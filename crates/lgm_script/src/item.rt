@@ -3,10 +3,11 @@
 ghost use Rattle.std.specs.Prelude.{◌≡◌, IfOk};
 ghost use Rattle.lgm_script.specs.Item.{bytes_of, sig_of, funding_of, evidence_of, gossip_of, scid_of, close_of};
 
-use crate::field::{number, number_below, split_field};
+use crate::field::{number, number_below, point};
+use crate::fields::Fields;
 use hex::FromHexError;
 use lgm_check::{Evidence, Funding, Sig};
-use lgm_gossip::{Bytes, Point, Scid};
+use lgm_gossip::{Bytes, Scid};
 use std::alloc::{AllocError, Global};
 
 /// What is offered to the map, with what the caller found out about it.
@@ -45,10 +46,7 @@ fn sig(word: &[u8]) -> Option<Sig>
     if word == b"nobody".as_slice() {
         return Some(Sig::Nobody);
     }
-    match lgm_hex::decode_array::<33>(word) {
-        Ok(point) => Some(Sig::By(Point(point))),
-        Err(_) => None,
-    }
+    Some(Sig::By(point(word)?))
 }
 
 /// A verdict on a funding output: `spent`, `wrong`, `-` or its satoshi.
@@ -67,23 +65,27 @@ fn funding(word: &[u8]) -> Option<Funding>
     Some(Funding::Unspent(number(word)?))
 }
 
-fn evidence(text: &[u8]) -> Option<Evidence>
-    ensures { result ≡ evidence_of text.now }
+/// The verdicts on a message: `SIG FUNDING`.
+fn evidence(mut fields: Fields<'_>) -> Option<Evidence>
+    ensures { result ≡ evidence_of fields.entry }
 {
-    let (word, rest) = split_field(b' ', text)?;
-    let sig = sig(word)?;
-    let funding = funding(rest)?;
-    Some(Evidence { sig, funding })
+    let signer = fields.next()?;
+    let output = fields.next()?;
+    fields.end()?;
+    Some(Evidence {
+        sig: sig(signer)?,
+        funding: funding(output)?,
+    })
 }
 
-/// The message of a line, behind its first word: `HEX SIG FUNDING`.
-pub fn gossip(alloc: Global, text: &[u8]) -> Result<Option<Item>, AllocError>
-    ensures { IfOk result (λ item. item ≡ gossip_of text.now) }
+/// A message that is offered: `HEX SIG FUNDING`.
+pub fn gossip(alloc: Global, mut fields: Fields<'_>) -> Result<Option<Item>, AllocError>
+    ensures { IfOk result (λ item. item ≡ gossip_of fields.entry) }
 {
-    let Some((digits, rest)) = split_field(b' ', text) else {
+    let Some(digits) = fields.next() else {
         return Ok(None);
     };
-    let Some(evidence) = evidence(rest) else {
+    let Some(evidence) = evidence(fields) else {
         return Ok(None);
     };
     match bytes(alloc, digits)? {
@@ -92,21 +94,25 @@ pub fn gossip(alloc: Global, text: &[u8]) -> Result<Option<Item>, AllocError>
     }
 }
 
-/// A channel's name: `BLOCKxINDEXxOUTPUT`, three decimal numbers.
-fn scid(text: &[u8]) -> Option<Scid>
-    ensures { result ≡ scid_of text.now }
+/// A channel, from its block, index and output.
+fn scid(mut fields: Fields<'_>) -> Option<Scid>
+    ensures { result ≡ scid_of fields.entry }
 {
-    let (block, rest) = split_field(b'x', text)?;
-    let (index, output) = split_field(b'x', rest)?;
+    let block = fields.next()?;
+    let index = fields.next()?;
+    let output = fields.next()?;
+    fields.end()?;
     let block = number_below(0x100_0000, block)?;
     let index = number_below(0x100_0000, index)?;
     let output = number_below(0x1_0000, output)?;
     Some(Scid::new(block as u32, index as u32, output as u16))
 }
 
-/// The close of a line, behind its first word: `SCID`.
-pub fn close(text: &[u8]) -> Option<Item>
-    ensures { result ≡ close_of text.now }
+/// A close: `SCID`, which is `BLOCKxINDEXxOUTPUT`.
+pub fn close(mut fields: Fields<'_>) -> Option<Item>
+    ensures { result ≡ close_of fields.entry }
 {
-    Some(Item::Close(scid(text)?))
+    let name = fields.next()?;
+    fields.end()?;
+    Some(Item::Close(scid(Fields::new(b'x', name))?))
 }

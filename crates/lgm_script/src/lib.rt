@@ -6,10 +6,12 @@
 
 mod device;
 mod field;
+mod fields;
 mod item;
 mod line_reader;
 mod memory;
 mod output;
+mod payment;
 mod reading;
 mod request;
 mod std_streams;
@@ -20,6 +22,7 @@ pub use item::Item;
 pub use line_reader::{LineReader, MAX_LINE};
 pub use memory::{MemorySink, MemorySource};
 pub use output::{BLOCK, Output, SendFault};
+pub use payment::Payment;
 pub use reading::{LineFault, more_begins, next_line};
 pub use request::{Request, parse};
 pub use std_streams::{FromRead, ToWrite};

@@ -102,7 +102,6 @@ impl LineReader {
         ensures cause { OnErr result (R.failures source.old < R.failures source.new) }
         ensures well { IfOk result (λ _. R.failures source.new ≡ R.failures source.old) }
     {
-        let _ = output;
         let (start, end) = make_room(&mut self.buffer, self.start, self.end);
         self.start = start;
         self.end = end;

@@ -2,11 +2,12 @@
 
 ghost use Rattle.std.specs.Prelude.{◌≡◌, ◌+◌, ◌<◌, ◌^◌, ◌++◌, [], length, List, ℕ, IfErr, OnOk, OnErr};
 ghost use Rattle.lgm_script.specs.Output.{Sends, SendsPart};
-ghost use Rattle.lgm_script.specs.Text.{word_line, commit_line, message_line};
+ghost use Rattle.lgm_script.specs.Text.{word_line, commit_line, message_line, route_line, hop_line};
 ghost use Rattle.lgm_script.specs.declared.output.SendFault.TheVariants.{NoMemory};
 
 use crate::device::{Failed, Sink, write_all};
-use crate::text::{append_count, append_message, append_word};
+use crate::text::{append_count, append_hop, append_message, append_route, append_word};
+use lgm_gossip::Scid;
 use std::alloc::AllocError;
 use thiserror::Error;
 
@@ -122,6 +123,35 @@ impl<'a, W: Sink> Output<'a, W> {
         ensures fault { IfErr result (SendsPart W.taken W.failures self.old self.new (message_line number peer message.now)) }
     {
         append_message(self.gathered, number, peer, message)?;
+        self.flush_block()
+    }
+
+    /// Tells a route: `N route SENT EXPIRY K`, what the payer sends, in msat, the block height at which that expires, and
+    /// the number of hops, each of which is told next.
+    pub fn send_route(
+        &mut self,
+        number: u64,
+        sent: u64,
+        expiry: u32,
+        count: usize,
+    ) -> Result<(), SendFault>
+        requires { W.failures self.old.writer.now + 1 < 2 ^ 64 }
+        ensures writer { self.new.writer.ghost_name ≡ self.old.writer.ghost_name }
+        ensures told { OnOk result (Sends W.taken W.failures self.old self.new (route_line number sent expiry count)) }
+        ensures fault { IfErr result (SendsPart W.taken W.failures self.old self.new (route_line number sent expiry count)) }
+    {
+        append_route(self.gathered, number, sent, expiry, count)?;
+        self.flush_block()
+    }
+
+    /// Tells a hop of a route, its channel and its payload in hexadecimal digits: `N hop SCID HEX`.
+    pub fn send_hop(&mut self, number: u64, scid: Scid, payload: &[u8]) -> Result<(), SendFault>
+        requires { W.failures self.old.writer.now + 1 < 2 ^ 64 }
+        ensures writer { self.new.writer.ghost_name ≡ self.old.writer.ghost_name }
+        ensures told { OnOk result (Sends W.taken W.failures self.old self.new (hop_line number scid payload.now)) }
+        ensures fault { IfErr result (SendsPart W.taken W.failures self.old self.new (hop_line number scid payload.now)) }
+    {
+        append_hop(self.gathered, number, scid, payload)?;
         self.flush_block()
     }
 }

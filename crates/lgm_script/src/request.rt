@@ -1,10 +1,12 @@
 //! What a line asks.
 
-ghost use Rattle.std.specs.Prelude.{◌≡◌, IfOk};
-ghost use Rattle.lgm_script.specs.Request.{offer, query, filter_of, request_of, HasLawfulPeer};
+ghost use Rattle.std.specs.Prelude.{◌≡◌, IfOk, IfSome};
+ghost use Rattle.lgm_script.specs.Request.{filter_of, form_of, request_of, HasLawfulPeer};
 
-use crate::field::{number_below, split_field};
+use crate::field::number_below;
+use crate::fields::Fields;
 use crate::item::{Item, bytes, close, gossip};
+use crate::payment::{Payment, payment_in};
 use lgm_gossip::Bytes;
 use std::alloc::{AllocError, Global};
 
@@ -23,43 +25,51 @@ pub enum Request {
     Query(Bytes),
     /// A filter for a peer, which is these bytes, and what passes it.
     Filter(u16, Bytes),
+    /// The route for a payment.
+    Route(Payment),
 }
 
-/// To accept an item, if there is one.
-fn offer(item: Option<Item>) -> Request
-    ensures { result ≡ offer item }
+/// A filter for a peer: `PEER HEX`.
+fn filter(alloc: Global, mut fields: Fields<'_>) -> Result<Option<Request>, AllocError>
+    ensures value { IfOk result (λ request. request ≡ filter_of fields.entry) }
+    ensures peer { IfOk result (λ request. IfSome request HasLawfulPeer) }
 {
-    match item {
-        Some(item) => Request::Offer(item),
-        None => Request::Bad,
-    }
-}
-
-/// A query, if there are bytes.
-fn query(bytes: Option<Bytes>) -> Request
-    ensures { result ≡ query bytes }
-{
-    match bytes {
-        Some(bytes) => Request::Query(bytes),
-        None => Request::Bad,
-    }
-}
-
-/// The filter of a line, behind its first word: `PEER HEX`.
-fn filter(alloc: Global, text: &[u8]) -> Result<Request, AllocError>
-    ensures value { IfOk result (λ request. request ≡ filter_of text.now) }
-    ensures peer { IfOk result HasLawfulPeer }
-{
-    let Some((digits, rest)) = split_field(b' ', text) else {
-        return Ok(Request::Bad);
+    let (Some(peer), Some(digits), Some(())) = (fields.next(), fields.next(), fields.end()) else {
+        return Ok(None);
     };
-    let Some(peer) = number_below(1_000, digits) else {
-        return Ok(Request::Bad);
+    let Some(peer) = number_below(1_000, peer) else {
+        return Ok(None);
     };
-    match bytes(alloc, rest)? {
-        Some(bytes) => Ok(Request::Filter(peer as u16, bytes)),
-        None => Ok(Request::Bad),
+    match bytes(alloc, digits)? {
+        Some(bytes) => Ok(Some(Request::Filter(peer as u16, bytes))),
+        None => Ok(None),
     }
+}
+
+/// What a line asks that is a form of the grammar.
+fn form(alloc: Global, line: &[u8]) -> Result<Option<Request>, AllocError>
+    ensures value { IfOk result (λ request. request ≡ form_of line.now) }
+    ensures peer { IfOk result (λ request. IfSome request HasLawfulPeer) }
+{
+    if let Some(text) = line.strip_prefix(b"m ") {
+        return Ok(gossip(alloc, Fields::new(b' ', text))?.map(Request::Offer));
+    }
+    if let Some(text) = line.strip_prefix(b"close ") {
+        return Ok(close(Fields::new(b' ', text)).map(Request::Offer));
+    }
+    if let Some(text) = line.strip_prefix(b"q ") {
+        return Ok(bytes(alloc, text)?.map(Request::Query));
+    }
+    if let Some(text) = line.strip_prefix(b"filter ") {
+        return filter(alloc, Fields::new(b' ', text));
+    }
+    if let Some(text) = line.strip_prefix(b"route ") {
+        return Ok(payment_in(Fields::new(b' ', text)).map(Request::Route));
+    }
+    if line == b"commit".as_slice() {
+        return Ok(Some(Request::Commit));
+    }
+    Ok(None)
 }
 
 /// What a line asks.
@@ -70,20 +80,8 @@ pub fn parse(alloc: Global, line: &[u8]) -> Result<Request, AllocError>
     if line.is_empty() || line.starts_with(b"#") {
         return Ok(Request::Quiet);
     }
-    if line == b"commit".as_slice() {
-        return Ok(Request::Commit);
-    }
-    if let Some(text) = line.strip_prefix(b"m ") {
-        return Ok(offer(gossip(alloc, text)?));
-    }
-    if let Some(text) = line.strip_prefix(b"q ") {
-        return Ok(query(bytes(alloc, text)?));
-    }
-    if let Some(text) = line.strip_prefix(b"filter ") {
-        return filter(alloc, text);
-    }
-    match line.strip_prefix(b"close ") {
-        Some(text) => Ok(offer(close(text))),
+    match form(alloc, line)? {
+        Some(request) => Ok(request),
         None => Ok(Request::Bad),
     }
 }

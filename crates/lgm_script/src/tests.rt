@@ -4,8 +4,11 @@ use crate::device::{Failed, Sink, Source};
 use crate::line_reader::{LineReader, MAX_LINE};
 use crate::memory::{MemorySink, MemorySource};
 use crate::output::{BLOCK, Output};
+use crate::payment::Payment;
 use crate::reading::{LineFault, next_line};
+use crate::request::{Request, parse};
 use crate::std_streams::{FromRead, ToWrite};
+use lgm_gossip::{Point, Scid};
 use std::alloc::Global;
 use std::io::{self, ErrorKind, Read, Write};
 use std::test::Fail;
@@ -184,6 +187,92 @@ fn failing_reads(rt: HostRuntime) -> Result<(), Fail> {
     Ok(())
 }
 
+const PAYER: &str = "020A0a0a0a0a0a0a0a0a0a0a0a0a0a0a0a0a0a0a0a0a0a0a0a0a0a0a0a0a0a0a0a";
+
+const PAYEE: &str = "ff0b0b0b0b0b0b0b0b0b0b0b0b0b0b0b0b0b0b0b0b0b0b0b0b0b0b0b0b0b0b0b0B";
+
+const SECRET: &str = "1111111111111111111111111111111111111111111111111111111111111111";
+
+/// Whether a line asks for the route of a payment.
+fn asks_for(request: &Request, payment: &Payment) -> bool {
+    match request {
+        Request::Route(found) => found == payment,
+        _ => false,
+    }
+}
+
+#[test]
+fn payments(rt: HostRuntime) -> Result<(), Fail> {
+    let alloc = rt.alloc();
+    let mut payer = [0x0a; 33];
+    payer[0] = 2;
+    let mut payee = [0x0b; 33];
+    payee[0] = 0xff;
+    for (msat, amount, blocks, expiry) in [
+        ("0", 0, "0", 0),
+        ("1000", 1_000, "700000", 700_000),
+        ("18446744073709551615", u64::MAX, "4294967295", u32::MAX),
+    ] {
+        let line = format!(in alloc; "route {PAYER} {PAYEE} {msat} {blocks} {SECRET}")?;
+        let payment = Payment {
+            payer: Point(payer),
+            payee: Point(payee),
+            amount,
+            expiry,
+            secret: [0x11; 32],
+        };
+        let request = parse(alloc, line.as_bytes())?;
+        assert!(rt; asks_for(&request, &payment), "{line}");
+    }
+    Ok(())
+}
+
+#[test]
+fn no_payments(rt: HostRuntime) -> Result<(), Fail> {
+    let alloc = rt.alloc();
+    for fields in [
+        "",
+        " 1 1",
+        "PAYER PAYEE 1 1",
+        "PAYER PAYEE 1 1 ",
+        "PAYER PAYEE 1 1 SECRET ",
+        "PAYER PAYEE 1 1 SECRET 1",
+        " PAYER PAYEE 1 1 SECRET",
+        "PAYER  PAYEE 1 1 SECRET",
+        "PAYER\tPAYEE 1 1 SECRET",
+        "PAYER PAYEE 1 1 SECRET\r",
+        "SECRET PAYEE 1 1 SECRET",
+        "PAYER SECRET 1 1 SECRET",
+        "PAYER all 1 1 SECRET",
+        "PAYER0 PAYEE 1 1 SECRET",
+        "PAYER PAYEE  1 SECRET",
+        "PAYER PAYEE 01 1 SECRET",
+        "PAYER PAYEE +1 1 SECRET",
+        "PAYER PAYEE 0x1 1 SECRET",
+        "PAYER PAYEE 18446744073709551616 1 SECRET",
+        "PAYER PAYEE 1  SECRET",
+        "PAYER PAYEE 1 00 SECRET",
+        "PAYER PAYEE 1 -1 SECRET",
+        "PAYER PAYEE 1 4294967296 SECRET",
+        "PAYER PAYEE 1 1 PAYER",
+        "PAYER PAYEE 1 1 SECRET0",
+        "PAYER PAYEE 1 1 1",
+    ] {
+        let line = spelled(alloc, fields)?;
+        let request = parse(alloc, line.as_bytes())?;
+        assert!(rt; matches!(&request, Request::Bad), "{line}");
+    }
+    Ok(())
+}
+
+/// The line of a route, with these names in place of what they stand for.
+fn spelled(alloc: Global, fields: &str) -> Result<String, Fail> {
+    let payers = fields.replace(alloc, "PAYER", PAYER)?;
+    let payees = payers.as_str().replace(alloc, "PAYEE", PAYEE)?;
+    let secrets = payees.as_str().replace(alloc, "SECRET", SECRET)?;
+    Ok(format!(in alloc; "route {secrets}")?)
+}
+
 #[test]
 fn text_in_blocks(rt: HostRuntime) -> Result<(), Fail> {
     let alloc = rt.alloc();
@@ -193,11 +282,14 @@ fn text_in_blocks(rt: HostRuntime) -> Result<(), Fail> {
     output.send_word(10_000_000, "accepted")?;
     output.send_count(7, 1)?;
     output.send_message(8, Some(999), b"\x01\xff")?;
+    output.send_route(9, 1_001, 700_040, 20)?;
+    output.send_hop(9, Scid::new(600_000, 1, 0), b"\x02\xfe")?;
+    output.send_hop(9, Scid::from_u64(u64::MAX), b"")?;
     output.flush()?;
-    assert_eq!(rt;
-        sink.taken(),
-        b"10000000 accepted\n7 commit 1\n8 to 999 01ff\n".as_slice()
-    );
+    let text = b"10000000 accepted\n7 commit 1\n8 to 999 01ff\n9 route 1001 700040 20\n\
+        9 hop 600000x1x0 02fe\n9 hop 16777215x16777215x65535 \n"
+        .as_slice();
+    assert_eq!(rt; sink.taken(), text);
     Ok(())
 }
 

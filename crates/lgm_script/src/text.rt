@@ -3,9 +3,10 @@
 ghost use Rattle.std.specs.Prelude.{◌≡◌, ◌++◌, List, ℕ, codes, OnOk, OnErr};
 ghost use Rattle.std.specs.Fmt.{decimal};
 ghost use Rattle.hex.specs.Hex.{encode_lower};
-ghost use Rattle.lgm_script.specs.Text.{word_line, commit_line, lead, message_line};
+ghost use Rattle.lgm_script.specs.Text.{word_line, commit_line, lead, message_line, route_line, scid_text, hop_line};
 ghost use Rattle.lgm_script.specs.Front.{IsFront};
 
+use lgm_gossip::Scid;
 use std::alloc::AllocError;
 
 /// Puts a number behind the text, in decimal digits.
@@ -71,6 +72,53 @@ fn push_message(
     Ok(())
 }
 
+fn push_route(
+    text: &mut Vec<u8>,
+    number: u64,
+    sent: u64,
+    expiry: u32,
+    count: usize,
+) -> Result<(), AllocError>
+    ensures ok { OnOk result (text.new.items ≡ text.old.items ++ route_line number sent expiry count) }
+    ensures err { OnErr result (IsFront text.old.items text.new.items) }
+{
+    push_number(text, number)?;
+    text.extend_from_slice(b" route ")?;
+    push_number(text, sent)?;
+    text.extend_from_slice(b" ")?;
+    push_number(text, u64::from(expiry))?;
+    text.extend_from_slice(b" ")?;
+    push_number(text, count as u64)?;
+    text.extend_from_slice(b"\n")?;
+    Ok(())
+}
+
+/// Puts a channel's name behind the text: `BLOCKxINDEXxOUTPUT`.
+fn push_scid(text: &mut Vec<u8>, scid: Scid) -> Result<(), AllocError>
+    ensures ok { OnOk result (text.new.items ≡ text.old.items ++ scid_text scid) }
+    ensures err { OnErr result (IsFront text.old.items text.new.items) }
+{
+    push_number(text, u64::from(scid.block()))?;
+    text.extend_from_slice(b"x")?;
+    push_number(text, u64::from(scid.index()))?;
+    text.extend_from_slice(b"x")?;
+    push_number(text, u64::from(scid.output()))?;
+    Ok(())
+}
+
+fn push_hop(text: &mut Vec<u8>, number: u64, scid: Scid, payload: &[u8]) -> Result<(), AllocError>
+    ensures ok { OnOk result (text.new.items ≡ text.old.items ++ hop_line number scid payload.now) }
+    ensures err { OnErr result (IsFront text.old.items text.new.items) }
+{
+    push_number(text, number)?;
+    text.extend_from_slice(b" hop ")?;
+    push_scid(text, scid)?;
+    text.extend_from_slice(b" ")?;
+    lgm_hex::append(text, payload)?;
+    text.extend_from_slice(b"\n")?;
+    Ok(())
+}
+
 /// Puts the line of a word behind the text. Want of memory leaves it as it was.
 pub(crate) fn append_word(text: &mut Vec<u8>, number: u64, word: &str) -> Result<(), AllocError>
     ensures ok { OnOk result (text.new.items ≡ text.old.items ++ word_line number word.now) }
@@ -109,6 +157,43 @@ pub(crate) fn append_message(
 {
     let length = text.len();
     let pushed = push_message(text, number, peer, message);
+    if pushed.is_err() {
+        text.truncate(length);
+    }
+    pushed
+}
+
+/// Puts the line of a route behind the text. Want of memory leaves it as it was.
+pub(crate) fn append_route(
+    text: &mut Vec<u8>,
+    number: u64,
+    sent: u64,
+    expiry: u32,
+    count: usize,
+) -> Result<(), AllocError>
+    ensures ok { OnOk result (text.new.items ≡ text.old.items ++ route_line number sent expiry count) }
+    ensures err { OnErr result (text.new.items ≡ text.old.items) }
+{
+    let length = text.len();
+    let pushed = push_route(text, number, sent, expiry, count);
+    if pushed.is_err() {
+        text.truncate(length);
+    }
+    pushed
+}
+
+/// Puts the line of a hop behind the text. Want of memory leaves it as it was.
+pub(crate) fn append_hop(
+    text: &mut Vec<u8>,
+    number: u64,
+    scid: Scid,
+    payload: &[u8],
+) -> Result<(), AllocError>
+    ensures ok { OnOk result (text.new.items ≡ text.old.items ++ hop_line number scid payload.now) }
+    ensures err { OnErr result (text.new.items ≡ text.old.items) }
+{
+    let length = text.len();
+    let pushed = push_hop(text, number, scid, payload);
     if pushed.is_err() {
         text.truncate(length);
     }

@@ -1,5 +1,5 @@
 use Rattle.std.proofs.Common.{arith, sym, ◌∙◌}
-use Rattle.lgm_script.proofs.FieldLaws.{value_at-drop, value_at-end}
+use Rattle.lgm_script.proofs.Decimals.{value_at-drop, value_at-end}
 use Rattle.lgm_script.proofs.field.value.Goals as goal
 
 pub returns-in_err-value : goal.returns-in_err-value

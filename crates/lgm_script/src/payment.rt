@@ -1,0 +1,51 @@
+//! Payments: what a line asks a route for.
+
+ghost use Rattle.std.specs.Prelude.{◌≡◌};
+ghost use Rattle.lgm_script.specs.Field.{array_of};
+ghost use Rattle.lgm_script.specs.Payment.{payment_of};
+
+use crate::field::{number, number_below, point};
+use crate::fields::Fields;
+use lgm_gossip::Point;
+
+/// A payment that a route is asked for. The points are any 33 bytes: that they are nodes of the map is not looked at
+/// here.
+#[derive(Clone, Copy, Debug, PartialEq, Eq)]
+pub struct Payment {
+    /// The node that pays.
+    pub payer: Point,
+    /// The node that is paid.
+    pub payee: Point,
+    /// What the payee is to get, in msat.
+    pub amount: u64,
+    /// The block height at which what the payee is offered expires (BOLT 2, "`cltv_expiry_delta` Selection").
+    pub expiry: u32,
+    /// The secret by which the payee knows the payment (BOLT 4, "`payment_data`").
+    pub secret: [u8; 32],
+}
+
+/// A secret: 32 bytes, each as two hexadecimal digits.
+fn secret(digits: &[u8]) -> Option<[u8; 32]>
+    ensures { result ≡ array_of 32 digits.now }
+{
+    lgm_hex::decode_array::<32>(digits).ok()
+}
+
+/// A payment: `PAYER PAYEE MSAT EXPIRY SECRET`.
+pub fn payment_in(mut fields: Fields<'_>) -> Option<Payment>
+    ensures { result ≡ payment_of fields.entry }
+{
+    let payer = fields.next()?;
+    let payee = fields.next()?;
+    let amount = fields.next()?;
+    let expiry = fields.next()?;
+    let secret_digits = fields.next()?;
+    fields.end()?;
+    Some(Payment {
+        payer: point(payer)?,
+        payee: point(payee)?,
+        amount: number(amount)?,
+        expiry: number_below(0x1_0000_0000, expiry)? as u32,
+        secret: secret(secret_digits)?,
+    })
+}
