@@ -59,7 +59,7 @@ fn refuse<E: Sink>(alloc: Global, errors: &mut E, error: &Error) -> u8
 /// Runs the program that the words name, the program's own name first, and gives its exit status.
 ///
 /// Status 0: the script was answered. Status 2: the words are bad, or ask for help, and `clap`'s text is on `errors`; or
-/// the chain isn't 64 hexadecimal digits. Status 1: the run failed, and its line is on `errors`. A fault in writing to
+/// the chain isn't 64 hexadecimal digits, or the known feature bits aren't 2 to 512. Status 1: the run failed, and its line is on `errors`. A fault in writing to
 /// `errors` changes nothing.
 pub fn start<R: Source, W: Sink, E: Sink>(
     alloc: Global,
@@ -79,9 +79,13 @@ pub fn start<R: Source, W: Sink, E: Sink>(
             tell(errors, "lgm: bad chain\n");
             return BAD_WORDS;
         }
+        Err(BadWords::Known) => {
+            tell(errors, "lgm: bad known\n");
+            return BAD_WORDS;
+        }
         Err(BadWords::NoMemory) => return fail(errors, RunFault::NoMemory),
     };
-    match run(alloc, reader, writer, &options.chain) {
+    match run(alloc, reader, writer, &options.chain, &options.known) {
         Ok(_) => DONE,
         Err(fault) => fail(errors, fault),
     }

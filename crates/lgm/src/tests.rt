@@ -75,6 +75,45 @@ fn a_chain_has_64_digits(rt: HostRuntime) -> Result<(), Fail> {
 }
 
 #[test]
+fn known_bits_have_2_to_512_digits(rt: HostRuntime) -> Result<(), Fail> {
+    let alloc = rt.alloc();
+    let mut longest = String::new(alloc);
+    for _ in 0..128 {
+        longest.push_str("0aF5")?;
+    }
+    let mut longer = longest.clone()?;
+    longer.push_str("00")?;
+    for (known, want) in [
+        ("00", 0),
+        ("0aF5", 0),
+        (longest.as_str(), 0),
+        (longer.as_str(), 2),
+        ("", 2),
+        ("0", 2),
+        ("0aF", 2),
+        ("zz", 2),
+        ("0x", 2),
+    ] {
+        let given = ["lgm", "run", "--known", known, "--chain", CHAIN];
+        let (status, writer, errors) = started(alloc, &given, b"")?;
+        assert_eq!(rt; status, want, "at {known}");
+        let line = if want == 0 { "" } else { "lgm: bad known\n" };
+        assert_eq!(rt; errors.taken(), line.as_bytes(), "at {known}");
+        assert!(rt; writer.taken().is_empty());
+    }
+    Ok(())
+}
+
+#[test]
+fn the_chain_comes_before_the_known_bits(rt: HostRuntime) -> Result<(), Fail> {
+    let given = ["lgm", "run", "--known", "0", "--chain", "zz"];
+    let (status, _, errors) = started(rt.alloc(), &given, b"")?;
+    assert_eq!(rt; status, 2);
+    assert_eq!(rt; errors.taken(), b"lgm: bad chain\n".as_slice());
+    Ok(())
+}
+
+#[test]
 fn a_fault_has_its_line(rt: HostRuntime) -> Result<(), Fail> {
     let alloc = rt.alloc();
     let mut script = Vec::from_slice(alloc, b"commit\n#")?;

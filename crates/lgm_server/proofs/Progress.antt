@@ -26,30 +26,30 @@ use Rattle.lgm_server.specs.Running.{line_fault, IsTold, IsAnswered, IsTooMany, 
 use Rattle.lgm_server.proofs.Stepping.{opening_is, state_after-request}
 
 -- k lines were answered, and this is the state behind them
-pub record IsSoFar (chain : ChainHash) (script : List ℕ) (k : ℕ) (state : State) (input : Option (List ℕ)) (old mid : Told) : Type 0 where
+pub record IsSoFar (chain : ChainHash) (known : Option (List ℕ)) (script : List ℕ) (k : ℕ) (state : State) (input : Option (List ℕ)) (old mid : Told) : Type 0 where
   pub front : List ℕ
   pub rest : List ℕ
   pub input_is : input ≡ Some rest
   pub parts : script ≡ front ++ rest
   pub left : lines_of rest ≡ drop k (lines_of script)
   pub read : (k ≤ length (filter ends_line front)) ⊎ (rest ≡ [])
-  pub state_is : state ≡ state_of chain (take k (requests_of script))
-  pub text : IsTold chain (Tells old mid) script k
+  pub state_is : state ≡ state_of chain known (take k (requests_of script))
+  pub text : IsTold chain known (Tells old mid) script k
 
-abbrev pub SoFar : ChainHash → Option (List ℕ) → ℕ → State → Option (List ℕ) → Told → Told → Type 0
-SoFar chain script k state input old mid = IfSome script (λ s. IsSoFar chain s k state input old mid)
+abbrev pub SoFar : ChainHash → Option (List ℕ) → Option (List ℕ) → ℕ → State → Option (List ℕ) → Told → Told → Type 0
+SoFar chain known script k state input old mid = IfSome script (λ s. IsSoFar chain known s k state input old mid)
 
-pub starts : (chain : ChainHash) (script : Option (List ℕ)) (told : Told) → SoFar chain script 0 opening (ahead [] script) told told
+pub starts : (chain : ChainHash) (known : Option (List ℕ)) (script : Option (List ℕ)) (told : Told) → SoFar chain known script 0 (opening known) (ahead [] script) told told
 unfolding text_before
-starts chain None told = tt
-starts chain (Some script) told = record {
+starts chain known None told = tt
+starts chain known (Some script) told = record {
   front = [];
   rest = script;
   input_is = refl;
   parts = refl;
   left = refl;
   read = inl (omega arith);
-  state_is = opening_is chain;
+  state_is = opening_is chain known;
   text = record { few = omega arith; short = tt; text = tells_nothing told };
 }
 
@@ -77,17 +77,17 @@ behind {X} xs k d x others e =
     let lt : k < length xs = omega (arith, ap length e, length-drop k xs) in
     ap (drop 1) (sym (drop_more xs k d lt) ∙ e)
 
-text_before-suc : (chain : ChainHash) (asked : List Request) (k : ℕ) → text_before chain asked (suc k) ≡ text_before chain asked k ++ text_at chain asked k
+text_before-suc : (chain : ChainHash) (known : Option (List ℕ)) (asked : List Request) (k : ℕ) → text_before chain known asked (suc k) ≡ text_before chain known asked k ++ text_at chain known asked k
 unfolding text_before
-text_before-suc chain asked k = refl
+text_before-suc chain known asked k = refl
 
-text_before-more : (chain : ChainHash) (asked : List Request) (k : ℕ) → text_before chain asked (k + 1) ≡ text_before chain asked k ++ text_at chain asked k
-text_before-more chain asked k = rw add-one (text_before-suc chain asked k)
+text_before-more : (chain : ChainHash) (known : Option (List ℕ)) (asked : List Request) (k : ℕ) → text_before chain known asked (k + 1) ≡ text_before chain known asked k ++ text_at chain known asked k
+text_before-more chain known asked k = rw add-one (text_before-suc chain known asked k)
 
-text_is : (chain : ChainHash) (asked : List Request) (k : ℕ) (state : State) (request : Request) → state ≡ state_of chain (take k asked) → get_or asked k requests.Quiet ≡ request
-    → text_at chain asked k ≡ text_for chain (k + 1) state request
+text_is : (chain : ChainHash) (known : Option (List ℕ)) (asked : List Request) (k : ℕ) (state : State) (request : Request) → state ≡ state_of chain known (take k asked) → get_or asked k requests.Quiet ≡ request
+    → text_at chain known asked k ≡ text_for chain (k + 1) state request
 unfolding text_at
-text_is chain asked k state request s r = rw (s, ← r) refl
+text_is chain known asked k state request s r = rw (s, ← r) refl
 
 short-push : (P : List ℕ → Type 0) (xs : List (List ℕ)) (x : List ℕ) → AllByRecursion P xs → P x → AllByRecursion P (xs ++ x ∷ [])
 short-push P [] x all one = (one, tt)
@@ -115,21 +115,21 @@ more_feeds front buffered n k few =
     omega (arith, both, length-append (filter ends_line (front ++ take n buffered)) (filter ends_line (drop n buffered)))
 
 -- what one turn does
-pub record Turns (chain : ChainHash) (k : ℕ) (state state' : State) (line : List ℕ) (mid new : Told) : Type 0 where
+pub record Turns (chain : ChainHash) (known : Option (List ℕ)) (k : ℕ) (state state' : State) (line : List ℕ) (mid new : Told) : Type 0 where
   pub short : length line ≤ 140000
   pub lawful : HasLawfulPeer (request_of line)
   pub behind : state' ≡ state_after chain state (request_of line)
   pub told : Tells mid new (text_for chain (k + 1) state (request_of line))
 
 -- the line that was found is the next one, and behind it one more was read
-record NextOf (chain : ChainHash) (script : List ℕ) (k len : ℕ) (buffered left front : List ℕ) : Type 0 where
+record NextOf (chain : ChainHash) (known : Option (List ℕ)) (script : List ℕ) (k len : ℕ) (buffered left front : List ℕ) : Type 0 where
   pub line_here : drop k (lines_of script) ≡ take len buffered ∷ lines_of (drop (len + 1) buffered ++ left)
   pub parts : script ≡ (front ++ take (len + 1) buffered) ++ (drop (len + 1) buffered ++ left)
   pub read : (k + 1 ≤ length (filter ends_line (front ++ take (len + 1) buffered))) ⊎ (drop (len + 1) buffered ++ left ≡ [])
 
-next_line_of : (chain : ChainHash) (script : List ℕ) (k len : ℕ) (state : State) (buffered left : List ℕ) (old mid : Told)
-    → (so_far : IsSoFar chain script k state (ahead buffered (Some left)) old mid) → IsFirstLine buffered (Some left) len → NextOf chain script k len buffered left so_far.front
-next_line_of chain script k len state buffered left old mid so_far first =
+next_line_of : (chain : ChainHash) (known : Option (List ℕ)) (script : List ℕ) (k len : ℕ) (state : State) (buffered left : List ℕ) (old mid : Told)
+    → (so_far : IsSoFar chain known script k state (ahead buffered (Some left)) old mid) → IsFirstLine buffered (Some left) len → NextOf chain known script k len buffered left so_far.front
+next_line_of chain known script k len state buffered left old mid so_far first =
     let next = next_of buffered left len first in
     let rest_is : so_far.rest ≡ buffered ++ left = some_is so_far.rest (buffered ++ left) (sym so_far.input_is) in
     let split : buffered ++ left ≡ take (len + 1) buffered ++ (drop (len + 1) buffered ++ left) =
@@ -148,13 +148,13 @@ next_line_of chain script k len state buffered left old mid so_far first =
     no_rest : so_far.rest ≡ [] → drop (len + 1) buffered ++ left ≡ []
     no_rest none = nothing_behind buffered left (len + 1) (sym (some_is so_far.rest (buffered ++ left) (sym so_far.input_is)) ∙ none)
 
-step_so_far : (chain : ChainHash) (script : List ℕ) (k len : ℕ) (state state' : State) (buffered left : List ℕ) (old mid new : Told)
-    → IsSoFar chain script k state (ahead buffered (Some left)) old mid → IsFirstLine buffered (Some left) len → Turns chain k state state' (take len buffered) mid new
-    → IsSoFar chain script (k + 1) state' (ahead (drop (len + 1) buffered) (Some left)) old new
-step_so_far chain script k len state state' buffered left old mid new so_far first turn =
+step_so_far : (chain : ChainHash) (known : Option (List ℕ)) (script : List ℕ) (k len : ℕ) (state state' : State) (buffered left : List ℕ) (old mid new : Told)
+    → IsSoFar chain known script k state (ahead buffered (Some left)) old mid → IsFirstLine buffered (Some left) len → Turns chain known k state state' (take len buffered) mid new
+    → IsSoFar chain known script (k + 1) state' (ahead (drop (len + 1) buffered) (Some left)) old new
+step_so_far chain known script k len state state' buffered left old mid new so_far first turn =
     let line = take len buffered in
     let asked = requests_of script in
-    let next = next_line_of chain script k len state buffered left old mid so_far first in
+    let next = next_line_of chain known script k len state buffered left old mid so_far first in
     let others = lines_of (drop (len + 1) buffered ++ left) in
     let at = stands_at (lines_of script) k [] line others next.line_here in
     let request_here : drop k asked ≡ request_of line ∷ map request_of others = drop-map request_of k (lines_of script) ∙ ap (map request_of) next.line_here in
@@ -169,28 +169,28 @@ step_so_far chain script k len state state' buffered left old mid new so_far fir
       read = next.read;
       state_is =
           turn.behind ∙ ap (λ (x : State). state_after chain x (request_of line)) so_far.state_is
-          ∙ state_after-request chain (take k asked) (request_of line) turn.lawful ∙ ap (state_of chain) (sym of.front);
+          ∙ state_after-request chain known (take k asked) (request_of line) turn.lawful ∙ ap (state_of chain known) (sym of.front);
       text = record {
         few = let lt = at.within in omega arith;
         short = subst (λ (ls : List (List ℕ)). AllByRecursion (λ l. length l ≤ 140000) ls) (sym at.front) (short-push (λ l. length l ≤ 140000) (take k (lines_of script)) line text.short turn.short);
-        text = subst (Tells old new) (ap (λ (t : List ℕ). text_before chain asked k ++ t) (sym (text_is chain asked k state (request_of line) so_far.state_is of.here)) ∙ sym (text_before-more chain asked k))
-            (tells_both old mid new (text_before chain asked k) (text_for chain (k + 1) state (request_of line)) text.text turn.told);
+        text = subst (Tells old new) (ap (λ (t : List ℕ). text_before chain known asked k ++ t) (sym (text_is chain known asked k state (request_of line) so_far.state_is of.here)) ∙ sym (text_before-more chain known asked k))
+            (tells_both old mid new (text_before chain known asked k) (text_for chain (k + 1) state (request_of line)) text.text turn.told);
       };
     }
 
-pub step : (chain : ChainHash) (script : Option (List ℕ)) (k len : ℕ) (state state' : State) (buffered : List ℕ) (left input : Option (List ℕ)) (old mid new : Told)
-    → SoFar chain script k state input old mid → ahead buffered left ≡ input → IsFirstLine buffered left len → Turns chain k state state' (take len buffered) mid new
-    → SoFar chain script (k + 1) state' (ahead (drop (len + 1) buffered) left) old new
-step chain None k len state state' buffered left input old mid new so_far kept first turn = tt
-step chain (Some script) k len state state' buffered None input old mid new so_far kept first turn = absurd (let bad = kept ∙ so_far.input_is in cc)
-step chain (Some script) k len state state' buffered (Some left) input old mid new so_far kept first turn =
-    step_so_far chain script k len state state' buffered left old mid new (subst (λ (i : Option (List ℕ)). IsSoFar chain script k state i old mid) (sym kept) so_far) first turn
+pub step : (chain : ChainHash) (known : Option (List ℕ)) (script : Option (List ℕ)) (k len : ℕ) (state state' : State) (buffered : List ℕ) (left input : Option (List ℕ)) (old mid new : Told)
+    → SoFar chain known script k state input old mid → ahead buffered left ≡ input → IsFirstLine buffered left len → Turns chain known k state state' (take len buffered) mid new
+    → SoFar chain known script (k + 1) state' (ahead (drop (len + 1) buffered) left) old new
+step chain known None k len state state' buffered left input old mid new so_far kept first turn = tt
+step chain known (Some script) k len state state' buffered None input old mid new so_far kept first turn = absurd (let bad = kept ∙ so_far.input_is in cc)
+step chain known (Some script) k len state state' buffered (Some left) input old mid new so_far kept first turn =
+    step_so_far chain known script k len state state' buffered left old mid new (subst (λ (i : Option (List ℕ)). IsSoFar chain known script k state i old mid) (sym kept) so_far) first turn
 
 -- something more was told than the text so far: nothing
-pub told_on : (chain : ChainHash) (script : Option (List ℕ)) (k : ℕ) (state : State) (input : Option (List ℕ)) (old mid new : Told)
-    → SoFar chain script k state input old mid → Tells mid new [] → SoFar chain script k state input old new
-told_on chain None k state input old mid new so_far told = tt
-told_on chain (Some script) k state input old mid new so_far told = record {
+pub told_on : (chain : ChainHash) (known : Option (List ℕ)) (script : Option (List ℕ)) (k : ℕ) (state : State) (input : Option (List ℕ)) (old mid new : Told)
+    → SoFar chain known script k state input old mid → Tells mid new [] → SoFar chain known script k state input old new
+told_on chain known None k state input old mid new so_far told = tt
+told_on chain known (Some script) k state input old mid new so_far told = record {
   front = so_far.front;
   rest = so_far.rest;
   input_is = so_far.input_is;
@@ -201,17 +201,17 @@ told_on chain (Some script) k state input old mid new so_far told = record {
   text = record {
     few = so_far.text.few;
     short = so_far.text.short;
-    text = subst (Tells old new) (append-nil (text_before chain (requests_of script) k)) (tells_both old mid new (text_before chain (requests_of script) k) [] so_far.text.text told);
+    text = subst (Tells old new) (append-nil (text_before chain known (requests_of script) k)) (tells_both old mid new (text_before chain known (requests_of script) k) [] so_far.text.text told);
   };
 }
 
 -- ---- how it ends
 
-pub ends : (chain : ChainHash) (script : Option (List ℕ)) (k : ℕ) (state : State) (input input' : Option (List ℕ)) (old mid : Told)
-    → SoFar chain script k state input old mid → input' ≡ input → IsAtEnd input' → k ≤ 10000000 → IfSome script (IsAnswered chain (Tells old mid) (record { lines = k; accepted = state.accepted }))
-ends chain None k state input input' old mid so_far kept ended limit = tt
-ends chain (Some script) k state input None old mid so_far kept ended limit = absurd (let bad = kept ∙ so_far.input_is in cc)
-ends chain (Some script) k state input (Some s) old mid so_far kept ended limit =
+pub ends : (chain : ChainHash) (known : Option (List ℕ)) (script : Option (List ℕ)) (k : ℕ) (state : State) (input input' : Option (List ℕ)) (old mid : Told)
+    → SoFar chain known script k state input old mid → input' ≡ input → IsAtEnd input' → k ≤ 10000000 → IfSome script (IsAnswered chain known (Tells old mid) (record { lines = k; accepted = state.accepted }))
+ends chain known None k state input input' old mid so_far kept ended limit = tt
+ends chain known (Some script) k state input None old mid so_far kept ended limit = absurd (let bad = kept ∙ so_far.input_is in cc)
+ends chain known (Some script) k state input (Some s) old mid so_far kept ended limit =
     let rest_is : so_far.rest ≡ [] = sym (some_is s so_far.rest (kept ∙ so_far.input_is)) ∙ ended in
     let none : drop k (lines_of script) ≡ [] = sym so_far.left ∙ ap lines_of rest_is in
     let few = so_far.text.few in
@@ -236,21 +236,21 @@ has_line (b ∷ bs) some = by_test (eqb b 10)
     by_test true = omega arith
     by_test false = onto (lines_of bs)
 
-pub many : (chain : ChainHash) (script : Option (List ℕ)) (state : State) (buffered : List ℕ) (left input : Option (List ℕ)) (old mid : Told)
-    → SoFar chain script 10000000 state input old mid → ahead buffered left ≡ input → 0 < length buffered → IfSome script (IsTooMany chain (Tells old mid))
-many chain None state buffered left input old mid so_far kept more = tt
-many chain (Some script) state buffered None input old mid so_far kept more = absurd (let bad = kept ∙ so_far.input_is in cc)
-many chain (Some script) state buffered (Some left) input old mid so_far kept more =
+pub many : (chain : ChainHash) (known : Option (List ℕ)) (script : Option (List ℕ)) (state : State) (buffered : List ℕ) (left input : Option (List ℕ)) (old mid : Told)
+    → SoFar chain known script 10000000 state input old mid → ahead buffered left ≡ input → 0 < length buffered → IfSome script (IsTooMany chain known (Tells old mid))
+many chain known None state buffered left input old mid so_far kept more = tt
+many chain known (Some script) state buffered None input old mid so_far kept more = absurd (let bad = kept ∙ so_far.input_is in cc)
+many chain known (Some script) state buffered (Some left) input old mid so_far kept more =
     let rest_is : so_far.rest ≡ buffered ++ left = sym (some_is (buffered ++ left) so_far.rest (kept ∙ so_far.input_is)) in
     let lines : lines_of (buffered ++ left) ≡ drop 10000000 (lines_of script) = ap lines_of (sym rest_is) ∙ so_far.left in
     let some = has_line (buffered ++ left) (omega (arith, length-append buffered left)) in
     record { more = omega (arith, ap length lines, length-drop 10000000 (lines_of script)); text = so_far.text }
 
-pub long : (chain : ChainHash) (script : Option (List ℕ)) (k : ℕ) (state : State) (input input' : Option (List ℕ)) (old mid : Told)
-    → SoFar chain script k state input old mid → input' ≡ input → k < 10000000 → IsLongerThan 140000 input' → IfSome script (IsTooLong chain (Tells old mid))
-long chain None k state input input' old mid so_far kept limit longer = tt
-long chain (Some script) k state input None old mid so_far kept limit longer = absurd (let bad = kept ∙ so_far.input_is in cc)
-long chain (Some script) k state input (Some s) old mid so_far kept limit longer =
+pub long : (chain : ChainHash) (known : Option (List ℕ)) (script : Option (List ℕ)) (k : ℕ) (state : State) (input input' : Option (List ℕ)) (old mid : Told)
+    → SoFar chain known script k state input old mid → input' ≡ input → k < 10000000 → IsLongerThan 140000 input' → IfSome script (IsTooLong chain known (Tells old mid))
+long chain known None k state input input' old mid so_far kept limit longer = tt
+long chain known (Some script) k state input None old mid so_far kept limit longer = absurd (let bad = kept ∙ so_far.input_is in cc)
+long chain known (Some script) k state input (Some s) old mid so_far kept limit longer =
     let rest_is : so_far.rest ≡ s = sym (some_is s so_far.rest (kept ∙ so_far.input_is)) in
     let e : drop k (lines_of script) ≡ longer.0 ∷ longer.1 = sym so_far.left ∙ ap lines_of rest_is ∙ longer.2 in
     let at = stands_at (lines_of script) k [] longer.0 longer.1 e in
@@ -259,8 +259,8 @@ long chain (Some script) k state input (Some s) old mid so_far kept limit longer
 -- ---- where it is cut short
 
 -- what was read ahead was read
-read_so_far : (chain : ChainHash) (script : List ℕ) (k : ℕ) (state : State) (buffered left : List ℕ) (old mid : Told) → IsSoFar chain script k state (ahead buffered (Some left)) old mid → AreRead script (Some left) k
-read_so_far chain script k state buffered left old mid so_far =
+read_so_far : (chain : ChainHash) (known : Option (List ℕ)) (script : List ℕ) (k : ℕ) (state : State) (buffered left : List ℕ) (old mid : Told) → IsSoFar chain known script k state (ahead buffered (Some left)) old mid → AreRead script (Some left) k
+read_so_far chain known script k state buffered left old mid so_far =
     let rest_is : so_far.rest ≡ buffered ++ left = some_is so_far.rest (buffered ++ left) (sym so_far.input_is) in
     record {
       front = so_far.front ++ buffered;
@@ -273,33 +273,33 @@ read_so_far chain script k state buffered left old mid so_far =
       ];
     }
 
-pub cut : (chain : ChainHash) (script : Option (List ℕ)) (k : ℕ) (state : State) (buffered : List ℕ) (left input : Option (List ℕ)) (old mid new : Told)
-    → SoFar chain script k state input old mid → ahead buffered left ≡ input → TellsSome mid new [] → IfSome script (IsCutShort chain (TellsSome old new) left)
-cut chain None k state buffered left input old mid new so_far kept some = tt
-cut chain (Some script) k state buffered None input old mid new so_far kept some = absurd (let bad = kept ∙ so_far.input_is in cc)
-cut chain (Some script) k state buffered (Some left) input old mid new so_far kept some = record {
+pub cut : (chain : ChainHash) (known : Option (List ℕ)) (script : Option (List ℕ)) (k : ℕ) (state : State) (buffered : List ℕ) (left input : Option (List ℕ)) (old mid new : Told)
+    → SoFar chain known script k state input old mid → ahead buffered left ≡ input → TellsSome mid new [] → IfSome script (IsCutShort chain known (TellsSome old new) left)
+cut chain known None k state buffered left input old mid new so_far kept some = tt
+cut chain known (Some script) k state buffered None input old mid new so_far kept some = absurd (let bad = kept ∙ so_far.input_is in cc)
+cut chain known (Some script) k state buffered (Some left) input old mid new so_far kept some = record {
   answered = k;
   few = so_far.text.few;
-  read = read_so_far chain script k state buffered left old mid (subst (λ (i : Option (List ℕ)). IsSoFar chain script k state i old mid) (sym kept) so_far);
-  text = subst (TellsSome old new) (append-nil (text_before chain (requests_of script) k)) (some_behind old mid new (text_before chain (requests_of script) k) [] so_far.text.text some);
+  read = read_so_far chain known script k state buffered left old mid (subst (λ (i : Option (List ℕ)). IsSoFar chain known script k state i old mid) (sym kept) so_far);
+  text = subst (TellsSome old new) (append-nil (text_before chain known (requests_of script) k)) (some_behind old mid new (text_before chain known (requests_of script) k) [] so_far.text.text some);
 }
 
 -- while a line that was read is answered
-pub cut_in : (chain : ChainHash) (script : Option (List ℕ)) (k len : ℕ) (state : State) (request : Request) (buffered : List ℕ) (left input : Option (List ℕ)) (old mid new : Told)
-    → SoFar chain script k state input old mid → ahead buffered left ≡ input → IsFirstLine buffered left len → request ≡ request_of (take len buffered)
-    → TellsSome mid new (text_for chain (k + 1) state request) → IfSome script (IsCutShort chain (TellsSome old new) left)
-cut_in chain None k len state request buffered left input old mid new so_far kept first is some = tt
-cut_in chain (Some script) k len state request buffered None input old mid new so_far kept first is some = absurd (let bad = kept ∙ so_far.input_is in cc)
-cut_in chain (Some script) k len state request buffered (Some left) input old mid new so_far' kept first is some =
-    let so_far = subst (λ (i : Option (List ℕ)). IsSoFar chain script k state i old mid) (sym kept) so_far' in
+pub cut_in : (chain : ChainHash) (known : Option (List ℕ)) (script : Option (List ℕ)) (k len : ℕ) (state : State) (request : Request) (buffered : List ℕ) (left input : Option (List ℕ)) (old mid new : Told)
+    → SoFar chain known script k state input old mid → ahead buffered left ≡ input → IsFirstLine buffered left len → request ≡ request_of (take len buffered)
+    → TellsSome mid new (text_for chain (k + 1) state request) → IfSome script (IsCutShort chain known (TellsSome old new) left)
+cut_in chain known None k len state request buffered left input old mid new so_far kept first is some = tt
+cut_in chain known (Some script) k len state request buffered None input old mid new so_far kept first is some = absurd (let bad = kept ∙ so_far.input_is in cc)
+cut_in chain known (Some script) k len state request buffered (Some left) input old mid new so_far' kept first is some =
+    let so_far = subst (λ (i : Option (List ℕ)). IsSoFar chain known script k state i old mid) (sym kept) so_far' in
     let asked = requests_of script in
-    let next = next_line_of chain script k len state buffered left old mid so_far first in
+    let next = next_line_of chain known script k len state buffered left old mid so_far first in
     let others = lines_of (drop (len + 1) buffered ++ left) in
     let line = take len buffered in
     let at = stands_at (lines_of script) k [] line others next.line_here in
     let request_here : drop k asked ≡ request_of line ∷ map request_of others = drop-map request_of k (lines_of script) ∙ ap (map request_of) next.line_here in
     let of = stands_at asked k requests.Quiet (request_of line) (map request_of others) request_here in
-    let text_here : text_for chain (k + 1) state request ≡ text_at chain asked k = ap (text_for chain (k + 1) state) is ∙ sym (text_is chain asked k state (request_of line) so_far.state_is of.here) in
+    let text_here : text_for chain (k + 1) state request ≡ text_at chain known asked k = ap (text_for chain (k + 1) state) is ∙ sym (text_is chain known asked k state (request_of line) so_far.state_is of.here) in
     record {
       answered = k + 1;
       few = let lt = at.within in omega arith;
@@ -313,8 +313,8 @@ cut_in chain (Some script) k len state request buffered (Some left) input old mi
           | inr none ↦ inr (nothing_behind_left (drop (len + 1) buffered) left none)
         ];
       };
-      text = subst (TellsSome old new) (ap (λ (t : List ℕ). text_before chain asked k ++ t) text_here ∙ sym (text_before-more chain asked k))
-          (some_behind old mid new (text_before chain asked k) (text_for chain (k + 1) state request) so_far.text.text some);
+      text = subst (TellsSome old new) (ap (λ (t : List ℕ). text_before chain known asked k ++ t) text_here ∙ sym (text_before-more chain known asked k))
+          (some_behind old mid new (text_before chain known asked k) (text_for chain (k + 1) state request) so_far.text.text some);
     }
 
 -- ---- faults of lines

@@ -72,6 +72,7 @@ history_asked-push chain asked request = ap (history_of chain) (items_of-push as
     by requests.Commit = none
     by (requests.Query bytes) = none
     by (requests.Filter peer bytes) = none
+    by (requests.Route payment) = none
 
 -- ---- the last commit
 
@@ -146,17 +147,17 @@ filters_set chain asked peer bytes (Ok f) is small =
 
 -- ---- the state
 
-opening_of : (chain : ChainHash) → opening ≡ state_of chain []
-opening_of chain = ap (λ (fs : List PeerFilter). record { rows = empty; committed = empty; accepted = 0; filters = fs }) (sym (filters_of-is chain [] ∙ no_filters (filter_of chain []) 0 1000 (λ p. refl)))
+pub opening_is : (chain : ChainHash) (known : Option (List ℕ)) → opening known ≡ state_of chain known []
+opening_is chain known = ap (λ (fs : List PeerFilter). record { known = known; rows = empty; committed = empty; accepted = 0; filters = fs }) (sym (filters_of-is chain [] ∙ no_filters (filter_of chain []) 0 1000 (λ p. refl)))
 
 -- the state of a history, of which the first operations were committed, and of filters
-abbrev state_at : List Op → List Op → List PeerFilter → State
-state_at history committed filters = record { rows = fold history; committed = fold committed; accepted = length history; filters = filters }
+abbrev state_at : Option (List ℕ) → List Op → List Op → List PeerFilter → State
+state_at known history committed filters = record { known = known; rows = fold history; committed = fold committed; accepted = length history; filters = filters }
 
-state_behind-outcome : (history committed : List Op) (filters : List PeerFilter) (outcome : Result Op Refusal)
-    → state_behind (state_at history committed filters) outcome ≡ state_at (with_outcome history outcome) committed filters
-state_behind-outcome history committed filters (Ok op) = rw (fold_from-push empty history op, length_push history op) refl
-state_behind-outcome history committed filters (Err refusal) = refl
+state_behind-outcome : (known : Option (List ℕ)) (history committed : List Op) (filters : List PeerFilter) (outcome : Result Op Refusal)
+    → state_behind (state_at known history committed filters) outcome ≡ state_at known (with_outcome history outcome) committed filters
+state_behind-outcome known history committed filters (Ok op) = rw (fold_from-push empty history op, length_push history op) refl
+state_behind-outcome known history committed filters (Err refusal) = refl
 
 -- the filters with a request more
 abbrev filters_after : ChainHash → List PeerFilter → Request → List PeerFilter
@@ -165,31 +166,30 @@ filters_after chain filters _ = filters
 
 filters_of-push : (chain : ChainHash) (asked : List Request) (request : Request) → HasLawfulPeer request → filters_after chain (filters_of chain asked) request ≡ filters_of chain (asked ++ request ∷ [])
 filters_of-push chain asked (requests.Filter peer bytes) small = filters_set chain asked peer bytes (filter_read chain bytes) refl small
+filters_of-push chain asked (requests.Route payment) small = sym (filters_kept chain asked (requests.Route payment) (λ p. refl))
 filters_of-push chain asked requests.Quiet small = sym (filters_kept chain asked requests.Quiet (λ p. refl))
 filters_of-push chain asked requests.Bad small = sym (filters_kept chain asked requests.Bad (λ p. refl))
 filters_of-push chain asked requests.Commit small = sym (filters_kept chain asked requests.Commit (λ p. refl))
 filters_of-push chain asked (requests.Offer item) small = sym (filters_kept chain asked (requests.Offer item) (λ p. refl))
 filters_of-push chain asked (requests.Query bytes) small = sym (filters_kept chain asked (requests.Query bytes) (λ p. refl))
 
-by_request : (chain : ChainHash) (asked : List Request) (request : Request)
-    → state_after chain (state_of chain asked) request
-    ≡ state_at (history_after chain (history_of chain (items_of asked)) request) (history_of chain (items_of (before_commit_and asked request))) (filters_after chain (filters_of chain asked) request)
-by_request chain asked requests.Quiet = refl
-by_request chain asked requests.Bad = refl
-by_request chain asked requests.Commit = refl
-by_request chain asked (requests.Query bytes) = refl
-by_request chain asked (requests.Filter peer bytes) = refl
-by_request chain asked (requests.Offer item) =
-    state_behind-outcome (history_of chain (items_of asked)) (history_of chain (items_of (before_commit asked))) (filters_of chain asked) (outcome_of chain (fold (history_of chain (items_of asked))) item)
+by_request : (chain : ChainHash) (known : Option (List ℕ)) (asked : List Request) (request : Request)
+    → state_after chain (state_of chain known asked) request
+    ≡ state_at known (history_after chain (history_of chain (items_of asked)) request) (history_of chain (items_of (before_commit_and asked request))) (filters_after chain (filters_of chain asked) request)
+by_request chain known asked requests.Quiet = refl
+by_request chain known asked requests.Bad = refl
+by_request chain known asked requests.Commit = refl
+by_request chain known asked (requests.Query bytes) = refl
+by_request chain known asked (requests.Filter peer bytes) = refl
+by_request chain known asked (requests.Route payment) = refl
+by_request chain known asked (requests.Offer item) =
+    state_behind-outcome known (history_of chain (items_of asked)) (history_of chain (items_of (before_commit asked))) (filters_of chain asked) (outcome_of chain (fold (history_of chain (items_of asked))) item)
 
 -- the state behind one more request
-pub state_after-request : (chain : ChainHash) (asked : List Request) (request : Request) → HasLawfulPeer request → state_after chain (state_of chain asked) request ≡ state_of chain (asked ++ request ∷ [])
-state_after-request chain asked request small =
-    by_request chain asked request
+pub state_after-request : (chain : ChainHash) (known : Option (List ℕ)) (asked : List Request) (request : Request) → HasLawfulPeer request → state_after chain (state_of chain known asked) request ≡ state_of chain known (asked ++ request ∷ [])
+state_after-request chain known asked request small =
+    by_request chain known asked request
     ∙ rw (← history_asked-push chain asked request, ← before_commit-push asked request, filters_of-push chain asked request small) refl
-
-pub opening_is : (chain : ChainHash) → opening ≡ state_of chain []
-opening_is chain = opening_of chain
 
 state_behind-le : (state : State) (outcome : Result Op Refusal) → (state_behind state outcome).accepted ≤ state.accepted + 1
 state_behind-le state (Ok op) = omega arith
@@ -202,4 +202,5 @@ accepted-le chain state requests.Bad = omega arith
 accepted-le chain state requests.Commit = omega arith
 accepted-le chain state (requests.Query bytes) = omega arith
 accepted-le chain state (requests.Filter peer bytes) = omega arith
+accepted-le chain state (requests.Route payment) = omega arith
 accepted-le chain state (requests.Offer item) = state_behind-le state (outcome_of chain state.rows item)

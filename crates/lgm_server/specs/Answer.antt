@@ -1,12 +1,17 @@
 -- The text of answers.
-use Rattle.std.specs.Prelude.{ℕ, List, [], ◌++◌, Option, Some, None, Result, Ok, Err, codes}
-use Rattle.std.specs.List.{flat_map}
+use Rattle.std.specs.Prelude.{ℕ, List, [], ◌++◌, length, Option, Some, None, Result, Ok, Err, codes}
+use Rattle.std.specs.List.{flat_map, zip}
 use Rattle.lgm_check.specs.declared.refusal.Refusal.{Refusal}
 use Rattle.lgm_check.specs.Refusal.{word_of}
 use Rattle.lgm_store.specs.Rows.{Rows}
 use Rattle.lgm_query.specs.declared.filter.Filter.{Filter}
 use Rattle.lgm_query.specs.Backlog.{backlog, news}
-use Rattle.lgm_script.specs.Text.{word_line, commit_line, message_line}
+use Rattle.lgm_route.specs.declared.route.Hop.{Hop}
+use Rattle.lgm_route.specs.declared.fault.RouteFault.{RouteFault}
+use Rattle.lgm_route.specs.Route.{sent, expiry}
+use Rattle.lgm_route.specs.Words.{route_word}
+use Rattle.lgm_payload.specs.Building.{payloads_of}
+use Rattle.lgm_script.specs.Text.{word_line, commit_line, message_line, route_line, hop_line}
 use Rattle.lgm_server.specs.declared.answer.Answer.{Answer}
 use Rattle.lgm_server.specs.declared.answer.Answer.TheVariants as answers
 use Rattle.lgm_server.specs.declared.filters.PeerFilter.{PeerFilter}
@@ -46,6 +51,19 @@ news_text number before after own = flat_map (message_line number (Some own.peer
 abbrev pub commit_text : ℕ → ℕ → Rows → Rows → List PeerFilter → List ℕ
 commit_text number accepted before after filters = commit_line number accepted ++ flat_map (news_text number before after) filters
 
+-- a line for each hop, with the payload of the node at its end
+abbrev pub hops_text : ℕ → List Hop → List (List ℕ) → List ℕ
+hops_text number hops payloads = flat_map (λ told. hop_line number told.0.scid told.1) (zip hops payloads)
+
+-- what the payer sends, when it expires and how many hops there are, and then each hop
+abbrev pub routed_text : ℕ → List Hop → List (List ℕ) → List ℕ
+routed_text number hops payloads = route_line number (sent hops) (expiry hops) (length hops) ++ hops_text number hops payloads
+
+-- a payment is told its route, or why there is none
+abbrev pub route_text : ℕ → List ℕ → Result (List Hop) RouteFault → List ℕ
+route_text number secret (Ok hops) = routed_text number hops (payloads_of secret hops)
+route_text number secret (Err fault) = word_line number (route_word fault)
+
 -- the text of an answer, for the line of that number
 abbrev pub answer_text : ℕ → Answer → List ℕ
 answer_text number answers.Quiet = []
@@ -56,3 +74,5 @@ answer_text number (answers.Objected objection) = word_line number (objection_wo
 answer_text number (answers.Backlog own map) = filter_text number own.peer map.now (Ok own.filter)
 answer_text number (answers.Committed accepted) = commit_line number accepted
 answer_text number (answers.News accepted filters differences) = commit_text number accepted differences.before differences.after filters.now
+answer_text number (answers.Routed route payloads) = routed_text number route payloads
+answer_text number (answers.Unrouted fault) = word_line number (route_word fault)

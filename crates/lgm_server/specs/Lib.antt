@@ -3,6 +3,10 @@ pub mod Filters
 pub mod Filtering
 pub mod Query
 pub mod Behind
+pub mod Chart
+pub mod Maps
+pub mod Engine
+pub mod Routing
 pub mod Answer
 pub mod Script
 pub mod Steps

@@ -23,29 +23,29 @@ send_fault sending.Write = faults.Write
 send_fault sending.NoMemory = faults.NoMemory
 
 -- none of the first n lines is too long, and their text was told
-pub record IsTold (chain : ChainHash) (told : List ℕ → Type 0) (script : List ℕ) (n : ℕ) : Type 0 where
+pub record IsTold (chain : ChainHash) (known : Option (List ℕ)) (told : List ℕ → Type 0) (script : List ℕ) (n : ℕ) : Type 0 where
   pub few : n ≤ length (lines_of script)
   pub short : AllByRecursion (λ line. length line ≤ 140000) (take n (lines_of script))
-  pub text : told (text_before chain (requests_of script) n)
+  pub text : told (text_before chain known (requests_of script) n)
 
 -- all lines are within the limits, and the whole text was told
-pub record IsAnswered (chain : ChainHash) (told : List ℕ → Type 0) (counts : Counts) (script : List ℕ) : Type 0 where
+pub record IsAnswered (chain : ChainHash) (known : Option (List ℕ)) (told : List ℕ → Type 0) (counts : Counts) (script : List ℕ) : Type 0 where
   pub lines : counts.lines ≡ length (lines_of script)
   pub limit : counts.lines ≤ 10000000
   pub accepted : counts.accepted ≡ length (history_of chain (items_of (requests_of script)))
-  pub text : IsTold chain told script counts.lines
+  pub text : IsTold chain known told script counts.lines
 
 -- one more line than the limit begins, and the text of the lines before it was told
-pub record IsTooMany (chain : ChainHash) (told : List ℕ → Type 0) (script : List ℕ) : Type 0 where
+pub record IsTooMany (chain : ChainHash) (known : Option (List ℕ)) (told : List ℕ → Type 0) (script : List ℕ) : Type 0 where
   pub more : 10000000 < length (lines_of script)
-  pub text : IsTold chain told script 10000000
+  pub text : IsTold chain known told script 10000000
 
 -- a line is too long, and the text of the lines before it was told
-pub record IsTooLong (chain : ChainHash) (told : List ℕ → Type 0) (script : List ℕ) : Type 0 where
+pub record IsTooLong (chain : ChainHash) (known : Option (List ℕ)) (told : List ℕ → Type 0) (script : List ℕ) : Type 0 where
   pub place : ℕ
   pub limit : place < 10000000
   pub long : 140000 < length (slice_index_or (lines_of script) place [])
-  pub text : IsTold chain told script place
+  pub text : IsTold chain known told script place
 
 -- the first n lines of a script were read, each to its line feed or to the end, where this is left of it
 pub record AreRead (script : List ℕ) (left : Option (List ℕ)) (n : ℕ) : Type 0 where
@@ -56,8 +56,8 @@ pub record AreRead (script : List ℕ) (left : Option (List ℕ)) (n : ℕ) : Ty
   pub whole : (n ≤ length (filter ends_line front)) ⊎ (rest ≡ [])
 
 -- some of the lines were answered, all of which were read, and nothing but a first part of their text was told
-pub record IsCutShort (chain : ChainHash) (told_part : List ℕ → Type 0) (left : Option (List ℕ)) (script : List ℕ) : Type 0 where
+pub record IsCutShort (chain : ChainHash) (known : Option (List ℕ)) (told_part : List ℕ → Type 0) (left : Option (List ℕ)) (script : List ℕ) : Type 0 where
   pub answered : ℕ
   pub few : answered ≤ length (lines_of script)
   pub read : AreRead script left answered
-  pub text : told_part (text_before chain (requests_of script) answered)
+  pub text : told_part (text_before chain known (requests_of script) answered)

@@ -17,7 +17,8 @@ use Rattle.lgm_server.specs.Outcomes.{outcome_of, history_of}
 use Rattle.lgm_server.specs.Filters.{filters_from}
 use Rattle.lgm_server.specs.Filtering.{filter_read}
 use Rattle.lgm_server.specs.Query.{query_answer}
-use Rattle.lgm_server.specs.Answer.{outcome_text, query_text, filter_text, commit_text}
+use Rattle.lgm_server.specs.Answer.{outcome_text, query_text, filter_text, commit_text, route_text}
+use Rattle.lgm_server.specs.Routing.{route_answer}
 
 -- what the lines of a script ask
 abbrev pub requests_of : List ℕ → List Request
@@ -57,6 +58,8 @@ filters_of chain asked = filters_from (filter_of chain asked) 0 1000
 
 -- what a request is answered on
 pub record State : Type 0 where
+  -- the known bits of nodes' features, or none where all are known
+  pub known : Option (List ℕ)
   -- the rows that all accepted items have left
   pub rows : Rows
   -- the rows that those before the last commit have left
@@ -67,8 +70,9 @@ pub record State : Type 0 where
   pub filters : List PeerFilter
 
 -- what a request behind these is answered on
-abbrev pub state_of : ChainHash → List Request → State
-state_of chain asked = record {
+abbrev pub state_of : ChainHash → Option (List ℕ) → List Request → State
+state_of chain known asked = record {
+  known = known;
   rows = fold (history_of chain (items_of asked));
   committed = fold (history_of chain (items_of (before_commit asked)));
   accepted = length (history_of chain (items_of asked));
@@ -85,12 +89,13 @@ text_for chain number state (requests.Offer item) = outcome_text number (result_
 text_for chain number state requests.Commit = commit_text number state.accepted state.committed state.rows state.filters
 text_for chain number state (requests.Query bytes) = query_text number (query_answer chain state.committed bytes)
 text_for chain number state (requests.Filter peer bytes) = filter_text number peer state.committed (filter_read chain bytes)
+text_for chain number state (requests.Route payment) = route_text number payment.secret (route_answer state.known state.committed payment)
 
 -- the text for the request at a place, from 0
-unfoldable pub text_at : ChainHash → List Request → ℕ → List ℕ
-text_at chain asked k = text_for chain (k + 1) (state_of chain (take k asked)) (slice_index_or asked k requests.Quiet)
+unfoldable pub text_at : ChainHash → Option (List ℕ) → List Request → ℕ → List ℕ
+text_at chain known asked k = text_for chain (k + 1) (state_of chain known (take k asked)) (slice_index_or asked k requests.Quiet)
 
 -- the text for the first k requests
-unfoldable pub text_before : ChainHash → List Request → ℕ → List ℕ
-text_before chain asked zero = []
-text_before chain asked (suc k) = text_before chain asked k ++ text_at chain asked k
+unfoldable pub text_before : ChainHash → Option (List ℕ) → List Request → ℕ → List ℕ
+text_before chain known asked zero = []
+text_before chain known asked (suc k) = text_before chain known asked k ++ text_at chain known asked k

@@ -1,5 +1,5 @@
 -- The same state, request by request, as the engine keeps it.
-use Rattle.std.specs.Prelude.{ℕ, ◌+◌, List, [], Result, Ok, Err}
+use Rattle.std.specs.Prelude.{ℕ, ◌+◌, List, [], Option, Result, Ok, Err}
 use Rattle.lgm_gossip.specs.declared.chain_hash.ChainHash.{ChainHash}
 use Rattle.lgm_check.specs.declared.refusal.Refusal.{Refusal}
 use Rattle.lgm_store.specs.declared.op.Op.{Op}
@@ -16,8 +16,8 @@ use Rattle.lgm_server.specs.Outcomes.{outcome_of}
 use Rattle.lgm_server.specs.Script.{State}
 
 -- no item was accepted, and no filter set
-abbrev pub opening : State
-opening = record { rows = empty; committed = empty; accepted = 0; filters = [] }
+abbrev pub opening : Option (List ℕ) → State
+opening known = record { known = known; rows = empty; committed = empty; accepted = 0; filters = [] }
 
 -- behind an item that was accepted or refused
 abbrev pub state_behind : State → Result Op Refusal → State

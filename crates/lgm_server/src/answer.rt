@@ -7,8 +7,11 @@ ghost use Rattle.lgm_server.specs.Answer.{answer_text, outcome_word};
 use crate::filters::{Filters, PeerFilter};
 use crate::objection::Objection;
 use crate::sending::{send_filtered, send_messages, send_news};
+use crate::telling::send_route;
 use lgm_check::Refusal;
+use lgm_payload::Payloads;
 use lgm_query::{Differences, Replies};
+use lgm_route::{Route, RouteFault};
 use lgm_script::{Output, SendFault, Sink};
 use lgm_store::Map;
 
@@ -31,6 +34,10 @@ pub enum Answer<'a> {
     Committed(u64),
     /// So many items were accepted, and each peer gets what is new to it.
     News(u64, &'a Filters, Differences<'a>),
+    /// The route of its payment, with the payloads of the hops.
+    Routed(Route, Payloads),
+    /// Its payment has no route.
+    Unrouted(RouteFault),
 }
 
 impl Answer<'_> {
@@ -52,6 +59,8 @@ impl Answer<'_> {
             Answer::News(accepted, filters, differences) => {
                 send_news(number, *accepted, filters, differences, output)
             }
+            Answer::Routed(route, payloads) => send_route(number, route, payloads, output),
+            Answer::Unrouted(fault) => output.send_word(number, fault.word()),
         }
     }
 }

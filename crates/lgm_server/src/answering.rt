@@ -1,6 +1,6 @@
 //! One request after the other.
 
-ghost use Rattle.std.specs.Prelude.{◌≡◌, ◌+◌, ◌<◌, ◌^◌, IfErr, OnOk};
+ghost use Rattle.std.specs.Prelude.{◌≡◌, ◌≤◌, ◌+◌, ◌<◌, ◌^◌, IfErr, OnOk};
 ghost use Rattle.lgm_script.specs.Output.{Sends, SendsPart};
 ghost use Rattle.lgm_server.specs.Filtering.{filter_read};
 ghost use Rattle.lgm_server.specs.Answer.{filter_text};
@@ -51,7 +51,7 @@ pub fn answer<W: Sink>(
     engine: &mut Engine,
     output: &mut Output<'_, W>,
 ) -> Result<(), SendFault>
-    requires accepted { engine.old.accepted + 1 < 2 ^ 64 }
+    requires accepted { engine.old.accepted ≤ 10000000 }
     requires writer { W.failures output.old.writer.now + 1 < 2 ^ 64 }
     ensures writer { output.new.writer.ghost_name ≡ output.old.writer.ghost_name }
     ensures state { OnOk result (engine.new ≡ state_after chain.now engine.old request) }
@@ -72,6 +72,10 @@ pub fn answer<W: Sink>(
         }
         Request::Filter(peer, bytes) => {
             answer_filter(alloc, chain, number, peer, bytes.as_slice(), engine, output)
+        }
+        Request::Route(payment) => {
+            let answer = engine.answer_route(alloc, &payment)?;
+            answer.send(number, output)
         }
     }
 }

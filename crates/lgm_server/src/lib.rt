@@ -6,14 +6,20 @@
 
 mod answer;
 mod answering;
+mod chart;
 mod engine;
 mod filtering;
 mod filters;
+mod leveling;
+mod maps;
 mod objection;
+mod offering;
 mod querying;
+mod routing;
 mod run_fault;
 mod running;
 mod sending;
+mod telling;
 
 pub use run_fault::RunFault;
 pub use running::{Counts, MAX_LINES, run};

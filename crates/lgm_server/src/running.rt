@@ -11,6 +11,7 @@ use crate::answering::answer;
 use crate::engine::Engine;
 use crate::run_fault::RunFault;
 use lgm_gossip::ChainHash;
+use lgm_graph::Known;
 use lgm_script::{BLOCK, LineReader, Output, Sink, Source, more_begins, next_line, parse};
 use std::alloc::Global;
 
@@ -36,18 +37,18 @@ fn answer_lines<R: Source, W: Sink>(
     output: &mut Output<'_, W>,
 ) -> Result<Counts, RunFault>
     requires lines { lines.old ≡ [] }
-    requires engine { engine.old ≡ opening }
+    requires engine { engine.old ≡ opening engine.old.known }
     requires source { R.failures source.old + 1 < 2 ^ 64 }
     requires writer { W.failures output.old.writer.now + 1 < 2 ^ 64 }
     ensures writer { output.new.writer.ghost_name ≡ output.old.writer.ghost_name }
     ensures ok { IfOk result (λ counts. IfSome (R.left source.old)
-        (IsAnswered chain.now (Sends W.taken W.failures output.old output.new) counts)) }
+        (IsAnswered chain.now engine.old.known (Sends W.taken W.failures output.old output.new) counts)) }
     ensures too_many { result ≡ Err RunFault.TooManyLines → IfSome (R.left source.old)
-        (IsTooMany chain.now (Sends W.taken W.failures output.old output.new)) }
+        (IsTooMany chain.now engine.old.known (Sends W.taken W.failures output.old output.new)) }
     ensures too_long { result ≡ Err RunFault.LineTooLong → IfSome (R.left source.old)
-        (IsTooLong chain.now (Sends W.taken W.failures output.old output.new)) }
+        (IsTooLong chain.now engine.old.known (Sends W.taken W.failures output.old output.new)) }
     ensures some { IfSome (R.left source.old)
-        (IsCutShort chain.now (SendsSome W.taken W.failures output.old output.new) (R.left source.new)) }
+        (IsCutShort chain.now engine.old.known (SendsSome W.taken W.failures output.old output.new) (R.left source.new)) }
     ensures read { result ≡ Err RunFault.Read → R.failures source.old < R.failures source.new }
     ensures write { result ≡ Err RunFault.Write → W.failures output.old.writer.now < W.failures output.new.writer.now }
     ensures well { result ≢ Err RunFault.Write → W.failures output.new.writer.now ≡ W.failures output.old.writer.now }
@@ -76,6 +77,7 @@ fn answer_lines<R: Source, W: Sink>(
 fn answer_all<R: Source, W: Sink>(
     alloc: Global,
     chain: &ChainHash,
+    known: &Known,
     source: &mut R,
     output: &mut Output<'_, W>,
 ) -> Result<Counts, RunFault>
@@ -84,18 +86,18 @@ fn answer_all<R: Source, W: Sink>(
     requires writer { W.failures output.old.writer.now + 1 < 2 ^ 64 }
     ensures writer { output.new.writer.ghost_name ≡ output.old.writer.ghost_name }
     ensures ok { IfOk result (λ counts. IfSome (R.left source.old)
-        (IsAnswered chain.now (Appends (W.taken output.old.writer.now) (W.taken output.new.writer.now)) counts)) }
+        (IsAnswered chain.now known.now (Appends (W.taken output.old.writer.now) (W.taken output.new.writer.now)) counts)) }
     ensures too_many { result ≡ Err RunFault.TooManyLines → IfSome (R.left source.old)
-        (IsTooMany chain.now (Appends (W.taken output.old.writer.now) (W.taken output.new.writer.now))) }
+        (IsTooMany chain.now known.now (Appends (W.taken output.old.writer.now) (W.taken output.new.writer.now))) }
     ensures too_long { result ≡ Err RunFault.LineTooLong → IfSome (R.left source.old)
-        (IsTooLong chain.now (Appends (W.taken output.old.writer.now) (W.taken output.new.writer.now))) }
+        (IsTooLong chain.now known.now (Appends (W.taken output.old.writer.now) (W.taken output.new.writer.now))) }
     ensures fault { IfErr result (λ _. IfSome (R.left source.old)
-        (IsCutShort chain.now (AppendsSome (W.taken output.old.writer.now) (W.taken output.new.writer.now)) (R.left source.new))) }
+        (IsCutShort chain.now known.now (AppendsSome (W.taken output.old.writer.now) (W.taken output.new.writer.now)) (R.left source.new))) }
     ensures read { result ≡ Err RunFault.Read → R.failures source.old < R.failures source.new }
     ensures write { result ≡ Err RunFault.Write → W.failures output.old.writer.now < W.failures output.new.writer.now }
 {
     let mut lines = LineReader::new(alloc)?;
-    let mut engine = Engine::new(alloc)?;
+    let mut engine = Engine::new(alloc, known)?;
     let answered = answer_lines(alloc, chain, &mut lines, source, &mut engine, output);
     write_answers(answered, output)
 }
@@ -119,6 +121,7 @@ fn write_answers<W: Sink>(
 }
 
 /// Answers a whole script: its lines, in order, each by the lines before it (see the grammar in `docs/script.md`).
+/// Payments go to no node that wants features which aren't known.
 ///
 /// What is answered is written before the source is read again, and in blocks otherwise. At `TooManyLines` and
 /// `LineTooLong` the lines before were answered. After each other fault what was written is a beginning of the text of
@@ -130,23 +133,24 @@ pub fn run<R: Source, W: Sink>(
     reader: &mut R,
     writer: &mut W,
     chain: &ChainHash,
+    known: &Known,
 ) -> Result<Counts, RunFault>
     requires reader { R.failures reader.old + 1 < 2 ^ 64 }
     requires writer { W.failures writer.old + 1 < 2 ^ 64 }
 
     // Each line was answered, and nothing else was written.
     ensures ok { IfOk result (λ counts. IfSome (R.left reader.old)
-        (IsAnswered chain.now (Appends (W.taken writer.old) (W.taken writer.new)) counts)) }
+        (IsAnswered chain.now known.now (Appends (W.taken writer.old) (W.taken writer.new)) counts)) }
 
     // The lines before were answered.
     ensures too_many { result ≡ Err RunFault.TooManyLines → IfSome (R.left reader.old)
-        (IsTooMany chain.now (Appends (W.taken writer.old) (W.taken writer.new))) }
+        (IsTooMany chain.now known.now (Appends (W.taken writer.old) (W.taken writer.new))) }
     ensures too_long { result ≡ Err RunFault.LineTooLong → IfSome (R.left reader.old)
-        (IsTooLong chain.now (Appends (W.taken writer.old) (W.taken writer.new))) }
+        (IsTooLong chain.now known.now (Appends (W.taken writer.old) (W.taken writer.new))) }
 
     // At any fault a beginning of the text of lines that were read was written, and nothing else.
     ensures fault { IfErr result (λ _. IfSome (R.left reader.old)
-        (IsCutShort chain.now (AppendsSome (W.taken writer.old) (W.taken writer.new)) (R.left reader.new))) }
+        (IsCutShort chain.now known.now (AppendsSome (W.taken writer.old) (W.taken writer.new)) (R.left reader.new))) }
 
     // A device failed in this call.
     ensures read { result ≡ Err RunFault.Read → R.failures reader.old < R.failures reader.new }
@@ -154,5 +158,5 @@ pub fn run<R: Source, W: Sink>(
 {
     let mut block = Vec::with_capacity(alloc, BLOCK)?;
     let mut output = Output::new(&mut block, writer);
-    answer_all(alloc, chain, reader, &mut output)
+    answer_all(alloc, chain, known, reader, &mut output)
 }

@@ -17,13 +17,14 @@ loop-number-init g c = rw (c.requires.engine, c.requires.lines) (record {
   source = refl;
   writer = refl;
   few = omega arith;
-  so_far = starts c.args.chain.now (g.R.Source.left c.args.source.now) (seen g.W.Sink.taken g.W.Sink.failures c.args.output.now);
+  so_far = starts c.args.chain.now c.args.engine.now.known (g.R.Source.left c.args.source.now) (seen g.W.Sink.taken g.W.Sink.failures c.args.output.now);
 })
 
 pub returns-in_err-count-clause-too_long : goal.returns-in_err-count-clause-too_long
 returns-in_err-count-clause-too_long g c = λ e.
     let p = err_from_is_err_and c.from_residual.result c.from_residual.ensures.1 in
     let chain = c.args.chain.now in
+    let known = c.args.engine.now.known in
     let script = g.R.Source.left c.args.source.now in
     let k = c.loop-number.number in
     let state = c.loop-number.engine in
@@ -34,21 +35,22 @@ returns-in_err-count-clause-too_long g c = λ e.
     let fault = c.in_err-count.field-0.0 in
     let is = too_long_only fault p.0 p.2 (sym p.1 ∙ e) in
     let told = c.in_err-count.ensures.told (λ same. absurd (let here = sym (ap (failed {T = Option ℕ}) is) ∙ same in cc)) in
-    long chain script k state input (ahead c.next_line.new.lines (g.R.Source.left c.next_line.new.source)) old new
-    (told_on chain script k state input old mid new c.loop-number.invariant.so_far told)
+    long chain known script k state input (ahead c.next_line.new.lines (g.R.Source.left c.next_line.new.source)) old new
+    (told_on chain known script k state input old mid new c.loop-number.invariant.so_far told)
     c.in_err-count.ensures.kept c.loop-number-test.true (c.in_err-count.ensures.too_long (ap (failed {T = Option ℕ}) is))
 
 pub returns-in_err-count-clause-some : goal.returns-in_err-count-clause-some
 returns-in_err-count-clause-some g c =
     let mid = seen g.W.Sink.taken g.W.Sink.failures c.loop-number.output in
     let new = seen g.W.Sink.taken g.W.Sink.failures c.next_line.new.output in
-    (cut c.args.chain.now (g.R.Source.left c.args.source.now) c.loop-number.number c.loop-number.engine c.next_line.new.lines (g.R.Source.left c.next_line.new.source)
+    (cut c.args.chain.now c.args.engine.now.known (g.R.Source.left c.args.source.now) c.loop-number.number c.loop-number.engine c.next_line.new.lines (g.R.Source.left c.next_line.new.source)
     (ahead c.loop-number.lines (g.R.Source.left c.loop-number.source)) (seen g.W.Sink.taken g.W.Sink.failures c.args.output.now) mid new
     c.loop-number.invariant.so_far c.in_err-count.ensures.kept (line_some {T = Option ℕ} c.in_err-count.field-0.0 mid new c.in_err-count.ensures.told c.in_err-count.ensures.write))
 
 pub returns-in_default-clause-ok : goal.returns-in_default-clause-ok
 returns-in_default-clause-ok g c =
     let chain = c.args.chain.now in
+    let known = c.args.engine.now.known in
     let script = g.R.Source.left c.args.source.now in
     let k = c.loop-number.number in
     let state = c.loop-number.engine in
@@ -56,21 +58,22 @@ returns-in_default-clause-ok g c =
     let old = seen g.W.Sink.taken g.W.Sink.failures c.args.output.now in
     let mid = seen g.W.Sink.taken g.W.Sink.failures c.loop-number.output in
     let new = seen g.W.Sink.taken g.W.Sink.failures c.next_line.new.output in
-    rw c.accepted.ensures (ends chain script k state input (ahead c.next_line.new.lines (g.R.Source.left c.next_line.new.source)) old new
-    (told_on chain script k state input old mid new c.loop-number.invariant.so_far (c.in_ok-count.ensures.told (λ e. absurd cc)))
+    rw c.accepted.ensures (ends chain known script k state input (ahead c.next_line.new.lines (g.R.Source.left c.next_line.new.source)) old new
+    (told_on chain known script k state input old mid new c.loop-number.invariant.so_far (c.in_ok-count.ensures.told (λ e. absurd cc)))
     c.in_ok-count.ensures.kept (c.in_ok-count.ensures.end (search rules)) (omega arith))
 
 pub returns-in_err-request-clause-some : goal.returns-in_err-request-clause-some
 returns-in_err-request-clause-some g c =
     let mid = seen g.W.Sink.taken g.W.Sink.failures c.loop-number.output in
     let new = seen g.W.Sink.taken g.W.Sink.failures c.next_line.new.output in
-    (cut c.args.chain.now (g.R.Source.left c.args.source.now) c.loop-number.number c.loop-number.engine c.next_line.new.lines (g.R.Source.left c.next_line.new.source)
+    (cut c.args.chain.now c.args.engine.now.known (g.R.Source.left c.args.source.now) c.loop-number.number c.loop-number.engine c.next_line.new.lines (g.R.Source.left c.next_line.new.source)
     (ahead c.loop-number.lines (g.R.Source.left c.loop-number.source)) (seen g.W.Sink.taken g.W.Sink.failures c.args.output.now) mid new
     c.loop-number.invariant.so_far c.in_ok-count.ensures.kept (some_of_all mid new [] (c.in_ok-count.ensures.told (λ e. absurd cc))))
 
 pub returns-in_err-answer-clause-some : goal.returns-in_err-answer-clause-some
 returns-in_err-answer-clause-some g c =
     let chain = c.args.chain.now in
+    let known = c.args.engine.now.known in
     let script = g.R.Source.left c.args.source.now in
     let k = c.loop-number.number in
     let state = c.loop-number.engine in
@@ -80,14 +83,15 @@ returns-in_err-answer-clause-some g c =
     let own = seen g.W.Sink.taken g.W.Sink.failures c.next_line.new.output in
     let new = seen g.W.Sink.taken g.W.Sink.failures c.answer.new.output in
     let first = rw c.in-Some.is at c.in_ok-count.ensures.line in
-    (cut_in chain script k c.in-Some.count state c.in_ok-request.request c.next_line.new.lines (g.R.Source.left c.next_line.new.source) input old own new
-    (told_on chain script k state input old mid own c.loop-number.invariant.so_far (c.in_ok-count.ensures.told (λ e. absurd cc)))
+    (cut_in chain known script k c.in-Some.count state c.in_ok-request.request c.next_line.new.lines (g.R.Source.left c.next_line.new.source) input old own new
+    (told_on chain known script k state input old mid own c.loop-number.invariant.so_far (c.in_ok-count.ensures.told (λ e. absurd cc)))
     c.in_ok-count.ensures.kept first (c.in_ok-request.ensures.value ∙ ap request_of c.line.ensures)
     (some_of_part own new (text_for chain (k + 1) state c.in_ok-request.request) c.in_err-answer.field-0.0 c.in_err-answer.ensures.fault))
 
 pub loop-number-preserved : goal.loop-number-preserved
 loop-number-preserved g c =
     let chain = c.args.chain.now in
+    let known = c.args.engine.now.known in
     let script = g.R.Source.left c.args.source.now in
     let k = c.loop-number.number in
     let state = c.loop-number.engine in
@@ -111,8 +115,8 @@ loop-number-preserved g c =
       source = c.in_ok-count.ensures.well (λ e. absurd cc) ∙ c.loop-number.invariant.source;
       writer = let answered = c.in_ok-answer.ensures.told in answered.well ∙ told.well ∙ c.loop-number.invariant.writer;
       few = let count_is = ap (λ x. x.accepted) behind in omega (arith, count_is, accepted-le chain state (request_of line), c.loop-number.invariant.few);
-      so_far = rw c.drop_line.ensures (step chain script k count state c.answer.new.engine buffered left input old own new
-          (told_on chain script k state input old mid own c.loop-number.invariant.so_far told) c.in_ok-count.ensures.kept first
+      so_far = rw c.drop_line.ensures (step chain known script k count state c.answer.new.engine buffered left input old own new
+          (told_on chain known script k state input old mid own c.loop-number.invariant.so_far told) c.in_ok-count.ensures.kept first
           (record {
             short = omega (arith, length-take count buffered);
             lawful = subst HasLawfulPeer is c.in_ok-request.ensures.peer;
@@ -125,7 +129,7 @@ pub returns-in_err-more_begins-clause-some : goal.returns-in_err-more_begins-cla
 returns-in_err-more_begins-clause-some g c =
     let mid = seen g.W.Sink.taken g.W.Sink.failures c.loop-number.output in
     let new = seen g.W.Sink.taken g.W.Sink.failures c.more_begins.new.output in
-    (cut c.args.chain.now (g.R.Source.left c.args.source.now) c.loop-number.number c.loop-number.engine c.more_begins.new.lines (g.R.Source.left c.more_begins.new.source)
+    (cut c.args.chain.now c.args.engine.now.known (g.R.Source.left c.args.source.now) c.loop-number.number c.loop-number.engine c.more_begins.new.lines (g.R.Source.left c.more_begins.new.source)
     (ahead c.loop-number.lines (g.R.Source.left c.loop-number.source)) (seen g.W.Sink.taken g.W.Sink.failures c.args.output.now) mid new
     c.loop-number.invariant.so_far c.in_err-more_begins.ensures.kept (line_some {T = Bool} c.in_err-more_begins.field-0.0 mid new c.in_err-more_begins.ensures.told c.in_err-more_begins.ensures.write))
 
@@ -133,21 +137,22 @@ pub returns-then-branch-clause-too_many : goal.returns-then-branch-clause-too_ma
 returns-then-branch-clause-too_many g c = λ _.
     let full : c.loop-number.number ≡ 10000000 = omega arith in
     let chain = c.args.chain.now in
+    let known = c.args.engine.now.known in
     let script = g.R.Source.left c.args.source.now in
     let state = c.loop-number.engine in
     let input = ahead c.loop-number.lines (g.R.Source.left c.loop-number.source) in
     let old = seen g.W.Sink.taken g.W.Sink.failures c.args.output.now in
     let mid = seen g.W.Sink.taken g.W.Sink.failures c.loop-number.output in
     let new = seen g.W.Sink.taken g.W.Sink.failures c.more_begins.new.output in
-    let so_far = told_on chain script c.loop-number.number state input old mid new c.loop-number.invariant.so_far (c.in_ok-more_begins.ensures.told (λ e. absurd cc)) in
-    many chain script state c.more_begins.new.lines (g.R.Source.left c.more_begins.new.source) input old new
-    (subst (λ (k : ℕ). SoFar chain script k state input old new) full so_far) c.in_ok-more_begins.ensures.kept (c.in_ok-more_begins.ensures.more (search rules))
+    let so_far = told_on chain known script c.loop-number.number state input old mid new c.loop-number.invariant.so_far (c.in_ok-more_begins.ensures.told (λ e. absurd cc)) in
+    many chain known script state c.more_begins.new.lines (g.R.Source.left c.more_begins.new.source) input old new
+    (subst (λ (k : ℕ). SoFar chain known script k state input old new) full so_far) c.in_ok-more_begins.ensures.kept (c.in_ok-more_begins.ensures.more (search rules))
 
 pub returns-then-branch-clause-some : goal.returns-then-branch-clause-some
 returns-then-branch-clause-some g c =
     let mid = seen g.W.Sink.taken g.W.Sink.failures c.loop-number.output in
     let new = seen g.W.Sink.taken g.W.Sink.failures c.more_begins.new.output in
-    cut c.args.chain.now (g.R.Source.left c.args.source.now) c.loop-number.number c.loop-number.engine c.more_begins.new.lines (g.R.Source.left c.more_begins.new.source)
+    cut c.args.chain.now c.args.engine.now.known (g.R.Source.left c.args.source.now) c.loop-number.number c.loop-number.engine c.more_begins.new.lines (g.R.Source.left c.more_begins.new.source)
     (ahead c.loop-number.lines (g.R.Source.left c.loop-number.source)) (seen g.W.Sink.taken g.W.Sink.failures c.args.output.now) mid new
     c.loop-number.invariant.so_far c.in_ok-more_begins.ensures.kept (some_of_all mid new [] (c.in_ok-more_begins.ensures.told (λ e. absurd cc)))
 
@@ -155,21 +160,22 @@ pub returns-clause-ok : goal.returns-clause-ok
 returns-clause-ok g c =
     let full : c.loop-number.number ≡ 10000000 = omega arith in
     let chain = c.args.chain.now in
+    let known = c.args.engine.now.known in
     let script = g.R.Source.left c.args.source.now in
     let state = c.loop-number.engine in
     let input = ahead c.loop-number.lines (g.R.Source.left c.loop-number.source) in
     let old = seen g.W.Sink.taken g.W.Sink.failures c.args.output.now in
     let mid = seen g.W.Sink.taken g.W.Sink.failures c.loop-number.output in
     let new = seen g.W.Sink.taken g.W.Sink.failures c.more_begins.new.output in
-    let so_far = told_on chain script c.loop-number.number state input old mid new c.loop-number.invariant.so_far (c.in_ok-more_begins.ensures.told (λ e. absurd cc)) in
-    rw c.accepted-2.ensures (ends chain script 10000000 state input (ahead c.more_begins.new.lines (g.R.Source.left c.more_begins.new.source)) old new
-    (subst (λ (k : ℕ). SoFar chain script k state input old new) full so_far) c.in_ok-more_begins.ensures.kept (c.in_ok-more_begins.ensures.end (search rules)) (omega arith))
+    let so_far = told_on chain known script c.loop-number.number state input old mid new c.loop-number.invariant.so_far (c.in_ok-more_begins.ensures.told (λ e. absurd cc)) in
+    rw c.accepted-2.ensures (ends chain known script 10000000 state input (ahead c.more_begins.new.lines (g.R.Source.left c.more_begins.new.source)) old new
+    (subst (λ (k : ℕ). SoFar chain known script k state input old new) full so_far) c.in_ok-more_begins.ensures.kept (c.in_ok-more_begins.ensures.end (search rules)) (omega arith))
 
 pub returns-in_default-clause-some : goal.returns-in_default-clause-some
 returns-in_default-clause-some g c =
     let mid = seen g.W.Sink.taken g.W.Sink.failures c.loop-number.output in
     let new = seen g.W.Sink.taken g.W.Sink.failures c.next_line.new.output in
-    cut c.args.chain.now (g.R.Source.left c.args.source.now) c.loop-number.number c.loop-number.engine c.next_line.new.lines (g.R.Source.left c.next_line.new.source)
+    cut c.args.chain.now c.args.engine.now.known (g.R.Source.left c.args.source.now) c.loop-number.number c.loop-number.engine c.next_line.new.lines (g.R.Source.left c.next_line.new.source)
     (ahead c.loop-number.lines (g.R.Source.left c.loop-number.source)) (seen g.W.Sink.taken g.W.Sink.failures c.args.output.now) mid new
     c.loop-number.invariant.so_far c.in_ok-count.ensures.kept (some_of_all mid new [] (c.in_ok-count.ensures.told (λ e. absurd cc)))
 
@@ -177,6 +183,6 @@ pub returns-clause-some : goal.returns-clause-some
 returns-clause-some g c =
     let mid = seen g.W.Sink.taken g.W.Sink.failures c.loop-number.output in
     let new = seen g.W.Sink.taken g.W.Sink.failures c.more_begins.new.output in
-    cut c.args.chain.now (g.R.Source.left c.args.source.now) c.loop-number.number c.loop-number.engine c.more_begins.new.lines (g.R.Source.left c.more_begins.new.source)
+    cut c.args.chain.now c.args.engine.now.known (g.R.Source.left c.args.source.now) c.loop-number.number c.loop-number.engine c.more_begins.new.lines (g.R.Source.left c.more_begins.new.source)
     (ahead c.loop-number.lines (g.R.Source.left c.loop-number.source)) (seen g.W.Sink.taken g.W.Sink.failures c.args.output.now) mid new
     c.loop-number.invariant.so_far c.in_ok-more_begins.ensures.kept (some_of_all mid new [] (c.in_ok-more_begins.ensures.told (λ e. absurd cc)))

@@ -10,5 +10,5 @@ invariant-loop-number g l = record {
   source : g.R.Source.failures l.source ≡ g.R.Source.failures l.fn.source;
   writer : g.W.Sink.failures l.output.writer.now ≡ g.W.Sink.failures l.fn.output.writer.now;
   few : l.engine.accepted ≤ l.number;
-  so_far : SoFar l.chain (g.R.Source.left l.fn.source) l.number l.engine (ahead l.lines (g.R.Source.left l.source)) (seen g.W.Sink.taken g.W.Sink.failures l.fn.output) (seen g.W.Sink.taken g.W.Sink.failures l.output);
+  so_far : SoFar l.chain l.fn.engine.known (g.R.Source.left l.fn.source) l.number l.engine (ahead l.lines (g.R.Source.left l.source)) (seen g.W.Sink.taken g.W.Sink.failures l.fn.output) (seen g.W.Sink.taken g.W.Sink.failures l.output);
 }

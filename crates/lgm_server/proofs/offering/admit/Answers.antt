@@ -1,5 +1,5 @@
 use Rattle.lgm_server.proofs.Keeping.{outcome_offers}
-use Rattle.lgm_server.proofs.engine.admit.Goals as goal
+use Rattle.lgm_server.proofs.offering.admit.Goals as goal
 
 pub returns-in_ok-checked-in-Gossip-clause-outcome : goal.returns-in_ok-checked-in-Gossip-clause-outcome
 returns-in_ok-checked-in-Gossip-clause-outcome c =

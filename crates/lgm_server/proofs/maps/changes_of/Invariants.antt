@@ -1,6 +1,6 @@
 use Rattle.std.proofs.Common.{take}
 use Rattle.lgm_query.specs.Touched.{HasTouched}
-use Rattle.lgm_server.proofs.engine.changes_of.Given as goal
+use Rattle.lgm_server.proofs.maps.changes_of.Given as goal
 
 -- what the first operations touch
 abbrev pub invariant-loop-place : goal.invariant-loop-place

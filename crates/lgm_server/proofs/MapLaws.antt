@@ -1,0 +1,147 @@
+-- How the two maps and the view beside them are kept.
+use Rattle.std.proofs.Common.{◌≡◌, ◌⊎◌, ℕ, List, [], ◌∷◌, ◌++◌, Option, Result, Ok, Err, inl, inr, refl, sym, ap, subst, ◌∙◌}
+use Rattle.std.specs.Prelude.{◌≢◌, OnOk, OnErr}
+use Rattle.lgm_gossip.specs.declared.chain_hash.ChainHash.{ChainHash}
+use Rattle.lgm_check.specs.declared.refusal.Refusal.{Refusal}
+use Rattle.lgm_store.specs.declared.op.Op.{Op}
+use Rattle.lgm_store.specs.Rows.{Rows}
+use Rattle.lgm_store.specs.History.{absorbed, fold_from}
+use Rattle.lgm_graph.specs.Graph.{Graph}
+use Rattle.lgm_query.specs.KeyNews.{TellKeys}
+use Rattle.lgm_query.specs.Touched.{TellsKey}
+use Rattle.lgm_query.proofs.Lying.{TellKeys-fold}
+use Rattle.lgm_script.specs.declared.item.Item.{Item}
+use Rattle.lgm_server.specs.declared.chart.Chart.{Chart}
+use Rattle.lgm_server.specs.declared.chart.Kept.{Kept}
+use Rattle.lgm_server.specs.declared.chart.Kept.TheVariants as views
+use Rattle.lgm_server.specs.Behind.{IsBehind, Keeps}
+use Rattle.lgm_server.specs.Chart.{IsViewOf, FollowsAs, GoesOn, ShowsAs, turned_behind, turned_beside, without_behind}
+use Rattle.lgm_server.specs.Maps.{AreKept}
+use Rattle.lgm_server.specs.Outcomes.{outcome_of}
+use Rattle.lgm_server.proofs.Behind.{offered_behind}
+
+-- ---- a view that follows
+
+pub goes_on-refl : (kept : Kept) → GoesOn kept kept
+goes_on-refl views.Blank = refl
+goes_on-refl (views.Behind view) = tt
+goes_on-refl (views.Beside view) = refl
+
+pub goes_on-trans : (a b c : Kept) → GoesOn a b → GoesOn b c → GoesOn a c
+goes_on-trans views.Blank b c first then = subst (λ k. GoesOn k c) first then
+goes_on-trans (views.Beside view) b c first then = subst (λ k. GoesOn k c) first then
+goes_on-trans (views.Behind view) views.Blank c first then = subst (GoesOn (views.Behind view)) (sym then) tt
+goes_on-trans (views.Behind view) (views.Behind other) views.Blank first then = tt
+goes_on-trans (views.Behind view) (views.Behind other) (views.Behind third) first then = tt
+goes_on-trans (views.Behind view) (views.Behind other) (views.Beside third) first then = absurd then
+goes_on-trans (views.Behind view) (views.Beside other) c first then = absurd first
+
+-- what is shown follows
+pub shows_follows : (known : Option (List ℕ)) (rows committed : Rows) (due : List Op) (kept : Kept) → ShowsAs known rows due committed kept → FollowsAs known rows kept
+shows_follows known rows committed due views.Blank shows = tt
+shows_follows known rows committed due (views.Behind view) shows = shows.0
+shows_follows known rows committed due (views.Beside view) shows = tt
+
+-- while something is due, what follows is shown
+pub follows_shows : (known : Option (List ℕ)) (rows rows' committed : Rows) (due due' : List Op) (kept kept' : Kept) → ShowsAs known rows due committed kept
+    → GoesOn kept kept' → FollowsAs known rows' kept' → due' ≢ [] → ShowsAs known rows' due' committed kept'
+follows_shows known rows rows' committed due due' kept views.Blank shows goes follows left = tt
+follows_shows known rows rows' committed due due' kept (views.Behind view') shows goes follows left = (follows, left)
+follows_shows known rows rows' committed due due' views.Blank (views.Beside view') shows goes follows left = absurd (let bad : views.Beside view' ≡ views.Blank = goes in cc)
+follows_shows known rows rows' committed due due' (views.Behind view) (views.Beside view') shows goes follows left = absurd goes
+follows_shows known rows rows' committed due due' (views.Beside view) (views.Beside view') shows goes follows left = subst (ShowsAs known rows' due' committed) (sym goes) shows
+
+-- once nothing is due, it is turned
+pub turned_shows : (known : Option (List ℕ)) (rows rows' committed : Rows) (due due' : List Op) (kept kept' : Kept) → ShowsAs known rows due committed kept
+    → GoesOn kept kept' → FollowsAs known rows' kept' → rows' ≡ committed → ShowsAs known rows' due' committed (turned_beside kept')
+turned_shows known rows rows' committed due due' kept views.Blank shows goes follows same = tt
+turned_shows known rows rows' committed due due' kept (views.Behind view') shows goes follows same = subst (λ r. IsViewOf known r view') same follows
+turned_shows known rows rows' committed due due' views.Blank (views.Beside view') shows goes follows same = absurd (let bad : views.Beside view' ≡ views.Blank = goes in cc)
+turned_shows known rows rows' committed due due' (views.Behind view) (views.Beside view') shows goes follows same = absurd goes
+turned_shows known rows rows' committed due due' (views.Beside view) (views.Beside view') shows goes follows same = subst (ShowsAs known rows' due' committed) (sym goes) shows
+
+-- without a view that is behind
+pub dropped_shows : (known : Option (List ℕ)) (rows rows' committed : Rows) (due due' : List Op) (kept : Kept) → ShowsAs known rows due committed kept
+    → ShowsAs known rows' due' committed (without_behind kept)
+dropped_shows known rows rows' committed due due' views.Blank shows = tt
+dropped_shows known rows rows' committed due due' (views.Behind view) shows = tt
+dropped_shows known rows rows' committed due due' (views.Beside view) shows = shows
+
+-- where no view is behind, it is that of the committed rows
+pub shows_committed : (known : Option (List ℕ)) (rows committed : Rows) (due : List Op) (kept : Kept) → ShowsAs known rows due committed kept → ((view : Graph) → kept ≡ views.Behind view → ⊥)
+    → ShowsAs known committed [] committed kept
+shows_committed known rows committed due views.Blank shows up = tt
+shows_committed known rows committed due (views.Behind view) shows up = absurd (up view refl)
+shows_committed known rows committed due (views.Beside view) shows up = shows
+
+-- and so where nothing is due
+pub shows_none_due : (known : Option (List ℕ)) (rows committed : Rows) (due : List Op) (kept : Kept) → ShowsAs known rows due committed kept → due ≡ []
+    → ShowsAs known committed [] committed kept
+shows_none_due known rows committed due views.Blank shows none = tt
+shows_none_due known rows committed due (views.Behind view) shows none = absurd (shows.1 none)
+shows_none_due known rows committed due (views.Beside view) shows none = shows
+
+-- a view of the committed rows, whatever is due
+pub committed_shows : (known : Option (List ℕ)) (rows committed : Rows) (due : List Op) (kept : Kept) → ShowsAs known committed [] committed kept → ShowsAs known rows due committed kept
+committed_shows known rows committed due views.Blank shows = tt
+committed_shows known rows committed due (views.Behind view) shows = absurd (shows.1 refl)
+committed_shows known rows committed due (views.Beside view) shows = shows
+
+-- ---- both maps
+
+-- where some is due, none is pending, and the map that is behind comes to the committed one
+pub behind_rows : (map committed : Rows) (due pending : List Op) → IsBehind (fold_from map due) committed pending → (due ≡ []) ⊎ (pending ≡ []) → (due ≡ []) ⊎ (fold_from map due ≡ committed)
+behind_rows map committed due pending behind (inl none) = inl none
+behind_rows map committed due pending behind (inr none) = inr (behind.behind ∙ ap (fold_from committed) none)
+
+-- the map that is behind did some of what is due
+pub leveled_kept : (map map' committed : Rows) (due due' pending : List Op) (chart chart' : Chart) → AreKept map due committed pending chart → fold_from map' due' ≡ fold_from map due
+    → ShowsAs chart'.known map' due' committed chart'.kept → (due' ≡ []) ⊎ (pending ≡ []) → AreKept map' due' committed pending chart'
+leveled_kept map map' committed due due' pending chart chart' old rows shows one = record {
+  behind = subst (λ r. IsBehind r committed pending) (sym rows) old.behind;
+  one = one;
+  shows = shows;
+}
+
+-- the maps change places
+pub committed_kept : (map map' committed committed' : Rows) (due due' pending pending' : List Op) (chart chart' : Chart) → AreKept map due committed pending chart → pending ≢ []
+    → map' ≡ committed → committed' ≡ map → due' ≡ pending → pending' ≡ due → chart'.known ≡ chart.known → chart'.kept ≡ turned_behind chart.kept → AreKept map' due' committed' pending' chart'
+committed_kept map map' committed committed' due due' pending pending' chart chart' old some map_is committed_is due_is pending_is known_is kept_is = by old.one
+  where
+    by : (due ≡ []) ⊎ (pending ≡ []) → AreKept map' due' committed' pending' chart'
+    by (inr none) = absurd (some none)
+    by (inl none) = record { behind = behind; one = inr (pending_is ∙ none); shows = rw (known_is, kept_is) (shown chart.kept old.shows) }
+      where
+        same : fold_from committed pending ≡ map
+        same = sym old.behind.behind ∙ ap (fold_from map) none
+
+        tells : TellKeys map
+        tells = subst TellKeys same (TellKeys-fold committed pending old.behind.committed_tells old.behind.pending_tells)
+
+        behind : IsBehind (fold_from map' due') committed' pending'
+        behind = rw (map_is, committed_is, due_is, pending_is, none) (record { behind = same; committed_tells = tells; pending_tells = tt })
+
+        shown : (kept : Kept) → ShowsAs chart.known map due committed kept → ShowsAs chart.known map' due' committed' (turned_behind kept)
+        shown views.Blank shows = tt
+        shown (views.Behind view) shows = absurd (shows.1 none)
+        shown (views.Beside view) shows = (rw map_is shows, λ empty. some (sym due_is ∙ empty))
+
+-- an item was offered
+offered_kept : (chain : ChainHash) (item : Item) (map new committed : Rows) (due pending pushed : List Op) (chart : Chart) → due ≡ []
+    → Keeps (outcome_of chain map item) map new pending pushed → AreKept map due committed pending chart → AreKept new due committed pushed chart
+offered_kept chain item map new committed due pending pushed chart none keeps old = record {
+  behind = rw none (offered_behind chain item map new committed pending pushed keeps (rw none at old.behind));
+  one = inl none;
+  shows = committed_shows chart.known new committed due chart.kept (shows_none_due chart.known map committed due chart.kept old.shows none);
+}
+
+pub after_offer : {T E : Type 0} (result : Result T E) (chain : ChainHash) (item : Item) (map new committed : Rows) (due pending pushed : List Op) (chart : Chart) → due ≡ []
+    → OnOk result (Keeps (outcome_of chain map item) map new pending pushed) → OnErr result (new ≡ map) → OnErr result (pushed ≡ pending)
+    → AreKept map due committed pending chart → AreKept new due committed pushed chart
+after_offer (Ok refusal) chain item map new committed due pending pushed chart none keeps same still old = offered_kept chain item map new committed due pending pushed chart none keeps old
+after_offer (Err e) chain item map new committed due pending pushed chart none keeps same still old = rw (same, still) old
+
+-- it failed, so that something is due
+pub failed_one : (due due' pending : List Op) → due ≢ [] → (due ≡ []) ⊎ (pending ≡ []) → (due' ≡ []) ⊎ (pending ≡ [])
+failed_one due due' pending some (inl none) = absurd (some none)
+failed_one due due' pending some (inr none) = inr none

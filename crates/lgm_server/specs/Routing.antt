@@ -1,0 +1,17 @@
+-- What a payment is answered with.
+use Rattle.std.specs.Prelude.{ℕ, List, Option, Result}
+use Rattle.lgm_store.specs.Rows.{Rows}
+use Rattle.lgm_graph.specs.Edges.{edges_of}
+use Rattle.lgm_route.specs.declared.request.Request.{Request as RouteRequest}
+use Rattle.lgm_route.specs.declared.route.Hop.{Hop}
+use Rattle.lgm_route.specs.declared.fault.RouteFault.{RouteFault}
+use Rattle.lgm_route.specs.Choice.{answer_of}
+use Rattle.lgm_script.specs.declared.payment.Payment.{Payment}
+
+-- the route that is asked for
+abbrev pub asked_route : Payment → RouteRequest
+asked_route payment = record { payer = payment.payer; payee = payment.payee; amount = payment.amount; expiry = payment.expiry }
+
+-- the hops of the least walk over the edges of the rows, or why there is none
+abbrev pub route_answer : Option (List ℕ) → Rows → Payment → Result (List Hop) RouteFault
+route_answer known rows payment = answer_of (edges_of known rows) (asked_route payment)
