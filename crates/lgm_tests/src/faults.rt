@@ -1,6 +1,7 @@
 //! Devices that fail, and memory that is refused, in whole scripts.
 
 use lgm_gossip::ChainHash;
+use lgm_graph::Known;
 use lgm_script::{Failed, MemorySource, Sink, Source};
 use lgm_server::{RunFault, run};
 use std::alloc::{AllocError, Global};
@@ -92,7 +93,13 @@ fn ended(
         fails_at: write,
         failures: 0,
     };
-    let ended = run(alloc, &mut reader, &mut writer, &ChainHash([0xc1; 32]));
+    let ended = run(
+        alloc,
+        &mut reader,
+        &mut writer,
+        &ChainHash([0xc1; 32]),
+        &Known::all(),
+    );
     Ok((ended.err(), writer.taken))
 }
 

@@ -16,9 +16,13 @@ mod map;
 #[cfg(test)]
 mod messages;
 #[cfg(test)]
+mod numbers;
+#[cfg(test)]
 mod queries;
 #[cfg(test)]
 mod query_lines;
+#[cfg(test)]
+mod routes;
 #[cfg(test)]
 mod scripts;
 #[cfg(test)]

@@ -1,6 +1,7 @@
 //! Test messages, as hexadecimal text, and scripts of them.
 
 use lgm_gossip::ChainHash;
+use lgm_graph::Known;
 use lgm_script::{MemorySink, MemorySource};
 use lgm_server::run;
 use std::alloc::Global;
@@ -30,6 +31,18 @@ pub fn announcement(
     nodes: (&str, &str),
     keys: (&str, &str),
 ) -> Result<String, Fail> {
+    announcement_with(alloc, "0000", chain, scid, nodes, keys)
+}
+
+/// The same with features, behind their length.
+pub fn announcement_with(
+    alloc: Global,
+    features: &str,
+    chain: &str,
+    scid: &str,
+    nodes: (&str, &str),
+    keys: (&str, &str),
+) -> Result<String, Fail> {
     let (node_1, node_2) = nodes;
     let (key_1, key_2) = keys;
     let signatures = "0000000000000000000000000000000000000000000000000000000000000000";
@@ -37,7 +50,7 @@ pub fn announcement(
     for _ in 0..8 {
         text.push_str(signatures)?;
     }
-    for field in ["0000", chain, scid, node_1, node_2, key_1, key_2] {
+    for field in [features, chain, scid, node_1, node_2, key_1, key_2] {
         text.push_str(field)?;
     }
     Ok(text)
@@ -51,6 +64,19 @@ pub fn update(
     flags: (&str, &str),
     timestamp: u32,
 ) -> Result<String, Fail> {
+    let terms = "0028000000000000000100000000000000000000000002faf080";
+    update_with(alloc, chain, scid, flags, timestamp, terms)
+}
+
+/// The same with these terms: delta, minimum, base fee, millionths and maximum.
+pub fn update_with(
+    alloc: Global,
+    chain: &str,
+    scid: &str,
+    flags: (&str, &str),
+    timestamp: u32,
+    terms: &str,
+) -> Result<String, Fail> {
     let (message_flags, channel_flags) = flags;
     let mut text = String::from_str(alloc, "0102")?;
     for _ in 0..64 {
@@ -61,17 +87,27 @@ pub fn update(
     text.push_str(format!(in alloc; "{timestamp:08x}")?.as_str())?;
     text.push_str(message_flags)?;
     text.push_str(channel_flags)?;
-    text.push_str("0028000000000000000100000000000000000000000002faf080")?;
+    text.push_str(terms)?;
     Ok(text)
 }
 
 /// A `node_announcement` without features and addresses; its signature and alias are zeros.
 pub fn node_announcement(alloc: Global, node: &str, timestamp: u32) -> Result<String, Fail> {
+    node_announcement_with(alloc, "0000", node, timestamp)
+}
+
+/// The same with features, behind their length.
+pub fn node_announcement_with(
+    alloc: Global,
+    features: &str,
+    node: &str,
+    timestamp: u32,
+) -> Result<String, Fail> {
     let mut text = String::from_str(alloc, "0101")?;
     for _ in 0..64 {
         text.push_str("00")?;
     }
-    text.push_str(format!(in alloc; "0000{timestamp:08x}{node}")?.as_str())?;
+    text.push_str(format!(in alloc; "{features}{timestamp:08x}{node}")?.as_str())?;
     for _ in 0..35 {
         text.push_str("00")?;
     }
@@ -86,10 +122,27 @@ pub fn assert_answers(
     script: &[u8],
     want: &str,
 ) -> Result<(), Fail> {
+    assert_answers_where(rt, alloc, &Known::all(), script, want)
+}
+
+/// The same where these features of nodes are known.
+pub fn assert_answers_where(
+    rt: &impl Abort,
+    alloc: Global,
+    known: &Known,
+    script: &[u8],
+    want: &str,
+) -> Result<(), Fail> {
     for piece in [7usize, 100_000] {
         let mut reader = MemorySource::new(script, piece);
         let mut writer = MemorySink::new(alloc);
-        let counts = run(alloc, &mut reader, &mut writer, &ChainHash([0xc1; 32]));
+        let counts = run(
+            alloc,
+            &mut reader,
+            &mut writer,
+            &ChainHash([0xc1; 32]),
+            known,
+        );
         assert!(rt; counts.is_ok());
         assert_eq!(rt; writer.taken(), want.as_bytes(), "in pieces of {piece}");
     }
@@ -98,8 +151,19 @@ pub fn assert_answers(
 
 /// What is written for the script.
 pub fn written(alloc: Global, script: &[u8]) -> Result<Vec<u8>, Fail> {
+    written_where(alloc, &Known::all(), script)
+}
+
+/// The same where these features of nodes are known.
+pub fn written_where(alloc: Global, known: &Known, script: &[u8]) -> Result<Vec<u8>, Fail> {
     let mut reader = MemorySource::new(script, 100_000);
     let mut writer = MemorySink::new(alloc);
-    run(alloc, &mut reader, &mut writer, &ChainHash([0xc1; 32]))?;
+    run(
+        alloc,
+        &mut reader,
+        &mut writer,
+        &ChainHash([0xc1; 32]),
+        known,
+    )?;
     Ok(Vec::from_slice(alloc, writer.taken())?)
 }

@@ -3,6 +3,7 @@
 ghost use Rattle.std.specs.Prelude.{◌<◌};
 
 use super::item::Item;
+use crate::numbers::Numbers;
 
 /// The ids of made items, ascending: in one block, in neighbouring ones, and up to the last id of all.
 pub const IDS: [u64; 8] = [
@@ -19,24 +20,16 @@ pub const IDS: [u64; 8] = [
 /// A source of items: the same ones for the same seed.
 #[derive(Drop)]
 pub struct Made {
-    state: u64,
+    numbers: Numbers,
     count: u32,
 }
 
 impl Made {
     pub fn new(seed: u64) -> Made {
         Made {
-            state: seed,
+            numbers: Numbers::new(seed),
             count: 0,
         }
-    }
-
-    /// The next number of SplitMix64.
-    fn number(&mut self) -> u64 {
-        self.state = self.state.wrapping_add(0x9e37_79b9_7f4a_7c15);
-        let mixed = (self.state ^ (self.state >> 30)).wrapping_mul(0xbf58_476d_1ce4_e5b9);
-        let mixed = (mixed ^ (mixed >> 27)).wrapping_mul(0x94d0_49bb_1331_11eb);
-        mixed ^ (mixed >> 31)
     }
 
     /// A number below another.
@@ -44,7 +37,7 @@ impl Made {
         requires { 0 < end }
         ensures { result < end }
     {
-        (self.number() % u64::from(end)) as u8
+        self.numbers.below(end)
     }
 
     /// A timestamp that rises slowly, and so is often older than one before, or equal.

@@ -1,0 +1,17 @@
+//! Routes, in scripts.
+
+mod beside;
+mod bounds;
+mod committed;
+mod fees;
+mod kept;
+mod known;
+mod line;
+mod long;
+mod made;
+mod plain;
+mod refusals;
+mod refused;
+mod spelled;
+mod ties;
+mod told;
