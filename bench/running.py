@@ -12,7 +12,7 @@ import messages
 
 HERE = Path(__file__).resolve().parent
 PEAK_UNIT = 1 if sys.platform == "darwin" else 1024  # bytes; the unit of ru_maxrss
-ANSWERS = (b"accepted", b"commit", b"filter", b"to")
+ANSWERS = (b"accepted", b"commit", b"filter", b"to", b"route", b"hop", b"no-route")
 FIRST_BYTE = b"01"  # of each message of a reply
 
 

@@ -9,6 +9,10 @@ ROUNDS = 20
 UPDATES_A_ROUND = 1_000
 FILTER_AGES = (14 * DAY, DAY, DAY, 3_600, 3_600, 3_600, 0, 0, 0, 0)  # seconds; one each peer
 ALL_TIMES = 0xFFFFFFFF
+ROUTES = 1_000
+ROUTES_A_ROUND = 5
+AMOUNTS = (1_000, 50_000, 1_000_000, 10_000_000, 50_000_000, 200_000_000, 1_000_000_000)  # msat
+HEIGHT = 917_000
 
 
 def announcement_line(network, channel):
@@ -77,8 +81,23 @@ def ids_line(network, scids):
     return query_line(messages.query_short_channel_ids(scids, flags))
 
 
-def rounds(network):
-    """Rounds of newer updates of any channels, each round with a commit."""
+def route_line(network):
+    """A payment between any two nodes, of one of seven amounts."""
+    payer, payee = network.random.sample(network.nodes, 2)
+    amount = network.random.choice(AMOUNTS)
+    return (f"route {payer.hex()} {payee.hex()} {amount} {HEIGHT + network.random.randrange(200)} "
+            f"{network.random.randbytes(32).hex()}\n")
+
+
+def routes(network):
+    """The network, and a thousand payments."""
+    yield from sync(network)
+    for _ in range(ROUTES):
+        yield route_line(network)
+
+
+def rounds(network, routes_a_round=0):
+    """Rounds of newer updates of any channels, each round with a commit and then payments."""
     timestamp = NOW
     for _ in range(ROUNDS):
         for _ in range(UPDATES_A_ROUND):
@@ -86,12 +105,14 @@ def rounds(network):
             channel = network.random.choice(network.channels)
             yield update_line(network, channel, network.random.randrange(2), timestamp)
         yield "commit\n"
+        for _ in range(routes_a_round):
+            yield route_line(network)
 
 
 def churn(network):
-    """The network, and rounds of updates."""
+    """The network, and rounds of updates with five payments behind each."""
     yield from sync(network)
-    yield from rounds(network)
+    yield from rounds(network, ROUTES_A_ROUND)
 
 
 def filters(network):
@@ -103,4 +124,5 @@ def filters(network):
     yield from rounds(network)
 
 
-WORKLOADS = {"sync": sync, "queries": queries, "churn": churn, "filters": filters}
+WORKLOADS = {
+    "sync": sync, "routes": routes, "queries": queries, "churn": churn, "filters": filters}
