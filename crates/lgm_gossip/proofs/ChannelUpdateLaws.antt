@@ -1,18 +1,24 @@
 -- channel_update: what is read is spelled so, and what is spelled so is read.
 use Rattle.std.proofs.Common.{refl}
 use Rattle.std.specs.Int.{w8, w16, w32, w64}
-use Rattle.lgm_gossip.proofs.WireLaws.{wide16, wide32, wide64}
-use Rattle.lgm_gossip.specs.declared.channel_update.ChannelUpdate.{ChannelUpdate}
 use Rattle.lgm_gossip.specs.ChannelUpdate.{fields}
-use Rattle.lgm_gossip.specs.ChannelUpdateReading.{channel_update_at, Row, row_at, from_row}
-use Rattle.lgm_gossip.proofs.FieldLaws.{IsLast, IsText, of_row, then_field, fixed_field, number_field, rest_field, wide8}
+use Rattle.lgm_gossip.specs.ChannelUpdateReading.{channel_update_at}
+use Rattle.lgm_gossip.proofs.WireLaws.{wide16, wide32, wide64}
+use Rattle.lgm_gossip.proofs.FieldLaws.{IsText, fixed_field, number_field, rest_field, wide8}
+use Rattle.lgm_gossip.proofs.OrderLaws.{all_reads, then_reads, last_reads}
 
-row : IsLast row_at (λ x. fields (from_row x))
-row = then_field (fixed_field 64) (then_field (fixed_field 32) (then_field (number_field w64 wide64) (then_field (number_field w32 wide32) (then_field (number_field w8 wide8) (then_field (number_field w8 wide8) (then_field (number_field w16 wide16) (then_field (number_field w64 wide64) (then_field (number_field w32 wide32) (then_field (number_field w32 wide32) (then_field (number_field w64 wide64) rest_field))))))))))
-
-to_row : ChannelUpdate → Row
-to_row m = (m.signature, (m.chain_hash.0, (m.short_channel_id, (m.timestamp, (m.message_flags, (m.channel_flags, (m.cltv_expiry_delta, (m.htlc_minimum_msat, (m.fee_base_msat, (m.fee_proportional_millionths, (m.htlc_maximum_msat, m.rest)))))))))))
-
-pub channel_update_text : IsText channel_update_at fields
-unfolding channel_update_at to_row
-channel_update_text = of_row from_row to_row (λ m. refl) row
+pub channel_update_text : IsText channel_update_at (λ m. (fields m).Is)
+unfolding channel_update_at
+channel_update_text = all_reads
+    (then_reads _ (fixed_field 64) (λ m. m.signature)
+    (then_reads _ (fixed_field 32) (λ m. m.chain_hash.0)
+    (then_reads _ (number_field w64 wide64) (λ m. m.short_channel_id)
+    (then_reads _ (number_field w32 wide32) (λ m. m.timestamp)
+    (then_reads _ (number_field w8 wide8) (λ m. m.message_flags)
+    (then_reads _ (number_field w8 wide8) (λ m. m.channel_flags)
+    (then_reads _ (number_field w16 wide16) (λ m. m.cltv_expiry_delta)
+    (then_reads _ (number_field w64 wide64) (λ m. m.htlc_minimum_msat)
+    (then_reads _ (number_field w32 wide32) (λ m. m.fee_base_msat)
+    (then_reads _ (number_field w32 wide32) (λ m. m.fee_proportional_millionths)
+    (then_reads _ (number_field w64 wide64) (λ m. m.htlc_maximum_msat)
+    (last_reads _ (λ x. rest_field) (λ m. m.rest) (λ m. refl) (λ x a. (refl, refl))))))))))))))

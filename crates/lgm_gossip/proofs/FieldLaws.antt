@@ -7,8 +7,8 @@ use Rattle.lgm_wire.specs.Reading.{◌>>=◌}
 use Rattle.lgm_gossip.proofs.WireLaws.{bind_ok, ok_is, IsBytes, IsBytes-take, IsBytes-drop, IsBytes-front, IsBytes-back, IsWide, wide16}
 use Rattle.lgm_gossip.specs.declared.fault.DecodeFault.{DecodeFault}
 use Rattle.lgm_gossip.specs.declared.fault.DecodeFault.TheVariants.{Cut}
-use Rattle.lgm_gossip.specs.Fields.{Joined, ◌⌢◌, fixed, number, counted, rest, dropped, Encloses}
-use Rattle.lgm_gossip.specs.FieldReading.{◌⊗◌, ◌⊳◌, fixed_at, number_at, counted_at, enclosed_at, rest_at, dropped_at}
+use Rattle.lgm_gossip.specs.Fields.{fixed, number, counted, rest, Encloses}
+use Rattle.lgm_gossip.specs.FieldReading.{fixed_at, number_at, counted_at, enclosed_at, rest_at}
 
 -- a text of F was taken from the front
 pub record Takes (F : List ℕ → Type 0) (bytes left : List ℕ) : Type 0 where
@@ -32,12 +32,12 @@ pub guard_ok : {A : Type 0} (b : Bool) (d : DecodeFault) (x y : A) → cond b (E
 guard_ok true d x y e = absurd cc
 guard_ok false d x y e = (refl, cc)
 
-pub fixed_field : (n : ℕ) → IsField (fixed_at n) (fixed n)
+pub fixed_field : (n : ℕ) → IsField (fixed_at n) (λ x. (fixed n x).Is)
 fixed_field n = record {
   takes = λ bytes x fits e.
       let g = guard_ok (ltb (length bytes) n) Cut (take n bytes, drop n bytes) x e in
       let long : n ≤ length bytes = ltb-false _ _ g.0 in
-      subst (λ (y : List ℕ × List ℕ). Takes (fixed n y.0) bytes y.1) g.1 (record {
+      subst (λ (y : List ℕ × List ℕ). Takes (fixed n y.0).Is bytes y.1) g.1 (record {
         text = take n bytes;
         parts = sym (take-append-drop n bytes);
         is = (refl, omega (arith, length-take n bytes));
@@ -49,13 +49,13 @@ fixed_field n = record {
       rw (long, take_at text left n len, drop_at text left n len, is.0) refl;
 }
 
-pub number_field : (w : Width) → IsWide w (256 ^ byte_len w) → IsField (number_at w) (number w)
+pub number_field : (w : Width) → IsWide w (256 ^ byte_len w) → IsField (number_at w) (λ x. (number w x).Is)
 number_field w wide = record {
   takes = λ bytes x fits e.
       let front = take (byte_len w) bytes in
       let g = guard_ok (ltb (length bytes) (byte_len w)) Cut (from_be_bytes w front, drop (byte_len w) bytes) x e in
       let long : byte_len w ≤ length bytes = ltb-false _ _ g.0 in
-      subst (λ (y : ℕ × List ℕ). Takes (number w y.0) bytes y.1) g.1 (record {
+      subst (λ (y : ℕ × List ℕ). Takes (number w y.0).Is bytes y.1) g.1 (record {
         text = front;
         parts = sym (take-append-drop (byte_len w) bytes);
         is = (sym (wide.back front (omega (arith, length-take (byte_len w) bytes)) (IsBytes-take (byte_len w) bytes fits)), wide.below front (IsBytes-take (byte_len w) bytes fits));
@@ -80,7 +80,7 @@ wide8 = record {
     one (b ∷ []) len lt = let same : b % 256 ≡ b = omega arith in ap (λ (k : ℕ). k ∷ []) same
     one (b ∷ c ∷ bs) len lt = absurd (omega arith)
 
-pub counted_field : IsField counted_at counted
+pub counted_field : IsField counted_at (λ x. (counted x).Is)
 counted_field =
     let prefix = number_field w16 wide16 in
     record {
@@ -100,63 +100,16 @@ counted_field =
           ap (λ (s : List ℕ). counted_at (s ++ left)) is.0 ∙ ap counted_at (append_assoc (to_be_bytes w16 (length x)) x left) ∙ rw (prefix.again (length x) (to_be_bytes w16 (length x)) (x ++ left) (refl, is.1)) (field.again x x left (refl, refl));
     }
 
-pub rest_field : IsLast rest_at rest
+pub rest_field : IsLast rest_at (λ x. (rest x).Is)
 rest_field = record {
   takes = λ bytes x fits e. subst (λ (y : List ℕ × List ℕ). bytes ≡ y.0) (ok_is (bytes, []) x e) refl;
   again = λ x bytes is. ap rest_at is;
-}
-
-pub dropped_field : IsLast dropped_at (λ x. dropped)
-dropped_field = record {
-  takes = λ bytes x fits e. tt;
-  again = λ x bytes is. refl;
-}
-
--- one field, and those behind it
-pub then_field : {A B : Type 0} {p : List ℕ → Result (A × List ℕ) DecodeFault} {q : List ℕ → Result (B × List ℕ) DecodeFault} {F : A → List ℕ → Type 0} {G : B → List ℕ → Type 0}
-    → IsField p F → IsLast q G → IsLast (p ⊗ q) (λ x. F x.0 ⌢ G x.1)
-then_field {A} {B} {p} {q} {F} {G} first others = record {
-  takes = λ bytes x fits e.
-      let a = bind_ok (p bytes) (λ y. q y.1 >>= λ z. Ok ((y.0, z.0), z.1)) x e in
-      let b = bind_ok (q a.0.1) (λ z. Ok ((a.0.0, z.0), z.1)) x a.2 in
-      let u = first.takes bytes a.0 fits a.1 in
-      let v = others.takes a.0.1 b.0 u.left_fits b.1 in
-      let made : (A × B) × List ℕ = ((a.0.0, b.0.0), b.0.1) in
-      subst (λ (y : (A × B) × List ℕ). Joined (F y.0.0) (G y.0.1) bytes) (ok_is made x b.2) (record { front = u.text; back = a.0.1; whole = u.parts; front_is = u.is; back_is = v });
-  again = λ x bytes joined. ap (p ⊗ q) joined.whole ∙ rw (first.again x.0 joined.front joined.back joined.front_is, others.again x.1 joined.back joined.back_is) refl;
-}
-
--- the same where the first field says how the others are read
-pub then_by_field : {A B : Type 0} {p : List ℕ → Result (A × List ℕ) DecodeFault} {q : A → List ℕ → Result (B × List ℕ) DecodeFault} {F : A → List ℕ → Type 0} {G : A → B → List ℕ → Type 0}
-    → IsField p F → ((x : A) → IsLast (q x) (G x)) → IsLast (p ⊳ q) (λ x. F x.0 ⌢ G x.0 x.1)
-then_by_field {A} {B} {p} {q} {F} {G} first others = record {
-  takes = λ bytes x fits e.
-      let a = bind_ok (p bytes) (λ y. q y.0 y.1 >>= λ z. Ok ((y.0, z.0), z.1)) x e in
-      let b = bind_ok (q a.0.0 a.0.1) (λ z. Ok ((a.0.0, z.0), z.1)) x a.2 in
-      let u = first.takes bytes a.0 fits a.1 in
-      let law = others a.0.0 in
-      let v = law.takes a.0.1 b.0 u.left_fits b.1 in
-      let made : (A × B) × List ℕ = ((a.0.0, b.0.0), b.0.1) in
-      subst (λ (y : (A × B) × List ℕ). Joined (F y.0.0) (G y.0.0 y.0.1) bytes) (ok_is made x b.2) (record { front = u.text; back = a.0.1; whole = u.parts; front_is = u.is; back_is = v });
-  again = λ x bytes joined.
-      let law = others x.0 in
-      ap (p ⊳ q) joined.whole ∙ rw (first.again x.0 joined.front joined.back joined.front_is, law.again x.1 joined.back joined.back_is) refl;
 }
 
 -- all of the bytes as one value: what is read is spelled so, and what is spelled so is read
 pub record IsText {M : Type 0} (at : List ℕ → Result M DecodeFault) (Fields : M → List ℕ → Type 0) : Type 0 where
   pub takes : (bytes : List ℕ) (m : M) → IsBytes bytes → at bytes ≡ Ok m → Fields m bytes
   pub again : (m : M) (bytes : List ℕ) → Fields m bytes → at bytes ≡ Ok m
-
--- a message that is made of the fields of its row
-pub of_row : {R M : Type 0} {row_at : List ℕ → Result (R × List ℕ) DecodeFault} {Fields : M → List ℕ → Type 0} (from_row : R → M) (to_row : M → R)
-    → ((m : M) → from_row (to_row m) ≡ m) → IsLast row_at (λ x. Fields (from_row x)) → IsText (λ bytes. row_at bytes >>= λ x. Ok (from_row x.0)) Fields
-of_row {R} {M} {row_at} {Fields} from_row to_row same row = record {
-  takes = λ bytes m fits e.
-      let a = bind_ok (row_at bytes) (λ x. Ok (from_row x.0)) m e in
-      subst (λ (y : M). Fields y bytes) (ok_is (from_row a.0.0) m a.2) (row.takes bytes a.0 fits a.1);
-  again = λ m bytes is. rw (row.again (to_row m) bytes (subst (λ (y : M). Fields y bytes) (sym (same m)) is)) (ap (λ (y : M). Ok y) (same m));
-}
 
 -- a value behind two bytes of its length
 pub enclosed_field : {A : Type 0} {read : List ℕ → Result A DecodeFault} {F : A → List ℕ → Type 0} → IsText read F → IsField (enclosed_at read) (λ x. Encloses (F x))

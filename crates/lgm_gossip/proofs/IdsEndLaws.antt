@@ -1,17 +1,14 @@
 -- reply_short_channel_ids_end: what is read is spelled so, and what is spelled so is read.
 use Rattle.std.proofs.Common.{refl}
 use Rattle.std.specs.Int.{w8}
-use Rattle.lgm_gossip.specs.declared.ids_end.IdsEnd.{IdsEnd}
 use Rattle.lgm_gossip.specs.IdsEnd.{fields}
-use Rattle.lgm_gossip.specs.IdsEndReading.{ids_end_at, Row, row_at, from_row}
-use Rattle.lgm_gossip.proofs.FieldLaws.{IsLast, IsText, of_row, then_field, fixed_field, number_field, dropped_field, wide8}
+use Rattle.lgm_gossip.specs.IdsEndReading.{ids_end_at}
+use Rattle.lgm_gossip.proofs.FieldLaws.{IsText, fixed_field, number_field, wide8}
+use Rattle.lgm_gossip.proofs.OrderLaws.{all_reads, then_reads, none_reads}
 
-row : IsLast row_at (λ x. fields (from_row x))
-row = then_field (fixed_field 32) (then_field (number_field w8 wide8) dropped_field)
-
-to_row : IdsEnd → Row
-to_row m = (m.chain_hash.0, (m.full_information, tt))
-
-pub ids_end_text : IsText ids_end_at fields
-unfolding ids_end_at to_row
-ids_end_text = of_row from_row to_row (λ m. refl) row
+pub ids_end_text : IsText ids_end_at (λ m. (fields m).Is)
+unfolding ids_end_at
+ids_end_text = all_reads
+    (then_reads _ (fixed_field 32) (λ m. m.chain_hash.0)
+    (then_reads _ (number_field w8 wide8) (λ m. m.full_information)
+    (none_reads _ (λ m. refl) (λ x. refl))))

@@ -1,18 +1,27 @@
 -- query_short_channel_ids: what is read is spelled so, and what is spelled so is read.
-use Rattle.std.proofs.Common.{length, refl}
+use Rattle.std.proofs.Common.{◌≡◌, ℕ, List, length, Option, Result, subst, refl}
+use Rattle.std.specs.Option.{ForSome}
+use Rattle.lgm_gossip.specs.declared.fault.DecodeFault.{DecodeFault}
+use Rattle.lgm_gossip.specs.OptionalReading.{optional_of}
+use Rattle.lgm_gossip.specs.QueryFlagsReading.{query_flags_at}
 use Rattle.lgm_gossip.specs.IdsQuery.{Query, fields}
-use Rattle.lgm_gossip.specs.IdsQueryReading.{ids_query_at, Row, row_at, from_row}
-use Rattle.lgm_gossip.proofs.FieldLaws.{IsLast, IsText, of_row, then_field, then_by_field, fixed_field, enclosed_field}
-use Rattle.lgm_gossip.proofs.OptionalLaws.{optional_field}
+use Rattle.lgm_gossip.specs.IdsQueryReading.{ids_query_at}
+use Rattle.lgm_gossip.proofs.FieldLaws.{IsText, fixed_field, enclosed_field}
+use Rattle.lgm_gossip.proofs.OrderLaws.{all_reads, then_reads, last_reads}
+use Rattle.lgm_gossip.proofs.OptionalLaws.{optional_field, optional_for}
 use Rattle.lgm_gossip.proofs.EncodedIdsLaws.{ids_text}
 use Rattle.lgm_gossip.proofs.QueryFlagsLaws.{query_flags_text}
 
-row : IsLast row_at (λ x. fields (from_row x))
-row = then_field (fixed_field 32) (then_by_field (enclosed_field ids_text) (λ ids. optional_field (query_flags_text (length ids))))
+pub ids_query_text : IsText ids_query_at (λ m. (fields m).Is)
+unfolding ids_query_at
+ids_query_text = all_reads
+    (then_reads _ (fixed_field 32) (λ m. m.chain_hash.0)
+    (then_reads _ (enclosed_field ids_text) (λ m. m.ids)
+    (last_reads _ (λ x. optional_field (query_flags_text (length x.1))) (λ m. m.flags) (λ m. refl) (λ x a. (refl, refl)))))
 
-to_row : Query → Row
-to_row m = (m.chain_hash.0, (m.ids, m.flags))
+-- there is a flag for each id
+pub one_each : (m : Query) (b : List ℕ) → (fields m).Is b → ForSome m.flags (λ flags. length flags ≡ length m.ids)
+one_each m b is = optional_for (λ flags. length flags ≡ length m.ids) (λ flags text is. is.one_each) m.flags is.back_is.back is.back_is.back_is
 
-pub ids_query_text : IsText ids_query_at fields
-unfolding ids_query_at to_row
-ids_query_text = of_row from_row to_row (λ m. refl) row
+pub same_count : (m n : ℕ) (b : List ℕ) (r : Result (Option (List ℕ)) DecodeFault) → m ≡ n → optional_of (query_flags_at m) b ≡ r → optional_of (query_flags_at n) b ≡ r
+same_count m n b r same e = subst (λ (k : ℕ). optional_of (query_flags_at k) b ≡ r) same e

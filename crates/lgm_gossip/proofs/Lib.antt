@@ -1,6 +1,7 @@
 pub mod WireLaws
 pub mod MemoryLaws
 pub mod FieldLaws
+pub mod OrderLaws
 pub mod OptionalLaws
 pub mod CellLaws
 pub mod PartLaws

@@ -9,6 +9,7 @@ use Rattle.lgm_gossip.specs.declared.fault.DecodeFault.{DecodeFault}
 use Rattle.lgm_gossip.specs.declared.fault.DecodeFault.TheVariants.{Long, UnknownEven, UnknownOdd, NoMemory}
 use Rattle.lgm_gossip.specs.declared.message.Message.{Message}
 use Rattle.lgm_gossip.specs.declared.message.Message.TheVariants as messages
+use Rattle.lgm_gossip.specs.Fields.{Field}
 use Rattle.lgm_gossip.specs.Message.{Wire, Spells}
 use Rattle.lgm_gossip.specs.MessageReading.{fault, body_at, typed_at, message_at}
 use Rattle.lgm_gossip.proofs.WireLaws.{chosen, bind_ok, ok_is, IsBytes, IsBytes-rest}
@@ -37,10 +38,10 @@ kind_bytes kind high low lt e below =
     bytes
 
 -- one line of `body_at`: the bytes behind the type were read as its message, or by the lines below
-line : {M : Type 0} {at : List ℕ → Result M DecodeFault} {Fields : M → List ℕ → Type 0} (law : IsText at Fields) (variant : M → Message) (kind high low : ℕ) (body : List ℕ) (m : Message) (others : Result Message DecodeFault)
-    → kind < 512 → ((x : M) → Spells kind (Fields x) (high ∷ low ∷ body) → Wire (variant x) (high ∷ low ∷ body)) → IsTyped high low body
+line : {M : Type 0} {at : List ℕ → Result M DecodeFault} {F : M → Field} (law : IsText at (λ x. (F x).Is)) (variant : M → Message) (kind high low : ℕ) (body : List ℕ) (m : Message) (others : Result Message DecodeFault)
+    → kind < 512 → ((x : M) → Spells kind (F x) (high ∷ low ∷ body) → Wire (variant x) (high ∷ low ∷ body)) → IsTyped high low body
     → cond (eqb (high * 256 + low) kind) (at body >>= λ x. Ok (variant x)) others ≡ Ok m → (others ≡ Ok m → Wire m (high ∷ low ∷ body)) → Wire m (high ∷ low ∷ body)
-line {M} {at} {Fields} law variant kind high low body m others below wire typed e later =
+line {M} {at} {F} law variant kind high low body m others below wire typed e later =
     elim (chosen (eqb (high * 256 + low) kind) (at body >>= λ x. Ok (variant x)) others (Ok m) e) [
       | inl is ↦
           let a = bind_ok (at body) (λ x. Ok (variant x)) m is.1 in
@@ -90,7 +91,7 @@ message_takes bytes m fits e =
         body_takes high low body m (record { low_fits = b_fits 1; fits = IsBytes-rest low body (IsBytes-rest high (low ∷ body) b_fits); short = short }) read
 
 -- a message whose type and fields are read again
-typed_again : {Fields : List ℕ → Type 0} (kind : ℕ) (bytes : List ℕ) (s : Spells kind Fields bytes) (m : Message) → typed_at (to_be_bytes w16 kind ++ s.body) ≡ Ok m → message_at bytes ≡ Ok m
+typed_again : {F : Field} (kind : ℕ) (bytes : List ℕ) (s : Spells kind F bytes) (m : Message) → typed_at (to_be_bytes w16 kind ++ s.body) ≡ Ok m → message_at bytes ≡ Ok m
 unfolding message_at
 typed_again kind bytes s m e =
     let short : ltb 65535 (length bytes) ≡ false = le-ltb _ _ s.len in

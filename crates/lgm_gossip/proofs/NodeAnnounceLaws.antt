@@ -1,18 +1,20 @@
 -- node_announcement: what is read is spelled so, and what is spelled so is read.
 use Rattle.std.proofs.Common.{refl}
 use Rattle.std.specs.Int.{w32}
-use Rattle.lgm_gossip.proofs.WireLaws.{wide32}
-use Rattle.lgm_gossip.specs.declared.node_announce.NodeAnnounce.{NodeAnnounce}
 use Rattle.lgm_gossip.specs.NodeAnnounce.{fields}
-use Rattle.lgm_gossip.specs.NodeAnnounceReading.{node_announce_at, Row, row_at, from_row}
-use Rattle.lgm_gossip.proofs.FieldLaws.{IsLast, IsText, of_row, then_field, fixed_field, number_field, counted_field, rest_field}
+use Rattle.lgm_gossip.specs.NodeAnnounceReading.{node_announce_at}
+use Rattle.lgm_gossip.proofs.WireLaws.{wide32}
+use Rattle.lgm_gossip.proofs.FieldLaws.{IsText, fixed_field, number_field, counted_field, rest_field}
+use Rattle.lgm_gossip.proofs.OrderLaws.{all_reads, then_reads, last_reads}
 
-row : IsLast row_at (λ x. fields (from_row x))
-row = then_field (fixed_field 64) (then_field counted_field (then_field (number_field w32 wide32) (then_field (fixed_field 33) (then_field (fixed_field 3) (then_field (fixed_field 32) (then_field counted_field rest_field))))))
-
-to_row : NodeAnnounce → Row
-to_row m = (m.signature, (m.features, (m.timestamp, (m.node_id.0, (m.rgb_color, (m.alias, (m.addresses, m.rest)))))))
-
-pub node_announce_text : IsText node_announce_at fields
-unfolding node_announce_at to_row
-node_announce_text = of_row from_row to_row (λ m. refl) row
+pub node_announce_text : IsText node_announce_at (λ m. (fields m).Is)
+unfolding node_announce_at
+node_announce_text = all_reads
+    (then_reads _ (fixed_field 64) (λ m. m.signature)
+    (then_reads _ counted_field (λ m. m.features)
+    (then_reads _ (number_field w32 wide32) (λ m. m.timestamp)
+    (then_reads _ (fixed_field 33) (λ m. m.node_id.0)
+    (then_reads _ (fixed_field 3) (λ m. m.rgb_color)
+    (then_reads _ (fixed_field 32) (λ m. m.alias)
+    (then_reads _ counted_field (λ m. m.addresses)
+    (last_reads _ (λ x. rest_field) (λ m. m.rest) (λ m. refl) (λ x a. (refl, refl))))))))))

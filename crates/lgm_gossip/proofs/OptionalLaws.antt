@@ -1,6 +1,5 @@
 -- What may stand behind the last field: what is read is spelled so, and what is spelled so is read.
 use Rattle.std.proofs.Common.{◌≡◌, ℕ, ◌+◌, ◌%◌, ◌<◌, ◌≤◌, ◌⊎◌, false, cond, eqb, List, [], ◌∷◌, length, get_or, drop, Option, Some, None, Result, Ok, Err, refl, sym, ap, subst, ◌∙◌, arith, inl, inr}
-use Rattle.std.specs.Prelude.{IfOk}
 use Rattle.std.specs.Option.{ForSome}
 use Rattle.std.specs.List.{AllByRecursion}
 use Rattle.std.proofs.lemmas.Bool.{eqb-true, eqb-false, eq-eqb, ne_eqb, cases_eq}
@@ -8,12 +7,12 @@ use Rattle.std.proofs.lemmas.List.{drop_more, drop_all}
 use Rattle.lgm_wire.specs.declared.tlv.Tlv.{Tlv}
 use Rattle.lgm_wire.specs.TlvView.{record_of, records_of}
 use Rattle.lgm_wire.specs.declared.fault.WireFault.{WireFault}
-use Rattle.lgm_wire.specs.Reading.{◌>>=◌, Gives}
+use Rattle.lgm_wire.specs.Reading.{◌>>=◌}
 use Rattle.lgm_wire.specs.Tlv.{RisesFrom}
 use Rattle.lgm_gossip.specs.declared.fault.DecodeFault.{DecodeFault}
-use Rattle.lgm_gossip.specs.declared.fault.DecodeFault.TheVariants.{TlvKind, NoMemory}
+use Rattle.lgm_gossip.specs.declared.fault.DecodeFault.TheVariants.{TlvKind}
 use Rattle.lgm_gossip.specs.Streams.{TlvRecord, tlvs_of}
-use Rattle.lgm_gossip.specs.Optional.{value_of, SameOption, optional}
+use Rattle.lgm_gossip.specs.Optional.{value_of, SameOption, IsOptional}
 use Rattle.lgm_gossip.specs.OptionalReading.{or_tlv, stream_at, after_record, after_records, optional_of, optional_at}
 use Rattle.lgm_gossip.proofs.WireLaws.{chosen, bind_ok, ok_is, IsBytes, stream_takes, values_fit, whole_read}
 use Rattle.lgm_gossip.proofs.FieldLaws.{IsText, IsLast}
@@ -120,7 +119,7 @@ stream_ok : (r : Result (List TlvRecord) WireFault) (l : List TlvRecord) → or_
 stream_ok (Ok x) l e = ap (λ (y : List TlvRecord). Ok y) (ok_is x l e)
 stream_ok (Err f) l e = absurd cc
 
-pub optional_text : {A : Type 0} {read : List ℕ → Result A DecodeFault} {F : A → List ℕ → Type 0} → IsText read F → IsText (optional_of read) (optional F)
+pub optional_text : {A : Type 0} {read : List ℕ → Result A DecodeFault} {F : A → List ℕ → Type 0} → IsText read F → IsText (optional_of read) (IsOptional F)
 unfolding optional_of
 optional_text {A} {read} {F} law = record {
   takes = λ bytes o fits e.
@@ -133,13 +132,13 @@ optional_text {A} {read} {F} law = record {
 }
 
 -- all that is left as a field
-pub optional_field : {A : Type 0} {read : List ℕ → Result A DecodeFault} {F : A → List ℕ → Type 0} → IsText read F → IsLast (optional_at read) (optional F)
+pub optional_field : {A : Type 0} {read : List ℕ → Result A DecodeFault} {F : A → List ℕ → Type 0} → IsText read F → IsLast (optional_at read) (IsOptional F)
 optional_field {A} {read} {F} law =
     let text = optional_text law in
     record {
       takes = λ bytes x fits e.
           let a = bind_ok (optional_of read bytes) (λ y. Ok (y, [])) x e in
-          subst (λ (y : Option A × List ℕ). optional F y.0 bytes) (ok_is (a.0, []) x a.2) (text.takes bytes a.0 fits a.1);
+          subst (λ (y : Option A × List ℕ). IsOptional F y.0 bytes) (ok_is (a.0, []) x a.2) (text.takes bytes a.0 fits a.1);
       again = λ x bytes is. rw (text.again x bytes is) refl;
     }
 
@@ -178,10 +177,5 @@ same_for {A} {F} P holds None v same = λ x e. absurd cc
 same_for {A} {F} P holds (Some x) None same = absurd same
 same_for {A} {F} P holds (Some x) (Some b) same = λ y e. let is : x ≡ y = cc in subst P is (holds x b same)
 
-pub optional_for : {A : Type 0} {read : List ℕ → Result A DecodeFault} {F : A → List ℕ → Type 0} (P : A → Type 0) → IsText read F → ((x : A) (b : List ℕ) → F x b → P x) → (bytes : List ℕ) (r : Result (Option A) DecodeFault)
-    → IsBytes bytes → Gives NoMemory (λ o. o) r (optional_of read bytes) → IfOk r (λ o. ForSome o P)
-optional_for {A} {read} {F} P law holds bytes (Ok o) fits gives =
-    let text = optional_text law in
-    let is = text.takes bytes o fits gives in
-    same_for P holds o (value_of is.records) is.value
-optional_for {A} {read} {F} P law holds bytes (Err e) fits gives = tt
+pub optional_for : {A : Type 0} {F : A → List ℕ → Type 0} (P : A → Type 0) → ((x : A) (b : List ℕ) → F x b → P x) → (o : Option A) (b : List ℕ) → IsOptional F o b → ForSome o P
+optional_for {A} {F} P holds o b is = same_for P holds o (value_of is.records) is.value

@@ -1,20 +1,35 @@
 -- reply_channel_range: what is read is spelled so, and what is spelled so is read.
-use Rattle.std.proofs.Common.{length, refl}
+use Rattle.std.proofs.Common.{◌≡◌, ℕ, List, length, Option, Result, subst, refl}
 use Rattle.std.specs.Int.{w8, w32}
+use Rattle.std.specs.Option.{ForSome}
+use Rattle.lgm_gossip.specs.declared.fault.DecodeFault.{DecodeFault}
+use Rattle.lgm_gossip.specs.declared.timestamps.Timestamps.{Timestamps}
+use Rattle.lgm_gossip.specs.OptionalReading.{optional_of}
+use Rattle.lgm_gossip.specs.TimestampListReading.{timestamps_at}
 use Rattle.lgm_gossip.specs.RangeReply.{Reply, fields}
-use Rattle.lgm_gossip.specs.RangeReplyReading.{range_reply_at, Row, row_at, from_row}
+use Rattle.lgm_gossip.specs.RangeReplyReading.{range_reply_at}
 use Rattle.lgm_gossip.proofs.WireLaws.{wide32}
-use Rattle.lgm_gossip.proofs.FieldLaws.{IsLast, IsText, of_row, then_field, then_by_field, fixed_field, number_field, enclosed_field, wide8}
-use Rattle.lgm_gossip.proofs.OptionalLaws.{optional_field}
+use Rattle.lgm_gossip.proofs.FieldLaws.{IsText, fixed_field, number_field, enclosed_field, wide8}
+use Rattle.lgm_gossip.proofs.OrderLaws.{all_reads, then_reads, last_reads}
+use Rattle.lgm_gossip.proofs.OptionalLaws.{optional_field, optional_for}
 use Rattle.lgm_gossip.proofs.EncodedIdsLaws.{ids_text}
 use Rattle.lgm_gossip.proofs.TimestampListLaws.{timestamps_text}
 
-row : IsLast row_at (λ x. fields (from_row x))
-row = then_field (fixed_field 32) (then_field (number_field w32 wide32) (then_field (number_field w32 wide32) (then_field (number_field w8 wide8) (then_by_field (enclosed_field ids_text) (λ ids. optional_field (timestamps_text (length ids)))))))
+pub range_reply_text : IsText range_reply_at (λ m. (fields m).Is)
+unfolding range_reply_at
+range_reply_text = all_reads
+    (then_reads _ (fixed_field 32) (λ m. m.chain_hash.0)
+    (then_reads _ (number_field w32 wide32) (λ m. m.first_blocknum)
+    (then_reads _ (number_field w32 wide32) (λ m. m.number_of_blocks)
+    (then_reads _ (number_field w8 wide8) (λ m. m.sync_complete)
+    (then_reads _ (enclosed_field ids_text) (λ m. m.ids)
+    (last_reads _ (λ x. optional_field (timestamps_text (length x.1))) (λ m. m.timestamps) (λ m. refl) (λ x a. (refl, refl))))))))
 
-to_row : Reply → Row
-to_row m = (m.chain_hash.0, (m.first_blocknum, (m.number_of_blocks, (m.sync_complete, (m.ids, m.timestamps)))))
+-- there is a pair of timestamps for each id
+pub one_each : (m : Reply) (b : List ℕ) → (fields m).Is b → ForSome m.timestamps (λ pairs. length pairs ≡ length m.ids)
+one_each m b is =
+    let ids_on = is.back_is.back_is.back_is.back_is in
+    optional_for (λ pairs. length pairs ≡ length m.ids) (λ pairs text is. is.one_each) m.timestamps ids_on.back ids_on.back_is
 
-pub range_reply_text : IsText range_reply_at fields
-unfolding range_reply_at to_row
-range_reply_text = of_row from_row to_row (λ m. refl) row
+pub same_count : (m n : ℕ) (b : List ℕ) (r : Result (Option (List Timestamps)) DecodeFault) → m ≡ n → optional_of (timestamps_at m) b ≡ r → optional_of (timestamps_at n) b ≡ r
+same_count m n b r same e = subst (λ (k : ℕ). optional_of (timestamps_at k) b ≡ r) same e

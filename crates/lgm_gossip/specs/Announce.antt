@@ -1,10 +1,9 @@
 -- channel_announcement: its fields.
-use Rattle.std.specs.Prelude.{ℕ, List}
 use Rattle.std.specs.Int.{w64}
 use Rattle.lgm_gossip.specs.declared.announce.Announce.{Announce}
-use Rattle.lgm_gossip.specs.Fields.{◌⌢◌, fixed, number, counted, rest}
+use Rattle.lgm_gossip.specs.Fields.{Field, ◌⌢◌, fixed, number, counted, rest}
 
-abbrev pub fields : Announce → List ℕ → Type 0
+abbrev pub fields : Announce → Field
 fields m =
     fixed 64 m.node_signature_1
     ⌢ fixed 64 m.node_signature_2

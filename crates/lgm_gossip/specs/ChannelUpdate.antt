@@ -1,10 +1,9 @@
 -- channel_update: its fields.
-use Rattle.std.specs.Prelude.{ℕ, List}
 use Rattle.std.specs.Int.{w8, w16, w32, w64}
 use Rattle.lgm_gossip.specs.declared.channel_update.ChannelUpdate.{ChannelUpdate}
-use Rattle.lgm_gossip.specs.Fields.{◌⌢◌, fixed, number, rest}
+use Rattle.lgm_gossip.specs.Fields.{Field, ◌⌢◌, fixed, number, rest}
 
-abbrev pub fields : ChannelUpdate → List ℕ → Type 0
+abbrev pub fields : ChannelUpdate → Field
 fields m =
     fixed 64 m.signature
     ⌢ fixed 32 m.chain_hash.0

@@ -29,16 +29,10 @@ enclosed_at read bytes = counted_at bytes >>= λ text. read text.0 >>= λ x. Ok 
 abbrev pub rest_at : List ℕ → Result (List ℕ × List ℕ) DecodeFault
 rest_at bytes = Ok (bytes, [])
 
--- all that is left, which isn't kept
-abbrev pub dropped_at : List ℕ → Result (Unit {0} × List ℕ) DecodeFault
-dropped_at bytes = Ok (tt, [])
+-- a field, and the others, which may be read by its value
+abbrev pub read_on : {A M : Type 0} → (List ℕ → Result (A × List ℕ) DecodeFault) → (A → List ℕ → Result M DecodeFault) → List ℕ → Result M DecodeFault
+read_on field others = λ bytes. field bytes >>= λ x. others x.0 x.1
 
--- one field behind the other
-infixr 8 ◌⊗◌
-abbrev pub ◌⊗◌ : {A B : Type 0} → (List ℕ → Result (A × List ℕ) DecodeFault) → (List ℕ → Result (B × List ℕ) DecodeFault) → List ℕ → Result ((A × B) × List ℕ) DecodeFault
-p ⊗ q = λ bytes. p bytes >>= λ x. q x.1 >>= λ y. Ok ((x.0, y.0), y.1)
-
--- the same where the first field says how the others are read
-infixr 8 ◌⊳◌
-abbrev pub ◌⊳◌ : {A B : Type 0} → (List ℕ → Result (A × List ℕ) DecodeFault) → (A → List ℕ → Result (B × List ℕ) DecodeFault) → List ℕ → Result ((A × B) × List ℕ) DecodeFault
-p ⊳ q = λ bytes. p bytes >>= λ x. q x.0 x.1 >>= λ y. Ok ((x.0, y.0), y.1)
+-- what the fields make; bytes that are left aren't kept
+abbrev pub made : {M : Type 0} → M → List ℕ → Result M DecodeFault
+made m = λ bytes. Ok m

@@ -1,10 +1,10 @@
 -- query_short_channel_ids: its fields.
 use Rattle.std.specs.Prelude.{ℕ, List, length, Option}
 use Rattle.lgm_gossip.specs.declared.chain_hash.ChainHash.{ChainHash}
-use Rattle.lgm_gossip.specs.Fields.{◌⌢◌, fixed}
+use Rattle.lgm_gossip.specs.Fields.{Field, ◌⌢◌, fixed}
 use Rattle.lgm_gossip.specs.EncodedIds.{encoded_ids}
 use Rattle.lgm_gossip.specs.Optional.{optional}
-use Rattle.lgm_gossip.specs.QueryFlags.{IsQueryFlags}
+use Rattle.lgm_gossip.specs.QueryFlags.{flags_text, IsQueryFlags}
 
 -- what contracts see of the message
 pub record Query : Type 0 where
@@ -12,8 +12,8 @@ pub record Query : Type 0 where
   pub ids : List ℕ
   pub flags : Option (List ℕ)
 
-abbrev pub fields : Query → List ℕ → Type 0
+abbrev pub fields : Query → Field
 fields m =
     fixed 32 m.chain_hash.0
     ⌢ encoded_ids m.ids
-    ⌢ optional (IsQueryFlags (length m.ids)) m.flags
+    ⌢ optional (IsQueryFlags (length m.ids)) flags_text m.flags

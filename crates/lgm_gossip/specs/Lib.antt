@@ -17,6 +17,7 @@ pub mod FilterMsg
 pub mod Message
 pub mod Memory
 pub mod FieldReading
+pub mod InOrder
 pub mod OptionalReading
 pub mod EncodedIdsReading
 pub mod QueryFlagsReading

@@ -1,10 +1,9 @@
 -- node_announcement: its fields.
-use Rattle.std.specs.Prelude.{ℕ, List}
 use Rattle.std.specs.Int.{w32}
 use Rattle.lgm_gossip.specs.declared.node_announce.NodeAnnounce.{NodeAnnounce}
-use Rattle.lgm_gossip.specs.Fields.{◌⌢◌, fixed, number, counted, rest}
+use Rattle.lgm_gossip.specs.Fields.{Field, ◌⌢◌, fixed, number, counted, rest}
 
-abbrev pub fields : NodeAnnounce → List ℕ → Type 0
+abbrev pub fields : NodeAnnounce → Field
 fields m =
     fixed 64 m.signature
     ⌢ counted m.features

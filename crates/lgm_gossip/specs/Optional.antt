@@ -1,7 +1,8 @@
 -- What may stand behind the last field: a stream of records, of which those of type 1 are known.
 use Rattle.std.specs.Prelude.{◌≡◌, ℕ, ◌%◌, List, [], ◌∷◌, Option, Some, None, ◌==◌, if◌then◌else◌}
 use Rattle.std.specs.List.{AllByRecursion}
-use Rattle.lgm_gossip.specs.Streams.{TlvRecord, IsTlvStream}
+use Rattle.lgm_gossip.specs.Streams.{TlvRecord, record_bytes, IsTlvStream}
+use Rattle.lgm_gossip.specs.Fields.{Field}
 
 -- the value of the record of type 1, if there is one
 abbrev pub value_of : List TlvRecord → Option (List ℕ)
@@ -22,6 +23,11 @@ pub record IsOptional {A : Type 0} (F : A → List ℕ → Type 0) (x : Option A
   pub odd : AllByRecursion (λ r. r.kind % 2 ≡ 1) records
   pub value : SameOption F x (value_of records)
 
--- the same as a field
-abbrev pub optional : {A : Type 0} → (A → List ℕ → Type 0) → Option A → List ℕ → Type 0
-optional F x b = IsOptional F x b
+-- what is written: one record of type 1 with the value's text, or no record
+abbrev pub option_text : {A : Type 0} → (A → List ℕ) → Option A → List ℕ
+option_text text None = []
+option_text text (Some x) = record_bytes (record { kind = 1; value = text x })
+
+-- the same as a field: F says which bytes spell a value, and text which are written
+abbrev pub optional : {A : Type 0} → (A → List ℕ → Type 0) → (A → List ℕ) → Option A → Field
+optional F text x = record { Is = IsOptional F x; texts = option_text text x ∷ [] }

@@ -3,7 +3,10 @@ use Rattle.std.specs.Prelude.{◌≡◌, ℕ, ◌<◌, ◌^◌, List, ◌∷◌,
 use Rattle.std.specs.List.{flat_map, AllByRecursion}
 use Rattle.lgm_gossip.specs.Streams.{bigsize_bytes}
 
+abbrev pub flags_text : List ℕ → List ℕ
+flags_text flags = 0 ∷ flat_map bigsize_bytes flags
+
 pub record IsQueryFlags (count : ℕ) (flags : List ℕ) (b : List ℕ) : Type 0 where
   pub fits : AllByRecursion (λ f. f < 2 ^ 64) flags
   pub one_each : length flags ≡ count
-  pub spelled : b ≡ 0 ∷ flat_map bigsize_bytes flags
+  pub spelled : b ≡ flags_text flags

@@ -7,6 +7,9 @@ use Rattle.lgm_gossip.specs.declared.timestamps.Timestamps.{Timestamps}
 abbrev pub pair_bytes : Timestamps → List ℕ
 pair_bytes t = to_be_bytes w32 t.node_1 ++ to_be_bytes w32 t.node_2
 
+abbrev pub pairs_text : List Timestamps → List ℕ
+pairs_text pairs = 0 ∷ flat_map pair_bytes pairs
+
 pub record PairFits (t : Timestamps) : Type 0 where
   pub node_1 : t.node_1 < 2 ^ 32
   pub node_2 : t.node_2 < 2 ^ 32
@@ -14,4 +17,4 @@ pub record PairFits (t : Timestamps) : Type 0 where
 pub record IsTimestampList (count : ℕ) (pairs : List Timestamps) (b : List ℕ) : Type 0 where
   pub fits : AllByRecursion PairFits pairs
   pub one_each : length pairs ≡ count
-  pub spelled : b ≡ 0 ∷ flat_map pair_bytes pairs
+  pub spelled : b ≡ pairs_text pairs

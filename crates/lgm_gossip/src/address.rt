@@ -1,6 +1,7 @@
 //! Addresses of nodes.
 
 use crate::bytes::Bytes;
+use crate::items::Items;
 
 /// Where a node can be reached: an address and a port (BOLT 7, "The node_announcement Message").
 #[derive(Debug, Drop)]
@@ -17,3 +18,6 @@ pub enum Address {
     /// Type 5, the name of a host, up to 255 bytes that should be ASCII, as they came, and a TCP port.
     Name { hostname: Bytes, port: u16 },
 }
+
+/// A list of addresses.
+pub type AddressList = Items<Address>;

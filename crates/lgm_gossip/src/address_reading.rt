@@ -5,8 +5,7 @@ ghost use Rattle.lgm_wire.specs.Reading.{Gives};
 ghost use Rattle.lgm_gossip.specs.Addresses.{IsLongest};
 ghost use Rattle.lgm_gossip.specs.AddressesReading.{descriptor_at};
 
-use crate::address::Address;
-use crate::address_list::AddressList;
+use crate::address::{Address, AddressList};
 use crate::bytes::Bytes;
 use crate::fault::DecodeFault;
 use crate::fields::{fixed, number8, number16, part};

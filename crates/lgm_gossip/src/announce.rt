@@ -48,7 +48,7 @@ pub struct Announce {
 impl Announce {
     ghost use Rattle.lgm_gossip.specs.Announce.{fields};
     ghost use Rattle.lgm_gossip.specs.AnnounceReading.{announce_at};
-    ghost use Rattle.lgm_gossip.specs.Spelling.{announce_texts, Encodes};
+    ghost use Rattle.lgm_gossip.specs.Spelling.{Encodes};
 
     /// A copy. The only error is want of memory.
     pub fn copy(&self, alloc: Global) -> Result<Announce, AllocError>
@@ -96,7 +96,7 @@ impl Announce {
 
     /// The bytes, the two of the type first.
     pub(crate) fn encode(&self, alloc: Global) -> Result<Bytes, EncodeFault>
-        ensures { Encodes 256 (fields self.now) (announce_texts self.now) result }
+        ensures { Encodes 256 (fields self.now) result }
     {
         let features = Part::Bytes(self.features.as_slice());
         let features_len = measure(&[features])?;

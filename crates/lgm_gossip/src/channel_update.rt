@@ -47,7 +47,7 @@ pub struct ChannelUpdate {
 impl ChannelUpdate {
     ghost use Rattle.lgm_gossip.specs.ChannelUpdate.{fields};
     ghost use Rattle.lgm_gossip.specs.ChannelUpdateReading.{channel_update_at};
-    ghost use Rattle.lgm_gossip.specs.Spelling.{channel_update_texts, Encodes};
+    ghost use Rattle.lgm_gossip.specs.Spelling.{Encodes};
 
     /// A copy. The only error is want of memory.
     pub fn copy(&self, alloc: Global) -> Result<ChannelUpdate, AllocError>
@@ -94,7 +94,7 @@ impl ChannelUpdate {
 
     /// The bytes, the two of the type first.
     pub(crate) fn encode(&self, alloc: Global) -> Result<Bytes, EncodeFault>
-        ensures { Encodes 258 (fields self.now) (channel_update_texts self.now) result }
+        ensures { Encodes 258 (fields self.now) result }
     {
         join(
             alloc,

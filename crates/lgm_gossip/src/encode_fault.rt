@@ -3,7 +3,7 @@
 ghost use Rattle.std.specs.Prelude.{◌≡◌};
 ghost use Rattle.lgm_gossip.specs.declared.encode_fault.EncodeFault.TheVariants.{NoMemory};
 
-use std::alloc::{AllocError, AllocFailed};
+use std::alloc::AllocError;
 use thiserror::Error;
 
 /// Why a message can't be written as bytes.
@@ -22,14 +22,6 @@ impl From<AllocError> for EncodeFault {
     ghost from_gives = { λ _ e. e ≡ NoMemory };
 
     fn from(_e: AllocError) -> EncodeFault {
-        EncodeFault::NoMemory
-    }
-}
-
-impl<T: Drop> From<AllocFailed<T>> for EncodeFault {
-    ghost from_gives = { λ _ e. e ≡ NoMemory };
-
-    fn from(_e: AllocFailed<T>) -> EncodeFault {
         EncodeFault::NoMemory
     }
 }

@@ -1,32 +1,37 @@
 //! Encoded channel ids, as queries and replies hold them.
 
 ghost use Rattle.std.specs.Prelude.{◌<◌, length};
+ghost use Rattle.std.specs.Int.{w64, from_be_bytes};
 ghost use Rattle.lgm_gossip.specs.EncodedIdsReading.{ids_of, encoded_ids_at};
 ghost use Rattle.lgm_gossip.specs.Memory.{GivesIf};
 
+use crate::cells::{Cell, cells};
 use crate::fault::DecodeFault;
 use crate::fields::counted;
-use crate::scid::Scid;
-use crate::scids::Scids;
+use crate::scid::{Scid, Scids};
 use std::alloc::Global;
 
+/// A number, its highest byte first.
+impl Cell for Scid {
+    ghost cell_of = { from_be_bytes w64 };
+
+    fn from_bytes(bytes: &[u8; 8]) -> Scid {
+        Scid::from_u64(u64::from_be_bytes(*bytes))
+    }
+}
+
 /// The ids that the bytes are.
-fn ids(alloc: Global, bytes: &[u8]) -> Result<Vec<Scid>, DecodeFault>
-    ensures { GivesIf (1 < length bytes.now) DecodeFault.NoMemory (λ ids. ids.items) result (ids_of bytes.now) }
+fn ids(alloc: Global, bytes: &[u8]) -> Result<Scids, DecodeFault>
+    ensures { GivesIf (1 < length bytes.now) DecodeFault.NoMemory (λ ids. ids) result (ids_of bytes.now) }
 {
     match bytes {
-        [] | [0] => Ok(Vec::new(alloc)),
+        [] | [0] => Ok(Scids::from_vec(Vec::new(alloc))),
         [0, rest @ ..] => {
             let (chunks, left) = rest.as_chunks::<8>();
             if !left.is_empty() {
                 return Err(DecodeFault::Ids);
             }
-            Ok(
-                chunks
-                    .iter()
-                    .map(|chunk| Scid::from_u64(u64::from_be_bytes(*chunk)))
-                    .collect(alloc)?,
-            )
+            Ok(cells(alloc, chunks)?)
         }
         [first, ..] => Err(DecodeFault::Encoding(*first)),
     }
@@ -38,5 +43,5 @@ pub(crate) fn encoded_ids(alloc: Global, bytes: &[u8]) -> Result<(Scids, &[u8]),
         (encoded_ids_at bytes.now) }
 {
     let (text, rest) = counted(bytes)?;
-    Ok((Scids::from_vec(ids(alloc, text)?), rest))
+    Ok((ids(alloc, text)?, rest))
 }

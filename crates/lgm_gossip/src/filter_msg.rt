@@ -26,7 +26,7 @@ pub struct FilterMsg {
 impl FilterMsg {
     ghost use Rattle.lgm_gossip.specs.FilterMsg.{fields};
     ghost use Rattle.lgm_gossip.specs.FilterMsgReading.{filter_msg_at};
-    ghost use Rattle.lgm_gossip.specs.Spelling.{filter_msg_texts, Encodes};
+    ghost use Rattle.lgm_gossip.specs.Spelling.{Encodes};
 
     /// The fields, read from left to right, of the bytes behind the type. What stands behind them is dropped.
     #[tactic(auto, unfolding(crate::specs::FilterMsgReading::filter_msg_at))]
@@ -45,7 +45,7 @@ impl FilterMsg {
 
     /// The bytes, the two of the type first.
     pub(crate) fn encode(&self, alloc: Global) -> Result<Bytes, EncodeFault>
-        ensures { Encodes 265 (fields self.now) (filter_msg_texts self.now) result }
+        ensures { Encodes 265 (fields self.now) result }
     {
         join(
             alloc,

@@ -24,7 +24,7 @@ pub struct IdsEnd {
 impl IdsEnd {
     ghost use Rattle.lgm_gossip.specs.IdsEnd.{fields};
     ghost use Rattle.lgm_gossip.specs.IdsEndReading.{ids_end_at};
-    ghost use Rattle.lgm_gossip.specs.Spelling.{ids_end_texts, Encodes};
+    ghost use Rattle.lgm_gossip.specs.Spelling.{Encodes};
 
     /// The fields, read from left to right, of the bytes behind the type. What stands behind them is dropped.
     #[tactic(auto, unfolding(crate::specs::IdsEndReading::ids_end_at))]
@@ -41,7 +41,7 @@ impl IdsEnd {
 
     /// The bytes, the two of the type first.
     pub(crate) fn encode(&self, alloc: Global) -> Result<Bytes, EncodeFault>
-        ensures { Encodes 262 (fields self.now) (ids_end_texts self.now) result }
+        ensures { Encodes 262 (fields self.now) result }
     {
         join(
             alloc,

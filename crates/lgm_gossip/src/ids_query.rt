@@ -1,12 +1,7 @@
 //! `query_short_channel_ids`.
 
-ghost use Rattle.std.specs.Prelude.{◌≡◌, ◌<◌, length, None, List, ℕ, IfOk};
-ghost use Rattle.std.specs.Option.{ForSome};
-ghost use Rattle.lgm_wire.specs.Reading.{Gives};
+ghost use Rattle.std.specs.Prelude.{◌<◌, length};
 ghost use Rattle.lgm_gossip.specs.Memory.{GivesIf};
-ghost use Rattle.lgm_wire.specs.TlvView.{record_of, records_of};
-ghost use Rattle.lgm_gossip.specs.OptionalReading.{optional_of, after_record, after_records};
-ghost use Rattle.lgm_gossip.specs.QueryFlagsReading.{query_flags_at};
 
 use crate::bytes::Bytes;
 use crate::chain_hash::ChainHash;
@@ -16,11 +11,10 @@ use crate::fault::DecodeFault;
 use crate::fields::fixed;
 use crate::joining::{join, whole};
 use crate::measuring::measure;
+use crate::optional::optional;
 use crate::part::Part;
 use crate::query_flags::QueryFlags;
-use crate::records::records;
-use crate::scids::Scids;
-use lgm_wire::Tlv;
+use crate::scid::Scids;
 use std::alloc::Global;
 use std::marker::Model;
 
@@ -48,53 +42,10 @@ impl Model for IdsQuery {
     ghost invariant = { λ m. ForSome m.flags (λ flags. length flags ≡ length m.ids) };
 }
 
-/// The flags, if one more record has them.
-fn with_record(
-    alloc: Global,
-    count: usize,
-    flags: Option<QueryFlags>,
-    tlv: &Tlv,
-) -> Result<Option<QueryFlags>, DecodeFault>
-    ensures { Gives DecodeFault.NoMemory (λ flags. flags) result
-        (after_record (query_flags_at count) flags (record_of tlv.now)) }
-{
-    match tlv.kind {
-        1 => Ok(Some(QueryFlags::read(alloc, count, tlv.value)?)),
-        kind if kind % 2 == 0 => Err(DecodeFault::TlvKind(kind)),
-        _ => Ok(flags),
-    }
-}
-
-/// The flags, if the records have them.
-fn known(alloc: Global, count: usize, records: &[Tlv]) -> Result<Option<QueryFlags>, DecodeFault>
-    ensures { GivesIf (0 < length records.now) DecodeFault.NoMemory (λ flags. flags) result
-        (after_records (query_flags_at count) None (records_of records.now)) }
-{
-    let mut flags = None;
-    for tlv in records {
-        flags = with_record(alloc, count, flags, tlv)?;
-    }
-    Ok(flags)
-}
-
-/// The flags, one for each id, if the stream of records has them.
-#[tactic(auto, unfolding(crate::specs::OptionalReading::optional_of))]
-fn optional(alloc: Global, ids: &Scids, bytes: &[u8]) -> Result<Option<QueryFlags>, DecodeFault>
-    ensures exact { GivesIf (1 < length bytes.now) DecodeFault.NoMemory (λ found. found) result
-        (optional_of (query_flags_at (length ids.now)) bytes.now) }
-    ensures one_each { IfOk result (λ found. ForSome found (λ flags. length flags ≡ length ids.now)) }
-{
-    known(
-        alloc,
-        ids.as_slice().len(),
-        records(alloc, bytes)?.as_slice(),
-    )
-}
-
 impl IdsQuery {
     ghost use Rattle.lgm_gossip.specs.IdsQuery.{fields};
     ghost use Rattle.lgm_gossip.specs.IdsQueryReading.{ids_query_at};
-    ghost use Rattle.lgm_gossip.specs.Spelling.{ids_query_texts, Encodes};
+    ghost use Rattle.lgm_gossip.specs.Spelling.{Encodes};
 
     /// The fields, read from left to right, of the bytes behind the type.
     #[tactic(auto, unfolding(crate::specs::IdsQueryReading::ids_query_at))]
@@ -103,7 +54,7 @@ impl IdsQuery {
     {
         let (chain_hash, rest) = fixed(bytes)?;
         let (ids, rest) = encoded_ids(alloc, rest)?;
-        let flags = optional(alloc, &ids, rest)?;
+        let flags = optional(alloc, ids.len(), rest)?;
         Ok(IdsQuery {
             chain_hash: ChainHash(chain_hash),
             ids,
@@ -113,7 +64,7 @@ impl IdsQuery {
 
     /// The bytes, the two of the type first.
     pub(crate) fn encode(&self, alloc: Global) -> Result<Bytes, EncodeFault>
-        ensures { Encodes 261 (fields self.now) (ids_query_texts self.now) result }
+        ensures { Encodes 261 (fields self.now) result }
     {
         let ids = Part::Ids(self.ids.as_slice());
         let ids_len = measure(&[Part::Number8(0), ids])?;

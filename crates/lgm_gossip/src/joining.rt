@@ -19,7 +19,7 @@ use std::alloc::{AllocError, Global};
 
 /// So many bytes.
 pub(crate) fn whole<const N: usize>(bytes: &[u8; N]) -> Part<'_>
-    ensures { fixed N bytes.now (text result) }
+    ensures { (fixed N bytes.now).Is (text result) }
 {
     Part::Bytes(bytes)
 }

@@ -1,6 +1,6 @@
 //! The length of parts.
 
-ghost use Rattle.std.specs.Prelude.{◌≡◌, ◌+◌, ◌*◌, ◌<◌, length, MatchOption, MatchResult};
+ghost use Rattle.std.specs.Prelude.{◌≡◌, ◌+◌, ◌<◌, length, MatchOption, MatchResult};
 ghost use Rattle.std.specs.List.{flat_map};
 ghost use Rattle.lgm_gossip.specs.Streams.{bigsize_bytes};
 ghost use Rattle.lgm_gossip.specs.Part.{text, texts};
@@ -33,17 +33,6 @@ fn room_after_bigs(room: usize, values: &[u64]) -> Option<usize>
     Some(left)
 }
 
-/// What so many times eight bytes leave of the room, if they fit.
-fn room_after_eights(room: usize, count: usize) -> Option<usize>
-    ensures { MatchOption result (room < count * 8) (λ left. left + count * 8 ≡ room) }
-{
-    if count > room / 8 {
-        None
-    } else {
-        Some(room - count * 8)
-    }
-}
-
 /// What a part leaves of the room, if it fits.
 fn room_after(room: usize, part: &Part) -> Option<usize>
     ensures { MatchOption result (room < length (text part.now)) (λ left. left + length (text part.now) ≡ room) }
@@ -55,9 +44,9 @@ fn room_after(room: usize, part: &Part) -> Option<usize>
         Part::Number32(_) => room.checked_sub(4),
         Part::Number64(_) => room.checked_sub(8),
         Part::Big(value) => room.checked_sub(bigsize_len(*value)),
-        Part::Ids(ids) => room_after_eights(room, ids.len()),
+        Part::Ids(ids) => room.checked_sub(ids.len() * 8),
         Part::Bigs(values) => room_after_bigs(room, values),
-        Part::Pairs(pairs) => room_after_eights(room, pairs.len()),
+        Part::Pairs(pairs) => room.checked_sub(pairs.len() * 8),
     }
 }
 

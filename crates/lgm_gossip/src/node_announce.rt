@@ -38,7 +38,7 @@ pub struct NodeAnnounce {
 impl NodeAnnounce {
     ghost use Rattle.lgm_gossip.specs.NodeAnnounce.{fields};
     ghost use Rattle.lgm_gossip.specs.NodeAnnounceReading.{node_announce_at};
-    ghost use Rattle.lgm_gossip.specs.Spelling.{node_announce_texts, Encodes};
+    ghost use Rattle.lgm_gossip.specs.Spelling.{Encodes};
 
     /// A copy. The only error is want of memory.
     pub fn copy(&self, alloc: Global) -> Result<NodeAnnounce, AllocError>
@@ -79,7 +79,7 @@ impl NodeAnnounce {
 
     /// The bytes, the two of the type first.
     pub(crate) fn encode(&self, alloc: Global) -> Result<Bytes, EncodeFault>
-        ensures { Encodes 257 (fields self.now) (node_announce_texts self.now) result }
+        ensures { Encodes 257 (fields self.now) result }
     {
         let features = Part::Bytes(self.features.as_slice());
         let features_len = measure(&[features])?;

@@ -5,23 +5,15 @@ ghost use Rattle.lgm_wire.specs.Reading.{Sees, Gives};
 ghost use Rattle.lgm_gossip.specs.QueryFlagsReading.{flag_at, all_flags_at, query_flags_at};
 
 use crate::fault::DecodeFault;
+use crate::items::Items;
+use crate::optional::RecordValue;
 use lgm_wire::read_bigsize;
 use std::alloc::Global;
-use std::marker::Model;
 
 /// Flags of a query, one number for each id: bit 0 asks for the announcement, bits 1 and 2 for the update by node 1
 /// and by node 2, bits 3 and 4 for the announcements of node 1 and node 2 (BOLT 7, "The
-/// query_short_channel_ids/reply_short_channel_ids_end Messages"). Contracts see the list.
-#[derive(Debug, Drop)]
-pub struct QueryFlags {
-    items: Vec<u64>,
-}
-
-impl Model for QueryFlags {
-    ghost Value = { List ℕ };
-
-    ghost view = { λ f. f.items.items };
-}
+/// query_short_channel_ids/reply_short_channel_ids_end Messages").
+pub type QueryFlags = Items<u64>;
 
 /// The number at the front.
 fn flag(bytes: &[u8]) -> Result<(u64, &[u8]), DecodeFault>
@@ -54,36 +46,14 @@ fn all_flags(alloc: Global, count: usize, bytes: &[u8]) -> Result<Vec<u64>, Deco
     }
 }
 
-impl QueryFlags {
-    /// The flags of a vector, without a copy.
-    pub fn from_vec(items: Vec<u64>) -> QueryFlags
-        ensures { result ≡ items.items }
-    {
-        QueryFlags { items }
-    }
+/// As many flags as there are ids.
+impl RecordValue for QueryFlags {
+    ghost value_at = { query_flags_at };
 
-    /// The flags, borrowed.
-    pub fn as_slice(&self) -> &[u64]
-        ensures { result.now ≡ self.now }
-    {
-        self.items.as_slice()
-    }
-
-    /// The vector, without a copy.
-    pub fn into_vec(self) -> Vec<u64>
-        ensures { result.items ≡ self }
-    {
-        let QueryFlags { items } = self;
-        items
-    }
-
-    /// As many flags as there are ids, which are all of the bytes.
-    pub(crate) fn read(alloc: Global, count: usize, bytes: &[u8]) -> Result<QueryFlags, DecodeFault>
-        ensures { Gives DecodeFault.NoMemory (λ flags. flags) result (query_flags_at count bytes.now) }
-    {
+    fn read(alloc: Global, ids: usize, bytes: &[u8]) -> Result<QueryFlags, DecodeFault> {
         match bytes {
             [] => Err(DecodeFault::Flags),
-            [0, rest @ ..] => Ok(QueryFlags::from_vec(all_flags(alloc, count, rest)?)),
+            [0, rest @ ..] => Ok(QueryFlags::from_vec(all_flags(alloc, ids, rest)?)),
             [first, ..] => Err(DecodeFault::Encoding(*first)),
         }
     }

@@ -1,10 +1,7 @@
 //! `query_channel_range`.
 
 ghost use Rattle.std.specs.Prelude.{◌<◌, length};
-ghost use Rattle.lgm_wire.specs.Reading.{Sees};
 ghost use Rattle.lgm_gossip.specs.Memory.{GivesIf};
-ghost use Rattle.lgm_wire.specs.TlvView.{record_of, records_of};
-ghost use Rattle.lgm_gossip.specs.OptionalReading.{optional_of, after_record, after_records};
 ghost use Rattle.lgm_gossip.specs.RangeQueryReading.{options_at};
 
 use crate::bytes::Bytes;
@@ -14,9 +11,9 @@ use crate::fault::DecodeFault;
 use crate::fields::{fixed, number32};
 use crate::joining::{join, whole};
 use crate::measuring::bigsize_len;
+use crate::optional::{RecordValue, optional};
 use crate::part::Part;
-use crate::records::records;
-use lgm_wire::{Tlv, read_bigsize};
+use lgm_wire::read_bigsize;
 use std::alloc::Global;
 
 /// A `query_channel_range`, type 263: the sender asks for the ids of the channels whose funding lies in a range of
@@ -33,51 +30,22 @@ pub struct RangeQuery {
     pub options: Option<u64>,
 }
 
-/// The options, which are all of the bytes.
-fn query_options(bytes: &[u8]) -> Result<u64, DecodeFault>
-    ensures { Sees (λ options. options) result (options_at bytes.now) }
-{
-    match read_bigsize(bytes) {
-        Ok((options, len)) if len == bytes.len() => Ok(options),
-        _ => Err(DecodeFault::TlvKind(1)),
-    }
-}
+/// One number in its shortest form, as options are.
+impl RecordValue for u64 {
+    ghost value_at = { λ _ bytes. options_at bytes };
 
-/// The options, if one more record has them.
-fn with_record(options: Option<u64>, tlv: &Tlv) -> Result<Option<u64>, DecodeFault>
-    ensures { Sees (λ options. options) result (after_record options_at options (record_of tlv.now)) }
-{
-    match tlv.kind {
-        1 => Ok(Some(query_options(tlv.value)?)),
-        kind if kind % 2 == 0 => Err(DecodeFault::TlvKind(kind)),
-        _ => Ok(options),
+    fn read(_alloc: Global, _ids: usize, bytes: &[u8]) -> Result<u64, DecodeFault> {
+        match read_bigsize(bytes) {
+            Ok((options, len)) if len == bytes.len() => Ok(options),
+            _ => Err(DecodeFault::TlvKind(1)),
+        }
     }
-}
-
-/// The options, if the records have them.
-fn known(records: &[Tlv]) -> Result<Option<u64>, DecodeFault>
-    ensures { Sees (λ options. options) result (after_records options_at None (records_of records.now)) }
-{
-    let mut options = None;
-    for tlv in records {
-        options = with_record(options, tlv)?;
-    }
-    Ok(options)
-}
-
-/// The options, if the stream of records has them.
-#[tactic(auto, unfolding(crate::specs::OptionalReading::optional_of))]
-fn optional(alloc: Global, bytes: &[u8]) -> Result<Option<u64>, DecodeFault>
-    ensures { GivesIf (1 < length bytes.now) DecodeFault.NoMemory (λ options. options) result
-        (optional_of options_at bytes.now) }
-{
-    known(records(alloc, bytes)?.as_slice())
 }
 
 impl RangeQuery {
     ghost use Rattle.lgm_gossip.specs.RangeQuery.{fields};
     ghost use Rattle.lgm_gossip.specs.RangeQueryReading.{range_query_at};
-    ghost use Rattle.lgm_gossip.specs.Spelling.{range_query_texts, Encodes};
+    ghost use Rattle.lgm_gossip.specs.Spelling.{Encodes};
 
     /// The fields, read from left to right, of the bytes behind the type.
     #[tactic(auto, unfolding(crate::specs::RangeQueryReading::range_query_at))]
@@ -91,13 +59,13 @@ impl RangeQuery {
             chain_hash: ChainHash(chain_hash),
             first_blocknum,
             number_of_blocks,
-            options: optional(alloc, rest)?,
+            options: optional(alloc, 0, rest)?,
         })
     }
 
     /// The bytes, the two of the type first.
     pub(crate) fn encode(&self, alloc: Global) -> Result<Bytes, EncodeFault>
-        ensures { Encodes 263 (fields self.now) (range_query_texts self.now) result }
+        ensures { Encodes 263 (fields self.now) result }
     {
         let Some(options) = self.options else {
             return join(

@@ -1,12 +1,7 @@
 //! `reply_channel_range`.
 
-ghost use Rattle.std.specs.Prelude.{◌≡◌, ◌<◌, length, None, List, IfOk};
-ghost use Rattle.std.specs.Option.{ForSome};
-ghost use Rattle.lgm_wire.specs.Reading.{Gives};
+ghost use Rattle.std.specs.Prelude.{◌<◌, length};
 ghost use Rattle.lgm_gossip.specs.Memory.{GivesIf};
-ghost use Rattle.lgm_wire.specs.TlvView.{record_of, records_of};
-ghost use Rattle.lgm_gossip.specs.OptionalReading.{optional_of, after_record, after_records};
-ghost use Rattle.lgm_gossip.specs.TimestampListReading.{timestamps_at};
 
 use crate::bytes::Bytes;
 use crate::chain_hash::ChainHash;
@@ -16,11 +11,10 @@ use crate::fault::DecodeFault;
 use crate::fields::{fixed, number8, number32};
 use crate::joining::{join, whole};
 use crate::measuring::measure;
+use crate::optional::optional;
 use crate::part::Part;
-use crate::records::records;
-use crate::scids::Scids;
+use crate::scid::Scids;
 use crate::timestamp_list::TimestampList;
-use lgm_wire::Tlv;
 use std::alloc::Global;
 use std::marker::Model;
 
@@ -61,53 +55,10 @@ impl Model for RangeReply {
     ghost invariant = { λ m. ForSome m.timestamps (λ pairs. length pairs ≡ length m.ids) };
 }
 
-/// The timestamps, if one more record has them.
-fn with_record(
-    alloc: Global,
-    count: usize,
-    timestamps: Option<TimestampList>,
-    tlv: &Tlv,
-) -> Result<Option<TimestampList>, DecodeFault>
-    ensures { Gives DecodeFault.NoMemory (λ pairs. pairs) result
-        (after_record (timestamps_at count) timestamps (record_of tlv.now)) }
-{
-    match tlv.kind {
-        1 => Ok(Some(TimestampList::read(alloc, count, tlv.value)?)),
-        kind if kind % 2 == 0 => Err(DecodeFault::TlvKind(kind)),
-        _ => Ok(timestamps),
-    }
-}
-
-/// The timestamps, if the records have them.
-fn known(alloc: Global, count: usize, records: &[Tlv]) -> Result<Option<TimestampList>, DecodeFault>
-    ensures { GivesIf (0 < length records.now) DecodeFault.NoMemory (λ pairs. pairs) result
-        (after_records (timestamps_at count) None (records_of records.now)) }
-{
-    let mut timestamps = None;
-    for tlv in records {
-        timestamps = with_record(alloc, count, timestamps, tlv)?;
-    }
-    Ok(timestamps)
-}
-
-/// The timestamps, one pair for each id, if the stream of records has them.
-#[tactic(auto, unfolding(crate::specs::OptionalReading::optional_of))]
-fn optional(alloc: Global, ids: &Scids, bytes: &[u8]) -> Result<Option<TimestampList>, DecodeFault>
-    ensures exact { GivesIf (1 < length bytes.now) DecodeFault.NoMemory (λ found. found) result
-        (optional_of (timestamps_at (length ids.now)) bytes.now) }
-    ensures one_each { IfOk result (λ found. ForSome found (λ timestamps. length timestamps ≡ length ids.now)) }
-{
-    known(
-        alloc,
-        ids.as_slice().len(),
-        records(alloc, bytes)?.as_slice(),
-    )
-}
-
 impl RangeReply {
     ghost use Rattle.lgm_gossip.specs.RangeReply.{fields};
     ghost use Rattle.lgm_gossip.specs.RangeReplyReading.{range_reply_at};
-    ghost use Rattle.lgm_gossip.specs.Spelling.{range_reply_texts, Encodes};
+    ghost use Rattle.lgm_gossip.specs.Spelling.{Encodes};
 
     /// The fields, read from left to right, of the bytes behind the type.
     #[tactic(auto, unfolding(crate::specs::RangeReplyReading::range_reply_at))]
@@ -119,7 +70,7 @@ impl RangeReply {
         let (number_of_blocks, rest) = number32(rest)?;
         let (sync_complete, rest) = number8(rest)?;
         let (ids, rest) = encoded_ids(alloc, rest)?;
-        let timestamps = optional(alloc, &ids, rest)?;
+        let timestamps = optional(alloc, ids.len(), rest)?;
         Ok(RangeReply {
             chain_hash: ChainHash(chain_hash),
             first_blocknum,
@@ -132,7 +83,7 @@ impl RangeReply {
 
     /// The bytes, the two of the type first.
     pub(crate) fn encode(&self, alloc: Global) -> Result<Bytes, EncodeFault>
-        ensures { Encodes 264 (fields self.now) (range_reply_texts self.now) result }
+        ensures { Encodes 264 (fields self.now) result }
     {
         let ids = Part::Ids(self.ids.as_slice());
         let ids_len = measure(&[Part::Number8(0), ids])?;

@@ -1,4 +1,4 @@
-use Rattle.std.proofs.Common.{sym, ◌*◌, ap, ◌∙◌, length}
+use Rattle.std.proofs.Common.{sym, ◌*◌, ap, ◌∙◌, length, rules}
 use Rattle.lgm_gossip.specs.Part.{text}
 use Rattle.lgm_gossip.proofs.PartLaws.{room_at}
 use Rattle.lgm_gossip.proofs.CellLaws.{cells_len}
@@ -9,9 +9,9 @@ use Rattle.lgm_gossip.proofs.measuring.room_after.Goals as goal
 pub returns-in-Ids : goal.returns-in-Ids
 returns-in-Ids c =
     let len = ap (λ p. length (text p)) c.in-Ids.is ∙ cells_len id_cell c.in-Ids.ids.now in
-    room_at c.room_after_eights.result c.args.room (length (text c.args.part.now)) (length c.in-Ids.ids.now * 8) (sym len) c.room_after_eights.ensures
+    room_at c.checked_sub-in-Ids.result c.args.room (length (text c.args.part.now)) (length c.in-Ids.ids.now * 8) (sym len) (search rules)
 
 pub returns-in-Pairs : goal.returns-in-Pairs
 returns-in-Pairs c =
     let len = ap (λ p. length (text p)) c.in-Pairs.is ∙ cells_len pair_cell c.in-Pairs.pairs.now in
-    room_at c.room_after_eights-in-Pairs.result c.args.room (length (text c.args.part.now)) (length c.in-Pairs.pairs.now * 8) (sym len) c.room_after_eights-in-Pairs.ensures
+    room_at c.checked_sub-in-Pairs.result c.args.room (length (text c.args.part.now)) (length c.in-Pairs.pairs.now * 8) (sym len) (search rules)

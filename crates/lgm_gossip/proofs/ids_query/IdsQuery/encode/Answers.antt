@@ -1,6 +1,7 @@
 use Rattle.std.proofs.Common.{◌≡◌, ℕ, List, length, Option, Some, None, ap, sym, subst, ◌∙◌}
 use Rattle.lgm_gossip.specs.IdsQuery.{Query, fields}
-use Rattle.lgm_gossip.specs.Spelling.{flags_text, ids_query_texts, Encodes}
+use Rattle.lgm_gossip.specs.QueryFlags.{flags_text}
+use Rattle.lgm_gossip.specs.Spelling.{Encodes}
 use Rattle.lgm_gossip.proofs.EncodeLaws.{then_whole, then_ids, says_none, says_flags, encodes}
 use Rattle.lgm_gossip.proofs.ids_query.IdsQuery.encode.Goals as goal
 
@@ -9,7 +10,7 @@ returns-in_default c =
     let m = c.self.inside in
     let query : Option (List ℕ) → Query = λ flags. record { chain_hash = m.chain_hash; ids = m.ids; flags = flags } in
     let same : query None ≡ c.args.self.now = ap query (sym c.in_default.is) ∙ c.self.view_is in
-    subst (λ (q : Query). Encodes 261 (fields q) (ids_query_texts q) c.join.result) same
+    subst (λ (q : Query). Encodes 261 (fields q) c.join.result) same
     (encodes 261 c.join.result
     (then_whole 32 c.whole.result m.chain_hash.0 c.whole.ensures
     (then_ids c.in_ok-ids_len.ids_len c.as_slice.result m.ids c.as_slice.ensures c.in_ok-ids_len.ensures
@@ -21,7 +22,7 @@ returns c =
     let m = c.self.inside in
     let query : Option (List ℕ) → Query = λ flags. record { chain_hash = m.chain_hash; ids = m.ids; flags = flags } in
     let same : query (Some c.in-Some.flags) ≡ c.args.self.now = ap query (sym c.in-Some.is) ∙ c.self.view_is in
-    subst (λ (q : Query). Encodes 261 (fields q) (ids_query_texts q) c.join-2.result) same
+    subst (λ (q : Query). Encodes 261 (fields q) c.join-2.result) same
     (encodes 261 c.join-2.result
     (then_whole 32 c.whole-2.result m.chain_hash.0 c.whole-2.ensures
     (then_ids c.in_ok-ids_len.ids_len c.as_slice.result m.ids c.as_slice.ensures c.in_ok-ids_len.ensures

@@ -2,7 +2,7 @@ use Rattle.std.proofs.Common.{◌≡◌, ℕ, Option, Some, None, ap, sym, subst
 use Rattle.lgm_gossip.specs.declared.range_query.RangeQuery.{RangeQuery}
 use Rattle.lgm_gossip.specs.RangeQuery.{fields}
 use Rattle.lgm_gossip.specs.Streams.{bigsize_bytes}
-use Rattle.lgm_gossip.specs.Spelling.{range_query_texts, Encodes}
+use Rattle.lgm_gossip.specs.Spelling.{Encodes}
 use Rattle.lgm_gossip.proofs.EncodeLaws.{then_whole, then_32, says_none, says_options, encodes}
 use Rattle.lgm_gossip.proofs.range_query.RangeQuery.encode.Goals as goal
 
@@ -11,7 +11,7 @@ returns-in_default c =
     let m = c.args.self.now in
     let query : Option ℕ → RangeQuery = λ options. record m { options = options } in
     let same : query None ≡ m = ap query (sym c.in_default.is) in
-    subst (λ (q : RangeQuery). Encodes 263 (fields q) (range_query_texts q) c.join.result) same
+    subst (λ (q : RangeQuery). Encodes 263 (fields q) c.join.result) same
     (encodes 263 c.join.result
     (then_whole 32 c.whole.result m.chain_hash.0 c.whole.ensures
     (then_32 m.first_blocknum
@@ -24,7 +24,7 @@ returns c =
     let m = c.args.self.now in
     let query : Option ℕ → RangeQuery = λ options. record m { options = options } in
     let same : query (Some c.in-Some.options) ≡ m = ap query (sym c.in-Some.is) in
-    subst (λ (q : RangeQuery). Encodes 263 (fields q) (range_query_texts q) c.join-2.result) same
+    subst (λ (q : RangeQuery). Encodes 263 (fields q) c.join-2.result) same
     (encodes 263 c.join-2.result
     (then_whole 32 c.whole-2.result m.chain_hash.0 c.whole-2.ensures
     (then_32 m.first_blocknum

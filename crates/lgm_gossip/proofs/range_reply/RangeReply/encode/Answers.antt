@@ -1,7 +1,8 @@
 use Rattle.std.proofs.Common.{◌≡◌, List, length, Option, Some, None, ap, sym, subst, ◌∙◌}
 use Rattle.lgm_gossip.specs.declared.timestamps.Timestamps.{Timestamps}
 use Rattle.lgm_gossip.specs.RangeReply.{Reply, fields}
-use Rattle.lgm_gossip.specs.Spelling.{pairs_text, range_reply_texts, Encodes}
+use Rattle.lgm_gossip.specs.TimestampList.{pairs_text}
+use Rattle.lgm_gossip.specs.Spelling.{Encodes}
 use Rattle.lgm_gossip.proofs.EncodeLaws.{then_whole, then_8, then_32, then_ids, says_none, says_pairs, encodes}
 use Rattle.lgm_gossip.proofs.range_reply.RangeReply.encode.Goals as goal
 
@@ -10,7 +11,7 @@ returns-in_default c =
     let m = c.self.inside in
     let reply : Option (List Timestamps) → Reply = λ pairs. record { chain_hash = m.chain_hash; first_blocknum = m.first_blocknum; number_of_blocks = m.number_of_blocks; sync_complete = m.sync_complete; ids = m.ids; timestamps = pairs } in
     let same : reply None ≡ c.args.self.now = ap reply (sym c.in_default.is) ∙ c.self.view_is in
-    subst (λ (q : Reply). Encodes 264 (fields q) (range_reply_texts q) c.join.result) same
+    subst (λ (q : Reply). Encodes 264 (fields q) c.join.result) same
     (encodes 264 c.join.result
     (then_whole 32 c.whole.result m.chain_hash.0 c.whole.ensures
     (then_32 m.first_blocknum
@@ -25,7 +26,7 @@ returns c =
     let m = c.self.inside in
     let reply : Option (List Timestamps) → Reply = λ pairs. record { chain_hash = m.chain_hash; first_blocknum = m.first_blocknum; number_of_blocks = m.number_of_blocks; sync_complete = m.sync_complete; ids = m.ids; timestamps = pairs } in
     let same : reply (Some c.in-Some.timestamps) ≡ c.args.self.now = ap reply (sym c.in-Some.is) ∙ c.self.view_is in
-    subst (λ (q : Reply). Encodes 264 (fields q) (range_reply_texts q) c.join-2.result) same
+    subst (λ (q : Reply). Encodes 264 (fields q) c.join-2.result) same
     (encodes 264 c.join-2.result
     (then_whole 32 c.whole-2.result m.chain_hash.0 c.whole-2.ensures
     (then_32 m.first_blocknum

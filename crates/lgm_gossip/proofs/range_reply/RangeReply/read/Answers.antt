@@ -1,9 +1,11 @@
-use Rattle.std.proofs.Common.{arith, rules, inl, inr}
+use Rattle.std.proofs.Common.{◌≡◌, Ok, arith, rules, inl, inr}
 use Rattle.std.specs.Int.{w8, w32}
 use Rattle.std.proofs.lemmas.Result.{err_from_is_err_and}
 use Rattle.lgm_gossip.specs.EncodedIdsReading.{ids_of}
 use Rattle.lgm_gossip.specs.RangeReplyReading.{range_reply_at}
 use Rattle.lgm_gossip.proofs.MemoryLaws.{fixed_len, number_len, enclosed_len}
+use Rattle.lgm_gossip.specs.RangeReply.{Reply}
+use Rattle.lgm_gossip.proofs.RangeReplyLaws.{range_reply_text, one_each, same_count}
 use Rattle.lgm_gossip.proofs.range_reply.RangeReply.read.Goals as goal
 
 pub returns-in_err-ids : goal.returns-in_err-ids
@@ -19,7 +21,30 @@ pub returns-in_err-timestamps : goal.returns-in_err-timestamps
 unfolding range_reply_at
 returns-in_err-timestamps c =
     let p = err_from_is_err_and c.from_residual-in_err-timestamps.result c.from_residual-in_err-timestamps.ensures.1 in
-    rw (p.1, p.2) (elim c.in_err-timestamps.ensures.exact [
+    rw (p.1, p.2) (elim c.in_err-timestamps.ensures [
       | inl none ↦ inl (omega (arith, none.0, fixed_len 32 _ _ c.in_ok-chain_hash.ensures, number_len w32 _ _ c.in_ok-first_blocknum.ensures, number_len w32 _ _ c.in_ok-number_of_blocks.ensures, number_len w8 _ _ c.in_ok-sync_complete.ensures, enclosed_len ids_of c.in_ok-sync_complete.rest.now (c.in_ok-ids.ids, c.in_ok-ids.rest.now) c.in_ok-ids.ensures), none.1)
-      | inr fault ↦ inr (search rules)
+      | inr fault ↦
+          let timestamps = same_count c.len.result _ c.in_ok-ids.rest.now _ c.len.ensures fault in
+          inr (search rules)
     ])
+
+pub invariant_of-result : goal.invariant_of-result
+unfolding range_reply_at
+invariant_of-result c =
+    let m : Reply = record {
+      chain_hash = record { 0 = c.in_ok-chain_hash.chain_hash };
+      first_blocknum = c.in_ok-first_blocknum.first_blocknum;
+      number_of_blocks = c.in_ok-number_of_blocks.number_of_blocks;
+      sync_complete = c.in_ok-sync_complete.sync_complete;
+      ids = c.in_ok-ids.ids;
+      timestamps = c.in_ok-timestamps.timestamps;
+    } in
+    let timestamps = same_count c.len.result _ c.in_ok-ids.rest.now _ c.len.ensures c.in_ok-timestamps.ensures in
+    let read : range_reply_at c.args.bytes.now ≡ Ok m = search rules in
+    one_each m c.args.bytes.now (range_reply_text.takes c.args.bytes.now m (λ i. omega (arith, c.type_inv.bytes i)) read)
+
+pub returns : goal.returns
+unfolding range_reply_at
+returns c =
+    let timestamps = same_count c.len.result _ c.in_ok-ids.rest.now _ c.len.ensures c.in_ok-timestamps.ensures in
+    search rules
