@@ -1,6 +1,7 @@
 pub mod Rows
 pub mod Admission
 pub mod Decided
+pub mod Candidate
 pub mod History
 pub mod Reading
 pub mod Keyed

@@ -28,12 +28,17 @@ impl Model for EndCounts {
 
 impl EndCounts {
     /// No channel yet. It takes no memory; the points are hashed by the seed.
-    pub(crate) fn new(alloc: Global, seed: [u8; 16]) -> Result<EndCounts, AllocError>
+    pub(crate) fn new(alloc: Global, seed: Seed) -> Result<EndCounts, AllocError>
         ensures { IfOk result (λ ends. ends ≡ []) }
     {
         Ok(EndCounts {
-            counts: HashMap::with_capacity_and_hasher(alloc, 0, Seed::new(seed))?,
+            counts: HashMap::with_capacity_and_hasher(alloc, 0, seed)?,
         })
+    }
+
+    /// The seed by which the points are hashed.
+    pub(crate) fn seed(&self) -> Seed {
+        *self.counts.hasher()
     }
 
     pub(crate) fn contains(&self, point: &Point) -> bool

@@ -8,11 +8,12 @@ ghost use Rattle.lgm_store.specs.Admission.{update_admission, Offers};
 ghost use Rattle.lgm_store.specs.Decided.{update_op, updating};
 
 use crate::dated::Dated;
+use crate::fresh::NewUpdate;
 use crate::named::Named;
 use crate::shared::Shared;
 use lgm_check::{ChannelRow, Refusal, UpdateRow};
 use lgm_gossip::{Point, Scid};
-use std::alloc::{AllocError, Global};
+use std::alloc::AllocError;
 
 /// A channel, and the update of each of its directions that has one.
 #[derive(Drop)]
@@ -26,11 +27,11 @@ pub struct Held {
 
 impl Held {
     /// A channel without updates.
-    pub(crate) fn new(channel: Shared<ChannelRow>) -> Held
+    pub(crate) fn new(channel: Named) -> Held
         ensures { result ≡ alone channel }
     {
         Held {
-            channel: Named::new(channel),
+            channel,
             first: None,
             second: None,
         }
@@ -90,20 +91,33 @@ impl Held {
         }
     }
 
-    /// Puts an update that is admitted, and gives its row. A refusal or want of memory leaves all as it was.
+    /// The same of an update that isn't in a map yet. Its row isn't read.
+    fn judge_update(&self, new: &NewUpdate, signer: &Point) -> Result<(), Refusal>
+        ensures { update_op new.now result ≡ update_admission (Some self.now.channel) (update_in (is_second new.now) self.now) new.now signer.now }
+    {
+        if *signer != *self.node(new.is_second()) {
+            return Err(Refusal::Signature);
+        }
+        match self.update_time(new.is_second()) {
+            Some(time) if time >= new.time() => Err(Refusal::NotNewer),
+            _ => Ok(()),
+        }
+    }
+
+    /// Puts an update that is admitted, and gives its row. A refusal leaves all as it was.
     pub(crate) fn offer_update(
         &mut self,
-        alloc: Global,
-        row: UpdateRow,
+        row: NewUpdate,
         signer: &Point,
     ) -> Result<Shared<UpdateRow>, Refusal>
         ensures admission { Offers (updating result) (update_admission (Some self.old.channel) (update_in (is_second row) self.old) row signer.now) }
         ensures accepted { IfOk result (λ put. (put ≡ row) × (self.new ≡ with_update_in (is_second row) self.old row)) }
         ensures refused { OnErr result (self.new ≡ self.old) }
     {
-        self.admit_update(&row, signer)?;
-        let row = Shared::new(alloc, row)?;
-        self.put_update(row.get().is_second(), row.share()?);
+        self.judge_update(&row, signer)?;
+        let second = row.is_second();
+        let (update, row) = row.into_owners();
+        self.put_dated(second, update);
         Ok(row)
     }
 
@@ -111,10 +125,16 @@ impl Held {
     pub(crate) fn put_update(&mut self, second: bool, row: Shared<UpdateRow>)
         ensures { self.new ≡ with_update_in second self.old row }
     {
+        self.put_dated(second, Dated::new(row));
+    }
+
+    fn put_dated(&mut self, second: bool, update: Dated)
+        ensures { self.new ≡ with_update_in second self.old update }
+    {
         if second {
-            self.second = Some(Dated::new(row));
+            self.second = Some(update);
         } else {
-            self.first = Some(Dated::new(row));
+            self.first = Some(update);
         }
     }
 

@@ -8,8 +8,10 @@
 #![tactic(auto)]
 
 mod banned;
+mod candidate;
 mod dated;
 mod end_counts;
+mod fresh;
 mod held;
 mod laws;
 mod map;
@@ -19,9 +21,11 @@ mod seed;
 mod shared;
 mod walks;
 
+pub use candidate::Candidate;
 pub use held::Held;
 pub use laws::{histories_are_lawful, rows_ascend};
 pub use map::Map;
 pub use op::Op;
+pub use seed::Seed;
 pub use shared::Shared;
 pub use walks::{Channels, ChannelsBetween, Nodes};

@@ -14,6 +14,7 @@ mod replaying;
 use crate::banned::Banned;
 use crate::end_counts::EndCounts;
 use crate::held::Held;
+use crate::seed::Seed;
 use crate::shared::Shared;
 use lgm_check::NodeRow;
 use lgm_gossip::{Point, Scid};
@@ -62,14 +63,11 @@ impl Map {
     pub fn new(alloc: Global) -> Result<Map, AllocError>
         ensures { IfOk result (λ map. map ≡ empty) }
     {
-        Map::with_seed(alloc, [0; 16])
+        Map::with_seed(alloc, Seed::new([0; 16]))
     }
 
     /// A map with no rows, which finds points by hashes that begin with this seed. It takes no memory yet.
-    ///
-    /// No answer depends on the seed. A random one keeps a stranger from choosing points whose hashes are alike, each
-    /// of which would cost a search through the others.
-    pub fn with_seed(alloc: Global, seed: [u8; 16]) -> Result<Map, AllocError>
+    pub fn with_seed(alloc: Global, seed: Seed) -> Result<Map, AllocError>
         ensures { IfOk result (λ map. map ≡ empty) }
     {
         Ok(Map {
@@ -79,5 +77,10 @@ impl Map {
             ends: EndCounts::new(alloc, seed)?,
             banned: Banned::new(alloc),
         })
+    }
+
+    /// The seed by which it hashes points.
+    pub fn seed(&self) -> Seed {
+        self.ends.seed()
     }
 }

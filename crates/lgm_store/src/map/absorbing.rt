@@ -1,8 +1,8 @@
 //! What operations do to a map.
 
-ghost use Rattle.std.specs.Prelude.{◌≡◌, false, OnOk, OnErr, filter, is_some};
+ghost use Rattle.std.specs.Prelude.{◌≡◌, true, false, OnOk, OnErr, filter, is_some};
 ghost use Rattle.std.specs.BTreeMap.{values, IsOrdered};
-ghost use Rattle.lgm_store.specs.Rows.{channel_of, ends_banned};
+ghost use Rattle.lgm_store.specs.Rows.{channel_of, ends_channel, ends_banned};
 ghost use Rattle.lgm_store.specs.Keyed.{IsKeyed};
 ghost use Rattle.lgm_store.specs.Ends.{point_cmp, stays_beside};
 ghost use Rattle.lgm_store.specs.Sound.{point_of};
@@ -11,6 +11,7 @@ ghost use Rattle.lgm_store.specs.History.{with_channel, with_update, with_node, 
 use super::Map;
 use crate::end_counts::EndCounts;
 use crate::held::Held;
+use crate::named::Named;
 use crate::op::Op;
 use crate::shared::Shared;
 use lgm_check::{ChannelRow, NodeRow, UpdateRow};
@@ -53,20 +54,20 @@ impl Map {
         if self.held(row.get().scid()).is_some() || self.banned.ends(row.get()) {
             return Ok(());
         }
-        self.insert_channel(row)?;
+        self.insert_channel(Named::new(row))?;
         Ok(())
     }
 
     /// Adds a channel that isn't held, and that has no banned node.
-    pub(crate) fn insert_channel(&mut self, row: Shared<ChannelRow>) -> Result<(), AllocError>
+    pub(crate) fn insert_channel(&mut self, row: Named) -> Result<(), AllocError>
         requires new { is_some (channel_of self.old.channels row.message.short_channel_id) ≡ false }
         requires allowed { ends_banned self.old.banned row ≡ false }
         ensures ok { OnOk result (self.new ≡ with_channel self.old row) }
         ensures err { OnErr result (self.new ≡ self.old) }
     {
-        let scid = row.get().scid();
+        let scid = row.scid();
         prove!(self.channels.len() < usize::MAX);
-        let (first, second) = (row.get().node(false), row.get().node(true));
+        let (first, second) = (*row.node(false), *row.node(true));
         self.ends.add(first, second)?;
         match self.channels.insert(scid, Held::new(row)) {
             Ok(_) => Ok(()),
@@ -95,6 +96,20 @@ impl Map {
         if !self.ends_channel(&node) {
             return Ok(());
         }
+        self.insert_node(node, row)
+    }
+
+    /// Puts the row of a node at which a channel ends.
+    pub(crate) fn insert_node(
+        &mut self,
+        node: Point,
+        row: Shared<NodeRow>,
+    ) -> Result<(), AllocError>
+        requires own { node ≡ row.message.node_id }
+        requires ended { ends_channel self.old.channels row.message.node_id ≡ true }
+        ensures ok { OnOk result (self.new ≡ with_node self.old row) }
+        ensures err { OnErr result (self.new ≡ self.old) }
+    {
         self.nodes.insert(node, row)?;
         Ok(())
     }

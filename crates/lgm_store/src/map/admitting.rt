@@ -90,7 +90,7 @@ impl Map {
         }
     }
 
-    fn admit_update(&self, row: &UpdateRow, signer: &Point) -> Result<(), Refusal>
+    pub(crate) fn admit_update(&self, row: &UpdateRow, signer: &Point) -> Result<(), Refusal>
         ensures { let id = row.now.message.short_channel_id in
             update_op row.now result ≡ update_admission (channel_of self.now.channels id) (update_of self.now.updates id (is_second row.now)) row.now signer.now }
     {
