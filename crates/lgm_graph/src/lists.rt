@@ -11,7 +11,7 @@ use crate::link::Link;
 use crate::nodes::Links;
 use indexmap::IndexSet;
 use lgm_gossip::{Point, Scid};
-use lgm_store::Map;
+use lgm_store::{Map, Seed};
 use std::alloc::{AllocError, Global};
 use std::cmp::Ordering;
 
@@ -109,7 +109,7 @@ impl Links {
 }
 
 /// Whether the point of a number is banned.
-fn is_banned(points: &IndexSet<Point>, held: &Map, number: u32) -> bool
+fn is_banned(points: &IndexSet<Point, Seed>, held: &Map, number: u32) -> bool
     ensures { result ≡ banned_at points.now.keys held.now.banned number }
 {
     match points.get_index(number as usize) {
@@ -120,7 +120,7 @@ fn is_banned(points: &IndexSet<Point>, held: &Map, number: u32) -> bool
 
 impl Links {
     /// Takes the links out that join a banned node.
-    fn drop_banned(&mut self, points: &IndexSet<Point>, held: &Map)
+    fn drop_banned(&mut self, points: &IndexSet<Point, Seed>, held: &Map)
         ensures { self.new.links.items ≡ filter (is_allowed points.now.keys held.now.banned) self.old.links.items }
     {
         self.links.retain(
@@ -144,7 +144,7 @@ pub(crate) fn copies(alloc: Global, lists: &[Links]) -> Result<Vec<Links>, Alloc
 }
 
 /// Takes the links that join a banned node away from all nodes.
-pub(crate) fn drop_banned(lists: &mut Vec<Links>, points: &IndexSet<Point>, held: &Map)
+pub(crate) fn drop_banned(lists: &mut Vec<Links>, points: &IndexSet<Point, Seed>, held: &Map)
     ensures { map links_in lists.new.items ≡ map (filter (is_allowed points.now.keys held.now.banned)) (map links_in lists.old.items) }
 {
     for i in 0..lists.len() {

@@ -18,7 +18,7 @@ use crate::link::Link;
 use crate::lists;
 use indexmap::IndexSet;
 use lgm_gossip::{Point, Scid};
-use lgm_store::Map;
+use lgm_store::{Map, Seed};
 use std::alloc::{AllocError, Global};
 
 /// Links, by id and direction.
@@ -30,7 +30,7 @@ pub(crate) struct Links {
 /// Points by number, and for each whether its node takes payments, the links into it and those that leave it.
 #[derive(Drop)]
 pub(crate) struct Nodes {
-    pub(crate) points: IndexSet<Point>,
+    pub(crate) points: IndexSet<Point, Seed>,
     pub(crate) takes: Vec<bool>,
     pub(crate) into: Vec<Links>,
     pub(crate) out: Vec<Links>,
@@ -50,15 +50,15 @@ pub(crate) fn takes_payments(known: &Known, map: &Map, node: &Point) -> bool
 }
 
 impl Nodes {
-    /// None yet.
-    pub(crate) fn new(alloc: Global) -> Nodes
+    /// None yet. The points will be hashed by the seed.
+    pub(crate) fn new(alloc: Global, seed: Seed) -> Nodes
         ensures points { result.points.keys ≡ [] }
         ensures takes { result.takes.items ≡ [] }
         ensures into { result.into.items ≡ [] }
         ensures out { result.out.items ≡ [] }
     {
         Nodes {
-            points: IndexSet::new(alloc),
+            points: IndexSet::with_hasher(alloc, seed),
             takes: Vec::new(alloc),
             into: Vec::new(alloc),
             out: Vec::new(alloc),
@@ -258,7 +258,7 @@ fn look_at_all(takes: &mut [bool], points: &[Point], known: &Known, held: &Map)
     }
 }
 
-fn push_point(points: &mut IndexSet<Point>, point: Point)
+fn push_point(points: &mut IndexSet<Point, Seed>, point: Point)
     requires room { 1 ≤ spare points.old }
     requires other { list_any (is_point point) points.old.keys ≡ false }
     ensures keys { points.new.keys ≡ points.old.keys ++ point ∷ [] }

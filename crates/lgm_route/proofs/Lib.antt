@@ -3,6 +3,7 @@ pub mod Rests
 pub mod Labels
 pub mod Chains
 pub mod Steps
+pub mod Leads
 pub mod Bounds
 pub mod Crossing
 pub mod HopLaws

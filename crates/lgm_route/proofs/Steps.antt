@@ -2,14 +2,13 @@
 use Rattle.std.proofs.Common.{◌≡◌, ◌⊎◌, ℕ, ◌+◌, ◌*◌, ◌^◌, ◌<◌, ◌≤◌, List, [], ◌∷◌, ◌++◌, length, get_or, Option, Some, None, Bool, true, false, refl, sym, ◌∙◌, ap, subst, inl, inr, arith}
 use Rattle.std.specs.List.{Contains}
 use Rattle.std.proofs.lemmas.List.{get_or_push, length_push, get_or_default, append-nil}
-use Rattle.lgm_graph.specs.Fee.{fee_of}
 use Rattle.lgm_graph.specs.Graph.{Graph, links, links_into, links_leaving, AreLinked}
 use Rattle.lgm_graph.specs.declared.link.Link.{Link}
 use Rattle.lgm_route.specs.declared.trip.Trip.{Trip}
 use Rattle.lgm_route.specs.declared.label.Arc.{Arc}
 use Rattle.lgm_route.specs.declared.label.Label.{Label}
-use Rattle.lgm_route.specs.Numbered.{owed, sent, ids, IsRest, IsUsable, IsLeast, Precedes}
-use Rattle.lgm_route.specs.Searching.{NotAfter, rest_key, walk_key, Serves, no_link, no_arc, link_in, link_at, label_at, no_label, number_at, Spells, IdsFirst, IsLabel, IsWalk, DoesServe, SomeRest, SomeWalk, bound_of, IsNoBetter, IsHopeless, IsPassed, IsLeft, IsSettled, AreLabels, IsFound, IsSearch, Grows, IsBetter, IsOffered, PassesOn, LeadsOn, StandsIn, AreSettled, IsMarked, IsStart}
+use Rattle.lgm_route.specs.Numbered.{owed, sent, ids, IsUsable, IsLeast, Precedes}
+use Rattle.lgm_route.specs.Searching.{NotAfter, rest_key, walk_key, Serves, no_link, no_arc, link_in, link_at, label_at, no_label, number_at, Spells, IdsFirst, IsLabel, IsWalk, DoesServe, SomeRest, SomeWalk, bound_of, IsNoBetter, IsHopeless, IsPassed, IsLeft, IsSettled, AreLabels, IsFound, IsSearch, Grows, IsBetter, IsOffered, PassesOn, LeadsOn, StandsIn, AreSettled, IsMarked, IsClosed, IsStart}
 use Rattle.lgm_route.proofs.Orders.{NotAfter-refl, NotAfter-trans, NotAfter-join, NotAfter-excludes}
 use Rattle.lgm_route.proofs.Rests.{trichotomy, Serves-refl, Serves-trans}
 use Rattle.lgm_route.proofs.Labels.{Spells-unique, label-unique, label_left, label-grows, hopeless-serves, label-later, at-later, long-later, passed-later, settled-later}
@@ -163,38 +162,6 @@ offered_new edges request labels new are some few =
     low i (inr (inl e)) within = omega (arith, ap (λ l. l.count) (label_new labels new i (sym e)))
     low i (inr (inr p)) within = absurd (omega (arith, all))
 
--- one more edge before a label's rest
-module _ (edges : List Link) (request : Trip) (labels : List Label) (i : ℕ) (arc : Arc) (within : i < length labels) (there : Contains edges (link_in arc))
-    (to : arc.to ≡ (label_at labels i).node) (min : arc.min ≤ request.amount) (max : (label_at labels i).owed ≤ arc.max)
-    (rest : List Link) (is : IsLabel edges request labels (label_at labels i) rest) where
-  step : IsRest edges request arc.from (link_in arc ∷ rest)
-  step = (
-    record { there = there; leaves = refl; above_min = min; below_max = omega (arith, is.owes, max) },
-    subst (λ n. IsRest edges request n rest) (sym to) is.joins,
-  )
-
-  pub one_walk : arc.from ≡ request.payer → (label_at labels i).count ≤ 19 →
-      IsWalk edges request labels (record { owed = (label_at labels i).owed; arc = arc; next = i; node = arc.from; count = (label_at labels i).count + 1 }) (link_in arc ∷ rest)
-  one_walk from few =
-      record {
-        spells = (refl, within, is.spells);
-        long = omega (arith, is.long);
-        some = omega arith;
-        few = omega (arith, few);
-        joins = subst (λ n. IsRest edges request n (link_in arc ∷ rest)) from step;
-        sends = is.owes;
-      }
-
-  pub one_rest : (x : ℕ) → x ≡ (label_at labels i).owed + fee_of (label_at labels i).owed arc.base arc.millionths →
-      IsLabel edges request labels (record { owed = x; arc = arc; next = i; node = arc.from; count = (label_at labels i).count + 1 }) (link_in arc ∷ rest)
-  one_rest x e =
-      record {
-        spells = (refl, within, is.spells);
-        long = omega (arith, is.long);
-        joins = step;
-        owes = ap (λ y. y + fee_of y arc.base arc.millionths) is.owes ∙ sym e;
-      }
-
 -- passing over an edge, seen from an earlier state, or in a later one
 pub passes_from : (edges : List Link) (request : Trip) (low : List ℕ) (start i : ℕ) (labels : List Label) (found : Option Label) (after : List Label) (now : Option Label) (last : List Label) (best : Option Label) (edge : Link) →
     Grows edges request start labels found after now → i < length labels → PassesOn edges request low start after i last best edge → PassesOn edges request low start labels i last best edge
@@ -206,6 +173,25 @@ pub passes_later : (edges : List Link) (request : Trip) (low : List ℕ) (start 
     Grows edges request start after now last best → PassesOn edges request low start labels i after now edge → PassesOn edges request low start labels i last best edge
 passes_later edges request low start i labels after now last best edge grows passes rest is to min max =
     passed-later edges request low start after now last best grows edge rest (passes rest is to min max)
+
+-- an edge into a node, both ends of which are numbered
+pub record IsInto (graph : Graph) (node : ℕ) (arc : Arc) : Type 0 where
+  pub there : Contains (links graph) (link_in arc)
+  pub to : arc.to ≡ node
+  pub from : arc.from < length graph.points
+
+-- those of the run of edges into it are
+pub into_node : (graph : Graph) (node : ℕ) (run : List Link) (place : ℕ) (link : Link) (arc : Arc) → AreLinked graph → run ≡ links_into graph node → place < length run →
+    link ≡ get_or run place link → link_in arc ≡ link → IsInto graph node arc
+into_node graph node run place link arc linked is within at same =
+    record {
+      there = subst (Contains (links graph)) (sym same) (linked.into node link here).1;
+      to = ap (λ l. l.to) same ∙ (linked.into node link here).0;
+      from = omega (arith, (linked.each link (linked.into node link here).1).from, ap (λ l. l.from) same);
+    }
+  where
+    here : Contains (links_into graph node) link
+    here = subst (λ r. Contains r link) is (place, within, sym at)
 
 -- each edge into the label's node is in the run of edges into it
 pub all_passed : (graph : Graph) (request : Trip) (low : List ℕ) (start i : ℕ) (labels after : List Label) (now : Option Label) → AreLinked graph →
@@ -238,6 +224,14 @@ serves_itself labels label edges request rest also is also_is =
 
 -- marked labels are settled, and one more
 module _ (edges : List Link) (request : Trip) (low : List ℕ) (start : ℕ) where
+  pub still_settled : (labels : List Label) (found : Option Label) (after : List Label) (now : Option Label) (done : List Bool) →
+      Grows edges request start labels found after now → AreSettled edges request low start labels found done → AreSettled edges request low start after now done
+  still_settled labels found after now done grows settled j h = (
+    omega (arith, (settled j h).0, long-later edges request low start labels found after now grows),
+    subst (λ l. IsSettled edges request low start after now l) (sym (at-later edges request low start labels found after now grows j (settled j h).0))
+        (settled-later edges request low start labels found after now grows (label_at labels j) (settled j h).1),
+  )
+
   pub settled_more : (labels : List Label) (found : Option Label) (after : List Label) (now : Option Label) (done marked : List Bool) (i : ℕ) →
       Grows edges request start labels found after now → AreSettled edges request low start labels found done → IsMarked done i marked → i < length labels →
       IsSettled edges request low start after now (label_at after i) → AreSettled edges request low start after now marked
@@ -248,12 +242,7 @@ module _ (edges : List Link) (request : Trip) (low : List ℕ) (start : ℕ) whe
 
       by : (j ≡ i) ⊎ (get_or done j false ≡ true) → (j < length after) × IsSettled edges request low start after now (label_at after j)
       by (inl e) = (omega (arith, long), subst (λ n. IsSettled edges request low start after now (label_at after n)) (sym e) new)
-      by (inr h) =
-          let old = settled j h in (
-            omega (arith, long, old.0),
-            subst (λ l. IsSettled edges request low start after now l) (sym (at-later edges request low start labels found after now grows j old.0))
-                (settled-later edges request low start labels found after now grows (label_at labels j) old.1),
-          )
+      by (inr h) = still_settled labels found after now done grows settled j h
 
   -- a label whose rest was led on
   pub settled_left : (labels : List Label) (found : Option Label) (after : List Label) (now : Option Label) (i : ℕ) →
@@ -266,6 +255,17 @@ module _ (edges : List Link) (request : Trip) (low : List ℕ) (start : ℕ) whe
         is = label-later edges request low start labels found after now grows (label_at labels i) some.0 some.1;
         done = inr (some.0, Serves-refl request some.0, leads some.0 some.1);
       })
+
+  -- so it is closed, once it is marked
+  pub closed_left : (labels : List Label) (found : Option Label) (after : List Label) (now : Option Label) (done marked : List Bool) (i : ℕ) →
+      Grows edges request start labels found after now → AreSettled edges request low start labels found done → IsMarked done i marked → i < length labels →
+      SomeRest edges request labels (label_at labels i) → LeadsOn edges request low start labels i after now → IsClosed edges request low start done i after now marked
+  closed_left labels found after now done marked i grows settled mark within some leads =
+      record {
+        settled = settled_more labels found after now done marked i grows settled mark within (settled_left labels found after now i grows within some leads);
+        here = mark.here;
+        still = mark.still;
+      }
 
   pub settled_hopeless : (labels : List Label) (found : Option Label) (label : Label) → SomeRest edges request labels label →
       bound_of start found ≤ (label.owed + number_at low label.node) * 32 + label.count → IsSettled edges request low start labels found label
@@ -319,16 +319,16 @@ first_label edges request start =
     few i (inr (inl e)) within = subst (λ n. (label_at (new ∷ []) n).count ≤ 19) (sym e) (omega arith)
     few i (inr (inr p)) within = absurd (omega arith)
 
--- one more edge of a run was passed over
-pub passes_more : (edges run : List Link) (request : Trip) (low : List ℕ) (start i place : ℕ) (labels middle : List Label) (then : Option Label) (after : List Label) (now : Option Label) →
-    ((j : ℕ) → j < place → PassesOn edges request low start labels i middle then (link_at run j)) → Grows edges request start middle then after now →
-    PassesOn edges request low start labels i after now (link_at run place) →
-    (j : ℕ) → j < place + 1 → PassesOn edges request low start labels i after now (link_at run j)
-passes_more edges run request low start i place labels middle then after now before grows new j to = by (trichotomy j place)
+-- one more of several edges was passed over
+pub passes_more : (edges : List Link) (at : ℕ → Link) (request : Trip) (low : List ℕ) (start i place : ℕ) (labels middle : List Label) (then : Option Label) (after : List Label) (now : Option Label) →
+    ((j : ℕ) → j < place → PassesOn edges request low start labels i middle then (at j)) → Grows edges request start middle then after now →
+    PassesOn edges request low start labels i after now (at place) →
+    (j : ℕ) → j < place + 1 → PassesOn edges request low start labels i after now (at j)
+passes_more edges at request low start i place labels middle then after now before grows new j to = by (trichotomy j place)
   where
-    by : (j < place) ⊎ (j ≡ place) ⊎ (place < j) → PassesOn edges request low start labels i after now (link_at run j)
-    by (inl p) = passes_later edges request low start i labels middle then after now (link_at run j) grows (before j p)
-    by (inr (inl e)) = subst (λ n. PassesOn edges request low start labels i after now (link_at run n)) (sym e) new
+    by : (j < place) ⊎ (j ≡ place) ⊎ (place < j) → PassesOn edges request low start labels i after now (at j)
+    by (inl p) = passes_later edges request low start i labels middle then after now (at j) grows (before j p)
+    by (inr (inl e)) = subst (λ n. PassesOn edges request low start labels i after now (at n)) (sym e) new
     by (inr (inr p)) = absurd (omega arith)
 
 -- over the payer's edges goes no more than the most

@@ -3,6 +3,7 @@ pub mod Routes
 pub mod Answers
 pub mod Numbered
 pub mod Searching
+pub mod Leading
 pub mod Best
 pub mod Choice
 pub mod Words

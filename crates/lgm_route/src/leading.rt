@@ -2,6 +2,7 @@
 
 ghost use Rattle.std.specs.Prelude.{◌≡◌, ◌^◌, ◌<◌, ◌≤◌, length, Contains, IfOk};
 ghost use Rattle.lgm_route.specs.Searching.{AreLabels, IsSearch, Grows, SomeRest, IsOffered, PassesOn, LeadsOn, label_at, link_in};
+ghost use Rattle.lgm_route.specs.Leading.{IsLead, IsLed, IsTaken};
 ghost use Rattle.lgm_graph.specs.Graph.{links, AreLinked};
 
 use crate::comparing::{better_walk, bound_of, serves};
@@ -36,7 +37,84 @@ pub(crate) fn offer(
     Ok(())
 }
 
+/// What a label's rest leads on to over one edge into its node: a whole walk where the edge is the
+/// payer's, else a longer rest. Nothing where the edge can't carry it, and where a longer rest would
+/// be too long, or hopeless under this bound.
+#[inline(always)]
+pub(crate) fn lead(
+    view: &View,
+    request: &Trip,
+    low: &[u64],
+    bound: u128,
+    labels: &[Label],
+    i: usize,
+    arc: Arc,
+) -> Option<Label>
+    requires labelled { AreLabels (links view.now) request.now labels.now }
+    requires label { i < length labels.now }
+    requires there { Contains (links view.now) (link_in arc) }
+    requires to { arc.to ≡ (label_at labels.now i).node }
+    requires from { arc.from < length low.now }
+    requires bound { bound ≤ 2 ^ 69 }
+    ensures { IsLead (links view.now) request.now low.now bound labels.now i (link_in arc) result }
+{
+    let label = labels[i];
+    if request.amount < arc.min || arc.max < label.owed {
+        return None;
+    }
+    if arc.from == request.payer {
+        return Some(Label {
+            owed: label.owed,
+            arc,
+            next: i,
+            node: arc.from,
+            count: label.count + 1,
+        });
+    }
+    if label.count >= 19 {
+        return None;
+    }
+    let owed = label.owed as u128 + fee(label.owed, arc.base, arc.millionths);
+    let least = (owed + low[arc.from as usize] as u128) * 32 + label.count as u128 + 1;
+    if bound <= least || owed >= 1 << 64 {
+        return None;
+    }
+    Some(Label {
+        owed: owed as u64,
+        arc,
+        next: i,
+        node: arc.from,
+        count: label.count + 1,
+    })
+}
+
+/// Takes what a label was led on to: a walk, or a rest as a new label.
+#[inline(always)]
+pub(crate) fn take(
+    view: &View,
+    request: &Trip,
+    start: u128,
+    labels: &mut Vec<Label>,
+    places: &mut [usize],
+    found: Option<Label>,
+    new: Label,
+) -> Result<Option<Label>, AllocError>
+    requires node { new.node < length places.old }
+    requires led { IsLed (links view.now) request.now labels.old.items new.next (link_in new.arc) new }
+    requires search { IsSearch (links view.now) request.now start labels.old.items found }
+    ensures search { IfOk result (λ now. IsSearch (links view.now) request.now start labels.new.items now) }
+    ensures grows { IfOk result (λ now. Grows (links view.now) request.now start labels.old.items found labels.new.items now) }
+    ensures taken { IfOk result (λ now. IsTaken (links view.now) request.now start labels.old.items new labels.new.items now) }
+{
+    if new.node == request.payer {
+        return Ok(better_walk(view, request, labels, start, found, new));
+    }
+    offer(view, request, labels, places, new)?;
+    Ok(found)
+}
+
 /// Leads a label's rest on over one edge into its node.
+#[inline(always)]
 pub(crate) fn pass(
     view: &View,
     request: &Trip,
@@ -59,37 +137,10 @@ pub(crate) fn pass(
     ensures grows { IfOk result (λ now. Grows (links view.now) request.now start labels.old.items found labels.new.items now) }
     ensures passed { IfOk result (λ now. PassesOn (links view.now) request.now low.now start labels.old.items i labels.new.items now (link_in arc)) }
 {
-    let label = labels[i];
-    if request.amount < arc.min || arc.max < label.owed {
-        return Ok(found);
+    match lead(view, request, low, bound_of(start, found), labels, i, arc) {
+        None => Ok(found),
+        Some(new) => take(view, request, start, labels, places, found, new),
     }
-    if arc.from == request.payer {
-        let walk = Label {
-            owed: label.owed,
-            arc,
-            next: i,
-            node: arc.from,
-            count: label.count + 1,
-        };
-        return Ok(better_walk(view, request, labels, start, found, walk));
-    }
-    if label.count >= 19 {
-        return Ok(found);
-    }
-    let owed = label.owed as u128 + fee(label.owed, arc.base, arc.millionths);
-    let least = (owed + low[arc.from as usize] as u128) * 32 + label.count as u128 + 1;
-    if bound_of(start, found) <= least || owed >= 1 << 64 {
-        return Ok(found);
-    }
-    let new = Label {
-        owed: owed as u64,
-        arc,
-        next: i,
-        node: arc.from,
-        count: label.count + 1,
-    };
-    offer(view, request, labels, places, new)?;
-    Ok(found)
 }
 
 /// Leads a label's rest on over the edges into its node.

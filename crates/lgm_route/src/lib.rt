@@ -10,6 +10,7 @@ mod heap;
 mod hops;
 mod label;
 mod laws;
+mod layering;
 mod leading;
 mod low;
 mod rebuilding;
@@ -25,7 +26,7 @@ pub use fault::RouteFault;
 pub use laws::{answer_is_one, least_is_one};
 pub use request::Request;
 pub use route::{Hop, Route};
-pub use routing::least;
+pub use routing::{least, least_chunked};
 
 #[cfg(test)]
 mod tests;

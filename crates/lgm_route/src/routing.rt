@@ -1,16 +1,20 @@
 //! The least route of a payment.
 
-ghost use Rattle.std.specs.Prelude.{◌≡◌, ◌⊎◌, ◌≤◌, Some, Err, IfOk, length};
+ghost use Rattle.std.specs.Prelude.{◌≡◌, ◌⊎◌, ◌^◌, ◌≤◌, List, Some, Err, IfOk};
 ghost use Rattle.std.specs.Option.{option_map};
-ghost use Rattle.lgm_graph.specs.Graph.{edges, links, AreLinked};
-ghost use Rattle.lgm_route.specs.Answers.{refusal, IsAnswer};
-ghost use Rattle.lgm_route.specs.Best.{IsBestWalk};
+ghost use Rattle.lgm_graph.specs.Graph.{edges, links};
+ghost use Rattle.lgm_graph.specs.declared.link.Link.{Link};
+ghost use Rattle.lgm_route.specs.Answers.{refusal, IsAnswer, IsFoundOver};
+ghost use Rattle.lgm_route.specs.Best.{IsBestWalk, IsTripOf};
+ghost use Rattle.lgm_route.specs.Numbered.{IsUsable};
 ghost use Rattle.lgm_route.specs.Routes.{IsBest};
+ghost use Rattle.lgm_route.specs.Searching.{IsNoBetter, IsSearch, IsStart};
 ghost use Rattle.lgm_route.specs.declared.fault.RouteFault.{RouteFault};
 
 use crate::fault::RouteFault;
 use crate::hops::hops;
-use crate::label::Arc;
+use crate::label::{Arc, Label};
+use crate::layering::search_layers;
 use crate::low::lower_bounds;
 use crate::rebuilding::rebuild;
 use crate::request::Request;
@@ -19,7 +23,9 @@ use crate::searching::search;
 use crate::starting::most_sent;
 use crate::trip::Trip;
 use lgm_graph::View;
+use lgm_par::Gate;
 use std::alloc::{AllocError, Global};
+use std::thread::Threads;
 
 /// How many nodes the pass from the payer takes up.
 const STEPS: usize = 200;
@@ -30,52 +36,131 @@ const MOST_AMOUNT: u64 = 2_100_000_000_000_000_000;
 /// The greatest expiry of a payment, a block height.
 const MOST_EXPIRY: u32 = 498_000_000;
 
-/// The least walk between numbered nodes, if one is usable.
-fn best_walk(
+/// The walk of the best label, which no usable walk is better than.
+fn walk_of(
     alloc: Global,
     view: &View,
-    nodes: usize,
     trip: &Trip,
+    start: u128,
+    labels: &[Label],
+    found: Option<Label>,
 ) -> Result<Option<Vec<Arc>>, AllocError>
-    requires nodes { nodes ≡ length view.now.points }
-    requires linked { AreLinked view.now }
+    requires low { start ≤ 2 ^ 64 }
+    requires start { IsStart (links view.now) trip.now start }
+    requires search { IsSearch (links view.now) trip.now start labels.now found }
+    requires best { (walk : List Link) → IsUsable (links view.now) trip.now walk → IsNoBetter (links view.now) trip.now labels.now start found walk }
     ensures { IfOk result (λ best. IsBestWalk (links view.now) trip.now (option_map (λ walk. walk.items) best)) }
 {
-    let start = most_sent(view, trip);
-    let low = lower_bounds(alloc, view, nodes, trip, STEPS)?;
-    let mut labels = Vec::new(alloc);
-    match search(alloc, view, trip, &low, start, &mut labels)? {
+    match found {
         None => Ok(None),
         Some(found) => {
-            let walk = rebuild(alloc, &labels, found)?;
+            let walk = rebuild(alloc, labels, found)?;
             Ok(Some(walk))
         }
     }
 }
 
-/// The hops of the least walk, if one is usable.
-fn best_hops(alloc: Global, view: &View, request: &Request) -> Result<Option<Vec<Hop>>, AllocError>
-    requires { request.now.expiry ≤ 498000000 }
-    ensures { IfOk result (λ best. IsBest (edges view.now) request.now (option_map (λ hops. hops.items) best)) }
+/// The least walk between numbered nodes, if one is usable.
+fn best_walk(alloc: Global, view: &View, trip: &Trip) -> Result<Option<Vec<Arc>>, AllocError>
+    ensures { IfOk result (λ best. IsBestWalk (links view.now) trip.now (option_map (λ walk. walk.items) best)) }
 {
     let nodes = view.nodes();
+    let start = most_sent(view, trip);
+    let low = lower_bounds(alloc, view, nodes, trip, STEPS)?;
+    let mut labels = Vec::new(alloc);
+    let found = search(alloc, view, trip, &low, start, &mut labels)?;
+    walk_of(alloc, view, trip, start, &labels, found)
+}
+
+/// The same, found in pieces.
+fn best_walk_chunked<Rt: Threads + Sync, G: Gate>(
+    rt: &Rt,
+    alloc: Global,
+    workers: usize,
+    gate: &G,
+    view: &View,
+    trip: &Trip,
+) -> Result<Option<Vec<Arc>>, AllocError>
+    requires { (1 ≤ workers) × (workers ≤ 64) }
+    ensures { IfOk result (λ best. IsBestWalk (links view.now) trip.now (option_map (λ walk. walk.items) best)) }
+{
+    let nodes = view.nodes();
+    let start = most_sent(view, trip);
+    let low = lower_bounds(alloc, view, nodes, trip, STEPS)?;
+    let mut labels = Vec::new(alloc);
+    let found = search_layers(
+        rt,
+        alloc,
+        workers,
+        gate,
+        view,
+        trip,
+        &low,
+        start,
+        &mut labels,
+    )?;
+    walk_of(alloc, view, trip, start, &labels, found)
+}
+
+/// The payment between numbered nodes, where both ends have a number.
+fn trip_of(view: &View, request: &Request) -> Option<Trip>
+    ensures { IsTripOf view.now request.now result }
+{
+    // It says that the ends of links are numbered.
+    let _nodes = view.nodes();
     let Some(payer) = view.node_number(&request.payer) else {
-        return Ok(None);
+        return None;
     };
     let Some(payee) = view.node_number(&request.payee) else {
-        return Ok(None);
+        return None;
     };
-    let trip = Trip {
+    Some(Trip {
         payer,
         payee,
         amount: request.amount,
-    };
-    match best_walk(alloc, view, nodes, &trip)? {
+    })
+}
+
+/// The hops of the least walk, if there is one.
+fn hops_of(
+    alloc: Global,
+    view: &View,
+    request: &Request,
+    trip: &Trip,
+    walk: Option<Vec<Arc>>,
+) -> Result<Option<Vec<Hop>>, AllocError>
+    requires expiry { request.now.expiry ≤ 498000000 }
+    requires trip { IsTripOf view.now request.now (Some trip.now) }
+    requires walk { IsBestWalk (links view.now) trip.now (option_map (λ walk. walk.items) walk) }
+    ensures { IfOk result (λ best. IsBest (edges view.now) request.now (option_map (λ hops. hops.items) best)) }
+{
+    // It says that the ends of links are numbered.
+    let _nodes = view.nodes();
+    match walk {
         None => Ok(None),
         Some(walk) => {
             let hops = hops(alloc, view, request, &walk)?;
             Ok(Some(hops))
         }
+    }
+}
+
+/// The route over the least walk, or that there is none.
+fn route_over(
+    alloc: Global,
+    view: &View,
+    request: &Request,
+    trip: &Trip,
+    walk: Option<Vec<Arc>>,
+) -> Result<Route, RouteFault>
+    requires expiry { request.now.expiry ≤ 498000000 }
+    requires trip { IsTripOf view.now request.now (Some trip.now) }
+    requires walk { IsBestWalk (links view.now) trip.now (option_map (λ walk. walk.items) walk) }
+    ensures { (result ≡ Err RouteFault.NoMemory) ⊎ IsFoundOver (edges view.now) request.now result }
+{
+    match hops_of(alloc, view, request, trip, walk)? {
+        Some(hops) => Ok(Route::from_vec(hops)),
+        None => Err(RouteFault::NoRoute),
     }
 }
 
@@ -117,8 +202,48 @@ pub fn least(alloc: Global, view: &View, request: &Request) -> Result<Route, Rou
     if let Some(fault) = refusal(request) {
         return Err(fault);
     }
-    match best_hops(alloc, view, request)? {
-        Some(hops) => Ok(Route::from_vec(hops)),
-        None => Err(RouteFault::NoRoute),
+    let Some(trip) = trip_of(view, request) else {
+        return Err(RouteFault::NoRoute);
+    };
+    let walk = best_walk(alloc, view, &trip)?;
+    route_over(alloc, view, request, &trip, walk)
+}
+
+/// The same route as [`least`] gives, found by several workers: it is the same for every number of
+/// workers, from 1 to 64, and whatever the gate does.
+///
+/// Once some walk is found, the search goes from the payee on, layer by layer: in each one the nodes
+/// that were reached over one channel more than in the layer before are led on over theirs, and one
+/// thread merges what comes of it. There are at most 20 layers. The first that has two nodes is shared
+/// between two workers, and each that is large among as many as it is worth. Each piece of a layer
+/// passes the gate with its number, from 0. One worker does without layers, and passes no gate.
+///
+/// The refusals are those of [`least`].
+pub fn least_chunked<Rt: Threads + Sync, G: Gate>(
+    rt: &Rt,
+    alloc: Global,
+    workers: usize,
+    gate: &G,
+    view: &View,
+    request: &Request,
+) -> Result<Route, RouteFault>
+    requires workers { (1 ≤ workers) × (workers ≤ 64) }
+
+    // A request that is refused whatever the edges are is refused for its first reason.
+    ensures refused { (fault : RouteFault) → refusal request.now ≡ Some fault → result ≡ Err fault }
+
+    // Else the answer is the least route, or that there is none, unless memory runs out.
+    ensures answer { (result ≡ Err RouteFault.NoMemory) ⊎ IsAnswer (edges view.now) request.now result }
+{
+    if workers == 1 {
+        return least(alloc, view, request);
     }
+    if let Some(fault) = refusal(request) {
+        return Err(fault);
+    }
+    let Some(trip) = trip_of(view, request) else {
+        return Err(RouteFault::NoRoute);
+    };
+    let walk = best_walk_chunked(rt, alloc, workers, gate, view, &trip)?;
+    route_over(alloc, view, request, &trip, walk)
 }

@@ -1,8 +1,10 @@
 //! Labels whose rests are led on, or need not be.
 
-ghost use Rattle.std.specs.Prelude.{◌≡◌, ◌^◌, ◌<◌, ◌≤◌, length, IfOk, false, slice_index_or};
-ghost use Rattle.lgm_route.specs.Searching.{AreLabels, IsSearch, Grows, AreSettled, IsMarked, IsClosed, StandsIn};
+ghost use Rattle.std.specs.Prelude.{◌≡◌, ◌^◌, ◌<◌, ◌≤◌, List, length, IfOk, false, slice_index_or};
+ghost use Rattle.lgm_route.specs.Numbered.{IsUsable};
+ghost use Rattle.lgm_route.specs.Searching.{AreLabels, AreLow, IsSearch, Grows, AreSettled, IsMarked, IsClosed, StandsIn, IsNoBetter};
 ghost use Rattle.lgm_graph.specs.Graph.{links, AreLinked};
+ghost use Rattle.lgm_graph.specs.declared.link.Link.{Link};
 
 use crate::comparing::{bound_of, serves};
 use crate::label::Label;
@@ -126,5 +128,37 @@ pub(crate) fn settle(
         view, request, low, start, labels, places, done, found, place,
     )?;
     mark(done, i)?;
+    Ok(best)
+}
+
+/// Settles each label: then no usable walk is better than the best one.
+pub(crate) fn sweep(
+    view: &View,
+    request: &Trip,
+    low: &[u64],
+    start: u128,
+    labels: &mut Vec<Label>,
+    places: &mut [usize],
+    done: &mut Vec<bool>,
+    found: Option<Label>,
+) -> Result<Option<Label>, AllocError>
+    requires linked { AreLinked view.now }
+    requires nodes { length view.now.points ≡ length places.old }
+    requires long { length low.now ≡ length places.old }
+    requires low { AreLow (links view.now) request.now low.now }
+    requires start { start ≤ 2 ^ 64 }
+    requires search { IsSearch (links view.now) request.now start labels.old.items found }
+    requires settled { AreSettled (links view.now) request.now low.now start labels.old.items found done.old.items }
+    ensures search { IfOk result (λ now. IsSearch (links view.now) request.now start labels.new.items now) }
+    ensures best { IfOk result (λ now. (walk : List Link) → IsUsable (links view.now) request.now walk → IsNoBetter (links view.now) request.now labels.new.items start now walk) }
+{
+    let mut best = found;
+    for i in 0..usize::MAX {
+        if labels.len() <= i {
+            return Ok(best);
+        }
+        best = settle(view, request, low, start, labels, places, done, best, i)?;
+    }
+    let _len = labels.len();
     Ok(best)
 }

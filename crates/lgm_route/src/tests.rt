@@ -4,10 +4,14 @@ use super::*;
 use lgm_check::{ChannelRow, UpdateRow};
 use lgm_gossip::{Announce, Bytes, ChainHash, ChannelUpdate, Point, Scid};
 use lgm_graph::{Known, View};
+use lgm_par::{Gate, Open};
 use lgm_store::{Map, Op, Shared};
 use std::alloc::{AllocError, Global};
 use std::process::Abort;
+use std::sync::atomic::{AtomicU64, Ordering};
 use std::test::Fail;
+use std::thread;
+use std::thread::Threads;
 
 /// The node of a number.
 fn point(last: u8) -> Point {
@@ -91,8 +95,22 @@ fn join(
     map.absorb(&update(alloc, scid, terms)?)
 }
 
-fn answer(
+/// That two answers are the same.
+fn assert_same(
     rt: &impl Abort,
+    answer: &Result<Route, RouteFault>,
+    other: &Result<Route, RouteFault>,
+) {
+    match (answer, other) {
+        (Ok(route), Ok(other)) => assert_eq!(rt; route.as_slice(), other.as_slice()),
+        (Err(fault), Err(other)) => assert_eq!(rt; *fault, *other),
+        _ => assert!(rt; false, "one has a route, the other none"),
+    }
+}
+
+/// The answer of `least`, which `least_chunked` gives, too.
+fn answer(
+    rt: &(impl Abort + Threads + Sync),
     alloc: Global,
     map: &Map,
     to: u8,
@@ -107,7 +125,12 @@ fn answer(
         amount,
         expiry,
     };
-    Ok(least(alloc, &view, &request))
+    let found = least(alloc, &view, &request);
+    for workers in [1, 3, 64] {
+        let also = least_chunked(rt, alloc, workers, &Open, &view, &request);
+        assert_same(rt, &found, &also);
+    }
+    Ok(found)
 }
 
 /// What the payer sends, its expiry, and the ids of the channels in one list.
@@ -223,6 +246,73 @@ fn twenty_channels(rt: HostRuntime) -> Result<(), Fail> {
     assert_eq!(rt; found.as_ref().map(Route::expiry), Ok(700_760));
     let none = answer(&rt, alloc, &map, 21, 1000, 700_000)?;
     assert_eq!(rt; none.err(), Some(RouteFault::NoRoute));
+    Ok(())
+}
+
+/// The most turns that a piece is held.
+const LIMIT: u64 = 100_000_000;
+
+/// Lets the first pass through, and then holds piece 0 until piece 1 has passed.
+#[derive(Drop)]
+struct Pairs {
+    passes: AtomicU64,
+    ones: AtomicU64,
+    turns: AtomicU64,
+}
+
+impl Gate for Pairs {
+    fn pass(&self, piece: usize) {
+        let first = self.passes.fetch_add(1, Ordering::SeqCst) == 0;
+        if piece == 1 {
+            self.ones.fetch_add(1, Ordering::SeqCst);
+        }
+        if first || piece != 0 {
+            return;
+        }
+        let mut turns = 0;
+        for turn in 0..LIMIT {
+            turns = turn + 1;
+            if self.ones.load(Ordering::SeqCst) > 0 {
+                break;
+            }
+            thread::yield_now();
+        }
+        self.turns.fetch_add(turns, Ordering::SeqCst);
+    }
+}
+
+/// Both nodes beside the payee are led on at once, each in a piece of its own.
+#[test]
+fn two_pieces_at_once(rt: HostRuntime) -> Result<(), Fail> {
+    let alloc = rt.alloc();
+    let mut map = Map::new(alloc)?;
+    for (block, from, to) in [(1, 0, 1), (2, 0, 2), (3, 1, 3), (4, 2, 3)] {
+        join(&mut map, alloc, Scid::new(block, 0, 0), from, to, &FREE)?;
+    }
+    assert!(rt; map.count() <= 2_000_000_000);
+    let view = View::of(alloc, &map, &Known::all())?;
+    let request = Request {
+        payer: point(0),
+        payee: point(3),
+        amount: 1000,
+        expiry: 700_000,
+    };
+    let gate = Pairs {
+        passes: AtomicU64::new(0),
+        ones: AtomicU64::new(0),
+        turns: AtomicU64::new(0),
+    };
+    let found = least_chunked(&rt, alloc, 2, &gate, &view, &request);
+    let ids = [
+        1000,
+        700_040,
+        Scid::new(1, 0, 0).to_u64(),
+        Scid::new(3, 0, 0).to_u64(),
+    ];
+    assert_route(&rt, alloc, found, &ids)?;
+    let turns = gate.turns.load(Ordering::SeqCst);
+    assert!(rt; 0 < turns && turns < LIMIT, "ended at the limit");
+    assert_eq!(rt; gate.ones.load(Ordering::SeqCst), 1);
     Ok(())
 }
 

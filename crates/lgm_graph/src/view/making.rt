@@ -27,7 +27,7 @@ impl View {
         ensures few { IfOk result (λ view. length view.points ≤ 2 * length map.now.channels) }
     {
         map.rows_are_lawful();
-        let mut nodes = Nodes::new(alloc);
+        let mut nodes = Nodes::new(alloc, map.seed());
         for held in map.channels() {
             add_channel(alloc, &mut nodes, known, map, held)?;
         }

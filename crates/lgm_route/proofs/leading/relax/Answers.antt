@@ -4,35 +4,27 @@ use Rattle.std.proofs.lemmas.List.{get_or_default}
 use Rattle.lgm_graph.specs.Graph.{links, links_into}
 use Rattle.lgm_route.specs.Searching.{label_at, link_at, no_label, no_link, link_in, PassesOn}
 use Rattle.lgm_route.proofs.Labels.{grows-trans, at-later}
-use Rattle.lgm_route.proofs.Steps.{passes_from, passes_more, all_passed}
+use Rattle.lgm_route.proofs.Steps.{into_node, passes_from, passes_more, all_passed}
 use Rattle.lgm_route.proofs.leading.relax.Goals as goal
 
 pub pass-requires-clause-there : goal.pass-requires-clause-there
 pass-requires-clause-there c =
-    let link = c.link-item.result in
-    let here : Contains (links_into c.args.view.now c.index.result.now.node) link =
-    subst (λ run. Contains run link) c.links_into-link-items.ensures (c.loop-link.link-index, c.loop-link-test.true, sym c.link-item.is) in
-    subst (Contains (links c.args.view.now)) (sym c.arc_of.ensures) (c.requires.linked.into c.index.result.now.node link here).1
+    (into_node c.args.view.now c.index.result.now.node c.links_into-link-items.result.now c.loop-link.link-index c.link-item.result c.arc_of.result c.requires.linked c.links_into-link-items.ensures c.loop-link-test.true
+    c.link-item.is c.arc_of.ensures).there
 
 pub pass-requires-clause-to : goal.pass-requires-clause-to
 pass-requires-clause-to c =
-    let link = c.link-item.result in
     let labels = c.args.labels.now.items in
-    let i = c.args.i in
-    let here : Contains (links_into c.args.view.now c.index.result.now.node) link =
-    subst (λ run. Contains run link) c.links_into-link-items.ensures (c.loop-link.link-index, c.loop-link-test.true, sym c.link-item.is) in
-    let at : label_at labels i ≡ c.index.result.now = get_or_default labels i no_label c.index.result.now c.requires.label ∙ sym c.index.ensures in
-    let later = at-later (links c.args.view.now) c.args.request.now c.args.low.now c.args.start labels c.args.found c.loop-link.labels.items c.loop-link.best c.loop-link.invariant.grows i c.requires.label in
-    ap (λ l. l.to) c.arc_of.ensures ∙ (c.requires.linked.into c.index.result.now.node link here).0 ∙ ap (λ l. l.node) (sym (later ∙ at))
+    let at : label_at labels c.args.i ≡ c.index.result.now = get_or_default labels c.args.i no_label c.index.result.now c.requires.label ∙ sym c.index.ensures in
+    let later = at-later (links c.args.view.now) c.args.request.now c.args.low.now c.args.start labels c.args.found c.loop-link.labels.items c.loop-link.best c.loop-link.invariant.grows c.args.i c.requires.label in
+    (into_node c.args.view.now c.index.result.now.node c.links_into-link-items.result.now c.loop-link.link-index c.link-item.result c.arc_of.result c.requires.linked c.links_into-link-items.ensures c.loop-link-test.true
+    c.link-item.is c.arc_of.ensures).to ∙ ap (λ l. l.node) (sym (later ∙ at))
 
 pub pass-requires-clause-from : goal.pass-requires-clause-from
 pass-requires-clause-from c =
-    let link = c.link-item.result in
-    let here : Contains (links_into c.args.view.now c.index.result.now.node) link =
-    subst (λ run. Contains run link) c.links_into-link-items.ensures (c.loop-link.link-index, c.loop-link-test.true, sym c.link-item.is) in
-    let within = (c.requires.linked.each link (c.requires.linked.into c.index.result.now.node link here).1).from in
-    let same : c.arc_of.result.from ≡ link.from = ap (λ l. l.from) c.arc_of.ensures in
-    omega (arith, within, same, c.requires.nodes, c.loop-link.auto.places)
+    let into = into_node c.args.view.now c.index.result.now.node c.links_into-link-items.result.now c.loop-link.link-index c.link-item.result c.arc_of.result c.requires.linked c.links_into-link-items.ensures c.loop-link-test.true
+    c.link-item.is c.arc_of.ensures in
+    omega (arith, into.from, c.requires.nodes, c.loop-link.auto.places)
 
 pub loop-link-preserved : goal.loop-link-preserved
 loop-link-preserved c =
@@ -52,7 +44,7 @@ loop-link-preserved c =
     record {
       search = c.in_ok-best.ensures.search;
       grows = grows-trans edges request start old middle after c.args.found c.loop-link.best c.in_ok-best.best c.loop-link.invariant.grows c.in_ok-best.ensures.grows;
-      passed = passes_more edges run request low start c.args.i place old middle c.loop-link.best after c.in_ok-best.best c.loop-link.invariant.passed c.in_ok-best.ensures.grows
+      passed = passes_more edges (link_at run) request low start c.args.i place old middle c.loop-link.best after c.in_ok-best.best c.loop-link.invariant.passed c.in_ok-best.ensures.grows
           (subst (λ e. PassesOn edges request low start old c.args.i after c.in_ok-best.best e) same passed);
     }
 
