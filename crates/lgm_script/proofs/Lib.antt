@@ -2,6 +2,8 @@ pub mod Appending
 pub mod WriteLaws
 pub mod Ahead
 pub mod Splitting
+pub mod FirstLines
+pub mod FirstWords
 pub mod Decimals
 pub mod FieldsLaws
 pub mod Telling

@@ -1,5 +1,6 @@
 pub mod Device
 pub mod Lines
+pub mod Groups
 pub mod Digits
 pub mod Field
 pub mod Item

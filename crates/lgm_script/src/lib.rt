@@ -1,12 +1,13 @@
 //! Scripts: their lines and what a line asks, and the lines of the answers, from a [`Source`] and to a [`Sink`].
 //!
 //! What is read ahead of a source is a [`LineReader`]; text on its way to a sink is an [`Output`]. [`next_line`] finds
-//! one line after the other, and [`parse`] tells what it asks.
+//! one line after the other, [`next_group`] those that are answered together, and [`parse`] tells what a line asks.
 #![tactic(auto)]
 
 mod device;
 mod field;
 mod fields;
+mod grouping;
 mod item;
 mod line_reader;
 mod memory;
@@ -18,6 +19,7 @@ mod std_streams;
 mod text;
 
 pub use device::{Failed, Sink, Source, write_all};
+pub use grouping::{Group, Kind, may_ask_routes, next_group};
 pub use item::Item;
 pub use line_reader::{LineReader, MAX_LINE};
 pub use memory::{MemorySink, MemorySource};

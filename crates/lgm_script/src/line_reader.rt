@@ -57,31 +57,12 @@ impl LineReader {
         &self.buffer[self.start..self.end]
     }
 
-    /// The length of the first line, if its line feed was read. The first `searched` bytes have none.
-    pub fn find_line(&self, searched: usize) -> Option<usize>
-        requires within { searched ≤ length self.now }
-        requires searched { HasNoLineFeed (take searched self.now) }
-        ensures line { IfSome result (λ count. (left : Option (List ℕ)) → IsFirstLine self.now left count) }
-        ensures none { IfNone result (HasNoLineFeed self.now) }
-    {
-        let place = memchr(b'\n', &self.buffered()[searched..])?;
-        Some(searched + place)
-    }
-
-    /// The first bytes, so many.
-    pub fn line(&self, count: usize) -> &[u8]
-        requires { count ≤ length self.now }
-        ensures { result.now ≡ take count self.now }
-    {
-        &self.buffered()[..count]
-    }
-
-    /// Drops a line of so many bytes, with its line feed if it has one.
-    pub fn drop_line(&mut self, count: usize)
+    /// Drops the first bytes, so many: lines that are done with.
+    pub fn drop_front(&mut self, count: usize)
         requires { count ≤ length self.old }
-        ensures { self.new ≡ drop (count + 1) self.old }
+        ensures { self.new ≡ drop count self.old }
     {
-        self.start = (self.start + count + 1).min(self.end);
+        self.start += count;
     }
 
     /// Reads further bytes ahead, and gives whether there was one. Where it reads, nothing is gathered: so no answer
@@ -110,6 +91,17 @@ impl LineReader {
         self.end += count;
         Ok(count > 0)
     }
+}
+
+/// The length of the first line, if its line feed is there. The first `searched` bytes have none.
+pub(crate) fn find_line(bytes: &[u8], searched: usize) -> Option<usize>
+    requires within { searched ≤ length bytes.now }
+    requires searched { HasNoLineFeed (take searched bytes.now) }
+    ensures line { IfSome result (λ count. (left : Option (List ℕ)) → IsFirstLine bytes.now left count) }
+    ensures none { IfNone result (HasNoLineFeed bytes.now) }
+{
+    let place = memchr(b'\n', &bytes[searched..])?;
+    Some(searched + place)
 }
 
 /// Moves the bytes between these places to the front if there is no room behind them. Gives their places.

@@ -6,7 +6,7 @@ ghost use Rattle.lgm_script.specs.Lines.{ahead, IsFirstLine, IsLongerThan};
 ghost use Rattle.lgm_script.specs.Output.{Sends, SendsPart};
 
 use crate::device::{Sink, Source};
-use crate::line_reader::{LineReader, MAX_LINE};
+use crate::line_reader::{LineReader, MAX_LINE, find_line};
 use crate::output::{Output, SendFault};
 
 /// Why there is no next line.
@@ -74,7 +74,7 @@ pub fn next_line<R: Source, W: Sink>(
 {
     let mut searched = 0;
     loop {
-        if let Some(count) = lines.find_line(searched) {
+        if let Some(count) = find_line(lines.buffered(), searched) {
             return if count > MAX_LINE {
                 Err(LineFault::TooLong)
             } else {

@@ -1,6 +1,7 @@
 ghost use Rattle.std.specs.Prelude.{◌≤◌, IfOk};
 
 use crate::device::{Failed, Sink, Source};
+use crate::grouping::next_group;
 use crate::line_reader::{LineReader, MAX_LINE};
 use crate::memory::{MemorySink, MemorySource};
 use crate::output::{BLOCK, Output};
@@ -104,9 +105,12 @@ fn joined(alloc: Global, text: &[u8], most: usize) -> Result<Vec<u8>, Fail> {
         let Ok(Some(count)) = next_line(&mut reader, &mut source, &mut output) else {
             return Ok(joined);
         };
-        joined.extend_from_slice(reader.line(count))?;
+        let group = next_group(alloc, reader.buffered(), count, 1)?;
+        joined.extend_from_slice(group.lines[0])?;
         joined.extend_from_slice(b"|")?;
-        reader.drop_line(count);
+        let len = group.len;
+        drop(group);
+        reader.drop_front(len);
     }
     Ok(joined)
 }
@@ -165,7 +169,10 @@ fn lines_before(alloc: Global, reads: usize) -> Result<(u8, Option<LineFault>), 
             break;
         }
         match next_line(&mut reader, &mut source, &mut output) {
-            Ok(Some(count)) => reader.drop_line(count),
+            Ok(Some(count)) => {
+                let len = next_group(alloc, reader.buffered(), count, 1)?.len;
+                reader.drop_front(len);
+            }
             Ok(None) => return Ok((lines, None)),
             Err(fault) => return Ok((lines, Some(fault))),
         }

@@ -1,22 +1,22 @@
 -- How far the committed map is behind.
 use Rattle.std.proofs.Common.{◌≡◌, List, [], ◌∷◌, ◌++◌, Result, Ok, Err, refl, sym, ap, ◌∙◌}
-use Rattle.lgm_gossip.specs.declared.chain_hash.ChainHash.{ChainHash}
 use Rattle.lgm_check.specs.declared.refusal.Refusal.{Refusal}
 use Rattle.lgm_store.specs.declared.op.Op.{Op}
 use Rattle.lgm_store.specs.Rows.{Rows}
 use Rattle.lgm_store.specs.History.{absorbed, fold_from}
 use Rattle.lgm_query.specs.Touched.{TellsKey}
-use Rattle.lgm_script.specs.declared.item.Item.{Item}
 use Rattle.lgm_server.specs.Behind.{IsBehind, Keeps}
-use Rattle.lgm_server.specs.Outcomes.{outcome_of}
+use Rattle.lgm_server.specs.declared.checking.Offered.{Offered}
+use Rattle.lgm_server.specs.Offered.{outcome_on, WasChecked}
 use Rattle.lgm_store.proofs.Histories.{fold_from-push}
-use Rattle.lgm_server.proofs.Keeping.{All-push, outcome_tells}
+use Rattle.lgm_script.proofs.FirstLines.{each-push}
+use Rattle.lgm_server.proofs.Keeping.{turn_tells}
 
 -- an operation more
 accepted_behind : (rows new committed : Rows) (pending pushed : List Op) (op : Op) → new ≡ absorbed rows op → pushed ≡ pending ++ op ∷ [] → TellsKey op
     → IsBehind rows committed pending → IsBehind new committed pushed
 accepted_behind rows new committed pending pushed op absorbs pushes tells old =
-    let tell = All-push TellsKey pending op old.pending_tells tells in
+    let tell = each-push TellsKey pending op old.pending_tells tells in
     record {
       behind = absorbs ∙ ap (λ before. absorbed before op) old.behind ∙ sym (fold_from-push committed pending op) ∙ ap (fold_from committed) (sym pushes);
       committed_tells = old.committed_tells;
@@ -24,10 +24,10 @@ accepted_behind rows new committed pending pushed op absorbs pushes tells old =
     }
 
 -- an item was offered
-pub offered_behind : (chain : ChainHash) (item : Item) (rows new committed : Rows) (pending pushed : List Op) → Keeps (outcome_of chain rows item) rows new pending pushed
+pub offered_behind : (item : Offered) → WasChecked item → (rows new committed : Rows) (pending pushed : List Op) → Keeps (outcome_on rows item) rows new pending pushed
     → IsBehind rows committed pending → IsBehind new committed pushed
-offered_behind chain item rows new committed pending pushed keeps old = by (outcome_of chain rows item) refl keeps
+offered_behind item was rows new committed pending pushed keeps old = by (outcome_on rows item) refl keeps
   where
-    by : (outcome : Result Op Refusal) → outcome_of chain rows item ≡ outcome → Keeps outcome rows new pending pushed → IsBehind new committed pushed
-    by (Ok op) is keeps = accepted_behind rows new committed pending pushed op keeps.0 keeps.1 (outcome_tells chain rows item op is) old
+    by : (outcome : Result Op Refusal) → outcome_on rows item ≡ outcome → Keeps outcome rows new pending pushed → IsBehind new committed pushed
+    by (Ok op) is keeps = accepted_behind rows new committed pending pushed op keeps.0 keeps.1 (turn_tells rows item op was is) old
     by (Err refusal) is keeps = rw (keeps.0, keeps.1) old

@@ -1,7 +1,6 @@
 -- Hops beside their payloads.
 use Rattle.std.proofs.Common.{◌≡◌, ℕ, zero, suc, ◌+◌, ◌<◌, ◌≤◌, List, [], ◌∷◌, ◌++◌, length, drop, get_or, refl, add-one, arith}
 use Rattle.std.specs.Prelude.{min}
-use Rattle.std.specs.List.{flat_map, zip}
 use Rattle.lgm_route.specs.declared.route.Hop.{Hop}
 use Rattle.lgm_script.specs.Text.{hop_line}
 use Rattle.lgm_server.specs.Answer.{hops_text}

@@ -1,10 +1,8 @@
 -- What items give is about the keys of its rows.
-use Rattle.std.proofs.Common.{◌≡◌, ℕ, List, [], ◌∷◌, ◌++◌, Result, Ok, Err, inl, inr, refl}
-use Rattle.std.specs.List.{AllByRecursion}
+use Rattle.std.proofs.Common.{◌≡◌, Result, Ok, Err, inl, inr, refl, sym, ap, ◌∙◌}
 use Rattle.lgm_wire.specs.Reading.{◌>>=◌, Gives}
 use Rattle.lgm_wire.proofs.ReadingLaws.{bind_ok}
 use Rattle.lgm_gossip.specs.declared.chain_hash.ChainHash.{ChainHash}
-use Rattle.lgm_check.specs.declared.evidence.Evidence.{Evidence}
 use Rattle.lgm_check.specs.declared.row.Checked.{Checked}
 use Rattle.lgm_check.specs.declared.refusal.Refusal.{Refusal}
 use Rattle.lgm_check.specs.declared.refusal.Refusal.TheVariants as refusals
@@ -17,11 +15,10 @@ use Rattle.lgm_query.specs.Touched.{TellsKey}
 use Rattle.lgm_query.proofs.Telling.{operation_tells}
 use Rattle.lgm_script.specs.declared.item.Item.{Item}
 use Rattle.lgm_script.specs.declared.item.Item.TheVariants.{Gossip, Close}
+use Rattle.lgm_server.specs.declared.checking.Offered.{Offered}
+use Rattle.lgm_server.specs.declared.checking.Offered.TheVariants.{Message}
 use Rattle.lgm_server.specs.Outcomes.{outcome_of}
-
-pub All-push : {X : Type 0} (P : X → Type 0) (xs : List X) (x : X) → AllByRecursion P xs → P x → AllByRecursion P (xs ++ x ∷ [])
-All-push P [] x all own = (own, tt)
-All-push P (y ∷ ys) x all own = (all.0, All-push P ys x all.1 own)
+use Rattle.lgm_server.specs.Offered.{offered_by, offered_of, outcome_on, WasChecked}
 
 close_tells : (held : Result (Unit {0}) Refusal) (close op : Op) → TellsKey close → (held >>= λ _. Ok close) ≡ Ok op → TellsKey op
 close_tells (Ok t) close op own is = let same : close ≡ op = cc in rw (← same) own
@@ -39,8 +36,24 @@ pub offers_gives : (answer admission : Result Op Refusal) → Offers answer admi
 offers_gives answer (Ok op) offers = elim offers [ inl e ↦ rw e refl | inr e ↦ rw e (inl refl) ]
 offers_gives answer (Err refusal) offers = rw offers (inr refl)
 
-pub outcome_offers : (chain : ChainHash) (rows : Rows) (item : Item) (bytes : List ℕ) (evidence : Evidence) (checked : Checked) (answer : Result Op Refusal)
-    → item ≡ Gossip bytes evidence → checked_of chain bytes evidence ≡ Ok checked → Offers answer (admitted rows checked)
-    → Gives refusals.NoMemory (λ op. op) answer (outcome_of chain rows item)
-unfolding outcome_of
-outcome_offers chain rows item bytes evidence checked answer is made offers = rw (is, made) (offers_gives answer (admitted rows checked) offers)
+-- a message in its turn
+pub message_offers : (rows : Rows) (item : Offered) (checked : Checked) (answer : Result Op Refusal) → item ≡ Message checked → Offers answer (admitted rows checked)
+    → Gives refusals.NoMemory (λ op. op) answer (outcome_on rows item)
+unfolding outcome_on
+message_offers rows item checked answer is offers = rw is (offers_gives answer (admitted rows checked) offers)
+
+-- ---- the check apart from the turn
+
+-- the outcome of an item is what becomes of it in its turn, once it was checked
+pub outcome_checked : (chain : ChainHash) (rows : Rows) (item : Item) → outcome_of chain rows item ≡ outcome_on rows (offered_of chain item)
+unfolding outcome_of outcome_on
+outcome_checked chain rows (Gossip bytes evidence) = by (checked_of chain bytes evidence)
+  where
+    by : (checked : Result Checked Refusal) → (checked >>= λ made. admitted rows made) ≡ outcome_on rows (offered_by checked)
+    by (Ok checked) = refl
+    by (Err refusal) = refl
+outcome_checked chain rows (Close id) = refl
+
+-- what it gives is about the keys of its rows
+pub turn_tells : (rows : Rows) (item : Offered) (op : Op) → WasChecked item → outcome_on rows item ≡ Ok op → TellsKey op
+turn_tells rows item op was is = outcome_tells was.0 rows was.1 op (outcome_checked was.0 rows was.1 ∙ ap (outcome_on rows) (sym was.2) ∙ is)

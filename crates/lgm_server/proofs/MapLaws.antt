@@ -1,23 +1,23 @@
 -- How the two maps and the view beside them are kept.
-use Rattle.std.proofs.Common.{◌≡◌, ◌⊎◌, ℕ, List, [], ◌∷◌, ◌++◌, Option, Result, Ok, Err, inl, inr, refl, sym, ap, subst, ◌∙◌}
+use Rattle.std.proofs.Common.{◌≡◌, ◌⊎◌, ℕ, List, [], Option, Result, Ok, Err, inl, inr, refl, sym, ap, subst, ◌∙◌}
 use Rattle.std.specs.Prelude.{◌≢◌, OnOk, OnErr}
-use Rattle.lgm_gossip.specs.declared.chain_hash.ChainHash.{ChainHash}
-use Rattle.lgm_check.specs.declared.refusal.Refusal.{Refusal}
 use Rattle.lgm_store.specs.declared.op.Op.{Op}
 use Rattle.lgm_store.specs.Rows.{Rows}
-use Rattle.lgm_store.specs.History.{absorbed, fold_from}
+use Rattle.lgm_store.specs.History.{fold_from}
 use Rattle.lgm_graph.specs.Graph.{Graph}
 use Rattle.lgm_query.specs.KeyNews.{TellKeys}
-use Rattle.lgm_query.specs.Touched.{TellsKey}
 use Rattle.lgm_query.proofs.Lying.{TellKeys-fold}
-use Rattle.lgm_script.specs.declared.item.Item.{Item}
 use Rattle.lgm_server.specs.declared.chart.Chart.{Chart}
 use Rattle.lgm_server.specs.declared.chart.Kept.{Kept}
 use Rattle.lgm_server.specs.declared.chart.Kept.TheVariants as views
 use Rattle.lgm_server.specs.Behind.{IsBehind, Keeps}
-use Rattle.lgm_server.specs.Chart.{IsViewOf, FollowsAs, GoesOn, ShowsAs, turned_behind, turned_beside, without_behind}
+use Rattle.lgm_script.specs.declared.request.Request.{Request}
+use Rattle.lgm_script.specs.Groups.{IsNoRoute}
+use Rattle.lgm_server.specs.Chart.{IsBeside, IsViewOf, FollowsAs, GoesOn, ShowsAs, turned_behind, turned_beside, without_behind}
 use Rattle.lgm_server.specs.Maps.{AreKept}
-use Rattle.lgm_server.specs.Outcomes.{outcome_of}
+use Rattle.lgm_server.specs.declared.checking.Offered.{Offered}
+use Rattle.lgm_server.specs.Offered.{outcome_on, WasChecked}
+use Rattle.lgm_server.specs.Questions.{IsReadyAs}
 use Rattle.lgm_server.proofs.Behind.{offered_behind}
 
 -- ---- a view that follows
@@ -87,6 +87,15 @@ committed_shows known rows committed due views.Blank shows = tt
 committed_shows known rows committed due (views.Behind view) shows = absurd (shows.1 refl)
 committed_shows known rows committed due (views.Beside view) shows = shows
 
+-- beside the committed map any question can be answered, and without a view all but routes
+pub ready_for : (known : Option (List ℕ)) (rows committed : Rows) (due : List Op) (kept : Kept) (request : Request) → ShowsAs known rows due committed kept
+    → IsBeside kept ⊎ IsNoRoute request → IsReadyAs known committed kept request
+ready_for known rows committed due views.Blank request shows (inl beside) = absurd beside
+ready_for known rows committed due views.Blank request shows (inr none) = none
+ready_for known rows committed due (views.Behind view) request shows (inl beside) = absurd beside
+ready_for known rows committed due (views.Behind view) request shows (inr none) = none
+ready_for known rows committed due (views.Beside view) request shows either = shows
+
 -- ---- both maps
 
 -- where some is due, none is pending, and the map that is behind comes to the committed one
@@ -127,19 +136,19 @@ committed_kept map map' committed committed' due due' pending pending' chart cha
         shown (views.Beside view) shows = (rw map_is shows, λ empty. some (sym due_is ∙ empty))
 
 -- an item was offered
-offered_kept : (chain : ChainHash) (item : Item) (map new committed : Rows) (due pending pushed : List Op) (chart : Chart) → due ≡ []
-    → Keeps (outcome_of chain map item) map new pending pushed → AreKept map due committed pending chart → AreKept new due committed pushed chart
-offered_kept chain item map new committed due pending pushed chart none keeps old = record {
-  behind = rw none (offered_behind chain item map new committed pending pushed keeps (rw none at old.behind));
+offered_kept : (item : Offered) → WasChecked item → (map new committed : Rows) (due pending pushed : List Op) (chart : Chart) → due ≡ []
+    → Keeps (outcome_on map item) map new pending pushed → AreKept map due committed pending chart → AreKept new due committed pushed chart
+offered_kept item was map new committed due pending pushed chart none keeps old = record {
+  behind = rw none (offered_behind item was map new committed pending pushed keeps (rw none at old.behind));
   one = inl none;
   shows = committed_shows chart.known new committed due chart.kept (shows_none_due chart.known map committed due chart.kept old.shows none);
 }
 
-pub after_offer : {T E : Type 0} (result : Result T E) (chain : ChainHash) (item : Item) (map new committed : Rows) (due pending pushed : List Op) (chart : Chart) → due ≡ []
-    → OnOk result (Keeps (outcome_of chain map item) map new pending pushed) → OnErr result (new ≡ map) → OnErr result (pushed ≡ pending)
+pub after_offer : {T E : Type 0} (result : Result T E) (item : Offered) → WasChecked item → (map new committed : Rows) (due pending pushed : List Op) (chart : Chart) → due ≡ []
+    → OnOk result (Keeps (outcome_on map item) map new pending pushed) → OnErr result (new ≡ map) → OnErr result (pushed ≡ pending)
     → AreKept map due committed pending chart → AreKept new due committed pushed chart
-after_offer (Ok refusal) chain item map new committed due pending pushed chart none keeps same still old = offered_kept chain item map new committed due pending pushed chart none keeps old
-after_offer (Err e) chain item map new committed due pending pushed chart none keeps same still old = rw (same, still) old
+after_offer (Ok refusal) item was map new committed due pending pushed chart none keeps same still old = offered_kept item was map new committed due pending pushed chart none keeps old
+after_offer (Err e) item was map new committed due pending pushed chart none keeps same still old = rw (same, still) old
 
 -- it failed, so that something is due
 pub failed_one : (due due' pending : List Op) → due ≢ [] → (due ≡ []) ⊎ (pending ≡ []) → (due' ≡ []) ⊎ (pending ≡ [])

@@ -23,7 +23,7 @@ use Rattle.lgm_server.specs.Filters.{filters_from}
 use Rattle.lgm_server.specs.Filtering.{filter_read}
 use Rattle.lgm_server.specs.Outcomes.{outcome_of, with_outcome, outcomes_behind, history_of}
 use Rattle.lgm_server.specs.Script.{item_in, items_of, is_commit, before_commit, filter_given, filter_of, filters_of, State, state_of}
-use Rattle.lgm_server.specs.Steps.{opening, state_behind, filters_with, state_after}
+use Rattle.lgm_server.specs.Steps.{opening, state_behind, filters_with, state_after, state_from}
 use Rattle.lgm_server.proofs.Tables.{filters_from-agree, no_filters, filters_from-put}
 
 -- ---- the accepted history
@@ -32,7 +32,7 @@ use Rattle.lgm_server.proofs.Tables.{filters_from-agree, no_filters, filters_fro
 abbrev history_behind : ChainHash → List Op → List Item → List Op
 history_behind chain history items = history ++ filter_map result_ok (outcomes_behind chain history items)
 
-outcome_joins : (history : List Op) (outcome : Result Op Refusal) (others : List Op) → history ++ cons_option (result_ok outcome) others ≡ with_outcome history outcome ++ others
+pub outcome_joins : (history : List Op) (outcome : Result Op Refusal) (others : List Op) → history ++ cons_option (result_ok outcome) others ≡ with_outcome history outcome ++ others
 outcome_joins history (Ok op) others = sym (append_assoc history (op ∷ []) others)
 outcome_joins history (Err refusal) others = refl
 
@@ -204,3 +204,8 @@ accepted-le chain state (requests.Query bytes) = omega arith
 accepted-le chain state (requests.Filter peer bytes) = omega arith
 accepted-le chain state (requests.Route payment) = omega arith
 accepted-le chain state (requests.Offer item) = state_behind-le state (outcome_of chain state.rows item)
+
+-- and so many requests so many items
+pub accepted_from-le : (chain : ChainHash) (state : State) (asked : List Request) → (state_from chain state asked).accepted ≤ state.accepted + length asked
+accepted_from-le chain state [] = omega arith
+accepted_from-le chain state (request ∷ asked) = omega (arith, accepted_from-le chain (state_after chain state request) asked, accepted-le chain state request)

@@ -9,6 +9,10 @@ pub mod Engine
 pub mod Routing
 pub mod Answer
 pub mod Script
+pub mod Turns
 pub mod Steps
+pub mod Offered
+pub mod Questions
+pub mod Progress
 pub mod Running
 pub mod Ending

@@ -1,5 +1,5 @@
 -- The same state, request by request, as the engine keeps it.
-use Rattle.std.specs.Prelude.{ℕ, ◌+◌, List, [], Option, Result, Ok, Err}
+use Rattle.std.specs.Prelude.{ℕ, ◌+◌, List, [], Option, Result, Ok, Err, codes}
 use Rattle.lgm_gossip.specs.declared.chain_hash.ChainHash.{ChainHash}
 use Rattle.lgm_check.specs.declared.refusal.Refusal.{Refusal}
 use Rattle.lgm_store.specs.declared.op.Op.{Op}
@@ -10,10 +10,13 @@ use Rattle.lgm_script.specs.declared.request.Request.{Request}
 use Rattle.lgm_script.specs.declared.request.Request.TheVariants as requests
 use Rattle.lgm_server.specs.declared.filters.PeerFilter.{PeerFilter}
 use Rattle.lgm_server.specs.declared.objection.Objection.{Objection}
+use Rattle.lgm_script.specs.Text.{word_line}
+use Rattle.lgm_server.specs.Answer.{commit_text}
 use Rattle.lgm_server.specs.Filters.{by_peer}
 use Rattle.lgm_server.specs.Filtering.{filter_read}
 use Rattle.lgm_server.specs.Outcomes.{outcome_of}
-use Rattle.lgm_server.specs.Script.{State}
+use Rattle.lgm_server.specs.Script.{State, text_for}
+use Rattle.lgm_server.specs.Turns.{behind_all, texts_of}
 
 -- no item was accepted, and no filter set
 abbrev pub opening : Option (List ℕ) → State
@@ -42,3 +45,23 @@ state_after chain state requests.Commit = state_committed state
 state_after chain state (requests.Offer item) = state_behind state (outcome_of chain state.rows item)
 state_after chain state (requests.Filter peer bytes) = with_filter state peer (filter_read chain bytes)
 state_after chain state _ = state
+
+-- ---- a request that is none of an item or of the committed rows
+
+abbrev pub state_alone : State → Request → State
+state_alone state requests.Commit = state_committed state
+state_alone state _ = state
+
+abbrev pub text_alone : ℕ → State → Request → List ℕ
+text_alone number state requests.Quiet = []
+text_alone number state requests.Commit = commit_text number state.accepted state.committed state.rows state.filters
+text_alone number state _ = word_line number (codes "bad")
+
+-- ---- several requests
+
+abbrev pub state_from : ChainHash → State → List Request → State
+state_from chain = behind_all (state_after chain)
+
+-- their text, the lines from that number on
+abbrev pub text_from : ChainHash → ℕ → State → List Request → List ℕ
+text_from chain = texts_of (state_after chain) (text_for chain)

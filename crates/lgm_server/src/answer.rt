@@ -65,8 +65,8 @@ impl Answer<'_> {
     }
 }
 
-/// The word of an item's outcome.
-fn outcome_word(refusal: Option<Refusal>) -> &'static str
+/// The word of an item's outcome: why it was refused, or that it wasn't.
+pub fn outcome_word(refusal: Option<Refusal>) -> &'static str
     ensures { result.now ≡ outcome_word refusal }
 {
     match refusal {

@@ -1,81 +1,173 @@
-//! One request after the other.
+//! Lines, answered in groups.
 
-ghost use Rattle.std.specs.Prelude.{◌≡◌, ◌≤◌, ◌+◌, ◌<◌, ◌^◌, IfErr, OnOk};
+ghost use Rattle.std.specs.Prelude.{◌≡◌, ◌≤◌, ◌+◌, ◌<◌, ◌^◌, [], ◌∷◌, length, map, IfOk, IfErr, IfSome, OnOk};
+ghost use Rattle.std.specs.List.{AllByRecursion};
+ghost use Rattle.lgm_script.specs.Groups.{IsOfKind, AreAlike};
 ghost use Rattle.lgm_script.specs.Output.{Sends, SendsPart};
-ghost use Rattle.lgm_server.specs.Filtering.{filter_read};
-ghost use Rattle.lgm_server.specs.Answer.{filter_text};
-ghost use Rattle.lgm_server.specs.Script.{text_for};
-ghost use Rattle.lgm_server.specs.Steps.{state_after, with_filter};
+ghost use Rattle.lgm_script.specs.Request.{request_of};
+ghost use Rattle.lgm_script.specs.declared.request.Request.TheVariants.{Route as AsksRoute};
+ghost use Rattle.lgm_server.specs.Offered.{WasChecked, state_by, offered_text};
+ghost use Rattle.lgm_server.specs.Questions.{asked_in};
+ghost use Rattle.lgm_server.specs.Steps.{state_alone, text_alone, state_from, text_from};
 
 use crate::answer::Answer;
+use crate::checking::{Offered, check_lines};
 use crate::engine::Engine;
-use crate::filtering::read_filter;
-use crate::filters::PeerFilter;
 use lgm_gossip::ChainHash;
-use lgm_script::{Output, Request, SendFault, Sink};
-use std::alloc::Global;
+use lgm_par::Gate;
+use lgm_script::{Group, Kind, Output, Payment, Request, SendFault, Sink, may_ask_routes, parse};
+use std::alloc::{AllocError, Global};
+use std::thread::Threads;
 
-/// Gives a peer the filter that these bytes are, if they are one, and sends it what passes of the committed items.
-fn answer_filter<W: Sink>(
+/// Offers the checked item of a line in its turn, if it offers one, and tells what became of it.
+fn offer<W: Sink>(
     alloc: Global,
-    chain: &ChainHash,
     number: u64,
-    peer: u16,
-    bytes: &[u8],
+    item: Option<Offered>,
     engine: &mut Engine,
     output: &mut Output<'_, W>,
 ) -> Result<(), SendFault>
-    requires { W.failures output.old.writer.now + 1 < 2 ^ 64 }
+    requires checked { IfSome item WasChecked }
+    requires few { engine.old.accepted + 1 < 2 ^ 64 }
+    requires writer { W.failures output.old.writer.now + 1 < 2 ^ 64 }
     ensures writer { output.new.writer.ghost_name ≡ output.old.writer.ghost_name }
-    ensures state { OnOk result (engine.new ≡ with_filter engine.old peer (filter_read chain.now bytes.now)) }
-    ensures told { OnOk result (Sends W.taken W.failures output.old output.new (filter_text number peer engine.old.committed (filter_read chain.now bytes.now))) }
-    ensures fault { IfErr result (SendsPart W.taken W.failures output.old output.new (filter_text number peer engine.old.committed (filter_read chain.now bytes.now))) }
+    ensures state { OnOk result (engine.new ≡ state_by engine.old item) }
+    ensures told { OnOk result (Sends W.taken W.failures output.old output.new (offered_text number engine.old.rows item)) }
+    ensures fault { IfErr result (SendsPart W.taken W.failures output.old output.new (offered_text number engine.old.rows item)) }
 {
-    match read_filter(alloc, chain, bytes)? {
-        Ok(filter) => {
-            let own = PeerFilter { peer, filter };
-            engine.set_filter(own)?;
-            engine.backlog(own).send(number, output)
-        }
-        Err(objection) => output.send_word(number, objection.word()),
+    let Some(item) = item else {
+        return Answer::Bad.send(number, output);
+    };
+    let refusal = engine.offer(alloc, item)?;
+    Answer::Outcome(refusal).send(number, output)
+}
+
+/// Answers lines of items, the first of that number: they are checked side by side, and offered in their order.
+fn answer_items<Rt: Threads + Sync, G: Gate, W: Sink>(
+    rt: &Rt,
+    alloc: Global,
+    workers: usize,
+    gate: &G,
+    chain: &ChainHash,
+    first: u64,
+    lines: &[&[u8]],
+    engine: &mut Engine,
+    output: &mut Output<'_, W>,
+) -> Result<(), SendFault>
+    requires workers { (1 ≤ workers) × (workers ≤ 64) }
+    requires items { AllByRecursion (IsOfKind Kind.Item) (asked_in lines.now) }
+    requires number { first + length lines.now < 2 ^ 64 }
+    requires few { engine.old.accepted + length lines.now ≤ 10000000 }
+    requires writer { W.failures output.old.writer.now + 1 < 2 ^ 64 }
+    ensures writer { output.new.writer.ghost_name ≡ output.old.writer.ghost_name }
+    ensures state { OnOk result (engine.new ≡ state_from chain.now engine.old (asked_in lines.now)) }
+    ensures told { OnOk result (Sends W.taken W.failures output.old output.new (text_from chain.now first engine.old (asked_in lines.now))) }
+    ensures fault { IfErr result (SendsPart W.taken W.failures output.old output.new (text_from chain.now first engine.old (asked_in lines.now))) }
+{
+    let all = check_lines(rt, alloc, workers, gate, chain, lines)?;
+    let mut number = first;
+    for item in all {
+        offer(alloc, number, item?, engine, output)?;
+        number += 1;
+    }
+    Ok(())
+}
+
+/// The payment of a line that stands alone and asks for a route.
+fn lone_payment(alloc: Global, lines: &[&[u8]]) -> Result<Option<Payment>, AllocError>
+    ensures { IfOk result (λ payment. IfSome payment (λ own. asked_in lines.now ≡ AsksRoute own ∷ [])) }
+{
+    if lines.len() != 1 || !may_ask_routes(lines) {
+        return Ok(None);
+    }
+    match parse(alloc, lines[0])? {
+        Request::Route(payment) => Ok(Some(payment)),
+        _ => Ok(None),
     }
 }
 
-/// Answers the request of the line of that number, from 1. Behind it its item is held if it is accepted, its peer has
-/// its filter if it is one, and what was accepted is committed if it asks for that.
-pub fn answer<W: Sink>(
+/// Answers lines that ask of the committed items, the first of that number.
+fn answer_questions<Rt: Threads + Sync, G: Gate, W: Sink>(
+    rt: &Rt,
     alloc: Global,
+    workers: usize,
+    gate: &G,
     chain: &ChainHash,
-    number: u64,
-    request: Request,
+    first: u64,
+    lines: &[&[u8]],
     engine: &mut Engine,
     output: &mut Output<'_, W>,
 ) -> Result<(), SendFault>
-    requires accepted { engine.old.accepted ≤ 10000000 }
+    requires workers { (1 ≤ workers) × (workers ≤ 64) }
+    requires questions { AllByRecursion (IsOfKind Kind.Question) (asked_in lines.now) }
+    requires number { first + length lines.now < 2 ^ 64 }
+    requires few { engine.old.accepted ≤ 10000000 }
     requires writer { W.failures output.old.writer.now + 1 < 2 ^ 64 }
     ensures writer { output.new.writer.ghost_name ≡ output.old.writer.ghost_name }
-    ensures state { OnOk result (engine.new ≡ state_after chain.now engine.old request) }
-    ensures told { OnOk result (Sends W.taken W.failures output.old output.new (text_for chain.now number engine.old request)) }
-    ensures fault { IfErr result (SendsPart W.taken W.failures output.old output.new (text_for chain.now number engine.old request)) }
+    ensures state { OnOk result (engine.new ≡ state_from chain.now engine.old (asked_in lines.now)) }
+    ensures told { OnOk result (Sends W.taken W.failures output.old output.new (text_from chain.now first engine.old (asked_in lines.now))) }
+    ensures fault { IfErr result (SendsPart W.taken W.failures output.old output.new (text_from chain.now first engine.old (asked_in lines.now))) }
 {
-    match request {
+    if let Some(payment) = lone_payment(alloc, lines)? {
+        let answer = engine.answer_route(rt, alloc, workers, gate, &payment)?;
+        return answer.send(first, output);
+    }
+    engine.answer_questions(rt, alloc, workers, gate, chain, first, lines, output)
+}
+
+/// Answers a line that stands alone: a commit, nothing, or no form of the grammar.
+fn answer_alone<W: Sink>(
+    alloc: Global,
+    number: u64,
+    line: &[u8],
+    engine: &mut Engine,
+    output: &mut Output<'_, W>,
+) -> Result<(), SendFault>
+    requires other { IsOfKind Kind.Other (request_of line.now) }
+    requires writer { W.failures output.old.writer.now + 1 < 2 ^ 64 }
+    ensures writer { output.new.writer.ghost_name ≡ output.old.writer.ghost_name }
+    ensures state { OnOk result (engine.new ≡ state_alone engine.old (request_of line.now)) }
+    ensures told { OnOk result (Sends W.taken W.failures output.old output.new (text_alone number engine.old (request_of line.now))) }
+    ensures fault { IfErr result (SendsPart W.taken W.failures output.old output.new (text_alone number engine.old (request_of line.now))) }
+{
+    match parse(alloc, line)? {
         Request::Quiet => Ok(()),
-        Request::Bad => Answer::Bad.send(number, output),
         Request::Commit => engine.commit(alloc, number, output),
-        Request::Offer(item) => {
-            let refusal = engine.offer(alloc, chain, item)?;
-            Answer::Outcome(refusal).send(number, output)
-        }
-        Request::Query(bytes) => {
-            let answer = engine.answer_query(alloc, chain, bytes.as_slice())?;
-            answer.send(number, output)
-        }
-        Request::Filter(peer, bytes) => {
-            answer_filter(alloc, chain, number, peer, bytes.as_slice(), engine, output)
-        }
-        Request::Route(payment) => {
-            let answer = engine.answer_route(alloc, &payment)?;
-            answer.send(number, output)
-        }
+        _ => Answer::Bad.send(number, output),
+    }
+}
+
+/// Answers the lines of a group, the first of that number. Behind it their items are held if they are accepted, their
+/// peers have their filters, and what was accepted is committed if they ask for that.
+pub fn answer<Rt: Threads + Sync, G: Gate, W: Sink>(
+    rt: &Rt,
+    alloc: Global,
+    workers: usize,
+    gate: &G,
+    chain: &ChainHash,
+    first: u64,
+    group: &Group<'_>,
+    engine: &mut Engine,
+    output: &mut Output<'_, W>,
+) -> Result<(), SendFault>
+    requires workers { (1 ≤ workers) × (workers ≤ 64) }
+    requires alike { AreAlike group.now.kind (map (λ line. line.now) group.now.lines.items) }
+    requires number { first + length group.now.lines.items < 2 ^ 64 }
+    requires few { engine.old.accepted + length group.now.lines.items ≤ 10000000 }
+    requires writer { W.failures output.old.writer.now + 1 < 2 ^ 64 }
+    ensures writer { output.new.writer.ghost_name ≡ output.old.writer.ghost_name }
+    ensures state { OnOk result (engine.new ≡ state_from chain.now engine.old (asked_in group.now.lines.items)) }
+    ensures told { OnOk result (Sends W.taken W.failures output.old output.new (text_from chain.now first engine.old (asked_in group.now.lines.items))) }
+    ensures fault { IfErr result (SendsPart W.taken W.failures output.old output.new (text_from chain.now first engine.old (asked_in group.now.lines.items))) }
+{
+    let lines = group.lines.as_slice();
+    match group.kind {
+        Kind::Item => answer_items(
+            rt, alloc, workers, gate, chain, first, lines, engine, output,
+        ),
+        Kind::Question => answer_questions(
+            rt, alloc, workers, gate, chain, first, lines, engine, output,
+        ),
+        Kind::Other => answer_alone(alloc, first, lines[0], engine, output),
     }
 }

@@ -1,25 +1,28 @@
 //! The state between two lines.
 
-ghost use Rattle.std.specs.Prelude.{◌≡◌, ◌+◌, ◌≤◌, ◌<◌, ◌^◌, ℕ, Ok, IfErr, IfOk, OnOk};
+ghost use Rattle.std.specs.Prelude.{◌≡◌, ◌+◌, ◌≤◌, ◌<◌, ◌^◌, ℕ, length, IfErr, IfOk, OnOk};
 ghost use Rattle.std.specs.Result.{result_err};
 ghost use Rattle.lgm_script.specs.Output.{Sends, SendsPart};
-ghost use Rattle.lgm_server.specs.Answer.{query_text, filter_text, commit_text, route_text, answer_text};
-ghost use Rattle.lgm_server.specs.Outcomes.{outcome_of};
-ghost use Rattle.lgm_server.specs.Query.{query_answer};
+ghost use Rattle.lgm_server.specs.Answer.{commit_text, route_text, answer_text};
+ghost use Rattle.lgm_server.specs.Offered.{outcome_on, WasChecked};
+ghost use Rattle.lgm_server.specs.Questions.{asked_in, filters_behind, questions_text};
 ghost use Rattle.lgm_server.specs.Routing.{route_answer};
-ghost use Rattle.lgm_server.specs.Steps.{opening, state_behind, state_committed, with_filter};
+ghost use Rattle.lgm_server.specs.Steps.{opening, state_behind, state_committed};
 
 use crate::answer::Answer;
-use crate::filters::{Filters, PeerFilter};
+use crate::checking::Offered;
+use crate::filters::Filters;
 use crate::maps::Maps;
-use crate::querying::answer_query;
 use crate::routing::{answer_found, asked_route};
 use lgm_check::Refusal;
 use lgm_gossip::ChainHash;
 use lgm_graph::Known;
-use lgm_script::{Item, Output, Payment, SendFault, Sink};
+use lgm_par::Gate;
+use lgm_script::{Output, Payment, SendFault, Sink};
+use lgm_store::Seed;
 use std::alloc::{AllocError, Global};
 use std::marker::Model;
+use std::thread::Threads;
 
 /// The state between two lines. Contracts see the features of nodes that are known, the rows of all accepted items,
 /// those of the items before the last commit, the number of accepted items, and the filters of peers.
@@ -42,15 +45,20 @@ impl Model for Engine {
 }
 
 impl Engine {
-    /// No item was accepted. The features that are known are kept as a copy.
-    pub fn new(alloc: Global, known: &Known) -> Result<Engine, AllocError>
+    /// No item was accepted. Points will be hashed by the seed, and the features that are known are kept as a copy.
+    pub fn new(alloc: Global, seed: Seed, known: &Known) -> Result<Engine, AllocError>
         ensures { IfOk result (λ engine. engine ≡ opening known.now) }
     {
         Ok(Engine {
-            maps: Maps::new(alloc, known)?,
+            maps: Maps::new(alloc, seed, known)?,
             accepted: 0,
             filters: Filters::new(alloc),
         })
+    }
+
+    /// Lets go of all that is held, by several workers.
+    pub fn let_go<Rt: Threads + Sync>(self, rt: &Rt, alloc: Global, workers: usize) {
+        self.maps.let_go(rt, alloc, workers);
     }
 
     /// How many items were accepted.
@@ -60,62 +68,74 @@ impl Engine {
         self.accepted
     }
 
-    /// Offers an item, and gives its refusal, if it is refused.
-    pub fn offer(
-        &mut self,
-        alloc: Global,
-        chain: &ChainHash,
-        item: Item,
-    ) -> Result<Option<Refusal>, AllocError>
-        requires { self.old.accepted + 1 < 2 ^ 64 }
-        ensures refusal { IfOk result (λ refusal. refusal ≡ result_err (outcome_of chain.now self.old.rows item)) }
-        ensures state { OnOk result (self.new ≡ state_behind self.old (outcome_of chain.now self.old.rows item)) }
+    /// Offers a checked item, and gives its refusal, if it is refused.
+    pub fn offer(&mut self, alloc: Global, item: Offered) -> Result<Option<Refusal>, AllocError>
+        requires checked { WasChecked item }
+        requires few { self.old.accepted + 1 < 2 ^ 64 }
+        ensures refusal { IfOk result (λ refusal. refusal ≡ result_err (outcome_on self.old.rows item)) }
+        ensures state { OnOk result (self.new ≡ state_behind self.old (outcome_on self.old.rows item)) }
     {
-        let refusal = self.maps.offer(alloc, chain, item)?;
+        let refusal = self.maps.offer(alloc, item)?;
         if refusal.is_none() {
             self.accepted += 1;
         }
         Ok(refusal)
     }
 
-    /// The answer to a query, which is these bytes, on the committed items.
-    pub fn answer_query(
-        &self,
-        alloc: Global,
-        chain: &ChainHash,
-        bytes: &[u8],
-    ) -> Result<Answer<'_>, AllocError>
-        ensures { IfOk result (λ answer. (n : ℕ) → answer_text n answer ≡ query_text n (query_answer chain.now self.now.committed bytes.now)) }
-    {
-        answer_query(alloc, chain, self.maps.committed(), bytes)
-    }
-
-    /// The answer to a payment, on the committed items.
-    pub fn answer_route(
+    /// The answer to a payment, on the committed items, found by several workers.
+    pub fn answer_route<Rt: Threads + Sync, G: Gate>(
         &mut self,
+        rt: &Rt,
         alloc: Global,
+        workers: usize,
+        gate: &G,
         payment: &Payment,
     ) -> Result<Answer<'static>, AllocError>
-        requires { self.old.accepted ≤ 2000000000 }
+        requires workers { (1 ≤ workers) × (workers ≤ 64) }
+        requires few { self.old.accepted ≤ 2000000000 }
         ensures same { self.new ≡ self.old }
         ensures answer { IfOk result (λ answer. (n : ℕ) → answer_text n answer ≡ route_text n payment.now.secret (route_answer self.old.known self.old.committed payment.now)) }
     {
-        let found = self.maps.find_route(alloc, &asked_route(payment));
+        let found = self
+            .maps
+            .find_route(rt, alloc, workers, gate, &asked_route(payment));
         answer_found(alloc, &payment.secret, found)
     }
 
-    /// Gives a peer a filter, in place of the one that it had.
-    pub fn set_filter(&mut self, own: PeerFilter) -> Result<(), AllocError>
-        ensures { OnOk result (self.new ≡ with_filter self.old own.peer (Ok own.filter)) }
+    /// Answers lines that ask of the committed items, the first of that number, and sets the filters among them.
+    pub fn answer_questions<Rt: Threads + Sync, G: Gate, W: Sink>(
+        &mut self,
+        rt: &Rt,
+        alloc: Global,
+        workers: usize,
+        gate: &G,
+        chain: &ChainHash,
+        number: u64,
+        lines: &[&[u8]],
+        output: &mut Output<'_, W>,
+    ) -> Result<(), SendFault>
+        requires workers { (1 ≤ workers) × (workers ≤ 64) }
+        requires few { self.old.accepted ≤ 2000000000 }
+        requires number { number + length lines.now < 2 ^ 64 }
+        requires writer { W.failures output.old.writer.now + 1 < 2 ^ 64 }
+        ensures writer { output.new.writer.ghost_name ≡ output.old.writer.ghost_name }
+        ensures state { OnOk result (self.new ≡ record self.old { filters = filters_behind chain.now self.old.filters (asked_in lines.now) }) }
+        ensures told { OnOk result (Sends W.taken W.failures output.old output.new
+            (questions_text chain.now self.old.known self.old.committed number self.old.filters (asked_in lines.now))) }
+        ensures fault { IfErr result (SendsPart W.taken W.failures output.old output.new
+            (questions_text chain.now self.old.known self.old.committed number self.old.filters (asked_in lines.now))) }
     {
-        self.filters.set(own)
-    }
-
-    /// The answer to a filter that was set: what passes it of the committed items.
-    pub fn backlog(&self, own: PeerFilter) -> Answer<'_>
-        ensures { (n : ℕ) → answer_text n result ≡ filter_text n own.peer self.now.committed (Ok own.filter) }
-    {
-        Answer::Backlog(own, self.maps.committed())
+        self.maps.answer_questions(
+            rt,
+            alloc,
+            workers,
+            gate,
+            chain,
+            number,
+            lines,
+            &mut self.filters,
+            output,
+        )
     }
 
     /// Makes the accepted items those that requests are answered on, and tells what is new to the peers. It costs what

@@ -7,6 +7,7 @@
 mod answer;
 mod answering;
 mod chart;
+mod checking;
 mod engine;
 mod filtering;
 mod filters;
@@ -15,11 +16,16 @@ mod maps;
 mod objection;
 mod offering;
 mod querying;
+mod questions;
+mod releasing;
 mod routing;
 mod run_fault;
 mod running;
 mod sending;
 mod telling;
 
+pub use answer::outcome_word;
+pub use routing::asked_route;
 pub use run_fault::RunFault;
 pub use running::{Counts, MAX_LINES, run};
+pub use telling::send_route;

@@ -1,29 +1,38 @@
 //! The map that grows, and the committed one.
 
-ghost use Rattle.std.specs.Prelude.{◌≡◌, ◌⊎◌, ◌≤◌, length, Err, IfOk, OnOk, OnErr};
+ghost use Rattle.std.specs.Prelude.{◌≡◌, ◌⊎◌, ◌+◌, ◌≤◌, ◌<◌, ◌^◌, [], true, length, Err, IfOk, IfErr, OnOk, OnErr};
 ghost use Rattle.std.specs.Result.{result_err};
 ghost use Rattle.lgm_store.specs.Rows.{empty};
+ghost use Rattle.lgm_store.specs.History.{fold_from};
 ghost use Rattle.lgm_graph.specs.Edges.{edges_of};
 ghost use Rattle.lgm_query.specs.Touched.{HasTouched};
 ghost use Rattle.lgm_route.specs.Choice.{answer_of};
-ghost use Rattle.lgm_server.specs.Chart.{ShowsCommitted, IsBeside};
+ghost use Rattle.lgm_script.specs.Output.{Sends, SendsPart};
+ghost use Rattle.lgm_server.specs.Chart.{Shows, ShowsCommitted, IsBeside};
 ghost use Rattle.lgm_server.specs.Maps.{grown};
-ghost use Rattle.lgm_server.specs.Outcomes.{outcome_of};
+ghost use Rattle.lgm_server.specs.Offered.{outcome_on, WasChecked};
+ghost use Rattle.lgm_server.specs.Questions.{asked_in, filters_behind, questions_text};
 
 use crate::chart::{Chart, Kept};
+use crate::checking::Offered;
+use crate::filters::Filters;
 use crate::leveling::level;
 use crate::offering::offer;
+use crate::questions::{answer_questions, find_chunked};
+use crate::releasing::release;
 use lgm_check::Refusal;
 use lgm_gossip::ChainHash;
 use lgm_graph::{Known, View};
+use lgm_par::Gate;
 use lgm_query::{Changes, Differences};
-use lgm_route::{Request, Route, RouteFault, least};
-use lgm_script::Item;
-use lgm_store::{Map, Op};
+use lgm_route::{Request, Route, RouteFault};
+use lgm_script::{Output, SendFault, Sink, may_ask_routes};
+use lgm_store::{Map, Op, Seed};
 use std::alloc::{AllocError, Global};
 use std::collections::VecDeque;
 use std::marker::Model;
 use std::mem::swap;
+use std::thread::Threads;
 
 /// The map of all accepted items, and that of the committed ones, with the view that routes are searched in. At a commit
 /// the maps change places, and the one that grows does what it is behind by when it is needed. Contracts see the rows of
@@ -32,10 +41,10 @@ use std::mem::swap;
 pub struct Maps {
     /// The map of all accepted items, but for what is due.
     map: Map,
-    /// What the map has yet to do, in order.
-    due: VecDeque<Op>,
     /// The map of the items before the last commit.
     committed: Map,
+    /// What the map has yet to do, in order.
+    due: VecDeque<Op>,
     /// What was accepted since the last commit.
     pending: VecDeque<Op>,
     chart: Chart,
@@ -77,37 +86,44 @@ fn make_view(alloc: Global, committed: &Map, chart: &mut Chart) -> Result<(), Al
     Ok(())
 }
 
-/// The least route in the view of the committed map, which is made if there is none.
-fn find(
+/// Makes sure of a view of the committed map where routes are asked for. What is due is done first if a view follows the
+/// map that is behind.
+fn chart_routes(
     alloc: Global,
+    routes: bool,
     committed: &Map,
+    map: &mut Map,
+    due: &mut VecDeque<Op>,
     chart: &mut Chart,
-    request: &Request,
-) -> Result<Route, RouteFault>
+) -> Result<(), AllocError>
     requires few { length committed.now.channels ≤ 2000000000 }
-    requires shows { ShowsCommitted committed.now chart.old }
+    requires rows { (due.old.items ≡ []) ⊎ (fold_from map.old due.old.items ≡ committed.now) }
+    requires shows { Shows map.old due.old.items committed.now chart.old }
+    ensures rows { fold_from map.new due.new.items ≡ fold_from map.old due.old.items }
+    ensures none { due.old.items ≡ [] → due.new.items ≡ [] }
+    ensures shows { Shows map.new due.new.items committed.now chart.new }
+    ensures made { OnOk result (routes ≡ true → IsBeside chart.new.kept) }
     ensures known { chart.new.known ≡ chart.old.known }
-    ensures shows { ShowsCommitted committed.now chart.new }
-    ensures found { (result ≡ Err RouteFault.NoMemory) ⊎ (result ≡ answer_of (edges_of chart.old.known committed.now) request.now) }
 {
-    make_view(alloc, committed, chart)?;
-    let Kept::Beside(view) = &chart.kept else {
-        unreachable!();
-    };
-    view.shows_the_edges();
-    committed.rows_are_lawful();
-    least(alloc, view, request)
+    if !routes {
+        return Ok(());
+    }
+    if let Kept::Behind(_) = chart.kept {
+        level(alloc, committed, map, due, chart)?;
+    }
+    make_view(alloc, committed, chart)
 }
 
 impl Maps {
-    /// Maps with no rows. The features that are known are kept as a copy. The only error is want of memory.
-    pub fn new(alloc: Global, known: &Known) -> Result<Maps, AllocError>
+    /// Maps with no rows, whose points are hashed by the seed. The features that are known are kept as a copy. The only
+    /// error is want of memory.
+    pub fn new(alloc: Global, seed: Seed, known: &Known) -> Result<Maps, AllocError>
         ensures { IfOk result (λ maps. maps ≡ record { known = known.now; rows = empty; committed = empty }) }
     {
         Ok(Maps {
-            map: Map::new(alloc)?,
+            map: Map::with_seed(alloc, seed)?,
             due: VecDeque::new(alloc),
-            committed: Map::new(alloc)?,
+            committed: Map::with_seed(alloc, seed)?,
             pending: VecDeque::new(alloc),
             chart: Chart {
                 known: known.copy(alloc)?,
@@ -116,22 +132,11 @@ impl Maps {
         })
     }
 
-    /// The committed map.
-    pub fn committed(&self) -> &Map
-        ensures { result.now ≡ self.now.committed }
-    {
-        &self.committed
-    }
-
-    /// Offers an item, and gives its refusal, if it is refused. Want of memory leaves all as it was.
-    pub fn offer(
-        &mut self,
-        alloc: Global,
-        chain: &ChainHash,
-        item: Item,
-    ) -> Result<Option<Refusal>, AllocError>
-        ensures refusal { IfOk result (λ refusal. refusal ≡ result_err (outcome_of chain.now self.old.rows item)) }
-        ensures grown { OnOk result (self.new ≡ grown self.old (outcome_of chain.now self.old.rows item)) }
+    /// Offers a checked item, and gives its refusal, if it is refused. Want of memory leaves all as it was.
+    pub fn offer(&mut self, alloc: Global, item: Offered) -> Result<Option<Refusal>, AllocError>
+        requires { WasChecked item }
+        ensures refusal { IfOk result (λ refusal. refusal ≡ result_err (outcome_on self.old.rows item)) }
+        ensures grown { OnOk result (self.new ≡ grown self.old (outcome_on self.old.rows item)) }
         ensures same { OnErr result (self.new ≡ self.old) }
     {
         level(
@@ -141,7 +146,7 @@ impl Maps {
             &mut self.due,
             &mut self.chart,
         )?;
-        offer(alloc, chain, &mut self.map, &mut self.pending, item)
+        offer(alloc, &mut self.map, &mut self.pending, item)
     }
 
     /// What is new since the last commit. It costs what was accepted since then.
@@ -157,6 +162,15 @@ impl Maps {
         Differences::between(alloc, &self.committed, grown, &changes)
     }
 
+    /// Lets go of all rows. The maps go first: what only operations have then is freed in the order in which it came,
+    /// which is the quicker one, and by several workers side by side.
+    pub fn let_go<Rt: Threads + Sync>(self, rt: &Rt, alloc: Global, workers: usize) {
+        drop(self.map);
+        drop(self.committed);
+        release(rt, alloc, workers, self.due);
+        release(rt, alloc, workers, self.pending);
+    }
+
     /// Makes all accepted items committed ones. It costs nothing.
     pub fn commit(&mut self)
         ensures { self.new ≡ record self.old { committed = self.old.rows } }
@@ -169,21 +183,86 @@ impl Maps {
         self.chart.turn_behind();
     }
 
-    /// The least route of a payment over the edges of the committed map.
-    pub fn find_route(&mut self, alloc: Global, request: &Request) -> Result<Route, RouteFault>
-        requires { length self.old.committed.channels ≤ 2000000000 }
+    /// The least route of a payment over the edges of the committed map, found by several workers.
+    pub fn find_route<Rt: Threads + Sync, G: Gate>(
+        &mut self,
+        rt: &Rt,
+        alloc: Global,
+        workers: usize,
+        gate: &G,
+        request: &Request,
+    ) -> Result<Route, RouteFault>
+        requires workers { (1 ≤ workers) × (workers ≤ 64) }
+        requires few { length self.old.committed.channels ≤ 2000000000 }
         ensures same { self.new ≡ self.old }
         ensures found { (result ≡ Err RouteFault.NoMemory) ⊎ (result ≡ answer_of (edges_of self.old.known self.old.committed) request.now) }
     {
-        if let Kept::Behind(_) = self.chart.kept {
-            level(
-                alloc,
-                &self.committed,
-                &mut self.map,
-                &mut self.due,
-                &mut self.chart,
-            )?;
-        }
-        find(alloc, &self.committed, &mut self.chart, request)
+        chart_routes(
+            alloc,
+            true,
+            &self.committed,
+            &mut self.map,
+            &mut self.due,
+            &mut self.chart,
+        )?;
+        find_chunked(
+            rt,
+            alloc,
+            workers,
+            gate,
+            &self.committed,
+            &self.chart,
+            request,
+        )
+    }
+
+    /// Answers lines that ask of the committed map, the first of that number: they are decided side by side, and told in
+    /// their order.
+    pub fn answer_questions<Rt: Threads + Sync, G: Gate, W: Sink>(
+        &mut self,
+        rt: &Rt,
+        alloc: Global,
+        workers: usize,
+        gate: &G,
+        chain: &ChainHash,
+        number: u64,
+        lines: &[&[u8]],
+        filters: &mut Filters,
+        output: &mut Output<'_, W>,
+    ) -> Result<(), SendFault>
+        requires workers { (1 ≤ workers) × (workers ≤ 64) }
+        requires few { length self.old.committed.channels ≤ 2000000000 }
+        requires number { number + length lines.now < 2 ^ 64 }
+        requires writer { W.failures output.old.writer.now + 1 < 2 ^ 64 }
+        ensures same { self.new ≡ self.old }
+        ensures writer { output.new.writer.ghost_name ≡ output.old.writer.ghost_name }
+        ensures filters { OnOk result (filters.new ≡ filters_behind chain.now filters.old (asked_in lines.now)) }
+        ensures told { OnOk result (Sends W.taken W.failures output.old output.new
+            (questions_text chain.now self.old.known self.old.committed number filters.old (asked_in lines.now))) }
+        ensures fault { IfErr result (SendsPart W.taken W.failures output.old output.new
+            (questions_text chain.now self.old.known self.old.committed number filters.old (asked_in lines.now))) }
+    {
+        chart_routes(
+            alloc,
+            may_ask_routes(lines),
+            &self.committed,
+            &mut self.map,
+            &mut self.due,
+            &mut self.chart,
+        )?;
+        let committed = &self.committed;
+        answer_questions(
+            rt,
+            alloc,
+            workers,
+            gate,
+            chain,
+            committed,
+            &self.chart,
+            number,
+            lines,
+            filters,
+            output,
+        )
     }
 }

@@ -1,55 +1,51 @@
-//! Items, offered to a map.
+//! Checked items, offered to a map.
 
 ghost use Rattle.std.specs.Prelude.{◌≡◌, IfOk, OnOk, OnErr};
 ghost use Rattle.std.specs.Result.{result_err};
 ghost use Rattle.lgm_wire.specs.Reading.{Gives};
 ghost use Rattle.lgm_store.specs.History.{absorbed};
 ghost use Rattle.lgm_server.specs.Behind.{Keeps};
-ghost use Rattle.lgm_server.specs.Outcomes.{outcome_of};
+ghost use Rattle.lgm_server.specs.Offered.{outcome_on};
 
-use lgm_check::{Refusal, precheck_owned};
-use lgm_gossip::ChainHash;
-use lgm_script::Item;
+use crate::checking::Offered;
+use lgm_check::Refusal;
 use lgm_store::{Map, Op};
 use std::alloc::{AllocError, Global};
 use std::collections::VecDeque;
 
 /// Admits an item and does its operation, which it gives. A refusal or want of memory leaves the map as it was.
-#[tactic(auto, unfolding(crate::specs::Outcomes::outcome_of))]
-fn admit(alloc: Global, chain: &ChainHash, map: &mut Map, item: Item) -> Result<Op, Refusal>
-    ensures outcome { Gives Refusal.NoMemory (λ op. op) result (outcome_of chain.now map.old item) }
+#[tactic(auto, unfolding(crate::specs::Offered::outcome_on))]
+fn admit(alloc: Global, map: &mut Map, item: Offered) -> Result<Op, Refusal>
+    ensures outcome { Gives Refusal.NoMemory (λ op. op) result (outcome_on map.old item) }
     ensures accepted { IfOk result (λ op. map.new ≡ absorbed map.old op) }
     ensures refused { OnErr result (map.new ≡ map.old) }
 {
     match item {
-        Item::Gossip(bytes, evidence) => {
-            let checked = precheck_owned(alloc, chain, bytes, &evidence)?;
-            map.offer(alloc, checked)
-        }
-        Item::Close(scid) => {
+        Offered::Message(candidate) => map.offer_candidate(alloc, candidate),
+        Offered::Close(scid) => {
             let close = map.admit_close(scid)?;
             map.absorb(&close)?;
             Ok(close)
         }
+        Offered::Refused(refusal) => Err(refusal),
     }
 }
 
-/// Offers an item to a map, and gives its refusal, if it is refused. The operation of one that is accepted is pending
+/// Offers a checked item to a map, and gives its refusal, if it is refused. The operation of one that is accepted is pending
 /// from then on. Want of memory leaves all as it was.
 pub fn offer(
     alloc: Global,
-    chain: &ChainHash,
     map: &mut Map,
     pending: &mut VecDeque<Op>,
-    item: Item,
+    item: Offered,
 ) -> Result<Option<Refusal>, AllocError>
-    ensures refusal { IfOk result (λ refusal. refusal ≡ result_err (outcome_of chain.now map.old item)) }
-    ensures kept { OnOk result (Keeps (outcome_of chain.now map.old item) map.old map.new pending.old.items pending.new.items) }
+    ensures refusal { IfOk result (λ refusal. refusal ≡ result_err (outcome_on map.old item)) }
+    ensures kept { OnOk result (Keeps (outcome_on map.old item) map.old map.new pending.old.items pending.new.items) }
     ensures same { OnErr result (map.new ≡ map.old) }
     ensures none { OnErr result (pending.new.items ≡ pending.old.items) }
 {
     pending.reserve(1)?;
-    match admit(alloc, chain, map, item) {
+    match admit(alloc, map, item) {
         Ok(op) => match pending.push_back(op) {
             Ok(()) => Ok(None),
             Err(_) => unreachable!(),

@@ -1,8 +1,10 @@
 //! Answers to queries.
 
-ghost use Rattle.std.specs.Prelude.{◌≡◌, ℕ, IfOk, Ok};
+ghost use Rattle.std.specs.Prelude.{◌≡◌, ℕ, List, IfOk, Ok};
 ghost use Rattle.lgm_server.specs.Query.{answer_to, query_answer};
 ghost use Rattle.lgm_server.specs.Answer.{answer_text, query_text};
+ghost use Rattle.lgm_server.specs.Questions.{filters_by};
+ghost use Rattle.lgm_server.specs.declared.filters.PeerFilter.{PeerFilter};
 
 use crate::answer::Answer;
 use crate::objection::Objection;
@@ -18,7 +20,8 @@ fn answer_message<'a>(
     map: &'a Map,
     message: &Message,
 ) -> Result<Answer<'a>, AllocError>
-    ensures { IfOk result (λ answer. (n : ℕ) → answer_text n answer ≡ query_text n (answer_to chain.now map.now (Ok message.now))) }
+    ensures text { IfOk result (λ answer. (n : ℕ) → answer_text n answer ≡ query_text n (answer_to chain.now map.now (Ok message.now))) }
+    ensures filters { IfOk result (λ answer. (filters : List PeerFilter) → filters_by filters answer ≡ filters) }
 {
     match message {
         Message::IdsQuery(query) => Ok(Answer::Messages(answer_ids(alloc, chain, map, query)?)),
@@ -34,7 +37,8 @@ pub fn answer_query<'a>(
     map: &'a Map,
     bytes: &[u8],
 ) -> Result<Answer<'a>, AllocError>
-    ensures { IfOk result (λ answer. (n : ℕ) → answer_text n answer ≡ query_text n (query_answer chain.now map.now bytes.now)) }
+    ensures text { IfOk result (λ answer. (n : ℕ) → answer_text n answer ≡ query_text n (query_answer chain.now map.now bytes.now)) }
+    ensures filters { IfOk result (λ answer. (filters : List PeerFilter) → filters_by filters answer ≡ filters) }
 {
     match decode(alloc, bytes) {
         Ok(message) => answer_message(alloc, chain, map, &message),

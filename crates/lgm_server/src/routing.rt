@@ -1,8 +1,10 @@
 //! Answers to payments.
 
-ghost use Rattle.std.specs.Prelude.{◌≡◌, ◌≢◌, ℕ, Err, IfOk};
+ghost use Rattle.std.specs.Prelude.{◌≡◌, ◌≢◌, ℕ, List, Err, IfOk};
 ghost use Rattle.lgm_server.specs.Answer.{answer_text, route_text};
 ghost use Rattle.lgm_server.specs.Routing.{asked_route};
+ghost use Rattle.lgm_server.specs.Questions.{filters_by};
+ghost use Rattle.lgm_server.specs.declared.filters.PeerFilter.{PeerFilter};
 
 use crate::answer::Answer;
 use lgm_payload::build;
@@ -30,6 +32,7 @@ pub fn answer_found(
 ) -> Result<Answer<'static>, AllocError>
     ensures decided { IfOk result (λ _. found ≢ Err RouteFault.NoMemory) }
     ensures answer { IfOk result (λ answer. (n : ℕ) → answer_text n answer ≡ route_text n secret.now found) }
+    ensures filters { IfOk result (λ answer. (filters : List PeerFilter) → filters_by filters answer ≡ filters) }
 {
     match found {
         Ok(route) => {

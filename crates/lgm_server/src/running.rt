@@ -1,9 +1,10 @@
 //! A whole script.
 
-ghost use Rattle.std.specs.Prelude.{◌≡◌, ◌≢◌, ◌+◌, ◌<◌, ◌^◌, [], IfSome, IfOk, IfErr};
+ghost use Rattle.std.specs.Prelude.{◌≡◌, ◌≢◌, ◌+◌, ◌<◌, ◌≤◌, ◌^◌, [], length, IfSome, IfOk, IfErr};
 ghost use Rattle.lgm_script.specs.Device.{Appends, AppendsSome};
-ghost use Rattle.lgm_script.specs.Output.{Sends, SendsSome};
+ghost use Rattle.lgm_script.specs.Output.{Sends, SendsPart, SendsSome};
 ghost use Rattle.lgm_server.specs.Steps.{opening};
+ghost use Rattle.lgm_server.specs.Progress.{HaveAnswers, HaveBegun};
 ghost use Rattle.lgm_server.specs.Running.{IsAnswered, IsTooMany, IsTooLong, IsCutShort};
 ghost use Rattle.lgm_server.specs.Ending.{IsEnded};
 
@@ -12,8 +13,15 @@ use crate::engine::Engine;
 use crate::run_fault::RunFault;
 use lgm_gossip::ChainHash;
 use lgm_graph::Known;
-use lgm_script::{BLOCK, LineReader, Output, Sink, Source, more_begins, next_line, parse};
+use lgm_par::Gate;
+use lgm_script::{
+    BLOCK, LineReader, MAX_LINE, Output, SendFault, Sink, Source, more_begins, next_group,
+    next_line,
+};
+use lgm_store::Seed;
 use std::alloc::Global;
+use std::random::RandomSource;
+use std::thread::Threads;
 
 /// The most lines that a script has.
 pub const MAX_LINES: u64 = 10_000_000;
@@ -27,15 +35,63 @@ pub struct Counts {
     pub accepted: u64,
 }
 
-/// Answers the lines of a script, where nothing was read or answered yet. Some of the answers may still be gathered.
-fn answer_lines<R: Source, W: Sink>(
+/// The most lines that so many workers take together. What one worker finds by itself should still lie close at hand when
+/// its turn comes.
+fn most_for(workers: usize) -> usize
+    ensures { 0 < result }
+{
+    if workers == 1 { 32 } else { 1_024 }
+}
+
+/// Answers the next lines, the first of that number and of so many bytes. Gives how many they are, at most so many, and
+/// how many bytes they take up.
+fn answer_next<Rt: Threads + Sync, G: Gate, W: Sink>(
+    rt: &Rt,
     alloc: Global,
+    workers: usize,
+    gate: &G,
+    chain: &ChainHash,
+    number: u64,
+    first: usize,
+    most: usize,
+    lines: &LineReader,
+    engine: &mut Engine,
+    output: &mut Output<'_, W>,
+) -> Result<(u64, usize), SendFault>
+    requires workers { (1 ≤ workers) × (workers ≤ 64) }
+    requires line { (first ≤ length lines.now) × (first ≤ MAX_LINE) }
+    requires most { (0 < most) × (most ≤ 10000000) }
+    requires number { number ≤ 10000000 }
+    requires few { engine.old.accepted + most ≤ 10000000 }
+    requires writer { W.failures output.old.writer.now + 1 < 2 ^ 64 }
+    ensures writer { output.new.writer.ghost_name ≡ output.old.writer.ghost_name }
+    ensures answered { IfOk result (λ done. HaveAnswers chain.now number engine.old engine.new lines.now first
+        (Sends W.taken W.failures output.old output.new) done.0 done.1) }
+    ensures few { IfOk result (λ done. done.0 ≤ most) }
+    ensures fault { IfErr result (λ fault. HaveBegun chain.now number engine.old lines.now first
+        (λ text. SendsPart W.taken W.failures output.old output.new text fault)) }
+{
+    let most = most.min(most_for(workers));
+    let group = next_group(alloc, lines.buffered(), first, most)?;
+    answer(
+        rt, alloc, workers, gate, chain, number, &group, engine, output,
+    )?;
+    Ok((group.lines.len() as u64, group.len))
+}
+
+/// Answers the lines of a script, where nothing was read or answered yet. Some of the answers may still be gathered.
+fn answer_lines<Rt: Threads + Sync, G: Gate, R: Source, W: Sink>(
+    rt: &Rt,
+    alloc: Global,
+    workers: usize,
+    gate: &G,
     chain: &ChainHash,
     lines: &mut LineReader,
     source: &mut R,
     engine: &mut Engine,
     output: &mut Output<'_, W>,
 ) -> Result<Counts, RunFault>
+    requires workers { (1 ≤ workers) × (workers ≤ 64) }
     requires lines { lines.old ≡ [] }
     requires engine { engine.old ≡ opening engine.old.known }
     requires source { R.failures source.old + 1 < 2 ^ 64 }
@@ -53,16 +109,30 @@ fn answer_lines<R: Source, W: Sink>(
     ensures write { result ≡ Err RunFault.Write → W.failures output.old.writer.now < W.failures output.new.writer.now }
     ensures well { result ≢ Err RunFault.Write → W.failures output.new.writer.now ≡ W.failures output.old.writer.now }
 {
-    for number in 0..MAX_LINES {
+    let mut number = 0;
+    while number < MAX_LINES {
         let Some(count) = next_line(lines, source, output)? else {
             return Ok(Counts {
                 lines: number,
                 accepted: engine.accepted(),
             });
         };
-        let request = parse(alloc, lines.line(count))?;
-        lines.drop_line(count);
-        answer(alloc, chain, number + 1, request, engine, output)?;
+        let most = (MAX_LINES - number) as usize;
+        let (some, len) = answer_next(
+            rt,
+            alloc,
+            workers,
+            gate,
+            chain,
+            number + 1,
+            count,
+            most,
+            lines,
+            engine,
+            output,
+        )?;
+        lines.drop_front(len);
+        number += some;
     }
     if more_begins(lines, source, output)? {
         return Err(RunFault::TooManyLines);
@@ -74,13 +144,17 @@ fn answer_lines<R: Source, W: Sink>(
 }
 
 /// Answers a whole script to an output where nothing is gathered, and writes all answers.
-fn answer_all<R: Source, W: Sink>(
+fn answer_all<Rt: Threads + Sync + RandomSource, G: Gate, R: Source, W: Sink>(
+    rt: &Rt,
     alloc: Global,
+    workers: usize,
+    gate: &G,
     chain: &ChainHash,
     known: &Known,
     source: &mut R,
     output: &mut Output<'_, W>,
 ) -> Result<Counts, RunFault>
+    requires workers { (1 ≤ workers) × (workers ≤ 64) }
     requires gathered { output.old.gathered.now.items ≡ [] }
     requires source { R.failures source.old + 1 < 2 ^ 64 }
     requires writer { W.failures output.old.writer.now + 1 < 2 ^ 64 }
@@ -97,9 +171,21 @@ fn answer_all<R: Source, W: Sink>(
     ensures write { result ≡ Err RunFault.Write → W.failures output.old.writer.now < W.failures output.new.writer.now }
 {
     let mut lines = LineReader::new(alloc)?;
-    let mut engine = Engine::new(alloc, known)?;
-    let answered = answer_lines(alloc, chain, &mut lines, source, &mut engine, output);
-    write_answers(answered, output)
+    let mut engine = Engine::new(alloc, Seed::random(rt), known)?;
+    let answered = answer_lines(
+        rt,
+        alloc,
+        workers,
+        gate,
+        chain,
+        &mut lines,
+        source,
+        &mut engine,
+        output,
+    );
+    let written = write_answers(answered, output);
+    engine.let_go(rt, alloc, workers);
+    written
 }
 
 /// Writes what is gathered of the answers, unless the writer has failed. Gives how the run ended.
@@ -123,18 +209,27 @@ fn write_answers<W: Sink>(
 /// Answers a whole script: its lines, in order, each by the lines before it (see the grammar in `docs/script.md`).
 /// Payments go to no node that wants features which aren't known.
 ///
+/// The work is shared by 1 to 64 workers. Lines that stand side by side and were read whole are taken together, at most
+/// 1,024 of items or 64 of questions, and 32 by one worker: they are read, checked and decided in pieces, each of which passes the gate, and
+/// told in their order. Neither the number of workers nor the gate changes what is written, nor do the random bytes that
+/// are asked of the system, with which points are hashed.
+///
 /// What is answered is written before the source is read again, and in blocks otherwise. At `TooManyLines` and
 /// `LineTooLong` the lines before were answered. After each other fault what was written is a beginning of the text of
 /// lines that were read, each to its line feed or to the end; answers that were found before memory was refused are
 /// written. `Read` and `Write` come only where the device failed in this call; at any fault the reader and the writer
 /// have moved on.
-pub fn run<R: Source, W: Sink>(
+pub fn run<Rt: Threads + Sync + RandomSource, G: Gate, R: Source, W: Sink>(
+    rt: &Rt,
     alloc: Global,
     reader: &mut R,
     writer: &mut W,
     chain: &ChainHash,
     known: &Known,
+    workers: usize,
+    gate: &G,
 ) -> Result<Counts, RunFault>
+    requires workers { (1 ≤ workers) × (workers ≤ 64) }
     requires reader { R.failures reader.old + 1 < 2 ^ 64 }
     requires writer { W.failures writer.old + 1 < 2 ^ 64 }
 
@@ -158,5 +253,5 @@ pub fn run<R: Source, W: Sink>(
 {
     let mut block = Vec::with_capacity(alloc, BLOCK)?;
     let mut output = Output::new(&mut block, writer);
-    answer_all(alloc, chain, known, reader, &mut output)
+    answer_all(rt, alloc, workers, gate, chain, known, reader, &mut output)
 }

@@ -29,7 +29,7 @@ fn send_hops<W: Sink>(
 }
 
 /// Sends what the payer of a route sends, when it expires and how many hops there are, and then each hop.
-pub(crate) fn send_route<W: Sink>(
+pub fn send_route<W: Sink>(
     number: u64,
     route: &Route,
     payloads: &Payloads,

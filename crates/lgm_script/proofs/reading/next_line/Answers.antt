@@ -17,15 +17,15 @@ failed_is a b e = cc
 pub returns-then-count-gt-MAX_LINE-clause-too_long : goal.returns-then-count-gt-MAX_LINE-clause-too_long
 returns-then-count-gt-MAX_LINE-clause-too_long g c = λ e.
     let left = g.R.Source.left c.loop-count.source in
-    first_is_longer 140000 c.in-Some.count c.loop-count.lines left (c.in-Some.ensures.line left) c.if-count-gt-MAX_LINE.true
+    first_is_longer 140000 c.in-Some.count c.loop-count.lines left (rw c.buffered.ensures at c.in-Some.ensures.line left) c.if-count-gt-MAX_LINE.true
 
 pub returns-else-count-gt-MAX_LINE-clause-line : goal.returns-else-count-gt-MAX_LINE-clause-line
-returns-else-count-gt-MAX_LINE-clause-line g c = c.in-Some.ensures.line (g.R.Source.left c.loop-count.source)
+returns-else-count-gt-MAX_LINE-clause-line g c = rw c.buffered.ensures at c.in-Some.ensures.line (g.R.Source.left c.loop-count.source)
 
 pub returns-then-searched-gt-MAX_LINE-clause-too_long : goal.returns-then-searched-gt-MAX_LINE-clause-too_long
 returns-then-searched-gt-MAX_LINE-clause-too_long g c = λ e.
     let long : 140000 < length c.loop-count.lines = omega (arith, c.if-searched-gt-MAX_LINE.true, ap length c.buffered-searched.ensures) in
-    has_longer 140000 c.loop-count.lines (g.R.Source.left c.loop-count.source) c.in_default.ensures.none long
+    has_longer 140000 c.loop-count.lines (g.R.Source.left c.loop-count.source) (rw c.buffered.ensures at c.in_default.ensures.none) long
 
 pub returns-in_err-read_on-clause-told : goal.returns-in_err-read_on-clause-told
 returns-in_err-read_on-clause-told g c = λ other.
@@ -55,7 +55,7 @@ loop-count-preserved g c =
       writer = c.in_ok-read_on.ensures.writer ∙ c.loop-count.invariant.writer;
       kept = c.in_ok-read_on.ensures.kept ∙ c.loop-count.invariant.kept;
       within = let grown = c.in_ok-read_on.ensures.more (ap (λ (b : Bool). Ok b) c.if-not-branch.false) in omega (arith, size);
-      one = rw size (All-same EndsNoLine (take (length lines) c.read_on.new.lines) lines c.in_ok-read_on.ensures.front c.in_default.ensures.none);
+      one = rw size (All-same EndsNoLine (take (length lines) c.read_on.new.lines) lines c.in_ok-read_on.ensures.front (rw c.buffered.ensures at c.in_default.ensures.none));
       told = tells_both _ _ _ [] [] c.loop-count.invariant.told (c.in_ok-read_on.ensures.told (λ e. cc));
       well = c.in_ok-read_on.ensures.well (λ e. cc) ∙ c.loop-count.invariant.well;
     }

@@ -1,6 +1,5 @@
-use Rattle.lgm_server.proofs.Keeping.{outcome_offers}
+use Rattle.lgm_server.proofs.Keeping.{message_offers}
 use Rattle.lgm_server.proofs.offering.admit.Goals as goal
 
-pub returns-in_ok-checked-in-Gossip-clause-outcome : goal.returns-in_ok-checked-in-Gossip-clause-outcome
-returns-in_ok-checked-in-Gossip-clause-outcome c =
-    outcome_offers c.args.chain.now c.args.map.now c.args.item _ _ _ _ c.in-Gossip.is c.in_ok-checked-in-Gossip.ensures.exact c.offer.ensures.admission
+pub returns-in-Message-clause-outcome : goal.returns-in-Message-clause-outcome
+returns-in-Message-clause-outcome c = message_offers c.args.map.now c.args.item _ _ c.in-Message.is c.offer_candidate.ensures.admission

@@ -1,13 +1,12 @@
-use Rattle.std.proofs.Common.{◌≡◌, ◌+◌, ◌≤◌, Bool, [], ℕ, Option, take, refl, sym, ap, subst, ◌∙◌, arith, rules}
-use Rattle.std.proofs.lemmas.List.{length-take}
+use Rattle.std.proofs.Common.{◌≡◌, Bool, [], ℕ, Option, refl, sym, ap, subst, ◌∙◌, arith, rules}
+use Rattle.std.proofs.lemmas.List.{length-map}
+use Rattle.std.specs.Prelude.{map}
 use Rattle.std.proofs.lemmas.Result.{err_from_is_err_and}
 use Rattle.lgm_script.specs.Lines.{ahead}
 use Rattle.lgm_script.specs.Output.{seen, Tells}
-use Rattle.lgm_script.specs.Request.{request_of, HasLawfulPeer}
+use Rattle.lgm_script.specs.Request.{request_of}
 use Rattle.lgm_script.proofs.Telling.{some_of_all, some_of_part}
-use Rattle.lgm_server.specs.Script.{text_for}
-use Rattle.lgm_server.specs.Steps.{state_after}
-use Rattle.lgm_server.proofs.Stepping.{accepted-le}
+use Rattle.lgm_server.proofs.Stepping.{accepted_from-le}
 use Rattle.lgm_server.proofs.Progress.{SoFar, starts, step, told_on, ends, many, long, cut, cut_in, failed, line_some, too_long_only}
 use Rattle.lgm_server.proofs.running.answer_lines.Goals as goal
 
@@ -16,6 +15,7 @@ loop-number-init g c = rw (c.requires.engine, c.requires.lines) (record {
   name = refl;
   source = refl;
   writer = refl;
+  within = omega arith;
   few = omega arith;
   so_far = starts c.args.chain.now c.args.engine.now.known (g.R.Source.left c.args.source.now) (seen g.W.Sink.taken g.W.Sink.failures c.args.output.now);
 })
@@ -62,16 +62,8 @@ returns-in_default-clause-ok g c =
     (told_on chain known script k state input old mid new c.loop-number.invariant.so_far (c.in_ok-count.ensures.told (λ e. absurd cc)))
     c.in_ok-count.ensures.kept (c.in_ok-count.ensures.end (search rules)) (omega arith))
 
-pub returns-in_err-request-clause-some : goal.returns-in_err-request-clause-some
-returns-in_err-request-clause-some g c =
-    let mid = seen g.W.Sink.taken g.W.Sink.failures c.loop-number.output in
-    let new = seen g.W.Sink.taken g.W.Sink.failures c.next_line.new.output in
-    (cut c.args.chain.now c.args.engine.now.known (g.R.Source.left c.args.source.now) c.loop-number.number c.loop-number.engine c.next_line.new.lines (g.R.Source.left c.next_line.new.source)
-    (ahead c.loop-number.lines (g.R.Source.left c.loop-number.source)) (seen g.W.Sink.taken g.W.Sink.failures c.args.output.now) mid new
-    c.loop-number.invariant.so_far c.in_ok-count.ensures.kept (some_of_all mid new [] (c.in_ok-count.ensures.told (λ e. absurd cc))))
-
-pub returns-in_err-answer-clause-some : goal.returns-in_err-answer-clause-some
-returns-in_err-answer-clause-some g c =
+pub returns-in_err-some-clause-some : goal.returns-in_err-some-clause-some
+returns-in_err-some-clause-some g c =
     let chain = c.args.chain.now in
     let known = c.args.engine.now.known in
     let script = g.R.Source.left c.args.source.now in
@@ -81,12 +73,13 @@ returns-in_err-answer-clause-some g c =
     let old = seen g.W.Sink.taken g.W.Sink.failures c.args.output.now in
     let mid = seen g.W.Sink.taken g.W.Sink.failures c.loop-number.output in
     let own = seen g.W.Sink.taken g.W.Sink.failures c.next_line.new.output in
-    let new = seen g.W.Sink.taken g.W.Sink.failures c.answer.new.output in
+    let new = seen g.W.Sink.taken g.W.Sink.failures c.answer_next.new.output in
     let first = rw c.in-Some.is at c.in_ok-count.ensures.line in
-    (cut_in chain known script k c.in-Some.count state c.in_ok-request.request c.next_line.new.lines (g.R.Source.left c.next_line.new.source) input old own new
+    let begun = c.in_err-some.ensures.fault in
+    cut_in chain known script k c.in-Some.count state c.next_line.new.lines (g.R.Source.left c.next_line.new.source) input old own new
     (told_on chain known script k state input old mid own c.loop-number.invariant.so_far (c.in_ok-count.ensures.told (λ e. absurd cc)))
-    c.in_ok-count.ensures.kept first (c.in_ok-request.ensures.value ∙ ap request_of c.line.ensures)
-    (some_of_part own new (text_for chain (k + 1) state c.in_ok-request.request) c.in_err-answer.field-0.0 c.in_err-answer.ensures.fault))
+    c.in_ok-count.ensures.kept first
+    (record { lines = begun.lines; len = begun.len; next = begun.next; text = some_of_part own new _ c.in_err-some.field-0.0 begun.text })
 
 pub loop-number-preserved : goal.loop-number-preserved
 loop-number-preserved g c =
@@ -95,34 +88,26 @@ loop-number-preserved g c =
     let script = g.R.Source.left c.args.source.now in
     let k = c.loop-number.number in
     let state = c.loop-number.engine in
-    let count = c.in-Some.count in
     let buffered = c.next_line.new.lines in
     let left = g.R.Source.left c.next_line.new.source in
-    let line = take count buffered in
-    let request = c.in_ok-request.request in
     let input = ahead c.loop-number.lines (g.R.Source.left c.loop-number.source) in
     let old = seen g.W.Sink.taken g.W.Sink.failures c.args.output.now in
     let mid = seen g.W.Sink.taken g.W.Sink.failures c.loop-number.output in
     let own = seen g.W.Sink.taken g.W.Sink.failures c.next_line.new.output in
-    let new = seen g.W.Sink.taken g.W.Sink.failures c.answer.new.output in
+    let new = seen g.W.Sink.taken g.W.Sink.failures c.answer_next.new.output in
     let first = rw c.in-Some.is at c.in_ok-count.ensures.line in
-    let short : count ≤ 140000 = rw c.in-Some.is at c.in_ok-count.ensures.short in
-    let is : request ≡ request_of line = c.in_ok-request.ensures.value ∙ ap request_of c.line.ensures in
     let told : Tells mid own [] = c.in_ok-count.ensures.told (λ e. absurd cc) in
-    let behind : c.answer.new.engine ≡ state_after chain state (request_of line) = c.in_ok-answer.ensures.state ∙ ap (state_after chain state) is in
+    let answers = c.in_ok-some.ensures.answered in
+    let asked = map request_of answers.lines in
     record {
-      name = c.in_ok-answer.ensures.writer ∙ c.in_ok-count.ensures.writer ∙ c.loop-number.invariant.name;
+      name = c.answer_next.ensures.writer ∙ c.in_ok-count.ensures.writer ∙ c.loop-number.invariant.name;
       source = c.in_ok-count.ensures.well (λ e. absurd cc) ∙ c.loop-number.invariant.source;
-      writer = let answered = c.in_ok-answer.ensures.told in answered.well ∙ told.well ∙ c.loop-number.invariant.writer;
-      few = let count_is = ap (λ x. x.accepted) behind in omega (arith, count_is, accepted-le chain state (request_of line), c.loop-number.invariant.few);
-      so_far = rw c.drop_line.ensures (step chain known script k count state c.answer.new.engine buffered left input old own new
-          (told_on chain known script k state input old mid own c.loop-number.invariant.so_far told) c.in_ok-count.ensures.kept first
-          (record {
-            short = omega (arith, length-take count buffered);
-            lawful = subst HasLawfulPeer is c.in_ok-request.ensures.peer;
-            behind = behind;
-            told = subst (λ r. Tells own new (text_for chain (k + 1) state r)) is c.in_ok-answer.ensures.told;
-          }));
+      writer = let text = answers.text in text.well ∙ told.well ∙ c.loop-number.invariant.writer;
+      within = omega (arith, c.in_ok-some.ensures.few, c.loop-number.invariant.within);
+      few = let count_is = ap (λ s. s.accepted) answers.state_is in
+          omega (arith, count_is, accepted_from-le chain state asked, length-map answers.lines request_of, answers.count_is, c.loop-number.invariant.few);
+      so_far = rw c.drop_front.ensures (step chain known script k c.in-Some.count c.in_ok-some.some c.in_ok-some.len state c.answer_next.new.engine buffered left input old own new
+          (told_on chain known script k state input old mid own c.loop-number.invariant.so_far told) c.in_ok-count.ensures.kept first answers);
     }
 
 pub returns-in_err-more_begins-clause-some : goal.returns-in_err-more_begins-clause-some

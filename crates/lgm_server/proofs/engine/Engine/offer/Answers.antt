@@ -1,6 +1,6 @@
 use Rattle.std.proofs.Common.{subst, sym, ◌+◌}
 use Rattle.lgm_server.specs.Engine.{IsFew}
-use Rattle.lgm_server.specs.Outcomes.{outcome_of}
+use Rattle.lgm_server.specs.Offered.{outcome_on}
 use Rattle.lgm_server.proofs.Fewness.{grown_few}
 use Rattle.lgm_server.proofs.engine.Engine.offer.Goals as goal
 
@@ -8,4 +8,4 @@ pub invariant_of-self-then-is_none : goal.invariant_of-self-then-is_none
 invariant_of-self-then-is_none c =
     let maps = c.self.inside.maps in
     subst (λ m. IsFew m (c.self.inside.accepted + 1)) (sym c.in_ok-refusal.ensures.grown)
-    (grown_few maps c.self.inside.accepted (outcome_of c.args.chain.now maps.rows c.args.item) c.self.invariant)
+    (grown_few maps c.self.inside.accepted (outcome_on maps.rows c.args.item) c.self.invariant)

@@ -1,5 +1,4 @@
-use Rattle.std.proofs.Common.{◌≡◌, ap, rules}
-use Rattle.std.specs.Prelude.{◌≢◌, []}
+use Rattle.std.proofs.Common.{ap, rules}
 use Rattle.lgm_server.proofs.MapLaws.{committed_kept}
 use Rattle.lgm_server.proofs.maps.Maps.commit.Goals as goal
 

@@ -1,0 +1,48 @@
+-- Lines that are answered together.
+use Rattle.std.specs.Prelude.{◌≡◌, ◌≢◌, ℕ, ◌+◌, ◌≤◌, ◌<◌, Bool, ◌||◌, List, [], ◌∷◌, length, take, drop, map, Option, codes, nat_eq, if◌then◌else◌}
+use Rattle.std.specs.List.{AllByRecursion}
+use Rattle.std.specs.Cmp.Lexicographic.{pointwise}
+use Rattle.lgm_script.specs.declared.grouping.Kind.{Kind}
+use Rattle.lgm_script.specs.declared.grouping.Kind.TheVariants.{Item, Question, Other}
+use Rattle.lgm_script.specs.declared.request.Request.{Request}
+use Rattle.lgm_script.specs.declared.request.Request.TheVariants as requests
+use Rattle.lgm_script.specs.Request.{request_of}
+use Rattle.lgm_script.specs.Lines.{IsFirstLine}
+
+-- a line that may ask for a route
+abbrev pub has_route_word : List ℕ → Bool
+has_route_word line = pointwise nat_eq (take 6 line) (codes "route ")
+
+-- the kind of a line, by its first word
+abbrev pub kind_of : List ℕ → Kind
+kind_of line =
+    if pointwise nat_eq (take 2 line) (codes "m ") || pointwise nat_eq (take 6 line) (codes "close ") then Item
+    else if pointwise nat_eq (take 2 line) (codes "q ") || pointwise nat_eq (take 7 line) (codes "filter ") || has_route_word line then Question
+    else Other
+
+-- these lines stand whole at the front of what was read ahead, and behind them these bytes
+abbrev pub AreFirstLines : List ℕ → Option (List ℕ) → List (List ℕ) → List ℕ → Type 0
+AreFirstLines buffered left [] rest = rest ≡ buffered
+AreFirstLines buffered left (line ∷ lines) rest =
+    (line ≡ take (length line) buffered) × IsFirstLine buffered left (length line) × AreFirstLines (drop (length line + 1) buffered) left lines rest
+
+-- what a line of that kind can ask; it may be no form of the grammar whatever its first word is
+abbrev pub IsOfKind : Kind → Request → Type 0
+IsOfKind kind requests.Bad = Unit {0}
+IsOfKind Item (requests.Offer item) = Unit {0}
+IsOfKind Question (requests.Query bytes) = Unit {0}
+IsOfKind Question (requests.Filter peer bytes) = Unit {0}
+IsOfKind Question (requests.Route payment) = Unit {0}
+IsOfKind Other requests.Quiet = Unit {0}
+IsOfKind Other requests.Commit = Unit {0}
+IsOfKind kind _ = ⊥
+
+-- some lines that ask for what lines of a kind can ask, or one line of no kind
+pub record AreAlike (kind : Kind) (lines : List (List ℕ)) : Type 0 where
+  pub some : 0 < length lines
+  pub each : AllByRecursion (λ line. IsOfKind kind (request_of line)) lines
+  pub alone : kind ≡ Other → length lines ≡ 1
+
+abbrev pub IsNoRoute : Request → Type 0
+IsNoRoute (requests.Route payment) = ⊥
+IsNoRoute _ = Unit {0}

@@ -1,0 +1,142 @@
+-- Requests of one kind, and what they leave and are told.
+use Rattle.std.proofs.Common.{◌≡◌, ℕ, ◌+◌, List, [], ◌∷◌, ◌++◌, length, get_or, Bor, Option, Some, None, Result, refl, sym, ap, subst, ◌∙◌, arith}
+use Rattle.std.specs.Prelude.{map, IfSome, OnOk, IfErr}
+use Rattle.std.proofs.lemmas.List.{append-nil}
+use Rattle.std.specs.List.{AllByRecursion}
+use Rattle.std.specs.Result.{result_err}
+use Rattle.lgm_gossip.specs.declared.chain_hash.ChainHash.{ChainHash}
+use Rattle.lgm_script.specs.declared.grouping.Kind.{Kind}
+use Rattle.lgm_script.specs.declared.grouping.Kind.TheVariants as kinds
+use Rattle.lgm_script.specs.declared.request.Request.{Request}
+use Rattle.lgm_script.specs.declared.request.Request.TheVariants as requests
+use Rattle.lgm_script.specs.Groups.{IsOfKind}
+use Rattle.lgm_script.specs.Request.{request_of}
+use Rattle.lgm_server.specs.declared.checking.Offered.{Offered}
+use Rattle.lgm_server.specs.Answer.{outcome_text}
+use Rattle.lgm_server.specs.Script.{State, text_for}
+use Rattle.lgm_server.specs.Steps.{state_behind, state_after, state_from, text_from, state_alone, text_alone}
+use Rattle.lgm_server.specs.Offered.{offered_in, state_by, offered_text, WasChecked}
+use Rattle.lgm_server.specs.Questions.{asked_in, question_text, filters_after, filters_behind, questions_text}
+use Rattle.lgm_server.proofs.Keeping.{outcome_checked}
+
+-- ---- items
+
+pub item_leaves : (chain : ChainHash) (state : State) (request : Request) → IsOfKind kinds.Item request → state_by state (offered_in chain request) ≡ state_after chain state request
+item_leaves chain state requests.Bad kind = refl
+item_leaves chain state (requests.Offer item) kind = ap (state_behind state) (sym (outcome_checked chain state.rows item))
+item_leaves chain state requests.Quiet kind = absurd kind
+item_leaves chain state requests.Commit kind = absurd kind
+item_leaves chain state (requests.Query bytes) kind = absurd kind
+item_leaves chain state (requests.Filter peer bytes) kind = absurd kind
+item_leaves chain state (requests.Route payment) kind = absurd kind
+
+pub item_is_told : (chain : ChainHash) (number : ℕ) (state : State) (request : Request) → IsOfKind kinds.Item request → offered_text number state.rows (offered_in chain request) ≡ text_for chain number state request
+item_is_told chain number state requests.Bad kind = refl
+item_is_told chain number state (requests.Offer item) kind = ap (λ outcome. outcome_text number (result_err outcome)) (sym (outcome_checked chain state.rows item))
+item_is_told chain number state requests.Quiet kind = absurd kind
+item_is_told chain number state requests.Commit kind = absurd kind
+item_is_told chain number state (requests.Query bytes) kind = absurd kind
+item_is_told chain number state (requests.Filter peer bytes) kind = absurd kind
+item_is_told chain number state (requests.Route payment) kind = absurd kind
+
+was_checked : (chain : ChainHash) (request : Request) (item : Offered) → offered_in chain request ≡ Some item → WasChecked item
+was_checked chain (requests.Offer own) item is = (chain, own, cc)
+was_checked chain requests.Bad item is = absurd cc
+was_checked chain requests.Quiet item is = absurd cc
+was_checked chain requests.Commit item is = absurd cc
+was_checked chain (requests.Query bytes) item is = absurd cc
+was_checked chain (requests.Filter peer bytes) item is = absurd cc
+was_checked chain (requests.Route payment) item is = absurd cc
+
+pub was_checked_if : (chain : ChainHash) (request : Request) (item : Option Offered) → item ≡ offered_in chain request → IfSome item WasChecked
+was_checked_if chain request None is = tt
+was_checked_if chain request (Some item) is = was_checked chain request item (sym is)
+
+-- ---- questions
+
+question_leaves : (chain : ChainHash) (state : State) (request : Request) → IsOfKind kinds.Question request → record state { filters = filters_after chain state.filters request } ≡ state_after chain state request
+question_leaves chain state requests.Bad kind = refl
+question_leaves chain state (requests.Query bytes) kind = refl
+question_leaves chain state (requests.Filter peer bytes) kind = refl
+question_leaves chain state (requests.Route payment) kind = refl
+question_leaves chain state requests.Quiet kind = absurd kind
+question_leaves chain state requests.Commit kind = absurd kind
+question_leaves chain state (requests.Offer item) kind = absurd kind
+
+question_is_told : (chain : ChainHash) (number : ℕ) (state : State) (request : Request) → IsOfKind kinds.Question request → question_text chain state.known state.committed number request ≡ text_for chain number state request
+question_is_told chain number state requests.Bad kind = refl
+question_is_told chain number state (requests.Query bytes) kind = refl
+question_is_told chain number state (requests.Filter peer bytes) kind = refl
+question_is_told chain number state (requests.Route payment) kind = refl
+question_is_told chain number state requests.Quiet kind = absurd kind
+question_is_told chain number state requests.Commit kind = absurd kind
+question_is_told chain number state (requests.Offer item) kind = absurd kind
+
+-- several
+pub questions_leave : (chain : ChainHash) (state : State) (asked : List Request) → AllByRecursion (IsOfKind kinds.Question) asked
+    → record state { filters = filters_behind chain state.filters asked } ≡ state_from chain state asked
+questions_leave chain state [] kind = refl
+questions_leave chain state (request ∷ asked) kind =
+    questions_leave chain (record state { filters = filters_after chain state.filters request }) asked kind.1
+    ∙ ap (λ s. state_from chain s asked) (question_leaves chain state request kind.0)
+
+pub questions_are_told : (chain : ChainHash) (number : ℕ) (state : State) (asked : List Request) → AllByRecursion (IsOfKind kinds.Question) asked
+    → questions_text chain state.known state.committed number state.filters asked ≡ text_from chain number state asked
+questions_are_told chain number state [] kind = refl
+questions_are_told chain number state (request ∷ asked) kind =
+    ap (λ text. text ++ questions_text chain state.known state.committed (number + 1) (filters_after chain state.filters request) asked) (question_is_told chain number state request kind.0)
+    ∙ ap (λ text. text_for chain number state request ++ text)
+    (questions_are_told chain (number + 1) (record state { filters = filters_after chain state.filters request }) asked kind.1
+    ∙ ap (λ s. text_from chain (number + 1) s asked) (question_leaves chain state request kind.0))
+
+-- ---- lines that stand alone
+
+pub alone_leaves : (chain : ChainHash) (state : State) (request : Request) → IsOfKind kinds.Other request → state_alone state request ≡ state_after chain state request
+alone_leaves chain state requests.Quiet kind = refl
+alone_leaves chain state requests.Bad kind = refl
+alone_leaves chain state requests.Commit kind = refl
+alone_leaves chain state (requests.Offer item) kind = absurd kind
+alone_leaves chain state (requests.Query bytes) kind = absurd kind
+alone_leaves chain state (requests.Filter peer bytes) kind = absurd kind
+alone_leaves chain state (requests.Route payment) kind = absurd kind
+
+pub alone_is_told : (chain : ChainHash) (number : ℕ) (state : State) (request : Request) → IsOfKind kinds.Other request → text_alone number state request ≡ text_for chain number state request
+alone_is_told chain number state requests.Quiet kind = refl
+alone_is_told chain number state requests.Bad kind = refl
+alone_is_told chain number state requests.Commit kind = refl
+alone_is_told chain number state (requests.Offer item) kind = absurd kind
+alone_is_told chain number state (requests.Query bytes) kind = absurd kind
+alone_is_told chain number state (requests.Filter peer bytes) kind = absurd kind
+alone_is_told chain number state (requests.Route payment) kind = absurd kind
+
+-- ---- what lines ask
+
+-- what lines ask, by their texts
+pub asked_texts : (lines : List (Bor (List ℕ))) → asked_in lines ≡ map request_of (map (λ line. line.now) lines)
+asked_texts [] = refl
+asked_texts (line ∷ lines) = ap (λ asked. request_of line.now ∷ asked) (asked_texts lines)
+
+-- lines of a kind ask for what that kind can ask
+pub kinds_of : (kind : Kind) (lines : List (Bor (List ℕ))) → AllByRecursion (λ line. IsOfKind kind (request_of line)) (map (λ line. line.now) lines) → AllByRecursion (IsOfKind kind) (asked_in lines)
+kinds_of kind [] all = tt
+kinds_of kind (line ∷ lines) all = (all.0, kinds_of kind lines all.1)
+
+-- a line that stands alone asks for one thing
+pub asked_alone : (lines : List (Bor (List ℕ))) (d : Bor (List ℕ)) → length lines ≡ 1 → asked_in lines ≡ request_of (get_or lines 0 d).now ∷ []
+asked_alone [] d one = absurd (omega (arith, one))
+asked_alone (line ∷ []) d one = refl
+asked_alone (line ∷ other ∷ lines) d one = absurd (omega (arith, one))
+
+-- what a line that stands alone leaves, and is told
+module _ {T E : Type 0} (result : Result T E) (chain : ChainHash) (number : ℕ) (state : State) (request : Request) (asked : List Request) (one : asked ≡ request ∷ []) (kind : IsOfKind kinds.Other request) where
+  pub other_leaves : (new : State) → OnOk result (new ≡ state_alone state request) → OnOk result (new ≡ state_from chain state asked)
+  other_leaves new is = subst (λ s. OnOk result (new ≡ s)) (alone_leaves chain state request kind ∙ ap (state_from chain state) (sym one)) is
+
+  text_is : text_alone number state request ≡ text_from chain number state asked
+  text_is = alone_is_told chain number state request kind ∙ sym (append-nil (text_for chain number state request)) ∙ ap (text_from chain number state) (sym one)
+
+  pub other_is_told : (Tells : List ℕ → Type 0) → OnOk result (Tells (text_alone number state request)) → OnOk result (Tells (text_from chain number state asked))
+  other_is_told Tells told = subst (λ t. OnOk result (Tells t)) text_is told
+
+  pub other_begins : (Tells : List ℕ → E → Type 0) → IfErr result (Tells (text_alone number state request)) → IfErr result (Tells (text_from chain number state asked))
+  other_begins Tells told = subst (λ t. IfErr result (Tells t)) text_is told

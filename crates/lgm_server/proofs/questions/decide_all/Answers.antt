@@ -1,0 +1,12 @@
+use Rattle.std.proofs.Common.{rules}
+use Rattle.std.specs.Prelude.{IfOk}
+use Rattle.lgm_script.specs.Request.{request_of}
+use Rattle.lgm_par.proofs.Zipping.{zip_weaker_ok}
+use Rattle.lgm_server.specs.Questions.{IsAnswerTo}
+use Rattle.lgm_server.proofs.Zips.{zip_of_ok}
+use Rattle.lgm_server.proofs.questions.decide_all.Goals as goal
+
+pub returns : goal.returns
+returns g c =
+    zip_of_ok (λ line. request_of line.now) (λ request answer. IfOk answer (IsAnswerTo c.args.chain.now c.args.chart.now.known c.args.committed.now request)) c.args.lines.now c.map_chunks.result
+    (zip_weaker_ok _ (λ line answer. IfOk answer (IsAnswerTo c.args.chain.now c.args.chart.now.known c.args.committed.now (request_of line.now))) (λ x y h. search rules) c.args.lines.now c.map_chunks.result c.map_chunks.ensures)

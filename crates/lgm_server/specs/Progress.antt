@@ -1,0 +1,31 @@
+-- How a script goes on by a group of lines.
+use Rattle.std.specs.Prelude.{◌≡◌, ℕ, ◌<◌, ◌≤◌, List, length, map, drop, Option}
+use Rattle.std.specs.List.{AllByRecursion}
+use Rattle.lgm_gossip.specs.declared.chain_hash.ChainHash.{ChainHash}
+use Rattle.lgm_script.specs.Lines.{IsFirstLine}
+use Rattle.lgm_script.specs.Groups.{AreFirstLines}
+use Rattle.lgm_script.specs.Request.{request_of}
+use Rattle.lgm_server.specs.Script.{State}
+use Rattle.lgm_server.specs.Steps.{state_from, text_from}
+
+-- these are the next lines of what was read ahead, they take up so many bytes, and none is too long
+pub record AreNext (buffered : List ℕ) (first len : ℕ) (lines : List (List ℕ)) : Type 0 where
+  pub some : 0 < length lines
+  pub few : len ≤ length buffered
+  pub short : AllByRecursion (λ line. length line ≤ 140000) lines
+  pub front : (left : Option (List ℕ)) → IsFirstLine buffered left first → AreFirstLines buffered left lines (drop len buffered)
+
+-- so many next lines were answered, which take up so many bytes
+pub record HaveAnswers (chain : ChainHash) (number : ℕ) (state state' : State) (buffered : List ℕ) (first : ℕ) (told : List ℕ → Type 0) (count len : ℕ) : Type 0 where
+  pub lines : List (List ℕ)
+  pub next : AreNext buffered first len lines
+  pub count_is : count ≡ length lines
+  pub state_is : state' ≡ state_from chain state (map request_of lines)
+  pub text : told (text_from chain number state (map request_of lines))
+
+-- a first part of the text of next lines was told
+pub record HaveBegun (chain : ChainHash) (number : ℕ) (state : State) (buffered : List ℕ) (first : ℕ) (told_part : List ℕ → Type 0) : Type 0 where
+  pub lines : List (List ℕ)
+  pub len : ℕ
+  pub next : AreNext buffered first len lines
+  pub text : told_part (text_from chain number state (map request_of lines))

@@ -1,0 +1,74 @@
+//! Items, checked side by side.
+
+ghost use Rattle.std.specs.Prelude.{◌≡◌, ◌≤◌, IfOk};
+ghost use Rattle.std.specs.List.{AllZip};
+ghost use Rattle.lgm_script.specs.Request.{request_of};
+ghost use Rattle.lgm_server.specs.Offered.{offered_of, offered_in};
+ghost use Rattle.lgm_server.specs.Questions.{asked_in};
+
+use lgm_check::{Refusal, precheck_owned};
+use lgm_gossip::{ChainHash, Scid};
+use lgm_par::{Gate, map_chunks};
+use lgm_script::{Item, Request, parse};
+use lgm_store::Candidate;
+use std::alloc::{AllocError, Global};
+use std::thread::Threads;
+
+/// An item after its check, which needs no map.
+#[derive(Drop)]
+pub enum Offered {
+    /// A message that is lawful by itself, ready for the map.
+    Message(Candidate),
+    /// The close of a channel.
+    Close(Scid),
+    /// A message that was refused.
+    Refused(Refusal),
+}
+
+/// Checks an item.
+fn check(alloc: Global, chain: &ChainHash, item: Item) -> Result<Offered, AllocError>
+    ensures { IfOk result (λ offered. offered ≡ offered_of chain.now item) }
+{
+    match item {
+        Item::Gossip(bytes, evidence) => {
+            match precheck_owned(alloc, chain, bytes, &evidence) {
+                Ok(checked) => Ok(Offered::Message(Candidate::new(alloc, checked)?)),
+                Err(Refusal::NoMemory) => Err(AllocError),
+                Err(refusal) => Ok(Offered::Refused(refusal)),
+            }
+        }
+        Item::Close(scid) => Ok(Offered::Close(scid)),
+    }
+}
+
+/// Reads a line and checks the item that it offers, if it offers one.
+fn check_line(alloc: Global, chain: &ChainHash, line: &[u8]) -> Result<Option<Offered>, AllocError>
+    ensures { IfOk result (λ offered. offered ≡ offered_in chain.now (request_of line.now)) }
+{
+    match parse(alloc, line)? {
+        Request::Offer(item) => Ok(Some(check(alloc, chain, item)?)),
+        _ => Ok(None),
+    }
+}
+
+/// Checks the items of lines in pieces, side by side. Each has its own want of memory.
+pub fn check_lines<Rt: Threads + Sync, G: Gate>(
+    rt: &Rt,
+    alloc: Global,
+    workers: usize,
+    gate: &G,
+    chain: &ChainHash,
+    lines: &[&[u8]],
+) -> Result<Vec<Result<Option<Offered>, AllocError>>, AllocError>
+    requires { (1 ≤ workers) × (workers ≤ 64) }
+    ensures { IfOk result (λ all. AllZip (λ request offered. IfOk offered (λ o. o ≡ offered_in chain.now request)) (asked_in lines.now) all.items) }
+{
+    map_chunks(
+        rt,
+        alloc,
+        workers,
+        gate,
+        lines,
+        &|line| check_line(alloc, chain, line),
+    )
+}

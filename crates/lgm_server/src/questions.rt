@@ -1,0 +1,206 @@
+//! Questions to the committed map, decided side by side.
+
+ghost use Rattle.std.specs.Prelude.{◌≡◌, ◌⊎◌, ◌+◌, ◌≤◌, ◌<◌, ◌^◌, ℕ, List, Err, IfOk, IfErr, OnOk, All, length};
+ghost use Rattle.std.specs.List.{AllZip};
+ghost use Rattle.lgm_graph.specs.Edges.{edges_of};
+ghost use Rattle.lgm_route.specs.Choice.{answer_of};
+ghost use Rattle.lgm_script.specs.Output.{Sends, SendsPart};
+ghost use Rattle.lgm_script.specs.Request.{request_of};
+ghost use Rattle.lgm_script.specs.declared.request.Request.TheVariants.{Route as AsksRoute};
+ghost use Rattle.lgm_server.specs.Answer.{answer_text, filter_text, route_text};
+ghost use Rattle.lgm_server.specs.Chart.{ShowsCommitted, IsBeside};
+ghost use Rattle.lgm_server.specs.Filtering.{filter_read};
+ghost use Rattle.lgm_server.specs.Routing.{asked_route, route_answer};
+ghost use Rattle.lgm_server.specs.Steps.{filters_with};
+ghost use Rattle.lgm_server.specs.declared.filters.PeerFilter.{PeerFilter};
+ghost use Rattle.lgm_server.specs.Questions.{asked_in, filters_by, filters_behind, questions_text, IsAnswerTo, IsReady};
+
+use crate::answer::Answer;
+use crate::chart::{Chart, Kept};
+use crate::filtering::read_filter;
+use crate::filters::{Filters, PeerFilter};
+use crate::querying::answer_query;
+use crate::routing::{answer_found, asked_route};
+use lgm_gossip::ChainHash;
+use lgm_par::{Gate, map_chunks};
+use lgm_route::{Request as RouteRequest, Route, RouteFault, least, least_chunked};
+use lgm_script::{Output, Payment, Request, SendFault, Sink, parse};
+use lgm_store::Map;
+use std::alloc::{AllocError, Global};
+use std::thread::Threads;
+
+/// The least route in the view of the committed map.
+fn find(
+    alloc: Global,
+    committed: &Map,
+    chart: &Chart,
+    request: &RouteRequest,
+) -> Result<Route, RouteFault>
+    requires shows { ShowsCommitted committed.now chart.now }
+    requires beside { IsBeside chart.now.kept }
+    ensures { (result ≡ Err RouteFault.NoMemory) ⊎ (result ≡ answer_of (edges_of chart.now.known committed.now) request.now) }
+{
+    let Kept::Beside(view) = &chart.kept else {
+        unreachable!();
+    };
+    view.shows_the_edges();
+    committed.rows_are_lawful();
+    least(alloc, view, request)
+}
+
+/// The same, found by several workers.
+pub fn find_chunked<Rt: Threads + Sync, G: Gate>(
+    rt: &Rt,
+    alloc: Global,
+    workers: usize,
+    gate: &G,
+    committed: &Map,
+    chart: &Chart,
+    request: &RouteRequest,
+) -> Result<Route, RouteFault>
+    requires workers { (1 ≤ workers) × (workers ≤ 64) }
+    requires shows { ShowsCommitted committed.now chart.now }
+    requires beside { IsBeside chart.now.kept }
+    ensures { (result ≡ Err RouteFault.NoMemory) ⊎ (result ≡ answer_of (edges_of chart.now.known committed.now) request.now) }
+{
+    let Kept::Beside(view) = &chart.kept else {
+        unreachable!();
+    };
+    view.shows_the_edges();
+    committed.rows_are_lawful();
+    least_chunked(rt, alloc, workers, gate, view, request)
+}
+
+/// The answer to a payment.
+fn answer_route(
+    alloc: Global,
+    committed: &Map,
+    chart: &Chart,
+    payment: &Payment,
+) -> Result<Answer<'static>, AllocError>
+    requires { IsReady chart.now committed.now (AsksRoute payment.now) }
+    ensures text { IfOk result (λ answer. (n : ℕ) → answer_text n answer ≡ route_text n payment.now.secret (route_answer chart.now.known committed.now payment.now)) }
+    ensures filters { IfOk result (λ answer. (filters : List PeerFilter) → filters_by filters answer ≡ filters) }
+{
+    let found = find(alloc, committed, chart, &asked_route(payment));
+    answer_found(alloc, &payment.secret, found)
+}
+
+/// The answer to a filter of a peer, which sets it.
+fn answer_filter<'a>(
+    alloc: Global,
+    chain: &ChainHash,
+    committed: &'a Map,
+    peer: u16,
+    bytes: &[u8],
+) -> Result<Answer<'a>, AllocError>
+    ensures text { IfOk result (λ answer. (n : ℕ) → answer_text n answer ≡ filter_text n peer committed.now (filter_read chain.now bytes.now)) }
+    ensures filters { IfOk result (λ answer. (filters : List PeerFilter) → filters_by filters answer ≡ filters_with filters peer (filter_read chain.now bytes.now)) }
+{
+    match read_filter(alloc, chain, bytes)? {
+        Ok(filter) => Ok(Answer::Backlog(PeerFilter { peer, filter }, committed)),
+        Err(objection) => Ok(Answer::Objected(objection)),
+    }
+}
+
+/// Reads a line and decides the answer to what it asks of the committed map.
+fn decide<'a>(
+    alloc: Global,
+    chain: &ChainHash,
+    committed: &'a Map,
+    chart: &Chart,
+    line: &[u8],
+) -> Result<Answer<'a>, AllocError>
+    requires { IsReady chart.now committed.now (request_of line.now) }
+    ensures { IfOk result (IsAnswerTo chain.now chart.now.known committed.now (request_of line.now)) }
+{
+    match parse(alloc, line)? {
+        Request::Query(bytes) => answer_query(alloc, chain, committed, bytes.as_slice()),
+        Request::Filter(peer, bytes) => {
+            answer_filter(alloc, chain, committed, peer, bytes.as_slice())
+        }
+        Request::Route(payment) => answer_route(alloc, committed, chart, &payment),
+        _ => Ok(Answer::Bad),
+    }
+}
+
+/// Decides the answers to lines in pieces, side by side. Each has its own want of memory.
+fn decide_all<'a, Rt: Threads + Sync, G: Gate>(
+    rt: &Rt,
+    alloc: Global,
+    workers: usize,
+    gate: &G,
+    chain: &ChainHash,
+    committed: &'a Map,
+    chart: &Chart,
+    lines: &[&[u8]],
+) -> Result<Vec<Result<Answer<'a>, AllocError>>, AllocError>
+    requires workers { (1 ≤ workers) × (workers ≤ 64) }
+    requires ready { All (λ line. IsReady chart.now committed.now (request_of line.now)) lines.now }
+    ensures { IfOk result (λ all. AllZip (λ request answer. IfOk answer (IsAnswerTo chain.now chart.now.known committed.now request)) (asked_in lines.now) all.items) }
+{
+    map_chunks(
+        rt,
+        alloc,
+        workers,
+        gate,
+        lines,
+        &|line| decide(alloc, chain, committed, chart, line),
+    )
+}
+
+/// Tells an answer in its turn, and sets the filter that it is about, if it is about one.
+fn tell<W: Sink>(
+    number: u64,
+    answer: &Answer<'_>,
+    filters: &mut Filters,
+    output: &mut Output<'_, W>,
+) -> Result<(), SendFault>
+    requires { W.failures output.old.writer.now + 1 < 2 ^ 64 }
+    ensures writer { output.new.writer.ghost_name ≡ output.old.writer.ghost_name }
+    ensures filters { OnOk result (filters.new ≡ filters_by filters.old answer.now) }
+    ensures told { OnOk result (Sends W.taken W.failures output.old output.new (answer_text number answer.now)) }
+    ensures fault { IfErr result (SendsPart W.taken W.failures output.old output.new (answer_text number answer.now)) }
+{
+    if let Answer::Backlog(own, _) = answer {
+        filters.set(*own)?;
+    }
+    answer.send(number, output)
+}
+
+/// Answers lines that ask of the committed map, the first of that number.
+pub fn answer_questions<Rt: Threads + Sync, G: Gate, W: Sink>(
+    rt: &Rt,
+    alloc: Global,
+    workers: usize,
+    gate: &G,
+    chain: &ChainHash,
+    committed: &Map,
+    chart: &Chart,
+    first: u64,
+    lines: &[&[u8]],
+    filters: &mut Filters,
+    output: &mut Output<'_, W>,
+) -> Result<(), SendFault>
+    requires workers { (1 ≤ workers) × (workers ≤ 64) }
+    requires ready { All (λ line. IsReady chart.now committed.now (request_of line.now)) lines.now }
+    requires number { first + length lines.now < 2 ^ 64 }
+    requires writer { W.failures output.old.writer.now + 1 < 2 ^ 64 }
+    ensures writer { output.new.writer.ghost_name ≡ output.old.writer.ghost_name }
+    ensures filters { OnOk result (filters.new ≡ filters_behind chain.now filters.old (asked_in lines.now)) }
+    ensures told { OnOk result (Sends W.taken W.failures output.old output.new
+        (questions_text chain.now chart.now.known committed.now first filters.old (asked_in lines.now))) }
+    ensures fault { IfErr result (SendsPart W.taken W.failures output.old output.new
+        (questions_text chain.now chart.now.known committed.now first filters.old (asked_in lines.now))) }
+{
+    let all = decide_all(rt, alloc, workers, gate, chain, committed, chart, lines)?;
+    let mut number = first;
+    for answer in all.as_slice() {
+        let Ok(answer) = answer else {
+            return Err(SendFault::NoMemory);
+        };
+        tell(number, answer, filters, output)?;
+        number += 1;
+    }
+    Ok(())
+}
