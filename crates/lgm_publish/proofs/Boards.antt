@@ -1,0 +1,193 @@
+-- Each kind of step keeps the rule of a board.
+use Rattle.std.proofs.Common.{◌≡◌, Result, Ok, Err, ℕ, ◌+◌, ◌≤◌, ◌==◌, ◌≢◌, Bool, true, false, fold, length, length-append, append_assoc, arith, Option, Some, None, List, [], ◌∷◌, ◌++◌, set, refl, sym, ap, ◌∙◌, subst, ⊎_elim}
+use Rattle.std.proofs.lemmas.List.{append-nil}
+use Rattle.std.proofs.lemmas.Bool.Decides.{nat_tests}
+use mathlib.Core.Option.{some, some-ne-none}
+use lib.ListN.{get_elem?}
+use Rattle.crossbeam_utils.specs.Register.{Admits, TurnsAt, Forks, Merges}
+use Rattle.atomic_table.proofs.Lists.{at_set, at_snoc}
+use Rattle.lgm_store.specs.declared.op.Op.{Op}
+use Rattle.lgm_store.specs.Rows.{Rows, empty}
+use Rattle.lgm_store.specs.History.{fold_from}
+use Rattle.lgm_store.specs.History as store
+use Rattle.lgm_publish.specs.declared.edition.Entry.{Entry}
+use Rattle.lgm_publish.specs.declared.edition.Entry.TheVariants.{Absorb, Reach}
+use Rattle.lgm_publish.specs.Handles.{History, history}
+use Rattle.lgm_publish.specs.Contents.{Contents}
+use Rattle.lgm_publish.specs.Editions.{after_op, after_entry}
+use Rattle.lgm_publish.specs.Shown.{ops_of, reached, whole, IsComplete, Publishes, IsFold, GoesOn, Follows, Holds, Sees}
+use Rattle.lgm_publish.proofs.Beginnings.{prefix_self, prefix_trans}
+
+-- ---- what a thread saw last
+
+abbrev Last : Type 0
+Last = Option Contents
+
+-- the edition follows what the thread saw last
+abbrev Fits : Contents → Last → Type 0
+Fits shown last = (first : Contents) → last ≡ Some first → Follows first shown
+
+-- it follows what each thread saw last
+abbrev FitAll : Contents → List Last → Type 0
+FitAll shown views = (seat : ℕ) (first : Contents) → get_elem? views seat ≡ some (Some first) → Follows first shown
+
+fits_none : (shown : Contents) → Fits shown None
+fits_none shown first is = absurd cc
+
+fits_some : (first shown : Contents) → Follows first shown → Fits shown (Some first)
+fits_some first shown follows other is = let same : first ≡ other = cc in subst (λ (m : Contents). Follows m shown) same follows
+
+pub follows_self : (shown : Contents) → Follows shown shown
+follows_self shown = (refl, (refl, prefix_self shown.told.ops))
+
+follows_trans : (a b c : Contents) → Follows a b → Follows b c → Follows a c
+follows_trans a b c p q = (q.0 ∙ p.0, (q.1.0 ∙ p.1.0, prefix_trans a.told.ops b.told.ops c.told.ops p.1.1 q.1.1))
+
+refits : (shown : Contents) (views : List Last) (seat : ℕ) (w : Last) → FitAll shown views → Fits shown w → FitAll shown (set views seat w)
+refits shown views seat w h fits j first e =
+    ⊎_elim (λ (t : (j ≡ seat) × (w ≡ Some first)). fits first t.1) (λ (t : (j ≢ seat) × (get_elem? views j ≡ some (Some first))). h j first t.1) (at_set views seat j w (Some first) e)
+
+one_more : (shown : Contents) (views : List Last) (w : Last) → FitAll shown views → Fits shown w → FitAll shown (views ++ w ∷ [])
+one_more shown views w h fits j first e = ⊎_elim (h j first) (λ (same : w ≡ Some first). fits first same) (at_snoc views w (Some first) j e)
+
+fits_at : (shown : Contents) (views : List Last) (seat : ℕ) (v : Last) → FitAll shown views → get_elem? views seat ≡ some v → Fits shown v
+fits_at shown views seat v h at first e = h seat first (at ∙ ap some e)
+
+-- ---- the steps
+
+-- a new place, which has seen nothing
+pub admits : Admits Holds None
+admits x views h = (h.0, one_more x views None h.1 (fits_none x))
+
+-- an empty edition, seen by nobody
+pub opens : (x : Contents) → x.rows ≡ empty → x.absorbed ≡ 0 → x.told.ops ≡ [] → Holds x (None ∷ [])
+opens x rows none ops =
+    ((rows ∙ sym (ap store.fold ops), none ∙ sym (ap length ops)), one_more x [] None (λ seat first at. absurd (some-ne-none (Some first) (sym at))) (fits_none x))
+
+-- a step that shows y in place of x, or takes it where they are the same
+pub sees : (seat : ℕ) (v : Last) (x y : Contents) → (IsFold x → IsFold y) → (IsFold x → Follows x y) → TurnsAt Holds seat v x y (λ v _ y w. Sees v y w)
+sees seat v x y folds follows views h at =
+    let h' : FitAll y views = λ j first e. follows_trans first x y (h.1 j first e) (follows h.0) in (
+      Some y,
+      (folds h.0, refits y views seat (Some y) h' (fits_some y y (follows_self y))),
+      (refl, folds h.0, fits_at y views seat v h' at),
+    )
+
+-- a copy of what a thread saw
+pub forks : (seat : ℕ) (v : Last) → Forks Holds seat v v v
+forks seat v x views h at =
+    let mine = fits_at x views seat v h.1 at in
+    (h.0, one_more x (set views seat v) v (refits x views seat v h.1 mine) mine)
+
+-- another thread takes it in
+pub merges : (seat : ℕ) (v : Last) (other : ℕ) (w : Last) → Merges Holds seat v other w w None
+merges seat v other w x views h at apart there =
+    let theirs = ⊎_elim (λ (t : (other ≡ seat) × (w ≡ w)). absurd (apart t.0)) (λ (t : (other ≢ seat) × (get_elem? views other ≡ some w)). fits_at x views other w h.1 t.1) (at_set views seat other w w there) in
+    (h.0, refits x (set views seat w) other None (refits x views seat w h.1 theirs) (fits_none x))
+
+-- ---- what entries make of an edition
+
+op_at : (c : Contents) (op : Op) (full : Bool) → (c.absorbed == 2000000000) ≡ full → (after_op c op).told ≡ c.told
+op_at c op true is = rw is refl
+op_at c op false is = rw is refl
+
+-- an operation leaves the list alone
+op_told : (c : Contents) (op : Op) → (after_op c op).told ≡ c.told
+op_told c op = op_at c op (c.absorbed == 2000000000) refl
+
+op_known_at : (c : Contents) (op : Op) (full : Bool) → (c.absorbed == 2000000000) ≡ full → (after_op c op).known ≡ c.known
+op_known_at c op true is = rw is refl
+op_known_at c op false is = rw is refl
+
+-- and the known features
+op_known : (c : Contents) (op : Op) → (after_op c op).known ≡ c.known
+op_known c op = op_known_at c op (c.absorbed == 2000000000) refl
+
+-- below the limit it is done
+op_done : (c : Contents) (op : Op) (full : Bool) → (c.absorbed == 2000000000) ≡ full → c.absorbed + 1 ≤ 2000000000
+    → after_op c op ≡ record c { rows = store.absorbed c.rows op; absorbed = c.absorbed + 1 }
+op_done c op true is below = let at : c.absorbed ≡ 2000000000 = grind (arith, nat_tests) in absurd (omega arith)
+op_done c op false is below = rw is refl
+
+-- the list that an edition comes to
+pub told_after : (c : Contents) (es : List Entry) → (fold after_entry c es).told ≡ reached c.told es
+told_after c [] = refl
+told_after c (Absorb op ∷ es) = told_after (after_op c op) es ∙ ap (λ told. reached told es) (op_told c op)
+told_after c (Reach told ∷ es) = told_after (record c { told = told }) es
+
+-- the known features stay
+pub known_after : (c : Contents) (es : List Entry) → (fold after_entry c es).known ≡ c.known
+known_after c [] = refl
+known_after c (Absorb op ∷ es) = known_after (after_op c op) es ∙ op_known c op
+known_after c (Reach told ∷ es) = known_after (record c { told = told }) es
+
+-- what was absorbed, where it is no more than the limit
+abbrev Absorbs : Contents → List Entry → Contents → Type 0
+Absorbs c es d = (d.rows ≡ fold_from c.rows (ops_of es)) × (d.absorbed ≡ c.absorbed + length (ops_of es))
+
+absorbs : (c : Contents) (es : List Entry) → c.absorbed + length (ops_of es) ≤ 2000000000 → Absorbs c es (fold after_entry c es)
+absorbs c [] few = (refl, omega arith)
+absorbs c (Absorb op ∷ es) few =
+    let next : Contents = record c { rows = store.absorbed c.rows op; absorbed = c.absorbed + 1 } in
+    let is : after_op c op ≡ next = op_done c op (c.absorbed == 2000000000) refl (omega arith) in
+    let rest = absorbs next es (omega arith) in
+    subst (λ d. Absorbs c (Absorb op ∷ es) (fold after_entry d es)) (sym is) (rest.0, omega (arith, rest.1))
+absorbs c (Reach told ∷ es) few = absorbs (record c { told = told }) es few
+
+fold_append : (rows : Rows) (xs ys : List Op) → fold_from rows (xs ++ ys) ≡ fold_from (fold_from rows xs) ys
+fold_append rows [] ys = refl
+fold_append rows (x ∷ xs) ys = fold_append (store.absorbed rows x) xs ys
+
+-- a publication, where the entries have come to the whole
+pub publishes : (seat : ℕ) (v : Last) (x y : Contents) (es : List Entry) → IsComplete x.told es → length (whole x.told es).ops ≤ 2000000000
+    → y ≡ fold after_entry x es → TurnsAt Holds seat v x y (λ v _ y w. Sees v y w)
+publishes seat v x y es come few is =
+    let told : y.told ≡ whole x.told es = ap (λ (c : Contents). c.told) is ∙ (told_after x es ∙ come) in
+    let known : y.known ≡ x.known = ap (λ (c : Contents). c.known) is ∙ known_after x es in
+    let long = length-append x.told.ops (ops_of es) in
+    let done : (f : IsFold x) → Absorbs x es y = λ f. subst (Absorbs x es) (sym is) (absorbs x es (omega (arith, f.1, long, few))) in
+    sees seat v x y
+    (λ f. rw told ((done f).0 ∙ (ap (λ rows. fold_from rows (ops_of es)) f.0 ∙ sym (fold_append empty x.told.ops (ops_of es))), omega (arith, (done f).1, f.1, long)))
+    (λ f. (known, rw told (refl, (ops_of es, refl))))
+
+-- ---- the entries
+
+ops_append : (es fs : List Entry) → ops_of (es ++ fs) ≡ ops_of es ++ ops_of fs
+ops_append [] fs = refl
+ops_append (Absorb op ∷ es) fs = ap (λ w. op ∷ w) (ops_append es fs)
+ops_append (Reach told ∷ es) fs = ops_append es fs
+
+-- the list that was told last
+reached_last : (k : History) (es : List Entry) (told : History) → reached k (es ++ Reach told ∷ []) ≡ told
+reached_last k [] told = refl
+reached_last k (Absorb op ∷ es) told = reached_last k es told
+reached_last k (Reach other ∷ es) told = reached_last other es told
+
+-- entries are complete once they end with the list that they come to
+pub completes : (k : History) (es : List Entry) (told : History) → told ≡ whole k es → IsComplete k (es ++ Reach told ∷ [])
+completes k es told is =
+    reached_last k es told ∙ (is ∙ ap (λ ops. history k.board (k.ops ++ ops)) (sym (ops_append es (Reach told ∷ []) ∙ append-nil (ops_of es))))
+
+-- telling adds no operation
+pub ops_reach : (es : List Entry) (told : History) → ops_of (es ++ Reach told ∷ []) ≡ ops_of es
+ops_reach es told = ops_append es (Reach told ∷ []) ∙ append-nil (ops_of es)
+
+-- an operation adds itself
+pub ops_absorb : (es : List Entry) (op : Op) → ops_of (es ++ Absorb op ∷ []) ≡ ops_of es ++ op ∷ []
+ops_absorb es op = ops_append es (Absorb op ∷ [])
+
+-- what the pen's book has begins the whole, also after one more operation
+pub appends : (noted k : History) (es fs : List Entry) (op : Op) (n : ℕ) → ops_of fs ≡ ops_of es ++ op ∷ [] → GoesOn noted (whole k es) → n ≡ length (whole k es).ops
+    → GoesOn noted (whole k fs) × (n + 1 ≡ length (whole k fs).ops)
+appends noted k es fs op n is h count =
+    let longer : k.ops ++ ops_of fs ≡ (k.ops ++ ops_of es) ++ op ∷ [] = ap (λ w. k.ops ++ w) is ∙ sym (append_assoc k.ops (ops_of es) (op ∷ [])) in
+    ((h.0, (h.1.0 ++ op ∷ [], sym (append_assoc noted.ops h.1.0 (op ∷ [])) ∙ (ap (λ w. w ++ op ∷ []) h.1.1 ∙ sym longer))), omega (arith, count, ap length longer, length-append (k.ops ++ ops_of es) (op ∷ [])))
+
+-- the book has the whole, where it went on to it
+pub noted_whole : (noted new k l : History) → GoesOn noted k → new.board ≡ noted.board → new.ops ≡ k.ops → l ≡ k → GoesOn new l
+noted_whole noted new k l h board ops is = rw is (h.0 ∙ sym board, ([], append-nil new.ops ∙ ops))
+
+-- the whole stays the same when it is published, and when it is not
+pub publishes_whole : {A B : Type 0} (done : Result A B) (k l : History) (es fs : List Entry) → Publishes done k l es fs → whole l fs ≡ whole k es
+publishes_whole (Ok x) k l es fs h = rw (h.0, h.1) (ap (λ w. history k.board w) (append-nil (k.ops ++ ops_of es)))
+publishes_whole (Err x) k l es fs h = rw (h.0, h.1) refl

@@ -1,0 +1,6 @@
+mod Beginnings
+mod Extending
+mod Boards
+mod Worlds
+mod Steps
+mod Runs

@@ -1,0 +1,111 @@
+//! What is published: a map with its view, and the list of the operations that made it.
+
+ghost use Rattle.std.specs.Prelude.{◌≡◌, ◌≤◌, IfOk, OnOk, OnErr};
+ghost use Rattle.lgm_store.specs.Rows.{empty};
+ghost use Rattle.lgm_graph.specs.Graph.{IsGraphOf};
+ghost use Rattle.lgm_publish.specs.Editions.{after_op, after_entry};
+
+use crate::told::Told;
+use left_right::Absorb;
+use lgm_graph::{Known, Network, View};
+use lgm_store::{Map, Op, Seed};
+use std::alloc::{AllocError, Global};
+use std::marker::Model;
+
+/// How many operations there may be.
+pub(crate) const LIMIT: u64 = 2_000_000_000;
+
+/// What the two copies take in, one after the other.
+#[derive(Drop)]
+pub(crate) enum Entry {
+    /// An operation.
+    Absorb(Op),
+    /// The list of operations that a copy has come to with the entries before.
+    Reach(Told),
+}
+
+/// A map with its view, and the list of the operations that made it. Of the list there is only the number at run time.
+#[derive(Drop)]
+pub(crate) struct Edition {
+    network: Network,
+    /// How many operations it has absorbed. It bounds the points that the view may number.
+    absorbed: u64,
+    told: Told,
+}
+
+impl Model for Edition {
+    ghost use Rattle.std.specs.Prelude.{◌≤◌, ◌*◌, length};
+    ghost use Rattle.lgm_publish.specs.Contents.{Contents};
+
+    ghost Value = { Contents };
+
+    ghost view = { λ e. record { rows = e.network.rows; known = e.network.graph.known; absorbed = e.absorbed; told = e.told } };
+
+    ghost invariant = { λ e. (e.absorbed ≤ 2000000000) × (length e.network.graph.points ≤ 2 * e.absorbed) };
+}
+
+impl Edition {
+    /// An empty map with its view, whose points are hashed by the seed.
+    pub(crate) fn new(alloc: Global, seed: Seed, known: &Known, told: Told) -> Result<Edition, AllocError>
+        ensures { IfOk result (λ edition. edition ≡ record { rows = empty; known = known.now; absorbed = 0; told = told }) }
+    {
+        Ok(Edition {
+            network: Network::of(alloc, Map::with_seed(alloc, seed)?, known)?,
+            absorbed: 0,
+            told,
+        })
+    }
+
+    /// The map.
+    pub(crate) fn map(&self) -> &Map
+        ensures { result.now ≡ self.now.rows }
+    {
+        self.network.map()
+    }
+
+    /// Its view.
+    pub(crate) fn view(&self) -> &View
+        ensures known { result.now.known ≡ self.now.known }
+        ensures beside { IsGraphOf self.now.rows result.now }
+    {
+        self.network.view()
+    }
+
+    /// The list of operations that made it.
+    pub(crate) fn told(&self) -> &Told
+        ensures { result.now ≡ self.now.told }
+    {
+        &self.told
+    }
+
+    /// Does an operation to the map and its view. Past the limit, where none gets, it does nothing.
+    fn absorb(&mut self, op: &Op) -> Result<(), AllocError>
+        ensures ok { OnOk result (self.new ≡ after_op self.old op.now) }
+        ensures err { OnErr result (self.new ≡ self.old) }
+    {
+        if self.absorbed == LIMIT {
+            return Ok(());
+        }
+        self.network.absorb(op)?;
+        self.absorbed += 1;
+        Ok(())
+    }
+}
+
+impl Absorb<Entry> for Edition {
+    type State = Edition;
+
+    ghost state = { λ e. e };
+
+    ghost applied = { after_entry };
+
+    fn absorb_first(&mut self, operation: &Entry, _other: &Edition) -> Result<(), AllocError> {
+        match operation {
+            Entry::Absorb(op) => self.absorb(op),
+            Entry::Reach(told) => {
+                self.told = told.again();
+                Ok(())
+            }
+        }
+    }
+}

@@ -1,0 +1,156 @@
+//! The one who writes.
+
+ghost use Rattle.std.specs.Prelude.{◌≡◌, ◌≤◌, [], ◌∷◌, ◌++◌, length, drop, IfErr, MatchResult};
+ghost use Rattle.lgm_publish.specs.Appended.{AppendIs};
+ghost use Rattle.lgm_publish.specs.Book.{head_of};
+ghost use Rattle.lgm_publish.specs.Shown.{IsComplete, Publishes, whole};
+
+use crate::edition::LIMIT;
+use crate::faults::{AppendCause, AppendFault, NoMemory};
+use crate::sides::{Sides, absorb, publish_all, reach};
+use crate::told::{Head, Told};
+use core::mem::replace_with;
+use lgm_store::Op;
+use logbook::Plain;
+use std::marker::Model;
+use std::sync::Wait;
+
+/// What the book goes on to: all that is published and pending.
+pub(crate) struct Whole;
+
+impl Plain<Sides, [Op; 0], u64> for Whole {
+    ghost use Rattle.std.specs.Prelude.{None, drop};
+    ghost use Rattle.lgm_publish.specs.Shown.{whole};
+
+    ghost ask = { λ w. (whole w.desk.shown.value.told (drop w.behind w.log.items)).ops };
+
+    ghost state = { λ w. None };
+}
+
+/// The writer of a board. Contracts see its board, and two lists of operations: the published ones, and those that are
+/// pending behind them. It ends by `end`.
+pub struct Pen {
+    writer: Sides,
+    /// The word of the book, which nobody else writes. It is for the proofs.
+    head: Head,
+    /// What the book has: all that is published, and what a publication that failed would have published.
+    noted: Told,
+    /// How many operations were appended.
+    appended: u64,
+}
+
+impl Model for Pen {
+    ghost use Rattle.std.specs.Prelude.{drop};
+    ghost use Rattle.lgm_publish.specs.Handles.{Writing, writing_code};
+    ghost use Rattle.lgm_publish.specs.Shown.{IsNoted, ops_of, whole};
+
+    ghost Value = { Writing };
+
+    ghost coded = { writing_code };
+
+    ghost view = { λ p. record { board = p.writer.desk.shown.value.told.board; published = p.writer.desk.shown.value.told.ops; pending = ops_of (drop p.writer.behind p.writer.log.items) } };
+
+    ghost invariant = { λ p. IsNoted p.head p.noted p.appended (whole p.writer.desk.shown.value.told (drop p.writer.behind p.writer.log.items)) };
+}
+
+impl Pen {
+    /// The pen of a writer whose book is as the copies are, with nothing appended.
+    pub(crate) fn new(writer: Sides, head: Head, noted: Told) -> Pen
+        requires head { head ≡ head_of noted.board }
+        requires noted { noted ≡ whole writer.desk.shown.value.told (drop writer.behind writer.log.items) }
+        requires none { noted.ops ≡ [] }
+        ensures board { result.board ≡ noted.board }
+        ensures published { result.published ≡ [] }
+        ensures pending { result.pending ≡ [] }
+    {
+        Pen {
+            writer,
+            head,
+            noted,
+            appended: 0,
+        }
+    }
+
+    /// Appends an operation to the pending ones. It waits for nobody, and readers see nothing of it yet.
+    ///
+    /// At an error the operation comes back, and all is as it was. It is `Full` exactly where 2,000,000,000 operations
+    /// were appended before, and then no memory is taken.
+    pub fn append(&mut self, op: Op) -> Result<(), AppendFault>
+        ensures board { self.new.board ≡ self.old.board }
+        ensures published { self.new.published ≡ self.old.published }
+        ensures pending { MatchResult result (λ _. self.new.pending ≡ self.old.pending ++ op ∷ []) (λ _. self.new.pending ≡ self.old.pending) }
+        ensures back { IfErr result (λ fault. fault.op ≡ op) }
+        ensures full { AppendIs result (length (self.old.published ++ self.old.pending)) }
+    {
+        if self.appended == LIMIT {
+            return Err(AppendFault {
+                op,
+                cause: AppendCause::Full,
+            });
+        }
+        match absorb(&mut self.writer, op) {
+            Ok(()) => {
+                self.appended += 1;
+                Ok(())
+            }
+            Err(op) => Err(AppendFault {
+                op,
+                cause: AppendCause::NoMemory,
+            }),
+        }
+    }
+
+    /// Shows readers each pending operation, all in one step. It waits for the guards that still show the edition from
+    /// before the last publication.
+    ///
+    /// At an error what is published and what is pending are as they were, and the next call publishes all of it.
+    pub fn publish<R: Wait>(&mut self, rt: &R) -> Result<(), NoMemory>
+        ensures board { self.new.board ≡ self.old.board }
+        ensures published { MatchResult result (λ _. self.new.published ≡ self.old.published ++ self.old.pending) (λ _. self.new.published ≡ self.old.published) }
+        ensures pending { MatchResult result (λ _. self.new.pending ≡ []) (λ _. self.new.pending ≡ self.old.pending) }
+    {
+        if !self
+            .noted
+            .extend::<Sides, Whole>(&self.head, &self.writer, self.appended)
+        {
+            return Err(NoMemory);
+        }
+        reach(&mut self.writer, self.noted.again())?;
+        replace_with(
+            &mut self.writer,
+            rt,
+            |writer: Sides, rt: &R| -> (Sides, Result<(), NoMemory>)
+                requires complete { IsComplete writer.desk.shown.value.told (drop writer.behind writer.log.items) }
+                requires few { length (whole writer.desk.shown.value.told (drop writer.behind writer.log.items)).ops ≤ 2000000000 }
+                ensures { Publishes result.1 writer.desk.shown.value.told result.0.desk.shown.value.told (drop writer.behind writer.log.items) (drop result.0.behind result.0.log.items) }
+            { publish_all(rt, writer) },
+        )
+    }
+
+    /// What is published now, for an eye to learn. It waits for nobody.
+    pub fn tell(&mut self) -> Told
+        ensures same { self.new ≡ self.old }
+        ensures board { result.board ≡ self.old.board }
+        ensures told { result.ops ≡ self.old.published }
+    {
+        self.writer.published().told().again()
+    }
+
+    /// How many operations are published. It takes no memory.
+    pub fn published(&self) -> u64
+        ensures { result ≡ length self.now.published }
+    {
+        self.writer.published().told().count()
+    }
+
+    /// Ends the board: eyes get nothing any more. What is pending is dropped. It waits for the guards.
+    pub fn end<R: Wait>(self, rt: &R) {
+        let Pen {
+            writer,
+            head: _head,
+            noted: _noted,
+            appended: _,
+        } = self;
+        drop(writer.take(rt));
+    }
+}

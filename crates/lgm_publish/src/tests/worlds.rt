@@ -1,0 +1,45 @@
+//! A world of one eye.
+
+use super::made::{channel, point, scid, update};
+use crate::{Event, Reply, World, WorldFault};
+use lgm_gossip::Scid;
+use lgm_graph::Known;
+use lgm_route::{Request, RouteFault};
+use std::test::Fail;
+
+/// What the eye answers when A is to pay B: the number of hops and the first one's channel, or why there is none.
+fn answer(world: &mut World) -> Result<Result<(usize, Scid), RouteFault>, WorldFault> {
+    let request = Request {
+        payer: point(10),
+        payee: point(11),
+        amount: 1000,
+        expiry: 700_000,
+    };
+    match world.step(&Event::Answer(0, request))? {
+        Reply::Routed(Ok(route)) => {
+            let hops = route.as_slice();
+            Ok(Ok((hops.len(), hops[0].scid)))
+        }
+        Reply::Routed(Err(fault)) => Ok(Err(fault)),
+        Reply::Done => Ok(Err(RouteFault::NoMemory)),
+    }
+}
+
+#[test]
+fn an_eye_answers_on_what_it_took(rt: HostRuntime) -> Result<(), Fail> {
+    let alloc = rt.alloc();
+    let mut world = World::new(alloc, 1, &Known::all())?;
+    world.step(&Event::Append(channel(alloc)?))?;
+    world.step(&Event::Append(update(alloc, 0)?))?;
+    world.step(&Event::Enter(0))?;
+    assert_eq!(rt; answer(&mut world)?, Err(RouteFault::NoRoute));
+    world.step(&Event::Publish)?;
+    assert_eq!(rt; answer(&mut world)?, Err(RouteFault::NoRoute));
+    world.step(&Event::Learn(0))?;
+    assert_eq!(rt; answer(&mut world)?, Err(RouteFault::NoRoute));
+    world.step(&Event::Enter(0))?;
+    assert_eq!(rt; answer(&mut world)?, Ok((1, scid())));
+    assert_eq!(rt; world.step(&Event::Enter(1)).err(), Some(WorldFault::NoEye));
+    assert_eq!(rt; world.step(&Event::Learn(1)).err(), Some(WorldFault::NoEye));
+    Ok(())
+}

@@ -1,0 +1,148 @@
+//! One writer and its readers, as a plain machine.
+
+ghost use Rattle.std.specs.Prelude.{◌≡◌, ◌≢◌, ◌⊎◌, Some, Err, Ok, IfOk, OnOk, OnErr};
+ghost use Rattle.lgm_publish.specs.World.{opening, refusal, outcome, after, IsStep};
+
+use crate::edition::LIMIT;
+use crate::event::{Event, Reply, WorldFault};
+use crate::finding::find_route;
+use lgm_graph::Known;
+use lgm_route::{Request, RouteFault};
+use lgm_store::Op;
+use std::alloc::{AllocError, Global};
+use std::marker::Model;
+
+/// What an eye has seen.
+#[derive(Drop)]
+pub(crate) struct Marks {
+    /// How many operations it took or was told.
+    seen: usize,
+    /// How many operations made the map that it took last.
+    entered: usize,
+}
+
+/// One writer and its readers on one thread: what the pen and the eyes of a board are to do, as a machine that takes
+/// one event after the other. Contracts see it as a record.
+#[derive(Drop)]
+pub struct World {
+    alloc: Global,
+    known: Known,
+    appended: Vec<Op>,
+    /// How many of the operations are published.
+    published: usize,
+    eyes: Vec<Marks>,
+}
+
+impl Model for World {
+    ghost use Rattle.std.specs.Prelude.{◌≤◌, length};
+    ghost use Rattle.lgm_publish.specs.World.{Standing, standing, IsOrdered};
+
+    ghost Value = { Standing };
+
+    ghost view = { λ w. standing w.known w.appended.items w.published w.eyes.items };
+
+    ghost invariant = { λ w. IsOrdered (standing w.known w.appended.items w.published w.eyes.items) × (length w.appended.items ≤ 2000000000) };
+}
+
+impl World {
+    /// Nothing is appended, and so many eyes have seen nothing. The features of nodes that are known are kept as a
+    /// copy. The only error is want of memory.
+    pub fn new(alloc: Global, eyes: usize, known: &Known) -> Result<World, AllocError>
+        ensures { IfOk result (λ world. world ≡ opening known.now eyes) }
+    {
+        let mut marks = Vec::new(alloc);
+        for _eye in 0..eyes {
+            marks.push(Marks {
+                seen: 0,
+                entered: 0,
+            })?;
+        }
+        Ok(World {
+            alloc,
+            known: known.copy(alloc)?,
+            appended: Vec::new(alloc),
+            published: 0,
+            eyes: marks,
+        })
+    }
+
+    /// Takes an event, and answers it.
+    ///
+    /// `Append` adds a copy of the operation, `Publish` publishes all that is appended. `Enter` sets what the eye has
+    /// seen, and what it took last, to what is published; `Learn` sets what it has seen. `Answer` makes the map of the
+    /// operations that the eye took last, of none before it took any, and finds the least route in its view.
+    ///
+    /// An event that is refused changes nothing.
+    pub fn step(&mut self, event: &Event) -> Result<Reply, WorldFault>
+        // A number that no eye has, and an operation too many, are refused before any memory is taken.
+        ensures refused { (fault : WorldFault) → refusal self.old event.now ≡ Some fault → result ≡ Err fault }
+
+        // Else the reply is that of the definition, unless memory runs out.
+        ensures reply { (result ≡ Err WorldFault.NoMemory) ⊎ (result ≡ outcome self.old event.now) }
+        ensures done { OnOk result (self.new ≡ after self.old event.now) }
+        ensures stays { OnErr result (self.new ≡ self.old) }
+
+        // Want of memory is no reply.
+        ensures memory { result ≢ Ok (Reply.Routed (Err RouteFault.NoMemory)) }
+    {
+        match event {
+            Event::Append(op) => self.append(op),
+            Event::Publish => {
+                self.published = self.appended.len();
+                Ok(Reply::Done)
+            }
+            Event::Enter(eye) => self.enter(*eye),
+            Event::Learn(eye) => self.learn(*eye),
+            Event::Answer(eye, request) => self.answer(*eye, request),
+        }
+    }
+}
+
+impl World {
+    fn append(&mut self, op: &Op) -> Result<Reply, WorldFault>
+        ensures { IsStep self.old (Event.Append op.now) result self.new }
+    {
+        if self.appended.len() as u64 == LIMIT {
+            return Err(WorldFault::Full);
+        }
+        let op = op.copy(self.alloc)?;
+        self.appended.push(op)?;
+        Ok(Reply::Done)
+    }
+
+    fn enter(&mut self, eye: usize) -> Result<Reply, WorldFault>
+        ensures { IsStep self.old (Event.Enter eye) result self.new }
+    {
+        if eye >= self.eyes.len() {
+            return Err(WorldFault::NoEye);
+        }
+        self.eyes[eye] = Marks {
+            seen: self.published,
+            entered: self.published,
+        };
+        Ok(Reply::Done)
+    }
+
+    fn learn(&mut self, eye: usize) -> Result<Reply, WorldFault>
+        ensures { IsStep self.old (Event.Learn eye) result self.new }
+    {
+        if eye >= self.eyes.len() {
+            return Err(WorldFault::NoEye);
+        }
+        self.eyes[eye].seen = self.published;
+        Ok(Reply::Done)
+    }
+
+    fn answer(&self, eye: usize, request: &Request) -> Result<Reply, WorldFault>
+        ensures { IsStep self.now (Event.Answer eye request.now) result self.now }
+    {
+        if eye >= self.eyes.len() {
+            return Err(WorldFault::NoEye);
+        }
+        let taken = &self.appended[..self.eyes[eye].entered];
+        match find_route(self.alloc, &self.known, taken, request) {
+            Err(RouteFault::NoMemory) => Err(WorldFault::NoMemory),
+            found => Ok(Reply::Routed(found)),
+        }
+    }
+}
