@@ -1,0 +1,135 @@
+-- What lines ask, all together and line by line.
+use Rattle.std.proofs.Common.{◌≡◌, inl, inr, ℕ, ◌+◌, ◌%◌, ◌<◌, ◌≤◌, List, [], ◌∷◌, ◌++◌, length, map, get_or, replicate, refl, sym, ap, ◌∙◌, append_assoc, arith}
+use Rattle.std.proofs.lemmas.List.{append-nil, length-set, length-replicate, get_or-set_same, get_or-set_other, get_or-replicate}
+use Rattle.std.proofs.lemmas.List.FromFn.{fill_by_all}
+use Rattle.std.proofs.lemmas.Bool.Decides.{eqb_tells}
+use Rattle.lgm_route.specs.declared.request.Request.{Request as RouteRequest}
+use Rattle.lgm_script.specs.declared.payment.Payment.{Payment}
+use Rattle.lgm_script.specs.declared.request.Request.{Request}
+use Rattle.lgm_script.specs.declared.request.Request.TheVariants as requests
+use Rattle.lgm_server.specs.Routing.{asked_route}
+use Rattle.lgm_live.specs.Agenda.{batches_behind, payments_of, dealt_from, list_for}
+use Rattle.lgm_live.specs.Gathered.{Gathered, slot_of, given, with_request, with_line, IsAgenda}
+use Rattle.lgm_live.specs.Reading.{with_lines}
+use Rattle.lgm_live.proofs.Dealing.{dealt_here, dealt_there}
+
+-- nothing was asked
+abbrev pub nothing_asked : ℕ → Gathered
+nothing_asked workers = record { batches = []; batch = []; lists = replicate workers []; payments = 0; slots = [] }
+
+-- ---- one more line
+
+pub with_lines-push : (so_far : Gathered) (asked : List Request) (request : Request) → with_lines so_far (asked ++ request ∷ []) ≡ with_line (with_lines so_far asked) request
+with_lines-push so_far [] request = refl
+with_lines-push so_far (r ∷ asked) request = with_lines-push (with_line so_far r) asked request
+
+slots_stay : (so_far : Gathered) (request : Request) → (with_request so_far request).slots ≡ so_far.slots
+slots_stay so_far requests.Quiet = refl
+slots_stay so_far requests.Bad = refl
+slots_stay so_far (requests.Offer item) = refl
+slots_stay so_far requests.Commit = refl
+slots_stay so_far (requests.Query bytes) = refl
+slots_stay so_far (requests.Filter peer bytes) = refl
+slots_stay so_far (requests.Route payment) = refl
+
+workers_stay : (so_far : Gathered) (request : Request) → length (with_line so_far request).lists ≡ length so_far.lists
+workers_stay so_far requests.Quiet = refl
+workers_stay so_far requests.Bad = refl
+workers_stay so_far (requests.Offer item) = refl
+workers_stay so_far requests.Commit = refl
+workers_stay so_far (requests.Query bytes) = refl
+workers_stay so_far (requests.Filter peer bytes) = refl
+workers_stay so_far (requests.Route payment) = length-set so_far.lists (so_far.payments % length so_far.lists) _
+
+payments_grow : (so_far : Gathered) (request : Request) → (with_line so_far request).payments ≤ so_far.payments + 1
+payments_grow so_far requests.Quiet = omega arith
+payments_grow so_far requests.Bad = omega arith
+payments_grow so_far (requests.Offer item) = omega arith
+payments_grow so_far requests.Commit = omega arith
+payments_grow so_far (requests.Query bytes) = omega arith
+payments_grow so_far (requests.Filter peer bytes) = omega arith
+payments_grow so_far (requests.Route payment) = omega arith
+
+-- ---- all lines
+
+pub workers_are : (so_far : Gathered) (asked : List Request) → length (with_lines so_far asked).lists ≡ length so_far.lists
+workers_are so_far [] = refl
+workers_are so_far (request ∷ asked) = workers_are (with_line so_far request) asked ∙ workers_stay so_far request
+
+pub payments_few : (so_far : Gathered) (asked : List Request) → (with_lines so_far asked).payments ≤ so_far.payments + length asked
+payments_few so_far [] = omega arith
+payments_few so_far (request ∷ asked) = omega (arith, payments_few (with_line so_far request) asked, payments_grow so_far request)
+
+slots_are : (so_far : Gathered) (asked : List Request) → (with_lines so_far asked).slots ≡ so_far.slots ++ map slot_of asked
+slots_are so_far [] = sym (append-nil so_far.slots)
+slots_are so_far (request ∷ asked) =
+    slots_are (with_line so_far request) asked ∙ ap (λ slots. slots ++ slot_of request ∷ [] ++ map slot_of asked) (slots_stay so_far request)
+    ∙ append_assoc so_far.slots (slot_of request ∷ []) (map slot_of asked)
+
+batches_are : (so_far : Gathered) (asked : List Request) → (with_lines so_far asked).batches ++ (with_lines so_far asked).batch ∷ [] ≡ so_far.batches ++ batches_behind so_far.batch asked
+batches_are so_far [] = refl
+batches_are so_far (requests.Quiet ∷ asked) = batches_are (with_line so_far requests.Quiet) asked
+batches_are so_far (requests.Bad ∷ asked) = batches_are (with_line so_far requests.Bad) asked
+batches_are so_far (requests.Offer item ∷ asked) = batches_are (with_line so_far (requests.Offer item)) asked
+batches_are so_far (requests.Commit ∷ asked) =
+    batches_are (with_line so_far requests.Commit) asked ∙ append_assoc so_far.batches (so_far.batch ∷ []) (batches_behind [] asked)
+batches_are so_far (requests.Query bytes ∷ asked) = batches_are (with_line so_far (requests.Query bytes)) asked
+batches_are so_far (requests.Filter peer bytes ∷ asked) = batches_are (with_line so_far (requests.Filter peer bytes)) asked
+batches_are so_far (requests.Route payment ∷ asked) = batches_are (with_line so_far (requests.Route payment)) asked
+
+-- what one worker is dealt of payments from a place on
+abbrev dealt_on : ℕ → ℕ → ℕ → List Payment → List RouteRequest
+dealt_on workers worker place payments = map asked_route (dealt_from workers worker place payments)
+
+given_own : (lists : List (List RouteRequest)) (worker own : ℕ) (request : RouteRequest) (others : List RouteRequest) → worker < length lists → own ≡ worker
+    → get_or (given lists own request) worker [] ++ others ≡ get_or lists worker [] ++ (request ∷ others)
+given_own lists worker own request others below is =
+    ap (λ (l : List RouteRequest). l ++ others)
+    (ap (λ (o : ℕ). get_or (given lists o request) worker []) is ∙ get_or-set_same lists worker (get_or lists worker [] ++ request ∷ []) [] below)
+    ∙ append_assoc (get_or lists worker []) (request ∷ []) others
+
+lists_with : (so_far : Gathered) (payment : Payment) (payments : List Payment) (workers worker : ℕ) → length so_far.lists ≡ workers → worker < workers
+    → get_or (given so_far.lists (so_far.payments % length so_far.lists) (asked_route payment)) worker [] ++ dealt_on workers worker (so_far.payments + 1) payments
+    ≡ get_or so_far.lists worker [] ++ dealt_on workers worker so_far.payments (payment ∷ payments)
+lists_with so_far payment payments workers worker many below =
+    let own = so_far.payments % workers in
+    let same : so_far.payments % length so_far.lists ≡ own = ap (λ w. so_far.payments % w) many in
+    let others = dealt_on workers worker (so_far.payments + 1) payments in
+    ap (λ o. get_or (given so_far.lists o (asked_route payment)) worker [] ++ others) same
+    ∙ elim (eqb_tells own worker) [
+      | inl is ↦ given_own so_far.lists worker own (asked_route payment) others (omega (arith, many, below)) is.1
+          ∙ ap (λ ps. get_or so_far.lists worker [] ++ map asked_route ps) (sym (dealt_here workers worker so_far.payments payment payments is.1))
+      | inr not ↦ ap (λ (l : List RouteRequest). l ++ others) (get_or-set_other so_far.lists own worker _ [] (λ e. not.1 (sym e)))
+          ∙ ap (λ ps. get_or so_far.lists worker [] ++ map asked_route ps) (sym (dealt_there workers worker so_far.payments payment payments not.1))
+    ]
+
+lists_are : (so_far : Gathered) (asked : List Request) (workers worker : ℕ) → length so_far.lists ≡ workers → worker < workers
+    → get_or (with_lines so_far asked).lists worker [] ≡ get_or so_far.lists worker [] ++ dealt_on workers worker so_far.payments (payments_of asked)
+lists_are so_far [] workers worker many below = sym (append-nil (get_or so_far.lists worker []))
+lists_are so_far (requests.Quiet ∷ asked) workers worker many below = lists_are (with_line so_far requests.Quiet) asked workers worker many below
+lists_are so_far (requests.Bad ∷ asked) workers worker many below = lists_are (with_line so_far requests.Bad) asked workers worker many below
+lists_are so_far (requests.Offer item ∷ asked) workers worker many below = lists_are (with_line so_far (requests.Offer item)) asked workers worker many below
+lists_are so_far (requests.Commit ∷ asked) workers worker many below = lists_are (with_line so_far requests.Commit) asked workers worker many below
+lists_are so_far (requests.Query bytes ∷ asked) workers worker many below = lists_are (with_line so_far (requests.Query bytes)) asked workers worker many below
+lists_are so_far (requests.Filter peer bytes ∷ asked) workers worker many below = lists_are (with_line so_far (requests.Filter peer bytes)) asked workers worker many below
+lists_are so_far (requests.Route payment ∷ asked) workers worker many below =
+    lists_are (with_line so_far (requests.Route payment)) asked workers worker (workers_stay so_far (requests.Route payment) ∙ many) below
+    ∙ lists_with so_far payment (payments_of asked) workers worker many below
+
+-- ---- the agenda
+
+pub agenda_is : (workers : ℕ) (asked : List Request) (last : Gathered) → last ≡ record (with_lines (nothing_asked workers) asked) {
+  batches = (with_lines (nothing_asked workers) asked).batches ++ (with_lines (nothing_asked workers) asked).batch ∷ [];
+  batch = [];
+} → IsAgenda workers asked last
+agenda_is workers asked last is =
+    let first = nothing_asked workers in
+    let all = with_lines first asked in
+    let many : length first.lists ≡ workers = length-replicate workers [] in
+    rw is (record {
+      batches = batches_are first asked;
+      lists =
+          fill_by_all (list_for workers (payments_of asked)) all.lists workers [] (workers_are first asked ∙ many)
+          (λ k below. lists_are first asked workers k many below ∙ ap (λ (l : List RouteRequest). l ++ dealt_on workers k 0 (payments_of asked)) (get_or-replicate workers k [] [] below));
+      slots = slots_are first asked;
+    })

@@ -1,0 +1,186 @@
+-- How far a script was read.
+use Rattle.std.proofs.Common.{◌≡◌, ℕ, ◌+◌, ◌<◌, ◌≤◌, Bool, true, false, cond, eqb, List, [], ◌∷◌, ◌++◌, length, map, get_or, take, drop, Option, Some, None, Result, Err, refl, sym, ap, subst, ◌∙◌, arith}
+use Rattle.std.specs.Prelude.{◌≢◌, IfSome}
+use Rattle.std.specs.List.{AllByRecursion}
+use Rattle.std.proofs.lemmas.List.{append-nil, length-append, length-drop, take_all, take_more, drop_more, map_push, nil_from_length}
+use Rattle.lgm_script.specs.declared.request.Request.{Request}
+use Rattle.lgm_script.specs.declared.reading.LineFault.{LineFault}
+use Rattle.lgm_script.specs.declared.reading.LineFault.TheVariants as lines
+use Rattle.lgm_script.specs.declared.output.SendFault.TheVariants.{Write as SendWrite}
+use Rattle.lgm_script.specs.Device.{IsAtEnd, Appends}
+use Rattle.lgm_script.specs.Lines.{lines_of, onto_first, ahead, IsFirstLine, IsLongerThan}
+use Rattle.lgm_script.specs.Output.{Told, Tells, TellsPart}
+use Rattle.lgm_script.specs.Request.{request_of}
+use Rattle.lgm_script.proofs.FirstLines.{each-push}
+use Rattle.lgm_script.proofs.Splitting.{next_of}
+use Rattle.lgm_live.specs.declared.run_live_fault.RunLiveFault.{RunLiveFault}
+use Rattle.lgm_live.specs.declared.run_live_fault.RunLiveFault.TheVariants.{LineTooLong}
+use Rattle.lgm_live.specs.Running.{line_fault, HasMoreLines, HasLongLine}
+use Rattle.lgm_live.specs.Reading.{IsAsked}
+
+-- so many lines were read, and this is left
+pub record IsAt (script : List ℕ) (asked : List Request) (input : Option (List ℕ)) : Type 0 where
+  pub rest : List ℕ
+  pub input_is : input ≡ Some rest
+  pub left : lines_of rest ≡ drop (length asked) (lines_of script)
+  pub few : length asked ≤ length (lines_of script)
+  pub short : AllByRecursion (λ line. length line ≤ 140000) (take (length asked) (lines_of script))
+  pub asked_is : asked ≡ map request_of (take (length asked) (lines_of script))
+
+-- where the source tells its bytes
+abbrev pub SoFar : Option (List ℕ) → List Request → Option (List ℕ) → Type 0
+SoFar script asked input = IfSome script (λ bytes. IsAt bytes asked input)
+
+pub starts : (script : Option (List ℕ)) → SoFar script [] (ahead [] script)
+starts None = tt
+starts (Some script) = record { rest = script; input_is = refl; left = refl; few = omega arith; short = tt; asked_is = refl }
+
+abbrev some_bytes : List ℕ → Option (List ℕ)
+some_bytes bytes = Some bytes
+
+some_is : (a b : List ℕ) → some_bytes a ≡ some_bytes b → a ≡ b
+some_is a b e = cc
+
+-- ---- one line
+
+step_at : (script : List ℕ) (asked : List Request) (count : ℕ) (buffered left : List ℕ) (input : Option (List ℕ)) → IsAt script asked input → ahead buffered (Some left) ≡ input
+    → IsFirstLine buffered (Some left) count → count ≤ 140000 → length (take count buffered) ≤ 140000
+    → IsAt script (asked ++ request_of (take count buffered) ∷ []) (ahead (drop (count + 1) buffered) (Some left))
+step_at script asked count buffered left input at kept first small short =
+    let k = length asked in
+    let all = lines_of script in
+    let line = take count buffered in
+    let rest = drop (count + 1) buffered ++ left in
+    let next = next_of buffered left count first in
+    let here : drop k all ≡ line ∷ lines_of rest = sym at.left ∙ ap lines_of (sym (some_is (buffered ++ left) at.rest (kept ∙ at.input_is))) ∙ next.lines in
+    let below : k < length all = omega (arith, ap length here, length-drop k all) in
+    let parts : get_or all k [] ∷ drop (k + 1) all ≡ line ∷ lines_of rest = sym (drop_more all k [] below) ∙ here in
+    let is : get_or all k [] ≡ line = ap (λ (ls : List (List ℕ)). get_or ls 0 []) parts in
+    let front : take (k + 1) all ≡ take k all ++ line ∷ [] = take_more all k [] below ∙ ap (λ (l : List ℕ). take k all ++ l ∷ []) is in
+    let more : length (asked ++ request_of line ∷ []) ≡ k + 1 = omega (arith, length-append asked (request_of line ∷ [])) in
+    record {
+      rest = rest;
+      input_is = refl;
+      left = ap (drop 1) (sym parts) ∙ ap (λ n. drop n all) (sym more);
+      few = omega (arith, more, below);
+      short = subst (λ n. AllByRecursion (λ l. length l ≤ 140000) (take n all)) (sym more)
+          (subst (λ (ls : List (List ℕ)). AllByRecursion (λ l. length l ≤ 140000) ls) (sym front) (each-push (λ l. length l ≤ 140000) (take k all) line at.short short));
+      asked_is = asked_with at.asked_is front ∙ ap (λ n. map request_of (take n all)) (sym more);
+    }
+  where
+    asked_with : asked ≡ map request_of (take (length asked) (lines_of script)) → take (length asked + 1) (lines_of script) ≡ take (length asked) (lines_of script) ++ take count buffered ∷ []
+        → asked ++ request_of (take count buffered) ∷ [] ≡ map request_of (take (length asked + 1) (lines_of script))
+    asked_with is front = ap (λ (rs : List Request). rs ++ request_of (take count buffered) ∷ []) is ∙ sym (map_push request_of (take (length asked) (lines_of script)) (take count buffered)) ∙ ap (map request_of) (sym front)
+
+pub step : (script : Option (List ℕ)) (asked : List Request) (count : ℕ) (buffered : List ℕ) (left input : Option (List ℕ)) → SoFar script asked input → ahead buffered left ≡ input
+    → IsFirstLine buffered left count → count ≤ 140000 → length (take count buffered) ≤ 140000
+    → SoFar script (asked ++ request_of (take count buffered) ∷ []) (ahead (drop (count + 1) buffered) left)
+step None asked count buffered left input so_far kept first small short = tt
+step (Some script) asked count buffered None input so_far kept first small short = absurd (let bad = kept ∙ so_far.input_is in cc)
+step (Some script) asked count buffered (Some left) input so_far kept first small short = step_at script asked count buffered left input so_far kept first small short
+
+-- ---- how it ends
+
+pub ends : (script : Option (List ℕ)) (asked : List Request) (input input' : Option (List ℕ)) → SoFar script asked input → input' ≡ input → IsAtEnd input' → length asked ≤ 10000000 → IfSome script (IsAsked asked)
+ends None asked input input' so_far kept ended limit = tt
+ends (Some script) asked input None so_far kept ended limit = absurd (let bad = kept ∙ so_far.input_is in cc)
+ends (Some script) asked input (Some s) so_far kept ended limit =
+    let all = lines_of script in
+    let none : drop (length asked) all ≡ [] = sym so_far.left ∙ ap lines_of (sym (some_is s so_far.rest (kept ∙ so_far.input_is)) ∙ ended) in
+    let few = so_far.few in
+    let same : length asked ≡ length all = omega (arith, ap length none, length-drop (length asked) all) in
+    let whole : take (length asked) all ≡ all = take_all (length asked) all (omega (arith, same)) in
+    record {
+      limits = record {
+        few = omega (arith, same);
+        short = subst (λ (ls : List (List ℕ)). AllByRecursion (λ l. length l ≤ 140000) ls) whole so_far.short;
+      };
+      all = so_far.asked_is ∙ ap (map request_of) whole;
+    }
+
+has_line : (bytes : List ℕ) → 0 < length bytes → 0 < length (lines_of bytes)
+has_line [] some = absurd (omega arith)
+has_line (b ∷ bs) some = by_test (eqb b 10)
+  where
+    onto : (ls : List (List ℕ)) → 0 < length (onto_first b ls)
+    onto [] = omega arith
+    onto (l ∷ ls) = omega arith
+
+    by_test : (t : Bool) → 0 < length (cond t ([] ∷ lines_of bs) (onto_first b (lines_of bs)))
+    by_test true = omega arith
+    by_test false = onto (lines_of bs)
+
+pub many : (script : Option (List ℕ)) (asked : List Request) (buffered : List ℕ) (left input : Option (List ℕ)) → SoFar script asked input → ahead buffered left ≡ input → 0 < length buffered
+    → length asked ≡ 10000000 → IfSome script HasMoreLines
+many None asked buffered left input so_far kept more full = tt
+many (Some script) asked buffered None input so_far kept more full = absurd (let bad = kept ∙ so_far.input_is in cc)
+many (Some script) asked buffered (Some left) input so_far kept more full =
+    let rest_is : so_far.rest ≡ buffered ++ left = sym (some_is (buffered ++ left) so_far.rest (kept ∙ so_far.input_is)) in
+    let lines : lines_of (buffered ++ left) ≡ drop (length asked) (lines_of script) = ap lines_of (sym rest_is) ∙ so_far.left in
+    let some = has_line (buffered ++ left) (omega (arith, length-append buffered left)) in
+    omega (arith, ap length lines, length-drop (length asked) (lines_of script), some, full)
+
+pub long : (script : Option (List ℕ)) (asked : List Request) (input input' : Option (List ℕ)) → SoFar script asked input → input' ≡ input → length asked < 10000000 → IsLongerThan 140000 input'
+    → IfSome script HasLongLine
+long None asked input input' so_far kept limit longer = tt
+long (Some script) asked input None so_far kept limit longer = absurd (let bad = kept ∙ so_far.input_is in cc)
+long (Some script) asked input (Some s) so_far kept limit longer =
+    let k = length asked in
+    let all = lines_of script in
+    let here : drop k all ≡ longer.0 ∷ longer.1 = sym so_far.left ∙ ap lines_of (sym (some_is s so_far.rest (kept ∙ so_far.input_is))) ∙ longer.2 in
+    let below : k < length all = omega (arith, ap length here, length-drop k all) in
+    let is : get_or all k [] ≡ longer.0 = ap (λ (ls : List (List ℕ)). get_or ls 0 []) (sym (drop_more all k [] below) ∙ here) in
+    (k, limit, rw is longer.3)
+
+-- ---- nothing is written
+
+-- what a text of no bytes leaves
+pub record IsSilent (old new : Told) : Type 0 where
+  pub taken : new.taken ≡ old.taken
+  pub clear : new.gathered ≡ []
+
+nothing_taken : (old new : Option (List ℕ)) (written : List ℕ) → written ≡ [] → Appends old new written → new ≡ old
+nothing_taken None new written none taken = taken
+nothing_taken (Some bytes) new written none taken = taken ∙ ap (λ (w : List ℕ). some_bytes (bytes ++ w)) none ∙ ap some_bytes (append-nil bytes)
+
+pub silent : (old new : Told) → old.gathered ≡ [] → Tells old new [] → IsSilent old new
+silent old new clear told =
+    let size = ap length told.whole ∙ ap (λ (g : List ℕ). length (g ++ [])) clear in
+    record {
+      taken = nothing_taken old.taken new.taken told.written (nil_from_length told.written (omega (arith, size, length-append told.written new.gathered))) told.taken;
+      clear = nil_from_length new.gathered (omega (arith, size, length-append told.written new.gathered));
+    }
+
+silent_part : (old new : Told) → old.gathered ≡ [] → TellsPart old new [] SendWrite → IsSilent old new
+silent_part old new clear part =
+    let size = ap length part.whole ∙ ap (λ (g : List ℕ). length (g ++ [])) clear in
+    let parts = length-append (part.written ++ new.gathered) part.lost in
+    let fronts = length-append part.written new.gathered in
+    record {
+      taken = nothing_taken old.taken new.taken part.written (nil_from_length part.written (omega (arith, size, parts, fronts))) part.taken;
+      clear = nil_from_length new.gathered (omega (arith, size, parts, fronts));
+    }
+
+abbrev pub failed : {T : Type 0} → LineFault → Result T LineFault
+failed fault = Err fault
+
+-- whatever the fault
+pub silent_fault : {T : Type 0} (fault : LineFault) (old new : Told) → old.gathered ≡ [] → (failed {T = T} fault ≢ failed lines.Write → Tells old new []) → (failed {T = T} fault ≡ failed lines.Write → TellsPart old new [] SendWrite)
+    → IsSilent old new
+silent_fault lines.Read old new clear told part = silent old new clear (told (λ e. absurd cc))
+silent_fault lines.Write old new clear told part = silent_part old new clear (part refl)
+silent_fault lines.TooLong old new clear told part = silent old new clear (told (λ e. absurd cc))
+
+too_long_of : (fault : LineFault) → line_fault fault ≡ LineTooLong → fault ≡ lines.TooLong
+too_long_of lines.Read e = absurd cc
+too_long_of lines.Write e = absurd cc
+too_long_of lines.TooLong e = refl
+
+abbrev ended : RunLiveFault → Result (Unit {0}) RunLiveFault
+ended e = Err e
+
+ended_is : (a b : RunLiveFault) → ended a ≡ ended b → a ≡ b
+ended_is a b e = cc
+
+pub too_long_only : (fault : LineFault) (e : RunLiveFault) → e ≡ line_fault fault → ended e ≡ ended LineTooLong → fault ≡ lines.TooLong
+too_long_only fault e is same = too_long_of fault (sym is ∙ ended_is e LineTooLong same)

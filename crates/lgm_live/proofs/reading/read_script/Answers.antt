@@ -1,0 +1,16 @@
+use Rattle.std.proofs.Common.{[], ◌∷◌, ◌++◌, ap, ◌∙◌}
+use Rattle.lgm_live.specs.Gathered.{Gathered}
+use Rattle.lgm_live.specs.Reading.{with_lines}
+use Rattle.lgm_live.proofs.Noting.{agenda_is}
+use Rattle.lgm_live.proofs.reading.read_script.Goals as goal
+
+pub returns-clause-ok : goal.returns-clause-ok
+returns-clause-ok g c =
+    let noted = c.in_ok-read_lines.ensures.ok in
+    let all = noted.noted ∙ ap (λ (agenda : Gathered). with_lines agenda noted.asked) c.in_ok-agenda.ensures in
+    record {
+      asked = noted.asked;
+      few = noted.few;
+      is_agenda = agenda_is c.args.workers noted.asked c.end_batch.new.self (c.in_ok-end_batch.ensures ∙ ap (λ (agenda : Gathered). record agenda { batches = agenda.batches ++ agenda.batch ∷ []; batch = [] }) all);
+      whole = noted.whole;
+    }

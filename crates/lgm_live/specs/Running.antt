@@ -1,0 +1,84 @@
+-- What a run beside workers writes.
+use Rattle.std.specs.Prelude.{◌≡◌, ℕ, ◌<◌, ◌≤◌, List, [], length, map, All, Option, slice_index_or}
+use Rattle.std.specs.List.{AllZip, AllByRecursion}
+use Rattle.std.specs.Result.{result_err}
+use Rattle.lgm_gossip.specs.declared.chain_hash.ChainHash.{ChainHash}
+use Rattle.lgm_route.specs.declared.request.Request.{Request as RouteRequest}
+use Rattle.lgm_script.specs.declared.item.Item.{Item}
+use Rattle.lgm_script.specs.declared.request.Request.{Request}
+use Rattle.lgm_script.specs.declared.output.SendFault.{SendFault}
+use Rattle.lgm_script.specs.declared.output.SendFault.TheVariants as sending
+use Rattle.lgm_script.specs.declared.reading.LineFault.{LineFault}
+use Rattle.lgm_script.specs.declared.reading.LineFault.TheVariants as lines
+use Rattle.lgm_script.specs.Lines.{lines_of}
+use Rattle.lgm_server.specs.Outcomes.{outcomes, history_of}
+use Rattle.lgm_server.specs.Script.{requests_of}
+use Rattle.lgm_live.specs.declared.fault.LiveFault.{LiveFault}
+use Rattle.lgm_live.specs.declared.fault.LiveFault.TheVariants as live
+use Rattle.lgm_live.specs.declared.report.LiveReport.{LiveReport}
+use Rattle.lgm_live.specs.declared.run_live_fault.RunLiveFault.{RunLiveFault}
+use Rattle.lgm_live.specs.declared.run_live_fault.RunLiveFault.TheVariants as faults
+use Rattle.lgm_live.specs.Answers.{AreAnsweredBy, NeverFall, IsAtEnd}
+use Rattle.lgm_live.specs.Batches.{items_of, ends_of}
+use Rattle.lgm_live.specs.Agenda.{batches_of, payments_of, lists_of}
+use Rattle.lgm_live.specs.Told.{told_all, AreSame}
+
+abbrev pub line_fault : LineFault → RunLiveFault
+line_fault lines.Read = faults.Read
+line_fault lines.Write = faults.Write
+line_fault lines.TooLong = faults.LineTooLong
+
+abbrev pub send_fault : SendFault → RunLiveFault
+send_fault sending.Write = faults.Write
+send_fault sending.NoMemory = faults.NoMemory
+
+abbrev pub live_fault : LiveFault → RunLiveFault
+live_fault live.NoMemory = faults.NoMemory
+live_fault live.Closed = faults.Closed
+live_fault live.Versions = faults.Versions
+
+-- what `live` promises of its report
+pub record IsReport (chain : ChainHash) (known : Option (List ℕ)) (batches : List (List Item)) (lists : List (List RouteRequest)) (report : LiveReport) : Type 0 where
+  pub outcomes : report.outcomes.items ≡ map result_err (outcomes chain (items_of batches))
+  pub ops : report.ops.items ≡ history_of chain (items_of batches)
+  pub ends : report.ends.items ≡ ends_of chain batches
+  pub answers : AllZip (λ requests answers. AreAnsweredBy known report.ops.items requests answers.items) lists report.answers.items
+  pub at_ends : All (λ answers. All (IsAtEnd report.ends.items) answers.items) report.answers.items
+  pub rising : All (λ answers. NeverFall answers.items) report.answers.items
+
+-- all lines are within the limits
+pub record IsWithin (script : List ℕ) : Type 0 where
+  pub few : length (lines_of script) ≤ 10000000
+  pub short : AllByRecursion (λ line. length line ≤ 140000) (lines_of script)
+
+-- a report of what the requests ask
+abbrev pub IsReportOn : ChainHash → Option (List ℕ) → ℕ → List Request → LiveReport → Type 0
+IsReportOn chain known workers asked report = IsReport chain known (batches_of asked) (lists_of workers asked) report
+
+-- the report is one on the whole script, and the whole text of both was told
+pub record IsToldWhole (chain : ChainHash) (known : Option (List ℕ)) (workers : ℕ) (told : List ℕ → Type 0) (report : LiveReport) (script : List ℕ) : Type 0 where
+  pub limits : IsWithin script
+  pub is_report : IsReportOn chain known workers (requests_of script) report
+  pub text : told (told_all workers known report (requests_of script))
+  pub same : AreSame workers known report (payments_of (requests_of script))
+
+-- a first part of the text of the whole script and of some report on it was told
+pub record IsToldInPart (chain : ChainHash) (known : Option (List ℕ)) (workers : ℕ) (told_part : List ℕ → Type 0) (script : List ℕ) : Type 0 where
+  pub limits : IsWithin script
+  pub report : LiveReport
+  pub is_report : IsReportOn chain known workers (requests_of script) report
+  pub text : told_part (told_all workers known report (requests_of script))
+
+-- one more line than the limit begins
+abbrev pub HasMoreLines : List ℕ → Type 0
+HasMoreLines script = 10000000 < length (lines_of script)
+
+-- one of the lines within the limit is too long
+abbrev pub HasLongLine : List ℕ → Type 0
+HasLongLine script = (place : ℕ) × (place < 10000000) × (140000 < length (slice_index_or (lines_of script) place []))
+
+-- a fault that comes before anything is written
+abbrev pub ComesFirst : RunLiveFault → Type 0
+ComesFirst faults.Write = ⊥
+ComesFirst faults.NoMemory = ⊥
+ComesFirst _ = Unit {0}

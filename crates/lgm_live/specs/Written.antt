@@ -1,0 +1,14 @@
+-- What a writer has done with items.
+use Rattle.std.specs.Prelude.{◌≡◌, List, map}
+use Rattle.std.specs.Result.{result_err}
+use Rattle.lgm_gossip.specs.declared.chain_hash.ChainHash.{ChainHash}
+use Rattle.lgm_script.specs.declared.item.Item.{Item}
+use Rattle.lgm_store.specs.History.{fold}
+use Rattle.lgm_server.specs.Outcomes.{outcomes, history_of}
+use Rattle.lgm_live.specs.declared.writing.Written.{Written}
+
+-- the map is that of the accepted items, and each item has its outcome
+pub record IsWritten (chain : ChainHash) (items : List Item) (written : Written) : Type 0 where
+  pub rows : written.map ≡ fold (history_of chain items)
+  pub outcomes : written.outcomes.items ≡ map result_err (outcomes chain items)
+  pub ops : written.ops.items ≡ history_of chain items

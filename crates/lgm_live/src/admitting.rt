@@ -1,0 +1,37 @@
+//! An item, offered to the writer's map.
+
+ghost use Rattle.std.specs.Prelude.{◌≡◌, IfOk, OnErr};
+ghost use Rattle.lgm_wire.specs.Reading.{Gives};
+ghost use Rattle.lgm_store.specs.History.{absorbed};
+ghost use Rattle.lgm_server.specs.Outcomes.{outcome_of};
+
+use lgm_check::{Refusal, precheck};
+use lgm_gossip::ChainHash;
+use lgm_script::Item;
+use lgm_store::{Map, Op};
+use std::alloc::Global;
+
+/// Admits an item and does its operation, which it gives. A refusal or want of memory leaves the map as it was.
+#[tactic(auto, unfolding(lgm_server::specs::Outcomes::outcome_of))]
+pub(crate) fn admit(
+    alloc: Global,
+    chain: &ChainHash,
+    map: &mut Map,
+    item: &Item,
+) -> Result<Op, Refusal>
+    ensures outcome { Gives Refusal.NoMemory (λ op. op) result (outcome_of chain.now map.old item.now) }
+    ensures accepted { IfOk result (λ op. map.new ≡ absorbed map.old op) }
+    ensures refused { OnErr result (map.new ≡ map.old) }
+{
+    match item {
+        Item::Gossip(bytes, evidence) => {
+            let checked = precheck(alloc, chain, bytes.as_slice(), evidence)?;
+            map.offer(alloc, checked)
+        }
+        Item::Close(scid) => {
+            let close = map.admit_close(*scid)?;
+            map.absorb(&close)?;
+            Ok(close)
+        }
+    }
+}

@@ -1,0 +1,133 @@
+//! What the lines of a script ask, gathered before any of it is answered.
+
+ghost use Rattle.std.specs.Prelude.{◌≡◌, ◌+◌, ◌%◌, ◌<◌, ◌^◌, [], ◌∷◌, ◌++◌, length, replicate, IfOk, OnOk};
+ghost use Rattle.lgm_live.specs.Gathered.{slot_of, given, with_request, with_line};
+
+use crate::batches::Batches;
+use crate::requests::RequestLists;
+use crate::slot::Slot;
+use lgm_route::Request as RouteRequest;
+use lgm_script::{Item, Request};
+use lgm_server::asked_route;
+use std::alloc::{AllocError, Global};
+use std::marker::Model;
+use std::mem;
+
+/// What the lines of a script ask, gathered line by line. Contracts see its parts.
+#[derive(Drop)]
+pub(crate) struct Agenda {
+    /// The batches that are whole.
+    batches: Batches,
+    /// The items behind the last commit.
+    batch: Vec<Item>,
+    /// The payments of each worker.
+    lists: RequestLists,
+    /// How many payments there are.
+    payments: usize,
+    /// What each line is told by.
+    slots: Vec<Slot>,
+}
+
+impl Model for Agenda {
+    ghost use Rattle.lgm_live.specs.Gathered.{Gathered};
+
+    ghost Value = { Gathered };
+
+    ghost view = { λ a. record { batches = a.batches; batch = a.batch.items; lists = a.lists; payments = a.payments; slots = a.slots.items } };
+}
+
+impl Agenda {
+    /// Nothing was asked of so many workers.
+    pub(crate) fn new(alloc: Global, workers: usize) -> Result<Agenda, AllocError>
+        ensures { IfOk result (λ agenda. agenda ≡ record { batches = []; batch = []; lists = replicate workers []; payments = 0; slots = [] }) }
+    {
+        Ok(Agenda {
+            batches: Batches::new(alloc),
+            batch: Vec::new(alloc),
+            lists: RequestLists::empty(alloc, workers)?,
+            payments: 0,
+            slots: Vec::new(alloc),
+        })
+    }
+
+    /// Ends the batch of the items behind the last commit.
+    pub(crate) fn end_batch(&mut self, alloc: Global) -> Result<(), AllocError>
+        ensures { OnOk result (self.new ≡ record self.old { batches = self.old.batches ++ self.old.batch ∷ []; batch = [] }) }
+    {
+        let batch = mem::replace(&mut self.batch, Vec::new(alloc));
+        self.batches.push(batch)
+    }
+
+    /// Gives a payment to the worker whose turn it is.
+    fn give(&mut self, request: RouteRequest) -> Result<(), AllocError>
+        requires some { 0 < length self.old.lists }
+        requires few { self.old.payments + 1 < 2 ^ 64 }
+        ensures { OnOk result (self.new ≡ record self.old {
+          lists = given self.old.lists (self.old.payments % length self.old.lists) request;
+          payments = self.old.payments + 1;
+        }) }
+    {
+        let worker = self.payments % self.lists.len();
+        self.lists.give(worker, request)?;
+        self.payments += 1;
+        Ok(())
+    }
+
+    /// Keeps what a line asks, and gives what the line is told by.
+    fn keep(&mut self, alloc: Global, request: Request) -> Result<Slot, AllocError>
+        requires some { 0 < length self.old.lists }
+        requires few { self.old.payments + 1 < 2 ^ 64 }
+        ensures slot { IfOk result (λ slot. slot ≡ slot_of request) }
+        ensures kept { OnOk result (self.new ≡ with_request self.old request) }
+    {
+        match request {
+            Request::Quiet => Ok(Slot::Quiet),
+            Request::Bad => Ok(Slot::Bad),
+            Request::Offer(item) => {
+                self.batch.push(item)?;
+                Ok(Slot::Item)
+            }
+            Request::Commit => {
+                self.end_batch(alloc)?;
+                Ok(Slot::Commit)
+            }
+            Request::Query(_) | Request::Filter(_, _) => Ok(Slot::NotLive),
+            Request::Route(payment) => {
+                self.give(asked_route(&payment))?;
+                Ok(Slot::Payment(payment.secret))
+            }
+        }
+    }
+
+    /// Notes what a line asks.
+    pub(crate) fn note(&mut self, alloc: Global, request: Request) -> Result<(), AllocError>
+        requires some { 0 < length self.old.lists }
+        requires few { self.old.payments + 1 < 2 ^ 64 }
+        ensures { OnOk result (self.new ≡ with_line self.old request) }
+    {
+        let slot = self.keep(alloc, request)?;
+        self.slots.push(slot)?;
+        Ok(())
+    }
+
+    /// The batches that are whole.
+    pub(crate) fn batches(&self) -> &Batches
+        ensures { result.now ≡ self.now.batches }
+    {
+        &self.batches
+    }
+
+    /// The payments of each worker.
+    pub(crate) fn lists(&self) -> &RequestLists
+        ensures { result.now ≡ self.now.lists }
+    {
+        &self.lists
+    }
+
+    /// What each line is told by, in order.
+    pub(crate) fn slots(&self) -> &[Slot]
+        ensures { result.now ≡ self.now.slots }
+    {
+        self.slots.as_slice()
+    }
+}

@@ -1,0 +1,174 @@
+//! A map that grows while it is asked.
+
+ghost use Rattle.std.specs.Prelude.{◌≡◌, ◌≤◌, ◌<◌, [], length, map, All, IfSome, IfOk, MatchResult};
+ghost use Rattle.std.specs.List.{AllZip};
+ghost use Rattle.std.specs.Result.{result_err};
+ghost use Rattle.std.specs.Thread.{IsSync};
+ghost use Rattle.lgm_server.specs.Outcomes.{outcomes, history_of};
+ghost use Rattle.lgm_live.specs.Answers.{AreAnsweredBy, NeverFall, IsAtEnd};
+ghost use Rattle.lgm_live.specs.Batches.{items_of, ends_of};
+ghost use Rattle.lgm_live.specs.Worked.{HaveWorked, IsTied, IsOfWriter};
+ghost use Rattle.lgm_live.specs.Written.{IsWritten};
+
+use crate::batches::{Batch, Batches};
+use crate::fault::LiveFault;
+use crate::report::LiveReport;
+use crate::requests::{RequestList, RequestLists};
+use crate::tying::tie_all;
+use crate::working::{Worked, work_all};
+use crate::writing::{Written, write_all};
+use lgm_gossip::ChainHash;
+use lgm_graph::Known;
+use lgm_par::Gate;
+use lgm_publish::{Eye, Pen, PublishFault, board};
+use std::alloc::Global;
+use std::marker::Sync;
+use std::random::RandomSource;
+use std::sync::Wait;
+use std::thread::{Threads, join_mut};
+
+/// Lets the workers answer by eyes that are handed over.
+fn work_given<R: Threads + Sync, G: Gate>(
+    rt: &R,
+    alloc: Global,
+    gate: &G,
+    given: &mut Option<Vec<Eye>>,
+    lists: &[RequestList],
+) -> Result<Vec<Worked>, LiveFault>
+    requires given { IfSome given.old (λ eyes. length eyes.items ≡ length lists.now) }
+    requires some { 0 < length lists.now }
+    requires few { length lists.now ≤ 64 }
+    ensures { IfOk result (λ works. IfSome given.old (λ eyes. HaveWorked eyes.items lists.now works.items)) }
+{
+    let Some(eyes) = given.take() else {
+        return Err(LiveFault::Closed);
+    };
+    work_all(rt, alloc, gate, 0, eyes, lists)
+}
+
+/// The writer on one side, the workers on the other.
+fn run_both<R: Threads + Wait + Sync + RandomSource, G: Gate>(
+    rt: &R,
+    alloc: Global,
+    chain: &ChainHash,
+    gate: &G,
+    pen: &mut Pen,
+    eyes: Vec<Eye>,
+    batches: &[Batch],
+    lists: &[RequestList],
+) -> (Result<Written, LiveFault>, Result<Vec<Worked>, LiveFault>)
+    requires published { pen.old.published ≡ [] }
+    requires pending { pen.old.pending ≡ [] }
+    requires items { length (items_of batches.now) ≤ 2000000000 }
+    requires eyes { length eyes.items ≡ length lists.now }
+    requires some { 0 < length lists.now }
+    requires few { length lists.now ≤ 64 }
+    ensures board { pen.new.board ≡ pen.old.board }
+    ensures written { IfOk result.0 (IsWritten chain.now (items_of batches.now)) }
+    ensures ends { IfOk result.0 (λ written. written.ends.items ≡ ends_of chain.now batches.now) }
+    ensures within { IfOk result.0 (λ written. All (λ end. end ≤ length written.ops.items) written.ends.items) }
+    ensures published { IfOk result.0 (λ written. pen.new.published ≡ written.ops.items) }
+    ensures worked { IfOk result.1 (λ works. HaveWorked eyes.items lists.now works.items) }
+{
+    let mut given = Some(eyes);
+    join_mut(
+        rt,
+        &mut || -> Result<Written, LiveFault>
+            requires published { pen.now.published ≡ [] }
+            requires pending { pen.now.pending ≡ [] }
+            requires items { length (items_of batches.now) ≤ 2000000000 }
+        { write_all(rt, alloc, chain, gate, lists.len(), pen, batches) },
+        &mut || -> Result<Vec<Worked>, LiveFault>
+            requires sync { IsSync R.row }
+            requires given { IfSome given (λ eyes. length eyes.items ≡ length lists.now) }
+            requires some { 0 < length lists.now }
+            requires few { length lists.now ≤ 64 }
+        { work_given(rt, alloc, gate, &mut given, lists) },
+    )
+}
+
+/// The report of what both sides did.
+fn gather(
+    alloc: Global,
+    pen: &mut Pen,
+    written: Result<Written, LiveFault>,
+    works: Result<Vec<Worked>, LiveFault>,
+) -> Result<LiveReport, LiveFault>
+    requires within { IfOk written (λ written. All (λ end. end ≤ length pen.old.published) written.ends.items) }
+    requires board { IfOk works (λ works. All (λ worked. worked.eye.board ≡ pen.old.board) works.items) }
+    ensures written { IfOk result (λ report. MatchResult written (IsOfWriter report) (λ _. ⊥)) }
+    ensures tied { IfOk result (λ report. MatchResult works (λ works. AllZip (IsTied pen.old.published report.ends.items) works.items report.answers.items) (λ _. ⊥)) }
+{
+    let Written {
+        map: _map,
+        outcomes,
+        ops,
+        ends,
+    } = written?;
+    let answers = tie_all(alloc, pen, ends.as_slice(), works?)?;
+    Ok(LiveReport {
+        outcomes,
+        ops,
+        ends,
+        answers,
+    })
+}
+
+/// Lets one writer admit the items of each batch, in order, on a map of its own, and publish what was accepted once a
+/// batch, while workers answer payments: one worker for each of the 1 to 64 lists. A worker answers its list in order,
+/// each payment over the map that was published last when it came to it.
+///
+/// The gate holds up what a test wants held, and no answer depends on it. Worker `i`, counted from 0, passes it with `i`
+/// before each payment, and the writer with the number of workers before each publication. Nobody has a map then.
+///
+/// The report has one outcome for each item, all accepted operations, and one answer for each payment, with the version
+/// of the map that it is over: how many operations made it. Where a thread can't be started, its work is done on one
+/// that is there.
+///
+/// A fault comes when all are done. `NoMemory` says that memory was refused, to the search for a route too. `Closed` and
+/// `Versions` don't come as far as tests tell: a board has as many places as workers, and shows what was published last.
+pub fn live<R: Threads + Wait + Sync + RandomSource, G: Gate>(
+    rt: &R,
+    alloc: Global,
+    chain: &ChainHash,
+    known: &Known,
+    batches: &Batches,
+    lists: &RequestLists,
+    gate: &G,
+) -> Result<LiveReport, LiveFault>
+    requires items { length (items_of batches.now) ≤ 2000000000 }
+    requires workers { 1 ≤ length lists.now }
+    requires few { length lists.now ≤ 64 }
+
+    // The items are judged in order, as if there were no batches and no workers.
+    ensures outcomes { IfOk result (λ report. report.outcomes.items ≡ map result_err (outcomes chain.now (items_of batches.now))) }
+    ensures ops { IfOk result (λ report. report.ops.items ≡ history_of chain.now (items_of batches.now)) }
+    ensures ends { IfOk result (λ report. report.ends.items ≡ ends_of chain.now batches.now) }
+
+    // Each worker gives one answer for each payment of its list, in order, over the map of the answer's version.
+    ensures answers { IfOk result (λ report. AllZip (λ requests answers. AreAnsweredBy known.now report.ops.items requests answers.items) lists.now report.answers.items) }
+
+    // That map is empty or that of a batch's end, and it never shrinks.
+    ensures at_ends { IfOk result (λ report. All (λ answers. All (IsAtEnd report.ends.items) answers.items) report.answers.items) }
+    ensures rising { IfOk result (λ report. All (λ answers. NeverFall answers.items) report.answers.items) }
+{
+    let lists = lists.as_slice();
+    let (mut pen, eyes) = match board(rt, alloc, lists.len(), known) {
+        Ok(made) => made,
+        Err(PublishFault::NoMemory) => return Err(LiveFault::NoMemory),
+        Err(PublishFault::Places) => return Err(LiveFault::Closed),
+    };
+    let (written, works) = run_both(
+        rt,
+        alloc,
+        chain,
+        gate,
+        &mut pen,
+        eyes,
+        batches.as_slice(),
+        lists,
+    );
+    let report = gather(alloc, &mut pen, written, works);
+    pen.end(rt);
+    report
+}

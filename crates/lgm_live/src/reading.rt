@@ -1,0 +1,101 @@
+//! A whole script, read before any of it is answered.
+
+ghost use Rattle.std.specs.Prelude.{◌≡◌, ◌≢◌, ◌≤◌, ◌+◌, ◌<◌, ◌^◌, [], length, take, drop, IfSome, IfOk, IfErr, OnOk};
+ghost use Rattle.lgm_script.specs.Request.{request_of};
+ghost use Rattle.lgm_live.specs.Gathered.{with_line};
+ghost use Rattle.lgm_live.specs.Reading.{IsNoted, IsRead};
+ghost use Rattle.lgm_live.specs.Running.{HasMoreLines, HasLongLine};
+
+use crate::agenda::Agenda;
+use crate::run_live_fault::RunLiveFault;
+use lgm_script::{LineReader, Output, Sink, Source, more_begins, next_line, parse};
+use lgm_server::MAX_LINES;
+use std::alloc::{AllocError, Global};
+
+/// Notes what the first line asks, which has so many bytes, and drops it.
+fn note_line(
+    alloc: Global,
+    count: usize,
+    lines: &mut LineReader,
+    agenda: &mut Agenda,
+) -> Result<(), AllocError>
+    requires within { count ≤ length lines.old }
+    requires some { 0 < length agenda.old.lists }
+    requires few { agenda.old.payments + 1 < 2 ^ 64 }
+    ensures lines { OnOk result (lines.new ≡ drop (count + 1) lines.old) }
+    ensures agenda { OnOk result (agenda.new ≡ with_line agenda.old (request_of (take count lines.old))) }
+{
+    let bytes = lines.buffered();
+    let request = parse(alloc, &bytes[..count])?;
+    let len = bytes.len().min(count + 1);
+    lines.drop_front(len);
+    agenda.note(alloc, request)
+}
+
+/// Reads the lines of a script, of which nothing was read yet, and notes what they ask. Nothing is gathered, so nothing is
+/// written meanwhile.
+fn read_lines<R: Source, W: Sink>(
+    alloc: Global,
+    lines: &mut LineReader,
+    source: &mut R,
+    output: &mut Output<'_, W>,
+    agenda: &mut Agenda,
+) -> Result<(), RunLiveFault>
+    requires lines { lines.old ≡ [] }
+    requires some { 0 < length agenda.old.lists }
+    requires none { agenda.old.payments ≡ 0 }
+    requires gathered { output.old.gathered.now.items ≡ [] }
+    requires source { R.failures source.old + 1 < 2 ^ 64 }
+    requires writer { W.failures output.old.writer.now + 1 < 2 ^ 64 }
+    ensures writer { output.new.writer.ghost_name ≡ output.old.writer.ghost_name }
+    ensures ok { OnOk result (IsNoted (R.left source.old) agenda.old agenda.new) }
+    ensures too_many { result ≡ Err RunLiveFault.TooManyLines → IfSome (R.left source.old) HasMoreLines }
+    ensures too_long { result ≡ Err RunLiveFault.LineTooLong → IfSome (R.left source.old) HasLongLine }
+    ensures silent { W.taken output.new.writer.now ≡ W.taken output.old.writer.now }
+    ensures gathered { output.new.gathered.now.items ≡ [] }
+    ensures read { result ≡ Err RunLiveFault.Read → R.failures source.old < R.failures source.new }
+    ensures write { result ≡ Err RunLiveFault.Write → W.failures output.old.writer.now < W.failures output.new.writer.now }
+    ensures well { result ≢ Err RunLiveFault.Write → W.failures output.new.writer.now ≡ W.failures output.old.writer.now }
+{
+    let mut number = 0;
+    while number < MAX_LINES {
+        let Some(count) = next_line(lines, source, output)? else {
+            return Ok(());
+        };
+        note_line(alloc, count, lines, agenda)?;
+        number += 1;
+    }
+    if more_begins(lines, source, output)? {
+        return Err(RunLiveFault::TooManyLines);
+    }
+    Ok(())
+}
+
+/// Reads a whole script, and gives what it asks of so many workers. Nothing is gathered, so nothing is written
+/// meanwhile.
+pub(crate) fn read_script<R: Source, W: Sink>(
+    alloc: Global,
+    workers: usize,
+    source: &mut R,
+    output: &mut Output<'_, W>,
+) -> Result<Agenda, RunLiveFault>
+    requires some { 0 < workers }
+    requires gathered { output.old.gathered.now.items ≡ [] }
+    requires source { R.failures source.old + 1 < 2 ^ 64 }
+    requires writer { W.failures output.old.writer.now + 1 < 2 ^ 64 }
+    ensures writer { output.new.writer.ghost_name ≡ output.old.writer.ghost_name }
+    ensures ok { IfOk result (IsRead workers (R.left source.old)) }
+    ensures too_many { result ≡ Err RunLiveFault.TooManyLines → IfSome (R.left source.old) HasMoreLines }
+    ensures too_long { result ≡ Err RunLiveFault.LineTooLong → IfSome (R.left source.old) HasLongLine }
+    ensures silent { W.taken output.new.writer.now ≡ W.taken output.old.writer.now }
+    ensures gathered { output.new.gathered.now.items ≡ [] }
+    ensures read { result ≡ Err RunLiveFault.Read → R.failures source.old < R.failures source.new }
+    ensures write { result ≡ Err RunLiveFault.Write → W.failures output.old.writer.now < W.failures output.new.writer.now }
+    ensures well { result ≢ Err RunLiveFault.Write → W.failures output.new.writer.now ≡ W.failures output.old.writer.now }
+{
+    let mut lines = LineReader::new(alloc)?;
+    let mut agenda = Agenda::new(alloc, workers)?;
+    read_lines(alloc, &mut lines, source, output, &mut agenda)?;
+    agenda.end_batch(alloc)?;
+    Ok(agenda)
+}

@@ -1,0 +1,80 @@
+//! Why a run beside workers ends early.
+
+ghost use Rattle.std.specs.Prelude.{◌≡◌};
+ghost use Rattle.lgm_live.specs.Running.{line_fault, send_fault, live_fault};
+ghost use Rattle.lgm_live.specs.declared.run_live_fault.RunLiveFault.TheVariants.{NoMemory};
+
+use crate::fault::LiveFault;
+use lgm_script::{LineFault, SendFault};
+use std::alloc::AllocError;
+use thiserror::Error;
+
+/// Why a script wasn't told. At `Write` and at `NoMemory` a beginning of its text may have been written, at the others
+/// nothing was.
+#[derive(Clone, Copy, Debug, PartialEq, Eq, Error)]
+pub enum RunLiveFault {
+    /// The source failed.
+    #[error("read failed")]
+    Read,
+    /// The sink failed, or took no byte.
+    #[error("write failed")]
+    Write,
+    /// Memory was refused.
+    #[error("out of memory")]
+    NoMemory,
+    /// Line 10,000,001 begins.
+    #[error("too many lines")]
+    TooManyLines,
+    /// A line has more than 140,000 bytes.
+    #[error("line too long")]
+    LineTooLong,
+    /// A worker found nothing published, or the board had no place for it.
+    #[error("board closed")]
+    Closed,
+    /// A worker answered over a map that isn't that of a batch's end.
+    #[error("versions disagree")]
+    Versions,
+}
+
+impl From<LineFault> for RunLiveFault {
+    ghost from_gives = { λ fault e. e ≡ line_fault fault };
+
+    fn from(fault: LineFault) -> RunLiveFault {
+        match fault {
+            LineFault::Read => RunLiveFault::Read,
+            LineFault::Write => RunLiveFault::Write,
+            LineFault::TooLong => RunLiveFault::LineTooLong,
+        }
+    }
+}
+
+impl From<SendFault> for RunLiveFault {
+    ghost from_gives = { λ fault e. e ≡ send_fault fault };
+
+    fn from(fault: SendFault) -> RunLiveFault {
+        match fault {
+            SendFault::Write => RunLiveFault::Write,
+            SendFault::NoMemory => RunLiveFault::NoMemory,
+        }
+    }
+}
+
+impl From<LiveFault> for RunLiveFault {
+    ghost from_gives = { λ fault e. e ≡ live_fault fault };
+
+    fn from(fault: LiveFault) -> RunLiveFault {
+        match fault {
+            LiveFault::NoMemory => RunLiveFault::NoMemory,
+            LiveFault::Closed => RunLiveFault::Closed,
+            LiveFault::Versions => RunLiveFault::Versions,
+        }
+    }
+}
+
+impl From<AllocError> for RunLiveFault {
+    ghost from_gives = { λ _ e. e ≡ NoMemory };
+
+    fn from(_e: AllocError) -> RunLiveFault {
+        RunLiveFault::NoMemory
+    }
+}

@@ -1,0 +1,194 @@
+//! The text of a script and of the report on it.
+
+ghost use Rattle.std.specs.Prelude.{◌≡◌, ◌≤◌, ◌+◌, ◌<◌, ◌^◌, [], length, IsSome, IfErr, OnOk, OnErr};
+ghost use Rattle.std.specs.Option.{option_map};
+ghost use Rattle.lgm_script.specs.Device.{Appends, AppendsSome};
+ghost use Rattle.lgm_script.specs.Output.{Sends, SendsPart};
+ghost use Rattle.lgm_server.specs.Answer.{route_text};
+ghost use Rattle.lgm_live.specs.Told.{answer_at};
+ghost use Rattle.lgm_live.specs.Telling.{place_passed, same_text, slot_text, slots_before, IsThere, AreThere};
+ghost use Rattle.lgm_live.specs.declared.report.LiveAnswer.{LiveAnswer};
+
+use crate::report::{LiveAnswer, LiveReport};
+use crate::slot::Slot;
+use lgm_payload::build;
+use lgm_route::{Route, RouteFault};
+use lgm_script::{Output, SendFault, Sink};
+use lgm_server::{outcome_word, send_route};
+use std::alloc::Global;
+
+/// Where the next outcome, end and answer of a report stand.
+#[derive(Clone, Copy)]
+pub(crate) struct Place {
+    items: usize,
+    ends: usize,
+    payments: usize,
+}
+
+impl Place {
+    /// The place behind a slot.
+    fn pass(self, slot: Slot) -> Place
+        requires items { self.items + 1 < 2 ^ 64 }
+        requires ends { self.ends + 1 < 2 ^ 64 }
+        requires payments { self.payments + 1 < 2 ^ 64 }
+        ensures { result ≡ place_passed self slot }
+    {
+        let Place {
+            mut items,
+            mut ends,
+            mut payments,
+        } = self;
+        match slot {
+            Slot::Item => items += 1,
+            Slot::Commit => ends += 1,
+            Slot::Payment(_) => payments += 1,
+            _ => {}
+        }
+        Place {
+            items,
+            ends,
+            payments,
+        }
+    }
+}
+
+/// The answer to a payment, by its place among all that were dealt out to so many workers in turn.
+fn answer_at(answers: &[Vec<LiveAnswer>], workers: usize, place: usize) -> Option<&LiveAnswer>
+    requires { 0 < workers }
+    ensures { option_map (λ answer. answer.now) result ≡ answer_at workers answers.now place }
+{
+    answers.get(place % workers)?.get(place / workers)
+}
+
+/// Tells a route with the payloads of its hops, or why there is none.
+fn tell_result<W: Sink>(
+    alloc: Global,
+    number: u64,
+    secret: &[u8; 32],
+    found: &Result<Route, RouteFault>,
+    output: &mut Output<'_, W>,
+) -> Result<(), SendFault>
+    requires { W.failures output.old.writer.now + 1 < 2 ^ 64 }
+    ensures writer { output.new.writer.ghost_name ≡ output.old.writer.ghost_name }
+    ensures told { OnOk result (Sends W.taken W.failures output.old output.new (route_text number secret.now found.now)) }
+    ensures fault { IfErr result (SendsPart W.taken W.failures output.old output.new (route_text number secret.now found.now)) }
+{
+    match found {
+        Ok(route) => {
+            let payloads = build(alloc, route, secret)?;
+            send_route(number, route, &payloads, output)
+        }
+        Err(fault) => output.send_word(number, fault.word()),
+    }
+}
+
+/// Tells an answer to a payment: the version of the map that it was found on, and the answer. That the map of as many
+/// operations gives the same is proved of each report of `live`, so it isn't looked for again.
+fn tell_answer<W: Sink>(
+    alloc: Global,
+    number: u64,
+    secret: &[u8; 32],
+    answer: &LiveAnswer,
+    output: &mut Output<'_, W>,
+) -> Result<(), SendFault>
+    requires { W.failures output.old.writer.now + 1 < 2 ^ 64 }
+    ensures writer { output.new.writer.ghost_name ≡ output.old.writer.ghost_name }
+    ensures told { OnOk result (Sends W.taken W.failures output.old output.new (same_text number secret.now (Some answer.now))) }
+    ensures fault { IfErr result (SendsPart W.taken W.failures output.old output.new (same_text number secret.now (Some answer.now))) }
+{
+    let version = answer.version;
+    let word = format!(in alloc; "at {version} same")?;
+    output.send_word(number, word.as_str())?;
+    tell_result(alloc, number, secret, &answer.result, output)
+}
+
+/// Tells the line of that number what its slot says.
+fn tell_slot<W: Sink>(
+    alloc: Global,
+    workers: usize,
+    number: u64,
+    slot: Slot,
+    place: Place,
+    report: &LiveReport,
+    output: &mut Output<'_, W>,
+) -> Result<(), SendFault>
+    requires workers { 0 < workers }
+    requires there { IsThere workers report.now place slot }
+    requires writer { W.failures output.old.writer.now + 1 < 2 ^ 64 }
+    ensures writer { output.new.writer.ghost_name ≡ output.old.writer.ghost_name }
+    ensures told { OnOk result (Sends W.taken W.failures output.old output.new (slot_text workers report.now number place slot)) }
+    ensures fault { IfErr result (SendsPart W.taken W.failures output.old output.new (slot_text workers report.now number place slot)) }
+{
+    match slot {
+        Slot::Quiet => Ok(()),
+        Slot::Bad => output.send_word(number, "bad"),
+        Slot::Item => output.send_word(number, outcome_word(report.outcomes[place.items])),
+        Slot::Commit => output.send_count(number, report.ends[place.ends]),
+        Slot::NotLive => output.send_word(number, "not-live"),
+        Slot::Payment(secret) => {
+            let Some(answer) = answer_at(report.answers.as_slice(), workers, place.payments) else {
+                unreachable!();
+            };
+            tell_answer(alloc, number, &secret, answer, output)
+        }
+    }
+}
+
+/// Tells each line what its slot says. Some of the text may still be gathered.
+fn tell_slots<W: Sink>(
+    alloc: Global,
+    workers: usize,
+    slots: &[Slot],
+    report: &LiveReport,
+    output: &mut Output<'_, W>,
+) -> Result<(), SendFault>
+    requires workers { 0 < workers }
+    requires few { length slots.now ≤ 10000000 }
+    requires there { AreThere workers report.now slots.now }
+    requires writer { W.failures output.old.writer.now + 1 < 2 ^ 64 }
+    ensures writer { output.new.writer.ghost_name ≡ output.old.writer.ghost_name }
+    ensures told { OnOk result (Sends W.taken W.failures output.old output.new (slots_before workers report.now slots.now (length slots.now))) }
+    ensures fault { IfErr result (SendsPart W.taken W.failures output.old output.new (slots_before workers report.now slots.now (length slots.now))) }
+{
+    let mut number = 0;
+    let mut place = Place {
+        items: 0,
+        ends: 0,
+        payments: 0,
+    };
+    for slot in slots {
+        number += 1;
+        tell_slot(alloc, workers, number, *slot, place, report, output)?;
+        place = place.pass(*slot);
+    }
+    Ok(())
+}
+
+/// Writes the text of a script and of the report on it, to an output where nothing is gathered. Where memory is refused,
+/// the lines before are written.
+pub(crate) fn tell<W: Sink>(
+    alloc: Global,
+    workers: usize,
+    slots: &[Slot],
+    report: &LiveReport,
+    output: &mut Output<'_, W>,
+) -> Result<(), SendFault>
+    requires workers { 0 < workers }
+    requires few { length slots.now ≤ 10000000 }
+    requires there { AreThere workers report.now slots.now }
+    requires gathered { output.old.gathered.now.items ≡ [] }
+    requires writer { W.failures output.old.writer.now + 1 < 2 ^ 64 }
+    ensures writer { output.new.writer.ghost_name ≡ output.old.writer.ghost_name }
+    ensures told { OnOk result (Appends (W.taken output.old.writer.now) (W.taken output.new.writer.now) (slots_before workers report.now slots.now (length slots.now))) }
+    ensures part { OnErr result (AppendsSome (W.taken output.old.writer.now) (W.taken output.new.writer.now) (slots_before workers report.now slots.now (length slots.now))) }
+    ensures write { result ≡ Err SendFault.Write → W.failures output.old.writer.now < W.failures output.new.writer.now }
+{
+    let told = tell_slots(alloc, workers, slots, report, output);
+    if let Err(SendFault::Write) = told {
+        return told;
+    }
+    match output.flush() {
+        Ok(()) => told,
+        Err(_) => Err(SendFault::Write),
+    }
+}

@@ -1,0 +1,339 @@
+//! Two channels that come while routes over them are asked for. The expected route was worked out by hand.
+
+use super::*;
+use lgm_check::{Evidence, Funding, Refusal, Sig};
+use lgm_gossip::{Announce, Bytes, ChainHash, ChannelUpdate, Message, Point, Scid, encode};
+use lgm_graph::Known;
+use lgm_par::{Gate, Open};
+use lgm_route::{Request, Route, RouteFault};
+use lgm_script::Item;
+use std::alloc::{AllocError, Global};
+use std::marker::Sync;
+use std::process::Abort;
+use std::random::RandomSource;
+use std::sync::Wait;
+use std::sync::atomic::{AtomicU64, Ordering};
+use std::test::Fail;
+use std::thread;
+use std::thread::Threads;
+
+/// The most turns that anything is held.
+const LIMIT: u64 = 100_000_000;
+
+const CHAIN: ChainHash = ChainHash([0xc1; 32]);
+
+/// The node with 2 and 32 times this byte.
+fn point(byte: u8) -> Point {
+    let mut bytes = [byte; 33];
+    bytes[0] = 2;
+    Point(bytes)
+}
+
+fn channel(alloc: Global, scid: Scid, from: u8, to: u8) -> Result<Item, Fail> {
+    let message = Message::Announce(Announce {
+        node_signature_1: [0; 64],
+        node_signature_2: [0; 64],
+        bitcoin_signature_1: [0; 64],
+        bitcoin_signature_2: [0; 64],
+        features: Bytes::from_slice(alloc, &[])?,
+        chain_hash: CHAIN,
+        short_channel_id: scid,
+        node_id_1: point(from),
+        node_id_2: point(to),
+        bitcoin_key_1: point(0xee),
+        bitcoin_key_2: point(0xee),
+        rest: Bytes::from_slice(alloc, &[])?,
+    });
+    let evidence = Evidence {
+        sig: Sig::AllFour(true),
+        funding: Funding::Unspent(100_000),
+    };
+    Ok(Item::Gossip(encode(alloc, &message)?, evidence))
+}
+
+fn update(
+    alloc: Global,
+    scid: Scid,
+    by: u8,
+    delta: u16,
+    base: u32,
+    millionths: u32,
+) -> Result<Item, Fail> {
+    let message = Message::ChannelUpdate(ChannelUpdate {
+        signature: [0; 64],
+        chain_hash: CHAIN,
+        short_channel_id: scid,
+        timestamp: 1,
+        message_flags: 1,
+        channel_flags: 0,
+        cltv_expiry_delta: delta,
+        htlc_minimum_msat: 1,
+        fee_base_msat: base,
+        fee_proportional_millionths: millionths,
+        htlc_maximum_msat: 50_000_000,
+        rest: Bytes::from_slice(alloc, &[])?,
+    });
+    let evidence = Evidence {
+        sig: Sig::By(point(by)),
+        funding: Funding::NotAsked,
+    };
+    Ok(Item::Gossip(encode(alloc, &message)?, evidence))
+}
+
+/// Channels between A and B and between B and C, with what their first nodes ask for.
+fn two_channels(alloc: Global) -> Result<Vec<Item>, Fail> {
+    let first = Scid::new(600_000, 0, 0);
+    let second = Scid::new(600_000, 1, 0);
+    let mut items = Vec::new(alloc);
+    items.push(channel(alloc, first, 0x0a, 0x0b)?)?;
+    items.push(channel(alloc, second, 0x0b, 0x0c)?)?;
+    items.push(update(alloc, first, 0x0a, 10, 0, 0)?)?;
+    items.push(update(alloc, second, 0x0b, 20, 200, 2000)?)?;
+    Ok(items)
+}
+
+/// A batch of the two channels, and then so many empty ones.
+fn batches(alloc: Global, empty: usize) -> Result<Batches, Fail> {
+    let mut batches = Batches::new(alloc);
+    batches.push(two_channels(alloc)?)?;
+    for _batch in 0..empty {
+        batches.push(Vec::new(alloc))?;
+    }
+    Ok(batches)
+}
+
+/// So many workers, each with the payment from A to C so many times.
+fn lists(alloc: Global, workers: usize, times: usize) -> Result<RequestLists, AllocError> {
+    let request = Request {
+        payer: point(0x0a),
+        payee: point(0x0c),
+        amount: 4_999_999,
+        expiry: 700_009,
+    };
+    let mut lists = RequestLists::new(alloc);
+    for _worker in 0..workers {
+        let mut requests = Vec::new(alloc);
+        for _time in 0..times {
+            requests.push(request)?;
+        }
+        lists.push(requests)?;
+    }
+    Ok(lists)
+}
+
+/// B takes 200 and 2,000 millionths of 4,999,999, which are 9,999, and 20 blocks.
+fn is_the_route(route: &Route) -> bool {
+    route.as_slice().len() == 2 && route.sent() == 5_010_198 && route.expiry() == 700_029
+}
+
+fn is_right(answer: &LiveAnswer) -> bool {
+    match &answer.result {
+        Ok(route) => answer.version == 4 && is_the_route(route),
+        Err(fault) => answer.version == 0 && *fault == RouteFault::NoRoute,
+    }
+}
+
+/// Who waits for whom.
+#[derive(Clone, Copy)]
+enum Plan {
+    /// Each worker waits until the writer passes.
+    Writer,
+    /// Worker 0 waits until another one passes.
+    Other,
+    /// Each worker waits until so many have begun.
+    All(u64),
+    /// The writer waits at its first pass until the only worker begins its second one, which waits until the writer
+    /// begins its second one.
+    Turns,
+}
+
+/// Counts what begins to pass, and holds it up by a plan.
+#[derive(Drop)]
+struct Holding {
+    plan: Plan,
+    workers: usize,
+    writer: AtomicU64,
+    first: AtomicU64,
+    others: AtomicU64,
+    turns: AtomicU64,
+}
+
+impl Holding {
+    fn new(plan: Plan, workers: usize) -> Holding {
+        Holding {
+            plan,
+            workers,
+            writer: AtomicU64::new(0),
+            first: AtomicU64::new(0),
+            others: AtomicU64::new(0),
+            turns: AtomicU64::new(0),
+        }
+    }
+
+    fn passed(&self, piece: usize) -> &AtomicU64 {
+        if piece == self.workers {
+            &self.writer
+        } else if piece == 0 {
+            &self.first
+        } else {
+            &self.others
+        }
+    }
+
+    /// Waits until so many passes were begun, of which these count.
+    fn hold(&self, passes: &AtomicU64, more: &AtomicU64, wanted: u64) {
+        let mut turns = 0;
+        for turn in 0..LIMIT {
+            turns = turn + 1;
+            let begun = passes.load(Ordering::SeqCst);
+            if begun >= wanted || more.load(Ordering::SeqCst) >= wanted.saturating_sub(begun) {
+                break;
+            }
+            thread::yield_now();
+        }
+        self.turns.fetch_add(turns, Ordering::SeqCst);
+    }
+
+    fn ended_by_itself(&self) -> bool {
+        let turns = self.turns.load(Ordering::SeqCst);
+        0 < turns && turns < LIMIT
+    }
+}
+
+impl Gate for Holding {
+    fn pass(&self, piece: usize) {
+        let before = self.passed(piece).fetch_add(1, Ordering::SeqCst);
+        let none = AtomicU64::new(0);
+        let writes = piece == self.workers;
+        match self.plan {
+            Plan::Writer if !writes => self.hold(&self.writer, &none, 1),
+            Plan::Other if piece == 0 => self.hold(&self.others, &none, 1),
+            Plan::All(wanted) if !writes => self.hold(&self.first, &self.others, wanted),
+            Plan::Turns if writes && before == 0 => self.hold(&self.first, &none, 2),
+            Plan::Turns if !writes && before == 1 => self.hold(&self.writer, &none, 2),
+            _ => {}
+        }
+    }
+}
+
+/// What is reported of the two channels and empty batches behind them.
+fn run<R: Abort + Threads + Wait + Sync + RandomSource, G: Gate>(
+    rt: &R,
+    alloc: Global,
+    empty: usize,
+    workers: usize,
+    times: usize,
+    gate: &G,
+) -> Result<LiveReport, Fail> {
+    let batches = batches(alloc, empty)?;
+    let lists = lists(alloc, workers, times)?;
+    assert!(rt;
+        batches.are_few() && lists.len() >= 1 && lists.len() <= 64,
+        "a few"
+    );
+    Ok(live(rt, alloc, &CHAIN, &Known::all(), &batches, &lists, gate)?)
+}
+
+/// The two channels were accepted, and each worker gave so many right answers.
+fn assert_right(rt: &impl Abort, report: &LiveReport, workers: usize, times: usize) {
+    assert_eq!(rt; report.outcomes.as_slice(), [None; 4].as_slice());
+    assert_eq!(rt; report.ops.len(), 4);
+    assert_eq!(rt; report.answers.len(), workers);
+    for answers in report.answers.as_slice() {
+        assert_eq!(rt; answers.len(), times);
+        assert!(rt; answers.iter().all(is_right), "a wrong answer");
+    }
+}
+
+#[test]
+fn two_workers_wait_for_the_writer(rt: HostRuntime) -> Result<(), Fail> {
+    let gate = Holding::new(Plan::Writer, 2);
+    let report = run(&rt, rt.alloc(), 0, 2, 1, &gate)?;
+    assert_right(&rt, &report, 2, 1);
+    assert_eq!(rt; report.ends.as_slice(), [4].as_slice());
+    assert!(rt; gate.ended_by_itself(), "ended at the limit");
+    Ok(())
+}
+
+#[test]
+fn one_worker_waits_for_the_other(rt: HostRuntime) -> Result<(), Fail> {
+    let gate = Holding::new(Plan::Other, 2);
+    let report = run(&rt, rt.alloc(), 0, 2, 1, &gate)?;
+    assert_right(&rt, &report, 2, 1);
+    assert_eq!(rt; report.ends.as_slice(), [4].as_slice());
+    assert!(rt; gate.ended_by_itself(), "ended at the limit");
+    Ok(())
+}
+
+#[test]
+fn a_worker_sees_what_is_published_meanwhile(rt: HostRuntime) -> Result<(), Fail> {
+    let gate = Holding::new(Plan::Turns, 1);
+    let report = run(&rt, rt.alloc(), 1, 1, 2, &gate)?;
+    assert_right(&rt, &report, 1, 2);
+    assert_eq!(rt; report.ends.as_slice(), [4, 4].as_slice());
+    let mut versions = Vec::new(rt.alloc());
+    for answers in report.answers.as_slice() {
+        for answer in answers.as_slice() {
+            versions.push(answer.version)?;
+        }
+    }
+    assert_eq!(rt; versions.as_slice(), [0, 4].as_slice());
+    assert!(rt; gate.ended_by_itself(), "ended at the limit");
+    Ok(())
+}
+
+#[test]
+fn all_workers_at_once(rt: HostRuntime) -> Result<(), Fail> {
+    let gate = Holding::new(Plan::All(64), 64);
+    let report = run(&rt, rt.alloc(), 0, 64, 1, &gate)?;
+    assert_right(&rt, &report, 64, 1);
+    assert!(rt; gate.ended_by_itself(), "ended at the limit");
+    Ok(())
+}
+
+#[test]
+fn nothing_is_held(rt: HostRuntime) -> Result<(), Fail> {
+    let report = run(&rt, rt.alloc(), 0, 3, 1, &Open)?;
+    assert_right(&rt, &report, 3, 1);
+    Ok(())
+}
+
+#[test]
+fn a_worker_may_have_no_payment(rt: HostRuntime) -> Result<(), Fail> {
+    let report = run(&rt, rt.alloc(), 2, 2, 0, &Open)?;
+    assert_right(&rt, &report, 2, 0);
+    assert_eq!(rt; report.ends.as_slice(), [4, 4, 4].as_slice());
+    Ok(())
+}
+
+// The second announcement of a channel between the same nodes is refused, and a close of a channel that isn't there.
+#[test]
+fn refusals_are_reported(rt: HostRuntime) -> Result<(), Fail> {
+    let alloc: Global = rt.alloc();
+    let scid = Scid::new(600_000, 0, 0);
+    let mut batches = Batches::new(alloc);
+    let mut items = Vec::new(alloc);
+    items.push(Item::Close(scid))?;
+    items.push(channel(alloc, scid, 0x0a, 0x0b)?)?;
+    batches.push(items)?;
+    let mut items = Vec::new(alloc);
+    items.push(channel(alloc, scid, 0x0a, 0x0b)?)?;
+    items.push(Item::Close(scid))?;
+    batches.push(items)?;
+    let lists = lists(alloc, 1, 1)?;
+    assert!(rt;
+        batches.are_few() && lists.len() >= 1 && lists.len() <= 64,
+        "a few"
+    );
+    let report = live(&rt, alloc, &CHAIN, &Known::all(), &batches, &lists, &Open)?;
+    let wanted = [
+        Some(Refusal::UnknownChannel),
+        None,
+        Some(Refusal::Known),
+        None,
+    ];
+    assert_eq!(rt; report.outcomes.as_slice(), wanted.as_slice());
+    assert_eq!(rt; report.ends.as_slice(), [1, 2].as_slice());
+    assert_eq!(rt; report.ops.len(), 2);
+    Ok(())
+}

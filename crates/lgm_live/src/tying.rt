@@ -1,0 +1,64 @@
+//! The workers' answers, beside what the writer published.
+
+ghost use Rattle.std.specs.Prelude.{◌≡◌, ◌≤◌, length, All, IsTrue, IfOk};
+ghost use Rattle.std.specs.List.{AllZip};
+ghost use Rattle.lgm_live.specs.Answers.{IsAtEnd};
+ghost use Rattle.lgm_live.specs.Worked.{IsTied};
+
+use crate::fault::LiveFault;
+use crate::report::LiveAnswer;
+use crate::working::Worked;
+use lgm_publish::Pen;
+use std::alloc::Global;
+
+/// Whether an answer is over the empty map or over that of a batch's end.
+fn is_at_end(ends: &[u64], answer: &LiveAnswer) -> bool
+    ensures { IsTrue result → IsAtEnd ends.now answer.now }
+{
+    answer.version == 0 || ends.binary_search(&answer.version).is_ok()
+}
+
+/// Whether each answer is over the empty map or over that of a batch's end.
+fn are_at_ends(ends: &[u64], answers: &[LiveAnswer]) -> bool
+    ensures { IsTrue result → All (IsAtEnd ends.now) answers.now }
+{
+    for answer in answers {
+        if !is_at_end(ends, answer) {
+            return false;
+        }
+    }
+    true
+}
+
+/// A worker's answers, once its eye has learned what is published.
+fn tie(pen: &mut Pen, ends: &[u64], worked: Worked) -> Result<Vec<LiveAnswer>, LiveFault>
+    requires board { worked.eye.board ≡ pen.old.board }
+    requires within { All (λ end. end ≤ length pen.old.published) ends.now }
+    ensures same { pen.new ≡ pen.old }
+    ensures tied { IfOk result (IsTied pen.old.published ends.now worked) }
+{
+    let Worked { mut eye, answers } = worked;
+    eye.learn(pen.tell());
+    if !are_at_ends(ends, answers.as_slice()) {
+        return Err(LiveFault::Versions);
+    }
+    Ok(answers)
+}
+
+/// The answers of all workers, once their eyes have learned what is published.
+pub(crate) fn tie_all(
+    alloc: Global,
+    pen: &mut Pen,
+    ends: &[u64],
+    works: Vec<Worked>,
+) -> Result<Vec<Vec<LiveAnswer>>, LiveFault>
+    requires board { All (λ worked. worked.eye.board ≡ pen.old.board) works.items }
+    requires within { All (λ end. end ≤ length pen.old.published) ends.now }
+    ensures { IfOk result (λ answers. AllZip (IsTied pen.old.published ends.now) works.items answers.items) }
+{
+    let mut answers = Vec::new(alloc);
+    for worked in works {
+        answers.push(tie(pen, ends, worked)?)?;
+    }
+    Ok(answers)
+}

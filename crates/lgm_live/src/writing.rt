@@ -1,0 +1,173 @@
+//! The writer's side.
+
+ghost use Rattle.std.specs.Prelude.{◌≡◌, ◌+◌, ◌<◌, ◌≤◌, List, [], ◌∷◌, ◌++◌, length, All, IfOk, OnOk};
+ghost use Rattle.lgm_script.specs.declared.item.Item.{Item};
+ghost use Rattle.lgm_live.specs.Batches.{items_of, ends_of};
+ghost use Rattle.lgm_live.specs.Written.{IsWritten};
+
+use crate::admitting::admit;
+use crate::batches::Batch;
+use crate::fault::LiveFault;
+use lgm_check::Refusal;
+use lgm_gossip::ChainHash;
+use lgm_par::Gate;
+use lgm_publish::{AppendCause, Pen};
+use lgm_script::Item;
+use lgm_store::{Map, Op, Seed};
+use std::alloc::{AllocError, Global};
+use std::random::RandomSource;
+use std::sync::Wait;
+
+/// What the writer has done so far.
+#[derive(Drop)]
+pub(crate) struct Written {
+    /// The map of what was accepted.
+    pub(crate) map: Map,
+    /// Why each item was refused, or none.
+    pub(crate) outcomes: Vec<Option<Refusal>>,
+    /// The operations of the accepted items.
+    pub(crate) ops: Vec<Op>,
+    /// How many operations there were after each batch.
+    pub(crate) ends: Vec<u64>,
+}
+
+impl Written {
+    /// Nothing yet. The map's points will be hashed by the seed.
+    fn new(alloc: Global, seed: Seed) -> Result<Written, AllocError>
+        ensures written { (chain : _) → IfOk result (IsWritten chain []) }
+        ensures ends { IfOk result (λ written. written.ends.items ≡ []) }
+        ensures none { IfOk result (λ written. written.ops.items ≡ []) }
+    {
+        Ok(Written {
+            map: Map::with_seed(alloc, seed)?,
+            outcomes: Vec::new(alloc),
+            ops: Vec::new(alloc),
+            ends: Vec::new(alloc),
+        })
+    }
+
+    /// Appends the operation of an accepted item, and keeps a copy.
+    fn keep(&mut self, alloc: Global, pen: &mut Pen, op: Op) -> Result<(), LiveFault>
+        requires few { length (pen.old.published ++ pen.old.pending) < 2000000000 }
+        ensures map { self.new.map ≡ self.old.map }
+        ensures outcomes { self.new.outcomes ≡ self.old.outcomes }
+        ensures ends { self.new.ends ≡ self.old.ends }
+        ensures ops { OnOk result (self.new.ops.items ≡ self.old.ops.items ++ op ∷ []) }
+        ensures board { pen.new.board ≡ pen.old.board }
+        ensures published { pen.new.published ≡ pen.old.published }
+        ensures pending { OnOk result (pen.new.pending ≡ pen.old.pending ++ op ∷ []) }
+    {
+        self.ops.push(op.copy(alloc)?)?;
+        match pen.append(op) {
+            Ok(()) => Ok(()),
+            Err(fault) => match fault.cause {
+                AppendCause::NoMemory => Err(LiveFault::NoMemory),
+                AppendCause::Full => unreachable!(),
+            },
+        }
+    }
+
+    /// Offers one item to the map.
+    fn take_item(
+        &mut self,
+        alloc: Global,
+        chain: &ChainHash,
+        pen: &mut Pen,
+        item: &Item,
+    ) -> Result<(), LiveFault>
+        requires few { length self.old.ops.items < 2000000000 }
+        requires appended { pen.old.published ++ pen.old.pending ≡ self.old.ops.items }
+        ensures written { (items : List Item) → IsWritten chain.now items self.old
+            → OnOk result (IsWritten chain.now (items ++ item.now ∷ []) self.new) }
+        ensures ends { self.new.ends ≡ self.old.ends }
+        ensures few { OnOk result (length self.new.ops.items ≤ length self.old.ops.items + 1) }
+        ensures grows { OnOk result (length self.old.ops.items ≤ length self.new.ops.items) }
+        ensures board { pen.new.board ≡ pen.old.board }
+        ensures published { pen.new.published ≡ pen.old.published }
+        ensures appended { OnOk result (pen.new.published ++ pen.new.pending ≡ self.new.ops.items) }
+    {
+        match admit(alloc, chain, &mut self.map, item) {
+            Ok(op) => {
+                self.keep(alloc, pen, op)?;
+                self.outcomes.push(None)?;
+            }
+            Err(Refusal::NoMemory) => return Err(LiveFault::NoMemory),
+            Err(refusal) => self.outcomes.push(Some(refusal))?,
+        }
+        Ok(())
+    }
+
+    /// Publishes what was appended, and notes how much there is.
+    fn publish<R: Wait>(&mut self, rt: &R, pen: &mut Pen) -> Result<(), LiveFault>
+        requires appended { pen.old.published ++ pen.old.pending ≡ self.old.ops.items }
+        ensures map { self.new.map ≡ self.old.map }
+        ensures outcomes { self.new.outcomes ≡ self.old.outcomes }
+        ensures ops { self.new.ops ≡ self.old.ops }
+        ensures ends { OnOk result (self.new.ends.items ≡ self.old.ends.items ++ length self.old.ops.items ∷ []) }
+        ensures board { pen.new.board ≡ pen.old.board }
+        ensures published { OnOk result (pen.new.published ≡ self.old.ops.items) }
+        ensures pending { OnOk result (pen.new.pending ≡ []) }
+    {
+        if pen.publish(rt).is_err() {
+            return Err(LiveFault::NoMemory);
+        }
+        self.ends.push(pen.published())?;
+        Ok(())
+    }
+
+    /// Offers a batch's items to the map, one after the other, and publishes what was accepted.
+    fn take_batch<R: Wait, G: Gate>(
+        &mut self,
+        rt: &R,
+        alloc: Global,
+        chain: &ChainHash,
+        gate: &G,
+        workers: usize,
+        pen: &mut Pen,
+        batch: &[Item],
+    ) -> Result<(), LiveFault>
+        requires few { length self.old.ops.items + length batch.now ≤ 2000000000 }
+        requires published { pen.old.published ≡ self.old.ops.items }
+        requires pending { pen.old.pending ≡ [] }
+        ensures written { (items : List Item) → IsWritten chain.now items self.old
+            → OnOk result (IsWritten chain.now (items ++ batch.now) self.new) }
+        ensures ends { OnOk result (self.new.ends.items ≡ self.old.ends.items ++ length self.new.ops.items ∷ []) }
+        ensures few { OnOk result (length self.new.ops.items ≤ length self.old.ops.items + length batch.now) }
+        ensures grows { OnOk result (length self.old.ops.items ≤ length self.new.ops.items) }
+        ensures board { pen.new.board ≡ pen.old.board }
+        ensures published { OnOk result (pen.new.published ≡ self.new.ops.items) }
+        ensures pending { OnOk result (pen.new.pending ≡ []) }
+    {
+        for item in batch {
+            self.take_item(alloc, chain, pen, item)?;
+        }
+        gate.pass(workers);
+        self.publish(rt, pen)
+    }
+}
+
+/// Offers each batch's items to a map, one after the other, and publishes what was accepted of each.
+pub(crate) fn write_all<R: Wait + RandomSource, G: Gate>(
+    rt: &R,
+    alloc: Global,
+    chain: &ChainHash,
+    gate: &G,
+    workers: usize,
+    pen: &mut Pen,
+    batches: &[Batch],
+) -> Result<Written, LiveFault>
+    requires few { length (items_of batches.now) ≤ 2000000000 }
+    requires published { pen.old.published ≡ [] }
+    requires pending { pen.old.pending ≡ [] }
+    ensures written { IfOk result (IsWritten chain.now (items_of batches.now)) }
+    ensures ends { IfOk result (λ written. written.ends.items ≡ ends_of chain.now batches.now) }
+    ensures within { IfOk result (λ written. All (λ end. end ≤ length written.ops.items) written.ends.items) }
+    ensures board { pen.new.board ≡ pen.old.board }
+    ensures published { IfOk result (λ written. pen.new.published ≡ written.ops.items) }
+{
+    let mut written = Written::new(alloc, Seed::random(rt))?;
+    for batch in batches {
+        written.take_batch(rt, alloc, chain, gate, workers, pen, batch.as_slice())?;
+    }
+    Ok(written)
+}
