@@ -17,6 +17,7 @@ fn main(rt: HostRuntime) -> io::Result<ExitCode> {
     let mut writer = ToWrite::new(rt.stdout());
     let mut errors = ToWrite::new(rt.stderr());
     let status = starting::start(
+        &rt,
         alloc,
         words.as_slice(),
         &mut reader,

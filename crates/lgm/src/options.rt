@@ -4,7 +4,7 @@ ghost use Rattle.std.specs.Prelude.{◌≡◌};
 ghost use Rattle.lgm.specs.declared.options.BadWords.TheVariants.{NoMemory};
 
 use clap::builder::ValueParser;
-use clap::{Arg, ArgAction, Command, Error};
+use clap::{Arg, ArgAction, ArgMatches, Command, Error};
 use lgm_gossip::ChainHash;
 use lgm_graph::Known;
 use std::alloc::{AllocError, Global};
@@ -12,15 +12,26 @@ use std::alloc::{AllocError, Global};
 /// The most bytes that the known feature bits take.
 const MAX_KNOWN: usize = 256;
 
-/// What `lgm run` is told.
+/// What is done with a script.
+#[derive(Clone, Copy, Debug, PartialEq, Eq)]
+pub enum Mode {
+    /// `lgm run`: its lines are answered one after the other.
+    Run,
+    /// `lgm live`: its payments are answered while its items are admitted.
+    Live,
+}
+
+/// What `lgm run` or `lgm live` is told.
 #[derive(Drop)]
 pub struct Options {
+    /// What is done with the script.
+    pub mode: Mode,
     /// The chain whose channels are taken.
     pub chain: ChainHash,
     /// Which feature bits of nodes are known.
     pub known: Known,
     /// How many threads may work side by side, 1 to 64.
-    pub workers: u64,
+    pub workers: usize,
 }
 
 /// Why the words tell nothing, in the order in which it is found.
@@ -44,7 +55,12 @@ impl From<AllocError> for BadWords {
     }
 }
 
-fn run_command<'a>(alloc: Global) -> Result<Command<'a>, AllocError> {
+/// A command that takes a script.
+fn script_command<'a>(
+    alloc: Global,
+    name: &'a str,
+    about: &'a str,
+) -> Result<Command<'a>, AllocError> {
     let chain = Arg::new(alloc, "chain")
         .long("chain")
         .value_name("HEX")
@@ -63,19 +79,25 @@ fn run_command<'a>(alloc: Global) -> Result<Command<'a>, AllocError> {
         .value_parser(ValueParser::unsigned(1, 64))
         .default_value("4")
         .action(ArgAction::Set);
-    Command::new(alloc, "run")
-        .about("Answers a script on standard input")
+    Command::new(alloc, name)
+        .about(about)
         .arg(chain)?
         .arg(known)?
         .arg(workers)
 }
 
 fn program<'a>(alloc: Global) -> Result<Command<'a>, AllocError> {
-    let run = run_command(alloc)?;
+    let run = script_command(alloc, "run", "Answers a script on standard input")?;
+    let live = script_command(
+        alloc,
+        "live",
+        "Answers the payments of a script on standard input while its items are admitted",
+    )?;
     Command::new(alloc, "lgm")
         .about("A Lightning gossip map")
         .subcommand_required(true)
-        .subcommand(run)
+        .subcommand(run)?
+        .subcommand(live)
 }
 
 fn chain(digits: &str) -> Result<ChainHash, BadWords> {
@@ -102,6 +124,16 @@ fn known(alloc: Global, digits: Option<&str>) -> Result<Known, BadWords> {
     }
 }
 
+/// The options that the words behind a command give.
+fn options_of(alloc: Global, mode: Mode, words: &ArgMatches) -> Result<Options, BadWords> {
+    Ok(Options {
+        mode,
+        chain: chain(words.get_str("chain").unwrap_or(""))?,
+        known: known(alloc, words.get_str("known"))?,
+        workers: words.get_one::<u64>("workers").unwrap_or(4) as usize,
+    })
+}
+
 /// The options that the words give, the program's name first.
 pub fn parse(alloc: Global, words: &[String]) -> Result<Options, BadWords> {
     let command = program(alloc)?;
@@ -109,12 +141,11 @@ pub fn parse(alloc: Global, words: &[String]) -> Result<Options, BadWords> {
         Ok(matches) => matches,
         Err(error) => return Err(BadWords::Words(error)),
     };
-    let Some(run) = matches.subcommand_matches("run") else {
-        return Err(BadWords::Chain);
-    };
-    Ok(Options {
-        chain: chain(run.get_str("chain").unwrap_or(""))?,
-        known: known(alloc, run.get_str("known"))?,
-        workers: run.get_one::<u64>("workers").unwrap_or(4),
-    })
+    if let Some(words) = matches.subcommand_matches("live") {
+        return options_of(alloc, Mode::Live, words);
+    }
+    match matches.subcommand_matches("run") {
+        Some(words) => options_of(alloc, Mode::Run, words),
+        None => Err(BadWords::Chain),
+    }
 }

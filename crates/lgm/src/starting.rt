@@ -2,12 +2,18 @@
 
 ghost use Rattle.std.specs.Prelude.{◌+◌, ◌<◌, ◌^◌};
 
-use crate::options::{BadWords, parse};
+use crate::options::{BadWords, Mode, Options, parse};
 use clap::Error;
 use clap::error::ErrorKind;
+use lgm_live::{RunLiveFault, run_live};
+use lgm_par::Open;
 use lgm_script::{Sink, Source, write_all};
 use lgm_server::{RunFault, run};
 use std::alloc::Global;
+use std::marker::Sync;
+use std::random::RandomSource;
+use std::sync::Wait;
+use std::thread::Threads;
 
 /// Exit statuses.
 const DONE: u8 = 0;
@@ -23,17 +29,31 @@ fn tell<E: Sink>(errors: &mut E, text: &str)
     let _ = write_all(errors, text.as_bytes());
 }
 
-fn line_of(fault: RunFault) -> &'static str {
+/// The line of a fault of `lgm live`.
+fn line_of(fault: RunLiveFault) -> &'static str {
     match fault {
-        RunFault::Read => "lgm: read failed\n",
-        RunFault::Write => "lgm: write failed\n",
-        RunFault::NoMemory => "lgm: out of memory\n",
-        RunFault::TooManyLines => "lgm: too many lines\n",
-        RunFault::LineTooLong => "lgm: line too long\n",
+        RunLiveFault::Read => "lgm: read failed\n",
+        RunLiveFault::Write => "lgm: write failed\n",
+        RunLiveFault::NoMemory => "lgm: out of memory\n",
+        RunLiveFault::TooManyLines => "lgm: too many lines\n",
+        RunLiveFault::LineTooLong => "lgm: line too long\n",
+        RunLiveFault::Closed => "lgm: board closed\n",
+        RunLiveFault::Versions => "lgm: versions disagree\n",
     }
 }
 
-fn fail<E: Sink>(errors: &mut E, fault: RunFault) -> u8
+/// The same fault of `lgm live`, which has all those of `lgm run`.
+fn as_live(fault: RunFault) -> RunLiveFault {
+    match fault {
+        RunFault::Read => RunLiveFault::Read,
+        RunFault::Write => RunLiveFault::Write,
+        RunFault::NoMemory => RunLiveFault::NoMemory,
+        RunFault::TooManyLines => RunLiveFault::TooManyLines,
+        RunFault::LineTooLong => RunLiveFault::LineTooLong,
+    }
+}
+
+fn fail<E: Sink>(errors: &mut E, fault: RunLiveFault) -> u8
     requires { E.failures errors.old + 1 < 2 ^ 64 }
 {
     tell(errors, line_of(fault));
@@ -45,14 +65,40 @@ fn refuse<E: Sink>(alloc: Global, errors: &mut E, error: &Error) -> u8
     requires { E.failures errors.old + 1 < 2 ^ 64 }
 {
     if matches!(error.kind(), ErrorKind::OutOfMemory) {
-        return fail(errors, RunFault::NoMemory);
+        return fail(errors, RunLiveFault::NoMemory);
     }
     match format!(in alloc; "{error}") {
         Ok(text) => {
             tell(errors, text.as_str());
             BAD_WORDS
         }
-        Err(_) => fail(errors, RunFault::NoMemory),
+        Err(_) => fail(errors, RunLiveFault::NoMemory),
+    }
+}
+
+/// Answers a script as the options say.
+fn answer<Rt: Threads + Wait + Sync + RandomSource, R: Source, W: Sink>(
+    rt: &Rt,
+    alloc: Global,
+    options: &Options,
+    reader: &mut R,
+    writer: &mut W,
+) -> Result<(), RunLiveFault>
+    requires reader { R.failures reader.old + 1 < 2 ^ 64 }
+    requires writer { W.failures writer.old + 1 < 2 ^ 64 }
+{
+    let chain = &options.chain;
+    let known = &options.known;
+    let workers = options.workers.clamp(1, 64);
+    match options.mode {
+        Mode::Run => match run(rt, alloc, reader, writer, chain, known, workers, &Open) {
+            Ok(_) => Ok(()),
+            Err(fault) => Err(as_live(fault)),
+        },
+        Mode::Live => {
+            run_live(rt, alloc, reader, writer, chain, known, workers, &Open)?;
+            Ok(())
+        }
     }
 }
 
@@ -61,7 +107,8 @@ fn refuse<E: Sink>(alloc: Global, errors: &mut E, error: &Error) -> u8
 /// Status 0: the script was answered. Status 2: the words are bad, or ask for help, and `clap`'s text is on `errors`; or
 /// the chain isn't 64 hexadecimal digits, or the known feature bits aren't 2 to 512. Status 1: the run failed, and its line is on `errors`. A fault in writing to
 /// `errors` changes nothing.
-pub fn start<R: Source, W: Sink, E: Sink>(
+pub fn start<Rt: Threads + Wait + Sync + RandomSource, R: Source, W: Sink, E: Sink>(
+    rt: &Rt,
     alloc: Global,
     words: &[String],
     reader: &mut R,
@@ -83,10 +130,10 @@ pub fn start<R: Source, W: Sink, E: Sink>(
             tell(errors, "lgm: bad known\n");
             return BAD_WORDS;
         }
-        Err(BadWords::NoMemory) => return fail(errors, RunFault::NoMemory),
+        Err(BadWords::NoMemory) => return fail(errors, RunLiveFault::NoMemory),
     };
-    match run(alloc, reader, writer, &options.chain, &options.known) {
-        Ok(_) => DONE,
+    match answer(rt, alloc, &options, reader, writer) {
+        Ok(()) => DONE,
         Err(fault) => fail(errors, fault),
     }
 }

@@ -1,7 +1,11 @@
 use crate::starting::start;
 use lgm_script::{Failed, MemorySink, MemorySource, Sink, Source};
 use std::alloc::Global;
+use std::marker::Sync;
+use std::random::RandomSource;
+use std::sync::Wait;
 use std::test::Fail;
+use std::thread::Threads;
 
 const CHAIN: &str = "c1c1c1c1c1c1c1c1c1c1c1c1c1c1c1c1c1c1c1c1c1c1c1c1c1c1c1c1c1c1c1c1";
 
@@ -14,7 +18,8 @@ fn words(alloc: Global, given: &[&str]) -> Result<Vec<String>, Fail> {
 }
 
 /// The status, and what went to the writer and to `errors`.
-fn started(
+fn started<Rt: Threads + Wait + Sync + RandomSource>(
+    rt: &Rt,
     alloc: Global,
     given: &[&str],
     script: &[u8],
@@ -24,6 +29,7 @@ fn started(
     let mut writer = MemorySink::new(alloc);
     let mut errors = MemorySink::new(alloc);
     let status = start(
+        rt,
         alloc,
         words.as_slice(),
         &mut reader,
@@ -35,7 +41,7 @@ fn started(
 
 #[test]
 fn words_are_checked_first(rt: HostRuntime) -> Result<(), Fail> {
-    let table: [(&[&str], u8); 9] = [
+    let table: [(&[&str], u8); 12] = [
         (&["lgm"], 2),
         (&["lgm", "run"], 2),
         (&["lgm", "run", "--chain", CHAIN, "--workers", "65"], 2),
@@ -43,11 +49,26 @@ fn words_are_checked_first(rt: HostRuntime) -> Result<(), Fail> {
         (&["lgm", "run", "--chain", "zz", "--workers", "0"], 2),
         (&["lgm", "run", "--chain", CHAIN, "--workers", "64"], 0),
         (&["lgm", "run", "--chain", CHAIN], 0),
+        (&["lgm", "live"], 2),
+        (&["lgm", "live", "--chain", CHAIN, "--workers", "65"], 2),
+        (
+            &[
+                "lgm",
+                "live",
+                "--chain",
+                CHAIN,
+                "--known",
+                "00",
+                "--workers",
+                "64",
+            ],
+            0,
+        ),
         (&["lgm", "--help"], 2),
         (&["lgm", "stop", "--chain", CHAIN], 2),
     ];
     for (given, want) in table {
-        let (status, writer, errors) = started(rt.alloc(), given, b"")?;
+        let (status, writer, errors) = started(&rt, rt.alloc(), given, b"")?;
         assert_eq!(rt; status, want, "at {given:?}");
         assert_eq!(rt; errors.taken().is_empty(), want == 0, "at {given:?}");
         assert!(rt;
@@ -62,7 +83,12 @@ fn words_are_checked_first(rt: HostRuntime) -> Result<(), Fail> {
 #[test]
 fn a_chain_has_64_digits(rt: HostRuntime) -> Result<(), Fail> {
     for chain in ["zz", "", "c1", &CHAIN[1..], "0x"] {
-        let (status, writer, errors) = started(rt.alloc(), &["lgm", "run", "--chain", chain], b"")?;
+        let (status, writer, errors) = started(
+            &rt,
+            rt.alloc(),
+            &["lgm", "run", "--chain", chain],
+            b"",
+        )?;
         assert_eq!(rt; status, 2, "at {chain}");
         assert_eq!(rt;
             errors.taken(),
@@ -95,7 +121,7 @@ fn known_bits_have_2_to_512_digits(rt: HostRuntime) -> Result<(), Fail> {
         ("0x", 2),
     ] {
         let given = ["lgm", "run", "--known", known, "--chain", CHAIN];
-        let (status, writer, errors) = started(alloc, &given, b"")?;
+        let (status, writer, errors) = started(&rt, alloc, &given, b"")?;
         assert_eq!(rt; status, want, "at {known}");
         let line = if want == 0 { "" } else { "lgm: bad known\n" };
         assert_eq!(rt; errors.taken(), line.as_bytes(), "at {known}");
@@ -107,7 +133,7 @@ fn known_bits_have_2_to_512_digits(rt: HostRuntime) -> Result<(), Fail> {
 #[test]
 fn the_chain_comes_before_the_known_bits(rt: HostRuntime) -> Result<(), Fail> {
     let given = ["lgm", "run", "--known", "0", "--chain", "zz"];
-    let (status, _, errors) = started(rt.alloc(), &given, b"")?;
+    let (status, _, errors) = started(&rt, rt.alloc(), &given, b"")?;
     assert_eq!(rt; status, 2);
     assert_eq!(rt; errors.taken(), b"lgm: bad chain\n".as_slice());
     Ok(())
@@ -119,14 +145,33 @@ fn a_fault_has_its_line(rt: HostRuntime) -> Result<(), Fail> {
     let mut script = Vec::from_slice(alloc, b"commit\n#")?;
     script.resize(140_007, b'x')?;
     let given = ["lgm", "run", "--chain", CHAIN];
-    let (status, writer, errors) = started(alloc, &given, script.as_slice())?;
+    let (status, writer, errors) = started(&rt, alloc, &given, script.as_slice())?;
     assert_eq!(rt; status, 0);
     assert_eq!(rt; writer.taken(), b"1 commit 0\n".as_slice());
     assert!(rt; errors.taken().is_empty());
     script.push(b'x')?;
-    let (status, writer, errors) = started(alloc, &given, script.as_slice())?;
+    let (status, writer, errors) = started(&rt, alloc, &given, script.as_slice())?;
     assert_eq!(rt; status, 1);
     assert_eq!(rt; writer.taken(), b"1 commit 0\n".as_slice());
+    assert_eq!(rt; errors.taken(), b"lgm: line too long\n".as_slice());
+    Ok(())
+}
+
+// Nothing of a script is written before it was read whole.
+#[test]
+fn a_fault_of_live_has_its_line(rt: HostRuntime) -> Result<(), Fail> {
+    let alloc = rt.alloc();
+    let mut script = Vec::from_slice(alloc, b"commit\nq 00\n#")?;
+    script.resize(140_012, b'x')?;
+    let given = ["lgm", "live", "--chain", CHAIN];
+    let (status, writer, errors) = started(&rt, alloc, &given, script.as_slice())?;
+    assert_eq!(rt; status, 0);
+    assert_eq!(rt; writer.taken(), b"1 commit 0\n2 not-live\n".as_slice());
+    assert!(rt; errors.taken().is_empty());
+    script.push(b'x')?;
+    let (status, writer, errors) = started(&rt, alloc, &given, script.as_slice())?;
+    assert_eq!(rt; status, 1);
+    assert!(rt; writer.taken().is_empty());
     assert_eq!(rt; errors.taken(), b"lgm: line too long\n".as_slice());
     Ok(())
 }
@@ -193,6 +238,7 @@ fn a_failed_read_has_its_line(rt: HostRuntime) -> Result<(), Fail> {
     let mut writer = MemorySink::new(alloc);
     let mut errors = MemorySink::new(alloc);
     let status = start(
+        &rt,
         alloc,
         words.as_slice(),
         &mut reader,
@@ -213,6 +259,7 @@ fn a_failed_write_has_its_line(rt: HostRuntime) -> Result<(), Fail> {
     let mut writer = FullSink { failures: 0 };
     let mut errors = MemorySink::new(alloc);
     let status = start(
+        &rt,
         alloc,
         words.as_slice(),
         &mut reader,

@@ -1,11 +1,16 @@
 //! Devices that fail, and memory that is refused, in whole scripts.
 
+ghost use Rattle.std.specs.Prelude.{◌≡◌};
+
 use lgm_gossip::ChainHash;
 use lgm_graph::Known;
+use lgm_par::Open;
 use lgm_script::{Failed, MemorySource, Sink, Source};
 use lgm_server::{RunFault, run};
 use std::alloc::{AllocError, Global};
+use std::random::RandomSource;
 use std::test::Fail;
+use std::thread::Threads;
 
 /// A script of seven lines.
 const SCRIPT: &str =
@@ -20,11 +25,23 @@ const TEXT: &str = "1 bad\n2 filter\n\
 
 /// A source that fails at its read of a number, from 1, and at no other.
 #[derive(Drop)]
-struct FailingSource<'a> {
+pub struct FailingSource<'a> {
     source: MemorySource<'a>,
     reads: usize,
     fails_at: usize,
     failures: u64,
+}
+
+/// A source of this script, ten bytes at each read.
+pub fn failing_source<'a>(script: &'a [u8], fails_at: usize) -> FailingSource<'a>
+    ensures { ⟦<FailingSource<'a> as Source>⟧.failures result ≡ 0 }
+{
+    FailingSource {
+        source: MemorySource::new(script, 10),
+        reads: 0,
+        fails_at,
+        failures: 0,
+    }
 }
 
 impl Source for FailingSource<'_> {
@@ -48,11 +65,11 @@ impl Source for FailingSource<'_> {
 
 /// A sink that takes one byte at each write, but fails at its write of a number, from 1.
 #[derive(Drop)]
-struct FailingSink {
-    taken: Vec<u8>,
-    writes: usize,
-    fails_at: usize,
-    failures: u64,
+pub struct FailingSink {
+    pub taken: Vec<u8>,
+    pub writes: usize,
+    pub fails_at: usize,
+    pub failures: u64,
 }
 
 impl Sink for FailingSink {
@@ -76,17 +93,13 @@ impl Sink for FailingSink {
 }
 
 /// How the script ends where a read and a write fail, each by its number, and what is written then.
-fn ended(
+fn ended<Rt: Threads + Sync + RandomSource>(
+    rt: &Rt,
     alloc: Global,
     read: usize,
     write: usize,
 ) -> Result<(Option<RunFault>, Vec<u8>), AllocError> {
-    let mut reader = FailingSource {
-        source: MemorySource::new(SCRIPT.as_bytes(), 10),
-        reads: 0,
-        fails_at: read,
-        failures: 0,
-    };
+    let mut reader = failing_source(SCRIPT.as_bytes(), read);
     let mut writer = FailingSink {
         taken: Vec::with_capacity(alloc, TEXT.len())?,
         writes: 0,
@@ -94,11 +107,14 @@ fn ended(
         failures: 0,
     };
     let ended = run(
+        rt,
         alloc,
         &mut reader,
         &mut writer,
         &ChainHash([0xc1; 32]),
         &Known::all(),
+        4,
+        &Open,
     );
     Ok((ended.err(), writer.taken))
 }
@@ -113,11 +129,11 @@ fn begins_text(written: &[u8]) -> bool {
 fn failing_reads(rt: HostRuntime) -> Result<(), Fail> {
     let reads = SCRIPT.len() / 10 + 3;
     for read in 1..=reads {
-        let (fault, written) = ended(rt.alloc(), read, 0)?;
+        let (fault, written) = ended(&rt, rt.alloc(), read, 0)?;
         assert_eq!(rt; fault, Some(RunFault::Read), "read {read}");
         assert!(rt; begins_text(written.as_slice()), "read {read}");
     }
-    let (fault, written) = ended(rt.alloc(), reads + 1, 0)?;
+    let (fault, written) = ended(&rt, rt.alloc(), reads + 1, 0)?;
     assert_eq!(rt; fault, None);
     assert_eq!(rt; written.as_slice(), TEXT.as_bytes());
     Ok(())
@@ -127,12 +143,12 @@ fn failing_reads(rt: HostRuntime) -> Result<(), Fail> {
 #[test]
 fn failing_writes(rt: HostRuntime) -> Result<(), Fail> {
     for write in 1..=TEXT.len() {
-        let (fault, written) = ended(rt.alloc(), 0, write)?;
+        let (fault, written) = ended(&rt, rt.alloc(), 0, write)?;
         assert_eq!(rt; fault, Some(RunFault::Write), "write {write}");
         assert_eq!(rt; written.len() + 1, write);
         assert!(rt; begins_text(written.as_slice()), "write {write}");
     }
-    let (fault, written) = ended(rt.alloc(), 0, TEXT.len() + 1)?;
+    let (fault, written) = ended(&rt, rt.alloc(), 0, TEXT.len() + 1)?;
     assert_eq!(rt; fault, None);
     assert_eq!(rt; written.as_slice(), TEXT.as_bytes());
     Ok(())
@@ -141,7 +157,7 @@ fn failing_writes(rt: HostRuntime) -> Result<(), Fail> {
 /// To be run with each allocation refused in turn.
 #[test]
 fn refused_memory(rt: HostRuntime) {
-    let Ok((fault, written)) = ended(rt.alloc(), 0, 0) else {
+    let Ok((fault, written)) = ended(&rt, rt.alloc(), 0, 0) else {
         return;
     };
     match fault {

@@ -1,4 +1,4 @@
-//! Tests that cross crates: messages, the map, and whole scripts through `run`, over memory.
+//! Tests that cross crates: messages, the map, and whole scripts through `run` and `run_live`, over memory.
 #![tactic(auto)]
 
 #[cfg(test)]
@@ -11,6 +11,10 @@ mod closes;
 mod faults;
 #[cfg(test)]
 mod filter_lines;
+#[cfg(test)]
+mod limits;
+#[cfg(test)]
+mod live_faults;
 #[cfg(test)]
 mod map;
 #[cfg(test)]
@@ -27,3 +31,5 @@ mod routes;
 mod scripts;
 #[cfg(test)]
 mod updates;
+#[cfg(test)]
+mod workers;

@@ -4,7 +4,9 @@ use crate::scripts::{
     CHAIN, OTHER_CHAIN, announcement, assert_answers, node_announcement, point, update, written,
 };
 use std::alloc::Global;
+use std::random::RandomSource;
 use std::test::Fail;
+use std::thread::Threads;
 
 /// The channels 1x0x0 from A to B and 2x0x0 from B to C.
 fn channels(alloc: Global) -> Result<(String, String), Fail> {
@@ -163,8 +165,12 @@ fn many_channels(alloc: Global, count: u32) -> Result<String, Fail> {
 
 /// The fronts of the replies to the query of such a script, without chain and ids, a line each: the first block, the
 /// number of blocks, whether the reply is the last one, and the length of its ids.
-fn fronts(alloc: Global, count: u32) -> Result<String, Fail> {
-    let output = written(alloc, many_channels(alloc, count)?.as_bytes())?;
+fn fronts<Rt: Threads + Sync + RandomSource>(
+    rt: &Rt,
+    alloc: Global,
+    count: u32,
+) -> Result<String, Fail> {
+    let output = written(rt, alloc, many_channels(alloc, count)?.as_bytes())?;
     let mut fronts = String::new(alloc);
     for line in output.as_slice().split(|byte| *byte == b'\n') {
         if let Some((_, reply)) = line.split_at_checked(5)
@@ -189,7 +195,7 @@ fn pieces(rt: HostRuntime) -> Result<(), Fail> {
         (7999, "000927b60000000b007d01\n000927c00000000a017d01\n"),
     ] {
         assert_eq!(rt;
-            fronts(alloc, count)?.as_str(),
+            fronts(&rt, alloc, count)?.as_str(),
             want,
             "{count} channels in one block"
         );

@@ -9,7 +9,9 @@ use crate::numbers::Numbers;
 use crate::scripts::written;
 use std::alloc::{AllocError, Global};
 use std::process::Abort;
+use std::random::RandomSource;
 use std::test::Fail;
+use std::thread::Threads;
 
 /// Adds a payment to the lines, and its answer by the plain program. Gives how many channels its route has, or 0.
 fn push_payment(
@@ -26,8 +28,8 @@ fn push_payment(
     Ok(steps.map_or(0, |steps| steps.len()))
 }
 
-fn assert_answers(
-    rt: &impl Abort,
+fn assert_answers<Rt: Abort + Threads + Sync + RandomSource>(
+    rt: &Rt,
     alloc: Global,
     lines: &[Line],
     answers: &[String],
@@ -37,14 +39,14 @@ fn assert_answers(
         borrowed.push(answer.as_str())?;
     }
     let want = text_of(alloc, lines, borrowed.as_slice())?;
-    let got = written(alloc, script_of(alloc, lines)?.as_bytes())?;
+    let got = written(rt, alloc, script_of(alloc, lines)?.as_bytes())?;
     assert_eq!(rt; got.as_slice(), want.as_bytes(), "{lines:?}");
     Ok(())
 }
 
 /// Six payments over a made network. The lengths of their routes are added.
-fn compare(
-    rt: &impl Abort,
+fn compare<Rt: Abort + Threads + Sync + RandomSource>(
+    rt: &Rt,
     alloc: Global,
     numbers: &mut Numbers,
     lengths: &mut Vec<usize>,

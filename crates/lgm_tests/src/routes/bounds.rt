@@ -5,11 +5,13 @@ use super::line::{FREE, Terms};
 use super::told::assert_paid;
 use std::alloc::Global;
 use std::process::Abort;
+use std::random::RandomSource;
 use std::test::Fail;
+use std::thread::Threads;
 
 /// A payment of 1,000 msat over two channels, of which the second charges 200 msat.
-fn assert_over_two(
-    rt: &impl Abort,
+fn assert_over_two<Rt: Abort + Threads + Sync + RandomSource>(
+    rt: &Rt,
     alloc: Global,
     first: Terms,
     second: Terms,

@@ -7,7 +7,9 @@ use crate::scripts::written_where;
 use lgm_graph::Known;
 use std::alloc::{AllocError, Global};
 use std::process::Abort;
+use std::random::RandomSource;
 use std::test::Fail;
+use std::thread::Threads;
 
 /// The lines up to a place, in which only the last one asks for a route.
 fn asked_once(alloc: Global, lines: &[Line], place: usize) -> Result<Vec<Line>, AllocError> {
@@ -40,22 +42,32 @@ fn answer_of(alloc: Global, text: &[u8], number: usize) -> Result<Vec<u8>, Alloc
     Ok(answer)
 }
 
-fn told(alloc: Global, known: &Known, lines: &[Line]) -> Result<Vec<u8>, Fail> {
+fn told<Rt: Threads + Sync + RandomSource>(
+    rt: &Rt,
+    alloc: Global,
+    known: &Known,
+    lines: &[Line],
+) -> Result<Vec<u8>, Fail> {
     let script = script_of(alloc, lines)?;
-    written_where(alloc, known, script.as_bytes())
+    written_where(rt, alloc, known, script.as_bytes())
 }
 
 /// The payment at a place is answered in the whole script as in the one that asks for it alone. Gives whether it has a
 /// route.
-fn compare_at(
-    rt: &impl Abort,
+fn compare_at<Rt: Abort + Threads + Sync + RandomSource>(
+    rt: &Rt,
     alloc: Global,
     known: &Known,
     lines: &[Line],
     place: usize,
     text: &[u8],
 ) -> Result<bool, Fail> {
-    let alone = told(alloc, known, asked_once(alloc, lines, place)?.as_slice())?;
+    let alone = told(
+        rt,
+        alloc,
+        known,
+        asked_once(alloc, lines, place)?.as_slice(),
+    )?;
     let number = place.saturating_add(1);
     let want = answer_of(alloc, alone.as_slice(), number)?;
     let got = answer_of(alloc, text, number)?;
@@ -64,13 +76,13 @@ fn compare_at(
 }
 
 /// Compares all payments of a script. Gives how many there were, and how many have a route.
-fn compare(
-    rt: &impl Abort,
+fn compare<Rt: Abort + Threads + Sync + RandomSource>(
+    rt: &Rt,
     alloc: Global,
     known: &Known,
     lines: &[Line],
 ) -> Result<(usize, usize), Fail> {
-    let text = told(alloc, known, lines)?;
+    let text = told(rt, alloc, known, lines)?;
     let (mut all, mut found) = (0usize, 0usize);
     for (place, line) in lines.iter().enumerate() {
         if let Line::Pay(..) = line {
@@ -83,7 +95,11 @@ fn compare(
     Ok((all, found))
 }
 
-fn compare_made(rt: &impl Abort, alloc: Global, known: &Known) -> Result<(), Fail> {
+fn compare_made<Rt: Abort + Threads + Sync + RandomSource>(
+    rt: &Rt,
+    alloc: Global,
+    known: &Known,
+) -> Result<(), Fail> {
     let mut numbers = Numbers::new(2);
     let (mut all, mut found) = (0usize, 0usize);
     for _ in 0..12 {

@@ -6,7 +6,9 @@ use super::told::{assert_paid, assert_paid_where};
 use lgm_graph::Known;
 use std::alloc::Global;
 use std::process::Abort;
+use std::random::RandomSource;
 use std::test::Fail;
+use std::thread::Threads;
 
 const FOUND: &str = "route 1200 700040 2\n\
     hop 1x0x0 13020203e804030aae6006080000020000000000\n\
@@ -23,8 +25,8 @@ fn paid_after(node: Line) -> [Line; 5] {
     ]
 }
 
-fn assert_after(
-    rt: &impl Abort,
+fn assert_after<Rt: Abort + Threads + Sync + RandomSource>(
+    rt: &Rt,
     alloc: Global,
     bits: &[u8],
     node: Line,

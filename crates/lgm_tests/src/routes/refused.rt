@@ -5,10 +5,13 @@ use super::line::{FREE, script_of};
 use super::told::text_of;
 use lgm_gossip::ChainHash;
 use lgm_graph::Known;
+use lgm_par::Open as Pieces;
 use lgm_script::{MemorySink, MemorySource};
 use lgm_server::{RunFault, run};
 use std::alloc::Global;
+use std::random::RandomSource;
 use std::test::Fail;
+use std::thread::Threads;
 
 const BOTH: &str = "route 1000 700040 2\n\
     hop 1x0x0 13020203e804030aae6006080000020000000000\n\
@@ -39,15 +42,22 @@ const DIRECT: &str = "route 1000 700000 1\nhop 3x0x0 2d020203e804030aae600822S03
 const ANSWERS: [&str; 5] = [DIRECT, DIRECT, BOTH, "no-route", "no-route"];
 
 /// How the script ends, and what is written then.
-fn ended(alloc: Global, script: &[u8]) -> (Option<RunFault>, MemorySink) {
+fn ended<Rt: Threads + Sync + RandomSource>(
+    rt: &Rt,
+    alloc: Global,
+    script: &[u8],
+) -> (Option<RunFault>, MemorySink) {
     let mut reader = MemorySource::new(script, 100_000);
     let mut writer = MemorySink::new(alloc);
     let ended = run(
+        rt,
         alloc,
         &mut reader,
         &mut writer,
         &ChainHash([0xc1; 32]),
         &Known::all(),
+        2,
+        &Pieces,
     );
     (ended.err(), writer)
 }
@@ -57,7 +67,7 @@ fn ended(alloc: Global, script: &[u8]) -> (Option<RunFault>, MemorySink) {
 fn refused_memory(rt: HostRuntime) -> Result<(), Fail> {
     let script = script_of(rt.alloc(), &LINES)?;
     let text = text_of(rt.alloc(), &LINES, &ANSWERS)?;
-    let (fault, writer) = ended(rt.alloc(), script.as_bytes());
+    let (fault, writer) = ended(&rt, rt.alloc(), script.as_bytes());
     match fault {
         None => assert_eq!(rt; writer.taken(), text.as_bytes()),
         Some(fault) => {

@@ -5,7 +5,9 @@ use crate::scripts::assert_answers_where;
 use lgm_graph::Known;
 use std::alloc::Global;
 use std::process::Abort;
+use std::random::RandomSource;
 use std::test::Fail;
+use std::thread::Threads;
 
 /// The text of a script.
 #[derive(Drop)]
@@ -71,8 +73,8 @@ pub fn text_of(alloc: Global, lines: &[Line], answers: &[&str]) -> Result<String
 }
 
 /// All items are accepted, and payments get these answers, where these features of nodes are known.
-pub fn assert_paid_where(
-    rt: &impl Abort,
+pub fn assert_paid_where<Rt: Abort + Threads + Sync + RandomSource>(
+    rt: &Rt,
     alloc: Global,
     known: &Known,
     lines: &[Line],
@@ -84,8 +86,8 @@ pub fn assert_paid_where(
 }
 
 /// All items are accepted, and payments get these answers.
-pub fn assert_paid(
-    rt: &impl Abort,
+pub fn assert_paid<Rt: Abort + Threads + Sync + RandomSource>(
+    rt: &Rt,
     alloc: Global,
     lines: &[Line],
     answers: &[&str],

@@ -1,0 +1,130 @@
+//! A route server in a few lines: one thread takes gossip while two others answer payments.
+//!
+//! [`taking`] is the side of the writer, [`answering`] that of a reader, and [`messages`] makes the gossip, which a node
+//! would have from its peers. The page `docs/readers.md` explains the calls.
+#![tactic(auto)]
+
+mod answering;
+mod messages;
+mod taking;
+
+use crate::answering::{Tally, answer_all};
+use crate::messages::{announcement, update};
+use crate::taking::Taker;
+use lgm_graph::Known;
+use lgm_publish::{Eye, Pen, board};
+use lgm_store::Seed;
+use std::alloc::Global;
+use std::io;
+use std::marker::Sync;
+use std::process::ExitCode;
+use std::sync::Wait;
+use std::thread::{Threads, join, join_mut};
+
+/// How many times the fee changes while payments are answered.
+const CHANGES: u32 = 50;
+
+/// How many payments each reader answers meanwhile.
+const PAYMENTS: u32 = 1_000;
+
+/// Takes the channels of A with B and of B with C, and publishes them.
+fn open<R: Wait>(rt: &R, alloc: Global, taker: &mut Taker, pen: &mut Pen) -> bool {
+    for message in [
+        announcement(alloc, 1, 10, 11),
+        update(alloc, 1, 1, 0),
+        announcement(alloc, 2, 11, 12),
+        update(alloc, 2, 1, 1_000),
+    ] {
+        let Ok((bytes, evidence)) = message else {
+            return false;
+        };
+        if !taker.take(alloc, pen, bytes, &evidence) {
+            return false;
+        }
+    }
+    pen.publish(rt).is_ok()
+}
+
+/// Changes the fee of the second channel again and again, and publishes each change.
+fn change<R: Wait>(rt: &R, alloc: Global, taker: &mut Taker, pen: &mut Pen) -> bool {
+    for turn in 1..=CHANGES {
+        let Ok((bytes, evidence)) = update(alloc, 2, 1 + turn, 1_000 + turn) else {
+            return false;
+        };
+        if !taker.take(alloc, pen, bytes, &evidence) || pen.publish(rt).is_err() {
+            return false;
+        }
+    }
+    true
+}
+
+/// What both readers have seen when all is done, each with its eye.
+type Seen = ((Eye, Tally), (Eye, Tally));
+
+/// Lets both readers answer payments while the fee changes.
+fn serve<R: Threads + Wait + Sync>(
+    rt: &R,
+    alloc: Global,
+    taker: &mut Taker,
+    pen: &mut Pen,
+    first: Eye,
+    second: Eye,
+) -> Option<Seen> {
+    let mut given = Some((first, second));
+    let (changed, seen) = join_mut(
+        rt,
+        &mut || -> bool { change(rt, alloc, taker, pen) },
+        &mut || -> Option<Seen> {
+            let (first, second) = given.take()?;
+            Some(join(
+                rt,
+                move || answer_all(alloc, first, PAYMENTS),
+                move || answer_all(alloc, second, PAYMENTS),
+            ))
+        },
+    );
+    if changed { seen } else { None }
+}
+
+/// Runs the server, and gives what the readers have seen, and what one of them sees behind the last publication.
+fn run<R: Threads + Wait + Sync>(
+    rt: &R,
+    alloc: Global,
+    taker: &mut Taker,
+    pen: &mut Pen,
+    first: Eye,
+    second: Eye,
+) -> Option<(Tally, Tally, Tally)> {
+    if !open(rt, alloc, taker, pen) {
+        return None;
+    }
+    let ((eye, first), (_eye, second)) = serve(rt, alloc, taker, pen, first, second)?;
+    let (_eye, last) = answer_all(alloc, eye, 1);
+    Some((first, second, last))
+}
+
+fn main(rt: HostRuntime) -> io::Result<ExitCode> {
+    let alloc = rt.alloc();
+    let mut taker = Taker::new(alloc, Seed::random(&rt))?;
+    let Ok((mut pen, mut eyes)) = board(&rt, alloc, 2, &Known::all()) else {
+        return Ok(ExitCode::FAILURE);
+    };
+    let seen = match (eyes.pop(), eyes.pop()) {
+        (Some(first), Some(second)) => run(&rt, alloc, &mut taker, &mut pen, first, second),
+        _ => None,
+    };
+    let published = pen.published();
+    pen.end(&rt);
+    let Some((first, second, last)) = seen else {
+        return Ok(ExitCode::FAILURE);
+    };
+    for tally in [first, second] {
+        println!(rt;
+            "{} answers, {} of them by their version, {} behind a later one",
+            tally.routed, tally.right, tally.fell
+        )?;
+    }
+    println!(rt; "{published} operations are published")?;
+    println!(rt; "on version {}, A sends {} msat", last.version, last.sent)?;
+    Ok(ExitCode::SUCCESS)
+}

@@ -1,0 +1,78 @@
+//! Gossip as a peer would send it, and what a node finds out about it.
+
+use lgm_check::{Evidence, Funding, Sig};
+use lgm_gossip::{
+    Announce, Bytes, ChainHash, ChannelUpdate, EncodeFault, Message, Point, Scid, encode,
+};
+use std::alloc::Global;
+
+/// The chain, which tests use.
+pub const CHAIN: ChainHash = ChainHash([0xc1; 32]);
+
+/// A node or a key by its number: a point of 33 bytes.
+pub fn point(number: u8) -> Point {
+    let mut bytes = [number; 33];
+    bytes[0] = 2;
+    Point(bytes)
+}
+
+/// A channel's id by its number: so many blocks behind block 600,000.
+fn scid(number: u32) -> Scid {
+    Scid::new(600_000 + number % 1_000, 0, 0)
+}
+
+/// The announcement of a channel of 100,000 sat between two nodes, with all four signatures.
+pub fn announcement(
+    alloc: Global,
+    number: u32,
+    first: u8,
+    second: u8,
+) -> Result<(Bytes, Evidence), EncodeFault> {
+    let message = Message::Announce(Announce {
+        node_signature_1: [0; 64],
+        node_signature_2: [0; 64],
+        bitcoin_signature_1: [0; 64],
+        bitcoin_signature_2: [0; 64],
+        features: Bytes::from_slice(alloc, &[])?,
+        chain_hash: CHAIN,
+        short_channel_id: scid(number),
+        node_id_1: point(first),
+        node_id_2: point(second),
+        bitcoin_key_1: point(0xee),
+        bitcoin_key_2: point(0xee),
+        rest: Bytes::from_slice(alloc, &[])?,
+    });
+    let evidence = Evidence {
+        sig: Sig::AllFour(true),
+        funding: Funding::Unspent(100_000),
+    };
+    Ok((encode(alloc, &message)?, evidence))
+}
+
+/// The terms of a channel's first node, with a fixed fee of so many msat, signed by the node.
+pub fn update(
+    alloc: Global,
+    number: u32,
+    timestamp: u32,
+    fee: u32,
+) -> Result<(Bytes, Evidence), EncodeFault> {
+    let message = Message::ChannelUpdate(ChannelUpdate {
+        signature: [0; 64],
+        chain_hash: CHAIN,
+        short_channel_id: scid(number),
+        timestamp,
+        message_flags: 1,
+        channel_flags: 0,
+        cltv_expiry_delta: 40,
+        htlc_minimum_msat: 1,
+        fee_base_msat: fee,
+        fee_proportional_millionths: 0,
+        htlc_maximum_msat: 50_000_000,
+        rest: Bytes::from_slice(alloc, &[])?,
+    });
+    let evidence = Evidence {
+        sig: Sig::By(point(if number == 1 { 10 } else { 11 })),
+        funding: Funding::NotAsked,
+    };
+    Ok((encode(alloc, &message)?, evidence))
+}
