@@ -71,7 +71,7 @@ def measure(options, channels, workload, folder):
     """Makes a script, looks at all answers of a first run, and then runs as often as asked."""
     script = Path(folder, "script")
     running.make_script(script, channels, workload, options.seed)
-    program = running.command(options.program.resolve(), options.workers)
+    program = running.command(options.program.resolve(), workload, options.workers)
     written = running.bytes_answered(program, script)
     runs = [running.run(program, script) for _ in range(options.runs)]
     return Measure(

@@ -12,7 +12,7 @@ import messages
 
 HERE = Path(__file__).resolve().parent
 PEAK_UNIT = 1 if sys.platform == "darwin" else 1024  # bytes; the unit of ru_maxrss
-ANSWERS = (b"accepted", b"commit", b"filter", b"to", b"route", b"hop", b"no-route")
+ANSWERS = (b"accepted", b"commit", b"filter", b"to", b"at", b"route", b"hop", b"no-route")
 FIRST_BYTE = b"01"  # of each message of a reply
 
 
@@ -36,9 +36,10 @@ def make_script(file, channels, workload, seed):
              "--workload", workload, "--seed", str(seed)], stdout=script, check=True)
 
 
-def command(program, workers):
-    """The words that run the program."""
-    return [program, "run", "--chain", messages.CHAIN.hex(), "--workers", str(workers)]
+def command(program, workload, workers):
+    """The words that run the program: `lgm live` for the workload of that name."""
+    name = "live" if workload == "live" else "run"
+    return [program, name, "--chain", messages.CHAIN.hex(), "--workers", str(workers)]
 
 
 def run(words, script):

@@ -1,4 +1,4 @@
-"""The lines of scripts of `lgm run` (docs/script.md): what is asked of a made network."""
+"""The lines of scripts (docs/script.md): what is asked of a made network."""
 
 import messages
 from network import BLOCKS, DAY, FEATURES, NOW
@@ -11,6 +11,7 @@ FILTER_AGES = (14 * DAY, DAY, DAY, 3_600, 3_600, 3_600, 0, 0, 0, 0)  # seconds; 
 ALL_TIMES = 0xFFFFFFFF
 ROUTES = 1_000
 ROUTES_A_ROUND = 5
+LIVE_ROUTES_A_ROUND = 50
 AMOUNTS = (1_000, 50_000, 1_000_000, 10_000_000, 50_000_000, 200_000_000, 1_000_000_000)  # msat
 HEIGHT = 917_000
 
@@ -115,6 +116,12 @@ def churn(network):
     yield from rounds(network, ROUTES_A_ROUND)
 
 
+def live(network):
+    """The network, and rounds of updates with fifty payments each, for `lgm live`."""
+    yield from sync(network)
+    yield from rounds(network, LIVE_ROUTES_A_ROUND)
+
+
 def filters(network):
     """The network, ten peers with filters, and rounds of updates that are news to them."""
     yield from sync(network)
@@ -125,4 +132,5 @@ def filters(network):
 
 
 WORKLOADS = {
-    "sync": sync, "routes": routes, "queries": queries, "churn": churn, "filters": filters}
+    "sync": sync, "routes": routes, "queries": queries, "churn": churn, "filters": filters,
+    "live": live}

@@ -46,7 +46,12 @@ impl Model for Edition {
 
 impl Edition {
     /// An empty map with its view, whose points are hashed by the seed.
-    pub(crate) fn new(alloc: Global, seed: Seed, known: &Known, told: Told) -> Result<Edition, AllocError>
+    pub(crate) fn new(
+        alloc: Global,
+        seed: Seed,
+        known: &Known,
+        told: Told,
+    ) -> Result<Edition, AllocError>
         ensures { IfOk result (λ edition. edition ≡ record { rows = empty; known = known.now; absorbed = 0; told = told }) }
     {
         Ok(Edition {

@@ -234,7 +234,11 @@ fn eyes_read_on_another_thread(rt: HostRuntime) -> Result<(), Fail> {
 }
 
 /// How many edges a guard's view has once a channel is published whose second node has a feature that isn't known.
-fn edges_under<R: Wait + RandomSource + Abort>(rt: &R, alloc: Global, known: &Known) -> Result<usize, Fail> {
+fn edges_under<R: Wait + RandomSource + Abort>(
+    rt: &R,
+    alloc: Global,
+    known: &Known,
+) -> Result<usize, Fail> {
     let (first, second, third) = (channel(alloc)?, update(alloc, 0)?, node(alloc, 11)?);
     let (mut pen, mut eyes) = board(rt, alloc, 1, known)?;
     let eye = eyes.pop().expect(rt, "an eye");
