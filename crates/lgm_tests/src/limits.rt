@@ -32,14 +32,20 @@ fn ended<Rt: Threads + Sync + RandomSource>(
     Ok((ended, Vec::from_slice(alloc, writer.taken())?))
 }
 
+/// So many empty lines.
+fn empty_lines(alloc: Global, count: usize) -> Result<Vec<u8>, AllocError> {
+    vec![in alloc; b'\n'; count]
+}
+
 /// A script has at most 10,000,000 lines.
 #[test]
 fn most_lines(rt: HostRuntime) -> Result<(), Fail> {
-    let script = vec![in rt.alloc(); b'\n'; 10_000_001]?;
-    let (counts, written) = ended(&rt, rt.alloc(), &script[..10_000_000])?;
+    let script = empty_lines(rt.alloc(), 10_000_000)?;
+    let (counts, written) = ended(&rt, rt.alloc(), script.as_slice())?;
     let lines = counts.map(|counts| counts.lines);
     assert_eq!(rt; lines, Ok(10_000_000));
     assert!(rt; written.is_empty());
+    let script = empty_lines(rt.alloc(), 10_000_001)?;
     let (counts, written) = ended(&rt, rt.alloc(), script.as_slice())?;
     assert_eq!(rt; counts.err(), Some(RunFault::TooManyLines));
     assert!(rt; written.is_empty());
@@ -65,9 +71,9 @@ fn longest_line(rt: HostRuntime) -> Result<(), Fail> {
 
 const SCID: &str = "0927c00000010000";
 
-/// A line with an announcement that has so many bytes behind its fields, and the lines that ask for it.
-fn asked(alloc: Global, message: &str, more: usize) -> Result<Vec<u8>, Fail> {
-    let zeros = vec![in alloc; b'0'; 2 * more]?;
+/// A line with an announcement that has so many digits behind its fields, and the lines that ask for it.
+fn asked(alloc: Global, message: &str, digits: usize) -> Result<Vec<u8>, Fail> {
+    let zeros = vec![in alloc; b'0'; digits]?;
     let rest = format!(in alloc; " all 100000\ncommit\nq 0105{CHAIN}000900{SCID}\n")?;
     let mut script = Vec::from_slice(alloc, b"m ")?;
     script.extend_from_slice(message.as_bytes())?;
@@ -77,8 +83,8 @@ fn asked(alloc: Global, message: &str, more: usize) -> Result<Vec<u8>, Fail> {
 }
 
 /// What the lines are told where the announcement is taken.
-fn told(alloc: Global, message: &str, more: usize) -> Result<Vec<u8>, Fail> {
-    let zeros = vec![in alloc; b'0'; 2 * more]?;
+fn told(alloc: Global, message: &str, digits: usize) -> Result<Vec<u8>, Fail> {
+    let zeros = vec![in alloc; b'0'; digits]?;
     let rest = format!(in alloc; "\n3 0106{CHAIN}01\n")?;
     let mut text = Vec::from_slice(alloc, b"1 accepted\n2 commit 1\n3 ")?;
     text.extend_from_slice(message.as_bytes())?;
@@ -95,12 +101,12 @@ fn longest_message(rt: HostRuntime) -> Result<(), Fail> {
     let b = point(alloc, "02", "0b")?;
     let key = point(alloc, "02", "ee")?;
     let message = announcement(alloc, CHAIN, SCID, (&a, &b), (&key, &key))?;
-    let script = asked(alloc, message.as_str(), 65_103)?;
+    let script = asked(alloc, message.as_str(), 2 * 65_103)?;
     let (counts, written) = ended(&rt, alloc, script.as_slice())?;
-    let want = told(alloc, message.as_str(), 65_103)?;
+    let want = told(alloc, message.as_str(), 2 * 65_103)?;
     assert!(rt; counts.is_ok());
     assert_eq!(rt; written.as_slice(), want.as_slice());
-    let script = asked(alloc, message.as_str(), 65_104)?;
+    let script = asked(alloc, message.as_str(), 2 * 65_104)?;
     let (counts, written) = ended(&rt, alloc, script.as_slice())?;
     assert!(rt; counts.is_ok());
     assert!(rt; written.starts_with(b"1 malformed\n2 commit 0\n"));
