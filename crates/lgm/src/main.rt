@@ -7,6 +7,8 @@ mod starting;
 mod tests;
 
 use lgm_script::{FromRead, ToWrite};
+use lgm_server::Remains;
+use std::mem::forget;
 use std::process::ExitCode;
 use std::{env, io};
 
@@ -16,6 +18,7 @@ fn main(rt: HostRuntime) -> io::Result<ExitCode> {
     let mut reader = FromRead::new(rt.stdin());
     let mut writer = ToWrite::new(rt.stdout());
     let mut errors = ToWrite::new(rt.stderr());
+    let mut remains = Remains::none();
     let status = starting::start(
         &rt,
         alloc,
@@ -23,6 +26,9 @@ fn main(rt: HostRuntime) -> io::Result<ExitCode> {
         &mut reader,
         &mut writer,
         &mut errors,
+        &mut remains,
     );
+    // The program ends: the system takes the memory back.
+    forget(remains);
     Ok(ExitCode::from(status))
 }

@@ -8,7 +8,7 @@ use clap::error::ErrorKind;
 use lgm_live::{RunLiveFault, run_live};
 use lgm_par::Open;
 use lgm_script::{Sink, Source, write_all};
-use lgm_server::{RunFault, run};
+use lgm_server::{Remains, RunFault, run_keeping};
 use std::alloc::Global;
 use std::marker::Sync;
 use std::random::RandomSource;
@@ -76,13 +76,14 @@ fn refuse<E: Sink>(alloc: Global, errors: &mut E, error: &Error) -> u8
     }
 }
 
-/// Answers a script as the options say.
+/// Answers a script as the options say. What `lgm run` made for it remains.
 fn answer<Rt: Threads + Wait + Sync + RandomSource, R: Source, W: Sink>(
     rt: &Rt,
     alloc: Global,
     options: &Options,
     reader: &mut R,
     writer: &mut W,
+    remains: &mut Remains,
 ) -> Result<(), RunLiveFault>
     requires reader { R.failures reader.old + 1 < 2 ^ 64 }
     requires writer { W.failures writer.old + 1 < 2 ^ 64 }
@@ -91,10 +92,15 @@ fn answer<Rt: Threads + Wait + Sync + RandomSource, R: Source, W: Sink>(
     let known = &options.known;
     let workers = options.workers.clamp(1, 64);
     match options.mode {
-        Mode::Run => match run(rt, alloc, reader, writer, chain, known, workers, &Open) {
-            Ok(_) => Ok(()),
-            Err(fault) => Err(as_live(fault)),
-        },
+        Mode::Run => {
+            let ran = run_keeping(
+                rt, alloc, reader, writer, chain, known, workers, &Open, remains,
+            );
+            match ran {
+                Ok(_) => Ok(()),
+                Err(fault) => Err(as_live(fault)),
+            }
+        }
         Mode::Live => {
             run_live(rt, alloc, reader, writer, chain, known, workers, &Open)?;
             Ok(())
@@ -106,7 +112,7 @@ fn answer<Rt: Threads + Wait + Sync + RandomSource, R: Source, W: Sink>(
 ///
 /// Status 0: the script was answered. Status 2: the words are bad, or ask for help, and `clap`'s text is on `errors`; or
 /// the chain isn't 64 hexadecimal digits, or the known feature bits aren't 2 to 512. Status 1: the run failed, and its line is on `errors`. A fault in writing to
-/// `errors` changes nothing.
+/// `errors` changes nothing. What the maps hold remains, since it takes a tenth of the time to free it.
 pub fn start<Rt: Threads + Wait + Sync + RandomSource, R: Source, W: Sink, E: Sink>(
     rt: &Rt,
     alloc: Global,
@@ -114,6 +120,7 @@ pub fn start<Rt: Threads + Wait + Sync + RandomSource, R: Source, W: Sink, E: Si
     reader: &mut R,
     writer: &mut W,
     errors: &mut E,
+    remains: &mut Remains,
 ) -> u8
     requires reader { R.failures reader.old + 1 < 2 ^ 64 }
     requires writer { W.failures writer.old + 1 < 2 ^ 64 }
@@ -132,7 +139,7 @@ pub fn start<Rt: Threads + Wait + Sync + RandomSource, R: Source, W: Sink, E: Si
         }
         Err(BadWords::NoMemory) => return fail(errors, RunLiveFault::NoMemory),
     };
-    match answer(rt, alloc, &options, reader, writer) {
+    match answer(rt, alloc, &options, reader, writer, remains) {
         Ok(()) => DONE,
         Err(fault) => fail(errors, fault),
     }

@@ -1,5 +1,6 @@
 use crate::starting::start;
 use lgm_script::{Failed, MemorySink, MemorySource, Sink, Source};
+use lgm_server::Remains;
 use std::alloc::Global;
 use std::marker::Sync;
 use std::random::RandomSource;
@@ -35,6 +36,7 @@ fn started<Rt: Threads + Wait + Sync + RandomSource>(
         &mut reader,
         &mut writer,
         &mut errors,
+        &mut Remains::none(),
     );
     Ok((status, writer, errors))
 }
@@ -244,6 +246,7 @@ fn a_failed_read_has_its_line(rt: HostRuntime) -> Result<(), Fail> {
         &mut reader,
         &mut writer,
         &mut errors,
+        &mut Remains::none(),
     );
     assert_eq!(rt; status, 1);
     assert_eq!(rt; writer.taken(), b"1 commit 0\n".as_slice());
@@ -265,6 +268,7 @@ fn a_failed_write_has_its_line(rt: HostRuntime) -> Result<(), Fail> {
         &mut reader,
         &mut writer,
         &mut errors,
+        &mut Remains::none(),
     );
     assert_eq!(rt; status, 1);
     assert_eq!(rt; errors.taken(), b"lgm: write failed\n".as_slice());

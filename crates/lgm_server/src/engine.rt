@@ -56,11 +56,6 @@ impl Engine {
         })
     }
 
-    /// Lets go of all that is held, by several workers.
-    pub fn let_go<Rt: Threads + Sync>(self, rt: &Rt, alloc: Global, workers: usize) {
-        self.maps.let_go(rt, alloc, workers);
-    }
-
     /// How many items were accepted.
     pub fn accepted(&self) -> u64
         ensures { result ≡ self.now.accepted }

@@ -17,7 +17,7 @@ mod objection;
 mod offering;
 mod querying;
 mod questions;
-mod releasing;
+mod remains;
 mod routing;
 mod run_fault;
 mod running;
@@ -25,7 +25,8 @@ mod sending;
 mod telling;
 
 pub use answer::outcome_word;
+pub use remains::Remains;
 pub use routing::asked_route;
 pub use run_fault::RunFault;
-pub use running::{Counts, MAX_LINES, run};
+pub use running::{Counts, MAX_LINES, run, run_keeping};
 pub use telling::send_route;

@@ -19,7 +19,6 @@ use crate::filters::Filters;
 use crate::leveling::level;
 use crate::offering::offer;
 use crate::questions::{answer_questions, find_chunked};
-use crate::releasing::release;
 use lgm_check::Refusal;
 use lgm_gossip::ChainHash;
 use lgm_graph::{Known, View};
@@ -36,7 +35,8 @@ use std::thread::Threads;
 
 /// The map of all accepted items, and that of the committed ones, with the view that routes are searched in. At a commit
 /// the maps change places, and the one that grows does what it is behind by when it is needed. Contracts see the rows of
-/// both, and the features of nodes that are known.
+/// both, and the features of nodes that are known. Fields are dropped in their order, the maps first: what operations alone
+/// have then is freed in the order in which it came, which is the quicker one.
 #[derive(Drop)]
 pub struct Maps {
     /// The map of all accepted items, but for what is due.
@@ -160,15 +160,6 @@ impl Maps {
             &self.map
         };
         Differences::between(alloc, &self.committed, grown, &changes)
-    }
-
-    /// Lets go of all rows. The maps go first: what only operations have then is freed in the order in which it came,
-    /// which is the quicker one, and by several workers side by side.
-    pub fn let_go<Rt: Threads + Sync>(self, rt: &Rt, alloc: Global, workers: usize) {
-        drop(self.map);
-        drop(self.committed);
-        release(rt, alloc, workers, self.due);
-        release(rt, alloc, workers, self.pending);
     }
 
     /// Makes all accepted items committed ones. It costs nothing.

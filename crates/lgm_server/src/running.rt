@@ -10,6 +10,7 @@ ghost use Rattle.lgm_server.specs.Ending.{IsEnded};
 
 use crate::answering::answer;
 use crate::engine::Engine;
+use crate::remains::Remains;
 use crate::run_fault::RunFault;
 use lgm_gossip::ChainHash;
 use lgm_graph::Known;
@@ -143,7 +144,7 @@ fn answer_lines<Rt: Threads + Sync, G: Gate, R: Source, W: Sink>(
     })
 }
 
-/// Answers a whole script to an output where nothing is gathered, and writes all answers.
+/// Answers a whole script to an output where nothing is gathered, and writes all answers. What was made for it remains.
 fn answer_all<Rt: Threads + Sync + RandomSource, G: Gate, R: Source, W: Sink>(
     rt: &Rt,
     alloc: Global,
@@ -153,6 +154,7 @@ fn answer_all<Rt: Threads + Sync + RandomSource, G: Gate, R: Source, W: Sink>(
     known: &Known,
     source: &mut R,
     output: &mut Output<'_, W>,
+    remains: &mut Remains,
 ) -> Result<Counts, RunFault>
     requires workers { (1 ≤ workers) × (workers ≤ 64) }
     requires gathered { output.old.gathered.now.items ≡ [] }
@@ -171,21 +173,12 @@ fn answer_all<Rt: Threads + Sync + RandomSource, G: Gate, R: Source, W: Sink>(
     ensures write { result ≡ Err RunFault.Write → W.failures output.old.writer.now < W.failures output.new.writer.now }
 {
     let mut lines = LineReader::new(alloc)?;
-    let mut engine = Engine::new(alloc, Seed::random(rt), known)?;
+    let made = Engine::new(alloc, Seed::random(rt), known)?;
+    let engine = remains.hold(made);
     let answered = answer_lines(
-        rt,
-        alloc,
-        workers,
-        gate,
-        chain,
-        &mut lines,
-        source,
-        &mut engine,
-        output,
+        rt, alloc, workers, gate, chain, &mut lines, source, engine, output,
     );
-    let written = write_answers(answered, output);
-    engine.let_go(rt, alloc, workers);
-    written
+    write_answers(answered, output)
 }
 
 /// Writes what is gathered of the answers, unless the writer has failed. Gives how the run ended.
@@ -251,7 +244,61 @@ pub fn run<Rt: Threads + Sync + RandomSource, G: Gate, R: Source, W: Sink>(
     ensures read { result ≡ Err RunFault.Read → R.failures reader.old < R.failures reader.new }
     ensures write { result ≡ Err RunFault.Write → W.failures writer.old < W.failures writer.new }
 {
+    let mut remains = Remains::none();
+    run_keeping(
+        rt,
+        alloc,
+        reader,
+        writer,
+        chain,
+        known,
+        workers,
+        gate,
+        &mut remains,
+    )
+}
+
+/// As [`run`], and what was made for the script is kept: the caller drops it, or forgets it where the program ends.
+pub fn run_keeping<Rt: Threads + Sync + RandomSource, G: Gate, R: Source, W: Sink>(
+    rt: &Rt,
+    alloc: Global,
+    reader: &mut R,
+    writer: &mut W,
+    chain: &ChainHash,
+    known: &Known,
+    workers: usize,
+    gate: &G,
+    remains: &mut Remains,
+) -> Result<Counts, RunFault>
+    requires workers { (1 ≤ workers) × (workers ≤ 64) }
+    requires reader { R.failures reader.old + 1 < 2 ^ 64 }
+    requires writer { W.failures writer.old + 1 < 2 ^ 64 }
+
+    ensures ok { IfOk result (λ counts. IfSome (R.left reader.old)
+        (IsAnswered chain.now known.now (Appends (W.taken writer.old) (W.taken writer.new)) counts)) }
+
+    ensures too_many { result ≡ Err RunFault.TooManyLines → IfSome (R.left reader.old)
+        (IsTooMany chain.now known.now (Appends (W.taken writer.old) (W.taken writer.new))) }
+    ensures too_long { result ≡ Err RunFault.LineTooLong → IfSome (R.left reader.old)
+        (IsTooLong chain.now known.now (Appends (W.taken writer.old) (W.taken writer.new))) }
+
+    ensures fault { IfErr result (λ _. IfSome (R.left reader.old)
+        (IsCutShort chain.now known.now (AppendsSome (W.taken writer.old) (W.taken writer.new)) (R.left reader.new))) }
+
+    ensures read { result ≡ Err RunFault.Read → R.failures reader.old < R.failures reader.new }
+    ensures write { result ≡ Err RunFault.Write → W.failures writer.old < W.failures writer.new }
+{
     let mut block = Vec::with_capacity(alloc, BLOCK)?;
     let mut output = Output::new(&mut block, writer);
-    answer_all(rt, alloc, workers, gate, chain, known, reader, &mut output)
+    answer_all(
+        rt,
+        alloc,
+        workers,
+        gate,
+        chain,
+        known,
+        reader,
+        &mut output,
+        remains,
+    )
 }

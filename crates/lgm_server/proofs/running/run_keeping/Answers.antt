@@ -1,6 +1,6 @@
 use Rattle.std.proofs.lemmas.Result.{err_from_is_err_and}
 use Rattle.lgm_server.proofs.Ending.{nothing_written}
-use Rattle.lgm_server.proofs.running.run.Goals as goal
+use Rattle.lgm_server.proofs.running.run_keeping.Goals as goal
 
 pub returns-in_err-block-clause-fault : goal.returns-in_err-block-clause-fault
 returns-in_err-block-clause-fault g c =
