@@ -15,6 +15,8 @@ PEAK_UNIT = 1 if sys.platform == "darwin" else 1024  # bytes; the unit of ru_max
 ANSWERS = (b"accepted", b"commit", b"filter", b"to", b"at", b"route", b"hop", b"no-route")
 FIRST_BYTE = b"01"  # of each message of a reply
 
+os.environ.setdefault("GLIBC_TUNABLES", "glibc.malloc.hugetlb=1")  # large pages, as ./lgm has it
+
 
 class Taken(NamedTuple):
     """What a run took: seconds on the clock, seconds of processors, bytes of memory."""
