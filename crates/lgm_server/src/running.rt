@@ -203,9 +203,9 @@ fn write_answers<W: Sink>(
 /// Payments go to no node that wants features which aren't known.
 ///
 /// The work is shared by 1 to 64 workers. Lines that stand side by side and were read whole are taken together, at most
-/// 1,024 of items or 64 of questions, and 32 by one worker: they are read, checked and decided in pieces, each of which passes the gate, and
-/// told in their order. Neither the number of workers nor the gate changes what is written, nor do the random bytes that
-/// are asked of the system, with which points are hashed.
+/// 1,024 of items or 64 of questions, and 32 by one worker: they are read, checked and decided in pieces, each of which
+/// passes the gate, and told in their order. Neither the number of workers nor the gate changes what is written, nor do
+/// the random bytes that are asked of the system, with which points are hashed.
 ///
 /// What is answered is written before the source is read again, and in blocks otherwise. At `TooManyLines` and
 /// `LineTooLong` the lines before were answered. After each other fault what was written is a beginning of the text of
