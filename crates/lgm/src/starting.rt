@@ -113,7 +113,7 @@ fn answer<Rt: Threads + Wait + Sync + RandomSource, R: Source, W: Sink>(
 /// Status 0: the script was answered. Status 2: the words are bad, or ask for help, and `clap`'s text is on `errors`;
 /// or the chain isn't 64 hexadecimal digits, or the known feature bits aren't 2 to 512. Status 1: the run failed, and
 /// its line is on `errors`. A fault in writing to `errors` changes nothing. What the maps hold remains, since it takes
-/// a tenth of the time to free it.
+/// a sixth of the time to free it.
 pub fn start<Rt: Threads + Wait + Sync + RandomSource, R: Source, W: Sink, E: Sink>(
     rt: &Rt,
     alloc: Global,

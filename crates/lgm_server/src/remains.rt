@@ -4,7 +4,7 @@ ghost use Rattle.std.specs.Prelude.{◌≡◌};
 
 use crate::engine::Engine;
 
-/// What a run leaves in memory: its maps, row by row. To drop it takes about a tenth of the time of a run. A program that
+/// What a run leaves in memory: its maps, row by row. To drop it takes a sixth of the time of a run. A program that
 /// ends with its script forgets it instead, and the system takes the memory back at once.
 #[derive(Drop)]
 pub struct Remains {
