@@ -82,10 +82,6 @@ regroup : (front : List ℕ) (f : ℕ) (read : Result (List ℕ) DecodeFault) �
 regroup front f (Ok others) = ap (λ (s : List ℕ). Ok s) (sym (append_assoc front (f ∷ []) others))
 regroup front f (Err e) = refl
 
-pub nothing_in_front : (read : Result (List ℕ) DecodeFault) → with_front [] read ≡ read
-nothing_in_front (Ok others) = refl
-nothing_in_front (Err e) = refl
-
 pub flag_on : (front : List ℕ) (count i : ℕ) (bytes : List ℕ) (f : ℕ) (after : List ℕ) (total : Result (List ℕ) DecodeFault) → i < count → flag_at bytes ≡ Ok (f, after)
     → with_front front (all_flags_at (count - i) bytes) ≡ total → with_front (front ++ f ∷ []) (all_flags_at (count - (i + 1)) after) ≡ total
 unfolding all_flags_at

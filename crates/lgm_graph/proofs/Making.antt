@@ -100,12 +100,3 @@ pushed old mid new edges edge from to link distinct same from_is to_is link_is j
     (shows_push edges old.points.keys (map links_in old.into.items) (map links_in old.out.items) edge distinct joined shows)
 
 -- ---- whole
-
--- the view of some rows is sound
-pub sound_of : (rows : Rows) (graph : Graph) → IsGraphOf rows graph → length graph.points < 2 ^ 32 → IsSound graph
-sound_of rows graph beside few = record {
-  few = few;
-  long = ap length beside.takes ∙ length-map graph.points (takes_payments graph.known rows.nodes);
-  edges = carrying rows;
-  shows = beside.shows;
-}

@@ -158,7 +158,3 @@ node_updated known rows after row channel held ascend after_is old mid new disti
     distinct edge_is (link_is ∙ rw (starts, ends) refl)
     (into ∙ rw (same_into old mid same, ends, id_is, second_is) refl)
     (out ∙ rw (same_out old mid same, starts, id_is, second_is) refl))
-
--- an update of a channel that isn't held changes nothing
-pub unheld_same : (rows : Rows) (row : UpdateRow) → channel_of rows.channels row.message.short_channel_id ≡ None → with_update rows row ≡ rows
-unheld_same rows row none = rw none refl

@@ -22,13 +22,6 @@ pub held_update : (rows : Rows) (channel : ChannelRow) (second : Bool) → updat
 held_update rows channel true = refl
 held_update rows channel false = refl
 
--- few points
-pub walked_points : (rows : Rows) (left : List Held) (graph : Graph) → HasWalked rows left graph → length graph.points ≤ 2 * length rows.channels
-walked_points rows left graph walked = omega (arith, walked.few, ap length walked.parts, length-append walked.done walked.rest)
-
-pub walked_few : (rows : Rows) (left : List Held) (graph : Graph) → HasWalked rows left graph → length rows.channels ≤ 2000000000 → length graph.points + 2 < 4294967296
-walked_few rows left graph walked few = omega (arith, walked_points rows left graph walked, few)
-
 -- the next one is a channel with its updates
 pub walked_own : (rows : Rows) (held : Held) (left : List Held) (graph : Graph) → HasWalked rows (held ∷ left) graph → held ≡ held_at rows held.channel
 walked_own rows held left graph walked = by walked.rest walked.left_is

@@ -9,9 +9,5 @@ use Rattle.std.proofs.lemmas.Bool.Decides.{nat_tests}
 pub id_test : (a b : ℕ) → is_eq (nat_cmp a b) ≡ (a == b)
 id_test a b = grind (arith, nat_tests)
 
--- a lesser one
-pub less_test : (a b : ℕ) → nat_lt a b ≡ is_lt (nat_cmp a b)
-less_test a b = grind (arith, nat_tests)
-
 pub id_level : (a : ℕ) → nat_cmp a a ≡ Equal
 id_level a = grind (arith, nat_tests)

@@ -51,16 +51,6 @@ looked request start amount node edge dist closed after now low to more first mo
       near = record { over = λ inside min max. omega (arith, same, low.near, most); first = λ inside min max from. omega (arith, same, low.near, first from) };
     }
 
-pub not_looked : (request : Trip) (start : ℕ) (edge : Link) (dist : List ℕ) (closed : List Bool) →
-    ((edge.to < length dist) → edge.min ≤ request.amount → request.amount ≤ edge.max → ⊥) → IsLooked request start edge dist closed dist closed
-not_looked request start edge dist closed far =
-    record {
-      falls = λ other. omega arith;
-      keeps = λ edges is. is;
-      stays = λ at h. h;
-      near = record { over = λ inside min max. absurd (far inside min max); first = λ inside min max from. absurd (far inside min max) };
-    }
-
 -- one more edge out of the node was looked at
 pub near_more : (request : Trip) (start nodes place : ℕ) (leaving : List Link) (dist after : List ℕ) →
     ((other : ℕ) → number_at after other ≤ number_at dist other) →
@@ -142,13 +132,3 @@ low_of edges request dist closed most after range is radius cut =
     none edge there min max from true e (inr q) = omega (arith, q.0, q.1, is.first edge there e min max from)
     none edge there min max from false e (inl q) = omega (arith, q.0, q.1, radius edge.from (inside edge there).0 e, ap (λ n. number_at dist n) from, is.payer)
     none edge there min max from false e (inr q) = omega (arith, q.0, radius edge.from (inside edge there).0 e, ap (λ n. number_at dist n) from, is.payer)
-
--- as it begins every node is open
-pub spread_none : (edges : List Link) (request : Trip) (dist : List ℕ) (closed : List Bool) → ((node : ℕ) → is_closed closed node ≡ false) → number_at dist request.payer ≡ 0 →
-    IsSpread edges request dist closed
-spread_none edges request dist closed opened zero =
-    record {
-      near = λ edge there shut min max. absurd (false≢true (sym (opened edge.from) ∙ shut));
-      first = λ edge there shut min max from. absurd (false≢true (sym (opened edge.from) ∙ shut));
-      payer = zero;
-    }

@@ -90,14 +90,6 @@ pub way_last : (labels : List Label) (found here other : Label) (count : ℕ) (w
 way_last labels found here other count walk e way =
     record { rest = way.rest; spells = spells_none labels other way.rest (way.long ∙ e); long = way.long; whole = way.whole; all = way.all }
 
-pub way_end : (labels : List Label) (found here : Label) (count : ℕ) (walk : List Link) → IsOnTheWay labels found here count walk → count ≡ 0 →
-    Spells labels found walk × (length walk ≡ found.count)
-way_end labels found here count walk way e = by way.rest (way.long ∙ e) way.whole way.all
-  where
-    by : (rest : List Link) → length rest ≡ 0 → Spells labels found (walk ++ rest) → length (walk ++ rest) ≡ found.count → Spells labels found walk × (length walk ≡ found.count)
-    by [] long whole all = (subst (λ r. Spells labels found r) (append-nil walk) whole, subst (λ r. length r ≡ found.count) (append-nil walk) all)
-    by (edge ∷ rest) long whole all = absurd (omega arith)
-
 module _ (labels : List Label) (label other here there : Label) (count : ℕ) (beside : AreBeside labels label other here there count) (left : 0 < count) where
   pub one : HasMore labels here beside.rest count
   one = has_more labels here beside.rest count beside.spells beside.long left

@@ -44,11 +44,6 @@ pub record AreHops (graph : Graph) (request : Request) (walk : List Arc) (i owes
   pub due_low : falls ≤ 498000000 + 65535 * i
   pub hops_are : reverse hops ≡ hops_of request (edges_in graph (drop (length walk - i) walk))
 
-pub hops_none : (graph : Graph) (request : Request) (walk : List Arc) (hops : List Hop) → request.expiry ≤ 498000000 → hops ≡ [] → AreHops graph request walk 0 request.amount request.expiry hops
-hops_none graph request walk hops low none =
-    let nil : drop (length walk - 0) walk ≡ [] = drop_all (length walk - 0) walk (omega arith) in
-    record { owed_is = rw nil refl; due_is = rw nil refl; due_low = omega arith; hops_are = rw (nil, none) refl }
-
 pub hops_more : (graph : Graph) (request : Request) (walk : List Arc) (i owes falls : ℕ) (hops after : List Hop) (d arc : Arc) (hop : Hop) (fee : ℕ) → i < length walk →
     arc ≡ get_or walk (length walk - 1 - i) d → arc.delta < 2 ^ 16 → hop ≡ hop_over graph arc owes falls → fee ≡ fee_of owes arc.base arc.millionths →
     after ≡ hops ++ hop ∷ [] → AreHops graph request walk i owes falls hops → AreHops graph request walk (i + 1) (owes + fee) (falls + arc.delta) after
@@ -65,12 +60,6 @@ hops_more graph request walk i owes falls hops after d arc hop fee lt is small o
       due_low = let le = before.due_low in omega arith;
       hops_are = rw (parts, more) (reverse-append hops (hop ∷ []) ∙ ap (λ h. h ∷ reverse hops) made ∙ ap (λ r. hop_over graph arc (owed request.amount (edges_in graph back)) (due request.expiry (edges_in graph back)) ∷ r) before.hops_are);
     }
-
-pub hops_all : (graph : Graph) (request : Request) (walk : List Arc) (i owes falls : ℕ) (hops after : List Hop) → length walk ≤ i → after ≡ reverse hops → AreHops graph request walk i owes falls hops → after ≡ hops_of request (edges_in graph walk)
-hops_all graph request walk i owes falls hops after le turned are =
-    let none : length walk - i ≡ 0 = omega arith in
-    let whole : drop (length walk - i) walk ≡ walk = ap (λ n. drop n walk) none in
-    turned ∙ are.hops_are ∙ ap (λ w. hops_of request (edges_in graph w)) whole
 
 -- what is owed at each place fits
 pub owed_fits : (graph : Graph) (request : Request) (walk : List Arc) (i owes falls : ℕ) (hops : List Hop) → i < length walk → AreCarried request.amount (map link_in walk) → AreHops graph request walk i owes falls hops → owes < 2 ^ 64

@@ -94,9 +94,6 @@ pub record AreLeadsTo (graph : Graph) (request : Trip) (low : List ℕ) (bound :
   pub led : (k : ℕ) → k < length leads → IsLed (links graph) request labels i (link_in (label_at leads k).arc) (label_at leads k)
   pub each : (j : ℕ) → j < place → IsNeedless request low bound (label_at labels i) (link_at run j) ⊎ IsAmong leads (link_at run j)
 
-pub leads_first : (graph : Graph) (request : Trip) (low : List ℕ) (bound : ℕ) (labels : List Label) (i : ℕ) (run : List Link) → AreLeadsTo graph request low bound labels i run 0 []
-leads_first graph request low bound labels i run = record { led = λ k to. absurd (omega arith); each = λ j to. absurd (omega arith) }
-
 pub leads_next : (graph : Graph) (request : Trip) (low : List ℕ) (bound : ℕ) (labels : List Label) (i : ℕ) (run : List Link) (place : ℕ) (leads : List Label) (lead : Option Label) →
     AreLeadsTo graph request low bound labels i run place leads → IsLead (links graph) request low bound labels i (link_at run place) lead →
     AreLeadsTo graph request low bound labels i run (place + 1) (leads ++ in_list lead)

@@ -43,14 +43,6 @@ join_by x y xs ys Greater p (inr q) = absurd (omega (arith, q.0))
 pub NotAfter-join : (x y : ℕ) (xs ys : List ℕ) → (x < y) ⊎ ((x ≡ y) × NotAfter xs ys) → NotAfter (x ∷ xs) (y ∷ ys)
 NotAfter-join x y xs ys s = join_by x y xs ys (nat_cmp x y) (ranked x y (nat_cmp x y) refl) s
 
--- of lists with equal heads the tails decide
-pub NotAfter-tails : (x y : ℕ) (xs ys : List ℕ) → NotAfter (x ∷ xs) (y ∷ ys) → x ≡ y → NotAfter xs ys
-NotAfter-tails x y xs ys h e = by (NotAfter-split x y xs ys h)
-  where
-    by : Split x y xs ys → NotAfter xs ys
-    by (inl q) = absurd (omega arith)
-    by (inr q) = q.1
-
 -- the first number isn't greater
 pub NotAfter-heads : (x y : ℕ) (xs ys : List ℕ) → NotAfter (x ∷ xs) (y ∷ ys) → x ≤ y
 NotAfter-heads x y xs ys h = by (NotAfter-split x y xs ys h)

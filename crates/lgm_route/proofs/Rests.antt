@@ -13,14 +13,6 @@ pub fee-monotone : (x y base millionths : ℕ) → x ≤ y → fee_of x base mil
 unfolding fee_of
 fee-monotone x y base millionths h = let grown = mul-le-mul_right millionths h in omega (arith, grown)
 
--- lemma 1: what the node before must send over a rest is what goes over its first edge, and that edge's fee
-pub owed-prepend : (amount : ℕ) (edge : Link) (rest : List Link) →
-    owed amount (edge ∷ rest) ≡ sent amount (edge ∷ rest) + fee_of (sent amount (edge ∷ rest)) edge.base edge.millionths
-owed-prepend amount edge rest = refl
-
-pub owed-grows : (amount : ℕ) (edge : Link) (rest : List Link) → owed amount rest ≤ owed amount (edge ∷ rest)
-owed-grows amount edge rest = omega arith
-
 pub trichotomy : (a b : ℕ) → (a < b) ⊎ (a ≡ b) ⊎ (b < a)
 trichotomy a b = grind arith
 

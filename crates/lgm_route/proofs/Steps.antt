@@ -32,21 +32,6 @@ before_walk edges request labels x y walk other h k (inr (inr p)) =
           (inr (h.long ∙ p.1 ∙ sym k.long, p.2 walk other h.spells k.spells h.long k.long)),
     ))
 
-pub before_serves : (edges : List Link) (request : Trip) (labels : List Label) (x y : Label) (rest other : List Link) → IsLabel edges request labels x rest → IsLabel edges request labels y other →
-    x.count ≤ y.count → IsBefore labels x y → Serves request rest other
-before_serves edges request labels x y rest other h k fewer before = record { fewer = omega (arith, h.long, k.long); before = by before }
-  where
-    by : IsBefore labels x y → NotAfter (rest_key request rest) (rest_key request other)
-    by (inl p) = NotAfter-join (owed request.amount rest) (owed request.amount other) (length rest ∷ ids rest) (length other ∷ ids other) (inl (omega (arith, h.owes, k.owes)))
-    by (inr (inl p)) = NotAfter-join (owed request.amount rest) (owed request.amount other) (length rest ∷ ids rest) (length other ∷ ids other)
-        (inr (h.owes ∙ p.0 ∙ sym k.owes, NotAfter-join (length rest) (length other) (ids rest) (ids other) (inl (omega (arith, p.1, h.long, k.long)))))
-    by (inr (inr p)) = NotAfter-join (owed request.amount rest) (owed request.amount other) (length rest ∷ ids rest) (length other ∷ ids other)
-        (inr (
-          h.owes ∙ p.0 ∙ sym k.owes,
-          NotAfter-join (length rest) (length other) (ids rest) (ids other)
-              (inr (h.long ∙ p.1 ∙ sym k.long, p.2 rest other h.spells k.spells h.long k.long)),
-        ))
-
 -- the better of two walks
 module _ (edges : List Link) (request : Trip) (labels : List Label) (start : ℕ) where
   pub better_first : (new : Label) → SomeWalk edges request labels new → new.owed < start → IsBetter edges request labels start None new (Some new)
@@ -93,10 +78,6 @@ module _ (edges : List Link) (request : Trip) (labels : List Label) (start : ℕ
       below (inl p) = omega (arith, (found.0).1.few)
       below (inr (inl p)) = omega (arith, p.0, p.1)
       below (inr (inr p)) = omega (arith, p.0, p.1)
-
-pub found_below : (edges : List Link) (request : Trip) (labels : List Label) (start : ℕ) (o : Option Label) → IsFound edges request labels start o → bound_of start o ≤ start * 32
-found_below edges request labels start None h = omega arith
-found_below edges request labels start (Some found) h = omega (arith, h.1, (h.0).1.few)
 
 -- a label that serves is there
 pub offered_there : (edges : List Link) (request : Trip) (labels : List Label) (new : Label) (place : ℕ) → AreLabels edges request labels → place < length labels →
@@ -299,25 +280,6 @@ module _ (edges : List Link) (request : Trip) (low : List ℕ) (start : ℕ) whe
           let one : p.0 ≡ a = label-unique edges request after (label_at after place) p.0 a (later place stands.within).1 is_a in
           let two : q.0 ≡ b = label-unique edges request after (label_at after i) q.0 b mine.1 is_b in
           subst (λ r. Serves request a r) two (subst (λ r. Serves request r q.0) one (stands.serves edges request p.0 q.0 p.1 q.1))
-
--- the first label
-pub first_label : (edges : List Link) (request : Trip) (start : ℕ) →
-    IsSearch edges request start (record { owed = request.amount; arc = no_arc; next = 0; node = request.payee; count = 0 } ∷ []) None
-first_label edges request start =
-    record { labelled = record { some = omega arith; first = (refl, refl); sound = λ i within. sound i (trichotomy i 0) within; few = λ i within. few i (trichotomy i 0) within }; found_is = tt }
-  where
-    new : Label
-    new = record { owed = request.amount; arc = no_arc; next = 0; node = request.payee; count = 0 }
-
-    sound : (i : ℕ) → (i < 0) ⊎ (i ≡ 0) ⊎ (0 < i) → i < length (new ∷ []) → SomeRest edges request (new ∷ []) (label_at (new ∷ []) i)
-    sound i (inl p) within = absurd (omega arith)
-    sound i (inr (inl e)) within = subst (λ n. SomeRest edges request (new ∷ []) (label_at (new ∷ []) n)) (sym e) ([], record { spells = tt; long = refl; joins = refl; owes = refl })
-    sound i (inr (inr p)) within = absurd (omega arith)
-
-    few : (i : ℕ) → (i < 0) ⊎ (i ≡ 0) ⊎ (0 < i) → i < length (new ∷ []) → (label_at (new ∷ []) i).count ≤ 19
-    few i (inl p) within = absurd (omega arith)
-    few i (inr (inl e)) within = subst (λ n. (label_at (new ∷ []) n).count ≤ 19) (sym e) (omega arith)
-    few i (inr (inr p)) within = absurd (omega arith)
 
 -- one more of several edges was passed over
 pub passes_more : (edges : List Link) (at : ℕ → Link) (request : Trip) (low : List ℕ) (start i place : ℕ) (labels middle : List Label) (then : Option Label) (after : List Label) (now : Option Label) →

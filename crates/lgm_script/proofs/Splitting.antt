@@ -79,14 +79,6 @@ found_none bytes searched one nowhere =
         let same : get_or bytes j 0 ≡ 10 = get_or_default bytes j 0 d less ∙ is in
         nowhere j (omega arith) less (eq-eqb (get_or bytes j 0) 10 same)
 
--- the last line, which has no line feed
-pub last_line : (bytes : List ℕ) (left : Option (List ℕ)) → HasNoLineFeed bytes → 0 < length bytes → IsAtEnd left → IsFirstLine bytes left (length bytes)
-last_line bytes left one some ended = record {
-  within = omega arith;
-  one = All-take EndsNoLine (length bytes) bytes one;
-  ends = inr (refl, some, ended);
-}
-
 -- ---- with what the source has left
 
 pub has_longer : (most : ℕ) (bytes : List ℕ) (left : Option (List ℕ)) → HasNoLineFeed bytes → most < length bytes → IsLongerThan most (ahead bytes left)

@@ -74,11 +74,6 @@ tells_none told text = record {
   well = λ e. refl;
 }
 
--- a text was gathered
-pub tells_gathered : (taken : Option (List ℕ)) (failures : ℕ) (gathered gathered' text : List ℕ) → gathered' ≡ gathered ++ text
-    → Tells (record { taken = taken; gathered = gathered; failures = failures }) (record { taken = taken; gathered = gathered'; failures = failures }) text
-tells_gathered taken failures gathered gathered' text is = record { written = []; taken = appends_nothing taken; whole = is; well = refl }
-
 -- where memory was refused and nothing was gathered, nothing was told
 pub tells_same : (taken : Option (List ℕ)) (failures : ℕ) (gathered gathered' text : List ℕ) → gathered' ≡ gathered
     → TellsPart (record { taken = taken; gathered = gathered; failures = failures }) (record { taken = taken; gathered = gathered'; failures = failures }) text NoMemory

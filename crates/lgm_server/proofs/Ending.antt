@@ -23,9 +23,6 @@ told_as chain known script n old mid new empty flushed clear told = record { few
 abbrev fails : RunFault → Result Counts RunFault
 fails fault = Err fault
 
-abbrev wins : Counts → Result Counts RunFault
-wins counts = Ok counts
-
 pub ok_written : (chain : ChainHash) (known : Option (List ℕ)) (script : Option (List ℕ)) (old mid new : Told) (answered result : Result Counts RunFault) → old.gathered ≡ []
     → Ended mid new answered result → IfOk answered (λ counts. IfSome script (IsAnswered chain known (Tells old mid) counts)) → IfOk result (λ counts. IfSome script (IsAnswered chain known (Appends old.taken new.taken) counts))
 ok_written chain known script old mid new answered result empty ended told = elim ended [ inl flushed ↦ subst (λ r. IfOk r (λ counts. IfSome script (IsAnswered chain known (Appends old.taken new.taken) counts))) (sym flushed.same) (by answered script flushed told) | inr other ↦ elim other [ inl failed ↦ rw failed.write tt | inr before ↦ rw (before.same, before.failed) tt ] ]

@@ -36,44 +36,6 @@ goes_on-trans (views.Behind view) (views.Behind other) (views.Behind third) firs
 goes_on-trans (views.Behind view) (views.Behind other) (views.Beside third) first then = absurd then
 goes_on-trans (views.Behind view) (views.Beside other) c first then = absurd first
 
--- what is shown follows
-pub shows_follows : (known : Option (List ℕ)) (rows committed : Rows) (due : List Op) (kept : Kept) → ShowsAs known rows due committed kept → FollowsAs known rows kept
-shows_follows known rows committed due views.Blank shows = tt
-shows_follows known rows committed due (views.Behind view) shows = shows.0
-shows_follows known rows committed due (views.Beside view) shows = tt
-
--- while something is due, what follows is shown
-pub follows_shows : (known : Option (List ℕ)) (rows rows' committed : Rows) (due due' : List Op) (kept kept' : Kept) → ShowsAs known rows due committed kept
-    → GoesOn kept kept' → FollowsAs known rows' kept' → due' ≢ [] → ShowsAs known rows' due' committed kept'
-follows_shows known rows rows' committed due due' kept views.Blank shows goes follows left = tt
-follows_shows known rows rows' committed due due' kept (views.Behind view') shows goes follows left = (follows, left)
-follows_shows known rows rows' committed due due' views.Blank (views.Beside view') shows goes follows left = absurd (let bad : views.Beside view' ≡ views.Blank = goes in cc)
-follows_shows known rows rows' committed due due' (views.Behind view) (views.Beside view') shows goes follows left = absurd goes
-follows_shows known rows rows' committed due due' (views.Beside view) (views.Beside view') shows goes follows left = subst (ShowsAs known rows' due' committed) (sym goes) shows
-
--- once nothing is due, it is turned
-pub turned_shows : (known : Option (List ℕ)) (rows rows' committed : Rows) (due due' : List Op) (kept kept' : Kept) → ShowsAs known rows due committed kept
-    → GoesOn kept kept' → FollowsAs known rows' kept' → rows' ≡ committed → ShowsAs known rows' due' committed (turned_beside kept')
-turned_shows known rows rows' committed due due' kept views.Blank shows goes follows same = tt
-turned_shows known rows rows' committed due due' kept (views.Behind view') shows goes follows same = subst (λ r. IsViewOf known r view') same follows
-turned_shows known rows rows' committed due due' views.Blank (views.Beside view') shows goes follows same = absurd (let bad : views.Beside view' ≡ views.Blank = goes in cc)
-turned_shows known rows rows' committed due due' (views.Behind view) (views.Beside view') shows goes follows same = absurd goes
-turned_shows known rows rows' committed due due' (views.Beside view) (views.Beside view') shows goes follows same = subst (ShowsAs known rows' due' committed) (sym goes) shows
-
--- without a view that is behind
-pub dropped_shows : (known : Option (List ℕ)) (rows rows' committed : Rows) (due due' : List Op) (kept : Kept) → ShowsAs known rows due committed kept
-    → ShowsAs known rows' due' committed (without_behind kept)
-dropped_shows known rows rows' committed due due' views.Blank shows = tt
-dropped_shows known rows rows' committed due due' (views.Behind view) shows = tt
-dropped_shows known rows rows' committed due due' (views.Beside view) shows = shows
-
--- where no view is behind, it is that of the committed rows
-pub shows_committed : (known : Option (List ℕ)) (rows committed : Rows) (due : List Op) (kept : Kept) → ShowsAs known rows due committed kept → ((view : Graph) → kept ≡ views.Behind view → ⊥)
-    → ShowsAs known committed [] committed kept
-shows_committed known rows committed due views.Blank shows up = tt
-shows_committed known rows committed due (views.Behind view) shows up = absurd (up view refl)
-shows_committed known rows committed due (views.Beside view) shows up = shows
-
 -- and so where nothing is due
 pub shows_none_due : (known : Option (List ℕ)) (rows committed : Rows) (due : List Op) (kept : Kept) → ShowsAs known rows due committed kept → due ≡ []
     → ShowsAs known committed [] committed kept
@@ -97,11 +59,6 @@ ready_for known rows committed due (views.Behind view) request shows (inr none) 
 ready_for known rows committed due (views.Beside view) request shows either = shows
 
 -- ---- both maps
-
--- where some is due, none is pending, and the map that is behind comes to the committed one
-pub behind_rows : (map committed : Rows) (due pending : List Op) → IsBehind (fold_from map due) committed pending → (due ≡ []) ⊎ (pending ≡ []) → (due ≡ []) ⊎ (fold_from map due ≡ committed)
-behind_rows map committed due pending behind (inl none) = inl none
-behind_rows map committed due pending behind (inr none) = inr (behind.behind ∙ ap (fold_from committed) none)
 
 -- the map that is behind did some of what is due
 pub leveled_kept : (map map' committed : Rows) (due due' pending : List Op) (chart chart' : Chart) → AreKept map due committed pending chart → fold_from map' due' ≡ fold_from map due

@@ -66,7 +66,6 @@ route_text number secret (Err fault) = word_line number (route_word fault)
 
 -- the text of an answer, for the line of that number
 abbrev pub answer_text : ℕ → Answer → List ℕ
-answer_text number answers.Quiet = []
 answer_text number answers.Bad = word_line number (codes "bad")
 answer_text number (answers.Outcome refusal) = outcome_text number refusal
 answer_text number (answers.Messages messages) = query_text number (Ok messages)

@@ -18,8 +18,6 @@ use lgm_store::Map;
 /// What a line of a script is told. It is decided before it is written, and lends what it tells.
 #[derive(Drop)]
 pub enum Answer<'a> {
-    /// Nothing.
-    Quiet,
     /// It is no form of the grammar.
     Bad,
     /// Its item was accepted, or else refused.
@@ -49,7 +47,6 @@ impl Answer<'_> {
         ensures fault { IfErr result (SendsPart W.taken W.failures output.old output.new (answer_text number self.now)) }
     {
         match self {
-            Answer::Quiet => Ok(()),
             Answer::Bad => output.send_word(number, "bad"),
             Answer::Outcome(refusal) => output.send_word(number, outcome_word(*refusal)),
             Answer::Messages(messages) => send_messages(number, messages.as_slice(), output),

@@ -17,11 +17,6 @@ use Rattle.lgm_store.specs.Sound.{id_of}
 use Rattle.lgm_store.proofs.Lists.{lookup-channel}
 use Rattle.lgm_store.proofs.Holding.{lookup-channels}
 
--- what was found, and what that says
-pub is_some-held : (found : Option (Bor Held)) (o : Option ChannelRow) → option_map (λ held. held.channel) (option_copied found) ≡ o → is_some o ≡ is_some found
-is_some-held None o is = rw (← is) refl
-is_some-held (Some x) o is = rw (← is) refl
-
 none_from : {X : Type 0} (o : Option X) → is_some o ≡ false → o ≡ None
 none_from None none = refl
 none_from (Some x) none = absurd cc
@@ -46,16 +41,6 @@ pub with_channel-new : (rows new : Rows) (row : ChannelRow) → is_some (channel
     → ends_banned rows.banned row ≡ false
     → new.channels ≡ put by_id rows.channels row → new.updates ≡ rows.updates → new.nodes ≡ rows.nodes → new.banned ≡ rows.banned → new ≡ with_channel rows row
 with_channel-new rows new row none allowed c u n b = rw (none, allowed, ← c, ← u, ← n, ← b) refl
-
-pub with_channel-held : (rows : Rows) (row : ChannelRow) → is_some (channel_of rows.channels row.message.short_channel_id) ≡ true → rows ≡ with_channel rows row
-with_channel-held rows row held = rw held refl
-
-pub with_channel-banned : (rows : Rows) (row : ChannelRow) → ends_banned rows.banned row ≡ true → rows ≡ with_channel rows row
-with_channel-banned rows row banned = by (is_some (channel_of rows.channels row.message.short_channel_id))
-  where
-    by : (b : Bool) → rows ≡ (if b || ends_banned rows.banned row then rows else record rows { channels = put by_id rows.channels row })
-    by true = refl
-    by false = rw banned refl
 
 pub with_update-new : (rows new : Rows) (row : UpdateRow) → is_some (channel_of rows.channels row.message.short_channel_id) ≡ true
     → new.channels ≡ rows.channels → new.updates ≡ put by_direction rows.updates row → new.nodes ≡ rows.nodes → new.banned ≡ rows.banned → new ≡ with_update rows row

@@ -53,9 +53,6 @@ filter-channels p (e ∷ es) = by (filter-channels p es) (p e.0)
     by others true = rw others refl
     by others false = others
 
-pub keys-filtered : (p : ℕ → Bool) (es : List (ℕ × Held)) → keys_of (filter (λ e. p e.0) es) ≡ keys_of (filter (λ e. p e.0) (channel_entries es))
-keys-filtered p es = sym (keys-channels (filter (λ e. p e.0) es)) ∙ ap keys_of (filter-channels p es)
-
 -- the channel of the first entry
 pub first-filtered : (p : ℕ → Bool) (es : List (ℕ × Held))
     → option_map (λ held. held.channel) (first_value (filter (λ e. p e.0) es)) ≡ first_value (filter (λ e. p e.0) (channel_entries es))
@@ -350,11 +347,6 @@ ids_banned-rows banned (e ∷ es) keyed = by (ids_banned-rows banned es keyed.1)
         ≡ map id_of (cond b (e.1.channel ∷ banned_channels banned (values_of (channel_entries es))) (banned_channels banned (values_of (channel_entries es))))
     by others true = rw (keyed.0, others) refl
     by others false = others
-
-pub ids_banned-more : (banned : List Point) (found all : List ℕ) (left rest : List (ℕ × Held)) (id : ℕ) (held : Held) → left ≡ (id, held) ∷ rest → ends_banned banned held.channel ≡ true
-    → found ++ ids_banned banned left ≡ all → (found ++ id ∷ []) ++ ids_banned banned rest ≡ all
-ids_banned-more banned found all left rest id held first here parts =
-    append_assoc found (id ∷ []) (ids_banned banned rest) ∙ ap (λ (ids : List ℕ). found ++ ids) (sym (ap (ids_banned banned) first ∙ rw here refl)) ∙ parts
 
 pub ids_banned-past : (banned : List Point) (found all : List ℕ) (left rest : List (ℕ × Held)) (id : ℕ) (held : Held) → left ≡ (id, held) ∷ rest → ends_banned banned held.channel ≡ false
     → found ++ ids_banned banned left ≡ all → found ++ ids_banned banned rest ≡ all
