@@ -22,6 +22,3 @@ pub use laws::edges_are_directions;
 pub use link::Link;
 pub use network::Network;
 pub use view::View;
-
-#[cfg(test)]
-mod tests;

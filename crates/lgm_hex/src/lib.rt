@@ -10,8 +10,6 @@
 
 mod decoding;
 mod encoding;
-#[cfg(test)]
-mod tests;
 
 pub use crate::decoding::{decode, decode_array, decode_into, decode_to_slice};
 pub use crate::encoding::{append, encode_to_slice};

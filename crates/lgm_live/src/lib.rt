@@ -28,6 +28,3 @@ pub use report::{LiveAnswer, LiveReport};
 pub use requests::RequestLists;
 pub use run_live_fault::RunLiveFault;
 pub use running::run_live;
-
-#[cfg(test)]
-mod tests;

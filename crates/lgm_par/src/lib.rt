@@ -7,6 +7,3 @@ mod mapping;
 
 pub use gate::{Gate, Open};
 pub use mapping::map_chunks;
-
-#[cfg(test)]
-mod tests;

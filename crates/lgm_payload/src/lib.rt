@@ -16,6 +16,3 @@ pub use fault::PayloadFault;
 pub use hop_payload::{HopPayload, Payment};
 pub use payloads::Payloads;
 pub use reading::{one_payload, read};
-
-#[cfg(test)]
-mod tests;

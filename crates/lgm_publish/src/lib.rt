@@ -19,8 +19,6 @@ mod opening;
 mod pen;
 mod rule;
 mod sides;
-#[cfg(test)]
-mod tests;
 mod told;
 mod world;
 

@@ -27,6 +27,3 @@ pub use laws::{answer_is_one, least_is_one};
 pub use request::Request;
 pub use route::{Hop, Route};
 pub use routing::{least, least_chunked};
-
-#[cfg(test)]
-mod tests;

@@ -28,6 +28,3 @@ pub use payment::Payment;
 pub use reading::{LineFault, more_begins, next_line};
 pub use request::{Request, parse};
 pub use std_streams::{FromRead, ToWrite};
-
-#[cfg(test)]
-mod tests;

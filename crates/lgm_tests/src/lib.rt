@@ -1,4 +1,4 @@
-//! Tests that cross crates: messages, the map, and whole scripts through `run` and `run_live`, over memory.
+//! Tests that cross crates: the map, and whole scripts through `run` and `run_live`, over memory.
 #![tactic(auto)]
 
 #[cfg(test)]
@@ -14,11 +14,11 @@ mod filter_lines;
 #[cfg(test)]
 mod limits;
 #[cfg(test)]
+mod live;
+#[cfg(test)]
 mod live_faults;
 #[cfg(test)]
 mod map;
-#[cfg(test)]
-mod messages;
 #[cfg(test)]
 mod numbers;
 #[cfg(test)]

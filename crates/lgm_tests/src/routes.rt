@@ -4,7 +4,6 @@ mod beside;
 mod bounds;
 mod committed;
 mod fees;
-mod kept;
 mod known;
 mod line;
 mod live;

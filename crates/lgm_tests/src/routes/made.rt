@@ -1,4 +1,4 @@
-//! Networks and changes of them, made from a seed.
+//! Networks made from a seed.
 
 use super::line::{FREE, Line, Terms};
 use super::plain::Payment;
@@ -90,62 +90,6 @@ pub fn payment(numbers: &mut Numbers) -> Payment {
     }
 }
 
-/// The usual nodes of a channel by its block, of 0 to 7.
-fn usual(block: u8) -> (u8, u8) {
-    let first = block % 5;
-    (first, first.saturating_add(1 + block / 5).min(5))
-}
-
-/// A channel between its usual nodes, or once in 24 times between others.
-fn channel(numbers: &mut Numbers, block: u8) -> Line {
-    let (first, second) = if numbers.below(24) == 0 {
-        pair(numbers, 6)
-    } else {
-        usual(block)
-    };
-    Line::Channel(u32::from(block), first, second, 100_000, "0000")
-}
-
-/// An update of a direction between the usual nodes, which is disabled once in eight times.
-fn update(numbers: &mut Numbers, block: u8, turned: bool, timestamp: u32) -> Line {
-    let (first, second) = usual(block);
-    let (from, to) = if turned {
-        (second, first)
-    } else {
-        (first, second)
-    };
-    if numbers.below(8) == 0 {
-        return Line::Disabled(u32::from(block), from, to, timestamp);
-    }
-    let base = u32::from(numbers.below(3));
-    Line::Update(
-        u32::from(block),
-        from,
-        to,
-        timestamp,
-        Terms { base, ..FREE },
-    )
-}
-
-/// An item of few channels and nodes, with a timestamp.
-fn item(numbers: &mut Numbers, timestamp: u32) -> Line {
-    let block = numbers.below(8);
-    match numbers.below(16) {
-        0..=5 => channel(numbers, block),
-        6..=12 => {
-            let turned = numbers.below(2) == 1;
-            update(numbers, block, turned, timestamp)
-        }
-        13 | 14 => {
-            let features = numbers
-                .one_of(&["0000", "000101", "000102"])
-                .unwrap_or("0000");
-            Line::Node(numbers.below(6), timestamp, features)
-        }
-        _ => Line::Close(u32::from(block)),
-    }
-}
-
 /// The payment of a line.
 pub fn pay(payment: &Payment) -> Line {
     let Payment {
@@ -155,32 +99,4 @@ pub fn pay(payment: &Payment) -> Line {
         expiry,
     } = *payment;
     Line::Pay(payer, payee, amount, expiry)
-}
-
-/// Eight channels with updates of both directions.
-fn push_usual(lines: &mut Vec<Line>, numbers: &mut Numbers) -> Result<(), AllocError> {
-    for block in 0..8 {
-        let (first, second) = usual(block);
-        lines.push(Line::Channel(u32::from(block), first, second, 100_000, "0000"))?;
-        lines.push(update(numbers, block, false, 1))?;
-        lines.push(update(numbers, block, true, 1))?;
-    }
-    Ok(())
-}
-
-/// Lines of all kinds, behind eight channels. Some scripts commit more often than others.
-pub fn changes(alloc: Global, numbers: &mut Numbers) -> Result<Vec<Line>, AllocError> {
-    let often = numbers.one_of(&[3, 6, 12, 24]).unwrap_or(6).max(1);
-    let mut lines = Vec::new(alloc);
-    push_usual(&mut lines, numbers)?;
-    for time in 2..50 {
-        if numbers.below(often) == 0 {
-            lines.push(Line::Commit)?;
-        }
-        if numbers.below(4) == 0 {
-            lines.push(pay(&payment(numbers)))?;
-        }
-        lines.push(item(numbers, time))?;
-    }
-    Ok(lines)
 }

@@ -1,6 +1,6 @@
 //! The order of faults: the length, the type, the fields from left to right, the encoding of ids, the records.
 
-use crate::messages::words::assert_fault;
+use super::words::assert_fault;
 use lgm_gossip::DecodeFault;
 use lgm_gossip::DecodeFault::{
     Cut, Encoding, Flags, Ids, Long, Short, Tlv, TlvKind, UnknownEven, UnknownOdd,

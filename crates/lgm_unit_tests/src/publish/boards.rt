@@ -2,11 +2,12 @@
 
 ghost use Rattle.std.specs.Prelude.{◌≡◌};
 
-use super::made::{channel, node, scid, update};
-use crate::{Eye, Guard, Pen, board};
-use lgm_graph::{Edge, Known, View};
+use super::{channel, scid, update};
+use crate::made::node;
+use lgm_graph::Known;
+use lgm_publish::{Eye, Guard, Pen, board};
 use lgm_store::{Map, Op};
-use std::alloc::{AllocError, Global};
+use std::alloc::Global;
 use std::process::Abort;
 use std::random::RandomSource;
 use std::sync::Wait;
@@ -36,72 +37,28 @@ fn holds(map: &Map) -> Held {
     }
 }
 
-fn is_same_edge(edge: &Edge, other: &Edge) -> bool {
-    let way = edge.scid == other.scid && edge.second == other.second;
-    let ends = edge.from == other.from && edge.to == other.to;
-    let terms = edge.base == other.base && edge.millionths == other.millionths;
-    let limits = edge.min == other.min && edge.max == other.max && edge.delta == other.delta;
-    way && ends && terms && limits
-}
-
-fn has_edge(view: &View, edge: &Edge) -> bool {
-    for place in 0..view.edge_count() {
-        if let Some(other) = view.edge(place) {
-            if is_same_edge(&other, edge) {
-                return true;
-            }
-        }
-    }
-    false
-}
-
-/// Whether the first view has as many edges as the second, and each of its edges.
-fn has_edges_of(view: &View, other: &View) -> bool {
-    for place in 0..other.edge_count() {
-        match other.edge(place) {
-            Some(edge) if has_edge(view, &edge) => {}
-            _ => return false,
-        }
-    }
-    view.edge_count() == other.edge_count()
-}
-
-/// Whether a view has the edges of one that is made of the map.
-fn is_as_made(alloc: Global, view: &View, map: &Map) -> Result<bool, AllocError> {
-    if map.count() > 2_000_000_000 {
-        return Ok(false);
-    }
-    let made = View::of(alloc, map, &Known::all())?;
-    Ok(has_edges_of(view, &made))
-}
-
-/// What a guard shows, with a copy of its map.
+/// What a guard shows.
 #[derive(Clone, Copy, Debug, PartialEq, Eq)]
 struct Shown {
     version: u64,
     map: Held,
-    copy: Held,
     edges: usize,
-    as_made: bool,
 }
 
-fn shows(alloc: Global, guard: &Guard) -> Result<Shown, AllocError> {
-    let copy = guard.map().copy(alloc)?;
-    Ok(Shown {
+fn shows(guard: &Guard) -> Shown {
+    Shown {
         version: guard.version(),
         map: holds(guard.map()),
-        copy: holds(&copy),
         edges: guard.view().edge_count(),
-        as_made: is_as_made(alloc, guard.view(), guard.map())?,
-    })
+    }
 }
 
 /// What a guard of the eye shows, if there is one.
-fn look(alloc: Global, eye: Eye) -> (Eye, Option<Shown>) {
+fn look(eye: Eye) -> (Eye, Option<Shown>) {
     match eye.enter() {
         Ok(guard) => {
-            let shown = shows(alloc, &guard).ok();
-            (guard.leave(), shown)
+            let shown = shows(&guard);
+            (guard.leave(), Some(shown))
         }
         Err(eye) => (eye, None),
     }
@@ -130,9 +87,7 @@ fn publish_one<R: Wait>(rt: &R, pen: &mut Pen, op: Op) -> bool
 const AFTER_THREE: Shown = Shown {
     version: 3,
     map: BOTH_WAYS,
-    copy: BOTH_WAYS,
     edges: 2,
-    as_made: true,
 };
 
 const BOTH_WAYS: Held = Held {
@@ -151,8 +106,8 @@ fn guards_show_what_was_published(rt: HostRuntime) -> Result<(), Fail> {
     let two = publish_two(&rt, &mut pen, first, second);
     let one = publish_one(&rt, &mut pen, third);
     eye.learn(pen.tell());
-    let (_eye, told) = look(alloc, eye);
-    let (_other, untold) = look(alloc, other);
+    let (_eye, told) = look(eye);
+    let (_other, untold) = look(other);
     let published = pen.published();
     pen.end(&rt);
     assert!(rt; two && one && published == 3);
@@ -171,11 +126,11 @@ fn what_is_pending_is_not_seen(rt: HostRuntime) -> Result<(), Fail> {
     let eye = eyes.pop().expect(&rt, "an eye");
     let two = publish_two(&rt, &mut pen, first, second);
     let one = publish_one(&rt, &mut pen, third);
-    let (eye, before) = look(alloc, eye);
+    let (eye, before) = look(eye);
     let appended = pen.append(Op::Close(scid())).is_ok();
-    let (eye, pending) = look(alloc, eye);
+    let (eye, pending) = look(eye);
     let published = pen.publish(&rt).is_ok();
-    let (_eye, after) = look(alloc, eye);
+    let (_eye, after) = look(eye);
     pen.end(&rt);
     assert!(rt; two && one && appended && published);
     assert_eq!(rt; (before, pending), (Some(AFTER_THREE), Some(AFTER_THREE)));
@@ -186,9 +141,7 @@ fn what_is_pending_is_not_seen(rt: HostRuntime) -> Result<(), Fail> {
     let closed = Shown {
         version: 4,
         map: none,
-        copy: none,
         edges: 0,
-        as_made: true,
     };
     assert_eq!(rt; after, Some(closed));
     Ok(())
@@ -199,9 +152,9 @@ fn eyes_see_nothing_once_the_pen_has_ended(rt: HostRuntime) -> Result<(), Fail> 
     let alloc = rt.alloc();
     let (pen, mut eyes) = board(&rt, alloc, 1, &Known::all())?;
     let eye = eyes.pop().expect(&rt, "an eye");
-    let (eye, before) = look(alloc, eye);
+    let (eye, before) = look(eye);
     pen.end(&rt);
-    let (_eye, after) = look(alloc, eye);
+    let (_eye, after) = look(eye);
     assert_eq!(rt; before.expect(&rt, "a guard").version, 0);
     assert_eq!(rt; after, None);
     Ok(())
@@ -239,12 +192,12 @@ fn edges_under<R: Wait + RandomSource + Abort>(
     alloc: Global,
     known: &Known,
 ) -> Result<usize, Fail> {
-    let (first, second, third) = (channel(alloc)?, update(alloc, 0)?, node(alloc, 11)?);
+    let (first, second, third) = (channel(alloc)?, update(alloc, 0)?, node(alloc, 11, &[1])?);
     let (mut pen, mut eyes) = board(rt, alloc, 1, known)?;
     let eye = eyes.pop().expect(rt, "an eye");
     let two = publish_two(rt, &mut pen, first, second);
     let one = publish_one(rt, &mut pen, third);
-    let (_eye, shown) = look(alloc, eye);
+    let (_eye, shown) = look(eye);
     pen.end(rt);
     assert!(rt; two && one);
     Ok(shown.expect(rt, "a guard").edges)

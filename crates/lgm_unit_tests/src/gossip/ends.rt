@@ -1,6 +1,6 @@
 //! Messages that end too early, or that have bytes behind.
 
-use crate::messages::words::{assert_fault, assert_written, bytes_of};
+use super::words::{assert_fault, assert_written, bytes_of};
 use lgm_gossip::{DecodeFault, decode};
 use lgm_wire::WireFault;
 use std::alloc::Global;

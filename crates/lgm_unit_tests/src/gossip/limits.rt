@@ -1,6 +1,6 @@
 //! The greatest messages, and those that would be greater.
 
-use crate::messages::words::{assert_fault, assert_written, bytes_of};
+use super::words::{assert_fault, assert_written, bytes_of};
 use lgm_gossip::{
     Bytes, ChainHash, DecodeFault, EncodeFault, IdsQuery, Message, NodeAnnounce, Point, RangeReply,
     Scid, Scids, decode, encode,

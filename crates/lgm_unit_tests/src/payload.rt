@@ -1,5 +1,7 @@
-use super::*;
+//! `lgm_payload`: payloads there and back, and their faults.
+
 use lgm_gossip::{Bytes, Point, Scid};
+use lgm_payload::{PayloadFault, Payment, build, read};
 use lgm_route::{Hop, Route};
 use lgm_wire::WireFault;
 use std::alloc::Global;

@@ -1,86 +1,17 @@
-//! Routes over made maps, whose amounts and ids were worked out by hand.
+//! `lgm_route`: routes over made maps, whose amounts and ids were worked out by hand.
 
-use super::*;
-use lgm_check::{ChannelRow, UpdateRow};
-use lgm_gossip::{Announce, Bytes, ChainHash, ChannelUpdate, Point, Scid};
+use crate::made::{FREE, Terms, channel, point, update};
+use lgm_gossip::Scid;
 use lgm_graph::{Known, View};
 use lgm_par::{Gate, Open};
-use lgm_store::{Map, Op, Shared};
+use lgm_route::{Hop, Request, Route, RouteFault, least, least_chunked};
+use lgm_store::Map;
 use std::alloc::{AllocError, Global};
 use std::process::Abort;
 use std::sync::atomic::{AtomicU64, Ordering};
 use std::test::Fail;
 use std::thread;
 use std::thread::Threads;
-
-/// The node of a number.
-fn point(last: u8) -> Point {
-    let mut bytes = [0; 33];
-    bytes[0] = 2;
-    bytes[32] = last;
-    Point(bytes)
-}
-
-/// What a direction asks for: base fee, millionths, delta, minimum and maximum.
-#[derive(Clone, Copy)]
-struct Terms {
-    base: u32,
-    millionths: u32,
-    delta: u16,
-    min: u64,
-    max: u64,
-}
-
-/// No fee, and any usual amount.
-const FREE: Terms = Terms {
-    base: 0,
-    millionths: 0,
-    delta: 40,
-    min: 1,
-    max: 50_000_000,
-};
-
-fn channel(alloc: Global, scid: Scid, from: u8, to: u8) -> Result<Op, AllocError> {
-    let message = Announce {
-        node_signature_1: [0; 64],
-        node_signature_2: [0; 64],
-        bitcoin_signature_1: [0; 64],
-        bitcoin_signature_2: [0; 64],
-        features: Bytes::from_slice(alloc, &[])?,
-        chain_hash: ChainHash([0; 32]),
-        short_channel_id: scid,
-        node_id_1: point(from),
-        node_id_2: point(to),
-        bitcoin_key_1: point(0),
-        bitcoin_key_2: point(0),
-        rest: Bytes::from_slice(alloc, &[])?,
-    };
-    let row = ChannelRow {
-        message,
-        sat: 2_100_000_000_000_000,
-        raw: Bytes::from_slice(alloc, &[])?,
-    };
-    Ok(Op::Channel(Shared::new(alloc, row)?))
-}
-
-fn update(alloc: Global, scid: Scid, terms: &Terms) -> Result<Op, AllocError> {
-    let message = ChannelUpdate {
-        signature: [0; 64],
-        chain_hash: ChainHash([0; 32]),
-        short_channel_id: scid,
-        timestamp: 1,
-        message_flags: 1,
-        channel_flags: 0,
-        cltv_expiry_delta: terms.delta,
-        htlc_minimum_msat: terms.min,
-        fee_base_msat: terms.base,
-        fee_proportional_millionths: terms.millionths,
-        htlc_maximum_msat: terms.max,
-        rest: Bytes::from_slice(alloc, &[])?,
-    };
-    let raw = Bytes::from_slice(alloc, &[])?;
-    Ok(Op::Update(Shared::new(alloc, UpdateRow { message, raw })?))
-}
 
 /// A channel of the map, and its direction from the first node to the second.
 fn join(
@@ -91,8 +22,8 @@ fn join(
     to: u8,
     terms: &Terms,
 ) -> Result<(), AllocError> {
-    map.absorb(&channel(alloc, scid, from, to)?)?;
-    map.absorb(&update(alloc, scid, terms)?)
+    map.absorb(&channel(alloc, scid, (from, to), 2_100_000_000_000_000, &[])?)?;
+    map.absorb(&update(alloc, scid, 0, terms)?)
 }
 
 /// That two answers are the same.
@@ -177,75 +108,6 @@ fn fee_of_the_second_channel(rt: HostRuntime) -> Result<(), Fail> {
     join(&mut map, alloc, Scid::from_u64(2), 1, 2, &second)?;
     let found = answer(&rt, alloc, &map, 2, 4_999_999, 700_009)?;
     assert_route(&rt, alloc, found, &[5_010_198, 700_029, 1, 2])?;
-    Ok(())
-}
-
-/// A minimum holds for the amount alone, not for what goes over the channel.
-#[test]
-fn minimum_at_the_amount(rt: HostRuntime) -> Result<(), Fail> {
-    let alloc = rt.alloc();
-    let second = Terms { base: 200, ..FREE };
-    let mut map = Map::new(alloc)?;
-    join(
-        &mut map,
-        alloc,
-        Scid::from_u64(1),
-        0,
-        1,
-        &Terms { min: 1000, ..FREE },
-    )?;
-    join(&mut map, alloc, Scid::from_u64(2), 1, 2, &second)?;
-    let found = answer(&rt, alloc, &map, 2, 1000, 700_000)?;
-    assert_route(&rt, alloc, found, &[1200, 700_040, 1, 2])?;
-    map.absorb(&Op::Close(Scid::from_u64(1)))?;
-    join(
-        &mut map,
-        alloc,
-        Scid::from_u64(1),
-        0,
-        1,
-        &Terms { min: 1001, ..FREE },
-    )?;
-    let none = answer(&rt, alloc, &map, 2, 1000, 700_000)?;
-    assert_eq!(rt; none.err(), Some(RouteFault::NoRoute));
-    Ok(())
-}
-
-/// Of routes that send the same that of fewer channels, and then that of the lesser id.
-#[test]
-fn ties(rt: HostRuntime) -> Result<(), Fail> {
-    let alloc = rt.alloc();
-    let mut map = Map::new(alloc)?;
-    join(&mut map, alloc, Scid::from_u64(1), 0, 1, &FREE)?;
-    join(&mut map, alloc, Scid::from_u64(2), 1, 2, &FREE)?;
-    join(&mut map, alloc, Scid::from_u64(9), 0, 2, &FREE)?;
-    let found = answer(&rt, alloc, &map, 2, 1000, 700_000)?;
-    assert_route(&rt, alloc, found, &[1000, 700_000, 9])?;
-    join(&mut map, alloc, Scid::from_u64(8), 0, 2, &FREE)?;
-    let found = answer(&rt, alloc, &map, 2, 1000, 700_000)?;
-    assert_route(&rt, alloc, found, &[1000, 700_000, 8])?;
-    Ok(())
-}
-
-/// 20 channels are a route, 21 are none.
-#[test]
-fn twenty_channels(rt: HostRuntime) -> Result<(), Fail> {
-    let alloc = rt.alloc();
-    let mut map = Map::new(alloc)?;
-    for node in 0..21 {
-        join(
-            &mut map,
-            alloc,
-            Scid::from_u64(u64::from(node)),
-            node,
-            node + 1,
-            &FREE,
-        )?;
-    }
-    let found = answer(&rt, alloc, &map, 20, 1000, 700_000)?;
-    assert_eq!(rt; found.as_ref().map(Route::expiry), Ok(700_760));
-    let none = answer(&rt, alloc, &map, 21, 1000, 700_000)?;
-    assert_eq!(rt; none.err(), Some(RouteFault::NoRoute));
     Ok(())
 }
 

@@ -1,15 +1,12 @@
+//! `lgm_script`: lines and blocks over any device, and payments.
+
 ghost use Rattle.std.specs.Prelude.{◌≤◌, IfOk};
 
-use crate::device::{Failed, Sink, Source};
-use crate::grouping::next_group;
-use crate::line_reader::{LineReader, MAX_LINE};
-use crate::memory::{MemorySink, MemorySource};
-use crate::output::{BLOCK, Output};
-use crate::payment::Payment;
-use crate::reading::{LineFault, next_line};
-use crate::request::{Request, parse};
-use crate::std_streams::{FromRead, ToWrite};
 use lgm_gossip::{Point, Scid};
+use lgm_script::{
+    BLOCK, Failed, FromRead, LineFault, LineReader, MAX_LINE, MemorySink, MemorySource, Output,
+    Payment, Request, Sink, Source, ToWrite, next_group, next_line, parse,
+};
 use std::alloc::Global;
 use std::io::{self, ErrorKind, Read, Write};
 use std::test::Fail;

@@ -1,7 +1,7 @@
-//! Texts from outside, and the errors of `hex`.
+//! `lgm_hex`: texts from outside, and the errors of `hex`.
 
-use crate::{append, decode, decode_array, decode_into, decode_to_slice, encode_to_slice};
 use hex::FromHexError;
+use lgm_hex::{append, decode, decode_array, decode_into, decode_to_slice, encode_to_slice};
 use std::test::Fail;
 
 const BYTES: [u8; 16] = *b"\x00\x01\x09\x0a\x0f\x10\x1f\x7f\x80\x99\x9a\xa0\xef\xf0\xfe\xff";

@@ -1,9 +1,9 @@
 //! Two channels that come while routes over them are asked for. The expected route was worked out by hand.
 
-use super::*;
 use lgm_check::{Evidence, Funding, Refusal, Sig};
 use lgm_gossip::{Announce, Bytes, ChainHash, ChannelUpdate, Message, Point, Scid, encode};
 use lgm_graph::Known;
+use lgm_live::{Batches, LiveAnswer, LiveReport, RequestLists, live};
 use lgm_par::{Gate, Open};
 use lgm_route::{Request, Route, RouteFault};
 use lgm_script::Item;

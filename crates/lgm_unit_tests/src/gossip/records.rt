@@ -1,6 +1,6 @@
 //! What records behind the fields are read as, and what is written of them.
 
-use crate::messages::words::{assert_written, bytes_of};
+use super::words::{assert_written, bytes_of};
 use lgm_gossip::{ChainHash, Message, RangeQuery, decode};
 use std::alloc::Global;
 use std::process::Abort;

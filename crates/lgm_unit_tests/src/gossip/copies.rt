@@ -1,6 +1,6 @@
 //! Copies of the messages that are kept.
 
-use crate::messages::words::bytes_of;
+use super::words::bytes_of;
 use lgm_gossip::{Bytes, Message, decode, encode};
 use std::alloc::Global;
 use std::process::Abort;

@@ -1,6 +1,6 @@
 //! Length fields that say one less or one more than the sender meant.
 
-use crate::messages::words::{assert_fault, assert_written};
+use super::words::{assert_fault, assert_written};
 use lgm_gossip::DecodeFault;
 use lgm_gossip::DecodeFault::{Cut, Flags, Ids, Tlv, TlvKind};
 use lgm_wire::WireFault;

@@ -1,6 +1,6 @@
 //! Addresses of nodes, and feature bits.
 
-use crate::messages::words::bytes_of;
+use super::words::bytes_of;
 use lgm_gossip::{Address, addresses, has_even_bit};
 use std::alloc::Global;
 use std::test::Fail;

@@ -1,6 +1,6 @@
 //! The examples of BOLT 7 for queries and replies, on the chain for regression tests.
 
-use crate::messages::words::{assert_fault, assert_written, bytes_of};
+use super::words::{assert_fault, assert_written, bytes_of};
 use lgm_gossip::{DecodeFault, Message, RangeReply, Scid, Timestamps, decode};
 use std::alloc::Global;
 use std::test::Fail;

@@ -1,4 +1,4 @@
-//! Messages: each type from bytes and to bytes, and each fault in its order.
+//! `lgm_gossip`: each type of message from bytes and to bytes, and each fault in its order.
 
 mod addresses;
 mod copies;

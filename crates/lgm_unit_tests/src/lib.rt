@@ -1,0 +1,23 @@
+//! Tests of the libraries by their own calls: a module for each library.
+#![tactic(auto)]
+
+#[cfg(test)]
+mod gossip;
+#[cfg(test)]
+mod graph;
+#[cfg(test)]
+mod hex;
+#[cfg(test)]
+mod made;
+#[cfg(test)]
+mod par;
+#[cfg(test)]
+mod payload;
+#[cfg(test)]
+mod publish;
+#[cfg(test)]
+mod route;
+#[cfg(test)]
+mod script;
+#[cfg(test)]
+mod wire;
