@@ -1,9 +1,9 @@
 -- What an accepted message is, a line for each type: this is what `precheck` promises.
 use Rattle.std.specs.Prelude.{◌≡◌, ℕ, ◌/◌, ◌%◌, ◌≤◌, List, true, IsTrue}
 use Rattle.lgm_gossip.specs.declared.message.Message.TheVariants as messages
-use Rattle.lgm_gossip.specs.declared.chain_hash.ChainHash.{ChainHash}
-use Rattle.lgm_gossip.specs.declared.point.Point.{Point}
-use Rattle.lgm_gossip.specs.Point.{is_lawful}
+use Rattle.lgm_wire.specs.declared.chain_hash.ChainHash.{ChainHash}
+use Rattle.lgm_wire.specs.declared.point.Point.{Point}
+use Rattle.lgm_wire.specs.Point.{is_lawful}
 use Rattle.lgm_gossip.specs.Message.{Wire}
 use Rattle.lgm_check.specs.declared.evidence.Evidence.{Evidence}
 use Rattle.lgm_check.specs.declared.evidence.Sig.TheVariants as sigs

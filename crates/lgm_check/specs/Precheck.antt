@@ -9,9 +9,9 @@ use Rattle.lgm_gossip.specs.declared.message.Message.TheVariants as messages
 use Rattle.lgm_gossip.specs.declared.announce.Announce.{Announce}
 use Rattle.lgm_gossip.specs.declared.channel_update.ChannelUpdate.{ChannelUpdate}
 use Rattle.lgm_gossip.specs.declared.node_announce.NodeAnnounce.{NodeAnnounce}
-use Rattle.lgm_gossip.specs.declared.point.Point.{Point}
-use Rattle.lgm_gossip.specs.declared.chain_hash.ChainHash.{ChainHash}
-use Rattle.lgm_gossip.specs.Point.{is_lawful}
+use Rattle.lgm_wire.specs.declared.point.Point.{Point}
+use Rattle.lgm_wire.specs.declared.chain_hash.ChainHash.{ChainHash}
+use Rattle.lgm_wire.specs.Point.{is_lawful}
 use Rattle.lgm_gossip.specs.MessageReading.{message_at}
 use Rattle.lgm_check.specs.declared.evidence.Evidence.{Evidence}
 use Rattle.lgm_check.specs.declared.evidence.Sig.{Sig}

@@ -3,7 +3,7 @@
 ghost use Rattle.std.specs.Prelude.{◌≡◌, ℕ, ◌<◌, ◌⊎◌, List, Ok, IfOk, IsOk, MatchResult, slice_index};
 ghost use Rattle.lgm_wire.specs.Reading.{Sees, Gives};
 ghost use Rattle.lgm_gossip.specs.Memory.{GivesIf, TakesMemory};
-ghost use Rattle.lgm_gossip.specs.declared.chain_hash.ChainHash.{ChainHash};
+ghost use Rattle.lgm_wire.specs.declared.chain_hash.ChainHash.{ChainHash};
 ghost use Rattle.lgm_check.specs.declared.evidence.Evidence.{Evidence};
 ghost use Rattle.lgm_check.specs.declared.row.Checked.{Checked};
 ghost use Rattle.lgm_check.specs.Raw.{bytes_of, IsLent};

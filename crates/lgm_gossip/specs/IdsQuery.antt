@@ -1,6 +1,6 @@
 -- query_short_channel_ids: its fields.
 use Rattle.std.specs.Prelude.{ℕ, List, length, Option}
-use Rattle.lgm_gossip.specs.declared.chain_hash.ChainHash.{ChainHash}
+use Rattle.lgm_wire.specs.declared.chain_hash.ChainHash.{ChainHash}
 use Rattle.lgm_gossip.specs.Fields.{Field, ◌⌢◌, fixed}
 use Rattle.lgm_gossip.specs.EncodedIds.{encoded_ids}
 use Rattle.lgm_gossip.specs.Optional.{optional}

@@ -1,5 +1,4 @@
 pub use Rattle.lgm_wire.specs.Reading
-pub mod Point
 pub mod Streams
 pub mod Fields
 pub mod Optional

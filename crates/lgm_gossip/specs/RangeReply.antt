@@ -1,7 +1,7 @@
 -- reply_channel_range: its fields.
 use Rattle.std.specs.Prelude.{ℕ, List, length, Option}
 use Rattle.std.specs.Int.{w8, w32}
-use Rattle.lgm_gossip.specs.declared.chain_hash.ChainHash.{ChainHash}
+use Rattle.lgm_wire.specs.declared.chain_hash.ChainHash.{ChainHash}
 use Rattle.lgm_gossip.specs.declared.timestamps.Timestamps.{Timestamps}
 use Rattle.lgm_gossip.specs.Fields.{Field, ◌⌢◌, fixed, number}
 use Rattle.lgm_gossip.specs.EncodedIds.{encoded_ids}

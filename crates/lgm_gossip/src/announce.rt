@@ -4,15 +4,13 @@ ghost use Rattle.std.specs.Prelude.{◌≡◌, IfOk};
 ghost use Rattle.lgm_gossip.specs.Memory.{GivesIf, Keeps, announce_kept};
 
 use crate::bytes::Bytes;
-use crate::chain_hash::ChainHash;
 use crate::encode_fault::EncodeFault;
 use crate::fault::DecodeFault;
 use crate::fields::{counted, fixed, number64};
 use crate::joining::{join, whole};
 use crate::measuring::measure;
 use crate::part::Part;
-use crate::point::Point;
-use crate::scid::Scid;
+use lgm_wire::{ChainHash, Point, Scid};
 use std::alloc::{AllocError, Global};
 
 /// A `channel_announcement`, type 256: two nodes say, and prove by four signatures, that an output of the chain is

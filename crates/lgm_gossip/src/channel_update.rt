@@ -4,13 +4,12 @@ ghost use Rattle.std.specs.Prelude.{◌≡◌, IfOk};
 ghost use Rattle.lgm_gossip.specs.Memory.{GivesIf, Keeps, channel_update_kept};
 
 use crate::bytes::Bytes;
-use crate::chain_hash::ChainHash;
 use crate::encode_fault::EncodeFault;
 use crate::fault::DecodeFault;
 use crate::fields::{fixed, number8, number16, number32, number64};
 use crate::joining::{join, whole};
 use crate::part::Part;
-use crate::scid::Scid;
+use lgm_wire::{ChainHash, Scid};
 use std::alloc::{AllocError, Global};
 
 /// A `channel_update`, type 258: one end of a channel tells on which terms it forwards to the other end (BOLT 7, "The

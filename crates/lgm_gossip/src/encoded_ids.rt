@@ -8,8 +8,12 @@ ghost use Rattle.lgm_gossip.specs.Memory.{GivesIf};
 use crate::cells::{Cell, cells};
 use crate::fault::DecodeFault;
 use crate::fields::counted;
-use crate::scid::{Scid, Scids};
+use crate::items::Items;
+use lgm_wire::Scid;
 use std::alloc::Global;
+
+/// A list of channels.
+pub type Scids = Items<Scid>;
 
 /// A number, its highest byte first.
 impl Cell for Scid {

@@ -3,12 +3,12 @@
 ghost use Rattle.lgm_wire.specs.Reading.{Sees};
 
 use crate::bytes::Bytes;
-use crate::chain_hash::ChainHash;
 use crate::encode_fault::EncodeFault;
 use crate::fault::DecodeFault;
 use crate::fields::{fixed, number32};
 use crate::joining::{join, whole};
 use crate::part::Part;
+use lgm_wire::ChainHash;
 use std::alloc::Global;
 
 /// A `gossip_timestamp_filter`, type 265: the sender wants gossip with timestamps of this range (BOLT 7, "The

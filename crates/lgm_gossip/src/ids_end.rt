@@ -3,12 +3,12 @@
 ghost use Rattle.lgm_wire.specs.Reading.{Sees};
 
 use crate::bytes::Bytes;
-use crate::chain_hash::ChainHash;
 use crate::encode_fault::EncodeFault;
 use crate::fault::DecodeFault;
 use crate::fields::{fixed, number8};
 use crate::joining::{join, whole};
 use crate::part::Part;
+use lgm_wire::ChainHash;
 use std::alloc::Global;
 
 /// A `reply_short_channel_ids_end`, type 262: all that was asked for by ids has been sent (BOLT 7, "The

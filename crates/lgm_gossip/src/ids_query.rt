@@ -4,9 +4,8 @@ ghost use Rattle.std.specs.Prelude.{◌<◌, length};
 ghost use Rattle.lgm_gossip.specs.Memory.{GivesIf};
 
 use crate::bytes::Bytes;
-use crate::chain_hash::ChainHash;
 use crate::encode_fault::EncodeFault;
-use crate::encoded_ids::encoded_ids;
+use crate::encoded_ids::{Scids, encoded_ids};
 use crate::fault::DecodeFault;
 use crate::fields::fixed;
 use crate::joining::{join, whole};
@@ -14,7 +13,7 @@ use crate::measuring::measure;
 use crate::optional::optional;
 use crate::part::Part;
 use crate::query_flags::QueryFlags;
-use crate::scid::Scids;
+use lgm_wire::ChainHash;
 use std::alloc::Global;
 use std::marker::Model;
 

@@ -12,9 +12,8 @@ use crate::bytes::Bytes;
 use crate::encode_fault::EncodeFault;
 use crate::measuring::measure;
 use crate::part::Part;
-use crate::scid::Scid;
 use crate::timestamps::Timestamps;
-use lgm_wire::write_bigsize;
+use lgm_wire::{Scid, write_bigsize};
 use std::alloc::{AllocError, Global};
 
 /// So many bytes.

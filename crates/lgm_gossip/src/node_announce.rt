@@ -10,7 +10,7 @@ use crate::fields::{counted, fixed, number32};
 use crate::joining::{join, whole};
 use crate::measuring::measure;
 use crate::part::Part;
-use crate::point::Point;
+use lgm_wire::Point;
 use std::alloc::{AllocError, Global};
 
 /// A `node_announcement`, type 257: a node tells its name, its features and where it can be reached (BOLT 7, "The

@@ -1,7 +1,7 @@
 //! The parts that the bytes of a message are joined from.
 
-use crate::scid::Scid;
 use crate::timestamps::Timestamps;
+use lgm_wire::Scid;
 
 /// A part of a message's bytes, by what it says.
 #[derive(Clone, Copy)]

@@ -5,7 +5,6 @@ ghost use Rattle.lgm_gossip.specs.Memory.{GivesIf};
 ghost use Rattle.lgm_gossip.specs.RangeQueryReading.{options_at};
 
 use crate::bytes::Bytes;
-use crate::chain_hash::ChainHash;
 use crate::encode_fault::EncodeFault;
 use crate::fault::DecodeFault;
 use crate::fields::{fixed, number32};
@@ -13,7 +12,7 @@ use crate::joining::{join, whole};
 use crate::measuring::bigsize_len;
 use crate::optional::{RecordValue, optional};
 use crate::part::Part;
-use lgm_wire::read_bigsize;
+use lgm_wire::{ChainHash, read_bigsize};
 use std::alloc::Global;
 
 /// A `query_channel_range`, type 263: the sender asks for the ids of the channels whose funding lies in a range of

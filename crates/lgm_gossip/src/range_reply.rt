@@ -4,17 +4,16 @@ ghost use Rattle.std.specs.Prelude.{◌<◌, length};
 ghost use Rattle.lgm_gossip.specs.Memory.{GivesIf};
 
 use crate::bytes::Bytes;
-use crate::chain_hash::ChainHash;
 use crate::encode_fault::EncodeFault;
-use crate::encoded_ids::encoded_ids;
+use crate::encoded_ids::{Scids, encoded_ids};
 use crate::fault::DecodeFault;
 use crate::fields::{fixed, number8, number32};
 use crate::joining::{join, whole};
 use crate::measuring::measure;
 use crate::optional::optional;
 use crate::part::Part;
-use crate::scid::Scids;
 use crate::timestamp_list::TimestampList;
+use lgm_wire::ChainHash;
 use std::alloc::Global;
 use std::marker::Model;
 

@@ -4,7 +4,7 @@ use Rattle.std.proofs.lemmas.List.{length-map}
 use Rattle.std.specs.Bool.{beq}
 use Rattle.std.specs.List.{IsDistinct, find}
 use Rattle.std.specs.Option.{option_and_then}
-use Rattle.lgm_gossip.specs.declared.point.Point.{Point}
+use Rattle.lgm_wire.specs.declared.point.Point.{Point}
 use Rattle.lgm_check.specs.declared.row.ChannelRow.{ChannelRow}
 use Rattle.lgm_check.specs.declared.row.UpdateRow.{UpdateRow}
 use Rattle.lgm_store.specs.Rows.{Rows, is_point, is_second, update_of}

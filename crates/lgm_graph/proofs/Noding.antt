@@ -1,7 +1,7 @@
 -- How a node's announcement changes the view of a map.
 use Rattle.std.proofs.Common.{◌≡◌, ℕ, Bool, true, false, List, map, refl, sym, ap, ◌∙◌, Option}
 use Rattle.std.specs.Prelude.{if◌then◌else◌}
-use Rattle.lgm_gossip.specs.declared.point.Point.{Point}
+use Rattle.lgm_wire.specs.declared.point.Point.{Point}
 use Rattle.lgm_check.specs.declared.row.NodeRow.{NodeRow}
 use Rattle.lgm_store.specs.Rows.{Rows, is_point, ends_channel}
 use Rattle.lgm_store.specs.History.{with_node}

@@ -4,7 +4,7 @@ use Rattle.std.proofs.Common.{◌≡◌, ℕ, ◌+◌, suc, get_or, ◌<◌, ◌
 use Rattle.std.specs.List.{AllByRecursion, find, position}
 use Rattle.std.specs.Result.{OnErr}
 use Rattle.std.proofs.lemmas.Bool.Decides.{nat_tests}
-use Rattle.lgm_gossip.specs.declared.point.Point.{Point}
+use Rattle.lgm_wire.specs.declared.point.Point.{Point}
 use Rattle.lgm_check.specs.declared.row.ChannelRow.{ChannelRow}
 use Rattle.lgm_store.specs.Rows.{channel_of, is_point}
 use Rattle.lgm_graph.specs.Graph.{number_of, IsNumbered}

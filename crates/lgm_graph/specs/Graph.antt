@@ -1,7 +1,7 @@
 -- What a view shows: numbered points, and the links that join them.
 use Rattle.std.specs.Prelude.{◌≡◌, ℕ, ◌<◌, Bool, false, List, [], map, filter, flat_map, zip, length, slice_index_or, Contains, Option, if◌then◌else◌}
 use Rattle.std.specs.List.{AllByRecursion, IsDistinct, position_or_len}
-use Rattle.lgm_gossip.specs.declared.point.Point.{Point}
+use Rattle.lgm_wire.specs.declared.point.Point.{Point}
 use Rattle.lgm_store.specs.Rows.{Rows, is_point}
 use Rattle.lgm_graph.specs.declared.edge.Edge.{Edge}
 use Rattle.lgm_graph.specs.declared.link.Link.{Link}

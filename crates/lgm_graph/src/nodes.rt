@@ -3,7 +3,7 @@
 ghost use Rattle.std.specs.Prelude.{◌≡◌, ◌++◌, ◌∷◌, [], ℕ, ◌+◌, ◌<◌, ◌≤◌, List, map, filter, length, slice_set, slice_index_or, OnOk, IfOk, Option, Bool, false, if◌then◌else◌};
 ghost use Rattle.std.specs.List.{HoldsAt, list_any};
 ghost use Rattle.indexmap.specs.IndexSet.{spare};
-ghost use Rattle.lgm_gossip.specs.declared.point.Point.{Point as APoint};
+ghost use Rattle.lgm_wire.specs.declared.point.Point.{Point as APoint};
 ghost use Rattle.lgm_graph.specs.declared.edge.Edge.{Edge as AnEdge};
 ghost use Rattle.lgm_graph.specs.declared.link.Link.{Link as ALink};
 ghost use Rattle.lgm_graph.specs.Walk.{KeepsNumbers};

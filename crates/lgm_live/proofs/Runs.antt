@@ -1,7 +1,7 @@
 -- A whole script, its report and their text.
 use Rattle.std.proofs.Common.{◌≡◌, ℕ, ◌<◌, List, length, map, Option, Some, None, sym, subst, ◌∙◌}
 use Rattle.std.specs.Prelude.{IfSome}
-use Rattle.lgm_gossip.specs.declared.chain_hash.ChainHash.{ChainHash}
+use Rattle.lgm_wire.specs.declared.chain_hash.ChainHash.{ChainHash}
 use Rattle.lgm_route.specs.declared.request.Request.{Request as RouteRequest}
 use Rattle.lgm_script.specs.declared.item.Item.{Item}
 use Rattle.lgm_script.specs.declared.request.Request.{Request}

@@ -1,7 +1,7 @@
 -- What a writer has done with items.
 use Rattle.std.specs.Prelude.{◌≡◌, List, map}
 use Rattle.std.specs.Result.{result_err}
-use Rattle.lgm_gossip.specs.declared.chain_hash.ChainHash.{ChainHash}
+use Rattle.lgm_wire.specs.declared.chain_hash.ChainHash.{ChainHash}
 use Rattle.lgm_script.specs.declared.item.Item.{Item}
 use Rattle.lgm_store.specs.History.{fold}
 use Rattle.lgm_server.specs.Outcomes.{outcomes, history_of}

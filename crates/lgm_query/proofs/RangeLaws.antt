@@ -5,7 +5,7 @@ use Rattle.std.specs.Cmp.Lexicographic.{pointwise}
 use Rattle.std.specs.Option.{ForSome}
 use Rattle.std.proofs.lemmas.List.{take-map, drop-map}
 use Rattle.std.proofs.lemmas.List.Elements.{filter_passes, All-nil}
-use Rattle.lgm_gossip.specs.declared.chain_hash.ChainHash.{ChainHash}
+use Rattle.lgm_wire.specs.declared.chain_hash.ChainHash.{ChainHash}
 use Rattle.lgm_gossip.specs.declared.range_query.RangeQuery.{RangeQuery}
 use Rattle.lgm_gossip.specs.declared.timestamps.Timestamps.{Timestamps}
 use Rattle.lgm_gossip.specs.RangeReply.{Reply}

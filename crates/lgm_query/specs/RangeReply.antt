@@ -4,7 +4,7 @@ use Rattle.std.specs.Cmp.Lexicographic.{pointwise}
 use Rattle.std.specs.Int.{bit_at, div_ceil}
 use Rattle.std.specs.List.{range_with_len}
 use Rattle.std.specs.Option.{option_map_or}
-use Rattle.lgm_gossip.specs.declared.chain_hash.ChainHash.{ChainHash}
+use Rattle.lgm_wire.specs.declared.chain_hash.ChainHash.{ChainHash}
 use Rattle.lgm_gossip.specs.declared.message.Message.TheVariants as messages
 use Rattle.lgm_gossip.specs.declared.range_query.RangeQuery.{RangeQuery}
 use Rattle.lgm_gossip.specs.declared.timestamps.Timestamps.{Timestamps}

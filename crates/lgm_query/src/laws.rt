@@ -2,7 +2,7 @@
 
 ghost use Rattle.std.specs.Prelude.{◌≡◌, ℕ, List, Ok};
 ghost use Rattle.std.specs.List.{AllByRecursion};
-ghost use Rattle.lgm_gossip.specs.declared.chain_hash.ChainHash.{ChainHash};
+ghost use Rattle.lgm_wire.specs.declared.chain_hash.ChainHash.{ChainHash};
 ghost use Rattle.lgm_gossip.specs.declared.range_query.RangeQuery.{RangeQuery};
 ghost use Rattle.lgm_check.specs.declared.evidence.Evidence.{Evidence};
 ghost use Rattle.lgm_check.specs.declared.row.Checked.{Checked};

@@ -1,7 +1,7 @@
 -- What the search gives: the least walk over numbered links, which sends what fits 64 bits.
 use Rattle.std.specs.Prelude.{◌≡◌, ℕ, ◌<◌, ◌^◌, List, Option, Some, None, map, length, slice_index_or}
 use Rattle.std.specs.List.{AllByRecursion, position}
-use Rattle.lgm_gossip.specs.declared.point.Point.{Point}
+use Rattle.lgm_wire.specs.declared.point.Point.{Point}
 use Rattle.lgm_graph.specs.declared.edge.Edge.{Edge}
 use Rattle.lgm_graph.specs.declared.link.Link.{Link}
 use Rattle.lgm_graph.specs.Graph.{Graph, edge_at, edges, no_point}

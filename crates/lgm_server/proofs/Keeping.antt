@@ -2,7 +2,7 @@
 use Rattle.std.proofs.Common.{◌≡◌, Result, Ok, Err, inl, inr, refl, sym, ap, ◌∙◌}
 use Rattle.lgm_wire.specs.Reading.{◌>>=◌, Gives}
 use Rattle.lgm_wire.proofs.ReadingLaws.{bind_ok}
-use Rattle.lgm_gossip.specs.declared.chain_hash.ChainHash.{ChainHash}
+use Rattle.lgm_wire.specs.declared.chain_hash.ChainHash.{ChainHash}
 use Rattle.lgm_check.specs.declared.row.Checked.{Checked}
 use Rattle.lgm_check.specs.declared.refusal.Refusal.{Refusal}
 use Rattle.lgm_check.specs.declared.refusal.Refusal.TheVariants as refusals

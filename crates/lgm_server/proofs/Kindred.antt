@@ -4,7 +4,7 @@ use Rattle.std.specs.Prelude.{map, IfSome, OnOk, IfErr}
 use Rattle.std.proofs.lemmas.List.{append-nil}
 use Rattle.std.specs.List.{AllByRecursion}
 use Rattle.std.specs.Result.{result_err}
-use Rattle.lgm_gossip.specs.declared.chain_hash.ChainHash.{ChainHash}
+use Rattle.lgm_wire.specs.declared.chain_hash.ChainHash.{ChainHash}
 use Rattle.lgm_script.specs.declared.grouping.Kind.{Kind}
 use Rattle.lgm_script.specs.declared.grouping.Kind.TheVariants as kinds
 use Rattle.lgm_script.specs.declared.request.Request.{Request}

@@ -3,7 +3,7 @@ use Rattle.std.specs.Prelude.{List, [], ◌∷◌, ◌++◌, Result, Ok, Err}
 use Rattle.std.specs.List.{filter_map}
 use Rattle.std.specs.Result.{result_ok}
 use Rattle.lgm_wire.specs.Reading.{◌>>=◌}
-use Rattle.lgm_gossip.specs.declared.chain_hash.ChainHash.{ChainHash}
+use Rattle.lgm_wire.specs.declared.chain_hash.ChainHash.{ChainHash}
 use Rattle.lgm_check.specs.declared.refusal.Refusal.{Refusal}
 use Rattle.lgm_check.specs.Precheck.{checked_of}
 use Rattle.lgm_store.specs.declared.op.Op.{Op}

@@ -1,7 +1,7 @@
 -- How a script goes on by a group of lines.
 use Rattle.std.specs.Prelude.{◌≡◌, ℕ, ◌<◌, ◌≤◌, List, length, map, drop, Option}
 use Rattle.std.specs.List.{AllByRecursion}
-use Rattle.lgm_gossip.specs.declared.chain_hash.ChainHash.{ChainHash}
+use Rattle.lgm_wire.specs.declared.chain_hash.ChainHash.{ChainHash}
 use Rattle.lgm_script.specs.Lines.{IsFirstLine}
 use Rattle.lgm_script.specs.Groups.{AreFirstLines}
 use Rattle.lgm_script.specs.Request.{request_of}

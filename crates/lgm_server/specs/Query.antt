@@ -1,6 +1,6 @@
 -- What a query is answered with.
 use Rattle.std.specs.Prelude.{ℕ, List, Result, Ok, Err}
-use Rattle.lgm_gossip.specs.declared.chain_hash.ChainHash.{ChainHash}
+use Rattle.lgm_wire.specs.declared.chain_hash.ChainHash.{ChainHash}
 use Rattle.lgm_gossip.specs.declared.message.Message.{Message}
 use Rattle.lgm_gossip.specs.declared.message.Message.TheVariants as messages
 use Rattle.lgm_gossip.specs.declared.fault.DecodeFault.{DecodeFault}

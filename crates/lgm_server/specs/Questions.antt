@@ -1,7 +1,7 @@
 -- Questions: they are answered on the committed rows, and leave all but the filters of peers.
 use Rattle.std.specs.Prelude.{◌≡◌, ℕ, List, map, Option, Ok, codes}
 use Rattle.std.specs.Borrow.{Bor}
-use Rattle.lgm_gossip.specs.declared.chain_hash.ChainHash.{ChainHash}
+use Rattle.lgm_wire.specs.declared.chain_hash.ChainHash.{ChainHash}
 use Rattle.lgm_store.specs.Rows.{Rows}
 use Rattle.lgm_script.specs.declared.request.Request.{Request}
 use Rattle.lgm_script.specs.declared.request.Request.TheVariants as requests

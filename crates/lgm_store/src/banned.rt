@@ -2,7 +2,7 @@
 
 ghost use Rattle.std.specs.Prelude.{◌≡◌, [], List, IfOk};
 ghost use Rattle.std.specs.List.Sorted.{IsStrictlySortedBy};
-ghost use Rattle.lgm_gossip.specs.declared.point.Point.{Point};
+ghost use Rattle.lgm_wire.specs.declared.point.Point.{Point};
 ghost use Rattle.lgm_store.specs.Rows.{by_point, is_banned, ends_banned};
 ghost use Rattle.lgm_store.specs.History.{with_banned};
 
@@ -22,7 +22,7 @@ pub(crate) struct Banned {
 impl Model for Banned {
     ghost use Rattle.std.specs.Prelude.{List};
     ghost use Rattle.std.specs.List.Sorted.{IsStrictlySortedBy};
-    ghost use Rattle.lgm_gossip.specs.declared.point.Point.{Point};
+    ghost use Rattle.lgm_wire.specs.declared.point.Point.{Point};
     ghost use Rattle.lgm_store.specs.Rows.{by_point};
 
     ghost Value = { List Point };

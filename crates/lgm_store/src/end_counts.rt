@@ -1,7 +1,7 @@
 //! The count of channels for each point.
 
 ghost use Rattle.std.specs.Prelude.{◌≡◌, ℕ, ◌+◌, ◌-◌, ◌<◌, ◌^◌, [], is_some, IfOk, OnOk, OnErr, if◌then◌else◌, ◌||◌};
-ghost use Rattle.lgm_gossip.specs.declared.point.Point.{Point};
+ghost use Rattle.lgm_wire.specs.declared.point.Point.{Point};
 ghost use Rattle.lgm_store.specs.Rows.{is_point};
 ghost use Rattle.lgm_store.specs.Ends.{entry_of, number_at, Sets, Counts};
 
@@ -19,7 +19,7 @@ pub(crate) struct EndCounts {
 
 impl Model for EndCounts {
     ghost use Rattle.std.specs.Prelude.{ℕ, List};
-    ghost use Rattle.lgm_gossip.specs.declared.point.Point.{Point};
+    ghost use Rattle.lgm_wire.specs.declared.point.Point.{Point};
 
     ghost Value = { List (Point × ℕ) };
 

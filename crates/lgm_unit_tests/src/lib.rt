@@ -6,7 +6,7 @@ mod gossip;
 #[cfg(test)]
 mod graph;
 #[cfg(test)]
-mod hex;
+mod hexadecimal;
 #[cfg(test)]
 mod made;
 #[cfg(test)]

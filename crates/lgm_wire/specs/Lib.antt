@@ -6,3 +6,4 @@ pub mod TruncatedIntegerReading
 pub mod Tlv
 pub mod TlvView
 pub mod TlvReading
+pub mod Point

@@ -1,5 +1,5 @@
 use Rattle.std.proofs.Common.{◌∙◌, ap}
-use Rattle.lgm_gossip.specs.declared.point.Point.{Point}
+use Rattle.lgm_wire.specs.declared.point.Point.{Point}
 use Rattle.std.proofs.Common.{List}
 use Rattle.lgm_store.specs.Rows.{put, by_point}
 use Rattle.lgm_store.specs.History.{with_banned}

@@ -1,5 +1,5 @@
 use Rattle.std.proofs.Common.{ℕ, ◌-◌, List, sym, subst}
-use Rattle.lgm_gossip.specs.declared.point.Point.{Point}
+use Rattle.lgm_wire.specs.declared.point.Point.{Point}
 use Rattle.std.proofs.lemmas.Result.{on_ok_weaker, on_err_weaker}
 use Rattle.lgm_store.specs.Ends.{number_at, Sets}
 use Rattle.lgm_store.proofs.Counting.{Counts-add_same, Counts-add, Counts-undo, number_at-apart}

@@ -2,7 +2,6 @@
 
 ghost use Rattle.std.specs.Prelude.{◌≡◌, ℕ, ◌+◌, ◌*◌, ◌/◌, ◌%◌, ◌^◌, ◌<◌};
 
-use crate::items::Items;
 use std::marker::Model;
 
 /// A `short_channel_id`: the block, the transaction's index in it and the output of a channel's funding (BOLT 7,
@@ -12,9 +11,6 @@ use std::marker::Model;
 pub struct Scid {
     number: u64,
 }
-
-/// A list of channels.
-pub type Scids = Items<Scid>;
 
 impl Model for Scid {
     ghost Value = { ℕ };

@@ -3,7 +3,7 @@
 ghost use Rattle.std.specs.Prelude.{◌≡◌, [], ◌∷◌};
 ghost use Rattle.std.specs.Cmp.Lexicographic.{bytes_decides};
 ghost use Rattle.std.proofs.Common.{ap};
-ghost use Rattle.lgm_gossip.specs.Point.{is_lawful};
+ghost use Rattle.lgm_wire.specs.Point.{is_lawful};
 
 use std::hash::{Hash, Hasher};
 

@@ -1,6 +1,6 @@
 -- Points of the curve.
 use Rattle.std.specs.Prelude.{Bool, ◌==◌, ◌||◌, slice_index}
-use Rattle.lgm_gossip.specs.declared.point.Point.{Point}
+use Rattle.lgm_wire.specs.declared.point.Point.{Point}
 
 -- the first byte is 2 or 3
 abbrev pub is_lawful : Point → Bool
