@@ -7,13 +7,13 @@ use Rattle.std.specs.Option.{option_and_then}
 use Rattle.lgm_wire.specs.declared.point.Point.{Point}
 use Rattle.lgm_check.specs.declared.row.ChannelRow.{ChannelRow}
 use Rattle.lgm_check.specs.declared.row.UpdateRow.{UpdateRow}
-use Rattle.lgm_store.specs.Rows.{Rows, is_point, is_second, update_of}
+use Rattle.lgm_store.specs.Rows.{is_point, is_second, update_of}
 use Rattle.lgm_graph.specs.declared.edge.Edge.{Edge}
 use Rattle.lgm_graph.specs.declared.link.Link.{Link}
 use Rattle.lgm_graph.specs.declared.nodes.Nodes.{Nodes}
-use Rattle.lgm_graph.specs.Edges.{edge_of, edge_on, end_of, carrying, takes_payments}
-use Rattle.lgm_graph.specs.Graph.{Graph, IsGraphOf, number_of, IsNumbered, IsJoined, linked, Shows}
-use Rattle.lgm_graph.specs.Sound.{graph_in, links_in, ShowsIn, IsSound}
+use Rattle.lgm_graph.specs.Edges.{edge_of, edge_on, end_of}
+use Rattle.lgm_graph.specs.Graph.{Graph, number_of, IsNumbered, IsJoined, linked, Shows}
+use Rattle.lgm_graph.specs.Sound.{graph_in, links_in, ShowsIn}
 use Rattle.lgm_graph.specs.Walk.{edge_of_direction}
 use Rattle.lgm_graph.proofs.Carrying.{edge_on-is}
 use Rattle.lgm_graph.proofs.Showing.{links_at, shows_push}

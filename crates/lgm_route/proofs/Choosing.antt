@@ -1,7 +1,7 @@
 -- The walk that trial gives is the least one, and the only one.
 use Rattle.std.proofs.Common.{◌≡◌, ◌≢◌, ◌⊎◌, ◌↔◌, ℕ, ◌<◌, ◌≤◌, Bool, List, [], ◌∷◌, length, map, Ordering, zero, suc, true, false, cond, refl, sym, ◌∙◌, ap, subst, inl, inr, arith}
-use Rattle.std.specs.Prelude.{nat_le, nat_lt, nat_eq, is_some, ◌&&◌, filter, Option, Some, None, Result, Ok, Err}
-use Rattle.std.specs.List.{Contains, flat_map, fold}
+use Rattle.std.specs.Prelude.{nat_le, nat_lt, nat_eq, is_some, ◌&&◌, Option, Some, None, Result, Ok, Err}
+use Rattle.std.specs.List.{Contains, fold}
 use Rattle.std.specs.declared.cmp.Ordering.TheVariants.{Less, Equal, Greater}
 use Rattle.std.specs.Ordering.{nat_cmp, is_lt, is_gt}
 use Rattle.std.specs.Cmp.Lexicographic.{slice_cmp}
@@ -16,8 +16,8 @@ use Rattle.lgm_graph.proofs.Members.{Among, Contains-Among, Among-Contains, Amon
 use Rattle.lgm_route.specs.declared.request.Request.{Request}
 use Rattle.lgm_route.specs.declared.route.Hop.{Hop}
 use Rattle.lgm_route.specs.declared.fault.RouteFault.{RouteFault}
-use Rattle.lgm_route.specs.declared.fault.RouteFault.TheVariants.{AmountZero, AmountTooLarge, ExpiryTooLarge, SelfPayment, NoRoute}
-use Rattle.lgm_route.specs.Routes.{owed, walk_key, hops_of, IsRest, IsStep, IsUsable, IsLeast, Precedes}
+use Rattle.lgm_route.specs.declared.fault.RouteFault.TheVariants.{AmountZero, AmountTooLarge, ExpiryTooLarge, SelfPayment}
+use Rattle.lgm_route.specs.Routes.{owed, walk_key, hops_of, IsRest, IsUsable, Precedes}
 use Rattle.lgm_route.specs.Answers.{refusal, IsFoundOver, IsAnswerBy, IsAnswer}
 use Rattle.lgm_route.specs.Searching.{NotAfter}
 use Rattle.lgm_route.specs.Choice.{lists_of, leads, usable_walks, lesser, least_of, least_walk, found_by, answer_by, answer_of}

@@ -4,7 +4,6 @@ use Rattle.std.specs.Prelude.{◌≢◌, OnOk, OnErr}
 use Rattle.lgm_store.specs.declared.op.Op.{Op}
 use Rattle.lgm_store.specs.Rows.{Rows}
 use Rattle.lgm_store.specs.History.{fold_from}
-use Rattle.lgm_graph.specs.Graph.{Graph}
 use Rattle.lgm_query.specs.KeyNews.{TellKeys}
 use Rattle.lgm_query.proofs.Lying.{TellKeys-fold}
 use Rattle.lgm_server.specs.declared.chart.Chart.{Chart}
@@ -13,7 +12,7 @@ use Rattle.lgm_server.specs.declared.chart.Kept.TheVariants as views
 use Rattle.lgm_server.specs.Behind.{IsBehind, Keeps}
 use Rattle.lgm_script.specs.declared.request.Request.{Request}
 use Rattle.lgm_script.specs.Groups.{IsNoRoute}
-use Rattle.lgm_server.specs.Chart.{IsBeside, IsViewOf, FollowsAs, GoesOn, ShowsAs, turned_behind, turned_beside, without_behind}
+use Rattle.lgm_server.specs.Chart.{IsBeside, GoesOn, ShowsAs, turned_behind}
 use Rattle.lgm_server.specs.Maps.{AreKept}
 use Rattle.lgm_server.specs.declared.checking.Offered.{Offered}
 use Rattle.lgm_server.specs.Offered.{outcome_on, WasChecked}

@@ -4,7 +4,7 @@ ghost use Rattle.std.specs.Prelude.{◌≡◌};
 ghost use Rattle.lgm_server.specs.Running.{line_fault, send_fault};
 ghost use Rattle.lgm_server.specs.declared.run_fault.RunFault.TheVariants.{Write, NoMemory};
 
-use lgm_script::{Failed, LineFault, SendFault};
+use lgm_script::{LineFault, SendFault};
 use std::alloc::AllocError;
 use thiserror::Error;
 

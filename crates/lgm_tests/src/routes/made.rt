@@ -1,6 +1,6 @@
 //! Networks made from a seed.
 
-use super::line::{FREE, Line, Terms};
+use super::line::{Line, Terms};
 use super::plain::Payment;
 use crate::numbers::Numbers;
 use std::alloc::{AllocError, Global};
