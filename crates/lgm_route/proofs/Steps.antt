@@ -7,7 +7,7 @@ use Rattle.lgm_graph.specs.declared.link.Link.{Link}
 use Rattle.lgm_route.specs.declared.trip.Trip.{Trip}
 use Rattle.lgm_route.specs.declared.label.Arc.{Arc}
 use Rattle.lgm_route.specs.declared.label.Label.{Label}
-use Rattle.lgm_route.specs.Numbered.{owed, sent, ids, IsUsable, IsLeast, Precedes}
+use Rattle.lgm_route.specs.Numbered.{sent, ids, IsUsable, IsLeast, Precedes}
 use Rattle.lgm_route.specs.Searching.{NotAfter, walk_key, Serves, no_link, link_in, link_at, label_at, no_label, number_at, Spells, IdsFirst, IsLabel, IsWalk, DoesServe, SomeRest, SomeWalk, bound_of, IsNoBetter, IsHopeless, IsPassed, IsLeft, IsSettled, AreLabels, IsFound, Grows, IsBetter, IsOffered, PassesOn, LeadsOn, StandsIn, AreSettled, IsMarked, IsClosed, IsStart}
 use Rattle.lgm_route.proofs.Orders.{NotAfter-refl, NotAfter-trans, NotAfter-join, NotAfter-excludes}
 use Rattle.lgm_route.proofs.Rests.{trichotomy, Serves-refl, Serves-trans}

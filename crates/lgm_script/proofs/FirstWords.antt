@@ -1,5 +1,5 @@
 -- What lines of a kind ask.
-use Rattle.std.proofs.Common.{◌≡◌, arith, ℕ, Bool, true, false, cond, ◌||◌, List, [], ◌∷◌, length, take, drop, Option, Some, None, refl, ◌∙◌}
+use Rattle.std.proofs.Common.{◌≡◌, arith, ℕ, Bool, true, false, cond, ◌||◌, List, [], ◌∷◌, length, take, drop, Option, Some, None, refl}
 use Rattle.std.specs.Prelude.{codes, nat_eq, nat_lt, ◌<◌, IfSome, ◌==◌, ◌&&◌, unwrap_or}
 use Rattle.std.specs.List.{starts_with, list_any, AllByRecursion}
 use Rattle.std.specs.Option.{option_map}

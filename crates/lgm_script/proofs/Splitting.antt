@@ -3,7 +3,7 @@ use Rattle.std.proofs.Common.{◌≡◌, ℕ, ◌+◌, ◌<◌, ◌≤◌, List,
 use Rattle.std.specs.Prelude.{◌≢◌, ◌⊎◌, filter}
 use Rattle.std.proofs.lemmas.Bool.{ne_eqb, eqb-true, eq-eqb}
 use Rattle.std.proofs.lemmas.List.{append-nil, length-take, length-drop, take-append-drop, take_all, drop_all, drop_more, get_or-take, get_or-drop, get_or_default}
-use Rattle.std.proofs.lemmas.List.Elements.{All-head, All-tail, All-append, All-same, All-take, filter-append}
+use Rattle.std.proofs.lemmas.List.Elements.{All-head, All-tail, All-append, All-same, filter-append}
 use Rattle.memchr.specs.Find.{IsFirstByte, is_byte}
 use Rattle.lgm_script.specs.Device.{IsAtEnd}
 use Rattle.lgm_script.specs.Lines.{line_feed, lines_of, ends_line, HasNoLineFeed, ahead, IsFirstLine, IsLongerThan}

@@ -2,11 +2,7 @@
 #![tactic(auto)]
 
 #[cfg(test)]
-mod gossip;
-#[cfg(test)]
 mod graph;
-#[cfg(test)]
-mod hexadecimal;
 #[cfg(test)]
 mod made;
 #[cfg(test)]
@@ -19,5 +15,3 @@ mod publish;
 mod route;
 #[cfg(test)]
 mod script;
-#[cfg(test)]
-mod wire;

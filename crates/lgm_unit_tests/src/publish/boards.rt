@@ -12,7 +12,6 @@ use std::process::Abort;
 use std::random::RandomSource;
 use std::sync::Wait;
 use std::test::Fail;
-use std::thread::join;
 
 /// What a map has of the channel.
 #[derive(Clone, Copy, Debug, PartialEq, Eq)]
@@ -83,130 +82,117 @@ fn publish_one<R: Wait>(rt: &R, pen: &mut Pen, op: Op) -> bool
     appended && published
 }
 
-/// The channel with the updates of both directions, after three operations.
-const AFTER_THREE: Shown = Shown {
-    version: 3,
-    map: BOTH_WAYS,
-    edges: 2,
-};
-
-const BOTH_WAYS: Held = Held {
-    sat: 100_000,
-    updates: (true, true),
-};
-
-/// Two operations are published and then one; one eye is told.
-#[test]
-fn guards_show_what_was_published(rt: HostRuntime) -> Result<(), Fail> {
-    let alloc = rt.alloc();
-    let (first, second, third) = (channel(alloc)?, update(alloc, 0)?, update(alloc, 1)?);
-    let (mut pen, mut eyes) = board(&rt, alloc, 2, &Known::all())?;
-    let other = eyes.pop().expect(&rt, "an eye");
-    let mut eye = eyes.pop().expect(&rt, "an eye");
-    let two = publish_two(&rt, &mut pen, first, second);
-    let one = publish_one(&rt, &mut pen, third);
-    eye.learn(pen.tell());
-    let (_eye, told) = look(eye);
-    let (_other, untold) = look(other);
-    let published = pen.published();
-    pen.end(&rt);
-    assert!(rt; two && one && published == 3);
-    assert_eq!(rt; told, Some(AFTER_THREE));
-    let version = untold.expect(&rt, "a guard").version;
-    assert!(rt; version == 0 || version == 2 || version == 3);
-    Ok(())
-}
-
-/// An operation that is appended isn't seen before it is published.
-#[test]
-fn what_is_pending_is_not_seen(rt: HostRuntime) -> Result<(), Fail> {
-    let alloc = rt.alloc();
-    let (first, second, third) = (channel(alloc)?, update(alloc, 0)?, update(alloc, 1)?);
-    let (mut pen, mut eyes) = board(&rt, alloc, 1, &Known::all())?;
-    let eye = eyes.pop().expect(&rt, "an eye");
-    let two = publish_two(&rt, &mut pen, first, second);
-    let one = publish_one(&rt, &mut pen, third);
-    let (eye, before) = look(eye);
-    let appended = pen.append(Op::Close(scid())).is_ok();
-    let (eye, pending) = look(eye);
-    let published = pen.publish(&rt).is_ok();
-    let (_eye, after) = look(eye);
-    pen.end(&rt);
-    assert!(rt; two && one && appended && published);
-    assert_eq!(rt; (before, pending), (Some(AFTER_THREE), Some(AFTER_THREE)));
-    let none = Held {
-        sat: 0,
-        updates: (false, false),
-    };
-    let closed = Shown {
-        version: 4,
-        map: none,
-        edges: 0,
-    };
-    assert_eq!(rt; after, Some(closed));
-    Ok(())
-}
-
-#[test]
-fn eyes_see_nothing_once_the_pen_has_ended(rt: HostRuntime) -> Result<(), Fail> {
-    let alloc = rt.alloc();
-    let (pen, mut eyes) = board(&rt, alloc, 1, &Known::all())?;
-    let eye = eyes.pop().expect(&rt, "an eye");
-    let (eye, before) = look(eye);
-    pen.end(&rt);
-    let (_eye, after) = look(eye);
-    assert_eq!(rt; before.expect(&rt, "a guard").version, 0);
-    assert_eq!(rt; after, None);
-    Ok(())
-}
-
-#[test]
-fn eyes_read_on_another_thread(rt: HostRuntime) -> Result<(), Fail> {
-    let alloc = rt.alloc();
-    let op = channel(alloc)?;
-    let (mut pen, mut eyes) = board(&rt, alloc, 1, &Known::all())?;
-    let eye = eyes.pop().expect(&rt, "an eye");
-    let appended = pen.append(op).is_ok();
-    let lent = &rt;
-    let theirs = &mut pen;
-    let (version, published) = join(
-        lent,
-        move || match eye.enter() {
-            Ok(guard) => {
-                let version = guard.version();
-                guard.leave();
-                version
-            }
-            Err(_back) => 9,
-        },
-        move || theirs.publish(lent).is_ok(),
-    );
-    pen.end(&rt);
-    assert!(rt; appended && published && version <= 1);
-    Ok(())
-}
-
-/// How many edges a guard's view has once a channel is published whose second node has a feature that isn't known.
-fn edges_under<R: Wait + RandomSource + Abort>(
+/// A pen and its only eye.
+fn pen_and_eye<R: Wait + RandomSource + Abort>(
     rt: &R,
     alloc: Global,
     known: &Known,
-) -> Result<usize, Fail> {
-    let (first, second, third) = (channel(alloc)?, update(alloc, 0)?, node(alloc, 11, &[1])?);
-    let (mut pen, mut eyes) = board(rt, alloc, 1, known)?;
-    let eye = eyes.pop().expect(rt, "an eye");
+) -> Result<(Pen, Eye), Fail> {
+    let (pen, mut eyes) = board(rt, alloc, 1, known)?;
+    Ok((pen, eyes.pop().expect(rt, "an eye")))
+}
+
+/// What an eye is shown while its pen publishes.
+#[derive(Clone, Copy, Debug, PartialEq, Eq)]
+struct Story {
+    /// Before anything is appended.
+    first: Option<Shown>,
+    /// After the channel and its updates are published, and told.
+    published: Option<Shown>,
+    /// While the channel's close is appended alone.
+    pending: Option<Shown>,
+    /// After the close is published.
+    closed: Option<Shown>,
+    /// After the pen has ended.
+    ended: Option<Shown>,
+    /// Whether all was appended and published, and how many operations.
+    done: (bool, u64),
+}
+
+/// Two operations are published and then one, and then the channel goes.
+fn watch<R: Wait>(rt: &R, mut pen: Pen, eye: Eye, (first, second, third): (Op, Op, Op)) -> Story {
+    let (mut eye, before) = look(eye);
+    let two = publish_two(rt, &mut pen, first, second);
+    let one = publish_one(rt, &mut pen, third);
+    eye.learn(pen.tell());
+    let (eye, published) = look(eye);
+    let appended = pen.append(Op::Close(scid())).is_ok();
+    let (eye, pending) = look(eye);
+    let last = pen.publish(rt).is_ok();
+    let (eye, closed) = look(eye);
+    let count = pen.published();
+    pen.end(rt);
+    let (_eye, ended) = look(eye);
+    Story {
+        first: before,
+        published,
+        pending,
+        closed,
+        ended,
+        done: (two && one && appended && last, count),
+    }
+}
+
+/// A map without the channel.
+const fn without(version: u64) -> Shown {
+    let map = Held {
+        sat: 0,
+        updates: (false, false),
+    };
+    Shown {
+        version,
+        map,
+        edges: 0,
+    }
+}
+
+#[test]
+fn an_eye_is_shown_what_was_published(rt: HostRuntime) -> Result<(), Fail> {
+    let alloc = rt.alloc();
+    let ops = (channel(alloc)?, update(alloc, 0)?, update(alloc, 1)?);
+    let (pen, eye) = pen_and_eye(&rt, alloc, &Known::all())?;
+    let both_ways = Shown {
+        version: 3,
+        map: Held {
+            sat: 100_000,
+            updates: (true, true),
+        },
+        edges: 2,
+    };
+    let want = Story {
+        first: Some(without(0)),
+        published: Some(both_ways),
+        pending: Some(both_ways),
+        closed: Some(without(4)),
+        ended: None,
+        done: (true, 4),
+    };
+    assert_eq!(rt; watch(&rt, pen, eye, ops), want);
+    Ok(())
+}
+
+/// How many edges a guard's view has once these are published.
+fn edges_of<R: Wait>(rt: &R, mut pen: Pen, eye: Eye, ops: (Op, Op, Op)) -> Option<usize> {
+    let (first, second, third) = ops;
     let two = publish_two(rt, &mut pen, first, second);
     let one = publish_one(rt, &mut pen, third);
     let (_eye, shown) = look(eye);
     pen.end(rt);
-    assert!(rt; two && one);
-    Ok(shown.expect(rt, "a guard").edges)
+    if two && one {
+        shown.map(|shown| shown.edges)
+    } else {
+        None
+    }
 }
 
+/// The channel's second node has a feature that not everyone knows.
 #[test]
 fn views_are_under_the_known_features(rt: HostRuntime) -> Result<(), Fail> {
     let alloc = rt.alloc();
-    assert_eq!(rt; edges_under(&rt, alloc, &Known::all())?, 1);
-    assert_eq!(rt; edges_under(&rt, alloc, &Known::bits(alloc, &[0])?)?, 0);
+    for (known, want) in [(Known::all(), 1usize), (Known::bits(alloc, &[0])?, 0)] {
+        let ops = (channel(alloc)?, update(alloc, 0)?, node(alloc, 11, &[1])?);
+        let (pen, eye) = pen_and_eye(&rt, alloc, &known)?;
+        assert_eq!(rt; edges_of(&rt, pen, eye, ops), Some(want));
+    }
     Ok(())
 }

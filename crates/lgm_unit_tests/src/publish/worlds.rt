@@ -26,20 +26,29 @@ fn answer(world: &mut World) -> Result<Result<(usize, Scid), RouteFault>, WorldF
     }
 }
 
+/// Whether a step is done.
+fn is_done(world: &mut World, event: &Event) -> bool {
+    world.step(event).is_ok()
+}
+
 #[test]
 fn an_eye_answers_on_what_it_took(rt: HostRuntime) -> Result<(), Fail> {
     let alloc = rt.alloc();
+    let items = [
+        Event::Append(channel(alloc)?),
+        Event::Append(update(alloc, 0)?),
+    ];
     let mut world = World::new(alloc, 1, &Known::all())?;
-    world.step(&Event::Append(channel(alloc)?))?;
-    world.step(&Event::Append(update(alloc, 0)?))?;
-    world.step(&Event::Enter(0))?;
-    assert_eq!(rt; answer(&mut world)?, Err(RouteFault::NoRoute));
-    world.step(&Event::Publish)?;
-    assert_eq!(rt; answer(&mut world)?, Err(RouteFault::NoRoute));
-    world.step(&Event::Learn(0))?;
-    assert_eq!(rt; answer(&mut world)?, Err(RouteFault::NoRoute));
-    world.step(&Event::Enter(0))?;
-    assert_eq!(rt; answer(&mut world)?, Ok((1, scid())));
+    let no_route = Ok(Err(RouteFault::NoRoute));
+    assert!(rt; items.iter().all(|item| is_done(&mut world, item)));
+    assert!(rt; is_done(&mut world, &Event::Enter(0)));
+    assert_eq!(rt; answer(&mut world), no_route);
+    assert!(rt; is_done(&mut world, &Event::Publish));
+    assert_eq!(rt; answer(&mut world), no_route);
+    assert!(rt; is_done(&mut world, &Event::Learn(0)));
+    assert_eq!(rt; answer(&mut world), no_route);
+    assert!(rt; is_done(&mut world, &Event::Enter(0)));
+    assert_eq!(rt; answer(&mut world), Ok(Ok((1, scid()))));
     assert_eq!(rt; world.step(&Event::Enter(1)).err(), Some(WorldFault::NoEye));
     assert_eq!(rt; world.step(&Event::Learn(1)).err(), Some(WorldFault::NoEye));
     Ok(())

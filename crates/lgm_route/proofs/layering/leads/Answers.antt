@@ -1,6 +1,6 @@
 use Rattle.std.proofs.Common.{◌≡◌, ◌+◌, ◌∙◌, sym, subst, arith}
 use Rattle.std.proofs.lemmas.List.{get_or_default}
-use Rattle.lgm_graph.specs.Graph.{links, links_into}
+use Rattle.lgm_graph.specs.Graph.{links}
 use Rattle.lgm_route.specs.Searching.{label_at, link_at, no_link, link_in}
 use Rattle.lgm_route.specs.Leading.{IsLead}
 use Rattle.lgm_route.proofs.Steps.{into_node}

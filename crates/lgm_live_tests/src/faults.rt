@@ -1,0 +1,90 @@
+//! Devices that fail, and limits, in whole scripts whose payments are answered beside.
+
+use lgm_gossip::ChainHash;
+use lgm_graph::Known;
+use lgm_live::{RunLiveFault, run_live};
+use lgm_par::Open;
+use lgm_test_scripts::{FailingSink, FailingSource};
+use std::alloc::{AllocError, Global};
+use std::marker::Sync;
+use std::random::RandomSource;
+use std::sync::Wait;
+use std::test::Fail;
+use std::thread::Threads;
+
+/// A script of six lines.
+const SCRIPT: &str = "hello\n# a note\nclose 1x0x0\ncommit\nq 00\nm 0010 all 1";
+
+/// Its text.
+const TEXT: &str = "1 bad\n3 unknown-channel\n4 commit 0\n5 not-live\n6 unknown-even\n";
+
+/// How the script ends where a read and a write fail, each by its number, and what is written then.
+fn ended<Rt: Threads + Wait + Sync + RandomSource>(
+    rt: &Rt,
+    alloc: Global,
+    script: &[u8],
+    read: usize,
+    write: usize,
+) -> Result<(Option<RunLiveFault>, Vec<u8>), AllocError> {
+    let mut reader = FailingSource::new(script, read);
+    let mut writer = FailingSink {
+        taken: Vec::with_capacity(alloc, TEXT.len())?,
+        writes: 0,
+        fails_at: write,
+        failures: 0,
+    };
+    let ended = run_live(
+        rt,
+        alloc,
+        &mut reader,
+        &mut writer,
+        &ChainHash([0xc1; 32]),
+        &Known::all(),
+        3,
+        &Open,
+    );
+    Ok((ended.err(), writer.taken))
+}
+
+// Each read of ten bytes, and the two that find the end: behind the last line, and for a further one.
+#[test]
+fn failing_reads(rt: HostRuntime) -> Result<(), Fail> {
+    let script = SCRIPT.as_bytes();
+    let reads = script.len() / 10 + 3;
+    for read in 1..=reads {
+        let (fault, written) = ended(&rt, rt.alloc(), script, read, 0)?;
+        assert_eq!(rt; fault, Some(RunLiveFault::Read), "read {read}");
+        assert!(rt; written.is_empty(), "read {read}");
+    }
+    let (fault, written) = ended(&rt, rt.alloc(), script, reads + 1, 0)?;
+    assert_eq!(rt; fault, None);
+    assert_eq!(rt; written.as_slice(), TEXT.as_bytes());
+    Ok(())
+}
+
+// Each byte that is written.
+#[test]
+fn failing_writes(rt: HostRuntime) -> Result<(), Fail> {
+    let script = SCRIPT.as_bytes();
+    for write in 1..=TEXT.len() {
+        let (fault, written) = ended(&rt, rt.alloc(), script, 0, write)?;
+        assert_eq!(rt; fault, Some(RunLiveFault::Write), "write {write}");
+        assert_eq!(rt; written.len() + 1, write);
+        assert!(rt;
+            TEXT.as_bytes().starts_with(written.as_slice()),
+            "write {write}"
+        );
+    }
+    Ok(())
+}
+
+// The lines before are whole, and nothing is written of them.
+#[test]
+fn a_line_that_is_too_long(rt: HostRuntime) -> Result<(), Fail> {
+    let mut script = Vec::from_slice(rt.alloc(), b"commit\n")?;
+    script.resize(140_008, b'x')?;
+    let (fault, written) = ended(&rt, rt.alloc(), script.as_slice(), 0, 0)?;
+    assert_eq!(rt; fault, Some(RunLiveFault::LineTooLong));
+    assert!(rt; written.is_empty());
+    Ok(())
+}

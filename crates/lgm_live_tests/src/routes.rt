@@ -1,0 +1,195 @@
+//! Whole scripts through `run_live`: payments that are answered while items are admitted. The expected routes were worked
+//! out by hand.
+
+use lgm_gossip::ChainHash;
+use lgm_graph::Known;
+use lgm_live::{RunLiveFault, run_live};
+use lgm_par::{Gate, Open};
+use lgm_script::{MemorySink, MemorySource};
+use lgm_test_scripts::{FREE, Line, SECRET, Terms, script_of};
+use std::alloc::Global;
+use std::marker::Sync;
+use std::random::RandomSource;
+use std::sync::Wait;
+use std::sync::atomic::{AtomicU64, Ordering};
+use std::test::Fail;
+use std::thread;
+use std::thread::Threads;
+
+/// The most turns that a worker is held.
+const LIMIT: u64 = 100_000_000;
+
+/// Two channels from node 0 over node 1 to node 2, and what is asked of them.
+const LINES: [Line; 12] = [
+    Line::Note,
+    Line::Channel(600_000, 0, 1, 100_000, "0000"),
+    Line::Channel(600_001, 1, 2, 100_000, "0000"),
+    Line::Update(600_000, 0, 1, 1, Terms { delta: 10, ..FREE }),
+    Line::Update(
+        600_001,
+        1,
+        2,
+        1,
+        Terms {
+            delta: 20,
+            base: 200,
+            millionths: 2_000,
+            ..FREE
+        },
+    ),
+    Line::Commit,
+    Line::Pay(0, 2, 4_999_999, 700_009),
+    Line::Pay(2, 0, 4_999_999, 700_009),
+    Line::Pay(1, 1, 4_999_999, 700_009),
+    Line::Pay(0, 2, 0, 700_009),
+    Line::Update(600_000, 0, 1, 1, FREE),
+    Line::Commit,
+];
+
+/// Lines that have no answer of the map.
+const OTHERS: &str = "hello\nq 00\nfilter 7 00\n\nfilter 1000 00";
+
+/// The answers to the items and commits, to the payments on the map of all items, and to the others.
+fn text(alloc: Global) -> Result<String, Fail> {
+    Ok(format!(in alloc;
+        "2 accepted\n3 accepted\n4 accepted\n5 accepted\n6 commit 4\n\
+        7 at 4 same\n7 route 5010198 700029 2\n\
+        7 hop 600000x0x0 1402034c4b3f04030aae6906080927c10000000000\n\
+        7 hop 600001x0x0 2f02034c4b3f04030aae690823{SECRET}4c4b3f\n\
+        8 at 4 same\n8 no-route\n9 at 4 same\n9 self-payment\n10 at 4 same\n10 amount-zero\n\
+        11 not-newer\n12 commit 4\n\
+        13 bad\n14 not-live\n15 not-live\n17 bad\n"
+    )?)
+}
+
+/// Holds each worker until the writer has begun so many publications.
+#[derive(Drop)]
+struct Behind {
+    workers: usize,
+    wanted: u64,
+    begun: AtomicU64,
+}
+
+impl Gate for Behind {
+    fn pass(&self, piece: usize) {
+        if piece == self.workers {
+            self.begun.fetch_add(1, Ordering::SeqCst);
+            return;
+        }
+        for _turn in 0..LIMIT {
+            if self.begun.load(Ordering::SeqCst) >= self.wanted {
+                break;
+            }
+            thread::yield_now();
+        }
+    }
+}
+
+/// What is written for the script.
+fn told<Rt: Threads + Wait + Sync + RandomSource, G: Gate>(
+    rt: &Rt,
+    alloc: Global,
+    script: &[u8],
+    workers: usize,
+    gate: &G,
+) -> (Option<RunLiveFault>, MemorySink) {
+    let mut reader = MemorySource::new(script, 1_000);
+    let mut writer = MemorySink::new(alloc);
+    let ended = run_live(
+        rt,
+        alloc,
+        &mut reader,
+        &mut writer,
+        &ChainHash([0xc1; 32]),
+        &Known::all(),
+        workers.clamp(1, 64),
+        gate,
+    );
+    (ended.err(), writer)
+}
+
+// The third batch has no item, so all that was accepted is published before it.
+#[test]
+fn all_is_told_in_its_place(rt: HostRuntime) -> Result<(), Fail> {
+    let alloc = rt.alloc();
+    let mut script = script_of(alloc, &LINES)?;
+    script.push_str(OTHERS)?;
+    let want = text(alloc)?;
+    for workers in [1, 2, 3, 64] {
+        let gate = Behind {
+            workers,
+            wanted: 3,
+            begun: AtomicU64::new(0),
+        };
+        let (fault, writer) = told(&rt, alloc, script.as_bytes(), workers, &gate);
+        assert_eq!(rt; fault, None, "{workers} workers");
+        assert_eq!(rt; writer.taken(), want.as_bytes(), "{workers} workers");
+    }
+    Ok(())
+}
+
+/// Whether a payment over the two channels may be told this.
+fn is_lawful(told: &str) -> bool {
+    told == "2 at 0 same\n2 no-route\n"
+        || told
+            == "2 at 2 same\n2 route 1000 700000 1\n2 hop 7x0x0 2d020203e804030aae600822111111111111111111111111111111111111111111111111111111111111111103e8\n"
+}
+
+#[test]
+fn a_payment_may_come_first(rt: HostRuntime) -> Result<(), Fail> {
+    let alloc = rt.alloc();
+    let lines = [
+        Line::Note,
+        Line::Pay(0, 1, 1_000, 700_000),
+        Line::Open(7, 0, 1, FREE),
+    ];
+    let script = script_of(alloc, &lines)?;
+    let (fault, writer) = told(&rt, alloc, script.as_bytes(), 1, &Open);
+    assert_eq!(rt; fault, None);
+    let Some(told) = writer
+        .taken()
+        .strip_suffix(b"3 accepted\n4 accepted\n".as_slice())
+    else {
+        return Err(Fail::from(std::fmt::Error));
+    };
+    assert!(rt; is_lawful(std::str::from_utf8(told)?));
+    Ok(())
+}
+
+#[test]
+fn an_empty_script_has_one_batch(rt: HostRuntime) -> Result<(), Fail> {
+    let alloc = rt.alloc();
+    let gate = Behind {
+        workers: 64,
+        wanted: 1,
+        begun: AtomicU64::new(0),
+    };
+    let (fault, writer) = told(&rt, alloc, b"", 64, &gate);
+    assert_eq!(rt; fault, None);
+    assert!(rt; writer.taken().is_empty());
+    assert_eq!(rt; gate.begun.load(Ordering::SeqCst), 1);
+    Ok(())
+}
+
+/// To be run with each allocation refused in turn. The writer fails where it is refused memory itself.
+#[test]
+fn refused_memory(rt: HostRuntime) -> Result<(), Fail> {
+    let alloc = rt.alloc();
+    let mut script = script_of(alloc, &LINES)?;
+    script.push_str(OTHERS)?;
+    let want = text(alloc)?;
+    let gate = Behind {
+        workers: 2,
+        wanted: 3,
+        begun: AtomicU64::new(0),
+    };
+    let (fault, writer) = told(&rt, alloc, script.as_bytes(), 2, &gate);
+    match fault {
+        None => assert_eq!(rt; writer.taken(), want.as_bytes()),
+        Some(fault) => {
+            assert!(rt; fault != RunLiveFault::Read && fault != RunLiveFault::Versions);
+            assert!(rt; want.as_bytes().starts_with(writer.taken()));
+        }
+    }
+    Ok(())
+}

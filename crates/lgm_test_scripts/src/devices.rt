@@ -1,0 +1,76 @@
+//! Devices that fail.
+
+ghost use Rattle.std.specs.Prelude.{◌≡◌};
+
+use lgm_script::{Failed, MemorySource, Sink, Source};
+
+/// A source that fails at its read of a number, from 1, and at no other.
+#[derive(Drop)]
+pub struct FailingSource<'a> {
+    source: MemorySource<'a>,
+    reads: usize,
+    fails_at: usize,
+    failures: u64,
+}
+
+impl<'a> FailingSource<'a> {
+    /// A source of this script, ten bytes at each read.
+    pub fn new(script: &'a [u8], fails_at: usize) -> FailingSource<'a>
+        ensures { ⟦<FailingSource<'a> as Source>⟧.failures result ≡ 0 }
+    {
+        FailingSource {
+            source: MemorySource::new(script, 10),
+            reads: 0,
+            fails_at,
+            failures: 0,
+        }
+    }
+}
+
+impl Source for FailingSource<'_> {
+    ghost use Rattle.std.specs.Prelude.{None};
+
+    ghost left = { λ _. None };
+
+    ghost failures = { λ s. s.failures };
+
+    fn read(&mut self, buffer: &mut [u8]) -> Result<usize, Failed> {
+        self.reads = self.reads.saturating_add(1);
+        if self.reads != self.fails_at
+            && let Ok(n) = self.source.read(buffer)
+        {
+            return Ok(n);
+        }
+        self.failures += 1;
+        Err(Failed)
+    }
+}
+
+/// A sink that takes one byte at each write, but fails at its write of a number, from 1.
+#[derive(Drop)]
+pub struct FailingSink {
+    pub taken: Vec<u8>,
+    pub writes: usize,
+    pub fails_at: usize,
+    pub failures: u64,
+}
+
+impl Sink for FailingSink {
+    ghost use Rattle.std.specs.Prelude.{None};
+
+    ghost taken = { λ _. None };
+
+    ghost failures = { λ s. s.failures };
+
+    fn write(&mut self, bytes: &[u8]) -> Result<usize, Failed> {
+        self.writes = self.writes.saturating_add(1);
+        let [byte, ..] = bytes else {
+            return Ok(0);
+        };
+        if self.writes != self.fails_at && self.taken.push(*byte).is_ok() {
+            return Ok(1);
+        }
+        self.failures += 1;
+        Err(Failed)
+    }
+}

@@ -1,0 +1,19 @@
+//! What tests of scripts share: messages and lines as text, runs of them, numbers made from a seed, and devices that fail.
+#![tactic(auto)]
+
+mod devices;
+mod line;
+mod messages;
+mod numbers;
+mod runs;
+mod told;
+
+pub use devices::{FailingSink, FailingSource};
+pub use line::{FREE, Line, SECRET, Terms, script_of};
+pub use messages::{
+    CHAIN, OTHER_CHAIN, announcement, announcement_with, node_announcement, node_announcement_with,
+    point, update, update_with,
+};
+pub use numbers::Numbers;
+pub use runs::{assert_answers, assert_answers_where, written};
+pub use told::text_of;
