@@ -1,7 +1,7 @@
 //! Scripts of lines whose items are all accepted.
 
 use lgm_graph::Known;
-use lgm_test_scripts::{Line, assert_answers_where, script_of, text_of};
+use lgm_test_scripts::{Line, find_differing, script_of, text_of};
 use std::alloc::Global;
 use std::process::Abort;
 use std::random::RandomSource;
@@ -18,7 +18,9 @@ pub fn assert_paid_where<Rt: Abort + Threads + Sync + RandomSource>(
 ) -> Result<(), Fail> {
     let script = script_of(alloc, lines)?;
     let want = text_of(alloc, lines, answers)?;
-    assert_answers_where(rt, alloc, known, script.as_bytes(), want.as_str())
+    let differing = find_differing(rt, alloc, known, script.as_bytes(), want.as_str())?;
+    assert!(rt; differing.is_none(), "{differing:?}");
+    Ok(())
 }
 
 /// All items are accepted, and payments get these answers.

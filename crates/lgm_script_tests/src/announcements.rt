@@ -1,6 +1,7 @@
 //! Channel announcements: each refusal, their order, and the grammar of their lines.
 
-use lgm_test_scripts::{CHAIN, OTHER_CHAIN, announcement, assert_answers, point};
+use crate::answers::assert_answers;
+use lgm_test_scripts::{CHAIN, OTHER_CHAIN, announcement, point};
 use std::alloc::{AllocError, Global};
 use std::test::Fail;
 

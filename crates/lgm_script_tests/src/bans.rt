@@ -1,6 +1,7 @@
 //! Announcements that contradict each other, and the bans of their nodes.
 
-use lgm_test_scripts::{CHAIN, announcement, assert_answers, node_announcement, point, update};
+use crate::answers::assert_answers;
+use lgm_test_scripts::{CHAIN, announcement, node_announcement, point, update};
 use std::alloc::{AllocError, Global};
 use std::test::Fail;
 

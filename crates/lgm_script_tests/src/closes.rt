@@ -1,6 +1,7 @@
 //! Announcements of nodes, and closes, which take them along.
 
-use lgm_test_scripts::{CHAIN, announcement, assert_answers, node_announcement, point, update};
+use crate::answers::assert_answers;
+use lgm_test_scripts::{CHAIN, announcement, node_announcement, point, update};
 use std::test::Fail;
 
 /// The channel 1x0x0.

@@ -1,8 +1,7 @@
 //! Filter lines, and what commits send for them.
 
-use lgm_test_scripts::{
-    CHAIN, OTHER_CHAIN, announcement, assert_answers, node_announcement, point, update,
-};
+use crate::answers::assert_answers;
+use lgm_test_scripts::{CHAIN, OTHER_CHAIN, announcement, node_announcement, point, update};
 use std::alloc::{AllocError, Global};
 use std::test::Fail;
 

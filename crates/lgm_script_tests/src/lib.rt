@@ -4,6 +4,8 @@
 #[cfg(test)]
 mod announcements;
 #[cfg(test)]
+mod answers;
+#[cfg(test)]
 mod bans;
 #[cfg(test)]
 mod closes;

@@ -1,7 +1,8 @@
 //! Queries of channels by ids and of ranges of blocks, in scripts.
 
+use crate::answers::assert_answers;
 use lgm_test_scripts::{
-    CHAIN, OTHER_CHAIN, announcement, assert_answers, node_announcement, point, update, written,
+    CHAIN, OTHER_CHAIN, announcement, node_announcement, point, update, written,
 };
 use std::alloc::Global;
 use std::random::RandomSource;

@@ -1,6 +1,7 @@
 //! Query lines: on which items they are answered, and by which words.
 
-use lgm_test_scripts::{CHAIN, OTHER_CHAIN, announcement, assert_answers, point};
+use crate::answers::assert_answers;
+use lgm_test_scripts::{CHAIN, OTHER_CHAIN, announcement, point};
 use std::test::Fail;
 
 /// The channels 1x0x0 and 2x0x0.

@@ -1,6 +1,7 @@
 //! Updates of channels: who may sign them, which are newer, and which are private.
 
-use lgm_test_scripts::{CHAIN, OTHER_CHAIN, announcement, assert_answers, point, update};
+use crate::answers::assert_answers;
+use lgm_test_scripts::{CHAIN, OTHER_CHAIN, announcement, point, update};
 use std::alloc::{AllocError, Global};
 use std::test::Fail;
 

@@ -15,5 +15,5 @@ pub use messages::{
     point, update, update_with,
 };
 pub use numbers::Numbers;
-pub use runs::{assert_answers, assert_answers_where, written};
+pub use runs::{Differing, find_differing, written};
 pub use told::text_of;

@@ -6,50 +6,63 @@ use lgm_par::Open;
 use lgm_script::{MemorySink, MemorySource};
 use lgm_server::run;
 use std::alloc::Global;
-use std::process::Abort;
 use std::random::RandomSource;
 use std::test::Fail;
 use std::thread::Threads;
 
-/// Runs the script, cut into pieces of several sizes and by several workers, and compares what is written.
-pub fn assert_answers<Rt: Abort + Threads + Sync + RandomSource>(
-    rt: &Rt,
-    alloc: Global,
-    script: &[u8],
-    want: &str,
-) -> Result<(), Fail> {
-    assert_answers_where(rt, alloc, &Known::all(), script, want)
+/// A run of a script that writes something else than another one, or than it should.
+#[derive(Debug, Drop)]
+pub struct Differing {
+    /// How many bytes the source gives at each read.
+    pub piece: usize,
+    pub workers: usize,
+    pub written: Vec<u8>,
 }
 
-/// The same where these features of nodes are known.
-pub fn assert_answers_where<Rt: Abort + Threads + Sync + RandomSource>(
+/// What is written for the script, which is read in pieces of so many bytes, by these workers.
+fn run_script<Rt: Threads + Sync + RandomSource>(
+    rt: &Rt,
+    alloc: Global,
+    known: &Known,
+    script: &[u8],
+    piece: usize,
+    workers: usize,
+) -> Result<Vec<u8>, Fail> {
+    let mut reader = MemorySource::new(script, piece);
+    let mut writer = MemorySink::new(alloc);
+    run(
+        rt,
+        alloc,
+        &mut reader,
+        &mut writer,
+        &ChainHash([0xc1; 32]),
+        known,
+        workers.clamp(1, 64),
+        &Open,
+    )?;
+    Ok(Vec::from_slice(alloc, writer.taken())?)
+}
+
+/// Runs the script, cut into pieces of several sizes and by several workers, where these features of nodes are known.
+/// Gives the first run that writes something else than what is wanted.
+pub fn find_differing<Rt: Threads + Sync + RandomSource>(
     rt: &Rt,
     alloc: Global,
     known: &Known,
     script: &[u8],
     want: &str,
-) -> Result<(), Fail> {
+) -> Result<Option<Differing>, Fail> {
     for (piece, workers) in [(7usize, 3usize), (100_000, 1), (100_000, 64)] {
-        let mut reader = MemorySource::new(script, piece);
-        let mut writer = MemorySink::new(alloc);
-        let counts = run(
-            rt,
-            alloc,
-            &mut reader,
-            &mut writer,
-            &ChainHash([0xc1; 32]),
-            known,
-            workers,
-            &Open,
-        );
-        assert!(rt; counts.is_ok());
-        assert_eq!(rt;
-            writer.taken(),
-            want.as_bytes(),
-            "in pieces of {piece}, by {workers} workers"
-        );
+        let written = run_script(rt, alloc, known, script, piece, workers)?;
+        if written.as_slice() != want.as_bytes() {
+            return Ok(Some(Differing {
+                piece,
+                workers,
+                written,
+            }));
+        }
     }
-    Ok(())
+    Ok(None)
 }
 
 /// What is written for the script.
@@ -58,17 +71,5 @@ pub fn written<Rt: Threads + Sync + RandomSource>(
     alloc: Global,
     script: &[u8],
 ) -> Result<Vec<u8>, Fail> {
-    let mut reader = MemorySource::new(script, 100_000);
-    let mut writer = MemorySink::new(alloc);
-    run(
-        rt,
-        alloc,
-        &mut reader,
-        &mut writer,
-        &ChainHash([0xc1; 32]),
-        &Known::all(),
-        4,
-        &Open,
-    )?;
-    Ok(Vec::from_slice(alloc, writer.taken())?)
+    run_script(rt, alloc, &Known::all(), script, 100_000, 4)
 }

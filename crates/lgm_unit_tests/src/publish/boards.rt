@@ -1,7 +1,5 @@
 //! A pen and its eyes.
 
-ghost use Rattle.std.specs.Prelude.{◌≡◌};
-
 use super::{channel, scid, update};
 use crate::made::node;
 use lgm_graph::Known;
@@ -64,9 +62,7 @@ fn look(eye: Eye) -> (Eye, Option<Shown>) {
 }
 
 /// Appends two operations and publishes them.
-fn publish_two<R: Wait>(rt: &R, pen: &mut Pen, first: Op, second: Op) -> bool
-    ensures { pen.new.board ≡ pen.old.board }
-{
+fn publish_two<R: Wait>(rt: &R, pen: &mut Pen, first: Op, second: Op) -> bool {
     let one = pen.append(first).is_ok();
     let two = pen.append(second).is_ok();
     let published = pen.publish(rt).is_ok();
@@ -74,22 +70,22 @@ fn publish_two<R: Wait>(rt: &R, pen: &mut Pen, first: Op, second: Op) -> bool
 }
 
 /// Appends an operation and publishes it.
-fn publish_one<R: Wait>(rt: &R, pen: &mut Pen, op: Op) -> bool
-    ensures { pen.new.board ≡ pen.old.board }
-{
+fn publish_one<R: Wait>(rt: &R, pen: &mut Pen, op: Op) -> bool {
     let appended = pen.append(op).is_ok();
     let published = pen.publish(rt).is_ok();
     appended && published
 }
 
-/// A pen and its only eye.
+/// A pen and its only eye, which is told what is published so far.
 fn pen_and_eye<R: Wait + RandomSource + Abort>(
     rt: &R,
     alloc: Global,
     known: &Known,
 ) -> Result<(Pen, Eye), Fail> {
-    let (pen, mut eyes) = board(rt, alloc, 1, known)?;
-    Ok((pen, eyes.pop().expect(rt, "an eye")))
+    let (mut pen, mut eyes) = board(rt, alloc, 1, known)?;
+    let mut eye = eyes.pop().expect(rt, "an eye");
+    eye.learn(pen.tell());
+    Ok((pen, eye))
 }
 
 /// What an eye is shown while its pen publishes.
@@ -97,7 +93,7 @@ fn pen_and_eye<R: Wait + RandomSource + Abort>(
 struct Story {
     /// Before anything is appended.
     first: Option<Shown>,
-    /// After the channel and its updates are published, and told.
+    /// After the channel and its updates are published.
     published: Option<Shown>,
     /// While the channel's close is appended alone.
     pending: Option<Shown>,
@@ -111,10 +107,9 @@ struct Story {
 
 /// Two operations are published and then one, and then the channel goes.
 fn watch<R: Wait>(rt: &R, mut pen: Pen, eye: Eye, (first, second, third): (Op, Op, Op)) -> Story {
-    let (mut eye, before) = look(eye);
+    let (eye, before) = look(eye);
     let two = publish_two(rt, &mut pen, first, second);
     let one = publish_one(rt, &mut pen, third);
-    eye.learn(pen.tell());
     let (eye, published) = look(eye);
     let appended = pen.append(Op::Close(scid())).is_ok();
     let (eye, pending) = look(eye);
