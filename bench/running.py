@@ -69,8 +69,8 @@ def least(runs):
 
 
 def bytes_answered(words, script):
-    """A run's bytes of output. Raises `Failed` at an answer that refuses a line."""
-    count = 0
+    """A run's bytes of output. Raises `Failed` at an answer that refuses a line, and where no payment has a route."""
+    count, answers = 0, set()
     with open(script, "rb") as reader, subprocess.Popen(
             words, stdin=reader, stdout=subprocess.PIPE) as process:
         for answer in process.stdout:
@@ -78,6 +78,9 @@ def bytes_answered(words, script):
             if word not in ANSWERS and not word.startswith(FIRST_BYTE):
                 raise Failed(f"answer {answer.decode().strip()}")
             count += len(answer)
+            answers.add(word)
     if process.returncode != 0:
         raise Failed(f"status {process.returncode}")
+    if b"no-route" in answers and b"route" not in answers:
+        raise Failed("no payment has a route")
     return count

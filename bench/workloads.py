@@ -9,11 +9,17 @@ ROUNDS = 20
 UPDATES_A_ROUND = 1_000
 FILTER_AGES = (14 * DAY, DAY, DAY, 3_600, 3_600, 3_600, 0, 0, 0, 0)  # seconds; one each peer
 ALL_TIMES = 0xFFFFFFFF
+PEERS = 1_000
+TIMES_TO_COME = NOW + 365 * DAY
 ROUTES = 1_000
 ROUTES_A_ROUND = 5
 LIVE_ROUTES_A_ROUND = 50
 AMOUNTS = (1_000, 50_000, 1_000_000, 10_000_000, 50_000_000, 200_000_000, 1_000_000_000)  # msat
 HEIGHT = 917_000
+FULL_RANGES = 640
+ONE_BLOCK_RANGES = 10_000
+BANS = 2_000
+BANNED_BLOCK = 2_000_000  # the first of blocks where the network has no channel
 
 
 def announcement_line(network, channel):
@@ -116,6 +122,12 @@ def churn(network):
     yield from rounds(network, ROUTES_A_ROUND)
 
 
+def updates(network):
+    """The network, and rounds of updates."""
+    yield from sync(network)
+    yield from rounds(network)
+
+
 def live(network):
     """The network, and rounds of updates with fifty payments each, for `lgm live`."""
     yield from sync(network)
@@ -131,6 +143,43 @@ def filters(network):
     yield from rounds(network)
 
 
+def peers(network):
+    """The network, a thousand peers with filters of times to come, and rounds of updates beside them."""
+    yield from sync(network)
+    for peer in range(PEERS):
+        message = messages.gossip_timestamp_filter(TIMES_TO_COME, ALL_TIMES - TIMES_TO_COME)
+        yield f"filter {peer} {message.hex()}\n"
+    yield from rounds(network)
+
+
+def ranges(network):
+    """The network, and queries of the range of all blocks, with timestamps."""
+    yield from sync(network)
+    for _ in range(FULL_RANGES):
+        yield query_line(messages.query_channel_range(0, 0xFFFFFFFF, True))
+
+
+def blocks(network):
+    """The network, and queries of the range of one block each."""
+    yield from sync(network)
+    for _ in range(ONE_BLOCK_RANGES):
+        yield query_line(messages.query_channel_range(network.random.choice(BLOCKS), 1, True))
+
+
+def bans(network):
+    """The network, and pairs of announcements that contradict each other, between nodes of their own."""
+    yield from sync(network)
+    for number in range(BANS):
+        scid = messages.short_channel_id(BANNED_BLOCK + number, 0, 0)
+        for _ in range(2):
+            message = messages.channel_announcement(
+                network.random.randbytes(messages.ANNOUNCEMENT_SIGNATURES), scid,
+                sorted((network.point(), network.point())), (network.point(), network.point()))
+            yield f"m {message.hex()} all 100000\n"
+    yield "commit\n"
+
+
 WORKLOADS = {
     "sync": sync, "routes": routes, "queries": queries, "churn": churn, "filters": filters,
-    "live": live}
+    "peers": peers, "updates": updates, "live": live, "ranges": ranges, "blocks": blocks,
+    "bans": bans}

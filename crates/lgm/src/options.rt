@@ -1,6 +1,9 @@
 //! The words of the command line.
 
-ghost use Rattle.std.specs.Prelude.{◌≡◌};
+ghost use Rattle.std.specs.Prelude.{◌≡◌, ◌≤◌, [], IfOk, codes};
+ghost use Rattle.std.specs.Option.{option_map, unwrap_or};
+ghost use Rattle.clap.specs.Words.{found_of, first_value};
+ghost use Rattle.lgm.specs.Options.{AreChain, AreKnown};
 ghost use Rattle.lgm.specs.declared.options.BadWords.TheVariants.{NoMemory};
 
 use clap::builder::ValueParser;
@@ -8,6 +11,9 @@ use clap::{Arg, ArgAction, ArgMatches, Command, Error};
 use lgm_gossip::ChainHash;
 use lgm_graph::Known;
 use std::alloc::{AllocError, Global};
+use std::env;
+use std::env::Env;
+use std::io::ErrorKind;
 
 /// The most bytes that the known feature bits take.
 const MAX_KNOWN: usize = 256;
@@ -37,6 +43,8 @@ pub struct Options {
 /// Why the words tell nothing, in the order in which it is found.
 #[derive(Drop)]
 pub enum BadWords {
+    /// One of them isn't UTF-8.
+    NotText,
     /// They don't fit the command line, or ask for help.
     Words(Error),
     /// The chain isn't 32 bytes in hexadecimal digits.
@@ -100,7 +108,9 @@ fn program<'a>(alloc: Global) -> Result<Command<'a>, AllocError> {
         .subcommand(live)
 }
 
-fn chain(digits: &str) -> Result<ChainHash, BadWords> {
+fn chain(digits: &str) -> Result<ChainHash, BadWords>
+    ensures { IfOk result (AreChain digits.now) }
+{
     match lgm_hex::decode_array::<32>(digits.as_bytes()) {
         Ok(bytes) => Ok(ChainHash(bytes)),
         Err(_) => Err(BadWords::Chain),
@@ -108,7 +118,9 @@ fn chain(digits: &str) -> Result<ChainHash, BadWords> {
 }
 
 /// The known feature bits. Where no digits are given, all are known.
-fn known(alloc: Global, digits: Option<&str>) -> Result<Known, BadWords> {
+fn known(alloc: Global, digits: Option<&str>) -> Result<Known, BadWords>
+    ensures { IfOk result (AreKnown (option_map (λ d. d.now) digits.entry)) }
+{
     let Some(digits) = digits else {
         return Ok(Known::all());
     };
@@ -125,17 +137,37 @@ fn known(alloc: Global, digits: Option<&str>) -> Result<Known, BadWords> {
 }
 
 /// The options that the words behind a command give.
-fn options_of(alloc: Global, mode: Mode, words: &ArgMatches) -> Result<Options, BadWords> {
+fn options_of(alloc: Global, mode: Mode, words: &ArgMatches) -> Result<Options, BadWords>
+    ensures mode { IfOk result (λ options. options.mode ≡ mode) }
+    ensures chain { IfOk result (λ options. AreChain (unwrap_or (first_value (found_of words.now) (codes "chain")) []) options.chain) }
+    ensures known { IfOk result (λ options. AreKnown (first_value (found_of words.now) (codes "known")) options.known) }
+    ensures workers { IfOk result (λ options. (1 ≤ options.workers) × (options.workers ≤ 64)) }
+{
+    // `clap` has seen to it that they are 1 to 64.
+    let workers = words.get_one::<u64>("workers").unwrap_or(4).clamp(1, 64);
     Ok(Options {
         mode,
         chain: chain(words.get_str("chain").unwrap_or(""))?,
         known: known(alloc, words.get_str("known"))?,
-        workers: words.get_one::<u64>("workers").unwrap_or(4) as usize,
+        workers: workers as usize,
     })
 }
 
+/// The words that an environment gives, the program's name first.
+pub fn read_words<E: Env + AllocGlobal>(env: &E) -> Result<Vec<String>, BadWords> {
+    match env::args(env) {
+        Ok(words) => Ok(words.collect(env.alloc())?),
+        Err(error) => match error.kind() {
+            ErrorKind::OutOfMemory => Err(BadWords::NoMemory),
+            _ => Err(BadWords::NotText),
+        },
+    }
+}
+
 /// The options that the words give, the program's name first.
-pub fn parse(alloc: Global, words: &[String]) -> Result<Options, BadWords> {
+pub fn parse(alloc: Global, words: &[String]) -> Result<Options, BadWords>
+    ensures { IfOk result (λ options. (1 ≤ options.workers) × (options.workers ≤ 64)) }
+{
     let command = program(alloc)?;
     let matches = match command.try_get_matches_from(words) {
         Ok(matches) => matches,

@@ -1,15 +1,18 @@
-//! The whole program, over any streams.
+//! The whole program, over any words and streams.
 
-ghost use Rattle.std.specs.Prelude.{◌+◌, ◌<◌, ◌^◌};
+ghost use Rattle.std.specs.Prelude.{◌≡◌, ◌+◌, ◌<◌, ◌≤◌, ◌^◌, IfOk};
+ghost use Rattle.lgm.specs.Ended.{status_of};
 
-use crate::options::{BadWords, Mode, Options, parse};
+use crate::answering::{Ended, answer};
+use crate::options::{BadWords, Options, parse, read_words};
 use clap::Error;
 use clap::error::ErrorKind;
-use lgm_live::{RunLiveFault, run_live};
-use lgm_par::Open;
+use lgm_live::RunLiveFault;
+use lgm_par::Gate;
 use lgm_script::{Sink, Source, write_all};
-use lgm_server::{Remains, RunFault, run_keeping};
+use lgm_server::{Remains, RunFault};
 use std::alloc::Global;
+use std::env::Env;
 use std::marker::Sync;
 use std::random::RandomSource;
 use std::sync::Wait;
@@ -23,8 +26,8 @@ const FAILED: u8 = 1;
 const BAD_WORDS: u8 = 2;
 
 /// Writes a text on what went wrong. A fault in that changes nothing.
-fn tell<E: Sink>(errors: &mut E, text: &str)
-    requires { E.failures errors.old + 1 < 2 ^ 64 }
+fn tell<S: Sink>(errors: &mut S, text: &str)
+    requires { S.failures errors.old + 1 < 2 ^ 64 }
 {
     let _ = write_all(errors, text.as_bytes());
 }
@@ -53,16 +56,29 @@ fn as_live(fault: RunFault) -> RunLiveFault {
     }
 }
 
-fn fail<E: Sink>(errors: &mut E, fault: RunLiveFault) -> u8
-    requires { E.failures errors.old + 1 < 2 ^ 64 }
+fn fail<S: Sink>(errors: &mut S, fault: RunLiveFault) -> u8
+    requires { S.failures errors.old + 1 < 2 ^ 64 }
+    ensures { result ≡ 1 }
 {
     tell(errors, line_of(fault));
     FAILED
 }
 
+/// Tells the fault of a script that wasn't answered, and gives the exit status.
+pub fn finish<S: Sink>(errors: &mut S, ended: &Ended) -> u8
+    requires { S.failures errors.old + 1 < 2 ^ 64 }
+    ensures { result ≡ status_of ended.now }
+{
+    match ended {
+        Ended::Ran(Ok(_)) | Ended::RanLive(Ok(_)) => DONE,
+        Ended::Ran(Err(fault)) => fail(errors, as_live(*fault)),
+        Ended::RanLive(Err(fault)) => fail(errors, *fault),
+    }
+}
+
 /// Writes what `clap` says of the words.
-fn refuse<E: Sink>(alloc: Global, errors: &mut E, error: &Error) -> u8
-    requires { E.failures errors.old + 1 < 2 ^ 64 }
+fn explain<S: Sink>(alloc: Global, errors: &mut S, error: &Error) -> u8
+    requires { S.failures errors.old + 1 < 2 ^ 64 }
 {
     if matches!(error.kind(), ErrorKind::OutOfMemory) {
         return fail(errors, RunLiveFault::NoMemory);
@@ -76,72 +92,60 @@ fn refuse<E: Sink>(alloc: Global, errors: &mut E, error: &Error) -> u8
     }
 }
 
-/// Answers a script as the options say. What `lgm run` made for it remains.
-fn answer<Rt: Threads + Wait + Sync + RandomSource, R: Source, W: Sink>(
-    rt: &Rt,
-    alloc: Global,
-    options: &Options,
-    reader: &mut R,
-    writer: &mut W,
-    remains: &mut Remains,
-) -> Result<(), RunLiveFault>
-    requires reader { R.failures reader.old + 1 < 2 ^ 64 }
-    requires writer { W.failures writer.old + 1 < 2 ^ 64 }
+/// Tells why the words are no options, and gives the exit status.
+fn refuse<S: Sink>(alloc: Global, errors: &mut S, bad: &BadWords) -> u8
+    requires { S.failures errors.old + 1 < 2 ^ 64 }
 {
-    let chain = &options.chain;
-    let known = &options.known;
-    let workers = options.workers.clamp(1, 64);
-    match options.mode {
-        Mode::Run => {
-            let ran = run_keeping(
-                rt, alloc, reader, writer, chain, known, workers, &Open, remains,
-            );
-            match ran {
-                Ok(_) => Ok(()),
-                Err(fault) => Err(as_live(fault)),
-            }
-        }
-        Mode::Live => {
-            run_live(rt, alloc, reader, writer, chain, known, workers, &Open)?;
-            Ok(())
-        }
-    }
+    let line = match bad {
+        BadWords::NotText => "lgm: a word isn't UTF-8\n",
+        BadWords::Words(error) => return explain(alloc, errors, error),
+        BadWords::Chain => "lgm: bad chain\n",
+        BadWords::Known => "lgm: bad known\n",
+        BadWords::NoMemory => return fail(errors, RunLiveFault::NoMemory),
+    };
+    tell(errors, line);
+    BAD_WORDS
 }
 
-/// Runs the program that the words name, the program's own name first, and gives its exit status.
+/// The options that the words of an environment give.
+fn options<E: Env + AllocGlobal>(env: &E) -> Result<Options, BadWords>
+    ensures { IfOk result (λ options. (1 ≤ options.workers) × (options.workers ≤ 64)) }
+{
+    let words = read_words(env)?;
+    parse(env.alloc(), words.as_slice())
+}
+
+/// Runs the program that the words of an environment name, the program's own name first, and gives its exit status.
 ///
-/// Status 0: the script was answered. Status 2: the words are bad, or ask for help, and `clap`'s text is on `errors`;
-/// or the chain isn't 64 hexadecimal digits, or the known feature bits aren't 2 to 512. Status 1: the run failed, and
-/// its line is on `errors`. A fault in writing to `errors` changes nothing. What the maps hold remains, since it takes
-/// a sixth of the time to free it.
-pub fn start<Rt: Threads + Wait + Sync + RandomSource, R: Source, W: Sink, E: Sink>(
+/// Status 0: the script was answered, as [`answer`] promises of the options. Status 2: the words are bad, or ask for
+/// help, and `clap`'s text is on `errors`; or a word isn't UTF-8, the chain isn't 64 hexadecimal digits, or the known
+/// feature bits aren't 2 to 512. Status 1: the run failed, and its line is on `errors`. A fault in writing to `errors`
+/// changes nothing. What the maps hold remains, since it takes a sixth of the time to free it.
+pub fn start<
+    Rt: Threads + Wait + Sync + RandomSource,
+    E: Env + AllocGlobal,
+    G: Gate,
+    R: Source,
+    W: Sink,
+    S: Sink,
+>(
     rt: &Rt,
-    alloc: Global,
-    words: &[String],
+    env: &E,
+    gate: &G,
     reader: &mut R,
     writer: &mut W,
-    errors: &mut E,
+    errors: &mut S,
     remains: &mut Remains,
 ) -> u8
     requires reader { R.failures reader.old + 1 < 2 ^ 64 }
     requires writer { W.failures writer.old + 1 < 2 ^ 64 }
-    requires errors { E.failures errors.old + 1 < 2 ^ 64 }
+    requires errors { S.failures errors.old + 1 < 2 ^ 64 }
 {
-    let options = match parse(alloc, words) {
+    let alloc = env.alloc();
+    let options = match options(env) {
         Ok(options) => options,
-        Err(BadWords::Words(error)) => return refuse(alloc, errors, &error),
-        Err(BadWords::Chain) => {
-            tell(errors, "lgm: bad chain\n");
-            return BAD_WORDS;
-        }
-        Err(BadWords::Known) => {
-            tell(errors, "lgm: bad known\n");
-            return BAD_WORDS;
-        }
-        Err(BadWords::NoMemory) => return fail(errors, RunLiveFault::NoMemory),
+        Err(bad) => return refuse(alloc, errors, &bad),
     };
-    match answer(rt, alloc, &options, reader, writer, remains) {
-        Ok(()) => DONE,
-        Err(fault) => fail(errors, fault),
-    }
+    let ended = answer(rt, alloc, &options, gate, reader, writer, remains);
+    finish(errors, &ended)
 }

@@ -1,44 +1,89 @@
 use crate::starting::start;
+use lgm_par::{Gate, Open};
 use lgm_script::{Failed, MemorySink, MemorySource, Sink, Source};
 use lgm_server::Remains;
 use std::alloc::Global;
+use std::env::{Env, FillError};
 use std::marker::Sync;
 use std::random::RandomSource;
 use std::sync::Wait;
 use std::test::Fail;
 use std::thread::Threads;
 
-const CHAIN: &str = "c1c1c1c1c1c1c1c1c1c1c1c1c1c1c1c1c1c1c1c1c1c1c1c1c1c1c1c1c1c1c1c1";
+pub const CHAIN: &str = "c1c1c1c1c1c1c1c1c1c1c1c1c1c1c1c1c1c1c1c1c1c1c1c1c1c1c1c1c1c1c1c1";
 
-fn words(alloc: Global, given: &[&str]) -> Result<Vec<String>, Fail> {
-    let mut words = Vec::new(alloc);
-    for word in given {
-        words.push(String::from_str(alloc, *word)?)?;
-    }
-    Ok(words)
+/// The words of a command line, behind which one of any bytes may stand.
+#[derive(Drop)]
+pub struct Given<'a> {
+    pub words: &'a [&'a str],
+    pub last: Option<&'a [u8]>,
 }
 
-/// The status, and what went to the writer and to `errors`.
-fn started<Rt: Threads + Wait + Sync + RandomSource>(
+impl Given<'_> {
+    fn word(&self, i: usize) -> Option<&[u8]> {
+        match self.words.get(i) {
+            Some(word) => Some(word.as_bytes()),
+            None if i == self.words.len() => self.last,
+            None => None,
+        }
+    }
+}
+
+impl Env for Given<'_> {
+    fn arg(&self, i: usize, buf: &mut [u8]) -> Result<usize, FillError> {
+        let Some(word) = self.word(i) else {
+            return Err(FillError::NotPresent);
+        };
+        let n = word.len();
+        if n > buf.len() {
+            return Err(FillError::TooLong);
+        }
+        buf[..n].copy_from_slice(word);
+        Ok(n)
+    }
+
+    fn var(&self, _name: &str, _buf: &mut [u8]) -> Result<usize, FillError> {
+        Err(FillError::NotPresent)
+    }
+
+    fn var_at(&self, _i: usize, _buf: &mut [u8]) -> Result<usize, FillError> {
+        Err(FillError::NotPresent)
+    }
+}
+
+/// The status, and what went to the writer and to `errors`. The reader gives at most so many bytes at once.
+pub fn started_in<Rt: Threads + Wait + Sync + RandomSource, G: Gate>(
     rt: &Rt,
     alloc: Global,
-    given: &[&str],
+    given: Given<'_>,
+    gate: &G,
     script: &[u8],
-) -> Result<(u8, MemorySink, MemorySink), Fail> {
-    let words = words(alloc, given)?;
-    let mut reader = MemorySource::new(script, 7);
+    most: usize,
+) -> (u8, MemorySink, MemorySink) {
+    let mut reader = MemorySource::new(script, most);
     let mut writer = MemorySink::new(alloc);
     let mut errors = MemorySink::new(alloc);
     let status = start(
         rt,
-        alloc,
-        words.as_slice(),
+        &(given, alloc),
+        gate,
         &mut reader,
         &mut writer,
         &mut errors,
         &mut Remains::none(),
     );
-    Ok((status, writer, errors))
+    (status, writer, errors)
+}
+
+/// The same, seven bytes at a time.
+pub fn started<Rt: Threads + Wait + Sync + RandomSource>(
+    rt: &Rt,
+    alloc: Global,
+    words: &[&str],
+    script: &[u8],
+) -> (u8, MemorySink, MemorySink) {
+    let given = Given { words, last: None };
+    started_in(rt, alloc, given, &Open, script, 7)
 }
 
 #[test]
@@ -70,7 +115,7 @@ fn words_are_checked_first(rt: HostRuntime) -> Result<(), Fail> {
         (&["lgm", "stop", "--chain", CHAIN], 2),
     ];
     for (given, want) in table {
-        let (status, writer, errors) = started(&rt, rt.alloc(), given, b"")?;
+        let (status, writer, errors) = started(&rt, rt.alloc(), given, b"");
         assert_eq!(rt; status, want, "at {given:?}");
         assert_eq!(rt; errors.taken().is_empty(), want == 0, "at {given:?}");
         assert!(rt;
@@ -90,7 +135,7 @@ fn a_chain_has_64_digits(rt: HostRuntime) -> Result<(), Fail> {
             rt.alloc(),
             &["lgm", "run", "--chain", chain],
             b"",
-        )?;
+        );
         assert_eq!(rt; status, 2, "at {chain}");
         assert_eq!(rt;
             errors.taken(),
@@ -123,7 +168,7 @@ fn known_bits_have_2_to_512_digits(rt: HostRuntime) -> Result<(), Fail> {
         ("0x", 2),
     ] {
         let given = ["lgm", "run", "--known", known, "--chain", CHAIN];
-        let (status, writer, errors) = started(&rt, alloc, &given, b"")?;
+        let (status, writer, errors) = started(&rt, alloc, &given, b"");
         assert_eq!(rt; status, want, "at {known}");
         let line = if want == 0 { "" } else { "lgm: bad known\n" };
         assert_eq!(rt; errors.taken(), line.as_bytes(), "at {known}");
@@ -135,7 +180,7 @@ fn known_bits_have_2_to_512_digits(rt: HostRuntime) -> Result<(), Fail> {
 #[test]
 fn the_chain_comes_before_the_known_bits(rt: HostRuntime) -> Result<(), Fail> {
     let given = ["lgm", "run", "--known", "0", "--chain", "zz"];
-    let (status, _, errors) = started(&rt, rt.alloc(), &given, b"")?;
+    let (status, _, errors) = started(&rt, rt.alloc(), &given, b"");
     assert_eq!(rt; status, 2);
     assert_eq!(rt; errors.taken(), b"lgm: bad chain\n".as_slice());
     Ok(())
@@ -147,12 +192,12 @@ fn a_fault_has_its_line(rt: HostRuntime) -> Result<(), Fail> {
     let mut script = Vec::from_slice(alloc, b"commit\n#")?;
     script.resize(140_007, b'x')?;
     let given = ["lgm", "run", "--chain", CHAIN];
-    let (status, writer, errors) = started(&rt, alloc, &given, script.as_slice())?;
+    let (status, writer, errors) = started(&rt, alloc, &given, script.as_slice());
     assert_eq!(rt; status, 0);
     assert_eq!(rt; writer.taken(), b"1 commit 0\n".as_slice());
     assert!(rt; errors.taken().is_empty());
     script.push(b'x')?;
-    let (status, writer, errors) = started(&rt, alloc, &given, script.as_slice())?;
+    let (status, writer, errors) = started(&rt, alloc, &given, script.as_slice());
     assert_eq!(rt; status, 1);
     assert_eq!(rt; writer.taken(), b"1 commit 0\n".as_slice());
     assert_eq!(rt; errors.taken(), b"lgm: line too long\n".as_slice());
@@ -166,12 +211,12 @@ fn a_fault_of_live_has_its_line(rt: HostRuntime) -> Result<(), Fail> {
     let mut script = Vec::from_slice(alloc, b"commit\nq 00\n#")?;
     script.resize(140_012, b'x')?;
     let given = ["lgm", "live", "--chain", CHAIN];
-    let (status, writer, errors) = started(&rt, alloc, &given, script.as_slice())?;
+    let (status, writer, errors) = started(&rt, alloc, &given, script.as_slice());
     assert_eq!(rt; status, 0);
     assert_eq!(rt; writer.taken(), b"1 commit 0\n2 not-live\n".as_slice());
     assert!(rt; errors.taken().is_empty());
     script.push(b'x')?;
-    let (status, writer, errors) = started(&rt, alloc, &given, script.as_slice())?;
+    let (status, writer, errors) = started(&rt, alloc, &given, script.as_slice());
     assert_eq!(rt; status, 1);
     assert!(rt; writer.taken().is_empty());
     assert_eq!(rt; errors.taken(), b"lgm: line too long\n".as_slice());
@@ -231,7 +276,6 @@ const RUN: [&str; 4] = ["lgm", "run", "--chain", CHAIN];
 #[test]
 fn a_failed_read_has_its_line(rt: HostRuntime) -> Result<(), Fail> {
     let alloc = rt.alloc();
-    let words = words(alloc, &RUN)?;
     let mut reader = BrokenSource {
         text: MemorySource::new(b"commit\ncomm", 100),
         is_broken: false,
@@ -239,10 +283,14 @@ fn a_failed_read_has_its_line(rt: HostRuntime) -> Result<(), Fail> {
     };
     let mut writer = MemorySink::new(alloc);
     let mut errors = MemorySink::new(alloc);
+    let given = Given {
+        words: &RUN,
+        last: None,
+    };
     let status = start(
         &rt,
-        alloc,
-        words.as_slice(),
+        &(given, alloc),
+        &Open,
         &mut reader,
         &mut writer,
         &mut errors,
@@ -257,14 +305,17 @@ fn a_failed_read_has_its_line(rt: HostRuntime) -> Result<(), Fail> {
 #[test]
 fn a_failed_write_has_its_line(rt: HostRuntime) -> Result<(), Fail> {
     let alloc = rt.alloc();
-    let words = words(alloc, &RUN)?;
     let mut reader = MemorySource::new(b"commit\n", 100);
     let mut writer = FullSink { failures: 0 };
     let mut errors = MemorySink::new(alloc);
+    let given = Given {
+        words: &RUN,
+        last: None,
+    };
     let status = start(
         &rt,
-        alloc,
-        words.as_slice(),
+        &(given, alloc),
+        &Open,
         &mut reader,
         &mut writer,
         &mut errors,

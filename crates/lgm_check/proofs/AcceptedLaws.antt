@@ -2,7 +2,7 @@
 use Rattle.std.proofs.Common.{◌≡◌, ℕ, ◌/◌, ◌%◌, ◌≤◌, Bool, true, false, List, Result, Ok, Err, not, refl, sym, ap, subst, ◌∙◌, arith, inl, inr}
 use Rattle.std.specs.Prelude.{nat_eq, nat_le, if◌then◌else◌, IfOk, MatchResult, IsTrue}
 use Rattle.std.specs.Cmp.Lexicographic.{pointwise, bytes_decides}
-use Rattle.lgm_wire.specs.Reading.{◌>>=◌}
+use Rattle.lgm_wire.specs.Reading.{◌>>=◌, Sees}
 use Rattle.lgm_gossip.specs.Memory.{GivesIf}
 use Rattle.lgm_wire.proofs.ReadingLaws.{ok_is}
 use Rattle.lgm_wire.proofs.Bytes.{IsBytes}
@@ -209,20 +209,20 @@ only chain bytes evidence (checked.Node row) is = rw (message_again bytes (messa
 
 -- ---- what was returned
 
-pub channel_accepted : (asks : Type 0) (chain : ChainHash) (m : Announce) (bytes : List ℕ) (evidence : Evidence) (r : Step) → Wire (messages.Announce m) bytes
-    → GivesIf asks refusals.NoMemory (λ made. made) r (checked_announce chain m bytes evidence) → IfOk r (λ made. IsAccepted chain bytes evidence made)
-channel_accepted asks chain m bytes evidence (Ok made) wire given = channel_takes chain m bytes evidence made wire given
-channel_accepted asks chain m bytes evidence (Err refusal) wire given = tt
+pub channel_accepted : (chain : ChainHash) (m : Announce) (bytes : List ℕ) (evidence : Evidence) (r : Step) → Wire (messages.Announce m) bytes
+    → Sees (λ made. made) r (checked_announce chain m bytes evidence) → IfOk r (λ made. IsAccepted chain bytes evidence made)
+channel_accepted chain m bytes evidence (Ok made) wire given = channel_takes chain m bytes evidence made wire given
+channel_accepted chain m bytes evidence (Err refusal) wire given = tt
 
-pub update_accepted : (asks : Type 0) (chain : ChainHash) (m : ChannelUpdate) (bytes : List ℕ) (evidence : Evidence) (r : Step) → Wire (messages.ChannelUpdate m) bytes
-    → GivesIf asks refusals.NoMemory (λ made. made) r (checked_update chain m bytes evidence) → IfOk r (λ made. IsAccepted chain bytes evidence made)
-update_accepted asks chain m bytes evidence (Ok made) wire given = update_takes chain m bytes evidence made wire given
-update_accepted asks chain m bytes evidence (Err refusal) wire given = tt
+pub update_accepted : (chain : ChainHash) (m : ChannelUpdate) (bytes : List ℕ) (evidence : Evidence) (r : Step) → Wire (messages.ChannelUpdate m) bytes
+    → Sees (λ made. made) r (checked_update chain m bytes evidence) → IfOk r (λ made. IsAccepted chain bytes evidence made)
+update_accepted chain m bytes evidence (Ok made) wire given = update_takes chain m bytes evidence made wire given
+update_accepted chain m bytes evidence (Err refusal) wire given = tt
 
-pub node_accepted : (asks : Type 0) (chain : ChainHash) (m : NodeAnnounce) (bytes : List ℕ) (evidence : Evidence) (r : Step) → Wire (messages.NodeAnnounce m) bytes
-    → GivesIf asks refusals.NoMemory (λ made. made) r (checked_node m bytes evidence) → IfOk r (λ made. IsAccepted chain bytes evidence made)
-node_accepted asks chain m bytes evidence (Ok made) wire given = node_takes chain m bytes evidence made wire given
-node_accepted asks chain m bytes evidence (Err refusal) wire given = tt
+pub node_accepted : (chain : ChainHash) (m : NodeAnnounce) (bytes : List ℕ) (evidence : Evidence) (r : Step) → Wire (messages.NodeAnnounce m) bytes
+    → Sees (λ made. made) r (checked_node m bytes evidence) → IfOk r (λ made. IsAccepted chain bytes evidence made)
+node_accepted chain m bytes evidence (Ok made) wire given = node_takes chain m bytes evidence made wire given
+node_accepted chain m bytes evidence (Err refusal) wire given = tt
 
 pub is_only : (asks : Type 0) (chain : ChainHash) (bytes : List ℕ) (evidence : Evidence) (r : Step) (made : Checked)
     → GivesIf asks refusals.NoMemory (λ made. made) r (checked_of chain bytes evidence) → IsAccepted chain bytes evidence made

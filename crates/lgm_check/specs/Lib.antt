@@ -1,4 +1,3 @@
 pub mod Refusal
 pub mod Precheck
 pub mod Accepted
-pub mod Raw

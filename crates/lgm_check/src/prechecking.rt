@@ -1,21 +1,19 @@
 //! The check of a message without a map.
 
-ghost use Rattle.std.specs.Prelude.{◌≡◌, ℕ, ◌<◌, ◌⊎◌, List, Ok, IfOk, IsOk, MatchResult, slice_index};
+ghost use Rattle.std.specs.Prelude.{◌≡◌, ℕ, ◌<◌, ◌⊎◌, List, Ok, IfOk, MatchResult, slice_index};
 ghost use Rattle.lgm_wire.specs.Reading.{Sees, Gives};
 ghost use Rattle.lgm_gossip.specs.Memory.{GivesIf, TakesMemory};
 ghost use Rattle.lgm_wire.specs.declared.chain_hash.ChainHash.{ChainHash};
 ghost use Rattle.lgm_check.specs.declared.evidence.Evidence.{Evidence};
 ghost use Rattle.lgm_check.specs.declared.row.Checked.{Checked};
-ghost use Rattle.lgm_check.specs.Raw.{bytes_of, IsLent};
 ghost use Rattle.lgm_check.specs.Accepted.{IsAccepted};
 ghost use Rattle.lgm_check.specs.Precheck.{require as requirement, has_lawful_points, are_in_order, capacity_of, is_all_four, is_private, signer_of};
 ghost use Rattle.lgm_check.specs.Precheck.{checked_announce, checked_update, checked_node, checked_of};
 
 use crate::evidence::{Evidence, Funding, Sig};
-use crate::raw::Raw;
 use crate::refusal::Refusal;
 use crate::row::{ChannelRow, Checked, NodeRow, UpdateRow};
-use lgm_gossip::{Announce, Bytes, ChainHash, ChannelUpdate, Message, NodeAnnounce, Point, decode};
+use lgm_gossip::{Announce, ChainHash, ChannelUpdate, Lent, Message, NodeAnnounce, Point, decode};
 use std::alloc::Global;
 
 /// The most satoshi that a channel can have: all that there will ever be.
@@ -64,22 +62,21 @@ fn is_all_four(sig: Sig) -> bool
 
 /// The row of a `channel_announcement`, or its first refusal.
 #[tactic(auto, unfolding(crate::specs::Precheck::checked_announce))]
-fn announce(
-    alloc: Global,
+fn announce<'a>(
     chain: &ChainHash,
-    message: Announce,
-    raw: Raw,
+    message: &Announce<'a>,
+    raw: &'a [u8],
     evidence: &Evidence,
-) -> Result<Checked, Refusal>
-    ensures { GivesIf (IsLent raw.entry × IsOk (checked_announce chain.now message (bytes_of raw.entry) evidence.now))
-        Refusal.NoMemory (λ c. c) result (checked_announce chain.now message (bytes_of raw.entry) evidence.now) }
+) -> Result<Checked<'a>, Refusal>
+    ensures { Sees (λ c. c) result (checked_announce chain.now message.now raw.now evidence.now) }
 {
     require(message.chain_hash == *chain, Refusal::Chain)?;
-    require(has_lawful_points(&message), Refusal::Point)?;
-    require(are_in_order(&message), Refusal::NodeOrder)?;
+    require(has_lawful_points(message), Refusal::Point)?;
+    require(are_in_order(message), Refusal::NodeOrder)?;
     let sat = capacity(evidence.funding)?;
     require(is_all_four(evidence.sig), Refusal::Signature)?;
-    let raw = raw.into_bytes(alloc)?;
+    let message = message.again();
+    let raw = Lent::new(raw);
     Ok(Checked::Channel(ChannelRow { message, sat, raw }))
 }
 
@@ -102,58 +99,55 @@ fn signer(sig: Sig) -> Result<Point, Refusal>
 
 /// The row of a `channel_update`, or its first refusal.
 #[tactic(auto, unfolding(crate::specs::Precheck::checked_update))]
-fn update(
-    alloc: Global,
+fn update<'a>(
     chain: &ChainHash,
-    message: ChannelUpdate,
-    raw: Raw,
+    message: &ChannelUpdate<'a>,
+    raw: &'a [u8],
     evidence: &Evidence,
-) -> Result<Checked, Refusal>
-    ensures { GivesIf (IsLent raw.entry × IsOk (checked_update chain.now message (bytes_of raw.entry) evidence.now))
-        Refusal.NoMemory (λ c. c) result (checked_update chain.now message (bytes_of raw.entry) evidence.now) }
+) -> Result<Checked<'a>, Refusal>
+    ensures { Sees (λ c. c) result (checked_update chain.now message.now raw.now evidence.now) }
 {
     require(message.chain_hash == *chain, Refusal::Chain)?;
-    require(!is_private(&message), Refusal::Private)?;
+    require(!is_private(message), Refusal::Private)?;
     let signer = signer(evidence.sig)?;
-    let raw = raw.into_bytes(alloc)?;
+    let message = message.again();
+    let raw = Lent::new(raw);
     Ok(Checked::Update(UpdateRow { message, raw }, signer))
 }
 
 /// The row of a `node_announcement`, or its first refusal.
 #[tactic(auto, unfolding(crate::specs::Precheck::checked_node))]
-fn node(
-    alloc: Global,
-    message: NodeAnnounce,
-    raw: Raw,
+fn node<'a>(
+    message: &NodeAnnounce<'a>,
+    raw: &'a [u8],
     evidence: &Evidence,
-) -> Result<Checked, Refusal>
-    ensures { GivesIf (IsLent raw.entry × IsOk (checked_node message (bytes_of raw.entry) evidence.now))
-        Refusal.NoMemory (λ c. c) result (checked_node message (bytes_of raw.entry) evidence.now) }
+) -> Result<Checked<'a>, Refusal>
+    ensures { Sees (λ c. c) result (checked_node message.now raw.now evidence.now) }
 {
     require(message.node_id.lawful(), Refusal::Point)?;
     let signer = signer(evidence.sig)?;
     require(signer == message.node_id, Refusal::Signature)?;
-    let raw = raw.into_bytes(alloc)?;
+    let message = message.again();
+    let raw = Lent::new(raw);
     Ok(Checked::Node(NodeRow { message, raw }))
 }
 
 /// The row of any message, or its first refusal.
 #[tactic(auto, unfolding(crate::specs::Precheck::checked_of))]
-fn check(
+fn check<'a>(
     alloc: Global,
     chain: &ChainHash,
-    raw: Raw,
+    raw: &'a [u8],
     evidence: &Evidence,
-) -> Result<Checked, Refusal>
-    ensures exact { GivesIf (TakesMemory (bytes_of raw.entry)
-        ⊎ (IsLent raw.entry × IsOk (checked_of chain.now (bytes_of raw.entry) evidence.now)))
-        Refusal.NoMemory (λ c. c) result (checked_of chain.now (bytes_of raw.entry) evidence.now) }
-    ensures accepted { IfOk result (λ made. IsAccepted chain.now (bytes_of raw.entry) evidence.now made) }
+) -> Result<Checked<'a>, Refusal>
+    ensures exact { GivesIf (TakesMemory raw.now) Refusal.NoMemory (λ c. c) result (checked_of chain.now raw.now evidence.now) }
+    ensures accepted { IfOk result (λ made. IsAccepted chain.now raw.now evidence.now made) }
 {
-    match decode(alloc, raw.as_slice())? {
-        Message::Announce(message) => announce(alloc, chain, message, raw, evidence),
-        Message::ChannelUpdate(message) => update(alloc, chain, message, raw, evidence),
-        Message::NodeAnnounce(message) => node(alloc, message, raw, evidence),
+    let message = decode(alloc, raw)?;
+    match &message {
+        Message::Announce(message) => announce(chain, message, raw, evidence),
+        Message::ChannelUpdate(message) => update(chain, message, raw, evidence),
+        Message::NodeAnnounce(message) => node(message, raw, evidence),
         _ => Err(Refusal::NotGossip),
     }
 }
@@ -167,14 +161,14 @@ fn check(
 /// 8 `private` and 10 `signature` (nobody's), for an announcement of a node 6 `point` and 10 `signature` (not the
 /// node's). Any bytes of any length may be given.
 ///
-/// `NoMemory` is no verdict on the message: memory was refused for what [`decode`] keeps of it, or for the row's copy of
-/// an accepted message. No refusal needs memory but for what is decoded.
-pub fn precheck(
+/// The row borrows the bytes. `NoMemory` is no verdict on the message: memory was refused for what [`decode`] keeps of a
+/// query or an answer. An announcement or an update takes none.
+pub fn precheck<'a>(
     alloc: Global,
     chain: &ChainHash,
-    bytes: &[u8],
+    bytes: &'a [u8],
     evidence: &Evidence,
-) -> Result<Checked, Refusal>
+) -> Result<Checked<'a>, Refusal>
     // What is accepted is accepted rightly, and nothing else is.
     ensures accepted { IfOk result (λ made. IsAccepted chain.now bytes.now evidence.now made) }
     ensures only { (made : Checked) → IsAccepted chain.now bytes.now evidence.now made
@@ -183,30 +177,10 @@ pub fn precheck(
     // The row, or the first refusal of the order.
     ensures exact { Gives Refusal.NoMemory (λ made. made) result (checked_of chain.now bytes.now evidence.now) }
 
-    // Memory can run out only where decoding asks for it, or for the copy of an accepted message.
-    ensures memory { Sees (λ made. made) result (checked_of chain.now bytes.now evidence.now)
-        ⊎ (TakesMemory bytes.now ⊎ IsOk (checked_of chain.now bytes.now evidence.now)) }
-{
-    check(alloc, chain, Raw::Lent(bytes), evidence)
-}
-
-/// The same as [`precheck`], with bytes that move into the row: they aren't copied. Where the message is refused they
-/// are let go.
-pub fn precheck_owned(
-    alloc: Global,
-    chain: &ChainHash,
-    bytes: Bytes,
-    evidence: &Evidence,
-) -> Result<Checked, Refusal>
-    ensures accepted { IfOk result (λ made. IsAccepted chain.now bytes evidence.now made) }
-    ensures only { (made : Checked) → IsAccepted chain.now bytes evidence.now made
-        → MatchResult result (λ found. found ≡ made) (λ e. e ≡ Refusal.NoMemory) }
-    ensures exact { Gives Refusal.NoMemory (λ made. made) result (checked_of chain.now bytes evidence.now) }
-
     // Memory can run out only where decoding asks for it.
-    ensures memory { Sees (λ made. made) result (checked_of chain.now bytes evidence.now) ⊎ TakesMemory bytes }
+    ensures memory { Sees (λ made. made) result (checked_of chain.now bytes.now evidence.now) ⊎ TakesMemory bytes.now }
 {
-    check(alloc, chain, Raw::Given(bytes), evidence)
+    check(alloc, chain, bytes, evidence)
 }
 
 /// What is accepted: a law, of which the contract is the statement; the call does nothing.

@@ -1,22 +1,21 @@
 //! The rows that messages add to a map.
 
-ghost use Rattle.std.specs.Prelude.{◌≡◌, ◌%◌, ◌==◌, IfOk, if◌then◌else◌};
+ghost use Rattle.std.specs.Prelude.{◌≡◌, ◌%◌, ◌==◌, if◌then◌else◌};
 
-use lgm_gossip::{Announce, Bytes, ChannelUpdate, NodeAnnounce, Point, Scid};
-use std::alloc::{AllocError, Global};
+use lgm_gossip::{Announce, ChannelUpdate, Lent, NodeAnnounce, Point, Scid};
 
 /// A channel: its announcement, its capacity, and the bytes that are sent on.
 #[derive(Debug, Drop)]
-pub struct ChannelRow {
+pub struct ChannelRow<'a> {
     /// The announcement's fields.
-    pub message: Announce,
+    pub message: Announce<'a>,
     /// The capacity, in satoshi.
     pub sat: u64,
     /// The whole message as it came.
-    pub raw: Bytes,
+    pub raw: Lent<'a>,
 }
 
-impl ChannelRow {
+impl<'a> ChannelRow<'a> {
     /// The channel's name.
     pub fn scid(&self) -> Scid
         ensures { result ≡ self.now.message.short_channel_id }
@@ -34,29 +33,18 @@ impl ChannelRow {
             self.message.node_id_1
         }
     }
-
-    /// A copy. The only error is want of memory.
-    pub fn copy(&self, alloc: Global) -> Result<ChannelRow, AllocError>
-        ensures { IfOk result (λ copy. copy ≡ self.now) }
-    {
-        Ok(ChannelRow {
-            message: self.message.copy(alloc)?,
-            sat: self.sat,
-            raw: self.raw.copy(alloc)?,
-        })
-    }
 }
 
 /// A direction of a channel: its update, and the bytes that are sent on.
 #[derive(Debug, Drop)]
-pub struct UpdateRow {
+pub struct UpdateRow<'a> {
     /// The update's fields.
-    pub message: ChannelUpdate,
+    pub message: ChannelUpdate<'a>,
     /// The whole message as it came.
-    pub raw: Bytes,
+    pub raw: Lent<'a>,
 }
 
-impl UpdateRow {
+impl<'a> UpdateRow<'a> {
     /// The channel's name.
     pub fn scid(&self) -> Scid
         ensures { result ≡ self.now.message.short_channel_id }
@@ -70,43 +58,23 @@ impl UpdateRow {
     {
         self.message.channel_flags % 2 == 1
     }
-
-    /// A copy. The only error is want of memory.
-    pub fn copy(&self, alloc: Global) -> Result<UpdateRow, AllocError>
-        ensures { IfOk result (λ copy. copy ≡ self.now) }
-    {
-        Ok(UpdateRow {
-            message: self.message.copy(alloc)?,
-            raw: self.raw.copy(alloc)?,
-        })
-    }
 }
 
 /// A node: its announcement, and the bytes that are sent on.
 #[derive(Debug, Drop)]
-pub struct NodeRow {
+pub struct NodeRow<'a> {
     /// The announcement's fields.
-    pub message: NodeAnnounce,
+    pub message: NodeAnnounce<'a>,
     /// The whole message as it came.
-    pub raw: Bytes,
+    pub raw: Lent<'a>,
 }
 
-impl NodeRow {
+impl<'a> NodeRow<'a> {
     /// The node.
     pub fn node(&self) -> Point
         ensures { result ≡ self.now.message.node_id }
     {
         self.message.node_id
-    }
-
-    /// A copy. The only error is want of memory.
-    pub fn copy(&self, alloc: Global) -> Result<NodeRow, AllocError>
-        ensures { IfOk result (λ copy. copy ≡ self.now) }
-    {
-        Ok(NodeRow {
-            message: self.message.copy(alloc)?,
-            raw: self.raw.copy(alloc)?,
-        })
     }
 }
 
@@ -126,24 +94,11 @@ pub struct BanRow {
 
 /// A message that is lawful by itself, as the row to be.
 #[derive(Debug, Drop)]
-pub enum Checked {
+pub enum Checked<'a> {
     /// Of a `channel_announcement`.
-    Channel(ChannelRow),
+    Channel(ChannelRow<'a>),
     /// Of a `channel_update`, and the point that signed it.
-    Update(UpdateRow, Point),
+    Update(UpdateRow<'a>, Point),
     /// Of a `node_announcement`.
-    Node(NodeRow),
-}
-
-impl Checked {
-    /// A copy. The only error is want of memory.
-    pub fn copy(&self, alloc: Global) -> Result<Checked, AllocError>
-        ensures { IfOk result (λ copy. copy ≡ self.now) }
-    {
-        match self {
-            Checked::Channel(row) => Ok(Checked::Channel(row.copy(alloc)?)),
-            Checked::Update(row, signer) => Ok(Checked::Update(row.copy(alloc)?, *signer)),
-            Checked::Node(row) => Ok(Checked::Node(row.copy(alloc)?)),
-        }
-    }
+    Node(NodeRow<'a>),
 }

@@ -2,8 +2,8 @@
 
 use crate::messages::point;
 use lgm_publish::{Eye, Guard};
-use lgm_route::{Request, least};
-use std::alloc::Global;
+use lgm_route::{Request, RouteFault, least};
+use std::alloc::{AllocError, Global};
 
 /// What a reader has seen.
 #[derive(Clone, Copy, Debug, PartialEq, Eq)]
@@ -14,14 +14,17 @@ pub struct Tally {
     pub right: u32,
     /// How many are answered on a map that is shorter than one before.
     pub fell: u32,
+    /// How many have no answer, since memory was refused. There may be a route.
+    pub unanswered: u32,
     /// The version of the last answer.
     pub version: u64,
     /// What the payer sends over the last route, in msat.
     pub sent: u64,
 }
 
-/// What the payer A sends so that C gets 1,000,000 msat, over the map that a guard shows.
-fn find(alloc: Global, guard: &Guard) -> Option<u64> {
+/// What the payer A sends so that C gets 1,000,000 msat, over the map that a guard shows; nothing where there is no route.
+/// The only error is want of memory.
+fn find(alloc: Global, guard: &Guard) -> Result<Option<u64>, AllocError> {
     let request = Request {
         payer: point(10),
         payee: point(12),
@@ -29,8 +32,9 @@ fn find(alloc: Global, guard: &Guard) -> Option<u64> {
         expiry: 700_000,
     };
     match least(alloc, guard.view(), &request) {
-        Ok(route) => Some(route.sent()),
-        Err(_) => None,
+        Ok(route) => Ok(Some(route.sent())),
+        Err(RouteFault::NoMemory) => Err(AllocError),
+        Err(_) => Ok(None),
     }
 }
 
@@ -41,6 +45,7 @@ impl Tally {
             routed: 0,
             right: 0,
             fell: 0,
+            unanswered: 0,
             version: 0,
             sent: 0,
         }
@@ -67,8 +72,10 @@ pub fn answer_all(alloc: Global, eye: Eye, payments: u32) -> (Eye, Tally) {
     for _payment in 0..payments {
         match eye.enter() {
             Ok(guard) => {
-                if let Some(sent) = find(alloc, &guard) {
-                    tally.add(guard.version(), sent);
+                match find(alloc, &guard) {
+                    Ok(Some(sent)) => tally.add(guard.version(), sent),
+                    Ok(None) => {}
+                    Err(AllocError) => tally.unanswered = tally.unanswered.saturating_add(1),
                 }
                 eye = guard.leave();
             }

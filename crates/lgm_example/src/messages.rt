@@ -2,7 +2,8 @@
 
 use lgm_check::{Evidence, Funding, Sig};
 use lgm_gossip::{
-    Announce, Bytes, ChainHash, ChannelUpdate, EncodeFault, Message, Point, Scid, encode,
+    Announce, Bytes, ChainHash, ChannelUpdate, EncodeFault, Lent, Message, Point, Scid, Signature,
+    encode,
 };
 use std::alloc::Global;
 
@@ -28,19 +29,20 @@ pub fn announcement(
     first: u8,
     second: u8,
 ) -> Result<(Bytes, Evidence), EncodeFault> {
+    let zeros = [0; 64];
     let message = Message::Announce(Announce {
-        node_signature_1: [0; 64],
-        node_signature_2: [0; 64],
-        bitcoin_signature_1: [0; 64],
-        bitcoin_signature_2: [0; 64],
-        features: Bytes::from_slice(alloc, &[])?,
+        node_signature_1: Signature::new(&zeros),
+        node_signature_2: Signature::new(&zeros),
+        bitcoin_signature_1: Signature::new(&zeros),
+        bitcoin_signature_2: Signature::new(&zeros),
+        features: Lent::new(&[]),
         chain_hash: CHAIN,
         short_channel_id: scid(number),
         node_id_1: point(first),
         node_id_2: point(second),
         bitcoin_key_1: point(0xee),
         bitcoin_key_2: point(0xee),
-        rest: Bytes::from_slice(alloc, &[])?,
+        rest: Lent::new(&[]),
     });
     let evidence = Evidence {
         sig: Sig::AllFour(true),
@@ -56,8 +58,9 @@ pub fn update(
     timestamp: u32,
     fee: u32,
 ) -> Result<(Bytes, Evidence), EncodeFault> {
+    let zeros = [0; 64];
     let message = Message::ChannelUpdate(ChannelUpdate {
-        signature: [0; 64],
+        signature: Signature::new(&zeros),
         chain_hash: CHAIN,
         short_channel_id: scid(number),
         timestamp,
@@ -68,7 +71,7 @@ pub fn update(
         fee_base_msat: fee,
         fee_proportional_millionths: 0,
         htlc_maximum_msat: 50_000_000,
-        rest: Bytes::from_slice(alloc, &[])?,
+        rest: Lent::new(&[]),
     });
     let evidence = Evidence {
         sig: Sig::By(point(if number == 1 { 10 } else { 11 })),

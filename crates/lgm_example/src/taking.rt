@@ -1,16 +1,18 @@
 //! The writer's side: gossip is checked, admitted to a map of the writer's own, and appended to what is published next.
 
 use crate::messages::CHAIN;
-use lgm_check::{Evidence, precheck_owned};
+use lgm_check::{Evidence, Refusal};
 use lgm_gossip::Bytes;
 use lgm_publish::Pen;
-use lgm_store::{Map, Seed};
+use lgm_store::{Candidate, Map, Op, Seed};
 use std::alloc::{AllocError, Global};
 
 /// What takes gossip.
 #[derive(Drop)]
 pub struct Taker {
     map: Map,
+    /// What the map has done and the board hasn't: an operation that came back. It is appended before anything else.
+    back: Option<Op>,
 }
 
 impl Taker {
@@ -18,23 +20,47 @@ impl Taker {
     pub fn new(alloc: Global, seed: Seed) -> Result<Taker, AllocError> {
         Ok(Taker {
             map: Map::with_seed(alloc, seed)?,
+            back: None,
         })
     }
 
-    /// Takes a message, if it is accepted.
+    /// Appends the operation that came back, if one did.
+    fn append(&mut self, pen: &mut Pen) -> Result<(), AllocError> {
+        let Some(op) = self.back.take() else {
+            return Ok(());
+        };
+        match pen.append(op) {
+            Ok(()) => Ok(()),
+            Err(fault) => {
+                self.back = Some(fault.op);
+                Err(AllocError)
+            }
+        }
+    }
+
+    /// Takes a message, and gives why it is refused, if it is: then the map is as it was, and the next message can come.
+    /// The only error is want of memory, which says nothing of the message.
     pub fn take(
         &mut self,
         alloc: Global,
         pen: &mut Pen,
         bytes: Bytes,
         evidence: &Evidence,
-    ) -> bool {
-        let Ok(checked) = precheck_owned(alloc, &CHAIN, bytes, evidence) else {
-            return false;
+    ) -> Result<Option<Refusal>, AllocError> {
+        self.append(pen)?;
+        let candidate = match Candidate::precheck(alloc, &CHAIN, bytes, evidence) {
+            Ok(candidate) => candidate,
+            Err(Refusal::NoMemory) => return Err(AllocError),
+            Err(refusal) => return Ok(Some(refusal)),
         };
-        match self.map.offer(alloc, checked) {
-            Ok(op) => pen.append(op).is_ok(),
-            Err(_) => false,
+        match self.map.offer_candidate(alloc, candidate) {
+            Ok(op) => {
+                self.back = Some(op);
+                self.append(pen)?;
+                Ok(None)
+            }
+            Err(Refusal::NoMemory) => Err(AllocError),
+            Err(refusal) => Ok(Some(refusal)),
         }
     }
 }

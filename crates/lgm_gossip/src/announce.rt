@@ -1,32 +1,33 @@
 //! `channel_announcement`.
 
-ghost use Rattle.std.specs.Prelude.{◌≡◌, IfOk};
-ghost use Rattle.lgm_gossip.specs.Memory.{GivesIf, Keeps, announce_kept};
+ghost use Rattle.std.specs.Prelude.{◌≡◌};
+ghost use Rattle.lgm_wire.specs.Reading.{Sees};
 
 use crate::bytes::Bytes;
 use crate::encode_fault::EncodeFault;
 use crate::fault::DecodeFault;
-use crate::fields::{counted, fixed, number64};
+use crate::fields::{counted, fixed, number64, signature};
 use crate::joining::{join, whole};
+use crate::lent::{Lent, Signature};
 use crate::measuring::measure;
 use crate::part::Part;
 use lgm_wire::{ChainHash, Point, Scid};
-use std::alloc::{AllocError, Global};
+use std::alloc::Global;
 
 /// A `channel_announcement`, type 256: two nodes say, and prove by four signatures, that an output of the chain is
 /// their channel (BOLT 7, "The channel_announcement Message").
 #[derive(Debug, Drop)]
-pub struct Announce {
+pub struct Announce<'a> {
     /// The signature of node 1, 64 bytes, as the other three.
-    pub node_signature_1: [u8; 64],
+    pub node_signature_1: Signature<'a>,
     /// The signature of node 2.
-    pub node_signature_2: [u8; 64],
+    pub node_signature_2: Signature<'a>,
     /// The signature by the first bitcoin key.
-    pub bitcoin_signature_1: [u8; 64],
+    pub bitcoin_signature_1: Signature<'a>,
     /// The signature by the second bitcoin key.
-    pub bitcoin_signature_2: [u8; 64],
+    pub bitcoin_signature_2: Signature<'a>,
     /// Feature bits, numbered from the least bit of the last byte.
-    pub features: Bytes,
+    pub features: Lent<'a>,
     /// The chain that holds the funding output.
     pub chain_hash: ChainHash,
     /// The channel's name: where on the chain its funding output stands.
@@ -40,35 +41,38 @@ pub struct Announce {
     /// The key of node 2 that the funding output pays to, with the other one.
     pub bitcoin_key_2: Point,
     /// What stands behind the last field, kept so that the message can be sent on as it came.
-    pub rest: Bytes,
+    pub rest: Lent<'a>,
 }
 
-impl Announce {
+impl<'a> Announce<'a> {
     ghost use Rattle.lgm_gossip.specs.Announce.{fields};
     ghost use Rattle.lgm_gossip.specs.AnnounceReading.{announce_at};
     ghost use Rattle.lgm_gossip.specs.Spelling.{Encodes};
 
-    /// A copy. The only error is want of memory.
-    pub fn copy(&self, alloc: Global) -> Result<Announce, AllocError>
-        ensures { IfOk result (λ copy. copy ≡ self.now) }
+    /// The same message, lent once more.
+    pub fn again(&self) -> Announce<'a>
+        ensures { result ≡ self.now }
     {
-        Ok(Announce {
-            features: self.features.copy(alloc)?,
-            rest: self.rest.copy(alloc)?,
+        Announce {
+            node_signature_1: self.node_signature_1.again(),
+            node_signature_2: self.node_signature_2.again(),
+            bitcoin_signature_1: self.bitcoin_signature_1.again(),
+            bitcoin_signature_2: self.bitcoin_signature_2.again(),
+            features: self.features.again(),
+            rest: self.rest.again(),
             ..*self
-        })
+        }
     }
 
     /// The fields, read from left to right, of the bytes behind the type.
     #[tactic(auto, unfolding(crate::specs::AnnounceReading::announce_at))]
-    pub(crate) fn read(alloc: Global, bytes: &[u8]) -> Result<Announce, DecodeFault>
-        ensures { GivesIf (Keeps announce_kept (announce_at bytes.now)) DecodeFault.NoMemory (λ m. m) result
-            (announce_at bytes.now) }
+    pub(crate) fn read(bytes: &'a [u8]) -> Result<Announce<'a>, DecodeFault>
+        ensures { Sees (λ m. m) result (announce_at bytes.now) }
     {
-        let (node_signature_1, rest) = fixed(bytes)?;
-        let (node_signature_2, rest) = fixed(rest)?;
-        let (bitcoin_signature_1, rest) = fixed(rest)?;
-        let (bitcoin_signature_2, rest) = fixed(rest)?;
+        let (node_signature_1, rest) = signature(bytes)?;
+        let (node_signature_2, rest) = signature(rest)?;
+        let (bitcoin_signature_1, rest) = signature(rest)?;
+        let (bitcoin_signature_2, rest) = signature(rest)?;
         let (features, rest) = counted(rest)?;
         let (chain_hash, rest) = fixed(rest)?;
         let (short_channel_id, rest) = number64(rest)?;
@@ -81,14 +85,14 @@ impl Announce {
             node_signature_2,
             bitcoin_signature_1,
             bitcoin_signature_2,
-            features: Bytes::from_slice(alloc, features)?,
+            features: Lent::new(features),
             chain_hash: ChainHash(chain_hash),
             short_channel_id: Scid::from_u64(short_channel_id),
             node_id_1: Point(node_id_1),
             node_id_2: Point(node_id_2),
             bitcoin_key_1: Point(bitcoin_key_1),
             bitcoin_key_2: Point(bitcoin_key_2),
-            rest: Bytes::from_slice(alloc, rest)?,
+            rest: Lent::new(rest),
         })
     }
 
@@ -102,10 +106,10 @@ impl Announce {
             alloc,
             &[
                 Part::Number16(256),
-                whole(&self.node_signature_1),
-                whole(&self.node_signature_2),
-                whole(&self.bitcoin_signature_1),
-                whole(&self.bitcoin_signature_2),
+                self.node_signature_1.part(),
+                self.node_signature_2.part(),
+                self.bitcoin_signature_1.part(),
+                self.bitcoin_signature_2.part(),
                 Part::Number16(features_len),
                 features,
                 whole(&self.chain_hash.0),

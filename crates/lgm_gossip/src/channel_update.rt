@@ -1,23 +1,24 @@
 //! `channel_update`.
 
-ghost use Rattle.std.specs.Prelude.{◌≡◌, IfOk};
-ghost use Rattle.lgm_gossip.specs.Memory.{GivesIf, Keeps, channel_update_kept};
+ghost use Rattle.std.specs.Prelude.{◌≡◌};
+ghost use Rattle.lgm_wire.specs.Reading.{Sees};
 
 use crate::bytes::Bytes;
 use crate::encode_fault::EncodeFault;
 use crate::fault::DecodeFault;
-use crate::fields::{fixed, number8, number16, number32, number64};
+use crate::fields::{fixed, number8, number16, number32, number64, signature};
 use crate::joining::{join, whole};
+use crate::lent::{Lent, Signature};
 use crate::part::Part;
 use lgm_wire::{ChainHash, Scid};
-use std::alloc::{AllocError, Global};
+use std::alloc::Global;
 
 /// A `channel_update`, type 258: one end of a channel tells on which terms it forwards to the other end (BOLT 7, "The
 /// channel_update Message").
 #[derive(Debug, Drop)]
-pub struct ChannelUpdate {
+pub struct ChannelUpdate<'a> {
     /// The signature of the end that forwards.
-    pub signature: [u8; 64],
+    pub signature: Signature<'a>,
     /// The chain that holds the funding output.
     pub chain_hash: ChainHash,
     /// The channel's name.
@@ -40,31 +41,31 @@ pub struct ChannelUpdate {
     /// The greatest amount that is forwarded, in thousandths of a satoshi.
     pub htlc_maximum_msat: u64,
     /// What stands behind the last field, kept so that the message can be sent on as it came.
-    pub rest: Bytes,
+    pub rest: Lent<'a>,
 }
 
-impl ChannelUpdate {
+impl<'a> ChannelUpdate<'a> {
     ghost use Rattle.lgm_gossip.specs.ChannelUpdate.{fields};
     ghost use Rattle.lgm_gossip.specs.ChannelUpdateReading.{channel_update_at};
     ghost use Rattle.lgm_gossip.specs.Spelling.{Encodes};
 
-    /// A copy. The only error is want of memory.
-    pub fn copy(&self, alloc: Global) -> Result<ChannelUpdate, AllocError>
-        ensures { IfOk result (λ copy. copy ≡ self.now) }
+    /// The same message, lent once more.
+    pub fn again(&self) -> ChannelUpdate<'a>
+        ensures { result ≡ self.now }
     {
-        Ok(ChannelUpdate {
-            rest: self.rest.copy(alloc)?,
+        ChannelUpdate {
+            signature: self.signature.again(),
+            rest: self.rest.again(),
             ..*self
-        })
+        }
     }
 
     /// The fields, read from left to right, of the bytes behind the type.
     #[tactic(auto, unfolding(crate::specs::ChannelUpdateReading::channel_update_at))]
-    pub(crate) fn read(alloc: Global, bytes: &[u8]) -> Result<ChannelUpdate, DecodeFault>
-        ensures { GivesIf (Keeps channel_update_kept (channel_update_at bytes.now)) DecodeFault.NoMemory (λ m. m) result
-            (channel_update_at bytes.now) }
+    pub(crate) fn read(bytes: &'a [u8]) -> Result<ChannelUpdate<'a>, DecodeFault>
+        ensures { Sees (λ m. m) result (channel_update_at bytes.now) }
     {
-        let (signature, rest) = fixed(bytes)?;
+        let (signature, rest) = signature(bytes)?;
         let (chain_hash, rest) = fixed(rest)?;
         let (short_channel_id, rest) = number64(rest)?;
         let (timestamp, rest) = number32(rest)?;
@@ -87,7 +88,7 @@ impl ChannelUpdate {
             fee_base_msat,
             fee_proportional_millionths,
             htlc_maximum_msat,
-            rest: Bytes::from_slice(alloc, rest)?,
+            rest: Lent::new(rest),
         })
     }
 
@@ -99,7 +100,7 @@ impl ChannelUpdate {
             alloc,
             &[
                 Part::Number16(258),
-                whole(&self.signature),
+                self.signature.part(),
                 whole(&self.chain_hash.0),
                 Part::Number64(self.short_channel_id.to_u64()),
                 Part::Number32(self.timestamp),

@@ -20,14 +20,14 @@ use crate::range_reply::RangeReply;
 use std::alloc::Global;
 
 #[tactic(auto, unfolding(crate::specs::MessageReading::body_at))]
-fn body(alloc: Global, kind: u16, bytes: &[u8]) -> Result<Message, DecodeFault>
+fn body(alloc: Global, kind: u16, bytes: &[u8]) -> Result<Message<'_>, DecodeFault>
     ensures { GivesIf (BodyTakesMemory kind bytes.now) DecodeFault.NoMemory (λ m. m) result
         (body_at kind bytes.now) }
 {
     match kind {
-        256 => Ok(Message::Announce(Announce::read(alloc, bytes)?)),
-        257 => Ok(Message::NodeAnnounce(NodeAnnounce::read(alloc, bytes)?)),
-        258 => Ok(Message::ChannelUpdate(ChannelUpdate::read(alloc, bytes)?)),
+        256 => Ok(Message::Announce(Announce::read(bytes)?)),
+        257 => Ok(Message::NodeAnnounce(NodeAnnounce::read(bytes)?)),
+        258 => Ok(Message::ChannelUpdate(ChannelUpdate::read(bytes)?)),
         261 => Ok(Message::IdsQuery(IdsQuery::read(alloc, bytes)?)),
         262 => Ok(Message::IdsEnd(IdsEnd::read(bytes)?)),
         263 => Ok(Message::RangeQuery(RangeQuery::read(alloc, bytes)?)),
@@ -39,7 +39,7 @@ fn body(alloc: Global, kind: u16, bytes: &[u8]) -> Result<Message, DecodeFault>
 }
 
 #[tactic(auto, unfolding(crate::specs::MessageReading::message_at))]
-fn message(alloc: Global, bytes: &[u8]) -> Result<Message, DecodeFault>
+fn message(alloc: Global, bytes: &[u8]) -> Result<Message<'_>, DecodeFault>
     ensures { GivesIf (TakesMemory bytes.now) DecodeFault.NoMemory (λ m. m) result (message_at bytes.now) }
 {
     if bytes.len() > MAX_LEN {
@@ -59,9 +59,10 @@ fn message(alloc: Global, bytes: &[u8]) -> Result<Message, DecodeFault>
 /// first record at fault decides: `TlvKind` where it is even and unknown or malformed, `Encoding` where its encoding is
 /// unknown, `Flags` where query flags are malformed or not one for each id.
 ///
-/// Memory is taken for what the message keeps, and for a list of its records while it is read. A message that keeps
-/// nothing of variable length takes none, nor does a fault of an announcement or an update.
-pub fn decode(alloc: Global, bytes: &[u8]) -> Result<Message, DecodeFault>
+/// An announcement or an update borrows its signatures, features, addresses and last bytes from the input, and takes no
+/// memory. Memory is taken for the ids, flags and timestamps of a query or an answer, and for a list of its records while
+/// it is read.
+pub fn decode(alloc: Global, bytes: &[u8]) -> Result<Message<'_>, DecodeFault>
     // What is found is spelled by the bytes, and nothing else is.
     ensures found { IfOk result (λ m. Wire m bytes.now) }
     ensures only { (m : Message) → Wire m bytes.now

@@ -6,6 +6,7 @@ ghost use Rattle.lgm_wire.specs.Reading.{Sees};
 ghost use Rattle.lgm_gossip.specs.FieldReading.{fixed_at, number_at, counted_at};
 
 use crate::fault::DecodeFault;
+use crate::lent::Signature;
 
 /// So many bytes.
 pub fn fixed<const N: usize>(bytes: &[u8]) -> Result<([u8; N], &[u8]), DecodeFault>
@@ -13,6 +14,16 @@ pub fn fixed<const N: usize>(bytes: &[u8]) -> Result<([u8; N], &[u8]), DecodeFau
 {
     match bytes.split_first_chunk::<N>() {
         Some((front, rest)) => Ok((*front, rest)),
+        None => Err(DecodeFault::Cut),
+    }
+}
+
+/// A signature, where it lies.
+pub fn signature(bytes: &[u8]) -> Result<(Signature<'_>, &[u8]), DecodeFault>
+    ensures { Sees (λ x. (x.0, x.1.now)) result (fixed_at 64 bytes.now) }
+{
+    match bytes.split_first_chunk::<64>() {
+        Some((front, rest)) => Ok((Signature::new(front), rest)),
         None => Err(DecodeFault::Cut),
     }
 }

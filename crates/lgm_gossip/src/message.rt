@@ -14,13 +14,13 @@ pub const MAX_LEN: usize = 65_535;
 
 /// A message of the gossip protocol, a variant for each type.
 #[derive(Debug, Drop)]
-pub enum Message {
+pub enum Message<'a> {
     /// Type 256, `channel_announcement`.
-    Announce(Announce),
+    Announce(Announce<'a>),
     /// Type 257, `node_announcement`.
-    NodeAnnounce(NodeAnnounce),
+    NodeAnnounce(NodeAnnounce<'a>),
     /// Type 258, `channel_update`.
-    ChannelUpdate(ChannelUpdate),
+    ChannelUpdate(ChannelUpdate<'a>),
     /// Type 261, `query_short_channel_ids`.
     IdsQuery(IdsQuery),
     /// Type 262, `reply_short_channel_ids_end`.

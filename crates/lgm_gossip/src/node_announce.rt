@@ -1,26 +1,27 @@
 //! `node_announcement`.
 
-ghost use Rattle.std.specs.Prelude.{◌≡◌, IfOk};
-ghost use Rattle.lgm_gossip.specs.Memory.{GivesIf, Keeps, node_announce_kept};
+ghost use Rattle.std.specs.Prelude.{◌≡◌};
+ghost use Rattle.lgm_wire.specs.Reading.{Sees};
 
 use crate::bytes::Bytes;
 use crate::encode_fault::EncodeFault;
 use crate::fault::DecodeFault;
-use crate::fields::{counted, fixed, number32};
+use crate::fields::{counted, fixed, number32, signature};
 use crate::joining::{join, whole};
+use crate::lent::{Lent, Signature};
 use crate::measuring::measure;
 use crate::part::Part;
 use lgm_wire::Point;
-use std::alloc::{AllocError, Global};
+use std::alloc::Global;
 
 /// A `node_announcement`, type 257: a node tells its name, its features and where it can be reached (BOLT 7, "The
 /// node_announcement Message").
 #[derive(Debug, Drop)]
-pub struct NodeAnnounce {
+pub struct NodeAnnounce<'a> {
     /// The signature of the node.
-    pub signature: [u8; 64],
+    pub signature: Signature<'a>,
     /// Feature bits, numbered from the least bit of the last byte.
-    pub features: Bytes,
+    pub features: Lent<'a>,
     /// Seconds since 1970. Of two announcements of a node the one with the greater number holds.
     pub timestamp: u32,
     /// The node that is announced, and that signs.
@@ -30,35 +31,35 @@ pub struct NodeAnnounce {
     /// The node's name, UTF-8 padded with zeros, as it came.
     pub alias: [u8; 32],
     /// Address descriptors, as they came: [`addresses`](crate::addresses) reads them.
-    pub addresses: Bytes,
+    pub addresses: Lent<'a>,
     /// What stands behind the last field, kept so that the message can be sent on as it came.
-    pub rest: Bytes,
+    pub rest: Lent<'a>,
 }
 
-impl NodeAnnounce {
+impl<'a> NodeAnnounce<'a> {
     ghost use Rattle.lgm_gossip.specs.NodeAnnounce.{fields};
     ghost use Rattle.lgm_gossip.specs.NodeAnnounceReading.{node_announce_at};
     ghost use Rattle.lgm_gossip.specs.Spelling.{Encodes};
 
-    /// A copy. The only error is want of memory.
-    pub fn copy(&self, alloc: Global) -> Result<NodeAnnounce, AllocError>
-        ensures { IfOk result (λ copy. copy ≡ self.now) }
+    /// The same message, lent once more.
+    pub fn again(&self) -> NodeAnnounce<'a>
+        ensures { result ≡ self.now }
     {
-        Ok(NodeAnnounce {
-            features: self.features.copy(alloc)?,
-            addresses: self.addresses.copy(alloc)?,
-            rest: self.rest.copy(alloc)?,
+        NodeAnnounce {
+            signature: self.signature.again(),
+            features: self.features.again(),
+            addresses: self.addresses.again(),
+            rest: self.rest.again(),
             ..*self
-        })
+        }
     }
 
     /// The fields, read from left to right, of the bytes behind the type.
     #[tactic(auto, unfolding(crate::specs::NodeAnnounceReading::node_announce_at))]
-    pub(crate) fn read(alloc: Global, bytes: &[u8]) -> Result<NodeAnnounce, DecodeFault>
-        ensures { GivesIf (Keeps node_announce_kept (node_announce_at bytes.now)) DecodeFault.NoMemory (λ m. m) result
-            (node_announce_at bytes.now) }
+    pub(crate) fn read(bytes: &'a [u8]) -> Result<NodeAnnounce<'a>, DecodeFault>
+        ensures { Sees (λ m. m) result (node_announce_at bytes.now) }
     {
-        let (signature, rest) = fixed(bytes)?;
+        let (signature, rest) = signature(bytes)?;
         let (features, rest) = counted(rest)?;
         let (timestamp, rest) = number32(rest)?;
         let (node_id, rest) = fixed(rest)?;
@@ -67,13 +68,13 @@ impl NodeAnnounce {
         let (addresses, rest) = counted(rest)?;
         Ok(NodeAnnounce {
             signature,
-            features: Bytes::from_slice(alloc, features)?,
+            features: Lent::new(features),
             timestamp,
             node_id: Point(node_id),
             rgb_color,
             alias,
-            addresses: Bytes::from_slice(alloc, addresses)?,
-            rest: Bytes::from_slice(alloc, rest)?,
+            addresses: Lent::new(addresses),
+            rest: Lent::new(rest),
         })
     }
 
@@ -89,7 +90,7 @@ impl NodeAnnounce {
             alloc,
             &[
                 Part::Number16(257),
-                whole(&self.signature),
+                self.signature.part(),
                 Part::Number16(features_len),
                 features,
                 Part::Number32(self.timestamp),

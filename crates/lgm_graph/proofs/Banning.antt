@@ -35,6 +35,12 @@ or_turned true false = refl
 or_turned false true = refl
 or_turned false false = refl
 
+-- whether a link stays, as its edge says
+pub banned_tests : (banned points : List Point) (edges : List Edge) → AllByRecursion (IsJoined points) edges
+    → AllByRecursion (λ e. is_allowed points banned (link_of points e) ≡ not (is_banned banned e.from || is_banned banned e.to)) edges
+banned_tests banned points edges joined = All_to (IsJoined points) (λ e. is_allowed points banned (link_of points e) ≡ not (is_banned banned e.from || is_banned banned e.to)) edges
+    (λ e both. rw (banned_number points banned e.from both.0, banned_number points banned e.to both.1) refl) joined
+
 module _ (known : Option (List ℕ)) (rows : Rows) (banned : List Point) (lawful : IsLawful rows) where
   keep : Edge → Bool
   keep = λ e. not (is_banned banned e.from || is_banned banned e.to)
@@ -86,14 +92,10 @@ module _ (known : Option (List ℕ)) (rows : Rows) (banned : List Point) (lawful
       → map (filter (is_allowed points banned)) (links_by end points edges) ≡ links_by end points (filter (λ e. not (is_banned banned e.from || is_banned banned e.to)) edges)
   links_banned end points edges joined = each points
     where
-      tests : AllByRecursion (λ e. is_allowed points banned (link_of points e) ≡ not (is_banned banned e.from || is_banned banned e.to)) edges
-      tests = All_to (IsJoined points) (λ e. is_allowed points banned (link_of points e) ≡ not (is_banned banned e.from || is_banned banned e.to)) edges
-          (λ e both. rw (banned_number points banned e.from both.0, banned_number points banned e.to both.1) refl) joined
-
       each : (qs : List Point) → map (filter (is_allowed points banned)) (map (links_at end points edges) qs) ≡ map (links_at end points (filter (λ e. not (is_banned banned e.from || is_banned banned e.to)) edges)) qs
       each [] = refl
       each (q ∷ qs) =
-          rw (each qs, links_keep end points (λ e. not (is_banned banned e.from || is_banned banned e.to)) (is_allowed points banned) edges q tests) refl
+          rw (each qs, links_keep end points (λ e. not (is_banned banned e.from || is_banned banned e.to)) (is_allowed points banned) edges q (banned_tests banned points edges joined)) refl
 
   -- the view, where they are taken away and all nodes looked at anew
   pub node_banned : (after : Rows) → after ≡ banning rows banned → (old mid new : Nodes) → IsGraphOf rows (graph_in known old)

@@ -9,7 +9,7 @@ use Rattle.lgm_check.specs.declared.row.NodeRow.{NodeRow}
 use Rattle.lgm_store.specs.Rows.{Rows, is_point, channel_of, ends_at, ends_channel}
 use Rattle.lgm_store.specs.History.{without_channel, channels_without, updates_without, ended_nodes}
 use Rattle.lgm_store.specs.Laws.{IsLawful}
-use Rattle.lgm_store.proofs.Counting.{same_point, is_point-self}
+use Rattle.lgm_store.proofs.Points.{same_point, is_point-self}
 use Rattle.std.specs.Option.{option_and_then, option_map_or}
 use Rattle.lgm_graph.specs.Known.{allows}
 use Rattle.lgm_graph.specs.declared.edge.Edge.{Edge}
@@ -56,7 +56,7 @@ both_closed end points edges id first second ends q = by (is_point second q) ref
         ∙ filter_all (λ d. not (eqb d.scid id)) (filter (λ d. is_point q (end d)) edges)
         (All_to _ _ (filter (λ d. is_point q (end d)) edges) (apart e f) (passing (λ d. d.scid ≡ id → (end d ≡ first) ⊎ (end d ≡ second)) (λ d. is_point q (end d)) edges ends)))))
 
-lists_alike : (F G : Point → List Link) (points : List Point) → ((q : Point) → F q ≡ G q) → map F points ≡ map G points
+pub lists_alike : (F G : Point → List Link) (points : List Point) → ((q : Point) → F q ≡ G q) → map F points ≡ map G points
 lists_alike F G points same = ap (λ (f : Point → List Link). map f points) (λ i q. same q i)
 
 -- ---- rows

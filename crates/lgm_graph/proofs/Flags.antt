@@ -4,7 +4,7 @@ use Rattle.std.specs.Prelude.{if◌then◌else◌}
 use Rattle.std.specs.List.{IsDistinct, list_any}
 use Rattle.lgm_wire.specs.declared.point.Point.{Point}
 use Rattle.lgm_store.specs.Rows.{is_point}
-use Rattle.lgm_store.proofs.Counting.{is_point-self}
+use Rattle.lgm_store.proofs.Points.{is_point-self}
 use Rattle.lgm_graph.specs.Graph.{number_of, IsNumbered}
 use Rattle.lgm_graph.proofs.Numbers.{get_number}
 use Rattle.lgm_graph.proofs.Places.{get_map}

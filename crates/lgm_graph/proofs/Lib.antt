@@ -9,6 +9,7 @@ mod Showing
 mod Making
 mod Numbering
 mod Walked
+mod Writing
 mod Linking
 mod Flags
 mod Updating
@@ -18,5 +19,7 @@ mod Closing
 mod Each
 mod Adding
 mod Banning
+mod Parting
+mod Once
 pub mod Holding
 mod Counted

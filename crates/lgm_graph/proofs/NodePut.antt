@@ -9,7 +9,7 @@ use Rattle.lgm_check.specs.declared.row.NodeRow.{NodeRow}
 use Rattle.lgm_store.specs.Rows.{is_point, by_node, put, node_of}
 use Rattle.lgm_store.specs.Ends.{point_cmp}
 use Rattle.lgm_store.proofs.Lists.{node_total}
-use Rattle.lgm_store.proofs.Counting.{is_at-point, same_point}
+use Rattle.lgm_store.proofs.Points.{is_at-point, same_point}
 
 module _ {X : Type 0} (p t : X → Bool) where
   pub find_kept : ((x : X) → p x ≡ true → t x ≡ true) → (xs : List X) → find p (filter t xs) ≡ find p xs

@@ -1,18 +1,20 @@
 -- A point looked up, and numbered where it isn't.
-use Rattle.std.proofs.Common.{◌≡◌, ℕ, ◌+◌, ◌<◌, ◌≤◌, ltb, suc, Bool, true, false, cond, ◌||◌, List, [], ◌∷◌, ◌++◌, length, map, refl, ap, ◌∙◌, Option, Some, None, arith, true≢false, length-append}
-use Rattle.std.specs.List.{list_any, position}
+use Rattle.std.proofs.Common.{◌≡◌, ℕ, ◌+◌, ◌<◌, ◌≤◌, ltb, zero, suc, Bool, true, false, cond, ◌||◌, List, [], ◌∷◌, ◌++◌, length, map, refl, ap, subst, ◌∙◌, Option, Some, None, arith, true≢false, length-append}
+use Rattle.std.specs.List.{AllByRecursion, IsDistinct, list_any, position, slice_get}
 use Rattle.std.proofs.lemmas.List.{map-append}
 use Rattle.std.proofs.lemmas.Bool.Decides.{nat_tests}
+use Rattle.std.proofs.lemmas.Map.Keys.{IsDistinct-head, IsDistinct-tail}
 use Rattle.lgm_wire.specs.declared.point.Point.{Point}
 use Rattle.lgm_check.specs.declared.row.NodeRow.{NodeRow}
 use Rattle.lgm_store.specs.Rows.{is_point}
+use Rattle.lgm_store.proofs.Points.{same_point}
 use Rattle.lgm_graph.specs.declared.edge.Edge.{Edge}
 use Rattle.lgm_graph.specs.declared.nodes.Nodes.{Nodes}
 use Rattle.lgm_graph.specs.Edges.{takes_payments}
 use Rattle.lgm_graph.specs.Graph.{number_of, IsNumbered}
 use Rattle.lgm_graph.specs.Sound.{graph_in, links_in, ShowsIn, AreLookedAt}
 use Rattle.lgm_graph.specs.Walk.{KeepsNumbers}
-use Rattle.lgm_graph.proofs.Showing.{shows_more, numbered_append, numbered_last}
+use Rattle.lgm_graph.proofs.Showing.{shows_more, numbered_append, numbered_last, turned}
 use Rattle.lgm_graph.proofs.Making.{same_points, same_takes, same_into, same_out}
 
 pub any_numbered : (points : List Point) (p : Point) → list_any (is_point p) points ≡ true → IsNumbered points p
@@ -45,6 +47,25 @@ position_none points p none = by (list_any (is_point p) points) refl
     by : (b : Bool) → list_any (is_point p) points ≡ b → list_any (is_point p) points ≡ false
     by true e = absurd (found (any_numbered points p e) (ltb (number_of points p) (length points)) refl none)
     by false e = e
+
+found_at : {X : Type 0} (P : X → Type 0) (xs : List X) (n : ℕ) (x : X) → AllByRecursion P xs → slice_get xs n ≡ Some x → P x
+found_at P [] n x all there = absurd cc
+found_at P (y ∷ ys) zero x all there = let own : y ≡ x = cc in subst P own all.0
+found_at P (y ∷ ys) (suc n) x all there = found_at P ys n x all.1 there
+
+-- a point has the number at which it stands, where points are distinct
+pub number_at : (points : List Point) (n : ℕ) (p q : Point) → IsDistinct is_point points → slice_get points n ≡ Some q → is_point p q ≡ true → (n ≡ number_of points p) × IsNumbered points p
+number_at [] n p q distinct there is = absurd cc
+number_at (r ∷ rs) zero p q distinct there is =
+    let own : r ≡ q = cc in
+    let passes : is_point p r ≡ true = ap (is_point p) own ∙ is in
+    rw passes (refl, omega arith)
+number_at (r ∷ rs) (suc n) p q distinct there is =
+    let others = number_at rs n p q (IsDistinct-tail is_point r rs distinct) there is in
+    let away : is_point r q ≡ false = found_at (λ x. is_point r x ≡ false) rs n q (IsDistinct-head is_point r rs distinct) there in
+    let apart : is_point p r ≡ false = turned r p (ap (is_point r) (same_point p q is) ∙ away) in
+    let next : 1 + number_of rs p ≡ suc (number_of rs p) = omega arith in
+    rw (apart, next) (ap suc others.0, omega (arith, others.1))
 
 module _ (old mid new : Nodes) (point : Point) (takes : Bool) (other : list_any (is_point point) old.points.keys ≡ false)
     (same : (known : Option (List ℕ)) → graph_in known mid ≡ graph_in known old)

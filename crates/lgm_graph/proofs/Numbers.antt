@@ -1,5 +1,5 @@
 -- The numbers of points.
-use Rattle.lgm_store.proofs.Counting.{same_point}
+use Rattle.lgm_store.proofs.Points.{same_point}
 use Rattle.std.proofs.Common.{◌≡◌, ℕ, ◌+◌, suc, get_or, ◌<◌, ◌≤◌, ltb, Bool, true, false, cond, List, [], ◌∷◌, length, refl, sym, Some, None, arith, Result, Ok, Err}
 use Rattle.std.specs.List.{AllByRecursion, find, position}
 use Rattle.std.specs.Result.{OnErr}

@@ -10,7 +10,7 @@ use Rattle.std.proofs.lemmas.List.Elements.{filter-append}
 use Rattle.std.proofs.lemmas.Map.Keys.{IsDistinct-head, IsDistinct-tail}
 use Rattle.lgm_wire.specs.declared.point.Point.{Point}
 use Rattle.lgm_store.specs.Rows.{is_point}
-use Rattle.lgm_store.proofs.Counting.{same_point, is_point-self}
+use Rattle.lgm_store.proofs.Points.{same_point, is_point-self}
 use Rattle.lgm_graph.specs.declared.edge.Edge.{Edge}
 use Rattle.lgm_graph.specs.declared.link.Link.{Link}
 use Rattle.lgm_graph.specs.Graph.{number_of, IsNumbered, IsJoined, link_of, links_by, Shows}
@@ -214,7 +214,7 @@ numbered_last (r ∷ rs) p new = by (numbered_last rs p) (is_point p r) refl new
         rw e (omega (arith, rest.0), omega (arith, rest.1))
 
 -- edges by numbers stay
-links_kept : (points more : List Point) (edges : List Edge) → KeepsNumbers points more → AllByRecursion (IsJoined points) edges
+pub links_kept : (points more : List Point) (edges : List Edge) → KeepsNumbers points more → AllByRecursion (IsJoined points) edges
     → AllByRecursion (λ e. link_of points e ≡ link_of more e) edges
 links_kept points more edges keeps joined = All_to (IsJoined points) (λ e. link_of points e ≡ link_of more e) edges
     (λ e both. let from = keeps e.from both.0 in let to = keeps e.to both.1 in rw (from.0, to.0) refl) joined

@@ -8,11 +8,12 @@ use Rattle.lgm_store.specs.Held.{update_in}
 use Rattle.lgm_store.specs.HeldAt.{held_at}
 use Rattle.lgm_store.specs.Rows.{Rows, IsAscending, update_of}
 use Rattle.lgm_graph.specs.declared.edge.Edge.{Edge}
+use Rattle.lgm_graph.specs.declared.link.Link.{Link}
 use Rattle.lgm_graph.specs.declared.nodes.Nodes.{Nodes}
 use Rattle.lgm_graph.specs.Edges.{carrying}
-use Rattle.lgm_graph.specs.Graph.{Graph, IsGraphOf, IsNumbered, Shows}
+use Rattle.lgm_graph.specs.Graph.{Graph, IsGraphOf, IsNumbered}
 use Rattle.lgm_graph.specs.Sound.{graph_in, ShowsIn, AreLookedAt}
-use Rattle.lgm_graph.specs.Walk.{KeepsNumbers, HasWalked, edges_of_channel}
+use Rattle.lgm_graph.specs.Walk.{AreLinksOf, KeepsNumbers, HasWalked, edges_of_channel}
 use Rattle.lgm_graph.proofs.Carrying.{All_to}
 use Rattle.lgm_graph.proofs.Showing.{All_append, append-none}
 use Rattle.lgm_graph.proofs.ByChannel.{by_channel}
@@ -23,8 +24,8 @@ held_update rows channel true = refl
 held_update rows channel false = refl
 
 -- the next one is a channel with its updates
-pub walked_own : (rows : Rows) (held : Held) (left : List Held) (graph : Graph) → HasWalked rows (held ∷ left) graph → held ≡ held_at rows held.channel
-walked_own rows held left graph walked = by walked.rest walked.left_is
+pub walked_own : (rows : Rows) (held : Held) (left : List Held) (links : List Link) (graph : Graph) → HasWalked rows (held ∷ left) links graph → held ≡ held_at rows held.channel
+walked_own rows held left links graph walked = by walked.rest walked.left_is
   where
     by : (rest : List ChannelRow) → held ∷ left ≡ map (held_at rows) rest → held ≡ held_at rows held.channel
     by [] is = absurd cc
@@ -32,18 +33,19 @@ walked_own rows held left graph walked = by walked.rest walked.left_is
         let own : held ≡ held_at rows channel = cc in
         own ∙ ap (held_at rows) (sym (ap (λ (h : Held). h.channel) own))
 
-module _ (known : Option (List ℕ)) (rows : Rows) (held : Held) (left : List Held) (old new : Nodes)
+module _ (known : Option (List ℕ)) (rows : Rows) (held : Held) (left : List Held) (old new : Nodes) (before after : List Link)
     (few : length new.points.keys ≤ length old.points.keys + 2) (kept : KeepsNumbers old.points.keys new.points.keys)
     (first : IsNumbered new.points.keys held.channel.message.node_id_1) (second : IsNumbered new.points.keys held.channel.message.node_id_2)
     (takes : AreLookedAt known rows.nodes old → AreLookedAt known rows.nodes new)
-    (shows : (edges : List Edge) → ShowsIn edges old → ShowsIn (edges ++ edges_of_channel rows.updates held.channel) new) where
-  pub walked_more : HasWalked rows (held ∷ left) (graph_in known old) → HasWalked rows left (graph_in known new)
+    (bare : ShowsIn [] old → ShowsIn [] new)
+    (links : (edges : List Edge) → AreLinksOf edges old.points.keys before → AreLinksOf (edges ++ edges_of_channel rows.updates held.channel) new.points.keys after) where
+  pub walked_more : HasWalked rows (held ∷ left) before (graph_in known old) → HasWalked rows left after (graph_in known new)
   walked_more walked = by walked.rest walked.parts walked.left_is
     where
       more : flat_map (edges_of_channel rows.updates) (walked.done ++ held.channel ∷ []) ≡ flat_map (edges_of_channel rows.updates) walked.done ++ edges_of_channel rows.updates held.channel
       more = flat_map-append (edges_of_channel rows.updates) walked.done (held.channel ∷ []) ∙ ap (λ l. flat_map (edges_of_channel rows.updates) walked.done ++ l) (append-none (edges_of_channel rows.updates held.channel))
 
-      by : (rest : List ChannelRow) → rows.channels ≡ walked.done ++ rest → held ∷ left ≡ map (held_at rows) rest → HasWalked rows left (graph_in known new)
+      by : (rest : List ChannelRow) → rows.channels ≡ walked.done ++ rest → held ∷ left ≡ map (held_at rows) rest → HasWalked rows left after (graph_in known new)
       by [] parts is = absurd cc
       by (channel ∷ rest) parts is =
           let own : held ≡ held_at rows channel = cc in
@@ -57,15 +59,18 @@ module _ (known : Option (List ℕ)) (rows : Rows) (held : Held) (left : List He
             few = omega (arith, few, walked.few, length-append walked.done (held.channel ∷ []));
             ends = All_append _ walked.done (held.channel ∷ []) (All_to _ _ walked.done (λ c both. ((kept c.message.node_id_1 both.0).1, (kept c.message.node_id_2 both.1).1)) walked.ends) ((first, second), tt);
             takes = takes walked.takes;
-            shows = subst (λ es. ShowsIn es new) (sym more) (shows (flat_map (edges_of_channel rows.updates) walked.done) walked.shows);
+            bare = bare walked.bare;
+            links_are = subst (λ es. AreLinksOf es new.points.keys after) (sym more) (links (flat_map (edges_of_channel rows.updates) walked.done) walked.links_are);
           }
 
--- the whole walk
-pub walked_all : (rows : Rows) (graph : Graph) → IsAscending rows → HasWalked rows [] graph → IsGraphOf rows graph
-walked_all rows graph ascend walked = record {
-  ends = rw all walked.ends;
-  takes = walked.takes;
-  shows = subst (λ es. Shows es graph.points graph.into graph.out) edges walked.shows;
+-- the whole walk, once the links are put in their lists
+pub walked_all : (known : Option (List ℕ)) (rows : Rows) (links : List Link) (old new : Nodes) → IsAscending rows → HasWalked rows [] links (graph_in known old)
+    → new.points.keys ≡ old.points.keys → new.takes.items ≡ old.takes.items → ((edges : List Edge) → AreLinksOf edges old.points.keys links → ShowsIn edges new)
+    → IsGraphOf rows (graph_in known new)
+walked_all known rows links old new ascend walked points takes shows = record {
+  ends = rw (points, all) walked.ends;
+  takes = rw (takes, points) walked.takes;
+  shows = subst (λ es. ShowsIn es new) edges (shows (flat_map (edges_of_channel rows.updates) walked.done) walked.links_are);
 }
   where
     none : (rest : List ChannelRow) → [] ≡ map (held_at rows) rest → rest ≡ []

@@ -6,3 +6,4 @@ pub mod Graph
 pub mod Sound
 pub mod Walk
 pub mod Network
+pub mod Applying

@@ -1,8 +1,10 @@
 -- How a view is kept.
-use Rattle.std.specs.Prelude.{◌≡◌, ◌==◌, not, ◌||◌, false, slice_get, filter, if◌then◌else◌, ℕ, ◌+◌, ◌<◌, ◌≤◌, ◌^◌, Bool, List, map, length, Option}
+use Rattle.std.specs.Prelude.{◌≡◌, ◌==◌, not, ◌||◌, true, false, slice_get, filter, if◌then◌else◌, ℕ, ◌+◌, ◌<◌, ◌≤◌, ◌^◌, Bool, List, map, length, Option}
 use Rattle.indexmap.specs.IndexSet.{spare}
 use Rattle.std.specs.Vec.{vec_len, vec_capacity}
 use Rattle.lgm_wire.specs.declared.point.Point.{Point}
+use Rattle.std.specs.List.{list_any}
+use Rattle.lgm_check.specs.declared.row.ChannelRow.{ChannelRow}
 use Rattle.lgm_check.specs.declared.row.NodeRow.{NodeRow}
 use Rattle.lgm_graph.specs.declared.edge.Edge.{Edge}
 use Rattle.lgm_graph.specs.declared.link.Link.{Link}
@@ -78,3 +80,15 @@ banned_at points banned number = option_map_or (is_banned banned) (slice_get poi
 -- a link between nodes that aren't banned
 abbrev pub is_allowed : List Point → List Point → Link → Bool
 is_allowed points banned link = not (banned_at points banned link.from || banned_at points banned link.to)
+
+-- without the links of banned nodes at one node
+abbrev pub allowed_at : Point → List Point → List Point → (Point → List Link) → Point → List Link
+allowed_at node points banned lists point = if is_point node point then filter (is_allowed points banned) (lists point) else lists point
+
+-- whether a point is among some
+abbrev pub is_among : List Point → Point → Bool
+is_among points point = list_any (λ other. is_point other point) points
+
+-- both ends of a channel are among some points
+abbrev pub HasEnds : List Point → ChannelRow → Type 0
+HasEnds points channel = (is_among points channel.message.node_id_1 ≡ true) × (is_among points channel.message.node_id_2 ≡ true)

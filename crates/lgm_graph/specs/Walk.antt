@@ -1,5 +1,5 @@
 -- How the view of a map is made, channel by channel.
-use Rattle.std.specs.Prelude.{◌≡◌, ◌*◌, ◌≤◌, Bool, false, true, List, ◌++◌, map, flat_map, length, Option, option_to_list}
+use Rattle.std.specs.Prelude.{◌≡◌, ◌*◌, ◌≤◌, Bool, false, true, List, [], ◌++◌, map, flat_map, length, Option, option_to_list}
 use Rattle.std.specs.List.{AllByRecursion}
 use Rattle.std.specs.Option.{option_and_then}
 use Rattle.lgm_wire.specs.declared.point.Point.{Point}
@@ -9,8 +9,9 @@ use Rattle.lgm_store.specs.declared.held.Held.{Held}
 use Rattle.lgm_store.specs.HeldAt.{held_at}
 use Rattle.lgm_store.specs.Rows.{Rows, update_of}
 use Rattle.lgm_graph.specs.declared.edge.Edge.{Edge}
+use Rattle.lgm_graph.specs.declared.link.Link.{Link}
 use Rattle.lgm_graph.specs.Edges.{edge_on, takes_payments}
-use Rattle.lgm_graph.specs.Graph.{Graph, Shows, IsNumbered, number_of}
+use Rattle.lgm_graph.specs.Graph.{Graph, Shows, IsJoined, IsNumbered, link_of, number_of}
 
 -- what was numbered stays so
 abbrev pub KeepsNumbers : List Point → List Point → Type 0
@@ -24,8 +25,14 @@ edge_of_direction updates channel second = option_and_then (edge_on channel) (up
 abbrev pub edges_of_channel : List UpdateRow → ChannelRow → List Edge
 edges_of_channel updates channel = option_to_list (edge_of_direction updates channel false) ++ option_to_list (edge_of_direction updates channel true)
 
--- what a walk with these channels still to come has done: those before them are numbered, and their edges shown
-pub record HasWalked (rows : Rows) (left : List Held) (graph : Graph) : Type 0 where
+-- the links of edges between numbered points, in their order
+pub record AreLinksOf (edges : List Edge) (points : List Point) (links : List Link) : Type 0 where
+  pub joined : AllByRecursion (IsJoined points) edges
+  pub links_are : links ≡ map (link_of points) edges
+
+-- what a walk with these channels still to come has done: those before them are numbered, and their links written down.
+-- No node has links yet
+pub record HasWalked (rows : Rows) (left : List Held) (links : List Link) (graph : Graph) : Type 0 where
   pub done : List ChannelRow
   pub rest : List ChannelRow
   pub parts : rows.channels ≡ done ++ rest
@@ -33,4 +40,5 @@ pub record HasWalked (rows : Rows) (left : List Held) (graph : Graph) : Type 0 w
   pub few : length graph.points ≤ 2 * length done
   pub ends : AllByRecursion (λ channel. IsNumbered graph.points channel.message.node_id_1 × IsNumbered graph.points channel.message.node_id_2) done
   pub takes : graph.takes ≡ map (takes_payments graph.known rows.nodes) graph.points
-  pub shows : Shows (flat_map (edges_of_channel rows.updates) done) graph.points graph.into graph.out
+  pub bare : Shows [] graph.points graph.into graph.out
+  pub links_are : AreLinksOf (flat_map (edges_of_channel rows.updates) done) graph.points links

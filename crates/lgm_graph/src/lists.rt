@@ -66,6 +66,13 @@ fn insert(links: &mut Vec<Link>, place: usize, link: Option<Link>)
 }
 
 impl Links {
+    /// Room for so many more links, and no more.
+    fn reserve_exact(&mut self, more: usize) -> Result<(), AllocError>
+        ensures { self.new.links.items ≡ self.old.links.items }
+    {
+        self.links.reserve_exact(more)
+    }
+
     /// Room for one more link.
     fn reserve(&mut self) -> Result<(), AllocError>
         ensures same { self.new.links.items ≡ self.old.links.items }
@@ -143,13 +150,18 @@ pub(crate) fn copies(alloc: Global, lists: &[Links]) -> Result<Vec<Links>, Alloc
     Ok(copies)
 }
 
-/// Takes the links that join a banned node away from all nodes.
-pub(crate) fn drop_banned(lists: &mut Vec<Links>, points: &IndexSet<Point, Seed>, held: &Map)
-    ensures { map links_in lists.new.items ≡ map (filter (is_allowed points.now.keys held.now.banned)) (map links_in lists.old.items) }
+/// Takes the links that join a banned node away from a node.
+pub(crate) fn drop_banned_at(
+    lists: &mut Vec<Links>,
+    number: usize,
+    points: &IndexSet<Point, Seed>,
+    held: &Map,
+)
+    requires { number < length lists.old.items }
+    ensures long { length lists.new.items ≡ length lists.old.items }
+    ensures links { map links_in lists.new.items ≡ slice_set (map links_in lists.old.items) number (filter (is_allowed points.now.keys held.now.banned) (slice_index_or (map links_in lists.old.items) number [])) }
 {
-    for i in 0..lists.len() {
-        lists[i].drop_banned(points, held);
-    }
+    lists[number].drop_banned(points, held);
 }
 
 /// Takes the links of a channel away from a node.
@@ -159,6 +171,47 @@ pub(crate) fn drop_at(lists: &mut Vec<Links>, number: usize, scid: Scid)
     ensures links { map links_in lists.new.items ≡ slice_set (map links_in lists.old.items) number (filter (is_not_of scid) (slice_index_or (map links_in lists.old.items) number [])) }
 {
     lists[number].drop_channel(scid);
+}
+
+/// How many links there are, by node.
+#[derive(Drop)]
+pub(crate) struct Counts {
+    /// Those that go to the node.
+    pub(crate) into: Vec<u32>,
+    /// Those that leave it.
+    pub(crate) out: Vec<u32>,
+}
+
+impl Counts {
+    /// The counts of links among so many nodes.
+    pub(crate) fn of(alloc: Global, nodes: usize, links: &[Link]) -> Result<Counts, AllocError> {
+        let mut into = vec![in alloc; 0; nodes]?;
+        let mut out = vec![in alloc; 0; nodes]?;
+        for link in links {
+            count(&mut into, link.to);
+            count(&mut out, link.from);
+        }
+        Ok(Counts { into, out })
+    }
+}
+
+/// Counts one more at a number's place, if it has one.
+fn count(counts: &mut [u32], number: u32) {
+    if let Some(count) = counts.get_mut(number as usize) {
+        *count = count.saturating_add(1);
+    }
+}
+
+/// Room at each node for as many more links as are counted there.
+pub(crate) fn reserve_all(lists: &mut Vec<Links>, counts: &[u32]) -> Result<(), AllocError>
+    ensures { map links_in lists.new.items ≡ map links_in lists.old.items }
+{
+    for i in 0..lists.len() {
+        if let Some(count) = counts.get(i) {
+            lists[i].reserve_exact(*count as usize)?;
+        }
+    }
+    Ok(())
 }
 
 /// Room for one more link at a node.

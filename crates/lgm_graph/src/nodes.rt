@@ -1,6 +1,6 @@
 //! Numbered nodes, and the links that hang on each.
 
-ghost use Rattle.std.specs.Prelude.{◌≡◌, ◌++◌, ◌∷◌, [], ℕ, ◌+◌, ◌<◌, ◌≤◌, List, map, filter, length, slice_set, slice_index_or, OnOk, IfOk, Option, Bool, false, if◌then◌else◌};
+ghost use Rattle.std.specs.Prelude.{◌≡◌, ◌++◌, ◌∷◌, [], ℕ, ◌+◌, ◌<◌, ◌≤◌, List, map, length, slice_set, slice_index_or, OnOk, IfOk, Option, Bool, false, true, if◌then◌else◌};
 ghost use Rattle.std.specs.List.{HoldsAt, list_any};
 ghost use Rattle.indexmap.specs.IndexSet.{spare};
 ghost use Rattle.lgm_wire.specs.declared.point.Point.{Point as APoint};
@@ -11,11 +11,12 @@ ghost use Rattle.lgm_store.specs.Rows.{is_point};
 ghost use Rattle.lgm_graph.specs.Edges.{takes_payments};
 ghost use Rattle.lgm_graph.specs.Lists.{link_key, IsCut, put_at};
 ghost use Rattle.lgm_graph.specs.Graph.{number_of, IsNumbered};
-ghost use Rattle.lgm_graph.specs.Sound.{graph_in, links_in, HasRoom, HasPlaces, AreFlags, AreInto, AreOut, AreLookedAt, ShowsIn, closed_at, is_allowed};
+ghost use Rattle.lgm_graph.specs.Sound.{graph_in, links_in, HasRoom, HasPlaces, AreFlags, AreInto, AreOut, AreLookedAt, ShowsIn, closed_at, allowed_at};
 
 use crate::known::Known;
 use crate::link::Link;
 use crate::lists;
+use crate::lists::Counts;
 use indexmap::IndexSet;
 use lgm_gossip::{Point, Scid};
 use lgm_store::{Map, Seed};
@@ -88,6 +89,19 @@ impl Nodes {
         }
     }
 
+    /// Whether a point has this number.
+    pub(crate) fn has_number(&self, point: &Point, number: usize) -> bool
+        ensures number { result ≡ true → number ≡ number_of self.now.points.keys point.now }
+        ensures numbered { result ≡ true → IsNumbered self.now.points.keys point.now }
+    {
+        // It says that points are distinct.
+        let _ = self.points.len();
+        match self.points.get_index(number) {
+            Some(held) => *point == *held,
+            None => false,
+        }
+    }
+
     /// Room for so many more nodes.
     pub(crate) fn reserve(&mut self, more: usize) -> Result<(), AllocError>
         ensures same { (known : Option (List ℕ)) → graph_in known self.new ≡ graph_in known self.old }
@@ -115,6 +129,15 @@ impl Nodes {
         self.into.push_reserved(Links { links });
         let links = Vec::new(alloc);
         self.out.push_reserved(Links { links });
+    }
+
+    /// Room for these links in the lists of the nodes that they join, and no more: none of the lists grows by steps.
+    pub(crate) fn reserve_for(&mut self, alloc: Global, links: &[Link]) -> Result<(), AllocError>
+        ensures same { (known : Option (List ℕ)) → graph_in known self.new ≡ graph_in known self.old }
+    {
+        let counts = Counts::of(alloc, self.points.len(), links)?;
+        lists::reserve_all(&mut self.into, &counts.into)?;
+        lists::reserve_all(&mut self.out, &counts.out)
     }
 
     /// Room for one more link from a node to another.
@@ -225,36 +248,27 @@ impl Nodes {
         self.add(alloc, point, takes);
     }
 
-    /// Takes the links of channels away that end at a banned node.
-    pub(crate) fn drop_banned(&mut self, held: &Map)
+    /// Takes the links that join a banned node away from a node, if it is numbered, and looks at the node anew.
+    pub(crate) fn ban_at(&mut self, known: &Known, map: &Map, node: &Point)
+        requires takes { length self.old.takes.items ≡ length self.old.points.keys }
+        requires into { length self.old.into.items ≡ length self.old.points.keys }
+        requires out { length self.old.out.items ≡ length self.old.points.keys }
         ensures points { self.new.points.keys ≡ self.old.points.keys }
-        ensures takes { self.new.takes.items ≡ self.old.takes.items }
-        ensures into { map links_in self.new.into.items ≡ map (filter (is_allowed self.old.points.keys held.now.banned)) (map links_in self.old.into.items) }
-        ensures out { map links_in self.new.out.items ≡ map (filter (is_allowed self.old.points.keys held.now.banned)) (map links_in self.old.out.items) }
+        ensures takes_long { length self.new.takes.items ≡ length self.old.takes.items }
+        ensures into_long { length self.new.into.items ≡ length self.old.into.items }
+        ensures out_long { length self.new.out.items ≡ length self.old.out.items }
+        ensures into { (before : APoint → List ALink) → AreInto before self.old → AreInto (allowed_at node.now self.old.points.keys map.now.banned before) self.new }
+        ensures out { (before : APoint → List ALink) → AreOut before self.old → AreOut (allowed_at node.now self.old.points.keys map.now.banned before) self.new }
+        ensures takes { (before : APoint → Bool) → AreFlags before self.old
+            → AreFlags (λ q. if is_point node.now q then takes_payments known.now map.now.nodes q else before q) self.new }
     {
-        lists::drop_banned(&mut self.into, &self.points, held);
-        lists::drop_banned(&mut self.out, &self.points, held);
-    }
-
-    /// Says anew of each node whether it takes payments.
-    pub(crate) fn look_at_all(&mut self, known: &Known, held: &Map)
-        requires { length self.old.takes.items ≡ length self.old.points.keys }
-        ensures points { self.new.points.keys ≡ self.old.points.keys }
-        ensures into { self.new.into.items ≡ self.old.into.items }
-        ensures out { self.new.out.items ≡ self.old.out.items }
-        ensures takes { AreLookedAt known.now held.now.nodes self.new }
-    {
-        look_at_all(&mut self.takes, self.points.as_slice(), known, held);
-    }
-}
-
-/// Says anew of each point whether its node takes payments.
-fn look_at_all(takes: &mut [bool], points: &[Point], known: &Known, held: &Map)
-    requires { length takes.old ≡ length points.now }
-    ensures { takes.new ≡ map (takes_payments known.now held.now.nodes) points.now }
-{
-    for i in 0..takes.len() {
-        takes[i] = takes_payments(known, held, &points[i]);
+        // It says that points are distinct.
+        let _ = self.points.len();
+        if let Some(number) = self.points.get_index_of(node) {
+            lists::drop_banned_at(&mut self.into, number, &self.points, map);
+            lists::drop_banned_at(&mut self.out, number, &self.points, map);
+            self.takes[number] = takes_payments(known, map, node);
+        }
     }
 }
 

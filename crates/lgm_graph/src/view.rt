@@ -2,6 +2,7 @@
 
 ghost use Rattle.std.specs.Prelude.{◌≡◌, ◌↔◌, Contains, ◌+◌, ◌-◌, ◌^◌, ◌<◌, ◌≤◌, length, min, slice_get, IfOk, OnOk, OnErr};
 ghost use Rattle.std.specs.List.{position};
+ghost use Rattle.std.specs.List.Sorted.{IsPermutation};
 ghost use Rattle.std.specs.Option.{option_copied};
 ghost use Rattle.lgm_store.specs.Rows.{Rows, is_point};
 ghost use Rattle.lgm_store.specs.History.{absorbed};
@@ -10,7 +11,10 @@ ghost use Rattle.lgm_graph.specs.Edges.{edges_of};
 ghost use Rattle.lgm_graph.specs.Graph.{AreLinked, IsGraphOf, edge_at, edges, takes_at, links_into, links_leaving};
 
 mod applying;
+mod hints;
+mod linking;
 mod making;
+mod parting;
 
 use crate::edge::Edge;
 use crate::known::Known;
@@ -156,9 +160,10 @@ impl View {
 }
 
 impl View {
-    /// A view of rows holds exactly their edges. A call does nothing: its contract is the law.
+    /// A view of rows holds exactly their edges, each once. A call does nothing: its contract is the law.
     pub fn shows_the_edges(&self)
-        ensures { (rows : Rows) → IsGraphOf rows self.now → (edge : AnEdge) → Contains (edges self.now) edge ↔ Contains (edges_of self.now.known rows) edge }
+        ensures found { (rows : Rows) → IsGraphOf rows self.now → (edge : AnEdge) → Contains (edges self.now) edge ↔ Contains (edges_of self.now.known rows) edge }
+        ensures once { (rows : Rows) → IsGraphOf rows self.now → IsPermutation (edges_of self.now.known rows) (edges self.now) }
     {
         // Different points have different numbers.
         self.nodes();
@@ -182,7 +187,7 @@ impl View {
     /// as they were.
     ///
     /// An update costs two searches in the lists of the nodes that it joins, a node's announcement one look at its
-    /// features, a close a walk of the edges of its two ends, and a ban, which is rare, one of all edges.
+    /// features, a close a walk of the edges of its two ends, and a ban one of the edges of the nodes at which channels go.
     pub fn apply(&mut self, map: &mut Map, op: &Op) -> Result<(), AllocError>
         requires few { length self.old.points ≤ 4294967290 }
         requires beside { IsGraphOf map.old self.old }

@@ -1,71 +1,74 @@
-//! Decoding, sixteen digits at a time.
+//! Decoding, thirty-two digits at a time.
 
 ghost use Rattle.std.specs.Prelude.{◌≡◌, ◌≢◌, ℕ, ◌+◌, ◌*◌, ◌/◌, ◌%◌, ◌<◌, ◌≤◌, ◌⊎◌, [], length, map, slice_index, vec_capacity, IsTrue, IfOk, IfErr, OnOk, OnErr, MatchResult};
 ghost use Rattle.hex.specs.Hex.{decode_of, decode_sized};
 ghost use Rattle.hex.specs.declared.error.FromHexError.TheVariants.{OddLength, OutOfMemory};
-ghost use Rattle.lgm_hex.specs.Digits.{value_or_255, byte_of, IsDecoded};
+ghost use Rattle.lgm_hex.specs.Digits.{IsValue, AreValid, IsDecoded};
 
 use hex::FromHexError;
 use std::alloc::Allocator;
 use std::simd::prelude::*;
 
-/// The value of each digit, and 255 at any other byte.
+/// The value of each digit, and 16 or more at any other byte.
 #[inline(always)]
-fn values_of(digits: u8x16) -> u8x16
-    ensures { result ≡ map value_or_255 digits }
+fn values_of(digits: u8x32) -> u8x32
+    ensures { (k : ℕ) → k < 32 → IsValue (slice_index digits k) (slice_index result k) }
 {
-    let number = digits - u8x16::splat(b'0');
-    let letter = (digits | u8x16::splat(0x20)) - u8x16::splat(b'a');
-    let letter = letter
-        .simd_lt(u8x16::splat(6))
-        .select(letter + u8x16::splat(10), u8x16::splat(255));
-    number.simd_lt(u8x16::splat(10)).select(number, letter)
+    // `0` to `9` become the ten largest bytes and then 0 to 9, and any other byte becomes 16 or more.
+    let number = (digits + u8x32::splat(255 - b'9')).saturating_sub(u8x32::splat(6))
+        - u8x32::splat(240);
+
+    // `A` to `F` and `a` to `f` become 0 to 5, and any other byte more.
+    let letter = (digits & u8x32::splat(0xdf)) - u8x32::splat(b'A');
+    number.simd_min(u8x32::splat(10).saturating_add(letter))
 }
 
 /// Whether each is the value of a digit.
 #[inline(always)]
-fn are_valid(values: u8x16) -> bool
-    ensures { IsTrue result → (k : ℕ) → k < 16 → slice_index values k < 16 }
+fn are_valid(values: u8x32) -> bool
+    ensures { IsTrue result → AreValid values }
 {
-    values.simd_lt(u8x16::splat(16)).all()
+    values.simd_lt(u8x32::splat(16)).all()
 }
 
-/// The bytes of eight pairs of values.
+/// The bytes of sixteen pairs of values.
 #[inline(always)]
-fn joined(values: u8x16) -> u8x8
-    ensures len { length result ≡ 8 }
-    ensures lanes { (k : ℕ) → k < 8
-        → slice_index result k ≡ byte_of (slice_index values (2 * k)) (slice_index values (2 * k + 1)) }
+fn joined(values: u8x32) -> u8x16
+    ensures len { length result ≡ 16 }
+    ensures lanes { AreValid values → (k : ℕ) → k < 16
+        → slice_index result k ≡ slice_index values (2 * k) * 16 + slice_index values (2 * k + 1) }
 {
-    let high = values.swizzle([0, 2, 4, 6, 8, 10, 12, 14]);
-    let low = values.swizzle([1, 3, 5, 7, 9, 11, 13, 15]);
-    high * u8x8::splat(16) + low
+    // A pair as a number: its first value, and 256 times its second.
+    let pairs = u16x16::from_le_bytes(values);
+    let bytes = (pairs * u16x16::splat(0x1001)) >> u16x16::splat(8);
+    bytes.cast::<u8>()
 }
 
-/// Writes eight bytes, which are right if their digits are.
+/// Writes sixteen bytes, and gives the values of their digits. Where these are valid, the bytes are right.
 #[inline(always)]
-fn decode_block(digits: &[u8], out: &mut [u8], at: usize) -> bool
-    requires room { at + 8 ≤ length out.old }
+fn decode_block(digits: &[u8], out: &mut [u8], at: usize) -> u8x32
+    requires room { at + 16 ≤ length out.old }
     requires twice { length digits.now ≡ 2 * length out.old }
-    ensures { IsTrue result → IsDecoded digits.now out.old at → IsDecoded digits.now out.new (at + 8) }
+    ensures len { length result ≡ 32 }
+    ensures bytes { AreValid result → IsDecoded digits.now out.old at → IsDecoded digits.now out.new (at + 16) }
 {
-    let values = values_of(u8x16::from_slice(&digits[2 * at..]));
+    let values = values_of(u8x32::from_slice(&digits[2 * at..]));
     joined(values).copy_to_slice(&mut out[at..]);
-    are_valid(values)
+    values
 }
 
-/// Writes all bytes, the last eight of them once more.
+/// Writes all bytes, the last sixteen of them in a block of their own. They are right where it gives true.
 fn decode_blocks(digits: &[u8], out: &mut [u8]) -> bool
-    requires some { 8 ≤ length out.old }
+    requires some { 16 ≤ length out.old }
     requires twice { length digits.now ≡ 2 * length out.old }
     ensures { IsTrue result → decode_sized digits.now (length out.new) ≡ Ok out.new }
 {
-    for i in 0..out.len() / 8 {
-        if !decode_block(digits, out, 8 * i) {
-            return false;
-        }
+    let mut seen = u8x32::splat(0);
+    for i in 0..(out.len() - 1) / 16 {
+        seen |= decode_block(digits, out, 16 * i);
     }
-    decode_block(digits, out, out.len() - 8)
+    seen |= decode_block(digits, out, out.len() - 16);
+    are_valid(seen)
 }
 
 /// Writes the bytes that the digits spell, of which there are twice as many as `out` has bytes.
@@ -81,7 +84,7 @@ pub fn decode_to_slice(digits: &[u8], out: &mut [u8]) -> Result<(), FromHexError
     ensures same { (length digits.now ≢ 2 * length out.old) → out.new ≡ out.old }
 {
     let fits = digits.len() % 2 == 0 && digits.len() / 2 == out.len();
-    if fits && out.len() >= 8 && decode_blocks(digits, out) {
+    if fits && out.len() >= 16 && decode_blocks(digits, out) {
         return Ok(());
     }
     hex::decode_to_slice(digits, out)
@@ -120,11 +123,14 @@ pub fn decode_into<A: Allocator>(out: &mut Vec<u8, A>, digits: &[u8]) -> Result<
         (λ bytes. (result ≡ Ok tt) × (out.new.items ≡ bytes))
         (λ e. result ≡ Err e) }
 {
-    out.clear();
     if digits.len() % 2 != 0 {
+        out.clear();
         return Err(FromHexError::OddLength);
     }
-    out.resize(digits.len() / 2, 0)?;
+    if out.resize(digits.len() / 2, 0).is_err() {
+        out.clear();
+        return Err(FromHexError::OutOfMemory);
+    }
     let decoded = decode_to_slice(digits, out.as_mut_slice());
     if decoded.is_err() {
         out.clear();

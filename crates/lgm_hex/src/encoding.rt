@@ -1,11 +1,13 @@
-//! Encoding, by a loop with no branch that LLVM turns into one over vectors.
+//! Encoding, sixteen bytes at a time.
 
-ghost use Rattle.std.specs.Prelude.{◌≡◌, ◌*◌, ◌<◌, ◌↔◌, ◌++◌, length, slice_index, IsOk, IfErr, OnOk, OnErr};
+ghost use Rattle.std.specs.Prelude.{◌≡◌, ℕ, ◌+◌, ◌*◌, ◌<◌, ◌≤◌, ◌↔◌, ◌++◌, length, slice_index, IsOk, IfErr, OnOk, OnErr};
 ghost use Rattle.hex.specs.Hex.{encode_lower, lower_digits};
+ghost use Rattle.lgm_hex.specs.Digits.{IsEncoded};
 ghost use Rattle.hex.specs.declared.error.FromHexError.TheVariants.{InvalidStringLength};
 
 use hex::FromHexError;
 use std::alloc::AllocError;
+use std::simd::prelude::*;
 
 /// The digit of a value below 16, in lower case.
 #[inline(always)]
@@ -17,8 +19,8 @@ fn digit(value: u8) -> u8
     b'0' + value + letter
 }
 
-/// Writes two digits for each byte.
-fn encode_into(bytes: &[u8], out: &mut [u8])
+/// Writes two digits for each byte, one byte at a time.
+fn encode_each(bytes: &[u8], out: &mut [u8])
     requires { length out.old ≡ 2 * length bytes.now }
     ensures { out.new ≡ encode_lower bytes.now }
 {
@@ -27,6 +29,58 @@ fn encode_into(bytes: &[u8], out: &mut [u8])
         out[2 * i] = digit(byte >> 4);
         out[2 * i + 1] = digit(byte & 0x0f);
     }
+}
+
+/// The digits of sixteen values, in lower case.
+#[inline(always)]
+fn digits_of(values: u8x16) -> u8x16
+    requires { (k : ℕ) → k < 16 → slice_index values k < 16 }
+    ensures len { length result ≡ 16 }
+    ensures lanes { (k : ℕ) → k < 16 → slice_index result k ≡ slice_index lower_digits (slice_index values k) }
+{
+    u8x16::from_slice(b"0123456789abcdef").swizzle_dyn(values)
+}
+
+/// The digits of sixteen bytes, two for each.
+#[inline(always)]
+fn pairs_of(bytes: u8x16) -> u8x32
+    ensures len { length result ≡ 32 }
+    ensures lanes { IsEncoded bytes result 16 }
+{
+    let high = digits_of(bytes >> u8x16::splat(4));
+    let low = digits_of(bytes & u8x16::splat(15));
+    high.shuffle(
+        low,
+        [
+            0, 16, 1, 17, 2, 18, 3, 19, 4, 20, 5, 21, 6, 22, 7, 23, 8, 24, 9, 25, 10, 26, 11, 27,
+            12, 28, 13, 29, 14, 30, 15, 31,
+        ],
+    )
+}
+
+/// Writes the digits of sixteen bytes.
+#[inline(always)]
+fn encode_block(bytes: &[u8], out: &mut [u8], at: usize)
+    requires room { at + 16 ≤ length bytes.now }
+    requires twice { length out.old ≡ 2 * length bytes.now }
+    ensures { IsEncoded bytes.now out.old at → IsEncoded bytes.now out.new (at + 16) }
+{
+    let block = u8x16::from_slice(&bytes[at..]);
+    pairs_of(block).copy_to_slice(&mut out[2 * at..]);
+}
+
+/// Writes two digits for each byte.
+fn encode_into(bytes: &[u8], out: &mut [u8])
+    requires { length out.old ≡ 2 * length bytes.now }
+    ensures { out.new ≡ encode_lower bytes.now }
+{
+    if bytes.len() < 16 {
+        return encode_each(bytes, out);
+    }
+    for i in 0..(bytes.len() - 1) / 16 {
+        encode_block(bytes, out, 16 * i);
+    }
+    encode_block(bytes, out, bytes.len() - 16);
 }
 
 /// Writes the digits that spell the bytes, in lower case, into a slice twice as long.

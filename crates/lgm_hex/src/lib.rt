@@ -4,8 +4,9 @@
 //! A digit is one of `0` to `9`, `a` to `f` and `A` to `F`; two of them spell a byte, the higher
 //! half first. Bytes are always written in lower case.
 //!
-//! Sixteen digits at a time are decoded, with no branch on their values. What is shorter, and what
-//! is refused, goes to `hex`, so each error is the one that it gives.
+//! Thirty-two digits at a time are decoded, with no branch on their values, and sixteen bytes at a
+//! time encoded. Digits that are fewer, and those that are refused, go to `hex`, so each error is the
+//! one that it gives.
 #![tactic(auto)]
 
 mod decoding;

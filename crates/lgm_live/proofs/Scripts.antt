@@ -13,7 +13,7 @@ use Rattle.std.proofs.lemmas.Option.{slice_get-get_or, slice_get-map}
 use Rattle.std.proofs.lemmas.Slice.Zip.{AllZip-left}
 use Rattle.std.proofs.Math.Nat.{mod-lt}
 use Rattle.lgm_wire.specs.declared.chain_hash.ChainHash.{ChainHash}
-use Rattle.lgm_store.proofs.Soundness.{count_by-cons}
+use Rattle.lgm_live.proofs.Slots.{count_by-cons}
 use Rattle.lgm_store.specs.declared.op.Op.{Op}
 use Rattle.lgm_store.specs.History.{fold}
 use Rattle.lgm_route.specs.declared.request.Request.{Request as RouteRequest}

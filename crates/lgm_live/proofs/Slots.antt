@@ -5,7 +5,7 @@ use Rattle.std.specs.List.{filter_map, cons_option}
 use Rattle.std.proofs.lemmas.List.{length-map, take-map}
 use Rattle.std.proofs.lemmas.Option.{slice_get_within}
 use Rattle.std.proofs.Math.ListN.{get_or-map}
-use Rattle.lgm_store.proofs.Soundness.{count_by-cons}
+use Rattle.std.proofs.lemmas.List.Sums.{sum_by-cons}
 use Rattle.lgm_script.specs.declared.payment.Payment.{Payment}
 use Rattle.lgm_script.specs.declared.request.Request.{Request}
 use Rattle.lgm_script.specs.declared.request.Request.TheVariants as requests
@@ -20,6 +20,9 @@ use Rattle.lgm_live.specs.Agenda.{payment_in, payments_of}
 use Rattle.lgm_live.specs.Gathered.{slot_of}
 use Rattle.lgm_live.specs.Told.{answer_at, at_line, replay_word, payment_text, told_for, told_before, told_all, AreSame}
 use Rattle.lgm_live.specs.Telling.{is_item, is_end, is_payment, place_behind, same_text, slot_text, slots_before, IsThere, AreThere}
+
+pub count_by-cons : {X : Type 0} (p : X → Bool) (x : X) (xs : List X) → count_by p (x ∷ xs) ≡ cond (p x) 1 0 + count_by p xs
+count_by-cons p x xs = sum_by-cons (λ y. cond (p y) 1 0) x xs
 
 -- ---- counts
 

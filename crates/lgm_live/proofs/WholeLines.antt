@@ -15,7 +15,7 @@ use Rattle.lgm_script.proofs.FirstLines.{each-push}
 use Rattle.lgm_script.proofs.Splitting.{next_of}
 use Rattle.lgm_live.specs.declared.run_live_fault.RunLiveFault.{RunLiveFault}
 use Rattle.lgm_live.specs.declared.run_live_fault.RunLiveFault.TheVariants.{LineTooLong}
-use Rattle.lgm_live.specs.Running.{line_fault, HasMoreLines, HasLongLine}
+use Rattle.lgm_live.specs.Running.{line_fault, AreShort, HasMoreLines, HasLongLine}
 use Rattle.lgm_live.specs.Reading.{IsAsked}
 
 -- so many lines were read, and this is left
@@ -118,7 +118,10 @@ many (Some script) asked buffered (Some left) input so_far kept more full =
     let rest_is : so_far.rest ≡ buffered ++ left = sym (some_is (buffered ++ left) so_far.rest (kept ∙ so_far.input_is)) in
     let lines : lines_of (buffered ++ left) ≡ drop (length asked) (lines_of script) = ap lines_of (sym rest_is) ∙ so_far.left in
     let some = has_line (buffered ++ left) (omega (arith, length-append buffered left)) in
-    omega (arith, ap length lines, length-drop (length asked) (lines_of script), some, full)
+    record {
+      more = omega (arith, ap length lines, length-drop (length asked) (lines_of script), some, full);
+      short = subst (AreShort script) full so_far.short;
+    }
 
 pub long : (script : Option (List ℕ)) (asked : List Request) (input input' : Option (List ℕ)) → SoFar script asked input → input' ≡ input → length asked < 10000000 → IsLongerThan 140000 input'
     → IfSome script HasLongLine
@@ -130,7 +133,7 @@ long (Some script) asked input (Some s) so_far kept limit longer =
     let here : drop k all ≡ longer.0 ∷ longer.1 = sym so_far.left ∙ ap lines_of (sym (some_is s so_far.rest (kept ∙ so_far.input_is))) ∙ longer.2 in
     let below : k < length all = omega (arith, ap length here, length-drop k all) in
     let is : get_or all k [] ≡ longer.0 = ap (λ (ls : List (List ℕ)). get_or ls 0 []) (sym (drop_more all k [] below) ∙ here) in
-    (k, limit, rw is longer.3)
+    record { place = k; limit = limit; long = rw is longer.3; short = so_far.short }
 
 -- ---- nothing is written
 

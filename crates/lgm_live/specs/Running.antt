@@ -1,5 +1,5 @@
 -- What a run beside workers writes.
-use Rattle.std.specs.Prelude.{◌≡◌, ℕ, ◌<◌, ◌≤◌, List, [], length, map, All, Option, slice_index_or}
+use Rattle.std.specs.Prelude.{◌≡◌, ℕ, ◌<◌, ◌≤◌, List, [], length, map, take, All, Option, slice_index_or}
 use Rattle.std.specs.List.{AllZip, AllByRecursion}
 use Rattle.std.specs.Result.{result_err}
 use Rattle.lgm_wire.specs.declared.chain_hash.ChainHash.{ChainHash}
@@ -69,13 +69,21 @@ pub record IsToldInPart (chain : ChainHash) (known : Option (List ℕ)) (workers
   pub is_report : IsReportOn chain known workers (requests_of script) report
   pub text : told_part (told_all workers known report (requests_of script))
 
--- one more line than the limit begins
-abbrev pub HasMoreLines : List ℕ → Type 0
-HasMoreLines script = 10000000 < length (lines_of script)
+-- the first n lines are short
+abbrev pub AreShort : List ℕ → ℕ → Type 0
+AreShort script n = AllByRecursion (λ line. length line ≤ 140000) (take n (lines_of script))
 
--- one of the lines within the limit is too long
-abbrev pub HasLongLine : List ℕ → Type 0
-HasLongLine script = (place : ℕ) × (place < 10000000) × (140000 < length (slice_index_or (lines_of script) place []))
+-- one more line than the limit begins, and the lines before it are short
+pub record HasMoreLines (script : List ℕ) : Type 0 where
+  pub more : 10000000 < length (lines_of script)
+  pub short : AreShort script 10000000
+
+-- a line within the limit is too long, and the lines before it are short
+pub record HasLongLine (script : List ℕ) : Type 0 where
+  pub place : ℕ
+  pub limit : place < 10000000
+  pub long : 140000 < length (slice_index_or (lines_of script) place [])
+  pub short : AreShort script place
 
 -- a fault that comes before anything is written
 abbrev pub ComesFirst : RunLiveFault → Type 0

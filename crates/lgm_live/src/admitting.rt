@@ -26,7 +26,7 @@ pub(crate) fn admit(
     match item {
         Item::Gossip(bytes, evidence) => {
             let checked = precheck(alloc, chain, bytes.as_slice(), evidence)?;
-            map.offer(alloc, checked)
+            map.offer(alloc, &checked)
         }
         Item::Close(scid) => {
             let close = map.admit_close(*scid)?;

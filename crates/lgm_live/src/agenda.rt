@@ -24,6 +24,8 @@ pub(crate) struct Agenda {
     lists: RequestLists,
     /// How many payments there are.
     payments: usize,
+    /// How many whole batches stand above each payment. No contract speaks of it.
+    above: Vec<usize>,
     /// What each line is told by.
     slots: Vec<Slot>,
 }
@@ -46,6 +48,7 @@ impl Agenda {
             batch: Vec::new(alloc),
             lists: RequestLists::empty(alloc, workers)?,
             payments: 0,
+            above: Vec::new(alloc),
             slots: Vec::new(alloc),
         })
     }
@@ -68,6 +71,7 @@ impl Agenda {
         }) }
     {
         let worker = self.payments % self.lists.len();
+        self.above.push(self.batches.as_slice().len())?;
         self.lists.give(worker, request)?;
         self.payments += 1;
         Ok(())
@@ -122,6 +126,11 @@ impl Agenda {
         ensures { result.now ≡ self.now.lists }
     {
         &self.lists
+    }
+
+    /// How many whole batches stand above each payment, in order.
+    pub(crate) fn above(&self) -> &[usize] {
+        self.above.as_slice()
     }
 
     /// What each line is told by, in order.

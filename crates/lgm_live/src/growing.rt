@@ -46,7 +46,8 @@ fn work_given<R: Threads + Sync, G: Gate>(
     work_all(rt, alloc, gate, 0, eyes, lists)
 }
 
-/// The writer on one side, the workers on the other.
+/// The writer on one side, the workers on the other. Where no thread can be started, the writer comes first: workers may
+/// wait for what it publishes.
 fn run_both<R: Threads + Wait + Sync + RandomSource, G: Gate>(
     rt: &R,
     alloc: Global,
@@ -71,20 +72,25 @@ fn run_both<R: Threads + Wait + Sync + RandomSource, G: Gate>(
     ensures worked { IfOk result.1 (λ works. HaveWorked eyes.items lists.now works.items) }
 {
     let mut given = Some(eyes);
-    join_mut(
+    let (works, written) = join_mut(
         rt,
-        &mut || -> Result<Written, LiveFault>
-            requires published { pen.now.published ≡ [] }
-            requires pending { pen.now.pending ≡ [] }
-            requires items { length (items_of batches.now) ≤ 2000000000 }
-        { write_all(rt, alloc, chain, gate, lists.len(), pen, batches) },
         &mut || -> Result<Vec<Worked>, LiveFault>
             requires sync { IsSync R.row }
             requires given { IfSome given (λ eyes. length eyes.items ≡ length lists.now) }
             requires some { 0 < length lists.now }
             requires few { length lists.now ≤ 64 }
         { work_given(rt, alloc, gate, &mut given, lists) },
-    )
+        &mut || -> Result<Written, LiveFault>
+            requires published { pen.now.published ≡ [] }
+            requires pending { pen.now.pending ≡ [] }
+            requires items { length (items_of batches.now) ≤ 2000000000 }
+        {
+            let written = write_all(rt, alloc, chain, gate, lists.len(), pen, batches);
+            gate.published(usize::MAX);
+            written
+        },
+    );
+    (written, works)
 }
 
 /// The report of what both sides did.
@@ -119,7 +125,8 @@ fn gather(
 /// each payment over the map that was published last when it came to it.
 ///
 /// The gate holds up what a test wants held, and no answer depends on it. Worker `i`, counted from 0, passes it with `i`
-/// before each payment, and the writer with the number of workers before each publication. Nobody has a map then.
+/// before each payment, and the writer with the number of workers before each publication. Nobody has a map then. Behind
+/// each publication the writer tells the gate how many batches are published.
 ///
 /// The report has one outcome for each item, all accepted operations, and one answer for each payment, with the version
 /// of the map that it is over: how many operations made it. Where a thread can't be started, its work is done on one

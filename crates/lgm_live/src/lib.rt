@@ -10,6 +10,7 @@ mod agenda;
 mod batches;
 mod fault;
 mod growing;
+mod pacing;
 mod reading;
 mod report;
 mod requests;

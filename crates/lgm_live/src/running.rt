@@ -7,6 +7,7 @@ ghost use Rattle.lgm_live.specs.Reading.{IsRead};
 ghost use Rattle.lgm_live.specs.Running.{IsToldWhole, IsToldInPart, HasMoreLines, HasLongLine, ComesFirst};
 
 use crate::growing::live;
+use crate::pacing::Paced;
 use crate::reading::read_script;
 use crate::report::LiveReport;
 use crate::run_live_fault::RunLiveFault;
@@ -48,6 +49,7 @@ fn run_all<Rt: Threads + Wait + Sync + RandomSource, G: Gate, R: Source, W: Sink
     ensures write { result ≡ Err RunLiveFault.Write → W.failures output.old.writer.now < W.failures output.new.writer.now }
 {
     let agenda = read_script(alloc, workers, source, output)?;
+    let paced = Paced::new(rt, alloc, gate, workers, agenda.above())?;
     let report = live(
         rt,
         alloc,
@@ -55,7 +57,7 @@ fn run_all<Rt: Threads + Wait + Sync + RandomSource, G: Gate, R: Source, W: Sink
         known,
         agenda.batches(),
         agenda.lists(),
-        gate,
+        &paced,
     )?;
     tell(alloc, workers, agenda.slots(), &report, output)?;
     Ok(report)
@@ -63,7 +65,8 @@ fn run_all<Rt: Threads + Wait + Sync + RandomSource, G: Gate, R: Source, W: Sink
 
 /// Runs a whole script (see `lgm live` in `docs/script.md`): reads it, lets [`live`] admit its items and answer its
 /// payments side by side, and then writes the text of its lines, in order. Batches of items end at `commit` lines and at
-/// the end. Payments are dealt out to 1 to 64 workers in turn, from worker 0 on.
+/// the end. Payments are dealt out to 1 to 64 workers in turn, from worker 0 on. A payment waits until the batches whose
+/// `commit` stands above it are published, so it is answered on them, or on later ones.
 ///
 /// Items and commits are told as by `lgm_server::run`, where no peer has a filter. A payment is told the version of the
 /// map that it was answered on, `same`, and the answer; `same` says that the map of as many operations gives this answer.

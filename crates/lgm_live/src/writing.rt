@@ -168,6 +168,7 @@ pub(crate) fn write_all<R: Wait + RandomSource, G: Gate>(
     let mut written = Written::new(alloc, Seed::random(rt))?;
     for batch in batches {
         written.take_batch(rt, alloc, chain, gate, workers, pen, batch.as_slice())?;
+        gate.published(written.ends.len());
     }
     Ok(written)
 }

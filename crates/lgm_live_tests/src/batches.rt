@@ -1,7 +1,9 @@
 //! Two channels that come while routes over them are asked for. The expected route was worked out by hand.
 
 use lgm_check::{Evidence, Funding, Refusal, Sig};
-use lgm_gossip::{Announce, Bytes, ChainHash, ChannelUpdate, Message, Point, Scid, encode};
+use lgm_gossip::{
+    Announce, ChainHash, ChannelUpdate, Lent, Message, Point, Scid, Signature, encode,
+};
 use lgm_graph::Known;
 use lgm_live::{Batches, LiveAnswer, LiveReport, RequestLists, live};
 use lgm_par::{Gate, Open};
@@ -30,19 +32,20 @@ fn point(byte: u8) -> Point {
 }
 
 fn channel(alloc: Global, scid: Scid, from: u8, to: u8) -> Result<Item, Fail> {
+    let zeros = [0; 64];
     let message = Message::Announce(Announce {
-        node_signature_1: [0; 64],
-        node_signature_2: [0; 64],
-        bitcoin_signature_1: [0; 64],
-        bitcoin_signature_2: [0; 64],
-        features: Bytes::from_slice(alloc, &[])?,
+        node_signature_1: Signature::new(&zeros),
+        node_signature_2: Signature::new(&zeros),
+        bitcoin_signature_1: Signature::new(&zeros),
+        bitcoin_signature_2: Signature::new(&zeros),
+        features: Lent::new(&[]),
         chain_hash: CHAIN,
         short_channel_id: scid,
         node_id_1: point(from),
         node_id_2: point(to),
         bitcoin_key_1: point(0xee),
         bitcoin_key_2: point(0xee),
-        rest: Bytes::from_slice(alloc, &[])?,
+        rest: Lent::new(&[]),
     });
     let evidence = Evidence {
         sig: Sig::AllFour(true),
@@ -59,8 +62,9 @@ fn update(
     base: u32,
     millionths: u32,
 ) -> Result<Item, Fail> {
+    let zeros = [0; 64];
     let message = Message::ChannelUpdate(ChannelUpdate {
-        signature: [0; 64],
+        signature: Signature::new(&zeros),
         chain_hash: CHAIN,
         short_channel_id: scid,
         timestamp: 1,
@@ -71,7 +75,7 @@ fn update(
         fee_base_msat: base,
         fee_proportional_millionths: millionths,
         htlc_maximum_msat: 50_000_000,
-        rest: Bytes::from_slice(alloc, &[])?,
+        rest: Lent::new(&[]),
     });
     let evidence = Evidence {
         sig: Sig::By(point(by)),
@@ -284,10 +288,135 @@ fn a_worker_sees_what_is_published_meanwhile(rt: HostRuntime) -> Result<(), Fail
 
 #[test]
 fn all_workers_at_once(rt: HostRuntime) -> Result<(), Fail> {
-    let gate = Holding::new(Plan::All(64), 64);
-    let report = run(&rt, rt.alloc(), 0, 64, 1, &gate)?;
-    assert_right(&rt, &report, 64, 1);
-    assert!(rt; gate.ended_by_itself(), "ended at the limit");
+    for (workers, all) in [(3usize, 3u64), (5, 5), (63, 63), (64, 64)] {
+        let gate = Holding::new(Plan::All(all), workers);
+        let report = run(&rt, rt.alloc(), 0, workers, 1, &gate)?;
+        assert_right(&rt, &report, workers, 1);
+        assert!(rt; gate.ended_by_itself(), "{workers} ended at the limit");
+    }
+    Ok(())
+}
+
+/// Counts how often the gate was passed with each number below eight, and what it is told of publications.
+#[derive(Drop)]
+struct Passes {
+    /// Eight bits for each number.
+    counts: AtomicU64,
+    /// Eight bits for each number of batches, the last one first.
+    published: AtomicU64,
+    ended: AtomicU64,
+}
+
+impl Gate for Passes {
+    fn pass(&self, piece: usize) {
+        if piece < 8 {
+            self.counts.fetch_add(1 << (8 * piece), Ordering::SeqCst);
+        }
+    }
+
+    fn published(&self, batches: usize) {
+        if batches == usize::MAX {
+            self.ended.fetch_add(1, Ordering::SeqCst);
+        } else {
+            let before = self.published.load(Ordering::SeqCst);
+            let all = (before << 8) | batches as u64;
+            self.published.store(all, Ordering::SeqCst);
+        }
+    }
+}
+
+// Five workers of two payments each, and the writer with three batches.
+#[test]
+fn numbers_at_the_gate(rt: HostRuntime) -> Result<(), Fail> {
+    let gate = Passes {
+        counts: AtomicU64::new(0),
+        published: AtomicU64::new(0),
+        ended: AtomicU64::new(0),
+    };
+    let report = run(&rt, rt.alloc(), 2, 5, 2, &gate)?;
+    assert_right(&rt, &report, 5, 2);
+    assert_eq!(rt; gate.counts.load(Ordering::SeqCst), 0x0302_0202_0202);
+    assert_eq!(rt; gate.published.load(Ordering::SeqCst), 0x0001_0203);
+    assert_eq!(rt; gate.ended.load(Ordering::SeqCst), 1);
+    Ok(())
+}
+
+/// Lets one worker and the writer go in turns: each payment comes behind one more publication.
+#[derive(Drop)]
+struct InTurns {
+    begun: AtomicU64,
+    passed: AtomicU64,
+    published: AtomicU64,
+    turns: AtomicU64,
+}
+
+impl InTurns {
+    fn hold(&self, count: &AtomicU64, wanted: u64) {
+        let mut turns = 0;
+        for turn in 0..LIMIT {
+            turns = turn + 1;
+            if count.load(Ordering::SeqCst) >= wanted {
+                break;
+            }
+            thread::yield_now();
+        }
+        self.turns.fetch_max(turns, Ordering::SeqCst);
+    }
+}
+
+impl Gate for InTurns {
+    fn pass(&self, piece: usize) {
+        if piece == 0 {
+            let before = self.begun.fetch_add(1, Ordering::SeqCst);
+            self.hold(&self.published, before.saturating_add(1));
+        } else {
+            let before = self.passed.fetch_add(1, Ordering::SeqCst);
+            if before > 0 {
+                self.hold(&self.begun, before.saturating_add(1));
+            }
+        }
+    }
+
+    fn published(&self, _batches: usize) {
+        self.published.fetch_add(1, Ordering::SeqCst);
+    }
+}
+
+// Each of the four items is a batch. The route is there with the last of them.
+#[test]
+fn four_payments_over_four_versions(rt: HostRuntime) -> Result<(), Fail> {
+    let alloc = rt.alloc();
+    let mut batches = Batches::new(alloc);
+    for item in two_channels(alloc)? {
+        let mut batch = Vec::new(alloc);
+        batch.push(item)?;
+        batches.push(batch)?;
+    }
+    let lists = lists(alloc, 1, 4)?;
+    assert!(rt;
+        batches.are_few() && lists.len() >= 1 && lists.len() <= 64,
+        "a few"
+    );
+    let gate = InTurns {
+        begun: AtomicU64::new(0),
+        passed: AtomicU64::new(0),
+        published: AtomicU64::new(0),
+        turns: AtomicU64::new(0),
+    };
+    let report = live(&rt, alloc, &CHAIN, &Known::all(), &batches, &lists, &gate)?;
+    assert_eq!(rt; report.ends.as_slice(), [1, 2, 3, 4].as_slice());
+    let mut versions = Vec::new(alloc);
+    for answers in report.answers.as_slice() {
+        for answer in answers.as_slice() {
+            versions.push(answer.version)?;
+            assert_eq!(rt; answer.result.is_ok(), answer.version == 4);
+        }
+    }
+    assert_eq!(rt; versions.as_slice(), [1, 2, 3, 4].as_slice());
+    assert!(rt;
+        gate.turns.load(Ordering::SeqCst) < LIMIT,
+        "ended at the limit"
+    );
     Ok(())
 }
 

@@ -4,6 +4,7 @@ use lgm_gossip::ChainHash;
 use lgm_graph::Known;
 use lgm_live::{RunLiveFault, run_live};
 use lgm_par::Open;
+use lgm_script::{MemorySink, MemorySource};
 use lgm_test_scripts::{FailingSink, FailingSource};
 use std::alloc::{AllocError, Global};
 use std::marker::Sync;
@@ -46,6 +47,27 @@ fn ended<Rt: Threads + Wait + Sync + RandomSource>(
     Ok((ended.err(), writer.taken))
 }
 
+/// How a script ends that is read in large pieces, and how many bytes are written.
+fn ended_at_once<Rt: Threads + Wait + Sync + RandomSource>(
+    rt: &Rt,
+    alloc: Global,
+    script: &[u8],
+) -> (Option<RunLiveFault>, usize) {
+    let mut reader = MemorySource::new(script, 1_000_000);
+    let mut writer = MemorySink::new(alloc);
+    let ended = run_live(
+        rt,
+        alloc,
+        &mut reader,
+        &mut writer,
+        &ChainHash([0xc1; 32]),
+        &Known::all(),
+        3,
+        &Open,
+    );
+    (ended.err(), writer.taken().len())
+}
+
 // Each read of ten bytes, and the two that find the end: behind the last line, and for a further one.
 #[test]
 fn failing_reads(rt: HostRuntime) -> Result<(), Fail> {
@@ -86,5 +108,34 @@ fn a_line_that_is_too_long(rt: HostRuntime) -> Result<(), Fail> {
     let (fault, written) = ended(&rt, rt.alloc(), script.as_slice(), 0, 0)?;
     assert_eq!(rt; fault, Some(RunLiveFault::LineTooLong));
     assert!(rt; written.is_empty());
+    Ok(())
+}
+
+/// So many empty lines.
+fn empty_lines(alloc: Global, count: usize) -> Result<Vec<u8>, AllocError> {
+    let mut script = Vec::new(alloc);
+    script.resize(count, b'\n')?;
+    Ok(script)
+}
+
+// One line more than there may be.
+#[test]
+fn lines_beyond_the_limit(rt: HostRuntime) -> Result<(), Fail> {
+    let script = empty_lines(rt.alloc(), 10_000_001)?;
+    let (fault, written) = ended_at_once(&rt, rt.alloc(), script.as_slice());
+    assert_eq!(rt; fault, Some(RunLiveFault::TooManyLines));
+    assert_eq!(rt; written, 0);
+    Ok(())
+}
+
+// Line 2 is too long, and there are too many lines behind it.
+#[test]
+fn a_long_line_before_the_limit(rt: HostRuntime) -> Result<(), Fail> {
+    let mut script = empty_lines(rt.alloc(), 1)?;
+    script.resize(140_002, b'x')?;
+    script.resize(10_140_003, b'\n')?;
+    let (fault, written) = ended_at_once(&rt, rt.alloc(), script.as_slice());
+    assert_eq!(rt; fault, Some(RunLiveFault::LineTooLong));
+    assert_eq!(rt; written, 0);
     Ok(())
 }

@@ -193,3 +193,33 @@ fn refused_memory(rt: HostRuntime) -> Result<(), Fail> {
     }
     Ok(())
 }
+
+/// A payment before all items, one behind the first commit, and one behind the second: the later ones are answered on
+/// what was committed above them.
+#[test]
+fn a_payment_waits_for_what_is_above_it(rt: HostRuntime) -> Result<(), Fail> {
+    let alloc = rt.alloc();
+    let lines = [
+        Line::Open(7, 0, 1, FREE),
+        Line::Commit,
+        Line::Pay(0, 1, 1_000, 700_000),
+        Line::Close(7),
+        Line::Commit,
+        Line::Pay(0, 1, 1_000, 700_000),
+        Line::Pay(0, 1, 1_000, 700_000),
+    ];
+    let script = script_of(alloc, &lines)?;
+    for workers in [1, 2, 3] {
+        let (fault, writer) = told(&rt, alloc, script.as_bytes(), workers, &Open);
+        assert_eq!(rt; fault, None);
+        let first = writer.taken().starts_with(
+            b"1 accepted\n2 accepted\n3 commit 2\n4 at 2 same\n4 route 1000 700000 1\n",
+        ) || writer.taken().starts_with(
+            b"1 accepted\n2 accepted\n3 commit 2\n4 at 3 same\n4 no-route\n",
+        );
+        assert!(rt; first, "{workers} workers");
+        let last = b"5 accepted\n6 commit 3\n7 at 3 same\n7 no-route\n8 at 3 same\n8 no-route\n";
+        assert!(rt; writer.taken().ends_with(last), "{workers} workers");
+    }
+    Ok(())
+}

@@ -4,7 +4,7 @@ use crate::comparing::compare;
 use crate::item::{Item, take, word_of};
 use crate::made::Made;
 use crate::plain::Plain;
-use lgm_store::{Map, Op};
+use lgm_store::{Map, Op, Seed};
 use std::alloc::{AllocError, Global};
 use std::process::Abort;
 use std::test::Fail;
@@ -44,11 +44,12 @@ impl Both {
     }
 }
 
-/// A copy, and the map that the operations leave, read as the map does.
+/// A copy, and the map that the operations leave with another seed, read as the map does.
 fn compare_others(rt: &impl Abort, alloc: Global, both: &Both) -> Result<(), AllocError> {
     let copy = both.map.copy(alloc)?;
     compare(rt, alloc, &copy, &both.plain)?;
-    let replayed = Map::replay(alloc, both.history.as_slice())?;
+    let seed = Seed::new([7; 16]);
+    let replayed = Map::replay_with_seed(alloc, seed, both.history.as_slice())?;
     compare(rt, alloc, &replayed, &both.plain)
 }
 

@@ -4,7 +4,7 @@ use crate::item::point_of;
 use crate::made::IDS;
 use crate::plain::{Channel, Dated, Plain, ends, held};
 use lgm_check::{ChannelRow, NodeRow, UpdateRow};
-use lgm_gossip::{Bytes, Scid};
+use lgm_gossip::{Lent, Scid};
 use lgm_store::Map;
 use std::alloc::{AllocError, Global};
 use std::process::Abort;
@@ -24,12 +24,12 @@ const RANGES: [(u64, u64); 10] = [
 ];
 
 /// Whether these are the bytes that a mark is at the end of a message and behind its last field.
-fn is_marked(raw: &Bytes, rest: &Bytes, mark: u16) -> bool {
+fn is_marked(raw: &Lent, rest: &Lent, mark: u16) -> bool {
     let bytes = mark.to_be_bytes();
     rest.as_slice() == bytes.as_slice() && raw.as_slice().ends_with(&bytes)
 }
 
-fn is_channel(row: Option<&ChannelRow>, id: u64, channel: Channel) -> bool {
+fn is_channel(row: Option<ChannelRow>, id: u64, channel: Channel) -> bool {
     let Some(row) = row else {
         return false;
     };
@@ -40,7 +40,7 @@ fn is_channel(row: Option<&ChannelRow>, id: u64, channel: Channel) -> bool {
         && is_marked(&row.raw, &row.message.rest, channel.mark)
 }
 
-fn is_update(row: Option<&UpdateRow>, key: (u64, bool), dated: Dated) -> bool {
+fn is_update(row: Option<UpdateRow>, key: (u64, bool), dated: Dated) -> bool {
     let Some(row) = row else {
         return false;
     };
@@ -49,7 +49,7 @@ fn is_update(row: Option<&UpdateRow>, key: (u64, bool), dated: Dated) -> bool {
         && is_marked(&row.raw, &row.message.rest, dated.mark)
 }
 
-fn is_node(row: Option<&NodeRow>, node: u8, dated: Dated) -> bool {
+fn is_node(row: Option<NodeRow>, node: u8, dated: Dated) -> bool {
     let Some(row) = row else {
         return false;
     };

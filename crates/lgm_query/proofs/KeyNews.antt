@@ -23,7 +23,7 @@ use Rattle.lgm_store.specs.Rows.{Rows, IsAscending, update_of}
 use Rattle.lgm_store.specs.HeldAt.{held_at}
 use Rattle.lgm_store.specs.Ends.{point_cmp}
 use Rattle.lgm_store.specs.Sound.{id_of, point_of}
-use Rattle.lgm_store.proofs.Counting.{same_point, is_at-point}
+use Rattle.lgm_store.proofs.Points.{same_point, is_at-point}
 use Rattle.lgm_store.proofs.Lists.{node_total}
 use Rattle.lgm_store.proofs.Ordered.{find-same, filter-alike}
 use Rattle.lgm_query.specs.declared.filter.Filter.{Filter}

@@ -6,9 +6,12 @@ pub mod AskedLaws
 pub mod Ids
 pub mod KnownLaws
 pub mod CoverLaws
+pub mod PairLaws
+pub mod SentLaws
 pub mod KeyNewsLaws
 pub mod KeyNews
 pub mod Untouched
 pub mod Telling
 pub mod Lying
 pub mod Touching
+mod Idle

@@ -14,7 +14,7 @@ use Rattle.lgm_check.specs.declared.row.UpdateRow.{UpdateRow}
 use Rattle.lgm_check.specs.declared.row.NodeRow.{NodeRow}
 use Rattle.lgm_store.specs.declared.held.Held.{Held}
 use Rattle.lgm_store.specs.Rows.{is_point, node_of}
-use Rattle.lgm_store.proofs.Counting.{same_point}
+use Rattle.lgm_store.proofs.Points.{same_point}
 use Rattle.std.proofs.Math.Bool.{or-false}
 use Rattle.lgm_store.specs.Ends.{point_cmp}
 use Rattle.lgm_query.specs.Piece.{Piece, channel, update, node, bytes_of, are_of_one_node, with_nodes_once}
@@ -144,25 +144,26 @@ Sends-known_node nodes point keys old new were present same = rw same (by (node_
         }
 
 -- a message that is put at the end
-pub OnOk-channel : {E : Type 0} (r : Result (Unit {0}) E) (row own : ChannelRow) (old new : Sent) → row ≡ own
-    → OnOk r (new.messages ≡ old.messages ++ row.raw ∷ []) → OnOk r (new.nodes ≡ old.nodes) → OnOk r (Sends (channel own ∷ []) old new)
-OnOk-channel (Ok u) row own old new is message same = rw (← is) (Sends-channel row old new message same)
-OnOk-channel (Err e) row own old new is message same = tt
+pub OnOk-channel : {E : Type 0} (r : Result (Unit {0}) E) (row : ChannelRow) (raw : List ℕ) (old new : Sent) → raw ≡ row.raw
+    → OnOk r (new.messages ≡ old.messages ++ raw ∷ []) → OnOk r (new.nodes ≡ old.nodes) → OnOk r (Sends (channel row ∷ []) old new)
+OnOk-channel (Ok u) row raw old new is message same = Sends-channel row old new (rw is at message) same
+OnOk-channel (Err e) row raw old new is message same = tt
 
-pub OnOk-update : {E : Type 0} (r : Result (Unit {0}) E) (row : UpdateRow) (found : Option UpdateRow) (old new : Sent) → Some row ≡ found
-    → OnOk r (new.messages ≡ old.messages ++ row.raw ∷ []) → OnOk r (new.nodes ≡ old.nodes) → OnOk r (Sends (option_to_list (option_map update found)) old new)
-OnOk-update (Ok u) row found old new held message same = rw (← held) (Sends-update row old new message same)
-OnOk-update (Err e) row found old new held message same = tt
+pub OnOk-update : {E : Type 0} (r : Result (Unit {0}) E) (raw : List ℕ) (found : Option UpdateRow) (old new : Sent) → Some raw ≡ option_map (λ (row : UpdateRow). row.raw) found
+    → OnOk r (new.messages ≡ old.messages ++ raw ∷ []) → OnOk r (new.nodes ≡ old.nodes) → OnOk r (Sends (option_to_list (option_map update found)) old new)
+OnOk-update (Ok u) raw None old new held message same = absurd cc
+OnOk-update (Ok u) raw (Some row) old new held message same = let is : raw ≡ row.raw = cc in Sends-update row old new (rw is at message) same
+OnOk-update (Err e) raw found old new held message same = tt
 
-pub OnOk-node : {E : Type 0} (r : Result (Unit {0}) E) (nodes : List NodeRow) (row : NodeRow) (point : Point) (keys inserted : List Point) (old mid new : Sent) → Some row ≡ node_of nodes point
+pub OnOk-node : {E : Type 0} (r : Result (Unit {0}) E) (nodes : List NodeRow) (row : NodeRow) (raw : List ℕ) (point : Point) (keys inserted : List Point) (old mid new : Sent) → Some row ≡ node_of nodes point → raw ≡ row.raw
     → old.nodes ≡ keys → list_any (is_at (point_cmp point)) keys ≡ false
     → ((q : Point) → list_any (is_at (point_cmp q)) inserted ≡ cond (is_at (point_cmp point) q) true (list_any (is_at (point_cmp q)) keys))
-    → mid.messages ≡ old.messages → mid.nodes ≡ inserted → OnOk r (new.messages ≡ mid.messages ++ row.raw ∷ []) → OnOk r (new.nodes ≡ mid.nodes)
+    → mid.messages ≡ old.messages → mid.nodes ≡ inserted → OnOk r (new.messages ≡ mid.messages ++ raw ∷ []) → OnOk r (new.nodes ≡ mid.nodes)
     → OnOk r (Sends (option_to_list (option_map node (node_of nodes point))) old new)
-OnOk-node (Ok u) nodes row point keys inserted old mid new held were absent inserts kept with message same =
+OnOk-node (Ok u) nodes row raw point keys inserted old mid new held is were absent inserts kept with message same =
     Sends-new_node nodes row point keys old new held were absent (λ q. ap (list_any (is_at (point_cmp q))) (same ∙ with) ∙ inserts q)
-    (message ∙ ap (λ (ms : List (List ℕ)). ms ++ row.raw ∷ []) kept)
-OnOk-node (Err e) nodes row point keys inserted old mid new held were absent inserts kept with message same = tt
+    ((rw is at message) ∙ ap (λ (ms : List (List ℕ)). ms ++ row.raw ∷ []) kept)
+OnOk-node (Err e) nodes row raw point keys inserted old mid new held is were absent inserts kept with message same = tt
 
 -- what a set bit chooses
 pub Sends-set : (flags bit : ℕ) (piece : Option Piece) (b : Bool) (old mid new : Sent) → b ≡ (bit_at flags bit == 1) → b ≡ true → new ≡ mid

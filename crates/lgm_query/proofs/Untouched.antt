@@ -18,7 +18,7 @@ use Rattle.lgm_store.specs.Rows.{Rows, IsAscending, put, by_id, by_direction, by
 use Rattle.lgm_store.specs.Ends.{point_cmp}
 use Rattle.lgm_store.specs.History.{channels_without, updates_without, ended_nodes, with_banned, allowed_channels, banned_channels, banning, absorbed, fold_from}
 use Rattle.lgm_store.proofs.Ascending.{IsAscending-absorbed}
-use Rattle.lgm_store.proofs.Counting.{same_point, is_at-point}
+use Rattle.lgm_store.proofs.Points.{same_point, is_at-point}
 use Rattle.lgm_query.specs.KeyNews.{TellKeys}
 use Rattle.lgm_query.specs.Touched.{touches_channel, touches_node, TellsKey}
 

@@ -4,6 +4,7 @@ pub mod IdsReply
 pub mod RangeReply
 pub mod Sent
 pub mod Backlog
+pub mod SentWith
 pub mod Known
 pub mod Cover
 pub mod KeyNews

@@ -6,7 +6,6 @@ ghost use Rattle.lgm_query.specs.Backlog.{passing_rows, backlog};
 
 use crate::filter::Filter;
 use crate::passing::Passing;
-use lgm_gossip::Bytes;
 use lgm_store::{Channels, Map, Nodes};
 use std::marker::Model;
 
@@ -17,7 +16,8 @@ use std::marker::Model;
 /// node 1 and by node 2 that pass. Behind them come the announcements of nodes that pass, by their points. An update
 /// and a node's announcement pass by their own timestamps.
 ///
-/// It takes no memory, and searches for nothing: the whole walk costs what the map holds.
+/// It takes no memory, and searches for nothing: the whole walk costs what the map holds. Through a filter of no seconds
+/// nothing passes, and the walk costs nothing.
 #[derive(Drop)]
 pub struct Backlog<'a> {
     filter: Filter,
@@ -48,16 +48,19 @@ impl<'a> Backlog<'a> {
 }
 
 impl<'a> Iterator for Backlog<'a> {
-    type Item = &'a Bytes;
+    type Item = &'a [u8];
 
     ghost next_gives = { YieldsFirstRef (λ left. left) };
 
     ghost remaining = { item_count (λ left. left) };
 
-    fn next(&mut self) -> Option<&'a Bytes> {
+    fn next(&mut self) -> Option<&'a [u8]> {
         'rows: loop {
             if let Some(message) = self.passing.next() {
                 return Some(message);
+            }
+            if self.filter.range == 0 {
+                return None;
             }
             if let Some(held) = self.channels.next() {
                 self.passing = Passing::of_channel(&self.filter, held);

@@ -21,7 +21,7 @@ use std::marker::Model;
 /// What changed between an earlier map and a later one: of each channel and node that operations touched, the rows of
 /// both. Contracts see the rows of the two maps.
 ///
-/// It is made once, and tells each peer its news.
+/// It is made once, and then the messages of the two maps are compared. It tells each peer its news by timestamps alone.
 #[derive(Drop)]
 pub struct Differences<'a> {
     before: &'a Map,
@@ -42,7 +42,8 @@ impl<'a> Differences<'a> {
     /// Those of a map that came of an earlier one by operations, which touched these. The messages of both maps, and of
     /// the operations, are about the channel or node of their row, as those of each message that was checked are.
     ///
-    /// It costs a logarithm of the maps for each touched channel and node. The only error is want of memory.
+    /// It costs a logarithm of the maps for each touched channel and node, and reads their messages. The only error is
+    /// want of memory.
     pub fn between(
         alloc: Global,
         before: &'a Map,
@@ -63,7 +64,7 @@ impl<'a> Differences<'a> {
     }
 
     /// The news of [`news`](crate::news) from the earlier map to the later one, as they are walked. It takes no memory,
-    /// and looks at no more than what was touched.
+    /// looks at no more than the timestamps of what was touched, and at nothing through a filter of no seconds.
     pub fn news<'b>(&'b self, filter: &Filter) -> News<'b, 'a>
         ensures { result ≡ news self.now.before self.now.after filter.now }
     {
@@ -72,6 +73,7 @@ impl<'a> Differences<'a> {
 }
 
 /// What the maps have of channels, of which the later map has each.
+#[tactic(auto, using(crate::proofs::PairLaws::one_more_pair))]
 fn channel_pairs<'a>(
     alloc: Global,
     before: &'a Map,

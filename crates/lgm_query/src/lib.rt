@@ -23,6 +23,7 @@ mod ranges;
 mod replies;
 mod reply;
 mod sending;
+mod sent_with;
 
 pub use answering_ids::answer_ids;
 pub use answering_range::answer_range;

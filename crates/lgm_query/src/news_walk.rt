@@ -8,7 +8,6 @@ ghost use Rattle.lgm_query.specs.Differences.{news_of_pairs};
 use crate::filter::Filter;
 use crate::pairs::{ChannelPair, NodePair};
 use crate::passing::Passing;
-use lgm_gossip::Bytes;
 use std::marker::Model;
 use std::slice;
 
@@ -48,16 +47,19 @@ impl<'b, 'a> News<'b, 'a> {
 }
 
 impl<'b, 'a> Iterator for News<'b, 'a> {
-    type Item = &'a Bytes;
+    type Item = &'a [u8];
 
     ghost next_gives = { YieldsFirstRef (λ left. left) };
 
     ghost remaining = { item_count (λ left. left) };
 
-    fn next(&mut self) -> Option<&'a Bytes> {
+    fn next(&mut self) -> Option<&'a [u8]> {
         'rows: loop {
             if let Some(message) = self.passing.next() {
                 return Some(message);
+            }
+            if self.filter.range == 0 {
+                return None;
             }
             if let Some(pair) = self.channels.next() {
                 self.passing = Passing::news_of_channel(&self.filter, pair);

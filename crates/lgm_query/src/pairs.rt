@@ -1,47 +1,76 @@
 //! What two maps have of a channel or a node.
 
-ghost use Rattle.std.specs.Prelude.{◌≡◌, []};
-ghost use Rattle.std.specs.Option.{option_map_or};
+ghost use Rattle.std.specs.Prelude.{◌≡◌, Some, []};
+ghost use Rattle.std.specs.Option.{option_copied, option_map_or};
+ghost use Rattle.lgm_store.specs.Held.{update_in};
 ghost use Rattle.lgm_query.specs.declared.filter.Filter.{Filter};
 ghost use Rattle.lgm_query.specs.KeyNews.{news_of_channel, news_of_node};
-ghost use Rattle.lgm_query.specs.Differences.{news_of_channel_pair, news_of_node_pair};
+ghost use Rattle.lgm_query.specs.SentWith.{sent_with, update_message, is_node_message};
 
-use lgm_check::NodeRow;
+use crate::sent_with::SentWith;
 use lgm_gossip::{Point, Scid};
+use lgm_rows::KeptNode;
 use lgm_store::{Held, Map};
 
-/// A channel that a later map has, and what an earlier one has of it.
+/// A channel that a later map has, what an earlier one has of it, and with which of the earlier updates each of its
+/// messages was sent.
 #[derive(Drop)]
 pub(crate) struct ChannelPair<'a> {
     pub(crate) before: Option<&'a Held>,
     pub(crate) after: &'a Held,
+    pub(crate) announcement: SentWith,
+    pub(crate) first: SentWith,
+    pub(crate) second: SentWith,
+    ghost of_announcement: { announcement ≡ sent_with (option_copied before) (Some after.now.channel.raw) },
+    ghost of_first: { first ≡ sent_with (option_copied before) (update_message after.now.first) },
+    ghost of_second: { second ≡ sent_with (option_copied before) (update_message after.now.second) },
 }
 
-/// A node that a later map has, and what an earlier one has of it.
+/// A node that a later map has, what an earlier one has of it, and whether both have the same message.
 #[derive(Drop)]
 pub(crate) struct NodePair<'a> {
-    pub(crate) before: Option<&'a NodeRow>,
-    pub(crate) after: &'a NodeRow,
+    pub(crate) before: Option<&'a KeptNode>,
+    pub(crate) after: &'a KeptNode,
+    pub(crate) is_same: bool,
+    ghost same: { is_same ≡ is_node_message (option_copied before) after.now.raw },
 }
 
 impl<'a> ChannelPair<'a> {
-    /// That of an id, if the later map has it.
+    ghost use Rattle.lgm_query.specs.Differences.{news_of_channel_pair};
+
+    /// That of an id, if the later map has it. The messages are compared here, once for all filters.
     pub(crate) fn at(before: &'a Map, after: &'a Map, scid: Scid) -> Option<ChannelPair<'a>>
         ensures { (f : Filter) → option_map_or (news_of_channel_pair f) result [] ≡ news_of_channel f before.now after.now scid }
     {
         let after = after.held(scid)?;
         let before = before.held(scid);
-        Some(ChannelPair { before, after })
+        Some(ChannelPair {
+            before,
+            after,
+            announcement: SentWith::of(Some(after.raw()), before),
+            first: SentWith::of(after.update_raw(false), before),
+            second: SentWith::of(after.update_raw(true), before),
+        })
     }
 }
 
 impl<'a> NodePair<'a> {
-    /// That of a node, if the later map has it.
+    ghost use Rattle.lgm_query.specs.Differences.{news_of_node_pair};
+
+    /// That of a node, if the later map has it. The messages are compared here, once for all filters.
     pub(crate) fn at(before: &'a Map, after: &'a Map, node: &Point) -> Option<NodePair<'a>>
         ensures { (f : Filter) → option_map_or (news_of_node_pair f) result [] ≡ news_of_node f before.now after.now node.now }
     {
-        let after = after.node(node)?;
-        let before = before.node(node);
-        Some(NodePair { before, after })
+        let after = after.kept_node(node)?;
+        let before = before.kept_node(node);
+        let is_same = match before {
+            Some(row) => row.raw() == after.raw(),
+            None => false,
+        };
+        Some(NodePair {
+            before,
+            after,
+            is_same,
+        })
     }
 }

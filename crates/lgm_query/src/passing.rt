@@ -1,26 +1,27 @@
 //! What passes of one channel, or of one node.
 
-ghost use Rattle.std.specs.Prelude.{◌≡◌, List, ℕ, [], ◌++◌};
+ghost use Rattle.std.specs.Prelude.{◌≡◌, ◌||◌, List, ℕ, [], ◌++◌};
+ghost use Rattle.std.specs.Bool.{then_some};
 ghost use Rattle.std.specs.Iterator.{YieldsFirstRef, item_count};
-ghost use Rattle.std.specs.Option.{option_copied, option_to_list};
+ghost use Rattle.std.specs.Option.{option_copied, option_to_list, is_some};
 ghost use Rattle.lgm_store.specs.Held.{update_in};
-ghost use Rattle.lgm_query.specs.Backlog.{is_among, passing_update, passing_channel, passing_node};
-ghost use Rattle.lgm_query.specs.KeyNews.{without_known};
+ghost use Rattle.lgm_query.specs.Backlog.{passing_update, passing_channel, passing_node};
+ghost use Rattle.lgm_query.specs.SentWith.{unless_passed};
 ghost use Rattle.lgm_query.specs.Differences.{news_of_channel_pair, news_of_node_pair};
 
 use crate::filter::Filter;
 use crate::pairs::{ChannelPair, NodePair};
-use lgm_check::NodeRow;
-use lgm_gossip::Bytes;
+use crate::sent_with::SentWith;
+use lgm_rows::KeptNode;
 use lgm_store::Held;
 use std::marker::Model;
 
 /// The messages that pass of one channel, or of one node. Contracts see the list of those that are still to come.
 #[derive(Drop)]
 pub(crate) struct Passing<'a> {
-    announcement: Option<&'a Bytes>,
-    first: Option<&'a Bytes>,
-    second: Option<&'a Bytes>,
+    announcement: Option<&'a [u8]>,
+    first: Option<&'a [u8]>,
+    second: Option<&'a [u8]>,
 }
 
 impl<'a> Model for Passing<'a> {
@@ -48,81 +49,60 @@ impl<'a> Passing<'a> {
     {
         let first = passing_update(filter, held, false);
         let second = passing_update(filter, held, true);
-        if first.is_none() && second.is_none() {
-            return Passing::none();
-        }
         Passing {
-            announcement: Some(&held.row().raw),
+            announcement: announcement_before(held, first, second),
             first,
             second,
         }
     }
 
     /// That of a node's row, if it passes.
-    pub(crate) fn of_node(filter: &Filter, row: &'a NodeRow) -> Passing<'a>
+    pub(crate) fn of_node(filter: &Filter, row: &'a KeptNode) -> Passing<'a>
         ensures { result ≡ passing_node filter.now row.now }
     {
-        if !filter.passes(row.message.timestamp) {
+        if !filter.passes(row.timestamp()) {
             return Passing::none();
         }
         Passing {
-            announcement: Some(&row.raw),
+            announcement: Some(row.raw()),
             first: None,
             second: None,
         }
     }
 
-    /// Those of a channel that didn't pass before.
+    /// Those of a channel that didn't pass before. No message is read.
     pub(crate) fn news_of_channel(filter: &Filter, pair: &ChannelPair<'a>) -> Passing<'a>
         ensures { result ≡ news_of_channel_pair filter.now pair.now }
     {
-        let passing = Passing::of_channel(filter, pair.after);
-        match pair.before {
-            None => passing,
-            Some(held) => passing.without(&Passing::of_channel(filter, held)),
+        let first = passing_update(filter, pair.after, false);
+        let second = passing_update(filter, pair.after, true);
+        let announcement = announcement_before(pair.after, first, second);
+        Passing {
+            announcement: unless_passed(filter, pair.before, pair.announcement, announcement),
+            first: unless_passed(filter, pair.before, pair.first, first),
+            second: unless_passed(filter, pair.before, pair.second, second),
         }
     }
 
-    /// That of a node, unless it passed before.
+    /// That of a node, unless it passed before. No message is read.
     pub(crate) fn news_of_node(filter: &Filter, pair: &NodePair<'a>) -> Passing<'a>
         ensures { result ≡ news_of_node_pair filter.now pair.now }
     {
-        let passing = Passing::of_node(filter, pair.after);
         match pair.before {
-            None => passing,
-            Some(row) => passing.without(&Passing::of_node(filter, row)),
+            Some(row) if pair.is_same && filter.passes(row.timestamp()) => Passing::none(),
+            _ => Passing::of_node(filter, pair.after),
         }
-    }
-
-    /// Those that aren't known.
-    fn without(self, known: &Passing<'_>) -> Passing<'a>
-        ensures { result ≡ without_known known.now self.entry }
-    {
-        Passing {
-            announcement: unless_known(self.announcement, known),
-            first: unless_known(self.first, known),
-            second: unless_known(self.second, known),
-        }
-    }
-
-    /// Whether a message is among those that are still to come.
-    fn contains(&self, message: &Bytes) -> bool
-        ensures { result ≡ is_among self.now message.now }
-    {
-        is_one(self.announcement, message)
-            || is_one(self.first, message)
-            || is_one(self.second, message)
     }
 }
 
 impl<'a> Iterator for Passing<'a> {
-    type Item = &'a Bytes;
+    type Item = &'a [u8];
 
     ghost next_gives = { YieldsFirstRef (λ left. left) };
 
     ghost remaining = { item_count (λ left. left) };
 
-    fn next(&mut self) -> Option<&'a Bytes> {
+    fn next(&mut self) -> Option<&'a [u8]> {
         if let Some(announcement) = self.announcement.take() {
             return Some(announcement);
         }
@@ -133,30 +113,43 @@ impl<'a> Iterator for Passing<'a> {
     }
 }
 
-/// Whether there is a message, and it is this one.
-fn is_one(one: Option<&Bytes>, message: &Bytes) -> bool
-    ensures { result ≡ is_among (option_to_list (option_copied one.entry)) message.now }
+/// The announcement of a channel, if there is an update to be sent behind it.
+fn announcement_before<'a>(
+    held: &'a Held,
+    first: Option<&[u8]>,
+    second: Option<&[u8]>,
+) -> Option<&'a [u8]>
+    ensures { let is_any = is_some (option_copied first.entry) || is_some (option_copied second.entry) in
+        option_copied result ≡ then_some is_any held.now.channel.raw }
 {
-    one.is_some_and(|one| message.as_slice() == one.as_slice())
+    if first.is_none() && second.is_none() {
+        return None;
+    }
+    Some(held.raw())
 }
 
-/// The message, unless it is known.
-fn unless_known<'a>(message: Option<&'a Bytes>, known: &Passing<'_>) -> Option<&'a Bytes>
-    ensures { option_to_list (option_copied result) ≡ without_known known.now (option_to_list (option_copied message.entry)) }
+/// The message, unless it passed before with one of these updates.
+fn unless_passed<'a>(
+    filter: &Filter,
+    before: Option<&Held>,
+    sent: SentWith,
+    message: Option<&'a [u8]>,
+) -> Option<&'a [u8]>
+    ensures { option_copied result ≡ unless_passed filter.now (option_copied before.entry) sent (option_copied message.entry) }
 {
-    match message {
-        Some(message) if !known.contains(message) => Some(message),
-        _ => None,
+    match (before, message) {
+        (Some(held), Some(_)) if sent.passed(filter, held) => None,
+        _ => message,
     }
 }
 
 /// The message of a channel's update, if it is held and passes. Of one that doesn't, only the timestamp is looked at.
-fn passing_update<'a>(filter: &Filter, held: &'a Held, second: bool) -> Option<&'a Bytes>
+fn passing_update<'a>(filter: &Filter, held: &'a Held, second: bool) -> Option<&'a [u8]>
     ensures { option_copied result ≡ passing_update filter.now (update_in second held.now) }
 {
     let time = held.update_time(second)?;
     if !filter.passes(time) {
         return None;
     }
-    Some(&held.update(second)?.raw)
+    held.update_raw(second)
 }

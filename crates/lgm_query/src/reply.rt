@@ -11,7 +11,7 @@ pub struct Reply<'a> {
 
 #[derive(Debug, Drop)]
 enum Source<'a> {
-    Held(&'a Bytes),
+    Held(&'a [u8]),
     Made(Bytes),
 }
 
@@ -29,7 +29,7 @@ impl<'a> Reply<'a> {
     ghost use Rattle.std.specs.Prelude.{◌≡◌};
 
     /// A held message, borrowed.
-    pub fn held(message: &'a Bytes) -> Reply<'a>
+    pub fn held(message: &'a [u8]) -> Reply<'a>
         ensures { result ≡ message.now }
     {
         Reply {
@@ -51,7 +51,7 @@ impl<'a> Reply<'a> {
         ensures { result.now ≡ self.now }
     {
         match &self.source {
-            Source::Held(message) => message.as_slice(),
+            Source::Held(message) => message,
             Source::Made(message) => message.as_slice(),
         }
     }

@@ -10,7 +10,7 @@ ghost use Rattle.lgm_query.specs.IdsReply.{chosen_of, chosen};
 ghost use Rattle.lgm_query.specs.Sent.{AreSent, Sends};
 
 use crate::reply::Reply;
-use lgm_gossip::{Bytes, Point, Scid};
+use lgm_gossip::{Point, Scid};
 use lgm_store::{Held, Map};
 use std::alloc::{AllocError, Global};
 use std::collections::BTreeSet;
@@ -89,15 +89,15 @@ impl<'a> Sending<'a> {
     fn send_channel(&mut self, held: &'a Held) -> Result<(), AllocError>
         ensures { OnOk result (Sends (channel held.now.channel ∷ []) self.old self.new) }
     {
-        self.push(&held.row().raw)
+        self.push(held.raw())
     }
 
     fn send_update(&mut self, held: &'a Held, second: bool) -> Result<(), AllocError>
         ensures { OnOk result (Sends (option_to_list (option_map update (update_in second held.now))) self.old self.new) }
     {
-        match held.update(second) {
+        match held.update_raw(second) {
             None => Ok(()),
-            Some(row) => self.push(&row.raw),
+            Some(raw) => self.push(raw),
         }
     }
 
@@ -110,15 +110,15 @@ impl<'a> Sending<'a> {
         if self.nodes.contains(point) {
             return Ok(());
         }
-        let Some(row) = map.node(point) else {
+        let Some(row) = map.kept_node(point) else {
             return Ok(());
         };
         self.nodes.insert(*point)?;
-        self.push(&row.raw)
+        self.push(row.raw())
     }
 
     /// Puts a message at the end.
-    fn push(&mut self, message: &'a Bytes) -> Result<(), AllocError>
+    fn push(&mut self, message: &'a [u8]) -> Result<(), AllocError>
         ensures messages { OnOk result (self.new.messages ≡ self.old.messages ++ message.now ∷ []) }
         ensures nodes { OnOk result (self.new.nodes ≡ self.old.nodes) }
     {

@@ -1,27 +1,28 @@
 -- Two chains of labels, followed side by side.
 use Rattle.std.proofs.Common.{◌≡◌, ℕ, ◌-◌, ◌<◌, List, [], ◌∷◌, ◌++◌, length, sym, ◌∙◌, ap, subst, inl, inr, arith}
 use Rattle.std.proofs.lemmas.List.{append_assoc}
+use Rattle.lgm_graph.specs.Graph.{Graph}
 use Rattle.lgm_graph.specs.declared.link.Link.{Link}
 use Rattle.lgm_route.specs.declared.label.Label.{Label}
 use Rattle.lgm_route.specs.Numbered.{ids}
-use Rattle.lgm_route.specs.Searching.{NotAfter, link_in, label_at, Spells, IsSpelled, IdsFirst}
+use Rattle.lgm_route.specs.Searching.{NotAfter, label_at, Spells, IsSpelled, IdsFirst, Begins, first_of}
 use Rattle.lgm_route.proofs.Orders.{NotAfter-refl, NotAfter-join}
 use Rattle.lgm_route.proofs.Labels.{Spells-unique}
 
 -- so many edges from the end the chains are at these labels, and what comes then decides
-pub record AreBeside (labels : List Label) (label other here there : Label) (count : ℕ) : Type 0 where
+pub record AreBeside (graph : Graph) (labels : List Label) (label other here there : Label) (count : ℕ) : Type 0 where
   pub rest : List Link
-  pub spells : Spells labels here rest
+  pub spells : Spells graph labels here rest
   pub long : length rest ≡ count
   pub also : List Link
-  pub spells_also : Spells labels there also
+  pub spells_also : Spells graph labels there also
   pub long_also : length also ≡ count
-  pub first : NotAfter (ids rest) (ids also) → IdsFirst labels label other
-  pub after : NotAfter (ids also) (ids rest) → IdsFirst labels other label
+  pub first : NotAfter (ids rest) (ids also) → IdsFirst graph labels label other
+  pub after : NotAfter (ids also) (ids rest) → IdsFirst graph labels other label
 
-pub beside_start : (labels : List Label) (label other : Label) → IsSpelled labels label → IsSpelled labels other → label.count ≡ other.count →
-    AreBeside labels label other label other label.count
-beside_start labels label other h k e =
+pub beside_start : (graph : Graph) (labels : List Label) (label other : Label) → IsSpelled graph labels label → IsSpelled graph labels other → label.count ≡ other.count →
+    AreBeside graph labels label other label other label.count
+beside_start graph labels label other h k e =
     record {
       rest = h.0;
       spells = h.1;
@@ -33,92 +34,92 @@ beside_start labels label other h k e =
       after = λ p also rest t s n m. move_back rest also s t m n p;
     }
   where
-    same : (rest : List Link) → Spells labels label rest → length rest ≡ label.count → h.0 ≡ rest
-    same rest s m = Spells-unique labels label h.0 rest h.1 s (h.2 ∙ sym m)
+    same : (rest : List Link) → Spells graph labels label rest → length rest ≡ label.count → h.0 ≡ rest
+    same rest s m = Spells-unique graph labels label h.0 rest h.1 s (h.2 ∙ sym m)
 
-    same_also : (also : List Link) → Spells labels other also → length also ≡ other.count → k.0 ≡ also
-    same_also also t n = Spells-unique labels other k.0 also k.1 t (k.2 ∙ sym n)
+    same_also : (also : List Link) → Spells graph labels other also → length also ≡ other.count → k.0 ≡ also
+    same_also also t n = Spells-unique graph labels other k.0 also k.1 t (k.2 ∙ sym n)
 
-    move : (rest also : List Link) → Spells labels label rest → Spells labels other also → length rest ≡ label.count → length also ≡ other.count →
+    move : (rest also : List Link) → Spells graph labels label rest → Spells graph labels other also → length rest ≡ label.count → length also ≡ other.count →
         NotAfter (ids h.0) (ids k.0) → NotAfter (ids rest) (ids also)
     move rest also s t m n p = subst (λ r. NotAfter (ids r) (ids also)) (same rest s m) (subst (λ r. NotAfter (ids h.0) (ids r)) (same_also also t n) p)
 
-    move_back : (rest also : List Link) → Spells labels label rest → Spells labels other also → length rest ≡ label.count → length also ≡ other.count →
+    move_back : (rest also : List Link) → Spells graph labels label rest → Spells graph labels other also → length rest ≡ label.count → length also ≡ other.count →
         NotAfter (ids k.0) (ids h.0) → NotAfter (ids also) (ids rest)
     move_back rest also s t m n p = subst (λ r. NotAfter (ids also) (ids r)) (same rest s m) (subst (λ r. NotAfter (ids r) (ids h.0)) (same_also also t n) p)
 
 -- where edges are left, each label has one, and leads on
-pub record HasMore (labels : List Label) (label : Label) (rest : List Link) (count : ℕ) : Type 0 where
-  pub next : label.next < length labels
+pub record HasMore (graph : Graph) (labels : List Label) (label : Label) (rest : List Link) (count : ℕ) : Type 0 where
+  pub begins : Begins graph labels label
   pub tail : List Link
-  pub is : rest ≡ link_in label.arc ∷ tail
-  pub spells : Spells labels (label_at labels label.next) tail
+  pub is : rest ≡ first_of graph labels label ∷ tail
+  pub spells : Spells graph labels (label_at labels label.next) tail
   pub long : length tail ≡ count - 1
 
-pub has_more : (labels : List Label) (label : Label) (rest : List Link) (count : ℕ) →
-    Spells labels label rest → length rest ≡ count → 0 < count → HasMore labels label rest count
-has_more labels label [] count s e p = absurd (omega arith)
-has_more labels label (edge ∷ rest) count s e p =
-    record { next = s.1; tail = rest; is = ap (λ x. x ∷ rest) (sym s.0); spells = s.2; long = omega arith }
+pub has_more : (graph : Graph) (labels : List Label) (label : Label) (rest : List Link) (count : ℕ) →
+    Spells graph labels label rest → length rest ≡ count → 0 < count → HasMore graph labels label rest count
+has_more graph labels label [] count s e p = absurd (omega arith)
+has_more graph labels label (edge ∷ rest) count s e p =
+    record { begins = s.1; tail = rest; is = ap (λ x. x ∷ rest) (sym s.0); spells = s.2; long = omega arith }
 
 -- no edges are spelled anywhere
-pub spells_none : (labels : List Label) (label : Label) (rest : List Link) → length rest ≡ 0 → Spells labels label rest
-spells_none labels label [] e = tt
-spells_none labels label (edge ∷ rest) e = absurd (omega arith)
+pub spells_none : (graph : Graph) (labels : List Label) (label : Label) (rest : List Link) → length rest ≡ 0 → Spells graph labels label rest
+spells_none graph labels label [] e = tt
+spells_none graph labels label (edge ∷ rest) e = absurd (omega arith)
 
 -- the edges so far, before those that the label spells, are the walk
-pub record IsOnTheWay (labels : List Label) (found here : Label) (count : ℕ) (walk : List Link) : Type 0 where
+pub record IsOnTheWay (graph : Graph) (labels : List Label) (found here : Label) (count : ℕ) (walk : List Link) : Type 0 where
   pub rest : List Link
-  pub spells : Spells labels here rest
+  pub spells : Spells graph labels here rest
   pub long : length rest ≡ count
-  pub whole : Spells labels found (walk ++ rest)
+  pub whole : Spells graph labels found (walk ++ rest)
   pub all : length (walk ++ rest) ≡ found.count
 
-pub way_more : (labels : List Label) (found here : Label) (count : ℕ) (walk : List Link) → (way : IsOnTheWay labels found here count walk) → 0 < count →
-    HasMore labels here way.rest count
-way_more labels found here count walk way left = has_more labels here way.rest count way.spells way.long left
+pub way_more : (graph : Graph) (labels : List Label) (found here : Label) (count : ℕ) (walk : List Link) → (way : IsOnTheWay graph labels found here count walk) → 0 < count →
+    HasMore graph labels here way.rest count
+way_more graph labels found here count walk way left = has_more graph labels here way.rest count way.spells way.long left
 
-pub way_step : (labels : List Label) (found here : Label) (count : ℕ) (walk : List Link) → IsOnTheWay labels found here count walk → 0 < count →
-    IsOnTheWay labels found (label_at labels here.next) (count - 1) (walk ++ link_in here.arc ∷ [])
-way_step labels found here count walk way left =
-    let more = way_more labels found here count walk way left in
-    let same : walk ++ way.rest ≡ (walk ++ link_in here.arc ∷ []) ++ more.tail = ap (λ r. walk ++ r) more.is ∙ sym (append_assoc walk (link_in here.arc ∷ []) more.tail) in
-    record { rest = more.tail; spells = more.spells; long = more.long; whole = subst (λ r. Spells labels found r) same way.whole; all = subst (λ r. length r ≡ found.count) same way.all }
+pub way_step : (graph : Graph) (labels : List Label) (found here : Label) (count : ℕ) (walk : List Link) → IsOnTheWay graph labels found here count walk → 0 < count →
+    IsOnTheWay graph labels found (label_at labels here.next) (count - 1) (walk ++ first_of graph labels here ∷ [])
+way_step graph labels found here count walk way left =
+    let more = way_more graph labels found here count walk way left in
+    let same : walk ++ way.rest ≡ (walk ++ first_of graph labels here ∷ []) ++ more.tail = ap (λ r. walk ++ r) more.is ∙ sym (append_assoc walk (first_of graph labels here ∷ []) more.tail) in
+    record { rest = more.tail; spells = more.spells; long = more.long; whole = subst (λ r. Spells graph labels found r) same way.whole; all = subst (λ r. length r ≡ found.count) same way.all }
 
-pub way_last : (labels : List Label) (found here other : Label) (count : ℕ) (walk : List Link) → count ≡ 0 →
-    IsOnTheWay labels found here count walk → IsOnTheWay labels found other count walk
-way_last labels found here other count walk e way =
-    record { rest = way.rest; spells = spells_none labels other way.rest (way.long ∙ e); long = way.long; whole = way.whole; all = way.all }
+pub way_last : (graph : Graph) (labels : List Label) (found here other : Label) (count : ℕ) (walk : List Link) → count ≡ 0 →
+    IsOnTheWay graph labels found here count walk → IsOnTheWay graph labels found other count walk
+way_last graph labels found here other count walk e way =
+    record { rest = way.rest; spells = spells_none graph labels other way.rest (way.long ∙ e); long = way.long; whole = way.whole; all = way.all }
 
-module _ (labels : List Label) (label other here there : Label) (count : ℕ) (beside : AreBeside labels label other here there count) (left : 0 < count) where
-  pub one : HasMore labels here beside.rest count
-  one = has_more labels here beside.rest count beside.spells beside.long left
+module _ (graph : Graph) (labels : List Label) (label other here there : Label) (count : ℕ) (beside : AreBeside graph labels label other here there count) (left : 0 < count) where
+  pub one : HasMore graph labels here beside.rest count
+  one = has_more graph labels here beside.rest count beside.spells beside.long left
 
-  pub two : HasMore labels there beside.also count
-  two = has_more labels there beside.also count beside.spells_also beside.long_also left
+  pub two : HasMore graph labels there beside.also count
+  two = has_more graph labels there beside.also count beside.spells_also beside.long_also left
 
-  pub beside_less : here.arc.scid < there.arc.scid → IdsFirst labels label other
+  pub beside_less : (first_of graph labels here).scid < (first_of graph labels there).scid → IdsFirst graph labels label other
   beside_less p =
-      beside.first (subst (λ r. NotAfter (ids r) (ids beside.also)) (sym one.is) (subst (λ r. NotAfter (ids (link_in here.arc ∷ one.tail)) (ids r)) (sym two.is)
-      (NotAfter-join here.arc.scid there.arc.scid (ids one.tail) (ids two.tail) (inl p))))
+      beside.first (subst (λ r. NotAfter (ids r) (ids beside.also)) (sym one.is) (subst (λ r. NotAfter (ids (first_of graph labels here ∷ one.tail)) (ids r)) (sym two.is)
+      (NotAfter-join (first_of graph labels here).scid (first_of graph labels there).scid (ids one.tail) (ids two.tail) (inl p))))
 
-  pub beside_more : there.arc.scid < here.arc.scid → IdsFirst labels other label
+  pub beside_more : (first_of graph labels there).scid < (first_of graph labels here).scid → IdsFirst graph labels other label
   beside_more p =
-      beside.after (subst (λ r. NotAfter (ids beside.also) (ids r)) (sym one.is) (subst (λ r. NotAfter (ids r) (ids (link_in here.arc ∷ one.tail))) (sym two.is)
-      (NotAfter-join there.arc.scid here.arc.scid (ids two.tail) (ids one.tail) (inl p))))
+      beside.after (subst (λ r. NotAfter (ids beside.also) (ids r)) (sym one.is) (subst (λ r. NotAfter (ids r) (ids (first_of graph labels here ∷ one.tail))) (sym two.is)
+      (NotAfter-join (first_of graph labels there).scid (first_of graph labels here).scid (ids two.tail) (ids one.tail) (inl p))))
 
-  pub first_tail : here.arc.scid ≡ there.arc.scid → NotAfter (ids one.tail) (ids two.tail) → IdsFirst labels label other
+  pub first_tail : (first_of graph labels here).scid ≡ (first_of graph labels there).scid → NotAfter (ids one.tail) (ids two.tail) → IdsFirst graph labels label other
   first_tail e p =
-      beside.first (subst (λ r. NotAfter (ids r) (ids beside.also)) (sym one.is) (subst (λ r. NotAfter (ids (link_in here.arc ∷ one.tail)) (ids r)) (sym two.is)
-      (NotAfter-join here.arc.scid there.arc.scid (ids one.tail) (ids two.tail) (inr (e, p)))))
+      beside.first (subst (λ r. NotAfter (ids r) (ids beside.also)) (sym one.is) (subst (λ r. NotAfter (ids (first_of graph labels here ∷ one.tail)) (ids r)) (sym two.is)
+      (NotAfter-join (first_of graph labels here).scid (first_of graph labels there).scid (ids one.tail) (ids two.tail) (inr (e, p)))))
 
-  pub after_tail : here.arc.scid ≡ there.arc.scid → NotAfter (ids two.tail) (ids one.tail) → IdsFirst labels other label
+  pub after_tail : (first_of graph labels here).scid ≡ (first_of graph labels there).scid → NotAfter (ids two.tail) (ids one.tail) → IdsFirst graph labels other label
   after_tail e p =
-      beside.after (subst (λ r. NotAfter (ids beside.also) (ids r)) (sym one.is) (subst (λ r. NotAfter (ids r) (ids (link_in here.arc ∷ one.tail))) (sym two.is)
-      (NotAfter-join there.arc.scid here.arc.scid (ids two.tail) (ids one.tail) (inr (sym e, p)))))
+      beside.after (subst (λ r. NotAfter (ids beside.also) (ids r)) (sym one.is) (subst (λ r. NotAfter (ids r) (ids (first_of graph labels here ∷ one.tail))) (sym two.is)
+      (NotAfter-join (first_of graph labels there).scid (first_of graph labels here).scid (ids two.tail) (ids one.tail) (inr (sym e, p)))))
 
-  pub beside_next : here.arc.scid ≡ there.arc.scid →
-      AreBeside labels label other (label_at labels here.next) (label_at labels there.next) (count - 1)
+  pub beside_next : (first_of graph labels here).scid ≡ (first_of graph labels there).scid →
+      AreBeside graph labels label other (label_at labels here.next) (label_at labels there.next) (count - 1)
   beside_next e =
       record {
         rest = one.tail;
@@ -131,17 +132,17 @@ module _ (labels : List Label) (label other here there : Label) (count : ℕ) (b
         after = after_tail e;
       }
 
-  pub beside_same : here.arc.scid ≡ there.arc.scid → here.next ≡ there.next → IdsFirst labels label other
+  pub beside_same : (first_of graph labels here).scid ≡ (first_of graph labels there).scid → here.next ≡ there.next → IdsFirst graph labels label other
   beside_same e n =
-      let same : one.tail ≡ two.tail = Spells-unique labels (label_at labels there.next) one.tail two.tail
-      (subst (λ i. Spells labels (label_at labels i) one.tail) n one.spells) two.spells (one.long ∙ sym two.long) in
+      let same : one.tail ≡ two.tail = Spells-unique graph labels (label_at labels there.next) one.tail two.tail
+      (subst (λ i. Spells graph labels (label_at labels i) one.tail) n one.spells) two.spells (one.long ∙ sym two.long) in
       first_tail e (subst (λ r. NotAfter (ids one.tail) (ids r)) same (NotAfter-refl (ids one.tail)))
 
-pub beside_end : (labels : List Label) (label other here there : Label) (count : ℕ) → AreBeside labels label other here there count → count ≡ 0 →
-    IdsFirst labels label other
-beside_end labels label other here there count beside e = by beside.rest beside.also (beside.long ∙ e) (beside.long_also ∙ e) beside.first
+pub beside_end : (graph : Graph) (labels : List Label) (label other here there : Label) (count : ℕ) → AreBeside graph labels label other here there count → count ≡ 0 →
+    IdsFirst graph labels label other
+beside_end graph labels label other here there count beside e = by beside.rest beside.also (beside.long ∙ e) (beside.long_also ∙ e) beside.first
   where
-    by : (rest also : List Link) → length rest ≡ 0 → length also ≡ 0 → (NotAfter (ids rest) (ids also) → IdsFirst labels label other) → IdsFirst labels label other
+    by : (rest also : List Link) → length rest ≡ 0 → length also ≡ 0 → (NotAfter (ids rest) (ids also) → IdsFirst graph labels label other) → IdsFirst graph labels label other
     by [] [] m n f = f (NotAfter-refl [])
     by [] (edge ∷ also) m n f = absurd (omega arith)
     by (edge ∷ rest) also m n f = absurd (omega arith)

@@ -9,7 +9,7 @@ use Rattle.std.proofs.lemmas.Bool.{false≢true}
 use Rattle.std.proofs.lemmas.Bool.Decides.{nat_tests}
 use Rattle.lgm_wire.specs.declared.point.Point.{Point}
 use Rattle.lgm_store.specs.Rows.{is_point}
-use Rattle.lgm_store.proofs.Counting.{same_point, is_point-self}
+use Rattle.lgm_store.proofs.Points.{same_point, is_point-self}
 use Rattle.lgm_graph.specs.Edges.{AreDirections}
 use Rattle.lgm_graph.specs.declared.edge.Edge.{Edge}
 use Rattle.lgm_graph.proofs.Members.{Among, Contains-Among, Among-Contains, Among-passes, Among-passed, Among-mapped, Among-map, Among-flat, Among-flattened}

@@ -7,15 +7,15 @@ use Rattle.std.specs.Cmp.Lexicographic.{slice_cmp}
 use Rattle.std.proofs.lemmas.Bool.Decides.{nat_tests}
 use Rattle.lgm_wire.specs.declared.point.Point.{Point}
 use Rattle.lgm_store.specs.Rows.{is_point}
-use Rattle.lgm_store.proofs.Counting.{same_point}
+use Rattle.lgm_store.proofs.Points.{same_point}
 use Rattle.lgm_graph.specs.Fee.{fee_of}
 use Rattle.lgm_graph.specs.declared.edge.Edge.{Edge}
 use Rattle.lgm_graph.specs.declared.link.Link.{Link}
 use Rattle.lgm_graph.specs.Graph.{Graph, number_of, IsNumbered, no_point, edge_at, links, edges, AreLinked}
 use Rattle.lgm_route.specs.declared.request.Request.{Request}
-use Rattle.lgm_route.specs.declared.trip.Trip.{Trip}
+use Rattle.lgm_route.specs.declared.numbered_request.NumberedRequest.{NumberedRequest}
 use Rattle.lgm_route.specs.Routes as routes
-use Rattle.lgm_route.specs.Numbered as numbered
+use Rattle.lgm_route.specs.Numbered as walks
 
 -- ---- lists
 
@@ -77,20 +77,20 @@ get_number (q ∷ qs) p d there = by (get_number qs p d) (is_point p q) refl the
 abbrev pub over : List Point → List Link → List Edge
 over points walk = map (edge_at points) walk
 
-pub owed_over : (points : List Point) (amount : ℕ) (walk : List Link) → routes.owed amount (over points walk) ≡ numbered.owed amount walk
+pub owed_over : (points : List Point) (amount : ℕ) (walk : List Link) → routes.owed amount (over points walk) ≡ walks.owed amount walk
 owed_over points amount [] = refl
 owed_over points amount (link ∷ rest) = ap (λ passed. passed + fee_of passed link.base link.millionths) (owed_over points amount rest)
 
-sent_over : (points : List Point) (amount : ℕ) (walk : List Link) → routes.sent amount (over points walk) ≡ numbered.sent amount walk
+sent_over : (points : List Point) (amount : ℕ) (walk : List Link) → routes.sent amount (over points walk) ≡ walks.sent amount walk
 sent_over points amount [] = refl
 sent_over points amount (link ∷ rest) = owed_over points amount rest
 
-ids_over : (points : List Point) (walk : List Link) → routes.ids (over points walk) ≡ numbered.ids walk
+ids_over : (points : List Point) (walk : List Link) → routes.ids (over points walk) ≡ walks.ids walk
 ids_over points [] = refl
 ids_over points (link ∷ rest) = ap (λ l. link.scid ∷ l) (ids_over points rest)
 
 abbrev key : ℕ → List Link → List ℕ
-key amount walk = numbered.sent amount walk ∷ length walk ∷ numbered.ids walk
+key amount walk = walks.sent amount walk ∷ length walk ∷ walks.ids walk
 
 abbrev key_over : ℕ → List Edge → List ℕ
 key_over amount walk = routes.sent amount walk ∷ length walk ∷ routes.ids walk
@@ -102,8 +102,8 @@ keys_same points amount walk = rw (sent_over points amount walk, length_map (edg
 
 module _ (graph : Graph) (linked : AreLinked graph) (request : Request) (payer payee : ℕ)
     (payer_is : position (is_point request.payer) graph.points ≡ Some payer) (payee_is : position (is_point request.payee) graph.points ≡ Some payee) where
-  abbrev trip : Trip
-  trip = record { payer = payer; payee = payee; amount = request.amount }
+  abbrev numbered : NumberedRequest
+  numbered = record { payer = payer; payee = payee; amount = request.amount }
 
   abbrev point_at : ℕ → Point
   point_at number = get_or graph.points number no_point
@@ -114,7 +114,7 @@ module _ (graph : Graph) (linked : AreLinked graph) (request : Request) (payer p
       ap point_at (sym number.0) ∙ get_number graph.points p no_point number.1
 
   -- a walk over links is one over edges
-  rest_over : (walk : List Link) (node : ℕ) → numbered.IsRest (links graph) trip node walk → routes.IsRest (edges graph) request (point_at node) (over graph.points walk)
+  rest_over : (walk : List Link) (node : ℕ) → walks.IsRest (links graph) numbered node walk → routes.IsRest (edges graph) request (point_at node) (over graph.points walk)
   rest_over [] node joins = ap point_at joins ∙ stands request.payee payee payee_is
   rest_over (link ∷ rest) node joins = (
     record {
@@ -128,7 +128,7 @@ module _ (graph : Graph) (linked : AreLinked graph) (request : Request) (payer p
 
   -- and each walk over edges is one over links
   rest_back : (walk : List Edge) (point : Point) (node : ℕ) → number_of graph.points point ≡ node → routes.IsRest (edges graph) request point walk →
-      (back : List Link) × (over graph.points back ≡ walk) × numbered.IsRest (links graph) trip node back
+      (back : List Link) × (over graph.points back ≡ walk) × walks.IsRest (links graph) numbered node back
   rest_back [] point node number joins = ([], refl, sym number ∙ ap (number_of graph.points) joins ∙ (number_is graph.points request.payee payee payee_is).0)
   rest_back (edge ∷ rest) point node number joins =
       let found = contained_map (edge_at graph.points) (links graph) edge joins.0.there.0 joins.0.there.1 joins.0.there.2 in
@@ -138,7 +138,7 @@ module _ (graph : Graph) (linked : AreLinked graph) (request : Request) (payer p
       let from : link.from ≡ node = sym (ap (λ l. l.from) numbers) ∙ ap (λ e. number_of graph.points e.from) same ∙ ap (number_of graph.points) joins.0.leaves ∙ number in
       let to : number_of graph.points edge.to ≡ link.to = ap (λ e. number_of graph.points e.to) (sym same) ∙ ap (λ l. l.to) numbers in
       let later = rest_back rest edge.to link.to to joins.1 in
-      let cost : numbered.owed request.amount later.0 ≡ routes.owed request.amount rest = sym (owed_over graph.points request.amount later.0) ∙ ap (routes.owed request.amount) later.1 in (
+      let cost : walks.owed request.amount later.0 ≡ routes.owed request.amount rest = sym (owed_over graph.points request.amount later.0) ∙ ap (routes.owed request.amount) later.1 in (
         link ∷ later.0,
         ap (λ e. e ∷ over graph.points later.0) same ∙ ap (λ r. edge ∷ r) later.1,
         (
@@ -152,16 +152,16 @@ module _ (graph : Graph) (linked : AreLinked graph) (request : Request) (payer p
         ),
       )
 
-  usable_back : (walk : List Edge) → routes.IsUsable (edges graph) request walk → (back : List Link) × (over graph.points back ≡ walk) × numbered.IsUsable (links graph) trip back
+  usable_back : (walk : List Edge) → routes.IsUsable (edges graph) request walk → (back : List Link) × (over graph.points back ≡ walk) × walks.IsUsable (links graph) numbered back
   usable_back walk usable =
       let back = rest_back walk request.payer payer (number_is graph.points request.payer payer payer_is).0 usable.joins in
       let long : length back.0 ≡ length walk = sym (length_map (edge_at graph.points) back.0) ∙ ap length back.1 in
       (back.0, back.1, record { some = let h = usable.some in omega arith; few = let h = usable.few in omega arith; joins = back.2 })
 
-  pub none_over : ((walk : List Link) → numbered.IsUsable (links graph) trip walk → ⊥) → (walk : List Edge) → routes.IsUsable (edges graph) request walk → ⊥
+  pub none_over : ((walk : List Link) → walks.IsUsable (links graph) numbered walk → ⊥) → (walk : List Edge) → routes.IsUsable (edges graph) request walk → ⊥
   none_over none walk usable = let back = usable_back walk usable in none back.0 back.2
 
-  pub least_over : (walk : List Link) → numbered.IsLeast (links graph) trip walk → routes.IsLeast (edges graph) request (over graph.points walk)
+  pub least_over : (walk : List Link) → walks.IsLeast (links graph) numbered walk → routes.IsLeast (edges graph) request (over graph.points walk)
   least_over walk least =
       let long = length_map (edge_at graph.points) walk in
       record {
@@ -173,7 +173,7 @@ module _ (graph : Graph) (linked : AreLinked graph) (request : Request) (payer p
         first = λ other usable before. first (usable_back other usable) before;
       }
     where
-      first : {other : List Edge} → (back : List Link) × (over graph.points back ≡ other) × numbered.IsUsable (links graph) trip back → routes.Precedes request other (over graph.points walk) → ⊥
+      first : {other : List Edge} → (back : List Link) × (over graph.points back ≡ other) × walks.IsUsable (links graph) numbered back → routes.Precedes request other (over graph.points walk) → ⊥
       first {other} back before =
           let left : key request.amount back.0 ≡ key_over request.amount other = sym (keys_same graph.points request.amount back.0) ∙ ap (key_over request.amount) back.1 in
           let right : key request.amount walk ≡ key_over request.amount (over graph.points walk) = sym (keys_same graph.points request.amount walk) in

@@ -1,92 +1,71 @@
 -- The hops of a walk, made from its end on.
-use Rattle.std.proofs.Common.{◌≡◌, ℕ, zero, suc, ◌+◌, ◌-◌, ◌*◌, ◌^◌, ◌<◌, ◌≤◌, List, [], ◌∷◌, ◌++◌, length, get_or, drop, map, reverse, refl, sym, ◌∙◌, ap, arith}
+use Rattle.std.proofs.Common.{◌≡◌, ℕ, zero, suc, ◌+◌, ◌-◌, ◌*◌, ◌^◌, ◌<◌, ◌≤◌, List, [], ◌∷◌, ◌++◌, length, get_or, drop, reverse, refl, sym, ◌∙◌, ap, arith}
 use Rattle.std.proofs.lemmas.List.{drop_more, reverse-append}
 use Rattle.lgm_graph.specs.Fee.{fee_of}
 use Rattle.lgm_graph.specs.declared.edge.Edge.{Edge}
-use Rattle.lgm_graph.specs.Graph.{Graph, links, edge_at, AreLinked}
-use Rattle.lgm_route.specs.declared.label.Arc.{Arc}
+use Rattle.lgm_graph.specs.Graph.{Graph, links, AreLinked}
+use Rattle.lgm_graph.specs.declared.link.Link.{Link}
 use Rattle.lgm_route.specs.declared.request.Request.{Request}
-use Rattle.lgm_route.specs.declared.trip.Trip.{Trip}
+use Rattle.lgm_route.specs.declared.numbered_request.NumberedRequest.{NumberedRequest}
 use Rattle.lgm_route.specs.declared.route.Hop.{Hop}
 use Rattle.lgm_route.specs.Routes.{owed, due, hops_of}
-use Rattle.lgm_route.specs.Numbered as numbered
-use Rattle.lgm_route.specs.Searching.{AreCarried, link_in}
+use Rattle.lgm_route.specs.Numbered as walks
+use Rattle.lgm_route.specs.Searching.{AreCarried}
 use Rattle.lgm_route.specs.Best.{edges_in, hop_over, AreNumbered}
 use Rattle.lgm_route.proofs.Crossing.{over, owed_over}
 use Rattle.lgm_route.proofs.Rests.{carried_at}
 
--- ---- lists
-
-edges_over : (graph : Graph) (walk : List Arc) → edges_in graph walk ≡ over graph.points (map link_in walk)
-edges_over graph [] = refl
-edges_over graph (arc ∷ rest) = ap (λ l. edge_at graph.points (link_in arc) ∷ l) (edges_over graph rest)
-
-drop_map : (k : ℕ) (walk : List Arc) → drop k (map link_in walk) ≡ map link_in (drop k walk)
-drop_map zero walk = refl
-drop_map (suc k) [] = refl
-drop_map (suc k) (arc ∷ rest) = drop_map k rest
-
-length_map : (walk : List Arc) → length (map link_in walk) ≡ length walk
-length_map [] = refl
-length_map (arc ∷ rest) = ap suc (length_map rest)
-
-pub all_at : (graph : Graph) (walk : List Arc) (i : ℕ) (d : Arc) → AreNumbered graph walk → i < length walk → ((get_or walk i d).from < length graph.points) × ((get_or walk i d).to < length graph.points)
+pub all_at : (graph : Graph) (walk : List Link) (i : ℕ) (d : Link) → AreNumbered graph walk → i < length walk → ((get_or walk i d).from < length graph.points) × ((get_or walk i d).to < length graph.points)
 all_at graph [] i d all lt = absurd (omega arith)
-all_at graph (arc ∷ rest) zero d all lt = all.0
-all_at graph (arc ∷ rest) (suc i) d all lt = all_at graph rest i d all.1 (omega arith)
+all_at graph (link ∷ rest) zero d all lt = all.0
+all_at graph (link ∷ rest) (suc i) d all lt = all_at graph rest i d all.1 (omega arith)
 
 -- ---- hop by hop
 
 -- the hops of the last edges, so many of them, and what is owed and due before them
-pub record AreHops (graph : Graph) (request : Request) (walk : List Arc) (i owes falls : ℕ) (hops : List Hop) : Type 0 where
+pub record AreHops (graph : Graph) (request : Request) (walk : List Link) (i owes falls : ℕ) (hops : List Hop) : Type 0 where
   pub owed_is : owes ≡ owed request.amount (edges_in graph (drop (length walk - i) walk))
   pub due_is : falls ≡ due request.expiry (edges_in graph (drop (length walk - i) walk))
   pub due_low : falls ≤ 498000000 + 65535 * i
   pub hops_are : reverse hops ≡ hops_of request (edges_in graph (drop (length walk - i) walk))
 
-pub hops_more : (graph : Graph) (request : Request) (walk : List Arc) (i owes falls : ℕ) (hops after : List Hop) (d arc : Arc) (hop : Hop) (fee : ℕ) → i < length walk →
-    arc ≡ get_or walk (length walk - 1 - i) d → arc.delta < 2 ^ 16 → hop ≡ hop_over graph arc owes falls → fee ≡ fee_of owes arc.base arc.millionths →
-    after ≡ hops ++ hop ∷ [] → AreHops graph request walk i owes falls hops → AreHops graph request walk (i + 1) (owes + fee) (falls + arc.delta) after
-hops_more graph request walk i owes falls hops after d arc hop fee lt is small over charged more before =
+pub hops_more : (graph : Graph) (request : Request) (walk : List Link) (i owes falls : ℕ) (hops after : List Hop) (d link : Link) (hop : Hop) (fee : ℕ) → i < length walk →
+    link ≡ get_or walk (length walk - 1 - i) d → link.delta < 2 ^ 16 → hop ≡ hop_over graph link owes falls → fee ≡ fee_of owes link.base link.millionths →
+    after ≡ hops ++ hop ∷ [] → AreHops graph request walk i owes falls hops → AreHops graph request walk (i + 1) (owes + fee) (falls + link.delta) after
+hops_more graph request walk i owes falls hops after d link hop fee lt is small over charged more before =
     let k : ℕ = length walk - 1 - i in
-    let back : List Arc = drop (length walk - i) walk in
+    let back : List Link = drop (length walk - i) walk in
     let here : drop (length walk - (i + 1)) walk ≡ drop k walk = ap (λ n. drop n walk) (omega arith) in
     let behind : drop (k + 1) walk ≡ back = ap (λ n. drop n walk) (omega arith) in
-    let parts : drop (length walk - (i + 1)) walk ≡ arc ∷ back = here ∙ drop_more walk k d (omega arith) ∙ ap (λ r. get_or walk k d ∷ r) behind ∙ ap (λ a. a ∷ back) (sym is) in
-    let made : hop ≡ hop_over graph arc (owed request.amount (edges_in graph back)) (due request.expiry (edges_in graph back)) = over ∙ ap (λ n. hop_over graph arc n falls) before.owed_is ∙ ap (λ n. hop_over graph arc (owed request.amount (edges_in graph back)) n) before.due_is in
+    let parts : drop (length walk - (i + 1)) walk ≡ link ∷ back = here ∙ drop_more walk k d (omega arith) ∙ ap (λ r. get_or walk k d ∷ r) behind ∙ ap (λ a. a ∷ back) (sym is) in
+    let made : hop ≡ hop_over graph link (owed request.amount (edges_in graph back)) (due request.expiry (edges_in graph back)) = over ∙ ap (λ n. hop_over graph link n falls) before.owed_is ∙ ap (λ n. hop_over graph link (owed request.amount (edges_in graph back)) n) before.due_is in
     record {
-      owed_is = rw parts (rw charged (ap (λ n. n + fee_of n arc.base arc.millionths) before.owed_is));
-      due_is = rw parts (ap (λ n. n + arc.delta) before.due_is);
+      owed_is = rw parts (rw charged (ap (λ n. n + fee_of n link.base link.millionths) before.owed_is));
+      due_is = rw parts (ap (λ n. n + link.delta) before.due_is);
       due_low = let le = before.due_low in omega arith;
-      hops_are = rw (parts, more) (reverse-append hops (hop ∷ []) ∙ ap (λ h. h ∷ reverse hops) made ∙ ap (λ r. hop_over graph arc (owed request.amount (edges_in graph back)) (due request.expiry (edges_in graph back)) ∷ r) before.hops_are);
+      hops_are = rw (parts, more) (reverse-append hops (hop ∷ []) ∙ ap (λ h. h ∷ reverse hops) made ∙ ap (λ r. hop_over graph link (owed request.amount (edges_in graph back)) (due request.expiry (edges_in graph back)) ∷ r) before.hops_are);
     }
 
 -- what is owed at each place fits
-pub owed_fits : (graph : Graph) (request : Request) (walk : List Arc) (i owes falls : ℕ) (hops : List Hop) → i < length walk → AreCarried request.amount (map link_in walk) → AreHops graph request walk i owes falls hops → owes < 2 ^ 64
+pub owed_fits : (graph : Graph) (request : Request) (walk : List Link) (i owes falls : ℕ) (hops : List Hop) → i < length walk → AreCarried request.amount (walk) → AreHops graph request walk i owes falls hops → owes < 2 ^ 64
 owed_fits graph request walk i owes falls hops lt carried are =
     let k : ℕ = length walk - 1 - i in
     let next : suc k ≡ length walk - i = omega arith in
-    let fits = carried_at request.amount (map link_in walk) k carried (omega (arith, length_map walk)) in
-    let same : drop (suc k) (map link_in walk) ≡ map link_in (drop (length walk - i) walk) = drop_map (suc k) walk ∙ ap (λ n. map link_in (drop n walk)) next in
-    let cost : owed request.amount (edges_in graph (drop (length walk - i) walk)) ≡ numbered.owed request.amount (drop (suc k) (map link_in walk)) =
-    ap (owed request.amount) (edges_over graph (drop (length walk - i) walk)) ∙ owed_over graph.points request.amount (map link_in (drop (length walk - i) walk)) ∙ ap (numbered.owed request.amount) (sym same) in
+    let fits = carried_at request.amount walk k carried (omega arith) in
+    let same : drop (suc k) walk ≡ drop (length walk - i) walk = ap (λ n. drop n walk) next in
+    let cost : owed request.amount (edges_in graph (drop (length walk - i) walk)) ≡ walks.owed request.amount (drop (suc k) walk) =
+    owed_over graph.points request.amount (drop (length walk - i) walk) ∙ ap (walks.owed request.amount) (sym same) in
     let is = are.owed_is in
     omega arith
 
 -- ---- the walk that was found
 
-pub walk_numbered : (graph : Graph) → AreLinked graph → (trip : Trip) (walk : List Arc) (node : ℕ) → numbered.IsRest (links graph) trip node (map link_in walk) → AreNumbered graph walk
-walk_numbered graph linked trip [] node joins = tt
-walk_numbered graph linked trip (arc ∷ rest) node joins =
-    let is = linked.each (link_in arc) joins.0.there in
-    ((is.from, is.to), walk_numbered graph linked trip rest arc.to joins.1)
-
-pub hops_over : (graph : Graph) (request : Request) (walk : List Arc) (hops : List Hop) → hops ≡ hops_of request (edges_in graph walk) → hops ≡ hops_of request (over graph.points (map link_in walk))
-hops_over graph request walk hops is = is ∙ ap (hops_of request) (edges_over graph walk)
+pub walk_numbered : (graph : Graph) → AreLinked graph → (numbered : NumberedRequest) (walk : List Link) (node : ℕ) → walks.IsRest (links graph) numbered node (walk) → AreNumbered graph walk
+walk_numbered graph linked numbered [] node joins = tt
+walk_numbered graph linked numbered (link ∷ rest) node joins =
+    let is = linked.each link joins.0.there in
+    ((is.from, is.to), walk_numbered graph linked numbered rest link.to joins.1)
 
 pub length_hops : (request : Request) (walk : List Edge) → length (hops_of request walk) ≡ length walk
 length_hops request [] = refl
 length_hops request (edge ∷ rest) = ap suc (length_hops request rest)
-
-pub long_walk : (walk : List Arc) → length (map link_in walk) ≡ length walk
-long_walk walk = length_map walk

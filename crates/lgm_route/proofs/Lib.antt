@@ -4,7 +4,8 @@ pub mod Labels
 pub mod Chains
 pub mod Steps
 pub mod Leads
-pub mod Bounds
+pub mod Bounded
+pub mod Searches
 pub mod Crossing
 pub mod HopLaws
 pub mod Visits

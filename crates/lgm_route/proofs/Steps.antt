@@ -1,30 +1,31 @@
 -- One step of the search: labels compared, added and led on.
 use Rattle.std.proofs.Common.{◌≡◌, ◌⊎◌, ℕ, ◌+◌, ◌*◌, ◌^◌, ◌<◌, ◌≤◌, List, [], ◌∷◌, ◌++◌, length, get_or, Option, Some, None, Bool, true, false, refl, sym, ◌∙◌, ap, subst, inl, inr, arith}
+use Rattle.std.specs.Prelude.{if◌then◌else◌}
 use Rattle.std.specs.List.{Contains}
 use Rattle.std.proofs.lemmas.List.{get_or_push, length_push, get_or_default, append-nil}
 use Rattle.lgm_graph.specs.Graph.{Graph, links, links_into, links_leaving, AreLinked}
 use Rattle.lgm_graph.specs.declared.link.Link.{Link}
-use Rattle.lgm_route.specs.declared.trip.Trip.{Trip}
-use Rattle.lgm_route.specs.declared.label.Arc.{Arc}
+use Rattle.lgm_route.specs.declared.numbered_request.NumberedRequest.{NumberedRequest}
 use Rattle.lgm_route.specs.declared.label.Label.{Label}
 use Rattle.lgm_route.specs.Numbered.{sent, ids, IsUsable, IsLeast, Precedes}
-use Rattle.lgm_route.specs.Searching.{NotAfter, walk_key, Serves, no_link, link_in, link_at, label_at, no_label, number_at, Spells, IdsFirst, IsLabel, IsWalk, DoesServe, SomeRest, SomeWalk, bound_of, IsNoBetter, IsHopeless, IsPassed, IsLeft, IsSettled, AreLabels, IsFound, Grows, IsBetter, IsOffered, PassesOn, LeadsOn, StandsIn, AreSettled, IsMarked, IsClosed, IsStart}
+use Rattle.lgm_route.specs.Searching.{NotAfter, walk_key, Serves, no_link, link_at, label_at, no_label, number_at, Spells, IdsFirst, IsLabel, IsWalk, DoesServe, SomeRest, SomeWalk, bound_of, IsNoBetter, IsHopeless, IsPassed, IsLeft, IsSettled, AreLabels, IsFound, Grows, IsBetter, IsOffered, PassesOn, LeadsOn, StandsIn, AreSpelled, AreSettled, IsMarked, IsStart}
+use Rattle.lgm_route.specs.Leading.{IsInto}
 use Rattle.lgm_route.proofs.Orders.{NotAfter-refl, NotAfter-trans, NotAfter-join, NotAfter-excludes}
 use Rattle.lgm_route.proofs.Rests.{trichotomy, Serves-refl, Serves-trans}
 use Rattle.lgm_route.proofs.Labels.{Spells-unique, label-unique, label_left, label-grows, hopeless-serves, label-later, at-later, long-later, passed-later, settled-later}
 
 -- the label comes first: by what it owes, then by how many edges it has, then by their ids
-abbrev pub IsBefore : List Label → Label → Label → Type 0
-IsBefore labels x y = (x.owed < y.owed) ⊎ ((x.owed ≡ y.owed) × (x.count < y.count)) ⊎ ((x.owed ≡ y.owed) × (x.count ≡ y.count) × IdsFirst labels x y)
+abbrev pub IsBefore : Graph → List Label → Label → Label → Type 0
+IsBefore graph labels x y = (x.owed < y.owed) ⊎ ((x.owed ≡ y.owed) × (x.count < y.count)) ⊎ ((x.owed ≡ y.owed) × (x.count ≡ y.count) × IdsFirst graph labels x y)
 
-pub before_walk : (edges : List Link) (request : Trip) (labels : List Label) (x y : Label) (walk other : List Link) → IsWalk edges request labels x walk → IsWalk edges request labels y other →
-    IsBefore labels x y → NotAfter (walk_key request walk) (walk_key request other)
-before_walk edges request labels x y walk other h k (inl p) =
+pub before_walk : (graph : Graph) (request : NumberedRequest) (labels : List Label) (x y : Label) (walk other : List Link) → IsWalk graph request labels x walk → IsWalk graph request labels y other →
+    IsBefore graph labels x y → NotAfter (walk_key request walk) (walk_key request other)
+before_walk graph request labels x y walk other h k (inl p) =
     NotAfter-join (sent request.amount walk) (sent request.amount other) (length walk ∷ ids walk) (length other ∷ ids other) (inl (omega (arith, h.sends, k.sends)))
-before_walk edges request labels x y walk other h k (inr (inl p)) =
+before_walk graph request labels x y walk other h k (inr (inl p)) =
     NotAfter-join (sent request.amount walk) (sent request.amount other) (length walk ∷ ids walk) (length other ∷ ids other)
     (inr (h.sends ∙ p.0 ∙ sym k.sends, NotAfter-join (length walk) (length other) (ids walk) (ids other) (inl (omega (arith, p.1, h.long, k.long)))))
-before_walk edges request labels x y walk other h k (inr (inr p)) =
+before_walk graph request labels x y walk other h k (inr (inr p)) =
     NotAfter-join (sent request.amount walk) (sent request.amount other) (length walk ∷ ids walk) (length other ∷ ids other)
     (inr (
       h.sends ∙ p.0 ∙ sym k.sends,
@@ -33,8 +34,8 @@ before_walk edges request labels x y walk other h k (inr (inr p)) =
     ))
 
 -- the better of two walks
-module _ (edges : List Link) (request : Trip) (labels : List Label) (start : ℕ) where
-  pub better_first : (new : Label) → SomeWalk edges request labels new → new.owed < start → IsBetter edges request labels start None new (Some new)
+module _ (graph : Graph) (request : NumberedRequest) (labels : List Label) (start : ℕ) where
+  pub better_first : (new : Label) → SomeWalk graph request labels new → new.owed < start → IsBetter graph request labels start None new (Some new)
   better_first new some low =
       record {
         found_is = (some, low);
@@ -44,45 +45,61 @@ module _ (edges : List Link) (request : Trip) (labels : List Label) (start : ℕ
         takes = λ walk is. (walk, is, NotAfter-refl (walk_key request walk));
       }
 
-  pub better_takes : (best new : Label) → IsFound edges request labels start (Some best) → SomeWalk edges request labels new → IsBefore labels new best → IsBetter edges request labels start (Some best) new (Some new)
+  pub better_takes : (best new : Label) → IsFound graph request labels start (Some best) → SomeWalk graph request labels new → IsBefore graph labels new best → IsBetter graph request labels start (Some best) new (Some new)
   better_takes best new found some before =
       record {
         found_is = (some, low before);
         lower = lower before;
         below = omega arith;
-        keeps = λ walk h. (some.0, some.1, NotAfter-trans (walk_key request some.0) (walk_key request h.0) (walk_key request walk) (before_walk edges request labels new best some.0 h.0 some.1 h.1 before) h.2);
+        keeps = λ walk h. (some.0, some.1, NotAfter-trans (walk_key request some.0) (walk_key request h.0) (walk_key request walk) (before_walk graph request labels new best some.0 h.0 some.1 h.1 before) h.2);
         takes = λ walk is. (walk, is, NotAfter-refl (walk_key request walk));
       }
     where
-      low : IsBefore labels new best → new.owed < start
+      low : IsBefore graph labels new best → new.owed < start
       low (inl p) = omega (arith, found.1)
       low (inr (inl p)) = omega (arith, found.1, p.0)
       low (inr (inr p)) = omega (arith, found.1, p.0)
 
-      lower : IsBefore labels new best → new.owed * 32 + new.count ≤ best.owed * 32 + best.count
+      lower : IsBefore graph labels new best → new.owed * 32 + new.count ≤ best.owed * 32 + best.count
       lower (inl p) = omega (arith, some.1.few)
       lower (inr (inl p)) = omega (arith, p.0, p.1)
       lower (inr (inr p)) = omega (arith, p.0, p.1)
 
-  pub better_keeps : (best new : Label) → IsFound edges request labels start (Some best) → IsBefore labels best new → IsBetter edges request labels start (Some best) new (Some best)
+  pub better_keeps : (best new : Label) → IsFound graph request labels start (Some best) → IsBefore graph labels best new → IsBetter graph request labels start (Some best) new (Some best)
   better_keeps best new found before =
       record {
         found_is = found;
         lower = omega arith;
         below = below before;
         keeps = λ walk h. h;
-        takes = λ walk is. ((found.0).0, (found.0).1, before_walk edges request labels best new (found.0).0 walk (found.0).1 is before);
+        takes = λ walk is. ((found.0).0, (found.0).1, before_walk graph request labels best new (found.0).0 walk (found.0).1 is before);
       }
     where
-      below : IsBefore labels best new → best.owed * 32 + best.count ≤ new.owed * 32 + new.count
+      below : IsBefore graph labels best new → best.owed * 32 + best.count ≤ new.owed * 32 + new.count
       below (inl p) = omega (arith, (found.0).1.few)
       below (inr (inl p)) = omega (arith, p.0, p.1)
       below (inr (inr p)) = omega (arith, p.0, p.1)
 
+  -- no walk was found yet, and this one isn't below the start
+  pub better_none : (new : Label) → start ≤ new.owed → IsBetter graph request labels start None new None
+  better_none new high =
+      record {
+        found_is = tt;
+        lower = omega arith;
+        below = omega arith;
+        keeps = λ walk h. h;
+        takes = λ walk is. omega (arith, is.sends);
+      }
+
+  pub better_choice : (best : Option Label) (new : Label) (b : Bool) → (b ≡ true → IsBetter graph request labels start best new (Some new)) →
+      (b ≡ false → IsBetter graph request labels start best new best) → IsBetter graph request labels start best new (if b then Some new else best)
+  better_choice best new true f g = f refl
+  better_choice best new false f g = g refl
+
 -- a label that serves is there
-pub offered_there : (edges : List Link) (request : Trip) (labels : List Label) (new : Label) (place : ℕ) → AreLabels edges request labels → place < length labels →
-    (label_at labels place).node ≡ new.node → DoesServe labels (label_at labels place) new → IsOffered edges request labels new labels
-offered_there edges request labels new place are within at serves =
+pub offered_there : (graph : Graph) (request : NumberedRequest) (labels : List Label) (new : Label) (place : ℕ) → AreLabels graph request labels → place < length labels →
+    (label_at labels place).node ≡ new.node → DoesServe graph labels (label_at labels place) new → IsOffered graph request labels new labels
+offered_there graph request labels new place are within at serves =
     record {
       labelled = are;
       more = [];
@@ -93,7 +110,7 @@ offered_there edges request labels new place are within at serves =
         at = at;
         other = (are.sound place within).0;
         is = (are.sound place within).1;
-        serves = serves edges request (are.sound place within).0 rest (are.sound place within).1 is;
+        serves = serves request (are.sound place within).0 rest (are.sound place within).1 is;
       };
     }
 
@@ -101,9 +118,9 @@ label_new : (labels : List Label) (new : Label) (i : ℕ) → length labels ≡ 
 label_new labels new i long = get_or_push labels new no_label i long
 
 -- or it is added
-pub offered_new : (edges : List Link) (request : Trip) (labels : List Label) (new : Label) → AreLabels edges request labels →
-    SomeRest edges request labels new → new.count ≤ 19 → IsOffered edges request labels new (labels ++ new ∷ [])
-offered_new edges request labels new are some few =
+pub offered_new : (graph : Graph) (request : NumberedRequest) (labels : List Label) (new : Label) → AreLabels graph request labels →
+    SomeRest graph request labels new → new.count ≤ 19 → IsOffered graph request labels new (labels ++ new ∷ [])
+offered_new graph request labels new are some few =
     record {
       labelled = record {
         some = omega (arith, all, are.some);
@@ -118,7 +135,7 @@ offered_new edges request labels new are some few =
         within = omega (arith, all);
         at = ap (λ l. l.node) last;
         other = rest;
-        is = subst (λ l. IsLabel edges request (labels ++ new ∷ []) l rest) (sym last) (label-grows edges request labels (new ∷ []) new rest is);
+        is = subst (λ l. IsLabel graph request (labels ++ new ∷ []) l rest) (sym last) (label-grows graph request labels (new ∷ []) new rest is);
         serves = Serves-refl request rest;
       };
     }
@@ -129,13 +146,13 @@ offered_new edges request labels new are some few =
     last : label_at (labels ++ new ∷ []) (length labels) ≡ new
     last = label_new labels new (length labels) refl
 
-    sound : (i : ℕ) → (i < length labels) ⊎ (i ≡ length labels) ⊎ (length labels < i) → i < length (labels ++ new ∷ []) → SomeRest edges request (labels ++ new ∷ []) (label_at (labels ++ new ∷ []) i)
+    sound : (i : ℕ) → (i < length labels) ⊎ (i ≡ length labels) ⊎ (length labels < i) → i < length (labels ++ new ∷ []) → SomeRest graph request (labels ++ new ∷ []) (label_at (labels ++ new ∷ []) i)
     sound i (inl p) within = (
       (are.sound i p).0,
-      subst (λ l. IsLabel edges request (labels ++ new ∷ []) l (are.sound i p).0) (sym (label_left labels (new ∷ []) i p))
-          (label-grows edges request labels (new ∷ []) (label_at labels i) (are.sound i p).0 (are.sound i p).1),
+      subst (λ l. IsLabel graph request (labels ++ new ∷ []) l (are.sound i p).0) (sym (label_left labels (new ∷ []) i p))
+          (label-grows graph request labels (new ∷ []) (label_at labels i) (are.sound i p).0 (are.sound i p).1),
     )
-    sound i (inr (inl e)) within = (some.0, subst (λ l. IsLabel edges request (labels ++ new ∷ []) l some.0) (sym (label_new labels new i (sym e))) (label-grows edges request labels (new ∷ []) new some.0 some.1))
+    sound i (inr (inl e)) within = (some.0, subst (λ l. IsLabel graph request (labels ++ new ∷ []) l some.0) (sym (label_new labels new i (sym e))) (label-grows graph request labels (new ∷ []) new some.0 some.1))
     sound i (inr (inr p)) within = absurd (omega (arith, all))
 
     low : (i : ℕ) → (i < length labels) ⊎ (i ≡ length labels) ⊎ (length labels < i) → i < length (labels ++ new ∷ []) → (label_at (labels ++ new ∷ []) i).count ≤ 19
@@ -144,157 +161,134 @@ offered_new edges request labels new are some few =
     low i (inr (inr p)) within = absurd (omega (arith, all))
 
 -- passing over an edge, seen from an earlier state, or in a later one
-pub passes_from : (edges : List Link) (request : Trip) (low : List ℕ) (start i : ℕ) (labels : List Label) (found : Option Label) (after : List Label) (now : Option Label) (last : List Label) (best : Option Label) (edge : Link) →
-    Grows edges request start labels found after now → i < length labels → PassesOn edges request low start after i last best edge → PassesOn edges request low start labels i last best edge
-passes_from edges request low start i labels found after now last best edge grows within passes rest is to min max =
-    let same = at-later edges request low start labels found after now grows i within in
-    passes rest (subst (λ l. IsLabel edges request after l rest) (sym same) (label-later edges request low start labels found after now grows (label_at labels i) rest is)) (to ∙ ap (λ l. l.node) (sym same)) min max
+pub passes_from : (graph : Graph) (request : NumberedRequest) (low : List ℕ) (start i : ℕ) (labels : List Label) (found : Option Label) (after : List Label) (now : Option Label) (last : List Label) (best : Option Label) (edge : Link) →
+    Grows graph request start labels found after now → i < length labels → PassesOn graph request low start after i last best edge → PassesOn graph request low start labels i last best edge
+passes_from graph request low start i labels found after now last best edge grows within passes rest is to min max =
+    let same = at-later graph request low start labels found after now grows i within in
+    passes rest (subst (λ l. IsLabel graph request after l rest) (sym same) (label-later graph request low start labels found after now grows (label_at labels i) rest is)) (to ∙ ap (λ l. l.node) (sym same)) min max
 
-pub passes_later : (edges : List Link) (request : Trip) (low : List ℕ) (start i : ℕ) (labels : List Label) (after : List Label) (now : Option Label) (last : List Label) (best : Option Label) (edge : Link) →
-    Grows edges request start after now last best → PassesOn edges request low start labels i after now edge → PassesOn edges request low start labels i last best edge
-passes_later edges request low start i labels after now last best edge grows passes rest is to min max =
-    passed-later edges request low start after now last best grows edge rest (passes rest is to min max)
+pub passes_later : (graph : Graph) (request : NumberedRequest) (low : List ℕ) (start i : ℕ) (labels : List Label) (after : List Label) (now : Option Label) (last : List Label) (best : Option Label) (edge : Link) →
+    Grows graph request start after now last best → PassesOn graph request low start labels i after now edge → PassesOn graph request low start labels i last best edge
+passes_later graph request low start i labels after now last best edge grows passes rest is to min max =
+    passed-later graph request low start after now last best grows edge rest (passes rest is to min max)
 
--- an edge into a node, both ends of which are numbered
-pub record IsInto (graph : Graph) (node : ℕ) (arc : Arc) : Type 0 where
-  pub there : Contains (links graph) (link_in arc)
-  pub to : arc.to ≡ node
-  pub from : arc.from < length graph.points
+-- an edge of the graph into a node, both ends of which are numbered
+pub record IsEdgeInto (graph : Graph) (node : ℕ) (edge : Link) : Type 0 where
+  pub there : Contains (links graph) edge
+  pub to : edge.to ≡ node
+  pub from : edge.from < length graph.points
 
 -- those of the run of edges into it are
-pub into_node : (graph : Graph) (node : ℕ) (run : List Link) (place : ℕ) (link : Link) (arc : Arc) → AreLinked graph → run ≡ links_into graph node → place < length run →
-    link ≡ get_or run place link → link_in arc ≡ link → IsInto graph node arc
-into_node graph node run place link arc linked is within at same =
-    record {
-      there = subst (Contains (links graph)) (sym same) (linked.into node link here).1;
-      to = ap (λ l. l.to) same ∙ (linked.into node link here).0;
-      from = omega (arith, (linked.each link (linked.into node link here).1).from, ap (λ l. l.from) same);
-    }
-  where
-    here : Contains (links_into graph node) link
-    here = subst (λ r. Contains r link) is (place, within, sym at)
+pub into_node : (graph : Graph) (labels : List Label) (i at : ℕ) (edge : Link) → AreLinked graph → IsInto graph labels i at edge →
+    IsEdgeInto graph (label_at labels i).node edge
+into_node graph labels i at edge linked into =
+    let node = (label_at labels i).node in
+    let run = links_into graph node in
+    let here : Contains run edge = (at, into.inside, get_or_default run at edge no_link into.inside ∙ into.is) in
+    let found = linked.into node edge here in
+    record { there = found.1; to = found.0; from = (linked.each edge found.1).from }
 
 -- each edge into the label's node is in the run of edges into it
-pub all_passed : (graph : Graph) (request : Trip) (low : List ℕ) (start i : ℕ) (labels after : List Label) (now : Option Label) → AreLinked graph →
-    ((j : ℕ) → j < length (links_into graph (label_at labels i).node) → PassesOn (links graph) request low start labels i after now (link_at (links_into graph (label_at labels i).node) j)) →
-    LeadsOn (links graph) request low start labels i after now
+pub all_passed : (graph : Graph) (request : NumberedRequest) (low : List ℕ) (start i : ℕ) (labels after : List Label) (now : Option Label) → AreLinked graph →
+    ((j : ℕ) → j < length (links_into graph (label_at labels i).node) → PassesOn graph request low start labels i after now (link_at (links_into graph (label_at labels i).node) j)) →
+    LeadsOn graph request low start labels i after now
 all_passed graph request low start i labels after now linked passes rest is edge there to min max =
     let run = links_into graph (label_at labels i).node in
     let place : Contains run edge = subst (λ n. Contains (links_into graph n) edge) to (linked.each edge there).there in
     let same : link_at run place.0 ≡ edge = subst (λ e. e ≡ edge) (get_or_default run place.0 edge no_link place.1) place.2 in
-    subst (λ e. IsPassed (links graph) request low start after now e rest) same
+    subst (λ e. IsPassed graph request low start after now e rest) same
     (passes place.0 place.1 rest is (ap (λ e. e.to) same ∙ to) (omega (arith, ap (λ e. e.min) same, min)) (omega (arith, ap (λ e. e.max) same, max)))
 
 -- a label is settled where one is that serves in its place
-pub settled_serves : (edges : List Link) (request : Trip) (low : List ℕ) (start : ℕ) (labels : List Label) (found : Option Label) (x y : Label) (rest : List Link) →
-    x.node ≡ y.node → ((a b : List Link) → IsLabel edges request labels x a → IsLabel edges request labels y b → Serves request a b) → IsLabel edges request labels y rest → IsSettled edges request low start labels found x → IsSettled edges request low start labels found y
-settled_serves edges request low start labels found x y rest node serves is settled =
-    record { rest = rest; is = is; done = subst (λ n. IsHopeless request low (bound_of start found) n rest ⊎ ((other : List Link) × Serves request other rest × IsLeft edges request low start labels found n other)) node (by settled.done) }
+pub settled_serves : (graph : Graph) (request : NumberedRequest) (low : List ℕ) (start : ℕ) (labels : List Label) (found : Option Label) (x y : Label) (rest : List Link) →
+    x.node ≡ y.node → ((a b : List Link) → IsLabel graph request labels x a → IsLabel graph request labels y b → Serves request a b) → IsLabel graph request labels y rest → IsSettled graph request low start labels found x → IsSettled graph request low start labels found y
+settled_serves graph request low start labels found x y rest node serves is settled =
+    record { rest = rest; is = is; done = subst (λ n. IsHopeless request low (bound_of start found) n rest ⊎ ((other : List Link) × Serves request other rest × IsLeft graph request low start labels found n other)) node (by settled.done) }
   where
     better : Serves request settled.rest rest
     better = serves settled.rest rest settled.is is
 
-    by : IsHopeless request low (bound_of start found) x.node settled.rest ⊎ ((other : List Link) × Serves request other settled.rest × IsLeft edges request low start labels found x.node other) →
-        IsHopeless request low (bound_of start found) x.node rest ⊎ ((other : List Link) × Serves request other rest × IsLeft edges request low start labels found x.node other)
+    by : IsHopeless request low (bound_of start found) x.node settled.rest ⊎ ((other : List Link) × Serves request other settled.rest × IsLeft graph request low start labels found x.node other) →
+        IsHopeless request low (bound_of start found) x.node rest ⊎ ((other : List Link) × Serves request other rest × IsLeft graph request low start labels found x.node other)
     by (inl p) = inl (hopeless-serves request low (bound_of start found) x.node settled.rest rest better p)
     by (inr p) = inr (p.0, Serves-trans request p.0 settled.rest rest p.1 better, p.2)
 
-pub serves_itself : (labels : List Label) (label : Label) → DoesServe labels label label
-serves_itself labels label edges request rest also is also_is =
-    subst (λ r. Serves request rest r) (label-unique edges request labels label rest also is also_is) (Serves-refl request rest)
+pub serves_itself : (graph : Graph) (labels : List Label) (label : Label) → DoesServe graph labels label label
+serves_itself graph labels label request rest also is also_is =
+    subst (λ r. Serves request rest r) (label-unique graph request labels label rest also is also_is) (Serves-refl request rest)
+
+pub spelled_labels : (graph : Graph) (request : NumberedRequest) (labels : List Label) → AreLabels graph request labels → AreSpelled graph labels
+spelled_labels graph request labels labelled i within = let s = labelled.sound i within in (s.0, s.1.spells, s.1.long)
 
 -- marked labels are settled, and one more
-module _ (edges : List Link) (request : Trip) (low : List ℕ) (start : ℕ) where
+module _ (graph : Graph) (request : NumberedRequest) (low : List ℕ) (start : ℕ) where
   pub still_settled : (labels : List Label) (found : Option Label) (after : List Label) (now : Option Label) (done : List Bool) →
-      Grows edges request start labels found after now → AreSettled edges request low start labels found done → AreSettled edges request low start after now done
+      Grows graph request start labels found after now → AreSettled graph request low start labels found done → AreSettled graph request low start after now done
   still_settled labels found after now done grows settled j h = (
-    omega (arith, (settled j h).0, long-later edges request low start labels found after now grows),
-    subst (λ l. IsSettled edges request low start after now l) (sym (at-later edges request low start labels found after now grows j (settled j h).0))
-        (settled-later edges request low start labels found after now grows (label_at labels j) (settled j h).1),
+    omega (arith, (settled j h).0, long-later graph request low start labels found after now grows),
+    subst (λ l. IsSettled graph request low start after now l) (sym (at-later graph request low start labels found after now grows j (settled j h).0))
+        (settled-later graph request low start labels found after now grows (label_at labels j) (settled j h).1),
   )
 
   pub settled_more : (labels : List Label) (found : Option Label) (after : List Label) (now : Option Label) (done marked : List Bool) (i : ℕ) →
-      Grows edges request start labels found after now → AreSettled edges request low start labels found done → IsMarked done i marked → i < length labels →
-      IsSettled edges request low start after now (label_at after i) → AreSettled edges request low start after now marked
+      Grows graph request start labels found after now → AreSettled graph request low start labels found done → IsMarked done i marked → i < length labels →
+      IsSettled graph request low start after now (label_at after i) → AreSettled graph request low start after now marked
   settled_more labels found after now done marked i grows settled mark within new j is = by (mark.others j is)
     where
       long : length labels ≤ length after
-      long = long-later edges request low start labels found after now grows
+      long = long-later graph request low start labels found after now grows
 
-      by : (j ≡ i) ⊎ (get_or done j false ≡ true) → (j < length after) × IsSettled edges request low start after now (label_at after j)
-      by (inl e) = (omega (arith, long), subst (λ n. IsSettled edges request low start after now (label_at after n)) (sym e) new)
+      by : (j ≡ i) ⊎ (get_or done j false ≡ true) → (j < length after) × IsSettled graph request low start after now (label_at after j)
+      by (inl e) = (omega (arith, long), subst (λ n. IsSettled graph request low start after now (label_at after n)) (sym e) new)
       by (inr h) = still_settled labels found after now done grows settled j h
 
   -- a label whose rest was led on
   pub settled_left : (labels : List Label) (found : Option Label) (after : List Label) (now : Option Label) (i : ℕ) →
-      Grows edges request start labels found after now → i < length labels → SomeRest edges request labels (label_at labels i) → LeadsOn edges request low start labels i after now →
-      IsSettled edges request low start after now (label_at after i)
+      Grows graph request start labels found after now → i < length labels → SomeRest graph request labels (label_at labels i) → LeadsOn graph request low start labels i after now →
+      IsSettled graph request low start after now (label_at after i)
   settled_left labels found after now i grows within some leads =
-      subst (λ l. IsSettled edges request low start after now l) (sym (at-later edges request low start labels found after now grows i within))
+      subst (λ l. IsSettled graph request low start after now l) (sym (at-later graph request low start labels found after now grows i within))
       (record {
         rest = some.0;
-        is = label-later edges request low start labels found after now grows (label_at labels i) some.0 some.1;
+        is = label-later graph request low start labels found after now grows (label_at labels i) some.0 some.1;
         done = inr (some.0, Serves-refl request some.0, leads some.0 some.1);
       })
 
-  -- so it is closed, once it is marked
-  pub closed_left : (labels : List Label) (found : Option Label) (after : List Label) (now : Option Label) (done marked : List Bool) (i : ℕ) →
-      Grows edges request start labels found after now → AreSettled edges request low start labels found done → IsMarked done i marked → i < length labels →
-      SomeRest edges request labels (label_at labels i) → LeadsOn edges request low start labels i after now → IsClosed edges request low start done i after now marked
-  closed_left labels found after now done marked i grows settled mark within some leads =
-      record {
-        settled = settled_more labels found after now done marked i grows settled mark within (settled_left labels found after now i grows within some leads);
-        here = mark.here;
-        still = mark.still;
-      }
-
-  pub settled_hopeless : (labels : List Label) (found : Option Label) (label : Label) → SomeRest edges request labels label →
-      bound_of start found ≤ (label.owed + number_at low label.node) * 32 + label.count → IsSettled edges request low start labels found label
+  pub settled_hopeless : (labels : List Label) (found : Option Label) (label : Label) → SomeRest graph request labels label →
+      bound_of start found ≤ (label.owed + number_at low label.node) * 32 + label.count → IsSettled graph request low start labels found label
   settled_hopeless labels found label some h = record { rest = some.0; is = some.1; done = inl (omega (arith, h, some.1.owes, some.1.long)) }
 
   -- a label for which another stands in
   pub settled_for : (labels : List Label) (found : Option Label) (after : List Label) (now : Option Label) (i place : ℕ) →
-      Grows edges request start labels found after now → AreLabels edges request labels → i < length labels → StandsIn labels i place →
-      IsSettled edges request low start after now (label_at after place) → IsSettled edges request low start after now (label_at after i)
+      Grows graph request start labels found after now → AreLabels graph request labels → i < length labels → StandsIn graph labels i place →
+      IsSettled graph request low start after now (label_at after place) → IsSettled graph request low start after now (label_at after i)
   settled_for labels found after now i place grows are within stands settled =
-      settled_serves edges request low start after now (label_at after place) (label_at after i) mine.0
+      settled_serves graph request low start after now (label_at after place) (label_at after i) mine.0
       (ap (λ l. l.node) (at place stands.within) ∙ stands.node ∙ sym (ap (λ l. l.node) (at i within))) serves mine.1 settled
     where
       at : (j : ℕ) → j < length labels → label_at after j ≡ label_at labels j
-      at j inside = at-later edges request low start labels found after now grows j inside
+      at j inside = at-later graph request low start labels found after now grows j inside
 
-      later : (j : ℕ) → j < length labels → SomeRest edges request after (label_at after j)
+      later : (j : ℕ) → j < length labels → SomeRest graph request after (label_at after j)
       later j inside = (
         (are.sound j inside).0,
-        subst (λ l. IsLabel edges request after l (are.sound j inside).0) (sym (at j inside))
-            (label-later edges request low start labels found after now grows (label_at labels j) (are.sound j inside).0 (are.sound j inside).1),
+        subst (λ l. IsLabel graph request after l (are.sound j inside).0) (sym (at j inside))
+            (label-later graph request low start labels found after now grows (label_at labels j) (are.sound j inside).0 (are.sound j inside).1),
       )
 
-      mine : SomeRest edges request after (label_at after i)
+      mine : SomeRest graph request after (label_at after i)
       mine = later i within
 
-      serves : (a b : List Link) → IsLabel edges request after (label_at after place) a → IsLabel edges request after (label_at after i) b → Serves request a b
+      serves : (a b : List Link) → IsLabel graph request after (label_at after place) a → IsLabel graph request after (label_at after i) b → Serves request a b
       serves a b is_a is_b =
           let p = are.sound place stands.within in
           let q = are.sound i within in
-          let one : p.0 ≡ a = label-unique edges request after (label_at after place) p.0 a (later place stands.within).1 is_a in
-          let two : q.0 ≡ b = label-unique edges request after (label_at after i) q.0 b mine.1 is_b in
-          subst (λ r. Serves request a r) two (subst (λ r. Serves request r q.0) one (stands.serves edges request p.0 q.0 p.1 q.1))
-
--- one more of several edges was passed over
-pub passes_more : (edges : List Link) (at : ℕ → Link) (request : Trip) (low : List ℕ) (start i place : ℕ) (labels middle : List Label) (then : Option Label) (after : List Label) (now : Option Label) →
-    ((j : ℕ) → j < place → PassesOn edges request low start labels i middle then (at j)) → Grows edges request start middle then after now →
-    PassesOn edges request low start labels i after now (at place) →
-    (j : ℕ) → j < place + 1 → PassesOn edges request low start labels i after now (at j)
-passes_more edges at request low start i place labels middle then after now before grows new j to = by (trichotomy j place)
-  where
-    by : (j < place) ⊎ (j ≡ place) ⊎ (place < j) → PassesOn edges request low start labels i after now (at j)
-    by (inl p) = passes_later edges request low start i labels middle then after now (at j) grows (before j p)
-    by (inr (inl e)) = subst (λ n. PassesOn edges request low start labels i after now (at n)) (sym e) new
-    by (inr (inr p)) = absurd (omega arith)
+          let one : p.0 ≡ a = label-unique graph request after (label_at after place) p.0 a (later place stands.within).1 is_a in
+          let two : q.0 ≡ b = label-unique graph request after (label_at after i) q.0 b mine.1 is_b in
+          subst (λ r. Serves request a r) two (subst (λ r. Serves request r q.0) one (stands.serves request p.0 q.0 p.1 q.1))
 
 -- over the payer's edges goes no more than the most
-pub start_of : (graph : Graph) (most : ℕ) (request : Trip) → AreLinked graph →
+pub start_of : (graph : Graph) (most : ℕ) (request : NumberedRequest) → AreLinked graph →
     ((j : ℕ) → j < length (links_leaving graph request.payer) → (link_at (links_leaving graph request.payer) j).max < most) → IsStart (links graph) request most
 start_of graph most request linked above [] usable = absurd (omega (arith, usable.some))
 start_of graph most request linked above (edge ∷ rest) usable =
@@ -306,26 +300,26 @@ start_of graph most request linked above (edge ∷ rest) usable =
     (edge ∷ rest, usable, omega (arith, step.below_max, max, ap (λ e. e.max) same))
 
 -- the best walk, once none is better, is the least
-pub least_of : (edges : List Link) (request : Trip) (labels : List Label) (start : ℕ) (found : Label) (walk : List Link) →
-    ((other : List Link) → IsUsable edges request other → IsNoBetter edges request labels start (Some found) other) → IsFound edges request labels start (Some found) →
-    Spells labels found walk → length walk ≡ found.count → IsLeast edges request walk
-least_of edges request labels start found walk best is spells long =
-    subst (λ w. IsLeast edges request w) (same (is.0).0 (is.0).1)
+pub least_of : (graph : Graph) (request : NumberedRequest) (labels : List Label) (start : ℕ) (found : Label) (walk : List Link) →
+    ((other : List Link) → IsUsable (links graph) request other → IsNoBetter graph request labels start (Some found) other) → IsFound graph request labels start (Some found) →
+    Spells graph labels found walk → length walk ≡ found.count → IsLeast (links graph) request walk
+least_of graph request labels start found walk best is spells long =
+    subst (λ w. IsLeast (links graph) request w) (same (is.0).0 (is.0).1)
     (record {
       usable = record { some = omega (arith, (is.0).1.some, (is.0).1.long); few = omega (arith, (is.0).1.few, (is.0).1.long); joins = (is.0).1.joins };
       first = λ other usable before. by other (best other usable) before;
     })
   where
-    same : (w : List Link) → IsWalk edges request labels found w → w ≡ walk
-    same w k = Spells-unique labels found w walk k.spells spells (k.long ∙ sym long)
+    same : (w : List Link) → IsWalk graph request labels found w → w ≡ walk
+    same w k = Spells-unique graph labels found w walk k.spells spells (k.long ∙ sym long)
 
-    by : (other : List Link) → IsNoBetter edges request labels start (Some found) other → Precedes request other (is.0).0 → ⊥
+    by : (other : List Link) → IsNoBetter graph request labels start (Some found) other → Precedes request other (is.0).0 → ⊥
     by other h before =
         NotAfter-excludes (walk_key request (is.0).0) (walk_key request other)
         (subst (λ w. NotAfter (walk_key request w) (walk_key request other)) (same h.0 h.1 ∙ sym (same (is.0).0 (is.0).1)) h.2) before
 
-pub sent_small : (edges : List Link) (request : Trip) (labels : List Label) (start : ℕ) (found : Label) (walk : List Link) → start ≤ 2 ^ 64 →
-    IsFound edges request labels start (Some found) → Spells labels found walk → length walk ≡ found.count → sent request.amount walk < 2 ^ 64
-sent_small edges request labels start found walk low is spells long =
-    let same = Spells-unique labels found (is.0).0 walk (is.0).1.spells spells ((is.0).1.long ∙ sym long) in
+pub sent_small : (graph : Graph) (request : NumberedRequest) (labels : List Label) (start : ℕ) (found : Label) (walk : List Link) → start ≤ 2 ^ 64 →
+    IsFound graph request labels start (Some found) → Spells graph labels found walk → length walk ≡ found.count → sent request.amount walk < 2 ^ 64
+sent_small graph request labels start found walk low is spells long =
+    let same = Spells-unique graph labels found (is.0).0 walk (is.0).1.spells spells ((is.0).1.long ∙ sym long) in
     omega (arith, is.1, (is.0).1.sends, ap (λ w. sent request.amount w) same)

@@ -5,7 +5,7 @@ use Rattle.std.specs.Ordering.{nat_cmp}
 use Rattle.std.specs.Cmp.Lexicographic.{slice_cmp}
 use Rattle.lgm_graph.specs.Fee.{fee_of}
 use Rattle.lgm_graph.specs.declared.link.Link.{Link}
-use Rattle.lgm_route.specs.declared.trip.Trip.{Trip}
+use Rattle.lgm_route.specs.declared.numbered_request.NumberedRequest.{NumberedRequest}
 
 -- what has to reach the first node of these edges so that the amount reaches their end, each node
 -- on the way taking its fee. Over edge i goes what is owed at the edges after it: the amount itself
@@ -20,19 +20,19 @@ sent amount [] = amount
 sent amount (edge ∷ rest) = owed amount rest
 
 -- an edge of the list that leaves the node, and may carry what the edges after it need
-pub record IsStep (edges : List Link) (request : Trip) (node : ℕ) (edge : Link) (rest : List Link) : Type 0 where
+pub record IsStep (edges : List Link) (request : NumberedRequest) (node : ℕ) (edge : Link) (rest : List Link) : Type 0 where
   pub there : Contains edges edge
   pub leaves : edge.from ≡ node
   pub above_min : edge.min ≤ request.amount
   pub below_max : owed request.amount rest ≤ edge.max
 
 -- edges that join, from the node to the payee
-abbrev pub IsRest : List Link → Trip → ℕ → List Link → Type 0
+abbrev pub IsRest : List Link → NumberedRequest → ℕ → List Link → Type 0
 IsRest edges request node [] = node ≡ request.payee
 IsRest edges request node (edge ∷ rest) = IsStep edges request node edge rest × IsRest edges request edge.to rest
 
 -- a walk of 1 to 20 edges, from the payer to the payee
-pub record IsUsable (edges : List Link) (request : Trip) (walk : List Link) : Type 0 where
+pub record IsUsable (edges : List Link) (request : NumberedRequest) (walk : List Link) : Type 0 where
   pub some : 1 ≤ length walk
   pub few : length walk ≤ 20
   pub joins : IsRest edges request request.payer walk
@@ -41,13 +41,13 @@ abbrev pub ids : List Link → List ℕ
 ids walk = map (λ edge. edge.scid) walk
 
 -- the first number in which two lists differ decides: what is sent, then how many edges, then the ids
-abbrev pub Precedes : Trip → List Link → List Link → Type 0
+abbrev pub Precedes : NumberedRequest → List Link → List Link → Type 0
 Precedes request walk other =
     slice_cmp nat_cmp
     (sent request.amount walk ∷ length walk ∷ ids walk)
     (sent request.amount other ∷ length other ∷ ids other) ≡ Less
 
 -- a usable walk that no usable walk precedes
-pub record IsLeast (edges : List Link) (request : Trip) (walk : List Link) : Type 0 where
+pub record IsLeast (edges : List Link) (request : NumberedRequest) (walk : List Link) : Type 0 where
   pub usable : IsUsable edges request walk
   pub first : (other : List Link) → IsUsable edges request other → Precedes request other walk → ⊥

@@ -1,26 +1,25 @@
 //! Which rest and which walk is the better one.
 
-ghost use Rattle.std.specs.Prelude.{◌≡◌, ◌^◌, ◌≤◌, true, false};
+ghost use Rattle.std.specs.Prelude.{◌≡◌, ◌^◌, ◌≤◌, true, false, if◌then◌else◌};
 ghost use Rattle.lgm_route.specs.Searching.{IsSpelled, IdsFirst, bound_of, IsFound, DoesServe, SomeWalk, IsBetter};
-ghost use Rattle.lgm_graph.specs.Graph.{links};
 
-use crate::label::Label;
-use crate::trip::Trip;
+use crate::label::{Label, first_of};
+use crate::numbered_request::NumberedRequest;
 use lgm_graph::View;
 
 /// Whether the ids of the one label's edges aren't after those of the other's.
-pub(crate) fn ids_first(labels: &[Label], label: &Label, other: &Label) -> bool
-    requires spelled { IsSpelled labels.now label.now }
-    requires also { IsSpelled labels.now other.now }
+pub(crate) fn ids_first(view: &View, labels: &[Label], label: &Label, other: &Label) -> bool
+    requires spelled { IsSpelled view.now labels.now label.now }
+    requires also { IsSpelled view.now labels.now other.now }
     requires equal { label.now.count ≡ other.now.count }
-    ensures first { result ≡ true → IdsFirst labels.now label.now other.now }
-    ensures after { result ≡ false → IdsFirst labels.now other.now label.now }
+    ensures first { result ≡ true → IdsFirst view.now labels.now label.now other.now }
+    ensures after { result ≡ false → IdsFirst view.now labels.now other.now label.now }
 {
     let mut here = *label;
     let mut there = *other;
     for step in 0..label.count {
-        let id = here.arc.scid;
-        let also = there.arc.scid;
+        let id = first_of(view, labels, &here).scid.to_u64();
+        let also = first_of(view, labels, &there).scid.to_u64();
         if id < also {
             return true;
         }
@@ -37,63 +36,55 @@ pub(crate) fn ids_first(labels: &[Label], label: &Label, other: &Label) -> bool
 }
 
 /// Whether the one label's rest serves in place of the other's.
-pub(crate) fn serves(labels: &[Label], label: &Label, other: &Label) -> bool
-    requires spelled { IsSpelled labels.now label.now }
-    requires also { IsSpelled labels.now other.now }
-    ensures { result ≡ true → DoesServe labels.now label.now other.now }
+pub(crate) fn serves(view: &View, labels: &[Label], label: &Label, other: &Label) -> bool
+    requires spelled { IsSpelled view.now labels.now label.now }
+    requires also { IsSpelled view.now labels.now other.now }
+    ensures { result ≡ true → DoesServe view.now labels.now label.now other.now }
 {
     if other.count < label.count || other.owed < label.owed {
         false
     } else if label.owed < other.owed || label.count < other.count {
         true
     } else {
-        ids_first(labels, label, other)
+        ids_first(view, labels, label, other)
     }
 }
 
 /// What a better walk comes below.
-pub(crate) fn bound_of(start: u128, found: Option<Label>) -> u128
+#[inline(always)]
+pub(crate) fn bound_of(start: u128, best: &Option<Label>) -> u128
     requires { start ≤ 2 ^ 64 }
-    ensures exact { result ≡ bound_of start found }
+    ensures exact { result ≡ bound_of start best.now }
     ensures low { result ≤ 2 ^ 70 }
 {
-    match found {
+    match best {
         None => start * 32,
-        Some(found) => found.owed as u128 * 32 + found.count as u128,
+        Some(best) => best.owed as u128 * 32 + best.count as u128,
     }
 }
 
-/// The best walk so far, or this one.
-pub(crate) fn better_walk(
+/// Whether a new walk is better than the best so far.
+pub(crate) fn is_better(
     view: &View,
-    request: &Trip,
+    request: &NumberedRequest,
     labels: &[Label],
     start: u128,
-    found: Option<Label>,
-    new: Label,
-) -> Option<Label>
-    requires found { IsFound (links view.now) request.now labels.now start found }
-    requires new { SomeWalk (links view.now) request.now labels.now new }
-    ensures { IsBetter (links view.now) request.now labels.now start found new result }
+    best: &Option<Label>,
+    new: &Label,
+) -> bool
+    requires found { IsFound view.now request.now labels.now start best.now }
+    requires new { SomeWalk view.now request.now labels.now new.now }
+    ensures { IsBetter view.now request.now labels.now start best.now new.now (if result then Some new.now else best.now) }
 {
-    match found {
-        None => {
-            if (new.owed as u128) < start {
-                Some(new)
-            } else {
-                None
-            }
-        }
+    match best {
+        None => (new.owed as u128) < start,
         Some(best) => {
-            if new.owed < best.owed || new.owed == best.owed && new.count < best.count {
-                Some(new)
-            } else if new.owed == best.owed
-                && new.count == best.count
-                && ids_first(labels, &new, &best)
-            {
-                Some(new)
+            if new.owed != best.owed {
+                new.owed < best.owed
+            } else if new.count != best.count {
+                new.count < best.count
             } else {
-                Some(best)
+                ids_first(view, labels, new, best)
             }
         }
     }

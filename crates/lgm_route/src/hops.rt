@@ -1,15 +1,14 @@
 //! The hops of a walk.
 
-ghost use Rattle.std.specs.Prelude.{◌≡◌, ◌≤◌, ◌<◌, length, map, IfOk};
+ghost use Rattle.std.specs.Prelude.{◌≡◌, ◌≤◌, ◌<◌, length, IfOk};
 ghost use Rattle.lgm_route.specs.Best.{edges_in, point_at, hop_over, AreNumbered};
 ghost use Rattle.lgm_route.specs.Routes.{hops_of};
-ghost use Rattle.lgm_route.specs.Searching.{AreCarried, link_in};
+ghost use Rattle.lgm_route.specs.Searching.{AreCarried};
 
-use crate::label::Arc;
 use crate::request::Request;
 use crate::route::Hop;
-use lgm_gossip::{Point, Scid};
-use lgm_graph::{View, fee};
+use lgm_gossip::Point;
+use lgm_graph::{Link, View, fee};
 use std::alloc::{AllocError, Global};
 
 /// The point of a number that is one.
@@ -24,15 +23,15 @@ fn point_at(view: &View, number: u32) -> Point
 }
 
 /// The hop over one edge.
-fn hop_over(view: &View, arc: Arc, amount: u64, expiry: u32) -> Hop
-    requires from { arc.from < length view.now.points }
-    requires to { arc.to < length view.now.points }
-    ensures { result ≡ hop_over view.now arc amount expiry }
+fn hop_over(view: &View, link: &Link, amount: u64, expiry: u32) -> Hop
+    requires from { link.now.from < length view.now.points }
+    requires to { link.now.to < length view.now.points }
+    ensures { result ≡ hop_over view.now link.now amount expiry }
 {
     Hop {
-        scid: Scid::from_u64(arc.scid),
-        from: point_at(view, arc.from),
-        to: point_at(view, arc.to),
+        scid: link.scid,
+        from: point_at(view, link.from),
+        to: point_at(view, link.to),
         amount,
         expiry,
     }
@@ -43,11 +42,11 @@ pub(crate) fn hops(
     alloc: Global,
     view: &View,
     request: &Request,
-    walk: &[Arc],
+    walk: &[Link],
 ) -> Result<Vec<Hop>, AllocError>
     requires few { length walk.now ≤ 20 }
     requires expiry { request.now.expiry ≤ 498000000 }
-    requires carried { AreCarried request.now.amount (map link_in walk.now) }
+    requires carried { AreCarried request.now.amount walk.now }
     requires ends { AreNumbered view.now walk.now }
     ensures { IfOk result (λ hops. hops.items ≡ hops_of request.now (edges_in view.now walk.now)) }
 {
@@ -55,11 +54,12 @@ pub(crate) fn hops(
     let mut owed = request.amount as u128;
     let mut due = request.expiry;
     for i in 0..walk.len() {
-        let arc = walk[walk.len() - 1 - i];
+        let link = &walk[walk.len() - 1 - i];
+        let delta = link.delta;
         let amount = owed as u64;
-        hops.push(hop_over(view, arc, amount, due))?;
-        owed += fee(amount, arc.base, arc.millionths);
-        due += arc.delta as u32;
+        hops.push(hop_over(view, link, amount, due))?;
+        owed += fee(amount, link.base, link.millionths);
+        due += delta as u32;
     }
     hops.reverse();
     Ok(hops)

@@ -1,20 +1,12 @@
-//! The best of all walks, by layers whose labels are led on in pieces.
+//! Labels settled by their number of edges, led on in pieces.
 
-ghost use Rattle.std.specs.Prelude.{◌≡◌, ◌^◌, ◌<◌, ◌≤◌, List, ◌++◌, length, All, IfOk, []};
+ghost use Rattle.std.specs.Prelude.{◌≡◌, ◌<◌, ◌≤◌, ◌++◌, length, All, IfOk};
 ghost use Rattle.std.specs.List.{AllZip};
-ghost use Rattle.lgm_route.specs.Leading.{AreLeads, in_list};
-ghost use Rattle.lgm_route.specs.Numbered.{IsUsable};
-ghost use Rattle.lgm_route.specs.Searching.{AreLabels, AreLow, AreSettled, Grows, IsClosed, IsNoBetter, IsSearch, bound_of};
-ghost use Rattle.lgm_graph.specs.Graph.{links, AreLinked};
-ghost use Rattle.lgm_graph.specs.declared.link.Link.{Link};
+ghost use Rattle.lgm_route.specs.Leading.{in_list};
+ghost use Rattle.lgm_route.specs.State.{AreLeadsAt, Extends};
 
-use crate::comparing::bound_of;
-use crate::label::{Label, arc_of};
-use crate::leading::{lead, take};
-use crate::searching::{at_payee, hope, settle_hopeful};
-use crate::settling::{mark, stand_in, sweep};
-use crate::trip::Trip;
-use lgm_graph::View;
+use crate::label::Label;
+use crate::search::Search;
 use lgm_par::{Gate, map_chunks};
 use std::alloc::{AllocError, Global};
 use std::thread::Threads;
@@ -22,37 +14,68 @@ use std::thread::Threads;
 /// The most edges of a walk.
 const LAYERS: u32 = 20;
 
-/// How many labels are worth a worker.
-const SHARE: usize = 128;
+/// How many labels are settled before layers are worth while.
+const ALONE: usize = 2_048;
 
-/// The labels of so many edges that are still hopeful, where no other stands in.
-fn frontier(
-    alloc: Global,
-    view: &View,
-    request: &Trip,
-    low: &[u64],
-    bound: u128,
-    labels: &[Label],
-    places: &[usize],
-    count: u32,
-) -> Result<Vec<usize>, AllocError>
-    requires labelled { AreLabels (links view.now) request.now labels.now }
-    ensures { IfOk result (λ frontier. All (λ i. i < length labels.now) frontier.items) }
-{
-    let mut frontier = Vec::new(alloc);
-    for i in 0..labels.len() {
-        let label = labels[i];
-        if label.count == count
-            && hope(low, &label) < bound
-            && stand_in(view, request, labels, places, i) == i
-        {
-            frontier.push(i)?;
-        }
+/// How many labels are worth a worker: what leads them on takes longer than a thread's start.
+const SHARE: usize = 512;
+
+/// Labels by their number of edges: chains of places. They are hints.
+#[derive(Drop)]
+struct Layers {
+    /// The last label of each number of edges.
+    last: Vec<usize>,
+    /// The one before each label.
+    before: Vec<usize>,
+}
+
+impl Layers {
+    fn new(alloc: Global) -> Result<Layers, AllocError> {
+        let last = vec![in alloc; usize::MAX; LAYERS as usize]?;
+        Ok(Layers {
+            last,
+            before: Vec::new(alloc),
+        })
     }
-    Ok(frontier)
+
+    /// Puts the new labels into their layers.
+    fn fill(&mut self, search: &Search) -> Result<(), AllocError> {
+        for i in self.before.len()..search.len() {
+            let count = search.label(i).count as usize;
+            if count < self.last.len() {
+                self.before.push(self.last[count])?;
+                self.last[count] = i;
+            } else {
+                self.before.push(usize::MAX)?;
+            }
+        }
+        Ok(())
+    }
+
+    /// The labels of so many edges that are still hopeful, where no other stands in.
+    fn frontier(&self, alloc: Global, search: &Search, count: u32) -> Result<Vec<usize>, AllocError>
+        ensures { IfOk result (λ frontier. All (λ i. i < length search.now.labels) frontier.items) }
+    {
+        let mut frontier = Vec::new(alloc);
+        let Some(last) = self.last.get(count as usize) else {
+            return Ok(frontier);
+        };
+        let mut place = *last;
+        for _step in 0..self.before.len() {
+            if search.len() <= place || self.before.len() <= place {
+                break;
+            }
+            if search.is_open(place) {
+                frontier.push(place)?;
+            }
+            place = self.before[place];
+        }
+        Ok(frontier)
+    }
 }
 
 /// Adds a label, if there is one.
+#[inline(always)]
 fn push(labels: &mut Vec<Label>, label: Option<Label>) -> Result<(), AllocError>
     ensures { IfOk result (λ _. labels.new.items ≡ labels.old.items ++ in_list label) }
 {
@@ -62,32 +85,12 @@ fn push(labels: &mut Vec<Label>, label: Option<Label>) -> Result<(), AllocError>
     Ok(())
 }
 
-/// All that a label leads on to.
-fn leads(
-    alloc: Global,
-    view: &View,
-    request: &Trip,
-    low: &[u64],
-    bound: u128,
-    labels: &[Label],
-    i: usize,
-) -> Result<Vec<Label>, AllocError>
-    requires linked { AreLinked view.now }
-    requires low { length low.now ≡ length view.now.points }
-    requires bound { bound ≤ 2 ^ 69 }
-    requires labelled { AreLabels (links view.now) request.now labels.now }
-    requires label { i < length labels.now }
-    ensures { IfOk result (λ leads. AreLeads view.now request.now low.now bound labels.now i leads.items) }
+/// How many of the workers a layer of so many labels is worth.
+fn hands(workers: usize, labels: usize) -> usize
+    requires { workers ≤ 64 }
+    ensures { result ≤ 64 }
 {
-    let node = labels[i].node;
-    let mut leads = Vec::new(alloc);
-    for link in view.links_into(node) {
-        push(
-            &mut leads,
-            lead(view, request, low, bound, labels, i, arc_of(link)),
-        )?;
-    }
-    Ok(leads)
+    workers.min(labels / SHARE)
 }
 
 /// All that each label of the frontier leads on to, found in pieces.
@@ -96,20 +99,12 @@ fn all_leads<Rt: Threads + Sync, G: Gate>(
     alloc: Global,
     workers: usize,
     gate: &G,
-    view: &View,
-    request: &Trip,
-    low: &[u64],
-    bound: u128,
-    labels: &[Label],
+    search: &Search,
     frontier: &[usize],
 ) -> Result<Vec<Result<Vec<Label>, AllocError>>, AllocError>
     requires workers { (1 ≤ workers) × (workers ≤ 64) }
-    requires linked { AreLinked view.now }
-    requires low { length low.now ≡ length view.now.points }
-    requires bound { bound ≤ 2 ^ 69 }
-    requires labelled { AreLabels (links view.now) request.now labels.now }
-    requires frontier { All (λ i. i < length labels.now) frontier.now }
-    ensures { IfOk result (λ all. AllZip (λ i leads. IfOk leads (λ leads. AreLeads view.now request.now low.now bound labels.now i leads.items)) frontier.now all.items) }
+    requires frontier { All (λ i. i < length search.now.labels) frontier.now }
+    ensures { IfOk result (λ all. AllZip (λ i leads. IfOk leads (λ leads. AreLeadsAt search.now i leads.items)) frontier.now all.items) }
 {
     map_chunks(
         rt,
@@ -117,174 +112,138 @@ fn all_leads<Rt: Threads + Sync, G: Gate>(
         workers,
         gate,
         frontier,
-        &|i| leads(alloc, view, request, low, bound, labels, *i),
+        &|i| search.leads(alloc, *i),
     )
 }
 
-/// Takes all that a label was led on to, and marks the label.
-fn merge(
-    view: &View,
-    request: &Trip,
-    low: &[u64],
-    start: u128,
-    labels: &mut Vec<Label>,
-    places: &mut [usize],
-    done: &mut Vec<bool>,
-    found: Option<Label>,
-    i: usize,
-    leads: &[Label],
-) -> Result<Option<Label>, AllocError>
-    requires label { i < length labels.old.items }
-    requires linked { AreLinked view.now }
-    requires nodes { length view.now.points ≡ length places.old }
-    requires leads { AreLeads view.now request.now low.now (bound_of start found) labels.old.items i leads.now }
-    requires search { IsSearch (links view.now) request.now start labels.old.items found }
-    requires settled { AreSettled (links view.now) request.now low.now start labels.old.items found done.old.items }
-    ensures search { IfOk result (λ now. IsSearch (links view.now) request.now start labels.new.items now) }
-    ensures grows { IfOk result (λ now. Grows (links view.now) request.now start labels.old.items found labels.new.items now) }
-    ensures settled { IfOk result (λ now. IsClosed (links view.now) request.now low.now start done.old.items i labels.new.items now done.new.items) }
-{
-    let mut best = found;
-    for new in leads {
-        best = take(view, request, start, labels, places, best, *new)?;
+impl<'a> Search<'a> {
+    /// Whether a label is hopeful, not settled, and no other stands in.
+    fn is_open(&self, i: usize) -> bool
+        requires { i < length self.now.labels }
+    {
+        let label = self.label(i);
+        !self.is_done(i) && self.hope(&label) < self.bound() && self.stand_in(i) == i
     }
-    mark(done, i)?;
-    Ok(best)
-}
 
-/// How many of the workers a layer of so many labels is worth, and two at least if it is the first
-/// that can be shared.
-fn hands(workers: usize, labels: usize, first: bool) -> usize
-    requires { (1 ≤ workers) × (workers ≤ 64) }
-    ensures { (1 ≤ result) × (result ≤ 64) }
-{
-    let least = if first { 2 } else { 1 };
-    workers.min(least.max(labels / SHARE))
-}
+    /// All that a label leads on to.
+    fn leads(&self, alloc: Global, i: usize) -> Result<Vec<Label>, AllocError>
+        requires { i < length self.now.labels }
+        ensures { IfOk result (λ leads. AreLeadsAt self.now i leads.items) }
+    {
+        let label = self.label(i);
+        let edges = self.links_into(label.node);
+        let mut leads = Vec::new(alloc);
+        for at in 0..edges.len() {
+            push(&mut leads, self.lead(i, &label, at, &edges[at]))?;
+        }
+        Ok(leads)
+    }
 
-/// Leads the labels of a frontier on.
-fn layer<Rt: Threads + Sync, G: Gate>(
-    rt: &Rt,
-    alloc: Global,
-    workers: usize,
-    gate: &G,
-    view: &View,
-    request: &Trip,
-    low: &[u64],
-    start: u128,
-    labels: &mut Vec<Label>,
-    places: &mut [usize],
-    done: &mut Vec<bool>,
-    found: Option<Label>,
-    frontier: &[usize],
-) -> Result<Option<Label>, AllocError>
-    requires workers { (1 ≤ workers) × (workers ≤ 64) }
-    requires linked { AreLinked view.now }
-    requires nodes { length view.now.points ≡ length places.old }
-    requires low { length low.now ≡ length places.old }
-    requires start { start ≤ 2 ^ 64 }
-    requires search { IsSearch (links view.now) request.now start labels.old.items found }
-    requires settled { AreSettled (links view.now) request.now low.now start labels.old.items found done.old.items }
-    requires frontier { All (λ i. i < length labels.old.items) frontier.now }
-    ensures search { IfOk result (λ now. IsSearch (links view.now) request.now start labels.new.items now) }
-    ensures settled { IfOk result (λ now. AreSettled (links view.now) request.now low.now start labels.new.items now done.new.items) }
-{
-    let bound = bound_of(start, found);
-    let all = all_leads(
-        rt, alloc, workers, gate, view, request, low, bound, labels, frontier,
-    )?;
-    let mut best = found;
-    for k in 0..frontier.len() {
-        match &all[k] {
-            Ok(leads) => {
-                best = merge(
-                    view,
-                    request,
-                    low,
-                    start,
-                    labels,
-                    places,
-                    done,
-                    best,
-                    frontier[k],
-                    leads,
-                )?;
+    /// Takes all that a label was led on to, and marks the label.
+    fn merge(&mut self, i: usize, leads: &[Label]) -> Result<(), AllocError>
+        requires label { i < length self.old.labels }
+        requires leads { AreLeadsAt self.old i leads.now }
+        ensures { IfOk result (λ _. Extends self.old self.new) }
+    {
+        // It says that labels stand for rests.
+        let _len = self.len();
+        for new in leads {
+            self.take(*new)?;
+        }
+        self.mark(i)?;
+        Ok(())
+    }
+
+    /// Leads the labels of a frontier on, in pieces.
+    fn share_layer<Rt: Threads + Sync, G: Gate>(
+        &mut self,
+        rt: &Rt,
+        alloc: Global,
+        workers: usize,
+        gate: &G,
+        frontier: &[usize],
+    ) -> Result<(), AllocError>
+        requires workers { (1 ≤ workers) × (workers ≤ 64) }
+        requires frontier { All (λ i. i < length self.old.labels) frontier.now }
+        ensures { IfOk result (λ _. Extends self.old self.new) }
+    {
+        let all = all_leads(rt, alloc, workers, gate, self, frontier)?;
+        for k in 0..frontier.len() {
+            match &all[k] {
+                Ok(leads) => self.merge(frontier[k], leads)?,
+                Err(e) => return Err(*e),
             }
-            Err(e) => return Err(*e),
         }
+        Ok(())
     }
-    Ok(best)
-}
 
-/// The best walk of all, with the labels that spell it.
-pub(crate) fn search_layers<Rt: Threads + Sync, G: Gate>(
-    rt: &Rt,
-    alloc: Global,
-    workers: usize,
-    gate: &G,
-    view: &View,
-    request: &Trip,
-    low: &[u64],
-    start: u128,
-    labels: &mut Vec<Label>,
-) -> Result<Option<Label>, AllocError>
-    requires workers { (1 ≤ workers) × (workers ≤ 64) }
-    requires linked { AreLinked view.now }
-    requires long { length low.now ≡ length view.now.points }
-    requires low { AreLow (links view.now) request.now low.now }
-    requires start { start ≤ 2 ^ 64 }
-    requires empty { labels.old.items ≡ [] }
-    ensures search { IfOk result (λ now. IsSearch (links view.now) request.now start labels.new.items now) }
-    ensures best { IfOk result (λ now. (walk : List Link) → IsUsable (links view.now) request.now walk → IsNoBetter (links view.now) request.now labels.new.items start now walk) }
-{
-    let mut places = vec![in alloc; 0; low.len()]?;
-    let mut done = Vec::new(alloc);
-    labels.push(at_payee(request))?;
-    let mut found = settle_hopeful(
-        alloc,
-        view,
-        request,
-        low,
-        start,
-        labels,
-        &mut places,
-        &mut done,
-        true,
-    )?;
-    let layers = if found.is_some() { LAYERS } else { 0 };
-    let mut first = true;
-    for count in 0..layers {
-        let bound = bound_of(start, found);
-        let frontier = frontier(alloc, view, request, low, bound, labels, &places, count)?;
-        if frontier.is_empty() {
-            break;
+    /// Settles the labels of a frontier.
+    fn settle_layer(&mut self, frontier: &[usize]) -> Result<(), AllocError>
+        requires { All (λ i. i < length self.old.labels) frontier.now }
+        ensures { IfOk result (λ _. Extends self.old self.new) }
+    {
+        for i in frontier {
+            self.settle(*i)?;
         }
-        let few = hands(workers, frontier.len(), first);
-        first = first && frontier.len() < 2;
-        found = layer(
-            rt,
-            alloc,
-            few,
-            gate,
-            view,
-            request,
-            low,
-            start,
-            labels,
-            &mut places,
-            &mut done,
-            found,
-            &frontier,
-        )?;
+        Ok(())
     }
-    sweep(
-        view,
-        request,
-        low,
-        start,
-        labels,
-        &mut places,
-        &mut done,
-        found,
-    )
+
+    /// Leads the labels of a frontier on, by as many of the workers as they are worth.
+    fn lead_layer<Rt: Threads + Sync, G: Gate>(
+        &mut self,
+        rt: &Rt,
+        alloc: Global,
+        workers: usize,
+        gate: &G,
+        frontier: &[usize],
+    ) -> Result<(), AllocError>
+        requires workers { (1 ≤ workers) × (workers ≤ 64) }
+        requires frontier { All (λ i. i < length self.old.labels) frontier.now }
+        ensures { IfOk result (λ _. Extends self.old self.new) }
+    {
+        let hands = hands(workers, frontier.len());
+        if hands <= 1 {
+            self.settle_layer(frontier)
+        } else {
+            self.share_layer(rt, alloc, hands, gate, frontier)
+        }
+    }
+
+    /// Settles labels by their number of edges.
+    fn settle_layers<Rt: Threads + Sync, G: Gate>(
+        &mut self,
+        rt: &Rt,
+        alloc: Global,
+        workers: usize,
+        gate: &G,
+    ) -> Result<(), AllocError>
+        requires { (1 ≤ workers) × (workers ≤ 64) }
+        ensures { IfOk result (λ _. Extends self.old self.new) }
+    {
+        let mut layers = Layers::new(alloc)?;
+        for count in 0..LAYERS {
+            layers.fill(self)?;
+            let frontier = layers.frontier(alloc, self, count)?;
+            self.lead_layer(rt, alloc, workers, gate, &frontier)?;
+        }
+        Ok(())
+    }
+
+    /// Settles labels best first, and then, if many are left, by their number of edges.
+    pub(crate) fn settle_chunked<Rt: Threads + Sync, G: Gate>(
+        &mut self,
+        rt: &Rt,
+        alloc: Global,
+        workers: usize,
+        gate: &G,
+    ) -> Result<(), AllocError>
+        requires { (1 ≤ workers) × (workers ≤ 64) }
+        ensures { IfOk result (λ _. Extends self.old self.new) }
+    {
+        if self.settle_best_first(alloc, ALONE)? {
+            return Ok(());
+        }
+        self.settle_layers(rt, alloc, workers, gate)?;
+        Ok(())
+    }
 }

@@ -1,183 +1,159 @@
 //! Rests led on over one more edge.
 
-ghost use Rattle.std.specs.Prelude.{◌≡◌, ◌^◌, ◌<◌, ◌≤◌, length, Contains, IfOk};
-ghost use Rattle.lgm_route.specs.Searching.{AreLabels, IsSearch, Grows, SomeRest, IsOffered, PassesOn, LeadsOn, label_at, link_in};
-ghost use Rattle.lgm_route.specs.Leading.{IsLead, IsLed, IsTaken};
-ghost use Rattle.lgm_graph.specs.Graph.{links, AreLinked};
+ghost use Rattle.std.specs.Prelude.{◌≡◌, ◌<◌, length, IfOk, IfSome};
+ghost use Rattle.lgm_route.specs.Searching.{label_at, first_of};
+ghost use Rattle.lgm_route.specs.Leading.{IsLed};
+ghost use Rattle.lgm_route.specs.State.{Extends, IsIntoAt, IsLeadAt, IsPassedOn, IsLeftAt};
 
-use crate::comparing::{better_walk, bound_of, serves};
-use crate::label::{Arc, Label, arc_of};
-use crate::trip::Trip;
-use lgm_graph::{View, fee};
+use crate::label::Label;
+use crate::search::Search;
+use lgm_graph::{Link, fee};
 use std::alloc::AllocError;
 
-/// A new label, unless one that serves in its place is there.
-pub(crate) fn offer(
-    view: &View,
-    request: &Trip,
-    labels: &mut Vec<Label>,
-    places: &mut [usize],
-    new: Label,
-) -> Result<(), AllocError>
-    requires node { new.node < length places.old }
-    requires labelled { AreLabels (links view.now) request.now labels.old.items }
-    requires new { SomeRest (links view.now) request.now labels.old.items new }
-    requires few { new.count ≤ 19 }
-    ensures { IfOk result (λ _. IsOffered (links view.now) request.now labels.old.items new labels.new.items) }
-{
-    let place = places[new.node as usize];
-    if place < labels.len() {
-        let old = labels[place];
-        if old.node == new.node && serves(labels, &old, &new) {
+/// The most edges of a rest that is led on to a longer one.
+const MOST_EDGES: u32 = 19;
+
+impl<'a> Search<'a> {
+    /// What a label's rest leads on to over one edge into its node: a whole walk where the edge is the
+    /// payer's, else a longer rest. Nothing where the edge can't carry it, and where a longer rest would
+    /// be too long, or hopeless.
+    #[inline(always)]
+    pub(crate) fn lead(&self, i: usize, label: &Label, at: usize, edge: &Link) -> Option<Label>
+        requires label { label.now ≡ label_at self.now.labels i }
+        requires into { IsIntoAt self.now i at edge.now }
+        ensures { IsLeadAt self.now i edge.now result }
+    {
+        let request = self.request();
+        // It says that the label stands for a rest, and the edge is one of the graph.
+        let _len = self.len();
+        if request.amount < edge.min || edge.max < label.owed {
+            return None;
+        }
+        if edge.from == request.payer {
+            return Some(Label {
+                owed: label.owed,
+                next: i,
+                at,
+                node: edge.from,
+                count: label.count + 1,
+            });
+        }
+        if label.count >= MOST_EDGES {
+            return None;
+        }
+        let owed = label.owed as u128 + fee(label.owed, edge.base, edge.millionths);
+        let least = (owed + self.low(edge.from) as u128) * 32 + label.count as u128 + 1;
+        if self.bound() <= least || owed >= 1 << 64 {
+            return None;
+        }
+        Some(Label {
+            owed: owed as u64,
+            next: i,
+            at,
+            node: edge.from,
+            count: label.count + 1,
+        })
+    }
+
+    /// Takes what a label was led on to: a walk, or a rest as a new label.
+    #[inline(always)]
+    pub(crate) fn take(&mut self, new: Label) -> Result<(), AllocError>
+        requires { IsLed self.old.ground.graph self.old.ground.request self.old.labels new.next (first_of self.old.ground.graph self.old.labels new) new }
+        ensures extends { IfOk result (λ _. Extends self.old self.new) }
+        ensures passed { IfOk result (λ _. IsPassedOn self.old new.next (first_of self.old.ground.graph self.old.labels new) self.new) }
+    {
+        // It says that labels stand for rests.
+        let _len = self.len();
+        if new.node == self.request().payer {
+            self.improve(new);
             return Ok(());
         }
+        self.offer(new)?;
+        Ok(())
     }
-    places[new.node as usize] = labels.len();
-    labels.push(new)?;
-    Ok(())
-}
 
-/// What a label's rest leads on to over one edge into its node: a whole walk where the edge is the
-/// payer's, else a longer rest. Nothing where the edge can't carry it, and where a longer rest would
-/// be too long, or hopeless under this bound.
-#[inline(always)]
-pub(crate) fn lead(
-    view: &View,
-    request: &Trip,
-    low: &[u64],
-    bound: u128,
-    labels: &[Label],
-    i: usize,
-    arc: Arc,
-) -> Option<Label>
-    requires labelled { AreLabels (links view.now) request.now labels.now }
-    requires label { i < length labels.now }
-    requires there { Contains (links view.now) (link_in arc) }
-    requires to { arc.to ≡ (label_at labels.now i).node }
-    requires from { arc.from < length low.now }
-    requires bound { bound ≤ 2 ^ 69 }
-    ensures { IsLead (links view.now) request.now low.now bound labels.now i (link_in arc) result }
-{
-    let label = labels[i];
-    if request.amount < arc.min || arc.max < label.owed {
-        return None;
+    /// Leads a label's rest on over one edge into its node.
+    #[inline(always)]
+    pub(crate) fn pass(
+        &mut self,
+        i: usize,
+        label: &Label,
+        at: usize,
+        edge: &Link,
+    ) -> Result<(), AllocError>
+        requires label { label.now ≡ label_at self.old.labels i }
+        requires into { IsIntoAt self.old i at edge.now }
+        ensures extends { IfOk result (λ _. Extends self.old self.new) }
+        ensures passed { IfOk result (λ _. IsPassedOn self.old i edge.now self.new) }
+    {
+        match self.lead(i, label, at, edge) {
+            None => Ok(()),
+            Some(new) => {
+                self.take(new)?;
+                Ok(())
+            }
+        }
     }
-    if arc.from == request.payer {
-        return Some(Label {
-            owed: label.owed,
-            arc,
-            next: i,
-            node: arc.from,
-            count: label.count + 1,
-        });
-    }
-    if label.count >= 19 {
-        return None;
-    }
-    let owed = label.owed as u128 + fee(label.owed, arc.base, arc.millionths);
-    let least = (owed + low[arc.from as usize] as u128) * 32 + label.count as u128 + 1;
-    if bound <= least || owed >= 1 << 64 {
-        return None;
-    }
-    Some(Label {
-        owed: owed as u64,
-        arc,
-        next: i,
-        node: arc.from,
-        count: label.count + 1,
-    })
-}
 
-/// Takes what a label was led on to: a walk, or a rest as a new label.
-#[inline(always)]
-pub(crate) fn take(
-    view: &View,
-    request: &Trip,
-    start: u128,
-    labels: &mut Vec<Label>,
-    places: &mut [usize],
-    found: Option<Label>,
-    new: Label,
-) -> Result<Option<Label>, AllocError>
-    requires node { new.node < length places.old }
-    requires led { IsLed (links view.now) request.now labels.old.items new.next (link_in new.arc) new }
-    requires search { IsSearch (links view.now) request.now start labels.old.items found }
-    ensures search { IfOk result (λ now. IsSearch (links view.now) request.now start labels.new.items now) }
-    ensures grows { IfOk result (λ now. Grows (links view.now) request.now start labels.old.items found labels.new.items now) }
-    ensures taken { IfOk result (λ now. IsTaken (links view.now) request.now start labels.old.items new labels.new.items now) }
-{
-    if new.node == request.payer {
-        return Ok(better_walk(view, request, labels, start, found, new));
+    /// Leads a label's rest on over the edges into its node.
+    pub(crate) fn relax(&mut self, i: usize) -> Result<(), AllocError>
+        requires { i < length self.old.labels }
+        ensures extends { IfOk result (λ _. Extends self.old self.new) }
+        ensures left { IfOk result (λ _. IsLeftAt self.old i self.new) }
+    {
+        let label = self.label(i);
+        let edges = self.links_into(label.node);
+        for at in 0..edges.len() {
+            self.pass(i, &label, at, &edges[at])?;
+        }
+        Ok(())
     }
-    offer(view, request, labels, places, new)?;
-    Ok(found)
-}
 
-/// Leads a label's rest on over one edge into its node.
-#[inline(always)]
-pub(crate) fn pass(
-    view: &View,
-    request: &Trip,
-    low: &[u64],
-    start: u128,
-    labels: &mut Vec<Label>,
-    places: &mut [usize],
-    found: Option<Label>,
-    i: usize,
-    arc: Arc,
-) -> Result<Option<Label>, AllocError>
-    requires label { i < length labels.old.items }
-    requires there { Contains (links view.now) (link_in arc) }
-    requires to { arc.to ≡ (label_at labels.old.items i).node }
-    requires from { arc.from < length places.old }
-    requires low { length low.now ≡ length places.old }
-    requires start { start ≤ 2 ^ 64 }
-    requires search { IsSearch (links view.now) request.now start labels.old.items found }
-    ensures search { IfOk result (λ now. IsSearch (links view.now) request.now start labels.new.items now) }
-    ensures grows { IfOk result (λ now. Grows (links view.now) request.now start labels.old.items found labels.new.items now) }
-    ensures passed { IfOk result (λ now. PassesOn (links view.now) request.now low.now start labels.old.items i labels.new.items now (link_in arc)) }
-{
-    match lead(view, request, low, bound_of(start, found), labels, i, arc) {
-        None => Ok(found),
-        Some(new) => take(view, request, start, labels, places, found, new),
+    /// Leads a label's rest on along the way from the payer that charges the least, as far as that is known, so that some
+    /// walk is found early.
+    pub(crate) fn dive(&mut self, i: usize) -> Result<(), AllocError>
+        requires { i < length self.old.labels }
+        ensures { IfOk result (λ _. Extends self.old self.new) }
+    {
+        let mut here = i;
+        for _step in 0..MOST_EDGES {
+            let last = self.len();
+            let label = self.label(here);
+            let edges = self.links_into(label.node);
+            let Some(at) = self.next_edge(label.node, edges) else {
+                break;
+            };
+            self.pass(here, &label, at, &edges[at])?;
+            if self.len() <= last {
+                break;
+            }
+            here = last;
+        }
+        Ok(())
     }
-}
 
-/// Leads a label's rest on over the edges into its node.
-pub(crate) fn relax(
-    view: &View,
-    request: &Trip,
-    low: &[u64],
-    start: u128,
-    labels: &mut Vec<Label>,
-    places: &mut [usize],
-    found: Option<Label>,
-    i: usize,
-) -> Result<Option<Label>, AllocError>
-    requires label { i < length labels.old.items }
-    requires linked { AreLinked view.now }
-    requires nodes { length view.now.points ≡ length places.old }
-    requires low { length low.now ≡ length places.old }
-    requires start { start ≤ 2 ^ 64 }
-    requires search { IsSearch (links view.now) request.now start labels.old.items found }
-    ensures search { IfOk result (λ now. IsSearch (links view.now) request.now start labels.new.items now) }
-    ensures grows { IfOk result (λ now. Grows (links view.now) request.now start labels.old.items found labels.new.items now) }
-    ensures left { IfOk result (λ now. LeadsOn (links view.now) request.now low.now start labels.old.items i labels.new.items now) }
-{
-    let node = labels[i].node;
-    let mut best = found;
-    for link in view.links_into(node) {
-        best = pass(
-            view,
-            request,
-            low,
-            start,
-            labels,
-            places,
-            best,
-            i,
-            arc_of(link),
-        )?;
+    /// The place of the edge that leads to a node on the way from the payer, among those into the node.
+    fn next_edge(&self, node: u32, edges: &[Link]) -> Option<usize>
+        ensures { IfSome result (λ at. at < length edges.now) }
+    {
+        let over = self.channel_to(node)?;
+        let mut low = 0;
+        let mut high = edges.len();
+        for _step in 0..64 {
+            if high <= low {
+                break;
+            }
+            let middle = low + (high - low) / 2;
+            if edges[middle].scid < over {
+                low = middle + 1;
+            } else {
+                high = middle;
+            }
+        }
+        if low < edges.len() && edges[low].scid == over {
+            Some(low)
+        } else {
+            None
+        }
     }
-    Ok(best)
 }

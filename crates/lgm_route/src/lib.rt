@@ -4,23 +4,28 @@
 //! over each, and a [`RouteFault`] why there is none.
 #![tactic(auto)]
 
+mod bounding;
+mod bounds;
 mod comparing;
+mod diving;
+mod entry;
 mod fault;
-mod heap;
+mod fronts;
 mod hops;
 mod label;
 mod laws;
 mod layering;
 mod leading;
-mod low;
+mod numbered_request;
+mod offering;
+mod queue;
 mod rebuilding;
 mod request;
 mod route;
 mod routing;
-mod searching;
+mod search;
 mod settling;
 mod starting;
-mod trip;
 
 pub use fault::RouteFault;
 pub use laws::{answer_is_one, least_is_one};

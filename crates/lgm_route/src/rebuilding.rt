@@ -1,23 +1,27 @@
 //! Walks from labels.
 
-ghost use Rattle.std.specs.Prelude.{◌≡◌, length, map, IfOk};
-ghost use Rattle.lgm_route.specs.Searching.{IsSpelled, Spells, link_in};
+ghost use Rattle.std.specs.Prelude.{◌≡◌, length, IfOk};
+ghost use Rattle.lgm_route.specs.Searching.{IsSpelled, Spells};
 
-use crate::label::{Arc, Label};
+use crate::label::{Label, first_of};
+use lgm_graph::{Link, View};
 use std::alloc::{AllocError, Global};
 
 /// The walk that a label spells.
-pub(crate) fn rebuild(alloc: Global, labels: &[Label], found: Label) -> Result<Vec<Arc>, AllocError>
-    requires { IsSpelled labels.now found }
-    ensures { IfOk result (λ walk. Spells labels.now found (map link_in walk.items) × (length walk.items ≡ found.count)) }
+pub(crate) fn rebuild(
+    alloc: Global,
+    view: &View,
+    labels: &[Label],
+    found: &Label,
+) -> Result<Vec<Link>, AllocError>
+    requires { IsSpelled view.now labels.now found.now }
+    ensures { IfOk result (λ walk. Spells view.now labels.now found.now walk.items × (length walk.items ≡ found.now.count)) }
 {
     let mut walk = Vec::new(alloc);
-    let mut here = found;
+    let mut here = *found;
     for step in 0..found.count {
-        walk.push(here.arc)?;
-        if step + 1 < found.count {
-            here = labels[here.next];
-        }
+        walk.push(*first_of(view, labels, &here))?;
+        here = labels[here.next];
     }
     Ok(walk)
 }

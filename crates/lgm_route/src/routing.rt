@@ -3,32 +3,24 @@
 ghost use Rattle.std.specs.Prelude.{◌≡◌, ◌⊎◌, ◌^◌, ◌≤◌, List, Some, Err, IfOk};
 ghost use Rattle.std.specs.Option.{option_map};
 ghost use Rattle.lgm_graph.specs.Graph.{edges, links};
-ghost use Rattle.lgm_graph.specs.declared.link.Link.{Link};
 ghost use Rattle.lgm_route.specs.Answers.{refusal, IsAnswer, IsFoundOver};
-ghost use Rattle.lgm_route.specs.Best.{IsBestWalk, IsTripOf};
-ghost use Rattle.lgm_route.specs.Numbered.{IsUsable};
+ghost use Rattle.lgm_route.specs.Best.{IsBestWalk, IsNumberingOf};
 ghost use Rattle.lgm_route.specs.Routes.{IsBest};
-ghost use Rattle.lgm_route.specs.Searching.{IsNoBetter, IsSearch, IsStart};
+ghost use Rattle.lgm_route.specs.State.{IsBegun};
 ghost use Rattle.lgm_route.specs.declared.fault.RouteFault.{RouteFault};
 
+use crate::bounding::bounds;
 use crate::fault::RouteFault;
 use crate::hops::hops;
-use crate::label::{Arc, Label};
-use crate::layering::search_layers;
-use crate::low::lower_bounds;
-use crate::rebuilding::rebuild;
+use crate::numbered_request::NumberedRequest;
 use crate::request::Request;
 use crate::route::{Hop, Route};
-use crate::searching::search;
+use crate::search::Search;
 use crate::starting::most_sent;
-use crate::trip::Trip;
-use lgm_graph::View;
+use lgm_graph::{Link, View};
 use lgm_par::Gate;
 use std::alloc::{AllocError, Global};
 use std::thread::Threads;
-
-/// How many nodes the pass from the payer takes up.
-const STEPS: usize = 200;
 
 /// The greatest amount of a payment, in msat.
 const MOST_AMOUNT: u64 = 2_100_000_000_000_000_000;
@@ -36,40 +28,33 @@ const MOST_AMOUNT: u64 = 2_100_000_000_000_000_000;
 /// The greatest expiry of a payment, a block height.
 const MOST_EXPIRY: u32 = 498_000_000;
 
-/// The walk of the best label, which no usable walk is better than.
-fn walk_of(
+/// A search that begins.
+fn begin<'a>(
     alloc: Global,
-    view: &View,
-    trip: &Trip,
-    start: u128,
-    labels: &[Label],
-    found: Option<Label>,
-) -> Result<Option<Vec<Arc>>, AllocError>
-    requires low { start ≤ 2 ^ 64 }
-    requires start { IsStart (links view.now) trip.now start }
-    requires search { IsSearch (links view.now) trip.now start labels.now found }
-    requires best { (walk : List Link) → IsUsable (links view.now) trip.now walk → IsNoBetter (links view.now) trip.now labels.now start found walk }
-    ensures { IfOk result (λ best. IsBestWalk (links view.now) trip.now (option_map (λ walk. walk.items) best)) }
+    view: &'a View,
+    request: &NumberedRequest,
+) -> Result<Search<'a>, AllocError>
+    ensures { IfOk result (λ search. IsBegun view.entry.now request.now search) }
 {
-    match found {
-        None => Ok(None),
-        Some(found) => {
-            let walk = rebuild(alloc, labels, found)?;
-            Ok(Some(walk))
-        }
-    }
+    let _nodes = view.nodes();
+    let start = most_sent(view, request);
+    let low = bounds(alloc, view, request)?;
+    let search = Search::new(alloc, view, *request, low, start)?;
+    Ok(search)
 }
 
 /// The least walk between numbered nodes, if one is usable.
-fn best_walk(alloc: Global, view: &View, trip: &Trip) -> Result<Option<Vec<Arc>>, AllocError>
-    ensures { IfOk result (λ best. IsBestWalk (links view.now) trip.now (option_map (λ walk. walk.items) best)) }
+fn best_walk(
+    alloc: Global,
+    view: &View,
+    request: &NumberedRequest,
+) -> Result<Option<Vec<Link>>, AllocError>
+    ensures { IfOk result (λ best. IsBestWalk (links view.now) request.now (option_map (λ walk. walk.items) best)) }
 {
-    let nodes = view.nodes();
-    let start = most_sent(view, trip);
-    let low = lower_bounds(alloc, view, nodes, trip, STEPS)?;
-    let mut labels = Vec::new(alloc);
-    let found = search(alloc, view, trip, &low, start, &mut labels)?;
-    walk_of(alloc, view, trip, start, &labels, found)
+    let mut search = begin(alloc, view, request)?;
+    search.settle_best_first(alloc, usize::MAX)?;
+    search.sweep()?;
+    search.best_walk(alloc)
 }
 
 /// The same, found in pieces.
@@ -79,32 +64,20 @@ fn best_walk_chunked<Rt: Threads + Sync, G: Gate>(
     workers: usize,
     gate: &G,
     view: &View,
-    trip: &Trip,
-) -> Result<Option<Vec<Arc>>, AllocError>
+    request: &NumberedRequest,
+) -> Result<Option<Vec<Link>>, AllocError>
     requires { (1 ≤ workers) × (workers ≤ 64) }
-    ensures { IfOk result (λ best. IsBestWalk (links view.now) trip.now (option_map (λ walk. walk.items) best)) }
+    ensures { IfOk result (λ best. IsBestWalk (links view.now) request.now (option_map (λ walk. walk.items) best)) }
 {
-    let nodes = view.nodes();
-    let start = most_sent(view, trip);
-    let low = lower_bounds(alloc, view, nodes, trip, STEPS)?;
-    let mut labels = Vec::new(alloc);
-    let found = search_layers(
-        rt,
-        alloc,
-        workers,
-        gate,
-        view,
-        trip,
-        &low,
-        start,
-        &mut labels,
-    )?;
-    walk_of(alloc, view, trip, start, &labels, found)
+    let mut search = begin(alloc, view, request)?;
+    search.settle_chunked(rt, alloc, workers, gate)?;
+    search.sweep()?;
+    search.best_walk(alloc)
 }
 
-/// The payment between numbered nodes, where both ends have a number.
-fn trip_of(view: &View, request: &Request) -> Option<Trip>
-    ensures { IsTripOf view.now request.now result }
+/// The request between numbered nodes, where both ends have a number.
+fn numbering_of(view: &View, request: &Request) -> Option<NumberedRequest>
+    ensures { IsNumberingOf view.now request.now result }
 {
     // It says that the ends of links are numbered.
     let _nodes = view.nodes();
@@ -114,7 +87,7 @@ fn trip_of(view: &View, request: &Request) -> Option<Trip>
     let Some(payee) = view.node_number(&request.payee) else {
         return None;
     };
-    Some(Trip {
+    Some(NumberedRequest {
         payer,
         payee,
         amount: request.amount,
@@ -126,12 +99,12 @@ fn hops_of(
     alloc: Global,
     view: &View,
     request: &Request,
-    trip: &Trip,
-    walk: Option<Vec<Arc>>,
+    numbered: &NumberedRequest,
+    walk: Option<Vec<Link>>,
 ) -> Result<Option<Vec<Hop>>, AllocError>
     requires expiry { request.now.expiry ≤ 498000000 }
-    requires trip { IsTripOf view.now request.now (Some trip.now) }
-    requires walk { IsBestWalk (links view.now) trip.now (option_map (λ walk. walk.items) walk) }
+    requires numbered { IsNumberingOf view.now request.now (Some numbered.now) }
+    requires walk { IsBestWalk (links view.now) numbered.now (option_map (λ walk. walk.items) walk) }
     ensures { IfOk result (λ best. IsBest (edges view.now) request.now (option_map (λ hops. hops.items) best)) }
 {
     // It says that the ends of links are numbered.
@@ -150,15 +123,15 @@ fn route_over(
     alloc: Global,
     view: &View,
     request: &Request,
-    trip: &Trip,
-    walk: Option<Vec<Arc>>,
+    numbered: &NumberedRequest,
+    walk: Option<Vec<Link>>,
 ) -> Result<Route, RouteFault>
     requires expiry { request.now.expiry ≤ 498000000 }
-    requires trip { IsTripOf view.now request.now (Some trip.now) }
-    requires walk { IsBestWalk (links view.now) trip.now (option_map (λ walk. walk.items) walk) }
+    requires numbered { IsNumberingOf view.now request.now (Some numbered.now) }
+    requires walk { IsBestWalk (links view.now) numbered.now (option_map (λ walk. walk.items) walk) }
     ensures { (result ≡ Err RouteFault.NoMemory) ⊎ IsFoundOver (edges view.now) request.now result }
 {
-    match hops_of(alloc, view, request, trip, walk)? {
+    match hops_of(alloc, view, request, numbered, walk)? {
         Some(hops) => Ok(Route::from_vec(hops)),
         None => Err(RouteFault::NoRoute),
     }
@@ -202,21 +175,22 @@ pub fn least(alloc: Global, view: &View, request: &Request) -> Result<Route, Rou
     if let Some(fault) = refusal(request) {
         return Err(fault);
     }
-    let Some(trip) = trip_of(view, request) else {
+    let Some(numbered) = numbering_of(view, request) else {
         return Err(RouteFault::NoRoute);
     };
-    let walk = best_walk(alloc, view, &trip)?;
-    route_over(alloc, view, request, &trip, walk)
+    let walk = best_walk(alloc, view, &numbered)?;
+    route_over(alloc, view, request, &numbered, walk)
 }
 
 /// The same route as [`least`] gives, found by several workers: it is the same for every number of
 /// workers, from 1 to 64, and whatever the gate does.
 ///
-/// Once some walk is found, the search goes from the payee on, layer by layer: in each one the nodes
-/// that were reached over one channel more than in the layer before are led on over theirs, and one
-/// thread merges what comes of it. There are at most 20 layers. The first that has two nodes is shared
-/// between two workers, and each that is large among as many as it is worth. Each piece of a layer
-/// passes the gate with its number, from 0. One worker does without layers, and passes no gate.
+/// The search goes best first, on one thread, for some thousands of labels and until some walk is found:
+/// that is most searches whole. Then it goes layer by layer: in each one the nodes that were reached over
+/// one channel more than in the layer before are led on over theirs, and one thread merges what comes of
+/// it. There are at most 20 layers. A layer of a thousand nodes or more is cut into as many pieces as it is
+/// worth threads, and each piece passes the gate with its number, from 0; what is done on one thread passes
+/// no gate.
 ///
 /// The refusals are those of [`least`].
 pub fn least_chunked<Rt: Threads + Sync, G: Gate>(
@@ -241,9 +215,9 @@ pub fn least_chunked<Rt: Threads + Sync, G: Gate>(
     if let Some(fault) = refusal(request) {
         return Err(fault);
     }
-    let Some(trip) = trip_of(view, request) else {
+    let Some(numbered) = numbering_of(view, request) else {
         return Err(RouteFault::NoRoute);
     };
-    let walk = best_walk_chunked(rt, alloc, workers, gate, view, &trip)?;
-    route_over(alloc, view, request, &trip, walk)
+    let walk = best_walk_chunked(rt, alloc, workers, gate, view, &numbered)?;
+    route_over(alloc, view, request, &numbered, walk)
 }

@@ -4,12 +4,12 @@ ghost use Rattle.std.specs.Prelude.{◌^◌, ◌≤◌};
 ghost use Rattle.lgm_route.specs.Searching.{IsStart};
 ghost use Rattle.lgm_graph.specs.Graph.{links, AreLinked};
 
-use crate::trip::Trip;
+use crate::numbered_request::NumberedRequest;
 use lgm_graph::View;
 
 /// More than any walk sends: over its first edge goes no more than the most of those out of the
 /// payer.
-pub(crate) fn most_sent(view: &View, request: &Trip) -> u128
+pub(crate) fn most_sent(view: &View, request: &NumberedRequest) -> u128
     requires { AreLinked view.now }
     ensures low { result ≤ 2 ^ 64 }
     ensures start { IsStart (links view.now) request.now result }

@@ -1,6 +1,7 @@
 //! Routes of made networks beside those of the plain program.
 
 use crate::made::{network, pay, payment};
+use crate::paid::assert_paid;
 use crate::plain::{Road, best_steps, roads_of};
 use crate::spelled::spelled;
 use lgm_test_scripts::{Line, Numbers, script_of, text_of, written};
@@ -41,6 +42,36 @@ fn assert_answers<Rt: Abort + Threads + Sync + RandomSource>(
     Ok(())
 }
 
+/// The payments get these answers, whatever the number of workers.
+fn assert_paid_alone<Rt: Abort + Threads + Sync + RandomSource>(
+    rt: &Rt,
+    alloc: Global,
+    lines: &[Line],
+    answers: &[String],
+) -> Result<(), Fail> {
+    let mut borrowed = Vec::new(alloc);
+    for answer in answers {
+        borrowed.push(answer.as_str())?;
+    }
+    assert_paid(rt, alloc, lines, borrowed.as_slice())
+}
+
+/// Three payments over a made network, each in a group of its own, which all workers search for.
+fn compare_alone<Rt: Abort + Threads + Sync + RandomSource>(
+    rt: &Rt,
+    alloc: Global,
+    numbers: &mut Numbers,
+) -> Result<(), Fail> {
+    let mut lines = network(alloc, numbers)?;
+    let roads = roads_of(alloc, lines.as_slice())?;
+    let mut answers = Vec::new(alloc);
+    for _ in 0..3 {
+        lines.push(Line::Commit)?;
+        push_payment(alloc, numbers, roads.as_slice(), &mut lines, &mut answers)?;
+    }
+    assert_paid_alone(rt, alloc, lines.as_slice(), answers.as_slice())
+}
+
 /// Six payments over a made network. The lengths of their routes are added.
 fn compare<Rt: Abort + Threads + Sync + RandomSource>(
     rt: &Rt,
@@ -73,6 +104,15 @@ fn made_networks(rt: HostRuntime) -> Result<(), Fail> {
             .filter(|other| **other == length)
             .count();
         assert!(rt; count >= 5, "{count} routes of {length} channels");
+    }
+    Ok(())
+}
+
+#[test]
+fn made_networks_alone(rt: HostRuntime) -> Result<(), Fail> {
+    let mut numbers = Numbers::new(2);
+    for _ in 0..60 {
+        compare_alone(&rt, rt.alloc(), &mut numbers)?;
     }
     Ok(())
 }

@@ -10,6 +10,8 @@ mod committed;
 #[cfg(test)]
 mod fees;
 #[cfg(test)]
+mod hostile;
+#[cfg(test)]
 mod known;
 #[cfg(test)]
 mod long;

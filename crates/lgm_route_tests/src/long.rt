@@ -37,11 +37,32 @@ fn route_from(alloc: Global, first: u8) -> Result<String, AllocError> {
     Ok(text)
 }
 
+/// The same payments, each in a group of its own.
+fn alone(alloc: Global) -> Result<Vec<Line>, AllocError> {
+    let mut lines = Vec::new(alloc);
+    for line in in_a_row(alloc)? {
+        if let Pay(..) = line {
+            lines.push(Commit)?;
+        }
+        lines.push(line)?;
+    }
+    Ok(lines)
+}
+
 /// 20 channels are a route, 21 aren't.
 #[test]
 fn twenty_channels(rt: HostRuntime) -> Result<(), Fail> {
     let alloc = rt.alloc();
     let lines = in_a_row(alloc)?;
+    let (whole, rest) = (route_from(alloc, 1)?, route_from(alloc, 2)?);
+    assert_paid(&rt, alloc, lines.as_slice(), &[&whole, "no-route", &rest])
+}
+
+/// Payments that are alone in their group are searched for by all workers.
+#[test]
+fn twenty_channels_alone(rt: HostRuntime) -> Result<(), Fail> {
+    let alloc = rt.alloc();
+    let lines = alone(alloc)?;
     let (whole, rest) = (route_from(alloc, 1)?, route_from(alloc, 2)?);
     assert_paid(&rt, alloc, lines.as_slice(), &[&whole, "no-route", &rest])
 }

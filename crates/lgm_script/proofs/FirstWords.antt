@@ -18,7 +18,7 @@ use Rattle.lgm_script.specs.Request.{filter_of, form_of, request_of, HasLawfulPe
 use Rattle.lgm_script.specs.Groups.{has_route_word, kind_of, IsOfKind, IsNoRoute}
 
 -- whether a line is empty or a comment
-abbrev is_quiet : List ℕ → Bool
+abbrev pub is_quiet : List ℕ → Bool
 is_quiet line = (length line == 0) || starts_with nat_eq line (codes "#")
 
 -- no line of the other kinds is

@@ -7,3 +7,4 @@ pub mod FirstWords
 pub mod Decimals
 pub mod FieldsLaws
 pub mod Telling
+pub mod Items

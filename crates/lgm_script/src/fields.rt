@@ -1,9 +1,9 @@
 //! The fields of a text, one after the other.
 
-ghost use Rattle.std.specs.Prelude.{◌≡◌, ◌∷◌, [], IfSome, IfNone, IsSome, ◌↔◌};
+ghost use Rattle.std.specs.Prelude.{◌≡◌, ◌∷◌, ◌++◌, [], IfSome, IfNone, IsSome, ◌↔◌};
 ghost use Rattle.lgm_script.specs.Field.{fields_of};
 
-use memchr::memchr;
+use memchr::{memchr, memrchr};
 use std::marker::Model;
 
 /// The fields of a text that are left. Contracts see the list of them.
@@ -57,4 +57,15 @@ impl<'a> Fields<'a> {
             None => Some(()),
         }
     }
+}
+
+/// The text in front of the last separator, and the field behind it.
+pub fn cut_last(separator: u8, text: &[u8]) -> Option<(&[u8], &[u8])>
+    ensures some { IfSome result (λ parts. fields_of separator text.now ≡ fields_of separator parts.0.now ++ parts.1.now ∷ []) }
+    ensures none { IfNone result (fields_of separator text.now ≡ text.now ∷ []) }
+{
+    let Some(end) = memrchr(separator, text) else {
+        return None;
+    };
+    Some((&text[..end], &text[end + 1..]))
 }

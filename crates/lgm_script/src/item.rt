@@ -1,10 +1,14 @@
 //! Items: what a line offers to the map.
 
-ghost use Rattle.std.specs.Prelude.{◌≡◌, IfOk};
+ghost use Rattle.std.specs.Prelude.{◌≡◌, ◌∷◌, ◌↔◌, [], Some, IfOk};
+ghost use Rattle.lgm_script.specs.Field.{fields_of};
+ghost use Rattle.lgm_script.specs.Request.{request_of};
+ghost use Rattle.lgm_script.specs.declared.item.Item.{Item};
+ghost use Rattle.lgm_script.specs.declared.request.Request.TheVariants.{Offer};
 ghost use Rattle.lgm_script.specs.Item.{bytes_of, sig_of, funding_of, evidence_of, gossip_of, scid_of, close_of};
 
 use crate::field::{number, number_below, point};
-use crate::fields::Fields;
+use crate::fields::{Fields, cut_last};
 use hex::FromHexError;
 use lgm_check::{Evidence, Funding, Sig};
 use lgm_gossip::{Bytes, Scid};
@@ -65,27 +69,27 @@ fn funding(word: &[u8]) -> Option<Funding>
     Some(Funding::Unspent(number(word)?))
 }
 
-/// The verdicts on a message: `SIG FUNDING`.
-fn evidence(mut fields: Fields<'_>) -> Option<Evidence>
-    ensures { result ≡ evidence_of fields.entry }
+/// The verdicts on a message: `SIG` and `FUNDING`.
+fn evidence(signer: &[u8], output: &[u8]) -> Option<Evidence>
+    ensures { result ≡ evidence_of (signer.now ∷ output.now ∷ []) }
 {
-    let signer = fields.next()?;
-    let output = fields.next()?;
-    fields.end()?;
     Some(Evidence {
         sig: sig(signer)?,
         funding: funding(output)?,
     })
 }
 
-/// A message that is offered: `HEX SIG FUNDING`.
-pub fn gossip(alloc: Global, mut fields: Fields<'_>) -> Result<Option<Item>, AllocError>
-    ensures { IfOk result (λ item. item ≡ gossip_of fields.entry) }
+/// A message that is offered: `HEX SIG FUNDING`. The digits are many, so the text is cut from its end.
+pub fn gossip(alloc: Global, text: &[u8]) -> Result<Option<Item>, AllocError>
+    ensures { IfOk result (λ item. item ≡ gossip_of (fields_of 32 text.now)) }
 {
-    let Some(digits) = fields.next() else {
+    let Some((front, output)) = cut_last(b' ', text) else {
         return Ok(None);
     };
-    let Some(evidence) = evidence(fields) else {
+    let Some((digits, signer)) = cut_last(b' ', front) else {
+        return Ok(None);
+    };
+    let Some(evidence) = evidence(signer, output) else {
         return Ok(None);
     };
     match bytes(alloc, digits)? {
@@ -115,4 +119,21 @@ pub fn close(mut fields: Fields<'_>) -> Option<Item>
     let name = fields.next()?;
     fields.end()?;
     Some(Item::Close(scid(Fields::new(b'x', name))?))
+}
+
+/// The item that a line offers, which is that of its request (see [`parse`](crate::parse)); none where the request is
+/// another one.
+///
+/// The error is that there is no memory for a message's bytes, the only memory that is taken.
+#[tactic(auto, using(crate::proofs::Items::offers_what_its_word_tells))]
+pub fn parse_item(alloc: Global, line: &[u8]) -> Result<Option<Item>, AllocError>
+    ensures { IfOk result (λ offered. (item : Item) → (offered ≡ Some item) ↔ (request_of line.now ≡ Offer item)) }
+{
+    if let Some(text) = line.strip_prefix(b"m ") {
+        return gossip(alloc, text);
+    }
+    if let Some(text) = line.strip_prefix(b"close ") {
+        return Ok(close(Fields::new(b' ', text)));
+    }
+    Ok(None)
 }

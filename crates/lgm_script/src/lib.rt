@@ -1,7 +1,8 @@
 //! Scripts: their lines and what a line asks, and the lines of the answers, from a [`Source`] and to a [`Sink`].
 //!
 //! What is read ahead of a source is a [`LineReader`]; text on its way to a sink is an [`Output`]. [`next_line`] finds
-//! one line after the other, [`next_group`] those that are answered together, and [`parse`] tells what a line asks.
+//! one line after the other, and [`next_group`] those that are answered together. [`parse`] tells what a line asks, and
+//! [`parse_item`] the item that a line offers.
 #![tactic(auto)]
 
 mod device;
@@ -20,7 +21,7 @@ mod text;
 
 pub use device::{Failed, Sink, Source, write_all};
 pub use grouping::{Group, Kind, may_ask_routes, next_group};
-pub use item::Item;
+pub use item::{Item, parse_item};
 pub use line_reader::{LineReader, MAX_LINE};
 pub use memory::{MemorySink, MemorySource};
 pub use output::{BLOCK, Output, SendFault};

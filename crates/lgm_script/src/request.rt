@@ -52,7 +52,7 @@ fn form(alloc: Global, line: &[u8]) -> Result<Option<Request>, AllocError>
     ensures peer { IfOk result (λ request. IfSome request HasLawfulPeer) }
 {
     if let Some(text) = line.strip_prefix(b"m ") {
-        return Ok(gossip(alloc, Fields::new(b' ', text))?.map(Request::Offer));
+        return Ok(gossip(alloc, text)?.map(Request::Offer));
     }
     if let Some(text) = line.strip_prefix(b"close ") {
         return Ok(close(Fields::new(b' ', text)).map(Request::Offer));

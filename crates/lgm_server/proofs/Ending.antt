@@ -11,6 +11,7 @@ use Rattle.lgm_server.specs.declared.run_fault.RunFault.{RunFault}
 use Rattle.lgm_server.specs.declared.run_fault.RunFault.TheVariants as faults
 use Rattle.lgm_server.specs.declared.running.Counts.{Counts}
 use Rattle.lgm_server.specs.Running.{IsTold, IsAnswered, IsTooMany, IsTooLong, IsCutShort}
+use Rattle.lgm_server.specs.Runs.{Runs}
 use Rattle.lgm_server.specs.Ending.{IsFlushed, FailsThen, HasFailed}
 
 -- how it ended: flushed, failed then, or failed before
@@ -53,19 +54,23 @@ long_written chain known script old mid new answered result empty ended told is 
     by None flushed told = tt
     by (Some s) flushed told = record { place = told.place; limit = told.limit; long = told.long; text = told_as chain known s told.place old mid new empty flushed.told flushed.clear told.text }
 
+-- the same lines, of which another thing is told
+told_by : {chain : ChainHash} {known : Option (List ℕ)} {told told' : List ℕ → Type 0} {script : List ℕ} {n : ℕ} → ((t : List ℕ) → told t → told' t) → IsTold chain known told script n → IsTold chain known told' script n
+told_by by is = record { few = is.few; short = is.short; text = by _ is.text }
+
 -- a first part of what was told was written
 cut_written : (chain : ChainHash) (known : Option (List ℕ)) (left script : Option (List ℕ)) (old new : Told) → old.gathered ≡ [] → IfSome script (IsCutShort chain known (TellsSome old new) left) → IfSome script (IsCutShort chain known (AppendsSome old.taken new.taken) left)
 cut_written chain known left None old new empty told = tt
-cut_written chain known left (Some s) old new empty told = record { answered = told.answered; few = told.few; read = told.read; text = taken_some old new _ empty told.text }
+cut_written chain known left (Some s) old new empty told = record { answered = told.answered; limit = told.limit; read = told.read; text = told_by (λ t. taken_some old new t empty) told.text }
 
 -- and a flush behind it writes no more than that
 cut_flushed : (chain : ChainHash) (known : Option (List ℕ)) (left script : Option (List ℕ)) (old mid new : Told) → Tells mid new [] → IfSome script (IsCutShort chain known (TellsSome old mid) left) → IfSome script (IsCutShort chain known (TellsSome old new) left)
 cut_flushed chain known left None old mid new flushed told = tt
-cut_flushed chain known left (Some s) old mid new flushed told = record { answered = told.answered; few = told.few; read = told.read; text = some_flushed old mid new _ told.text flushed }
+cut_flushed chain known left (Some s) old mid new flushed told = record { answered = told.answered; limit = told.limit; read = told.read; text = told_by (λ t part. some_flushed old mid new t part flushed) told.text }
 
 cut_flushed_part : (chain : ChainHash) (known : Option (List ℕ)) (left script : Option (List ℕ)) (old mid new : Told) → TellsPart mid new [] SendWrite → IfSome script (IsCutShort chain known (TellsSome old mid) left) → IfSome script (IsCutShort chain known (TellsSome old new) left)
 cut_flushed_part chain known left None old mid new flushed told = tt
-cut_flushed_part chain known left (Some s) old mid new flushed told = record { answered = told.answered; few = told.few; read = told.read; text = some_flushed_part old mid new _ SendWrite told.text flushed }
+cut_flushed_part chain known left (Some s) old mid new flushed told = record { answered = told.answered; limit = told.limit; read = told.read; text = told_by (λ t part. some_flushed_part old mid new t SendWrite part flushed) told.text }
 
 -- what was told at a fault, or a whole text that couldn't be written
 pub fault_written : (chain : ChainHash) (known : Option (List ℕ)) (left script : Option (List ℕ)) (old mid new : Told) (answered result : Result Counts RunFault) → old.gathered ≡ []
@@ -81,7 +86,18 @@ pub nothing_written : (chain : ChainHash) (known : Option (List ℕ)) (script ta
 nothing_written chain known None taken = tt
 nothing_written chain known (Some script) taken = record {
   answered = 0;
-  few = omega arith;
+  limit = omega arith;
   read = record { front = []; rest = script; parts = refl; left_is = refl; whole = inl (omega arith) };
-  text = (0, appends_nothing taken);
+  text = record { few = omega arith; short = tt; text = (0, appends_nothing taken) };
+}
+
+pub nothing_ran : {R W : Type 0} (left : R → Option (List ℕ)) (read_failures : R → ℕ) (taken : W → Option (List ℕ)) (write_failures : W → ℕ) (chain : ChainHash) (known : Option (List ℕ)) (reader : R) (writer : W)
+    → Runs left read_failures taken write_failures chain known reader reader writer writer (fails faults.NoMemory)
+nothing_ran left read_failures taken write_failures chain known reader writer = record {
+  ok = tt;
+  too_many = λ is. absurd cc;
+  too_long = λ is. absurd cc;
+  fault = nothing_written chain known (left reader) (taken writer);
+  read = λ is. absurd cc;
+  write = λ is. absurd cc;
 }

@@ -305,34 +305,38 @@ read_at chain known script k state buffered left at = record {
 
 -- a first part of the text of the lines that were read was told
 cut_at : (chain : ChainHash) (known : Option (List ℕ)) (script : List ℕ) (k n : ℕ) (state state' : State) (input : Option (List ℕ)) (buffered left text : List ℕ) (old mid new : Told)
-    → IsSoFar chain known script k state input old mid → Steps chain known script k n state' (buffered ++ left) text → TellsSome mid new text → IsCutShort chain known (TellsSome old new) (Some left) script
-cut_at chain known script k n state state' input buffered left text old mid new so_far steps some = record {
+    → IsSoFar chain known script k state input old mid → n ≤ 10000000 → Steps chain known script k n state' (buffered ++ left) text → TellsSome mid new text → IsCutShort chain known (TellsSome old new) (Some left) script
+cut_at chain known script k n state state' input buffered left text old mid new so_far limit steps some = record {
   answered = n;
-  few = steps.at.few;
+  limit = limit;
   read = read_at chain known script n state' buffered left steps.at;
-  text = subst (TellsSome old new) (sym steps.text_is) (some_behind old mid new (text_before chain known (requests_of script) k) text so_far.text some);
+  text = record {
+    few = steps.at.few;
+    short = steps.at.short;
+    text = subst (TellsSome old new) (sym steps.text_is) (some_behind old mid new (text_before chain known (requests_of script) k) text so_far.text some);
+  };
 }
 
 pub cut : (chain : ChainHash) (known : Option (List ℕ)) (script : Option (List ℕ)) (k : ℕ) (state : State) (buffered : List ℕ) (left input : Option (List ℕ)) (old mid new : Told)
-    → SoFar chain known script k state input old mid → ahead buffered left ≡ input → TellsSome mid new [] → IfSome script (IsCutShort chain known (TellsSome old new) left)
-cut chain known None k state buffered left input old mid new so_far kept some = tt
-cut chain known (Some script) k state buffered None input old mid new so_far kept some = absurd (let bad = kept ∙ so_far.input_is in cc)
-cut chain known (Some script) k state buffered (Some left) input old mid new so_far kept some =
-    cut_at chain known script k k state state input buffered left [] old mid new so_far
+    → SoFar chain known script k state input old mid → k ≤ 10000000 → ahead buffered left ≡ input → TellsSome mid new [] → IfSome script (IsCutShort chain known (TellsSome old new) left)
+cut chain known None k state buffered left input old mid new so_far limit kept some = tt
+cut chain known (Some script) k state buffered None input old mid new so_far limit kept some = absurd (let bad = kept ∙ so_far.input_is in cc)
+cut chain known (Some script) k state buffered (Some left) input old mid new so_far limit kept some =
+    cut_at chain known script k k state state input buffered left [] old mid new so_far limit
     (record {
       at = subst (IsAtLine chain known script k state) (sym (some_is (buffered ++ left) so_far.rest (kept ∙ so_far.input_is))) so_far.at;
       text_is = sym (append-nil (text_before chain known (requests_of script) k));
     }) some
 
 -- while lines that were read are answered
-pub cut_in : (chain : ChainHash) (known : Option (List ℕ)) (script : Option (List ℕ)) (k first : ℕ) (state : State) (buffered : List ℕ) (left input : Option (List ℕ)) (old mid new : Told)
-    → SoFar chain known script k state input old mid → ahead buffered left ≡ input → IsFirstLine buffered left first → HaveBegun chain (k + 1) state buffered first (TellsSome mid new)
+pub cut_in : (chain : ChainHash) (known : Option (List ℕ)) (script : Option (List ℕ)) (k most first : ℕ) (state : State) (buffered : List ℕ) (left input : Option (List ℕ)) (old mid new : Told)
+    → SoFar chain known script k state input old mid → k + most ≤ 10000000 → ahead buffered left ≡ input → IsFirstLine buffered left first → HaveBegun chain (k + 1) most state buffered first (TellsSome mid new)
     → IfSome script (IsCutShort chain known (TellsSome old new) left)
-cut_in chain known None k first state buffered left input old mid new so_far kept line begun = tt
-cut_in chain known (Some script) k first state buffered None input old mid new so_far kept line begun = absurd (let bad = kept ∙ so_far.input_is in cc)
-cut_in chain known (Some script) k first state buffered (Some left) input old mid new so_far kept line begun =
+cut_in chain known None k most first state buffered left input old mid new so_far within kept line begun = tt
+cut_in chain known (Some script) k most first state buffered None input old mid new so_far within kept line begun = absurd (let bad = kept ∙ so_far.input_is in cc)
+cut_in chain known (Some script) k most first state buffered (Some left) input old mid new so_far within kept line begun =
     let asked = map request_of begun.lines in
-    cut_at chain known script k (k + length begun.lines) state (state_from chain state asked) input (drop begun.len buffered) left (text_from chain (k + 1) state asked) old mid new so_far
+    cut_at chain known script k (k + length begun.lines) state (state_from chain state asked) input (drop begun.len buffered) left (text_from chain (k + 1) state asked) old mid new so_far (let limit = begun.limit in omega arith)
     (next_steps chain known script k first begun.len state buffered left begun.lines input old mid so_far kept line begun.next) begun.text
 
 -- ---- faults of lines

@@ -6,6 +6,7 @@ use Rattle.lgm_check.specs.Refusal.{word_of}
 use Rattle.lgm_store.specs.Rows.{Rows}
 use Rattle.lgm_query.specs.declared.filter.Filter.{Filter}
 use Rattle.lgm_query.specs.Backlog.{backlog, news}
+use Rattle.lgm_query.specs.RangeReply.{range_reply}
 use Rattle.lgm_route.specs.declared.route.Hop.{Hop}
 use Rattle.lgm_route.specs.declared.fault.RouteFault.{RouteFault}
 use Rattle.lgm_route.specs.Route.{sent, expiry}
@@ -13,6 +14,7 @@ use Rattle.lgm_route.specs.Words.{route_word}
 use Rattle.lgm_payload.specs.Building.{payloads_of}
 use Rattle.lgm_script.specs.Text.{word_line, commit_line, message_line, route_line, hop_line}
 use Rattle.lgm_server.specs.declared.answer.Answer.{Answer}
+use Rattle.lgm_server.specs.declared.answer.RangeAsked.{RangeAsked}
 use Rattle.lgm_server.specs.declared.answer.Answer.TheVariants as answers
 use Rattle.lgm_server.specs.declared.filters.PeerFilter.{PeerFilter}
 use Rattle.lgm_server.specs.declared.objection.Objection.{Objection}
@@ -36,6 +38,10 @@ outcome_text number refusal = word_line number (outcome_word refusal)
 abbrev pub query_text : ℕ → Result (List (List ℕ)) Objection → List ℕ
 query_text number (Ok messages) = flat_map (message_line number None) messages
 query_text number (Err objection) = word_line number (objection_word objection)
+
+-- a query of a range is told its replies
+abbrev pub range_text : ℕ → RangeAsked → List ℕ
+range_text number asked = query_text number (Ok (range_reply asked.chain asked.map.now asked.query))
 
 -- a filter is told its word, and then what passes it of these rows, or why it is none
 abbrev pub filter_text : ℕ → ℕ → Rows → Result Filter Objection → List ℕ
@@ -69,6 +75,7 @@ abbrev pub answer_text : ℕ → Answer → List ℕ
 answer_text number answers.Bad = word_line number (codes "bad")
 answer_text number (answers.Outcome refusal) = outcome_text number refusal
 answer_text number (answers.Messages messages) = query_text number (Ok messages)
+answer_text number (answers.Range asked) = range_text number asked
 answer_text number (answers.Objected objection) = word_line number (objection_word objection)
 answer_text number (answers.Backlog own map) = filter_text number own.peer map.now (Ok own.filter)
 answer_text number (answers.Committed accepted) = commit_line number accepted

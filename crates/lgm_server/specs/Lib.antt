@@ -15,4 +15,5 @@ pub mod Offered
 pub mod Questions
 pub mod Progress
 pub mod Running
+pub mod Runs
 pub mod Ending

@@ -23,9 +23,10 @@ pub record HaveAnswers (chain : ChainHash) (number : ℕ) (state state' : State)
   pub state_is : state' ≡ state_from chain state (map request_of lines)
   pub text : told (text_from chain number state (map request_of lines))
 
--- a first part of the text of next lines was told
-pub record HaveBegun (chain : ChainHash) (number : ℕ) (state : State) (buffered : List ℕ) (first : ℕ) (told_part : List ℕ → Type 0) : Type 0 where
+-- a first part of the text of next lines was told, at most so many
+pub record HaveBegun (chain : ChainHash) (number most : ℕ) (state : State) (buffered : List ℕ) (first : ℕ) (told_part : List ℕ → Type 0) : Type 0 where
   pub lines : List (List ℕ)
   pub len : ℕ
   pub next : AreNext buffered first len lines
+  pub limit : length lines ≤ most
   pub text : told_part (text_from chain number state (map request_of lines))

@@ -55,9 +55,9 @@ pub record AreRead (script : List ℕ) (left : Option (List ℕ)) (n : ℕ) : Ty
   pub left_is : left ≡ Some rest
   pub whole : (n ≤ length (filter ends_line front)) ⊎ (rest ≡ [])
 
--- some of the lines were answered, all of which were read, and nothing but a first part of their text was told
+-- the lines whose text was begun are within the limits, all of them were read, and nothing but a first part of their text was told
 pub record IsCutShort (chain : ChainHash) (known : Option (List ℕ)) (told_part : List ℕ → Type 0) (left : Option (List ℕ)) (script : List ℕ) : Type 0 where
   pub answered : ℕ
-  pub few : answered ≤ length (lines_of script)
+  pub limit : answered ≤ 10000000
   pub read : AreRead script left answered
-  pub text : told_part (text_before chain known (requests_of script) answered)
+  pub text : IsTold chain known told_part script answered

@@ -6,14 +6,27 @@ ghost use Rattle.lgm_server.specs.Answer.{answer_text, outcome_word};
 
 use crate::filters::{Filters, PeerFilter};
 use crate::objection::Objection;
-use crate::sending::{send_filtered, send_messages, send_news};
+use crate::sending::{send_filtered, send_messages, send_news, send_range};
 use crate::telling::send_route;
 use lgm_check::Refusal;
+use lgm_gossip::{ChainHash, RangeQuery};
 use lgm_payload::Payloads;
 use lgm_query::{Differences, Replies};
 use lgm_route::{Route, RouteFault};
 use lgm_script::{Output, SendFault, Sink};
 use lgm_store::Map;
+use std::alloc::Global;
+
+/// A query of a range of blocks of a map, which is of that chain.
+#[derive(Drop)]
+pub struct RangeAsked<'a> {
+    /// The chain of the map.
+    pub chain: ChainHash,
+    /// What is asked.
+    pub query: RangeQuery,
+    /// The map that is asked.
+    pub map: &'a Map,
+}
 
 /// What a line of a script is told. It is decided before it is written, and lends what it tells.
 #[derive(Drop)]
@@ -24,6 +37,8 @@ pub enum Answer<'a> {
     Outcome(Option<Refusal>),
     /// The messages that its query is answered with.
     Messages(Replies<'a>),
+    /// Its query of a range, whose replies are made when they are told.
+    Range(RangeAsked<'a>),
     /// Its message isn't taken.
     Objected(Objection),
     /// A peer has this filter now, and gets what passes it of this map.
@@ -40,7 +55,12 @@ pub enum Answer<'a> {
 
 impl Answer<'_> {
     /// Tells the answer to the line of that number, from 1.
-    pub fn send<W: Sink>(&self, number: u64, output: &mut Output<'_, W>) -> Result<(), SendFault>
+    pub fn send<W: Sink>(
+        &self,
+        alloc: Global,
+        number: u64,
+        output: &mut Output<'_, W>,
+    ) -> Result<(), SendFault>
         requires { W.failures output.old.writer.now + 1 < 2 ^ 64 }
         ensures writer { output.new.writer.ghost_name ≡ output.old.writer.ghost_name }
         ensures told { OnOk result (Sends W.taken W.failures output.old output.new (answer_text number self.now)) }
@@ -50,6 +70,7 @@ impl Answer<'_> {
             Answer::Bad => output.send_word(number, "bad"),
             Answer::Outcome(refusal) => output.send_word(number, outcome_word(*refusal)),
             Answer::Messages(messages) => send_messages(number, messages.as_slice(), output),
+            Answer::Range(asked) => send_range(alloc, number, asked, output),
             Answer::Objected(objection) => output.send_word(number, objection.word()),
             Answer::Backlog(own, map) => send_filtered(number, own, map, output),
             Answer::Committed(accepted) => output.send_count(number, *accepted),

@@ -36,10 +36,10 @@ fn offer<W: Sink>(
     ensures fault { IfErr result (SendsPart W.taken W.failures output.old output.new (offered_text number engine.old.rows item)) }
 {
     let Some(item) = item else {
-        return Answer::Bad.send(number, output);
+        return Answer::Bad.send(alloc, number, output);
     };
     let refusal = engine.offer(alloc, item)?;
-    Answer::Outcome(refusal).send(number, output)
+    Answer::Outcome(refusal).send(alloc, number, output)
 }
 
 /// Answers lines of items, the first of that number: they are checked side by side, and offered in their order.
@@ -110,7 +110,7 @@ fn answer_questions<Rt: Threads + Sync, G: Gate, W: Sink>(
 {
     if let Some(payment) = lone_payment(alloc, lines)? {
         let answer = engine.answer_route(rt, alloc, workers, gate, &payment)?;
-        return answer.send(first, output);
+        return answer.send(alloc, first, output);
     }
     engine.answer_questions(rt, alloc, workers, gate, chain, first, lines, output)
 }
@@ -133,7 +133,7 @@ fn answer_alone<W: Sink>(
     match parse(alloc, line)? {
         Request::Quiet => Ok(()),
         Request::Commit => engine.commit(alloc, number, output),
-        _ => Answer::Bad.send(number, output),
+        _ => Answer::Bad.send(alloc, number, output),
     }
 }
 

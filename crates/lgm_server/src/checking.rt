@@ -6,10 +6,10 @@ ghost use Rattle.lgm_script.specs.Request.{request_of};
 ghost use Rattle.lgm_server.specs.Offered.{offered_of, offered_in};
 ghost use Rattle.lgm_server.specs.Questions.{asked_in};
 
-use lgm_check::{Refusal, precheck_owned};
+use lgm_check::Refusal;
 use lgm_gossip::{ChainHash, Scid};
 use lgm_par::{Gate, map_chunks};
-use lgm_script::{Item, Request, parse};
+use lgm_script::{Item, parse_item};
 use lgm_store::Candidate;
 use std::alloc::{AllocError, Global};
 use std::thread::Threads;
@@ -31,8 +31,8 @@ fn check(alloc: Global, chain: &ChainHash, item: Item) -> Result<Offered, AllocE
 {
     match item {
         Item::Gossip(bytes, evidence) => {
-            match precheck_owned(alloc, chain, bytes, &evidence) {
-                Ok(checked) => Ok(Offered::Message(Candidate::new(alloc, checked)?)),
+            match Candidate::precheck(alloc, chain, bytes, &evidence) {
+                Ok(candidate) => Ok(Offered::Message(candidate)),
                 Err(Refusal::NoMemory) => Err(AllocError),
                 Err(refusal) => Ok(Offered::Refused(refusal)),
             }
@@ -45,9 +45,9 @@ fn check(alloc: Global, chain: &ChainHash, item: Item) -> Result<Offered, AllocE
 fn check_line(alloc: Global, chain: &ChainHash, line: &[u8]) -> Result<Option<Offered>, AllocError>
     ensures { IfOk result (λ offered. offered ≡ offered_in chain.now (request_of line.now)) }
 {
-    match parse(alloc, line)? {
-        Request::Offer(item) => Ok(Some(check(alloc, chain, item)?)),
-        _ => Ok(None),
+    match parse_item(alloc, line)? {
+        Some(item) => Ok(Some(check(alloc, chain, item)?)),
+        None => Ok(None),
     }
 }
 

@@ -192,5 +192,5 @@ fn tell_commit<W: Sink>(
     ensures fault { IfErr result (SendsPart W.taken W.failures output.old output.new (commit_text number accepted maps.now.committed maps.now.rows filters.now)) }
 {
     let answer = committed(alloc, accepted, maps, filters)?;
-    answer.send(number, output)
+    answer.send(alloc, number, output)
 }

@@ -6,11 +6,11 @@ ghost use Rattle.lgm_server.specs.Answer.{answer_text, query_text};
 ghost use Rattle.lgm_server.specs.Questions.{filters_by};
 ghost use Rattle.lgm_server.specs.declared.filters.PeerFilter.{PeerFilter};
 
-use crate::answer::Answer;
+use crate::answer::{Answer, RangeAsked};
 use crate::objection::Objection;
 use lgm_check::Refusal;
 use lgm_gossip::{ChainHash, Message, decode};
-use lgm_query::{answer_ids, answer_range};
+use lgm_query::answer_ids;
 use lgm_store::Map;
 use std::alloc::{AllocError, Global};
 
@@ -25,12 +25,17 @@ fn answer_message<'a>(
 {
     match message {
         Message::IdsQuery(query) => Ok(Answer::Messages(answer_ids(alloc, chain, map, query)?)),
-        Message::RangeQuery(query) => Ok(Answer::Messages(answer_range(alloc, chain, map, query)?)),
+        Message::RangeQuery(query) => Ok(Answer::Range(RangeAsked {
+            chain: *chain,
+            query: *query,
+            map,
+        })),
         _ => Ok(Answer::Objected(Objection::NotQuery)),
     }
 }
 
-/// The answer to a query, which is these bytes, on a map of the chain. It lends the messages that the map holds.
+/// The answer to a query, which is these bytes, on a map of the chain. It lends the messages that the map holds; the
+/// replies to a query of a range are made when they are told.
 pub fn answer_query<'a>(
     alloc: Global,
     chain: &ChainHash,

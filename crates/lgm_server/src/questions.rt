@@ -151,6 +151,7 @@ fn decide_all<'a, Rt: Threads + Sync, G: Gate>(
 
 /// Tells an answer in its turn, and sets the filter that it is about, if it is about one.
 fn tell<W: Sink>(
+    alloc: Global,
     number: u64,
     answer: &Answer<'_>,
     filters: &mut Filters,
@@ -165,7 +166,7 @@ fn tell<W: Sink>(
     if let Answer::Backlog(own, _) = answer {
         filters.set(*own)?;
     }
-    answer.send(number, output)
+    answer.send(alloc, number, output)
 }
 
 /// Answers lines that ask of the committed map, the first of that number.
@@ -199,7 +200,7 @@ pub fn answer_questions<Rt: Threads + Sync, G: Gate, W: Sink>(
         let Ok(answer) = answer else {
             return Err(SendFault::NoMemory);
         };
-        tell(number, answer, filters, output)?;
+        tell(alloc, number, answer, filters, output)?;
         number += 1;
     }
     Ok(())

@@ -1,11 +1,11 @@
 //! A whole script.
 
 ghost use Rattle.std.specs.Prelude.{◌≡◌, ◌≢◌, ◌+◌, ◌<◌, ◌≤◌, ◌^◌, [], length, IfSome, IfOk, IfErr};
-ghost use Rattle.lgm_script.specs.Device.{Appends, AppendsSome};
 ghost use Rattle.lgm_script.specs.Output.{Sends, SendsPart, SendsSome};
 ghost use Rattle.lgm_server.specs.Steps.{opening};
 ghost use Rattle.lgm_server.specs.Progress.{HaveAnswers, HaveBegun};
 ghost use Rattle.lgm_server.specs.Running.{IsAnswered, IsTooMany, IsTooLong, IsCutShort};
+ghost use Rattle.lgm_server.specs.Runs.{Runs, AnswersAll, StopsAtLimit, StopsAtLongLine, StopsShort};
 ghost use Rattle.lgm_server.specs.Ending.{IsEnded};
 
 use crate::answering::answer;
@@ -69,7 +69,7 @@ fn answer_next<Rt: Threads + Sync, G: Gate, W: Sink>(
     ensures answered { IfOk result (λ done. HaveAnswers chain.now number engine.old engine.new lines.now first
         (Sends W.taken W.failures output.old output.new) done.0 done.1) }
     ensures few { IfOk result (λ done. done.0 ≤ most) }
-    ensures fault { IfErr result (λ fault. HaveBegun chain.now number engine.old lines.now first
+    ensures fault { IfErr result (λ fault. HaveBegun chain.now number most engine.old lines.now first
         (λ text. SendsPart W.taken W.failures output.old output.new text fault)) }
 {
     let most = most.min(most_for(workers));
@@ -161,16 +161,8 @@ fn answer_all<Rt: Threads + Sync + RandomSource, G: Gate, R: Source, W: Sink>(
     requires source { R.failures source.old + 1 < 2 ^ 64 }
     requires writer { W.failures output.old.writer.now + 1 < 2 ^ 64 }
     ensures writer { output.new.writer.ghost_name ≡ output.old.writer.ghost_name }
-    ensures ok { IfOk result (λ counts. IfSome (R.left source.old)
-        (IsAnswered chain.now known.now (Appends (W.taken output.old.writer.now) (W.taken output.new.writer.now)) counts)) }
-    ensures too_many { result ≡ Err RunFault.TooManyLines → IfSome (R.left source.old)
-        (IsTooMany chain.now known.now (Appends (W.taken output.old.writer.now) (W.taken output.new.writer.now))) }
-    ensures too_long { result ≡ Err RunFault.LineTooLong → IfSome (R.left source.old)
-        (IsTooLong chain.now known.now (Appends (W.taken output.old.writer.now) (W.taken output.new.writer.now))) }
-    ensures fault { IfErr result (λ _. IfSome (R.left source.old)
-        (IsCutShort chain.now known.now (AppendsSome (W.taken output.old.writer.now) (W.taken output.new.writer.now)) (R.left source.new))) }
-    ensures read { result ≡ Err RunFault.Read → R.failures source.old < R.failures source.new }
-    ensures write { result ≡ Err RunFault.Write → W.failures output.old.writer.now < W.failures output.new.writer.now }
+    ensures runs { Runs R.left R.failures W.taken W.failures chain.now known.now source.old source.new
+        output.old.writer.now output.new.writer.now result }
 {
     let mut lines = LineReader::new(alloc)?;
     let made = Engine::new(alloc, Seed::random(rt), known)?;
@@ -227,18 +219,14 @@ pub fn run<Rt: Threads + Sync + RandomSource, G: Gate, R: Source, W: Sink>(
     requires writer { W.failures writer.old + 1 < 2 ^ 64 }
 
     // Each line was answered, and nothing else was written.
-    ensures ok { IfOk result (λ counts. IfSome (R.left reader.old)
-        (IsAnswered chain.now known.now (Appends (W.taken writer.old) (W.taken writer.new)) counts)) }
+    ensures ok { AnswersAll chain.now known.now (R.left reader.old) (W.taken writer.old) (W.taken writer.new) result }
 
     // The lines before were answered.
-    ensures too_many { result ≡ Err RunFault.TooManyLines → IfSome (R.left reader.old)
-        (IsTooMany chain.now known.now (Appends (W.taken writer.old) (W.taken writer.new))) }
-    ensures too_long { result ≡ Err RunFault.LineTooLong → IfSome (R.left reader.old)
-        (IsTooLong chain.now known.now (Appends (W.taken writer.old) (W.taken writer.new))) }
+    ensures too_many { StopsAtLimit chain.now known.now (R.left reader.old) (W.taken writer.old) (W.taken writer.new) result }
+    ensures too_long { StopsAtLongLine chain.now known.now (R.left reader.old) (W.taken writer.old) (W.taken writer.new) result }
 
-    // At any fault a beginning of the text of lines that were read was written, and nothing else.
-    ensures fault { IfErr result (λ _. IfSome (R.left reader.old)
-        (IsCutShort chain.now known.now (AppendsSome (W.taken writer.old) (W.taken writer.new)) (R.left reader.new))) }
+    // At any fault a beginning of the text of lines that were read, all within the limits, was written, and nothing else.
+    ensures fault { StopsShort chain.now known.now (R.left reader.old) (W.taken writer.old) (W.taken writer.new) result (R.left reader.new) }
 
     // A device failed in this call.
     ensures read { result ≡ Err RunFault.Read → R.failures reader.old < R.failures reader.new }
@@ -274,17 +262,10 @@ pub fn run_keeping<Rt: Threads + Sync + RandomSource, G: Gate, R: Source, W: Sin
     requires reader { R.failures reader.old + 1 < 2 ^ 64 }
     requires writer { W.failures writer.old + 1 < 2 ^ 64 }
 
-    ensures ok { IfOk result (λ counts. IfSome (R.left reader.old)
-        (IsAnswered chain.now known.now (Appends (W.taken writer.old) (W.taken writer.new)) counts)) }
-
-    ensures too_many { result ≡ Err RunFault.TooManyLines → IfSome (R.left reader.old)
-        (IsTooMany chain.now known.now (Appends (W.taken writer.old) (W.taken writer.new))) }
-    ensures too_long { result ≡ Err RunFault.LineTooLong → IfSome (R.left reader.old)
-        (IsTooLong chain.now known.now (Appends (W.taken writer.old) (W.taken writer.new))) }
-
-    ensures fault { IfErr result (λ _. IfSome (R.left reader.old)
-        (IsCutShort chain.now known.now (AppendsSome (W.taken writer.old) (W.taken writer.new)) (R.left reader.new))) }
-
+    ensures ok { AnswersAll chain.now known.now (R.left reader.old) (W.taken writer.old) (W.taken writer.new) result }
+    ensures too_many { StopsAtLimit chain.now known.now (R.left reader.old) (W.taken writer.old) (W.taken writer.new) result }
+    ensures too_long { StopsAtLongLine chain.now known.now (R.left reader.old) (W.taken writer.old) (W.taken writer.new) result }
+    ensures fault { StopsShort chain.now known.now (R.left reader.old) (W.taken writer.old) (W.taken writer.new) result (R.left reader.new) }
     ensures read { result ≡ Err RunFault.Read → R.failures reader.old < R.failures reader.new }
     ensures write { result ≡ Err RunFault.Write → W.failures writer.old < W.failures writer.new }
 {

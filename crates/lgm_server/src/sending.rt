@@ -5,12 +5,14 @@ ghost use Rattle.std.specs.List.{flat_map};
 ghost use Rattle.lgm_query.specs.Backlog.{backlog};
 ghost use Rattle.lgm_script.specs.Output.{Sends, SendsPart};
 ghost use Rattle.lgm_script.specs.Text.{message_line};
-ghost use Rattle.lgm_server.specs.Answer.{query_text, filter_text, news_text, commit_text};
+ghost use Rattle.lgm_server.specs.Answer.{query_text, range_text, filter_text, news_text, commit_text};
 
+use crate::answer::RangeAsked;
 use crate::filters::{Filters, PeerFilter};
-use lgm_query::{Backlog, Differences, Reply};
+use lgm_query::{Backlog, Differences, Reply, answer_range};
 use lgm_script::{Output, SendFault, Sink};
 use lgm_store::Map;
+use std::alloc::Global;
 
 /// Sends the messages that a query is answered with.
 pub(crate) fn send_messages<W: Sink>(
@@ -29,6 +31,22 @@ pub(crate) fn send_messages<W: Sink>(
     Ok(())
 }
 
+/// Makes the replies to a query of a range, and sends them.
+pub(crate) fn send_range<W: Sink>(
+    alloc: Global,
+    number: u64,
+    asked: &RangeAsked<'_>,
+    output: &mut Output<'_, W>,
+) -> Result<(), SendFault>
+    requires { W.failures output.old.writer.now + 1 < 2 ^ 64 }
+    ensures writer { output.new.writer.ghost_name ≡ output.old.writer.ghost_name }
+    ensures told { OnOk result (Sends W.taken W.failures output.old output.new (range_text number asked.now)) }
+    ensures fault { IfErr result (SendsPart W.taken W.failures output.old output.new (range_text number asked.now)) }
+{
+    let replies = answer_range(alloc, &asked.chain, asked.map, &asked.query)?;
+    send_messages(number, replies.as_slice(), output)
+}
+
 /// Sends a peer what passes its filter of a map, as it is walked.
 fn send_backlog<W: Sink>(
     number: u64,
@@ -44,7 +62,7 @@ fn send_backlog<W: Sink>(
         (flat_map (message_line number (Some own.now.peer)) (backlog map.now own.now.filter))) }
 {
     for message in Backlog::of(map, &own.filter) {
-        output.send_message(number, Some(own.peer), message.as_slice())?;
+        output.send_message(number, Some(own.peer), message)?;
     }
     Ok(())
 }
@@ -78,7 +96,7 @@ fn send_news_to<W: Sink>(
     ensures fault { IfErr result (SendsPart W.taken W.failures output.old output.new (news_text number differences.now.before differences.now.after own.now)) }
 {
     for message in differences.news(&own.filter) {
-        output.send_message(number, Some(own.peer), message.as_slice())?;
+        output.send_message(number, Some(own.peer), message)?;
     }
     Ok(())
 }

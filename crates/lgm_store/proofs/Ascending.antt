@@ -40,7 +40,7 @@ module _ {K R : Type 0} (cmp : K → K → Ordering) (key : R → K) where
 pub ascend-channels : (entries : List (ℕ × ChannelRow)) → IsKeyed id_of entries → IsStrictlySortedBy nat_cmp (keys_of entries) → IsStrictlySortedBy by_id (values_of entries)
 ascend-channels entries keyed sorted = ascend-values nat_cmp id_of entries keyed sorted
 
-pub IsAscending-sound : (channels : List (ℕ × ChannelRow)) (updates : List ((ℕ × Bool) × UpdateRow)) (nodes : List (Point × NodeRow)) (ends : List (Point × ℕ)) (rows : Rows)
+pub IsAscending-sound : (channels : List (ℕ × ChannelRow)) (updates : List ((ℕ × Bool) × UpdateRow)) (nodes : List (Point × NodeRow)) (ends : List (Point × List ℕ)) (rows : Rows)
     → IsSound channels updates nodes ends → IsStrictlySortedBy point_cmp rows.banned → values_of channels ≡ rows.channels → values_of updates ≡ rows.updates → values_of nodes ≡ rows.nodes → IsAscending rows
 IsAscending-sound channels updates nodes ends rows sound banned c u n =
     record {

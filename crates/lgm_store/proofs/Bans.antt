@@ -1,6 +1,6 @@
 -- Bans: closing the channels that end at banned points, one after the other.
 use Rattle.std.proofs.Common.{◌≡◌, ℕ, Bool, true, false, not, ◌&&◌, ◌||◌, cond, List, [], ◌∷◌, ◌++◌, ◌+◌, ◌<◌, length, take, get_or, map, Some, refl, sym, ap, ◌∙◌, eqb, arith}
-use Rattle.std.specs.Prelude.{is_some}
+use Rattle.std.specs.Prelude.{is_some, if◌then◌else◌}
 use Rattle.std.specs.List.{AllByRecursion, filter, list_any}
 use Rattle.std.specs.List.Sorted.{IsStrictlySortedBy}
 use Rattle.std.specs.Map.{keys_of, values_of}
@@ -8,7 +8,8 @@ use Rattle.std.specs.BTreeMap.{insert_entry}
 use Rattle.std.specs.BTreeSet.{insert_key}
 use Rattle.std.specs.declared.cmp.Ordering.{Ordering}
 use Rattle.std.specs.declared.cmp.Ordering.TheVariants.{Less, Equal, Greater}
-use Rattle.std.specs.Ordering.{nat_cmp, match_ordering}
+use Rattle.std.specs.Ordering.{is_lt, is_gt, nat_cmp, match_ordering}
+use Rattle.std.proofs.lemmas.List.Folds.{list_any-append}
 use Rattle.std.proofs.lemmas.Bool.Decides.{nat_tests}
 use Rattle.std.proofs.lemmas.Grind.{take_at_read}
 use Rattle.lgm_wire.specs.declared.point.Point.{Point}
@@ -17,13 +18,19 @@ use Rattle.lgm_check.specs.declared.row.UpdateRow.{UpdateRow}
 use Rattle.lgm_check.specs.declared.row.NodeRow.{NodeRow}
 use Rattle.lgm_store.specs.Keyed.{IsKeyed}
 use Rattle.lgm_store.specs.Ends.{point_cmp}
-use Rattle.lgm_store.specs.Rows.{Rows, put, by_point, by_id, channel_of, ends_at, ends_channel, ends_banned}
-use Rattle.lgm_store.specs.History.{without_channel, channels_without, updates_without, ended_nodes, allowed_channels, banned_channels, updates_beside, banning}
-use Rattle.lgm_store.specs.Sound.{AreEnded, id_of}
+use Rattle.lgm_store.specs.Rows.{Rows, put, by_point, by_id, is_point, channel_of, ends_at, ends_channel, is_banned, ends_banned}
+use Rattle.lgm_store.specs.History.{without_channel, channels_without, updates_without, ended_nodes, allowed_channels, banned_channels, updates_beside, banning, with_banned, with_ban}
+use Rattle.lgm_store.specs.Reading.{ids_at}
+use Rattle.lgm_store.specs.Sound.{AreEnded, AreAllowed, id_of}
+use Rattle.lgm_check.specs.declared.row.BanRow.{BanRow}
+use Rattle.lgm_store.specs.Laws.{IsLawful, AreHeld}
+use Rattle.lgm_store.specs.Laws as Lawful
+use Rattle.lgm_store.specs.declared.op.Op.TheVariants as ops
 use Rattle.lgm_store.proofs.Ascending.{ascend-filter}
 use Rattle.lgm_store.proofs.Lists.{node_total, same_node}
 use Rattle.lgm_store.proofs.Ordered.{values-insert, filter-filter, filter-same}
 use Rattle.lgm_store.proofs.Soundness.{AreEnded-ended_nodes}
+use Rattle.lgm_store.proofs.Lawful.{AreHeld-absorbed, AreEnded-absorbed}
 
 -- the rows with channels closed, in order
 abbrev pub closed_all : Rows → List ℕ → Rows
@@ -212,6 +219,207 @@ closed_all-bans (id ∷ ids) rows banned is ids_are ascend ended =
         let nodes : ended_nodes (allowed_channels banned (channels_without rows.channels id)) (ended_nodes (channels_without rows.channels id) rows.nodes) ≡ ended_nodes (allowed_channels banned rows.channels) rows.nodes =
         nodes-step (λ row. not (ends_banned banned row)) (channels_without rows.channels id) rows.nodes ∙ ap (λ channels. ended_nodes channels rows.nodes) failing in
         ap (λ r. closed_all r ids) closes ∙ later ∙ rows_same (banning (closing rows id) banned) (banning rows banned) failing updates nodes refl
+
+-- ---- closing a channel twice is closing it once
+
+-- whether an id is among some
+abbrev pub has : List ℕ → ℕ → Bool
+has ids id = list_any (λ other. eqb id other) ids
+
+-- without the channels of the ids that pass
+abbrev dropping : Rows → (ℕ → Bool) → Rows
+dropping rows gone = record {
+  channels = filter (λ row. not (gone (id_of row))) rows.channels;
+  updates = filter (λ row. not (gone row.message.short_channel_id)) rows.updates;
+  nodes = ended_nodes (filter (λ row. not (gone (id_of row))) rows.channels) rows.nodes;
+  banned = rows.banned;
+}
+
+-- a channel that isn't held takes nothing away
+channels_stay : (rows : List ChannelRow) (id : ℕ) → is_some (channel_of rows id) ≡ false → channels_without rows id ≡ rows
+channels_stay [] id none = refl
+channels_stay (x ∷ xs) id none = by (channels_stay xs id) (eqb (id_of x) id) refl none
+  where
+    by : (is_some (channel_of xs id) ≡ false → channels_without xs id ≡ xs) → (b : Bool) → eqb (id_of x) id ≡ b → is_some (cond (eqb (id_of x) id) (Some x) (channel_of xs id)) ≡ false
+        → cond (not (eqb (id_of x) id)) (x ∷ channels_without xs id) (channels_without xs id) ≡ x ∷ xs
+    by others true is none = let never : true ≡ false = rw is at none in absurd cc
+    by others false is none = rw (is, others (rw is at none)) refl
+
+updates_stay : (channels : List ChannelRow) (id : ℕ) (updates : List UpdateRow) → is_some (channel_of channels id) ≡ false
+    → AllByRecursion (λ row. is_some (channel_of channels row.message.short_channel_id) ≡ true) updates → updates_without updates id ≡ updates
+updates_stay channels id [] none held = refl
+updates_stay channels id (x ∷ xs) none held = by (updates_stay channels id xs none held.1) (eqb x.message.short_channel_id id) refl
+  where
+    same_id : (a b : ℕ) → eqb a b ≡ true → a ≡ b
+    same_id a b e = grind (arith, nat_tests)
+
+    by : updates_without xs id ≡ xs → (b : Bool) → eqb x.message.short_channel_id id ≡ b
+        → cond (not (eqb x.message.short_channel_id id)) (x ∷ updates_without xs id) (updates_without xs id) ≡ x ∷ xs
+    by others true is =
+        let never : true ≡ false = sym held.0 ∙ ap (λ i. is_some (channel_of channels i)) (same_id x.message.short_channel_id id is) ∙ none in absurd cc
+    by others false is = rw (is, others) refl
+
+closing-is : (rows : Rows) (id : ℕ) → AreHeld rows → Lawful.AreEnded rows → without_channel rows id ≡ closing rows id
+closing-is rows id held ended = by (is_some (channel_of rows.channels id)) refl
+  where
+    by : (b : Bool) → is_some (channel_of rows.channels id) ≡ b → (if b then closing rows id else rows) ≡ closing rows id
+    by true is = refl
+    by false is =
+        let channels = channels_stay rows.channels id is in
+        rw (channels, updates_stay rows.channels id rows.updates is held, all_ended rows.channels rows.nodes ended) refl
+
+dropping-step : (rows : Rows) (id : ℕ) (gone : ℕ → Bool) → dropping (closing rows id) gone ≡ dropping rows (λ i. eqb i id || gone i)
+dropping-step rows id gone =
+    let both : (i : ℕ) → (not (eqb i id) && not (gone i)) ≡ not (eqb i id || gone i) = λ i. neither (eqb i id) (gone i) in
+    let channels : filter (λ row. not (gone (id_of row))) (channels_without rows.channels id) ≡ filter (λ row. not (eqb (id_of row) id || gone (id_of row))) rows.channels =
+    filter-filter _ _ rows.channels ∙ filter-same _ _ (λ row. both (id_of row)) rows.channels in
+    let updates : filter (λ row. not (gone row.message.short_channel_id)) (updates_without rows.updates id) ≡ filter (λ row. not (eqb row.message.short_channel_id id || gone row.message.short_channel_id)) rows.updates =
+    filter-filter _ _ rows.updates ∙ filter-same _ _ (λ row. both row.message.short_channel_id) rows.updates in
+    let nodes = nodes-step (λ row. not (gone (id_of row))) (channels_without rows.channels id) rows.nodes ∙ ap (λ channels. ended_nodes channels rows.nodes) channels in
+    rows_same (dropping (closing rows id) gone) (dropping rows (λ i. eqb i id || gone i)) channels updates nodes refl
+  where
+    neither : (a b : Bool) → (not a && not b) ≡ not (a || b)
+    neither true b = refl
+    neither false b = refl
+
+pub closed_all-drops : (ids : List ℕ) (rows : Rows) → AreHeld rows → Lawful.AreEnded rows → closed_all rows ids ≡ dropping rows (has ids)
+closed_all-drops [] rows held ended = rows_same rows (dropping rows (λ i. false)) (sym (all_stay rows.channels)) (sym (all_stay rows.updates))
+    (sym (ap (λ channels. ended_nodes channels rows.nodes) (all_stay rows.channels) ∙ all_ended rows.channels rows.nodes ended)) refl
+closed_all-drops (id ∷ ids) rows held ended =
+    closed_all-drops ids (without_channel rows id) (AreHeld-absorbed rows (ops.Close id) held) (AreEnded-absorbed rows (ops.Close id) ended)
+    ∙ ap (λ r. dropping r (has ids)) (closing-is rows id held ended) ∙ dropping-step rows id (has ids)
+
+-- ---- the ids at points that are banned one after the other
+
+-- these are the ids of the channels that end at banned points
+abbrev pub Gathers : List ChannelRow → List Point → List ℕ → Type 0
+Gathers rows points ids = (id : ℕ) → has ids id ≡ has (map id_of (banned_channels points rows)) id
+
+pub gathers-none : (rows : List ChannelRow) (points : List Point) → AreAllowed points rows → Gathers rows points []
+gathers-none rows points allowed id = ap (λ gone. has (map id_of gone) id) (sym (none rows allowed))
+  where
+    none : (xs : List ChannelRow) → AreAllowed points xs → banned_channels points xs ≡ []
+    none [] all = refl
+    none (x ∷ xs) all = rw (all.0) (none xs all.1)
+
+-- a point that is put is there, and others are as they were
+pub is_banned-put : (points : List Point) (p x : Point) → is_banned (put by_point points p) x ≡ (is_point x p || is_banned points x)
+is_banned-put points p x = list_any-append (is_point x) (filter (λ other. is_lt (by_point other p)) points) (p ∷ filter (λ other. is_gt (by_point other p)) points) ∙ parts points
+  where
+    last : (a b c : Bool) → (a || (b || c)) ≡ (b || (a || c))
+    last true true c = refl
+    last true false c = refl
+    last false b c = refl
+
+    twice : (a b c : Bool) → (a || (b || c)) ≡ (b || (b || (a || c)))
+    twice true true c = refl
+    twice true false c = refl
+    twice false true c = refl
+    twice false false c = refl
+
+    inside : (a b c d : Bool) → (a || (b || c)) ≡ (b || d) → (a || (b || (true || c))) ≡ (b || (true || d))
+    inside true true c d is = refl
+    inside true false c d is = refl
+    inside false true c d is = refl
+    inside false false c d is = refl
+
+    again : (a b : Bool) → (a || b) ≡ (a || (a || b))
+    again true b = refl
+    again false b = refl
+
+    parts : (qs : List Point) → (is_banned (filter (λ other. is_lt (by_point other p)) qs) x || (is_point x p || is_banned (filter (λ other. is_gt (by_point other p)) qs) x)) ≡ (is_point x p || is_banned qs x)
+    parts [] = refl
+    parts (q ∷ qs) = by (parts qs) (by_point q p) refl (is_point x q) refl
+      where
+        less : List Point
+        less = filter (λ other. is_lt (by_point other p)) qs
+
+        more : List Point
+        more = filter (λ other. is_gt (by_point other p)) qs
+
+        by : (is_banned less x || (is_point x p || is_banned more x)) ≡ (is_point x p || is_banned qs x) → (o : Ordering) → by_point q p ≡ o → (b : Bool) → is_point x q ≡ b
+            → (is_banned (cond (is_lt (by_point q p)) (q ∷ less) less) x || (is_point x p || is_banned (cond (is_gt (by_point q p)) (q ∷ more) more) x)) ≡ (is_point x p || (is_point x q || is_banned qs x))
+        by others Less is true here = rw (is, here) (sym (last (is_point x p) true (is_banned qs x)))
+        by others Less is false here = rw (is, here) others
+        by others Equal is b here =
+            let own : is_point x p ≡ is_point x q = ap (is_point x) (sym (same_node q p is)) in
+            rw is (others ∙ rw own (again (is_point x q) (is_banned qs x)))
+        by others Greater is true here = rw (is, here) (inside (is_banned less x) (is_point x p) (is_banned more x) (is_banned qs x) others)
+        by others Greater is false here = rw (is, here) others
+
+pub ends_banned-put : (points : List Point) (p : Point) (row : ChannelRow) → ends_banned (put by_point points p) row ≡ (ends_banned points row || ends_at p row)
+ends_banned-put points p row =
+    rw (is_banned-put points p row.message.node_id_1, is_banned-put points p row.message.node_id_2)
+    (turned (is_point row.message.node_id_1 p) (is_banned points row.message.node_id_1) (is_point row.message.node_id_2 p) (is_banned points row.message.node_id_2))
+  where
+    turned : (a b c d : Bool) → ((a || b) || (c || d)) ≡ ((b || d) || (a || c))
+    turned true true c d = refl
+    turned true false c true = refl
+    turned true false c false = refl
+    turned false true c d = refl
+    turned false false true true = refl
+    turned false false true false = refl
+    turned false false false true = refl
+    turned false false false false = refl
+
+-- those of one point more
+pub gathers-more : (rows : List ChannelRow) (points : List Point) (ids : List ℕ) (p : Point) → Gathers rows points ids → Gathers rows (put by_point points p) (ids ++ ids_at rows p)
+gathers-more rows points ids p gathers id =
+    list_any-append (λ other. eqb id other) ids (ids_at rows p) ∙ ap (λ (b : Bool). b || has (ids_at rows p) id) (gathers id) ∙ both rows
+  where
+    or_true : (a b : Bool) → (a || (true || b)) ≡ true
+    or_true true b = refl
+    or_true false b = refl
+
+    swap : (a b c : Bool) → (a || (b || c)) ≡ (b || (a || c))
+    swap true true c = refl
+    swap true false c = refl
+    swap false b c = refl
+
+    both : (xs : List ChannelRow) → (has (map id_of (banned_channels points xs)) id || has (ids_at xs p) id) ≡ has (map id_of (banned_channels (put by_point points p) xs)) id
+    both [] = refl
+    both (x ∷ xs) = rw (ends_banned-put points p x) (by (both xs) (ends_banned points x) (ends_at p x) (eqb id (id_of x)) refl)
+      where
+        by : (has (map id_of (banned_channels points xs)) id || has (ids_at xs p) id) ≡ has (map id_of (banned_channels (put by_point points p) xs)) id
+            → (b d e : Bool) → eqb id (id_of x) ≡ e
+            → (has (map id_of (cond b (x ∷ banned_channels points xs) (banned_channels points xs))) id || has (map id_of (cond d (x ∷ filter (ends_at p) xs) (filter (ends_at p) xs))) id)
+            ≡ has (map id_of (cond (b || d) (x ∷ banned_channels (put by_point points p) xs) (banned_channels (put by_point points p) xs))) id
+        by others true true true is = rw is refl
+        by others true true false is = rw is others
+        by others true false true is = rw is refl
+        by others true false false is = rw is others
+        by others false true true is = rw is (or_true (has (map id_of (banned_channels points xs)) id) (has (ids_at xs p) id))
+        by others false true false is = rw is others
+        by others false false e is = others
+
+-- closing them all, where the points are set aside meanwhile, bans the points
+pub closed_all-gathered : (rows : Rows) (ids : List ℕ) (banned : List Point) → Gathers rows.channels banned ids → AreHeld rows → Lawful.AreEnded rows → IsStrictlySortedBy by_id rows.channels
+    → record (closed_all (record rows { banned = [] }) ids) { banned = banned } ≡ banning rows banned
+closed_all-gathered rows ids banned gathers held ended ascend =
+    let gone = map id_of (banned_channels banned rows.channels) in
+    let aside : Rows = record rows { banned = [] } in
+    let put_back : Rows = record rows { banned = banned } in
+    ap (λ (r : Rows). let back : Rows = record r { banned = banned } in back) (closed_all-drops ids aside held ended)
+    ∙ rows_same (dropping put_back (has ids)) (dropping put_back (has gone))
+    (filter-same _ _ (λ row. ap not (gathers (id_of row))) rows.channels)
+    (filter-same _ _ (λ row. ap not (gathers row.message.short_channel_id)) rows.updates)
+    (ap (λ channels. ended_nodes channels rows.nodes) (filter-same _ _ (λ row. ap not (gathers (id_of row))) rows.channels)) refl
+    ∙ sym (closed_all-drops gone put_back held ended)
+    ∙ closed_all-bans gone put_back banned refl refl ascend ended
+
+-- no channel ends at one of no points
+pub allowed-none : (rows : List ChannelRow) → AreAllowed [] rows
+allowed-none [] = tt
+allowed-none (x ∷ xs) = (refl, allowed-none xs)
+
+-- the whole of a ban
+pub banned-all : (rows start end : Rows) (aside points : List Point) (ids : List ℕ) (ban : BanRow) → IsLawful rows → aside ≡ [] → start ≡ record rows { banned = aside }
+    → ids ≡ ((ids_at rows.channels ban.held1 ++ ids_at rows.channels ban.held2) ++ ids_at rows.channels ban.new1) ++ ids_at rows.channels ban.new2
+    → end ≡ closed_all start ids → points ≡ with_banned rows.banned ban → record end { banned = points } ≡ with_ban rows ban
+banned-all rows start end aside points ids ban lawful aside_is start_is ids_are end_is points_are =
+    let gathers : Gathers rows.channels (with_banned rows.banned ban) (((ids_at rows.channels ban.held1 ++ ids_at rows.channels ban.held2) ++ ids_at rows.channels ban.new1) ++ ids_at rows.channels ban.new2) =
+    gathers-more rows.channels _ _ ban.new2 (gathers-more rows.channels _ _ ban.new1 (gathers-more rows.channels _ _ ban.held2 (gathers-more rows.channels _ [] ban.held1 (gathers-none rows.channels rows.banned lawful.allowed)))) in
+    rw (points_are, end_is, start_is, aside_is, ids_are) (closed_all-gathered rows _ (with_banned rows.banned ban) gathers lawful.held lawful.ended lawful.ascend.channels)
 
 -- ---- the set of banned points
 

@@ -1,5 +1,5 @@
 -- Channels with their updates, in one ordered map, as two ordered maps.
-use Rattle.std.proofs.Common.{◌≡◌, ℕ, Bool, true, false, cond, List, [], ◌∷◌, ◌++◌, length, map, Option, Some, None, refl, sym, ap, ◌∙◌, eqb, arith}
+use Rattle.std.proofs.Common.{◌≡◌, ℕ, Bool, true, false, cond, List, [], ◌∷◌, ◌++◌, length, Option, Some, None, refl, sym, ap, ◌∙◌, eqb, arith}
 use Rattle.std.specs.Option.{option_map, option_and_then}
 use Rattle.std.specs.List.{AllByRecursion, filter}
 use Rattle.std.specs.List.Sorted.{IsStrictlySortedBy}
@@ -10,15 +10,13 @@ use Rattle.std.specs.declared.cmp.Ordering.TheVariants.{Less, Equal, Greater}
 use Rattle.std.specs.Ordering.{is_eq, nat_cmp, match_ordering}
 use Rattle.std.proofs.lemmas.Cmp.{nat_cmp_total}
 use Rattle.std.proofs.lemmas.Bool.Decides.{nat_tests}
-use Rattle.lgm_wire.specs.declared.point.Point.{Point}
 use Rattle.lgm_check.specs.declared.row.ChannelRow.{ChannelRow}
 use Rattle.lgm_check.specs.declared.row.UpdateRow.{UpdateRow}
 use Rattle.lgm_store.specs.declared.held.Held.{Held}
 use Rattle.lgm_store.specs.Keyed.{IsKeyed}
 use Rattle.lgm_store.specs.Held.{alone, update_in, with_update_in, channel_entries, update_entry, update_entries}
-use Rattle.lgm_store.specs.Rows.{ends_banned}
-use Rattle.lgm_store.specs.History.{updates_without, banned_channels}
-use Rattle.lgm_store.specs.Sound.{direction_cmp, id_of, direction_of}
+use Rattle.lgm_store.specs.History.{updates_without}
+use Rattle.lgm_store.specs.Sound.{direction_cmp, direction_of}
 use Rattle.lgm_store.proofs.Lists.{id_test, same_id}
 use Rattle.lgm_store.proofs.Walking.{first_value}
 
@@ -332,23 +330,3 @@ keyed-without test (e ∷ es) keyed = by (keyed-without test es (keyed-rest e.0 
     by : IsKeyed direction_of (update_entries (remove_entry test es)) → (b : Bool) → IsKeyed direction_of (update_entries (cond b es (e ∷ remove_entry test es)))
     by others true = keyed-rest e.0 true e.1.second _ rest
     by others false = keyed-one e.0 false e.1.first _ _ keyed (keyed-one e.0 true e.1.second _ _ rest others)
-
--- the ids of the channels that end at banned points
-abbrev pub ids_banned : List Point → List (ℕ × Held) → List ℕ
-ids_banned banned es = map (λ e. e.0) (filter (λ e. ends_banned banned e.1.channel) es)
-
-pub ids_banned-rows : (banned : List Point) (es : List (ℕ × Held)) → IsKeyed id_of (channel_entries es)
-    → ids_banned banned es ≡ map id_of (banned_channels banned (values_of (channel_entries es)))
-ids_banned-rows banned [] keyed = refl
-ids_banned-rows banned (e ∷ es) keyed = by (ids_banned-rows banned es keyed.1) (ends_banned banned e.1.channel)
-  where
-    by : ids_banned banned es ≡ map id_of (banned_channels banned (values_of (channel_entries es)))
-        → (b : Bool) → map (λ x. x.0) (cond b (e ∷ filter (λ x. ends_banned banned x.1.channel) es) (filter (λ x. ends_banned banned x.1.channel) es))
-        ≡ map id_of (cond b (e.1.channel ∷ banned_channels banned (values_of (channel_entries es))) (banned_channels banned (values_of (channel_entries es))))
-    by others true = rw (keyed.0, others) refl
-    by others false = others
-
-pub ids_banned-past : (banned : List Point) (found all : List ℕ) (left rest : List (ℕ × Held)) (id : ℕ) (held : Held) → left ≡ (id, held) ∷ rest → ends_banned banned held.channel ≡ false
-    → found ++ ids_banned banned left ≡ all → found ++ ids_banned banned rest ≡ all
-ids_banned-past banned found all left rest id held first here parts =
-    ap (λ (ids : List ℕ). found ++ ids) (sym (ap (ids_banned banned) first ∙ rw here refl)) ∙ parts

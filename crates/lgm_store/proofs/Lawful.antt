@@ -21,7 +21,7 @@ use Rattle.lgm_store.proofs.Soundness.{AreEnded-ended_nodes}
 
 -- ---- rows that are put, and rows that a filter keeps
 
-All-filtered : {R : Type 0} (P Q : R → Type 0) (p : R → Bool) (rows : List R) → ((x : R) → p x ≡ true → P x → Q x) → AllByRecursion P rows → AllByRecursion Q (filter p rows)
+pub All-filtered : {R : Type 0} (P Q : R → Type 0) (p : R → Bool) (rows : List R) → ((x : R) → p x ≡ true → P x → Q x) → AllByRecursion P rows → AllByRecursion Q (filter p rows)
 All-filtered {R} P Q p [] give all = tt
 All-filtered {R} P Q p (x ∷ xs) give all = by (All-filtered P Q p xs give all.1) (p x) refl
   where
@@ -37,7 +37,7 @@ All-joined : {R : Type 0} (P : R → Type 0) (xs ys : List R) → AllByRecursion
 All-joined {R} P [] ys all all' = all'
 All-joined {R} P (x ∷ xs) ys all all' = (all.0, All-joined P xs ys all.1 all')
 
-All-put : {R : Type 0} (P : R → Type 0) (order : R → R → Ordering) (rows : List R) (row : R) → P row → AllByRecursion P rows → AllByRecursion P (put order rows row)
+pub All-put : {R : Type 0} (P : R → Type 0) (order : R → R → Ordering) (rows : List R) (row : R) → P row → AllByRecursion P rows → AllByRecursion P (put order rows row)
 All-put {R} P order rows row here all =
     All-joined P _ _ (All-filtered P P _ rows (λ x is p. p) all) (here, All-filtered P P _ rows (λ x is p. p) all)
 
@@ -251,7 +251,5 @@ fold-lawful history = record {
   ascend = fold-ascends history;
   held = fold_from-keeps AreHeld AreHeld-absorbed empty history tt;
   ended = fold_from-keeps AreEnded AreEnded-absorbed empty history tt;
+  allowed = fold_from-keeps AreAllowed AreAllowed-absorbed empty history tt;
 }
-
-pub fold-allowed : (history : List Op) → AreAllowed (fold history)
-fold-allowed history = fold_from-keeps AreAllowed AreAllowed-absorbed empty history tt

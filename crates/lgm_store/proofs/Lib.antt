@@ -1,5 +1,6 @@
 pub mod Ordered
-pub mod Counting
+pub mod Points
+pub mod Listing
 pub mod Lists
 pub mod Holding
 pub mod Soundness
@@ -10,3 +11,5 @@ pub mod Ascending
 pub mod Bans
 pub mod HeldRows
 pub mod Lawful
+pub mod Kept
+pub mod Verdicts

@@ -22,7 +22,7 @@ use Rattle.lgm_store.specs.History.{channels_without}
 use Rattle.lgm_store.specs.Ends.{point_cmp}
 use Rattle.lgm_store.specs.Sound.{direction_cmp, id_of, direction_of, point_of}
 use Rattle.lgm_store.proofs.Ordered.{lookup-find, values-insert, values-remove, IsKeyed-insert, find-same, filter-same}
-use Rattle.lgm_store.proofs.Counting.{is_at-point}
+use Rattle.lgm_store.proofs.Points.{is_at-point}
 
 -- ---- channels
 

@@ -1,17 +1,15 @@
 -- What operations leave of the maps that keep rows.
-use Rattle.std.proofs.Common.{◌≡◌, ℕ, suc, zero, ◌+◌, ◌-◌, ◌<◌, ◌^◌, Bool, true, false, ◌&&◌, ◌||◌, cond, List, [], ◌∷◌, ◌++◌, Some, None, length, refl, sym, ap, ◌∙◌, arith}
-use Rattle.std.specs.Prelude.{count_by, unwrap_or, is_some, if◌then◌else◌}
+use Rattle.std.proofs.Common.{◌≡◌, ℕ, Bool, true, false, ◌&&◌, ◌||◌, cond, List, [], ◌∷◌, ◌++◌, map, Some, None, refl, sym, ap, ◌∙◌}
+use Rattle.std.specs.Prelude.{is_some, if◌then◌else◌}
 use Rattle.std.specs.Option.{option_map}
-use Rattle.std.specs.List.{AllByRecursion, filter, list_any, sum_by}
+use Rattle.std.specs.List.{AllByRecursion, filter, list_any}
 use Rattle.std.specs.List.Sorted.{IsStrictlySortedBy}
 use Rattle.std.specs.Map.{lookup, remove_entry, set_value, keys_of, values_of}
 use Rattle.std.specs.BTreeMap.{is_at, insert_entry}
-use Rattle.std.specs.Ordering.{nat_cmp}
+use Rattle.std.specs.declared.cmp.Ordering.{Ordering}
+use Rattle.std.specs.declared.cmp.Ordering.TheVariants.{Less, Equal, Greater}
+use Rattle.std.specs.Ordering.{is_eq, nat_cmp, match_ordering}
 use Rattle.std.proofs.lemmas.Cmp.{nat_cmp_total}
-use Rattle.std.proofs.lemmas.List.Sums.{sum_by-cons, count_by-le-length}
-use Rattle.std.proofs.lemmas.Map.Entries.{sum_by-insert_entry, sum_by-remove_entry, length-values_of}
-use Rattle.std.proofs.Math.Nat.{zero-add, suc-add, add-sub_cancel}
-use Rattle.std.proofs.Math.Numerals.{one-add}
 use Rattle.lgm_wire.specs.declared.point.Point.{Point}
 use Rattle.lgm_check.specs.declared.row.ChannelRow.{ChannelRow}
 use Rattle.lgm_check.specs.declared.row.UpdateRow.{UpdateRow}
@@ -21,43 +19,33 @@ use Rattle.lgm_store.specs.Keyed.{IsKeyed}
 use Rattle.lgm_store.specs.Held.{alone, with_update_in, channel_entries, update_entries}
 use Rattle.lgm_store.specs.Rows.{is_point, ends_at, ends_channel}
 use Rattle.lgm_store.specs.History.{channels_without, updates_without, ended_nodes}
-use Rattle.lgm_store.specs.Ends.{point_cmp, channel_count, entry_of, kept, Counts, number_at, stays_beside}
+use Rattle.lgm_store.specs.Reading.{ids_at}
+use Rattle.lgm_store.specs.Ends.{point_cmp, entry_of, kept, with_id, without_id, changed, Lists, Lacks, stays_beside}
 use Rattle.lgm_store.specs.Sound.{direction_cmp, IsSound, AreEnded, id_of, direction_of, point_of}
-use Rattle.lgm_store.proofs.Counting.{either, number_at-counts, same_point}
+use Rattle.lgm_store.proofs.Points.{same_point}
+use Rattle.lgm_store.proofs.Listing.{kept-with, without-with}
 use Rattle.lgm_store.proofs.Lists.{IsKeyed-channel, IsKeyed-update, IsKeyed-node, values-node, values-no_channel}
 use Rattle.lgm_store.proofs.Holding.{keys-channels, lookup-channels, insert-channels, remove-channels, set-channels, channel-with, ascend-updates, set-updates, insert-updates, values-without, keyed-without}
 use Rattle.lgm_store.proofs.Ordered.{IsKeyed-remove, filter-alike, filter-filter}
 
--- ---- the count tells whether a channel ends at a node
+-- ---- the index tells whether a channel ends at a node
 
-pub count_by-cons : {X : Type 0} (p : X → Bool) (x : X) (xs : List X) → count_by p (x ∷ xs) ≡ cond (p x) 1 0 + count_by p xs
-count_by-cons p x xs = sum_by-cons (λ y. cond (p y) 1 0) x xs
-
-pub is_some-kept : {X : Type 0} (p : X → Bool) (xs : List X) → is_some (kept (count_by p xs)) ≡ list_any p xs
-is_some-kept p [] = refl
-is_some-kept p (x ∷ xs) = ap (λ n. is_some (kept n)) (count_by-cons p x xs) ∙ by (is_some-kept p xs) (p x)
+pub is_some-kept : {X : Type 0} (f : X → ℕ) (p : X → Bool) (xs : List X) → is_some (kept (map f (filter p xs))) ≡ list_any p xs
+is_some-kept f p [] = refl
+is_some-kept f p (x ∷ xs) = by (is_some-kept f p xs) (p x)
   where
-    by : is_some (kept (count_by p xs)) ≡ list_any p xs → (b : Bool) → is_some (kept (cond b 1 0 + count_by p xs)) ≡ (b || list_any p xs)
-    by others true = rw (one-add (count_by p xs)) refl
-    by others false = ap (λ n. is_some (kept n)) (zero-add (count_by p xs)) ∙ others
+    by : is_some (kept (map f (filter p xs))) ≡ list_any p xs → (b : Bool) → is_some (kept (map f (cond b (x ∷ filter p xs) (filter p xs)))) ≡ (b || list_any p xs)
+    by others true = refl
+    by others false = others
 
 -- an index tells it
-pub ends-counted : (ends : List (Point × ℕ)) (channels : List ChannelRow) (node : Point) → Counts ends (channel_count channels)
+pub ends-listed : (ends : List (Point × List ℕ)) (channels : List ChannelRow) (node : Point) → Lists ends (ids_at channels)
     → is_some (entry_of ends node) ≡ ends_channel channels node
-ends-counted ends channels node counted = ap is_some (counted node) ∙ is_some-kept (ends_at node) channels
-
--- a count is no more than the rows
-pub number_at-bound : (ends : List (Point × ℕ)) (entries : List (ℕ × ChannelRow)) (node : Point) → Counts ends (channel_count (values_of entries))
-    → length entries < 2 ^ 63 → number_at ends node + 1 < 2 ^ 64
-number_at-bound ends entries node counted small =
-    let is = number_at-counts ends (channel_count (values_of entries)) node counted in
-    let le = count_by-le-length (ends_at node) (values_of entries) in
-    let same : length (values_of entries) ≡ length entries = length-values_of entries in
-    omega arith
+ends-listed ends channels node listed = ap is_some (listed node) ∙ is_some-kept id_of (ends_at node) channels
 
 -- ---- no rows
 
-pub IsSound-empty : (held : List (ℕ × Held)) (nodes : List (Point × NodeRow)) (ends : List (Point × ℕ)) → held ≡ [] → nodes ≡ [] → ends ≡ []
+pub IsSound-empty : (held : List (ℕ × Held)) (nodes : List (Point × NodeRow)) (ends : List (Point × List ℕ)) → held ≡ [] → nodes ≡ [] → ends ≡ []
     → IsSound (channel_entries held) (update_entries held) nodes ends
 unfolding IsStrictlySortedBy
 IsSound-empty held nodes ends h n e =
@@ -69,24 +57,70 @@ IsSound-empty held nodes ends h n e =
       updates_ascend = tt;
       nodes_ascend = tt;
       nodes_ended = tt;
-      counted = λ _. refl;
+      listed = λ _. refl;
     })
 
 -- ---- a channel more
 
--- whether a row ends at a node, as a number
-abbrev pub ends_of : ChannelRow → Point → ℕ
-ends_of row node = if ends_at node row then 1 else 0
+-- ids above an id
+ids_above : (id : ℕ) (entries : List (ℕ × ChannelRow)) (node : Point) → IsKeyed id_of entries → AllByRecursion (λ k. nat_cmp id k ≡ Less) (keys_of entries)
+    → AllByRecursion (λ k. nat_cmp id k ≡ Less) (ids_at (values_of entries) node)
+ids_above id [] node keyed above = tt
+ids_above id (e ∷ es) node keyed above = by (ids_above id es node keyed.1 above.1) (ends_at node e.1)
+  where
+    by : AllByRecursion (λ k. nat_cmp id k ≡ Less) (ids_at (values_of es) node)
+        → (b : Bool) → AllByRecursion (λ k. nat_cmp id k ≡ Less) (map id_of (cond b (e.1 ∷ filter (ends_at node) (values_of es)) (filter (ends_at node) (values_of es))))
+    by others true = (ap (nat_cmp id) (sym keyed.0) ∙ above.0, others)
+    by others false = others
 
-channel_count-insert : (entries new : List (ℕ × ChannelRow)) (id : ℕ) (row : ChannelRow) → new ≡ insert_entry nat_cmp entries id row
-    → lookup (is_at (nat_cmp id)) entries ≡ None → IsStrictlySortedBy nat_cmp (keys_of entries)
-    → (node : Point) → channel_count (values_of new) node ≡ channel_count (values_of entries) node + ends_of row node
-channel_count-insert entries new id row is none sorted node =
-    let f : ChannelRow → ℕ = λ r. cond (ends_at node r) 1 0 in
-    let sum = sum_by-insert_entry f nat_cmp_total entries id row sorted in
-    let old_f : unwrap_or (option_map f (lookup (is_at (nat_cmp id)) entries)) 0 ≡ 0 = ap (λ o. unwrap_or (option_map f o) 0) none in
-    let new_is : channel_count (values_of new) node ≡ sum_by f (values_of (insert_entry nat_cmp entries id row)) = ap (λ es. sum_by f (values_of es)) is in
-    omega (arith, sum, old_f, new_is)
+-- ids above a lesser one
+ids_below : (id other : ℕ) (ids : List ℕ) → nat_cmp id other ≡ Less → AllByRecursion (λ k. nat_cmp other k ≡ Less) ids → AllByRecursion (λ k. nat_cmp id k ≡ Less) ids
+ids_below id other [] less above = tt
+ids_below id other (x ∷ xs) less above = (nat_cmp_total.trans id other x less above.0, ids_below id other xs less above.1)
+
+-- an id below them comes first
+with_id-first : (id : ℕ) (ids : List ℕ) → AllByRecursion (λ k. nat_cmp id k ≡ Less) ids → with_id ids id ≡ id ∷ ids
+with_id-first id [] above = refl
+with_id-first id (x ∷ xs) above = rw above.0 refl
+
+-- the ids at a node, where a channel comes in
+ids_at-insert : (id : ℕ) (row : ChannelRow) (node : Point) (entries : List (ℕ × ChannelRow)) → id ≡ id_of row → IsKeyed id_of entries → IsStrictlySortedBy nat_cmp (keys_of entries)
+    → lookup (is_at (nat_cmp id)) entries ≡ None
+    → ids_at (values_of (insert_entry nat_cmp entries id row)) node ≡ cond (ends_at node row) (with_id (ids_at (values_of entries) node) id) (ids_at (values_of entries) node)
+unfolding IsStrictlySortedBy
+ids_at-insert id row node [] own keyed sorted none = by (ends_at node row)
+  where
+    by : (b : Bool) → map id_of (cond b (row ∷ []) []) ≡ cond b (id ∷ []) []
+    by true = rw own refl
+    by false = refl
+ids_at-insert id row node (e ∷ es) own keyed sorted none = by (ids_at-insert id row node es own keyed.1 sorted.1) (nat_cmp id e.0) refl none
+  where
+    others : List ℕ
+    others = ids_at (values_of es) node
+
+    whole : List ℕ
+    whole = ids_at (values_of (e ∷ es)) node
+
+    first : (b : Bool) → with_id whole id ≡ id ∷ whole → map id_of (cond b (row ∷ filter (ends_at node) (values_of (e ∷ es))) (filter (ends_at node) (values_of (e ∷ es)))) ≡ cond b (with_id whole id) whole
+    first true is = rw (is, ← own) refl
+    first false is = refl
+
+    later : nat_cmp id (id_of e.1) ≡ Greater → (b d : Bool) → ids_at (values_of (insert_entry nat_cmp es id row)) node ≡ cond b (with_id others id) others
+        → map id_of (cond d (e.1 ∷ filter (ends_at node) (values_of (insert_entry nat_cmp es id row))) (filter (ends_at node) (values_of (insert_entry nat_cmp es id row))))
+        ≡ cond b (with_id (map id_of (cond d (e.1 ∷ filter (ends_at node) (values_of es)) (filter (ends_at node) (values_of es)))) id)
+        (map id_of (cond d (e.1 ∷ filter (ends_at node) (values_of es)) (filter (ends_at node) (values_of es))))
+    later past true true is = rw (past, is) refl
+    later past true false is = is
+    later past false true is = rw is refl
+    later past false false is = is
+
+    by : (lookup (is_at (nat_cmp id)) es ≡ None → ids_at (values_of (insert_entry nat_cmp es id row)) node ≡ cond (ends_at node row) (with_id others id) others)
+        → (o : Ordering) → nat_cmp id e.0 ≡ o → cond (is_eq (nat_cmp id e.0)) (Some e.1) (lookup (is_at (nat_cmp id)) es) ≡ None
+        → ids_at (values_of (match_ordering (nat_cmp id e.0) ((id, row) ∷ e ∷ es) ((e.0, row) ∷ es) (e ∷ insert_entry nat_cmp es id row))) node ≡ cond (ends_at node row) (with_id whole id) whole
+    by rest Less is none =
+        rw is (first (ends_at node row) (with_id-first id whole (ids_above id (e ∷ es) node keyed (is, ids_below id e.0 (keys_of es) is sorted.0))))
+    by rest Equal is none = let never : Some e.1 ≡ None = rw is at none in absurd cc
+    by rest Greater is none = rw is (later (ap (nat_cmp id) (sym keyed.0) ∙ is) (ends_at node row) (ends_at node e.1) (rest (rw is at none)))
 
 -- nodes at which channels end, where no channel goes
 AreEnded-more : (channels new : List ChannelRow) (nodes : List NodeRow) → ((node : Point) → ends_channel channels node ≡ true → ends_channel new node ≡ true)
@@ -94,23 +128,24 @@ AreEnded-more : (channels new : List ChannelRow) (nodes : List NodeRow) → ((no
 AreEnded-more channels new [] more ended = tt
 AreEnded-more channels new (row ∷ rows) more ended = (more row.message.node_id ended.0, AreEnded-more channels new rows more ended.1)
 
-ends_channel-more : (channels new : List ChannelRow) (node : Point) (n : ℕ) → channel_count new node ≡ channel_count channels node + n
+ends_channel-more : (id : ℕ) (channels new : List ChannelRow) (node : Point) (b : Bool) → ids_at new node ≡ cond b (with_id (ids_at channels node) id) (ids_at channels node)
     → ends_channel channels node ≡ true → ends_channel new node ≡ true
-ends_channel-more channels new node n is ends =
-    sym (is_some-kept (ends_at node) new) ∙ ap (λ k. is_some (kept k)) is
-    ∙ more (channel_count channels node) (is_some-kept (ends_at node) channels ∙ ends)
+ends_channel-more id channels new node b is ends =
+    sym (is_some-kept id_of (ends_at node) new) ∙ ap (λ ids. is_some (kept ids)) is
+    ∙ more b (is_some-kept id_of (ends_at node) channels ∙ ends)
   where
-    more : (k : ℕ) → is_some (kept k) ≡ true → is_some (kept (k + n)) ≡ true
-    more zero e = absurd cc
-    more (suc k) e = rw (suc-add k n) refl
+    more : (b : Bool) → is_some (kept (ids_at channels node)) ≡ true → is_some (kept (cond b (with_id (ids_at channels node) id) (ids_at channels node))) ≡ true
+    more true e = rw (kept-with (ids_at channels node) id) refl
+    more false e = e
 
-pub IsSound-channel : (channels new : List (ℕ × ChannelRow)) (updates : List ((ℕ × Bool) × UpdateRow)) (nodes : List (Point × NodeRow)) (ends ends' : List (Point × ℕ))
+pub IsSound-channel : (channels new : List (ℕ × ChannelRow)) (updates : List ((ℕ × Bool) × UpdateRow)) (nodes : List (Point × NodeRow)) (ends ends' : List (Point × List ℕ))
     → (id : ℕ) (row : ChannelRow) (first second : Point) → id ≡ id_of row → first ≡ row.message.node_id_1 → second ≡ row.message.node_id_2
     → new ≡ insert_entry nat_cmp channels id row → lookup (is_at (nat_cmp id)) channels ≡ None → IsStrictlySortedBy nat_cmp (keys_of new)
-    → ((number : Point → ℕ) → Counts ends number → Counts ends' (λ q. number q + either first second q))
+    → ((ids : Point → List ℕ) → Lists ends ids → Lists ends' (changed (λ list. with_id list id) ids first second))
     → IsSound channels updates nodes ends → IsSound new updates nodes ends'
 IsSound-channel channels new updates nodes ends ends' id row first second own first_is second_is is none ascend adds sound =
-    let counts = channel_count-insert channels new id row is none sound.channels_ascend in
+    let ids : (node : Point) → ids_at (values_of new) node ≡ cond (ends_at node row) (with_id (ids_at (values_of channels) node) id) (ids_at (values_of channels) node) =
+    λ node. rw is (ids_at-insert id row node channels own sound.channels_keyed sound.channels_ascend none) in
     record {
       channels_keyed = IsKeyed-channel channels new id row own is sound.channels_keyed;
       updates_keyed = sound.updates_keyed;
@@ -118,17 +153,17 @@ IsSound-channel channels new updates nodes ends ends' id row first second own fi
       channels_ascend = ascend;
       updates_ascend = sound.updates_ascend;
       nodes_ascend = sound.nodes_ascend;
-      nodes_ended = AreEnded-more (values_of channels) (values_of new) (values_of nodes) (λ node. ends_channel-more (values_of channels) (values_of new) node (ends_of row node) (counts node)) sound.nodes_ended;
-      counted = λ node.
-          adds (channel_count (values_of channels)) sound.counted node
-          ∙ ap kept (rw (first_is, second_is) refl ∙ sym (counts node));
+      nodes_ended = AreEnded-more (values_of channels) (values_of new) (values_of nodes) (λ node. ends_channel-more id (values_of channels) (values_of new) node (ends_at node row) (ids node)) sound.nodes_ended;
+      listed = λ node.
+          adds (ids_at (values_of channels)) sound.listed node
+          ∙ ap kept (rw (first_is, second_is) refl ∙ sym (ids node));
     }
 
 -- the same of channels with their updates
-pub IsSound-held : (held new : List (ℕ × Held)) (nodes : List (Point × NodeRow)) (ends ends' : List (Point × ℕ))
+pub IsSound-held : (held new : List (ℕ × Held)) (nodes : List (Point × NodeRow)) (ends ends' : List (Point × List ℕ))
     → (id : ℕ) (row : ChannelRow) (first second : Point) → id ≡ id_of row → first ≡ row.message.node_id_1 → second ≡ row.message.node_id_2
     → new ≡ insert_entry nat_cmp held id (alone row) → lookup (is_at (nat_cmp id)) held ≡ None → IsStrictlySortedBy nat_cmp (keys_of new)
-    → ((number : Point → ℕ) → Counts ends number → Counts ends' (λ q. number q + either first second q))
+    → ((ids : Point → List ℕ) → Lists ends ids → Lists ends' (changed (λ list. with_id list id) ids first second))
     → IsSound (channel_entries held) (update_entries held) nodes ends → IsSound (channel_entries new) (update_entries new) nodes ends'
 IsSound-held held new nodes ends ends' id row first second own first_is second_is is none ascend adds sound =
     let channels_is : channel_entries new ≡ insert_entry nat_cmp (channel_entries held) id row = ap channel_entries is ∙ insert-channels id (alone row) held in
@@ -137,13 +172,26 @@ IsSound-held held new nodes ends ends' id row first second own first_is second_i
     let ascend' : IsStrictlySortedBy nat_cmp (keys_of (channel_entries new)) = rw (keys-channels new) ascend in
     rw updates_is (IsSound-channel (channel_entries held) (channel_entries new) (update_entries held) nodes ends ends' id row first second own first_is second_is channels_is none' ascend' adds sound)
 
--- the count of a channel that didn't come in after all
-pub IsSound-undone : (held new : List (ℕ × Held)) (nodes : List (Point × NodeRow)) (ends mid ends' : List (Point × ℕ))
-    → (first second : Point) → new ≡ held
-    → ((number : Point → ℕ) → Counts ends number → Counts mid (λ q. number q + either first second q))
-    → ((number : Point → ℕ) → Counts mid number → Counts ends' (λ q. number q - either first second q))
+-- an id that isn't there is on no list
+pub lacks : (id : ℕ) (entries : List (ℕ × ChannelRow)) → IsKeyed id_of entries → lookup (is_at (nat_cmp id)) entries ≡ None → Lacks (ids_at (values_of entries)) id
+lacks id [] keyed none node = refl
+lacks id (e ∷ es) keyed none node = by (λ none. lacks id es keyed.1 none node) (is_at (nat_cmp id) e.0) refl (ends_at node e.1) none
+  where
+    by : (lookup (is_at (nat_cmp id)) es ≡ None → list_any (is_at (nat_cmp id)) (ids_at (values_of es) node) ≡ false) → (t : Bool) → is_at (nat_cmp id) e.0 ≡ t → (b : Bool) → cond (is_at (nat_cmp id) e.0) (Some e.1) (lookup (is_at (nat_cmp id)) es) ≡ None
+        → list_any (is_at (nat_cmp id)) (map id_of (cond b (e.1 ∷ filter (ends_at node) (values_of es)) (filter (ends_at node) (values_of es)))) ≡ false
+    by rest true is b none = let never : Some e.1 ≡ None = rw is at none in absurd cc
+    by rest false is true none = rw (← keyed.0, is) (rest (rw is at none))
+    by rest false is false none = rest (rw is at none)
+
+-- the lists, where a channel didn't come in after all
+pub IsSound-undone : (held new : List (ℕ × Held)) (nodes : List (Point × NodeRow)) (ends mid ends' : List (Point × List ℕ))
+    → (id : ℕ) (first second : Point) → new ≡ held → lookup (is_at (nat_cmp id)) held ≡ None
+    → ((ids : Point → List ℕ) → Lists ends ids → Lists mid (changed (λ list. with_id list id) ids first second))
+    → ((ids : Point → List ℕ) → Lists mid ids → Lists ends' (changed (λ list. without_id list id) ids first second))
     → IsSound (channel_entries held) (update_entries held) nodes ends → IsSound (channel_entries new) (update_entries new) nodes ends'
-IsSound-undone held new nodes ends mid ends' first second is adds removes sound =
+IsSound-undone held new nodes ends mid ends' id first second is none adds removes sound =
+    let ids : Point → List ℕ = ids_at (values_of (channel_entries held)) in
+    let lacking = lacks id (channel_entries held) sound.channels_keyed (lookup-channels (is_at (nat_cmp id)) held ∙ ap (option_map (λ h. h.channel)) none) in
     rw is (record {
       channels_keyed = sound.channels_keyed;
       updates_keyed = sound.updates_keyed;
@@ -152,15 +200,21 @@ IsSound-undone held new nodes ends mid ends' first second is adds removes sound 
       updates_ascend = sound.updates_ascend;
       nodes_ascend = sound.nodes_ascend;
       nodes_ended = sound.nodes_ended;
-      counted = λ node.
-          removes (λ q. channel_count (values_of (channel_entries held)) q + either first second q) (adds (channel_count (values_of (channel_entries held))) sound.counted) node
-          ∙ ap kept (add-sub_cancel (channel_count (values_of (channel_entries held)) node) (either first second node));
+      listed = λ node.
+          removes (changed (λ list. with_id list id) ids first second) (adds ids sound.listed) node
+          ∙ ap kept (back node (is_point first node || is_point second node) (lacking node));
     })
+  where
+    back : (node : Point) (b : Bool) → list_any (is_at (nat_cmp id)) (ids_at (values_of (channel_entries held)) node) ≡ false
+        → (if b then without_id (if b then with_id (ids_at (values_of (channel_entries held)) node) id else ids_at (values_of (channel_entries held)) node) id
+        else if b then with_id (ids_at (values_of (channel_entries held)) node) id else ids_at (values_of (channel_entries held)) node) ≡ ids_at (values_of (channel_entries held)) node
+    back node true lacking = without-with (ids_at (values_of (channel_entries held)) node) id lacking
+    back node false lacking = refl
 
--- the counts of another index
-pub IsSound-counted : (channels : List (ℕ × ChannelRow)) (updates : List ((ℕ × Bool) × UpdateRow)) (nodes : List (Point × NodeRow)) (ends ends' : List (Point × ℕ))
-    → Counts ends' (channel_count (values_of channels)) → IsSound channels updates nodes ends → IsSound channels updates nodes ends'
-IsSound-counted channels updates nodes ends ends' counted sound =
+-- the lists of another index
+pub IsSound-listed : (channels : List (ℕ × ChannelRow)) (updates : List ((ℕ × Bool) × UpdateRow)) (nodes : List (Point × NodeRow)) (ends ends' : List (Point × List ℕ))
+    → Lists ends' (ids_at (values_of channels)) → IsSound channels updates nodes ends → IsSound channels updates nodes ends'
+IsSound-listed channels updates nodes ends ends' listed sound =
     record {
       channels_keyed = sound.channels_keyed;
       updates_keyed = sound.updates_keyed;
@@ -169,7 +223,7 @@ IsSound-counted channels updates nodes ends ends' counted sound =
       updates_ascend = sound.updates_ascend;
       nodes_ascend = sound.nodes_ascend;
       nodes_ended = sound.nodes_ended;
-      counted = counted;
+      listed = listed;
     }
 
 -- ---- a node more
@@ -186,7 +240,7 @@ AreEnded-filter channels p (x ∷ xs) ended = by (AreEnded-filter channels p xs 
     by others true = (ended.0, others)
     by others false = others
 
-pub IsSound-node : (channels : List (ℕ × ChannelRow)) (updates : List ((ℕ × Bool) × UpdateRow)) (nodes new : List (Point × NodeRow)) (ends : List (Point × ℕ))
+pub IsSound-node : (channels : List (ℕ × ChannelRow)) (updates : List ((ℕ × Bool) × UpdateRow)) (nodes new : List (Point × NodeRow)) (ends : List (Point × List ℕ))
     → (k : Point) (row : NodeRow) → k ≡ point_of row → new ≡ insert_entry point_cmp nodes k row → IsStrictlySortedBy point_cmp (keys_of new)
     → ends_channel (values_of channels) (point_of row) ≡ true → IsSound channels updates nodes ends → IsSound channels updates new ends
 IsSound-node channels updates nodes new ends k row own is ascend ended sound =
@@ -201,12 +255,12 @@ IsSound-node channels updates nodes new ends k row own is ascend ended sound =
       nodes_ascend = ascend;
       nodes_ended = rw put_is (AreEnded-append (values_of channels) _ _ (AreEnded-filter (values_of channels) _ (values_of nodes) others)
           (ended, AreEnded-filter (values_of channels) _ (values_of nodes) others));
-      counted = sound.counted;
+      listed = sound.listed;
     }
 
 -- ---- an update more
 
-pub IsSound-update : (channels : List (ℕ × ChannelRow)) (updates new : List ((ℕ × Bool) × UpdateRow)) (nodes : List (Point × NodeRow)) (ends : List (Point × ℕ))
+pub IsSound-update : (channels : List (ℕ × ChannelRow)) (updates new : List ((ℕ × Bool) × UpdateRow)) (nodes : List (Point × NodeRow)) (ends : List (Point × List ℕ))
     → (k : ℕ × Bool) (row : UpdateRow) → k ≡ direction_of row → new ≡ insert_entry direction_cmp updates k row → IsStrictlySortedBy direction_cmp (keys_of new)
     → IsSound channels updates nodes ends → IsSound channels new nodes ends
 IsSound-update channels updates new nodes ends k row own is ascend sound =
@@ -218,11 +272,11 @@ IsSound-update channels updates new nodes ends k row own is ascend sound =
       updates_ascend = ascend;
       nodes_ascend = sound.nodes_ascend;
       nodes_ended = sound.nodes_ended;
-      counted = sound.counted;
+      listed = sound.listed;
     }
 
 -- the same of channels with their updates
-pub IsSound-put : (held new : List (ℕ × Held)) (nodes : List (Point × NodeRow)) (ends : List (Point × ℕ)) (id : ℕ) (second : Bool) (row : UpdateRow) (old : Held)
+pub IsSound-put : (held new : List (ℕ × Held)) (nodes : List (Point × NodeRow)) (ends : List (Point × List ℕ)) (id : ℕ) (second : Bool) (row : UpdateRow) (old : Held)
     → (id, second) ≡ direction_of row → lookup (is_at (nat_cmp id)) held ≡ Some old → new ≡ set_value (is_at (nat_cmp id)) held (with_update_in second old row)
     → IsStrictlySortedBy nat_cmp (keys_of held) → IsStrictlySortedBy nat_cmp (keys_of new)
     → IsSound (channel_entries held) (update_entries held) nodes ends → IsSound (channel_entries new) (update_entries new) nodes ends
@@ -233,23 +287,44 @@ IsSound-put held new nodes ends id second row old own found is ascend ascend' so
 
 -- ---- a channel less
 
-channel_count-remove : (entries new : List (ℕ × ChannelRow)) (id : ℕ) (row : ChannelRow) → new ≡ remove_entry (is_at (nat_cmp id)) entries
-    → lookup (is_at (nat_cmp id)) entries ≡ Some row
-    → (node : Point) → channel_count (values_of new) node + ends_of row node ≡ channel_count (values_of entries) node
-channel_count-remove entries new id row is found node =
-    let f : ChannelRow → ℕ = λ r. cond (ends_at node r) 1 0 in
-    let sum = sum_by-remove_entry f (is_at (nat_cmp id)) entries in
-    let row_f : unwrap_or (option_map f (lookup (is_at (nat_cmp id)) entries)) 0 ≡ f row = ap (λ o. unwrap_or (option_map f o) 0) found in
-    let new_is : channel_count (values_of new) node ≡ sum_by f (values_of (remove_entry (is_at (nat_cmp id)) entries)) = ap (λ es. sum_by f (values_of es)) is in
-    omega (arith, sum, row_f, new_is)
+-- the ids at a node, where a channel goes
+ids_at-remove : (id : ℕ) (row : ChannelRow) (node : Point) (entries : List (ℕ × ChannelRow)) → IsKeyed id_of entries → lookup (is_at (nat_cmp id)) entries ≡ Some row
+    → ids_at (values_of (remove_entry (is_at (nat_cmp id)) entries)) node ≡ cond (ends_at node row) (without_id (ids_at (values_of entries) node) id) (ids_at (values_of entries) node)
+ids_at-remove id row node [] keyed found = absurd cc
+ids_at-remove id row node (e ∷ es) keyed found = by (ids_at-remove id row node es keyed.1) (is_at (nat_cmp id) e.0) refl found
+  where
+    others : List ChannelRow
+    others = filter (ends_at node) (values_of es)
+
+    here : is_at (nat_cmp id) (id_of e.1) ≡ true → (b : Bool) → map id_of others ≡ cond b (without_id (map id_of (cond b (e.1 ∷ others) others)) id) (map id_of (cond b (e.1 ∷ others) others))
+    here is true = rw is refl
+    here is false = refl
+
+    later : is_at (nat_cmp id) (id_of e.1) ≡ false → (left : List ChannelRow) (b d : Bool) → map id_of left ≡ cond b (without_id (map id_of others) id) (map id_of others)
+        → map id_of (cond d (e.1 ∷ left) left) ≡ cond b (without_id (map id_of (cond d (e.1 ∷ others) others)) id) (map id_of (cond d (e.1 ∷ others) others))
+    later past left true true is = rw (past, is) refl
+    later past left true false is = is
+    later past left false true is = rw is refl
+    later past left false false is = is
+
+    by : (lookup (is_at (nat_cmp id)) es ≡ Some row → ids_at (values_of (remove_entry (is_at (nat_cmp id)) es)) node ≡ cond (ends_at node row) (without_id (map id_of others) id) (map id_of others))
+        → (t : Bool) → is_at (nat_cmp id) e.0 ≡ t → cond (is_at (nat_cmp id) e.0) (Some e.1) (lookup (is_at (nat_cmp id)) es) ≡ Some row
+        → ids_at (values_of (cond (is_at (nat_cmp id) e.0) es (e ∷ remove_entry (is_at (nat_cmp id)) es))) node
+        ≡ cond (ends_at node row) (without_id (ids_at (values_of (e ∷ es)) node) id) (ids_at (values_of (e ∷ es)) node)
+    by rest true is found =
+        let same : Some e.1 ≡ Some row = rw is at found in
+        let row_is : e.1 ≡ row = cc in
+        rw (is, ← row_is) (here (ap (is_at (nat_cmp id)) (sym keyed.0) ∙ is) (ends_at node e.1))
+    by rest false is found =
+        rw is (later (ap (is_at (nat_cmp id)) (sym keyed.0) ∙ is) (filter (ends_at node) (values_of (remove_entry (is_at (nat_cmp id)) es))) (ends_at node row) (ends_at node e.1) (rest (rw is at found)))
 
 -- a node at which a channel ended: it stays unless it was an end of the channel that went and is in the index no more
-stays : (channels : List ChannelRow) (new : List ChannelRow) (ends : List (Point × ℕ)) (first second : Point) (row : NodeRow)
-    → ((node : Point) → channel_count new node + either first second node ≡ channel_count channels node)
+stays : (channels : List ChannelRow) (new : List ChannelRow) (ends : List (Point × List ℕ)) (first second : Point) (row : NodeRow)
+    → ((node : Point) → (is_point first node || is_point second node) ≡ false → ids_at new node ≡ ids_at channels node)
     → ((node : Point) → is_some (entry_of ends node) ≡ ends_channel new node)
     → ends_channel channels row.message.node_id ≡ true
     → (stays_beside ends first row && stays_beside ends second row) ≡ ends_channel new row.message.node_id
-stays channels new ends first second row counts index ended = by (is_point first row.message.node_id) refl (is_point second row.message.node_id) refl
+stays channels new ends first second row apart index ended = by (is_point first row.message.node_id) refl (is_point second row.message.node_id) refl
   where
     at : (node : Point) → is_point node row.message.node_id ≡ true → is_some (entry_of ends node) ≡ ends_channel new row.message.node_id
     at node is = index node ∙ ap (ends_channel new) (same_point node row.message.node_id is)
@@ -272,9 +347,8 @@ stays channels new ends first second row counts index ended = by (is_point first
 
     ended_still : is_point first row.message.node_id ≡ false → is_point second row.message.node_id ≡ false → ends_channel new row.message.node_id ≡ true
     ended_still f s =
-        let same : channel_count new row.message.node_id ≡ channel_count channels row.message.node_id + 0 =
-        let c = counts row.message.node_id in let none : either first second row.message.node_id ≡ 0 = rw (f, s) refl in omega (arith, c, none) in
-        ends_channel-more channels new row.message.node_id 0 same ended
+        sym (is_some-kept id_of (ends_at row.message.node_id) new) ∙ ap (λ ids. is_some (kept ids)) (apart row.message.node_id (rw (f, s) refl))
+        ∙ is_some-kept id_of (ends_at row.message.node_id) channels ∙ ended
 
     by : (b : Bool) → is_point first row.message.node_id ≡ b → (d : Bool) → is_point second row.message.node_id ≡ d
         → (stays_beside ends first row && stays_beside ends second row) ≡ ends_channel new row.message.node_id
@@ -284,17 +358,17 @@ stays channels new ends first second row counts index ended = by (is_point first
     by false f false s = rw (f, s, or_true (is_some (entry_of ends first)), or_true (is_some (entry_of ends second))) (sym (ended_still f s))
 
 -- the nodes that are left
-pub ended_nodes-left : (channels new : List ChannelRow) (ends : List (Point × ℕ)) (first second : Point) (nodes : List NodeRow)
-    → ((node : Point) → channel_count new node + either first second node ≡ channel_count channels node)
+pub ended_nodes-left : (channels new : List ChannelRow) (ends : List (Point × List ℕ)) (first second : Point) (nodes : List NodeRow)
+    → ((node : Point) → (is_point first node || is_point second node) ≡ false → ids_at new node ≡ ids_at channels node)
     → ((node : Point) → is_some (entry_of ends node) ≡ ends_channel new node)
     → AreEnded channels nodes
     → filter (stays_beside ends second) (filter (stays_beside ends first) nodes) ≡ ended_nodes new nodes
-ended_nodes-left channels new ends first second nodes counts index ended =
+ended_nodes-left channels new ends first second nodes apart index ended =
     filter-filter _ _ nodes ∙ filter-alike _ _ nodes (along nodes ended)
   where
     along : (rows : List NodeRow) → AreEnded channels rows → AllByRecursion (λ row. (stays_beside ends first row && stays_beside ends second row) ≡ ends_channel new row.message.node_id) rows
     along [] ended = tt
-    along (row ∷ rows) ended = (stays channels new ends first second row counts index ended.0, along rows ended.1)
+    along (row ∷ rows) ended = (stays channels new ends first second row apart index ended.0, along rows ended.1)
 
 -- at those a channel ends
 pub AreEnded-ended_nodes : (channels : List ChannelRow) (nodes : List NodeRow) → AreEnded channels (ended_nodes channels nodes)
@@ -307,16 +381,16 @@ AreEnded-ended_nodes channels (row ∷ rows) = by (AreEnded-ended_nodes channels
     by others false is = rw is others
 
 -- what a close leaves of the maps
-pub record IsClosed (held new : List (ℕ × Held)) (nodes new_nodes : List (Point × NodeRow)) (ends : List (Point × ℕ)) (id : ℕ) : Type 0 where
+pub record IsClosed (held new : List (ℕ × Held)) (nodes new_nodes : List (Point × NodeRow)) (ends : List (Point × List ℕ)) (id : ℕ) : Type 0 where
   pub channels_left : values_of (channel_entries new) ≡ channels_without (values_of (channel_entries held)) id
   pub updates_left : values_of (update_entries new) ≡ updates_without (values_of (update_entries held)) id
   pub nodes_left : values_of new_nodes ≡ ended_nodes (values_of (channel_entries new)) (values_of nodes)
   pub sound : IsSound (channel_entries new) (update_entries new) new_nodes ends
 
-pub closed : (held new : List (ℕ × Held)) (nodes mid new_nodes : List (Point × NodeRow)) (ends ends' : List (Point × ℕ))
+pub closed : (held new : List (ℕ × Held)) (nodes mid new_nodes : List (Point × NodeRow)) (ends ends' : List (Point × List ℕ))
     → (id : ℕ) (gone : Held) (first second : Point) → first ≡ gone.channel.message.node_id_1 → second ≡ gone.channel.message.node_id_2
     → new ≡ remove_entry (is_at (nat_cmp id)) held → lookup (is_at (nat_cmp id)) held ≡ Some gone → IsStrictlySortedBy nat_cmp (keys_of held) → IsStrictlySortedBy nat_cmp (keys_of new)
-    → ((number : Point → ℕ) → Counts ends number → Counts ends' (λ q. number q - either first second q))
+    → ((ids : Point → List ℕ) → Lists ends ids → Lists ends' (changed (λ list. without_id list id) ids first second))
     → values_of mid ≡ filter (stays_beside ends' first) (values_of nodes) → values_of new_nodes ≡ filter (stays_beside ends' second) (values_of mid)
     → IsKeyed point_of new_nodes → IsStrictlySortedBy point_cmp (keys_of new_nodes)
     → IsSound (channel_entries held) (update_entries held) nodes ends
@@ -326,14 +400,12 @@ closed held new nodes mid new_nodes ends ends' id gone first second first_is sec
     let left_channels = channel_entries new in
     let channels_is : left_channels ≡ remove_entry (is_at (nat_cmp id)) channels = ap channel_entries is ∙ remove-channels (is_at (nat_cmp id)) held in
     let found' : lookup (is_at (nat_cmp id)) channels ≡ Some gone.channel = lookup-channels (is_at (nat_cmp id)) held ∙ ap (option_map (λ h. h.channel)) found in
-    let counts : (node : Point) → channel_count (values_of left_channels) node + either first second node ≡ channel_count (values_of channels) node =
-    λ node. rw (first_is, second_is) (channel_count-remove channels left_channels id gone.channel channels_is found' node) in
-    let counted : Counts ends' (channel_count (values_of left_channels)) =
-    λ node. removes (channel_count (values_of channels)) sound.counted node
-    ∙ ap kept (ap (λ n. n - either first second node) (sym (counts node)) ∙ add-sub_cancel (channel_count (values_of left_channels) node) (either first second node)) in
+    let ids : (node : Point) → ids_at (values_of left_channels) node ≡ changed (λ list. without_id list id) (ids_at (values_of channels)) first second node =
+    λ node. rw (first_is, second_is, channels_is) (ids_at-remove id gone.channel node channels sound.channels_keyed found') in
+    let listed : Lists ends' (ids_at (values_of left_channels)) = λ node. removes (ids_at (values_of channels)) sound.listed node ∙ ap kept (sym (ids node)) in
     let left : values_of new_nodes ≡ ended_nodes (values_of left_channels) (values_of nodes) =
     two ∙ ap (filter (stays_beside ends' second)) one
-    ∙ ended_nodes-left (values_of channels) (values_of left_channels) ends' first second (values_of nodes) counts (λ node. ends-counted ends' (values_of left_channels) node counted) sound.nodes_ended in
+    ∙ ended_nodes-left (values_of channels) (values_of left_channels) ends' first second (values_of nodes) (λ node is. ids node ∙ rw is refl) (λ node. ends-listed ends' (values_of left_channels) node listed) sound.nodes_ended in
     record {
       channels_left = values-no_channel channels left_channels id channels_is sound.channels_keyed sound.channels_ascend;
       updates_left = ap (λ es. values_of (update_entries es)) is ∙ values-without id held ascend sound.updates_keyed;
@@ -346,11 +418,11 @@ closed held new nodes mid new_nodes ends ends' id gone first second first_is sec
         updates_ascend = ascend-updates new ascend';
         nodes_ascend = nodes_ascend;
         nodes_ended = rw left (AreEnded-ended_nodes (values_of left_channels) (values_of nodes));
-        counted = counted;
+        listed = listed;
       };
     }
 
 -- a close of a channel that isn't held
-pub IsSound-unchanged : (held new : List (ℕ × Held)) (nodes : List (Point × NodeRow)) (ends : List (Point × ℕ))
+pub IsSound-unchanged : (held new : List (ℕ × Held)) (nodes : List (Point × NodeRow)) (ends : List (Point × List ℕ))
     → new ≡ held → IsSound (channel_entries held) (update_entries held) nodes ends → IsSound (channel_entries new) (update_entries new) nodes ends
 IsSound-unchanged held new nodes ends is sound = rw is sound

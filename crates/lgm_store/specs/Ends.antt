@@ -1,41 +1,61 @@
--- How many channels end at each point, as an index keeps it.
-use Rattle.std.specs.Prelude.{◌≡◌, ℕ, Bool, not, ◌||◌, is_some, zero, suc, List, Option, Some, None, unwrap_or, cond, count_by}
+-- The ids of the channels that end at each point, as an index keeps them.
+use Rattle.std.specs.Prelude.{◌≡◌, ℕ, Bool, false, not, ◌||◌, is_some, List, [], ◌∷◌, Option, Some, None, unwrap_or, cond, if◌then◌else◌}
+use Rattle.std.specs.List.{list_any}
 use Rattle.std.specs.declared.cmp.Ordering.{Ordering}
+use Rattle.std.specs.Ordering.{nat_cmp}
 use Rattle.std.specs.Map.{lookup}
+use Rattle.std.specs.Set.{remove_key}
+use Rattle.std.specs.BTreeMap.{is_at}
+use Rattle.std.specs.BTreeSet.{insert_key}
 use Rattle.lgm_wire.specs.declared.point.Point.{Point}
-use Rattle.lgm_check.specs.declared.row.ChannelRow.{ChannelRow}
 use Rattle.lgm_check.specs.declared.row.NodeRow.{NodeRow}
-use Rattle.lgm_store.specs.Rows.{by_point, ends_at, is_point}
+use Rattle.lgm_store.specs.Rows.{by_point, is_point}
 
 -- the order of points, byte by byte
 abbrev pub point_cmp : Point → Point → Ordering
 point_cmp a b = by_point a b
 
--- how many channels end at the node; one whose two ends are the node counts once
-abbrev pub channel_count : List ChannelRow → Point → ℕ
-channel_count rows node = count_by (ends_at node) rows
+-- an id more, in its place
+abbrev pub with_id : List ℕ → ℕ → List ℕ
+with_id ids id = insert_key nat_cmp ids id
 
--- what the index keeps for a number: nothing for 0
-abbrev pub kept : ℕ → Option ℕ
-kept zero = None
-kept (suc n) = Some (suc n)
+-- an id less
+abbrev pub without_id : List ℕ → ℕ → List ℕ
+without_id ids id = remove_key (is_at (nat_cmp id)) ids
+
+-- what the index keeps for a list: nothing for the empty one
+abbrev pub kept : List ℕ → Option (List ℕ)
+kept [] = None
+kept (id ∷ ids) = Some (id ∷ ids)
 
 -- what the index has for a point
-abbrev pub entry_of : List (Point × ℕ) → Point → Option ℕ
+abbrev pub entry_of : List (Point × List ℕ) → Point → Option (List ℕ)
 entry_of entries point = lookup (is_point point) entries
 
--- the number that the index has for a point
-abbrev pub number_at : List (Point × ℕ) → Point → ℕ
-number_at entries point = unwrap_or (entry_of entries point) 0
+-- the list that the index has for a point
+abbrev pub list_at : List (Point × List ℕ) → Point → List ℕ
+list_at entries point = unwrap_or (entry_of entries point) []
 
--- the index has another number at a point, and those that it had at the others
-abbrev pub Sets : List (Point × ℕ) → List (Point × ℕ) → Point → ℕ → Type 0
-Sets old new point number = (q : Point) → entry_of new q ≡ cond (is_point point q) (kept number) (entry_of old q)
+-- the index has what it had
+abbrev pub IsSame : List (Point × List ℕ) → List (Point × List ℕ) → Type 0
+IsSame old new = (q : Point) → entry_of new q ≡ entry_of old q
 
--- the index has these numbers
-abbrev pub Counts : List (Point × ℕ) → (Point → ℕ) → Type 0
-Counts entries number = (point : Point) → entry_of entries point ≡ kept (number point)
+-- the index has another list at a point, and those that it had at the others
+abbrev pub Sets : List (Point × List ℕ) → List (Point × List ℕ) → Point → List ℕ → Type 0
+Sets old new point ids = (q : Point) → entry_of new q ≡ cond (is_point point q) (kept ids) (entry_of old q)
+
+-- the index has these lists
+abbrev pub Lists : List (Point × List ℕ) → (Point → List ℕ) → Type 0
+Lists entries ids = (point : Point) → entry_of entries point ≡ kept (ids point)
+
+-- lists of which those at two points are changed, once where these are one
+abbrev pub changed : (List ℕ → List ℕ) → (Point → List ℕ) → Point → Point → Point → List ℕ
+changed change ids first second point = if is_point first point || is_point second point then change (ids point) else ids point
+
+-- none of the lists has the id
+abbrev pub Lacks : (Point → List ℕ) → ℕ → Type 0
+Lacks ids id = (point : Point) → list_any (is_at (nat_cmp id)) (ids point) ≡ false
 
 -- whether a node's row stays, where the other node goes that isn't in the index
-abbrev pub stays_beside : List (Point × ℕ) → Point → NodeRow → Bool
+abbrev pub stays_beside : List (Point × List ℕ) → Point → NodeRow → Bool
 stays_beside entries node row = is_some (entry_of entries node) || not (is_point node row.message.node_id)

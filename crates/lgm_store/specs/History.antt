@@ -50,9 +50,14 @@ without_channel rows id =
     }
     else rows
 
--- four points more, each once
+-- points more, each once
+abbrev pub with_points : List Point → List Point → List Point
+with_points points [] = points
+with_points points (point ∷ others) = with_points (put by_point points point) others
+
+-- four points more
 abbrev pub with_banned : List Point → BanRow → List Point
-with_banned points ban = put by_point (put by_point (put by_point (put by_point points ban.held1) ban.held2) ban.new1) ban.new2
+with_banned points ban = with_points points (ban.held1 ∷ ban.held2 ∷ ban.new1 ∷ ban.new2 ∷ [])
 
 -- the channels that end at no banned node
 abbrev pub allowed_channels : List Point → List ChannelRow → List ChannelRow

@@ -15,8 +15,9 @@ AreEnded rows = AllByRecursion (λ row. ends_channel rows.channels row.message.n
 abbrev pub AreAllowed : Rows → Type 0
 AreAllowed rows = AllByRecursion (λ row. ends_banned rows.banned row ≡ false) rows.channels
 
--- the lists ascend, with no key twice, and what hangs on channels hangs on held ones
+-- the lists ascend, with no key twice, what hangs on channels hangs on held ones, and these end at no banned node
 pub record IsLawful (rows : Rows) : Type 0 where
   pub ascend : IsAscending rows
   pub held : AreHeld rows
   pub ended : AreEnded rows
+  pub allowed : AreAllowed rows

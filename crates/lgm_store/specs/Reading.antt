@@ -5,6 +5,7 @@ use Rattle.std.specs.Ordering.{is_lt, nat_cmp}
 use Rattle.lgm_wire.specs.declared.point.Point.{Point}
 use Rattle.lgm_check.specs.declared.row.ChannelRow.{ChannelRow}
 use Rattle.lgm_check.specs.declared.row.NodeRow.{NodeRow}
+use Rattle.lgm_store.specs.Rows.{ends_at}
 
 -- the first channel above an id, or the first of all
 abbrev pub next_channel_of : List ChannelRow → Option ℕ → Option ChannelRow
@@ -15,6 +16,10 @@ next_channel_of rows (Some id) = find (λ row. nat_lt id row.message.short_chann
 abbrev pub next_node_of : List NodeRow → Option Point → Option NodeRow
 next_node_of rows None = find (λ row. true) rows
 next_node_of rows (Some node) = find (λ row. is_lt (slice_cmp nat_cmp node.0 row.message.node_id.0)) rows
+
+-- the ids of the channels that end at the node; one whose two ends are the node stands once
+abbrev pub ids_at : List ChannelRow → Point → List ℕ
+ids_at rows node = map (λ row. row.message.short_channel_id) (filter (ends_at node) rows)
 
 -- the block of an id: its highest three bytes of eight
 abbrev pub block_of : ℕ → ℕ

@@ -1,12 +1,12 @@
 //! The points of banned nodes.
 
-ghost use Rattle.std.specs.Prelude.{◌≡◌, [], List, IfOk};
+ghost use Rattle.std.specs.Prelude.{◌≡◌, [], IfOk, OnOk, OnErr};
 ghost use Rattle.std.specs.List.Sorted.{IsStrictlySortedBy};
 ghost use Rattle.lgm_wire.specs.declared.point.Point.{Point};
 ghost use Rattle.lgm_store.specs.Rows.{by_point, is_banned, ends_banned};
-ghost use Rattle.lgm_store.specs.History.{with_banned};
+ghost use Rattle.lgm_store.specs.History.{with_points, with_banned};
 
-use crate::held::Held;
+use crate::named::Named;
 use lgm_check::{BanRow, ChannelRow};
 use lgm_gossip::Point;
 use std::alloc::{AllocError, Global};
@@ -56,24 +56,34 @@ impl Banned {
         self.contains(&row.node(false)) || self.contains(&row.node(true))
     }
 
-    /// Whether the channel that is held ends at one of them.
-    pub(crate) fn ends_held(&self, held: &Held) -> bool
-        ensures { result ≡ ends_banned self.now held.now.channel }
+    /// The same of a channel as a map has it.
+    pub(crate) fn ends_named(&self, row: &Named) -> bool
+        ensures { result ≡ ends_banned self.now row.now }
     {
-        self.contains(held.node(false)) || self.contains(held.node(true))
+        self.contains(row.node(false)) || self.contains(row.node(true))
     }
 
-    /// These points and four more. The only error is want of memory.
-    pub(crate) fn with(&self, ban: &BanRow) -> Result<Banned, AllocError>
-        ensures points { IfOk result (λ more. more ≡ with_banned self.now ban.now) }
-        ensures ascend { IfOk result (λ more. IsStrictlySortedBy by_point more) }
+    /// Four points more. Want of memory leaves them as they were.
+    pub(crate) fn ban(&mut self, ban: &BanRow) -> Result<(), AllocError>
+        ensures ok { OnOk result (self.new ≡ with_banned self.old ban.now) }
+        ensures err { OnErr result (self.new ≡ self.old) }
     {
-        let mut more = self.copy()?;
-        more.points.insert(ban.held1)?;
-        more.points.insert(ban.held2)?;
-        more.points.insert(ban.new1)?;
-        more.points.insert(ban.new2)?;
-        Ok(more)
+        self.insert(&[ban.held1, ban.held2, ban.new1, ban.new2])
+    }
+
+    fn insert(&mut self, points: &[Point]) -> Result<(), AllocError>
+        ensures ok { OnOk result (self.new ≡ with_points self.old points.now) }
+        ensures err { OnErr result (self.new ≡ self.old) }
+    {
+        let [point, others @ ..] = points else {
+            return Ok(());
+        };
+        let added = self.points.insert(*point)?;
+        let inserted = self.insert(others);
+        if inserted.is_err() && added {
+            self.points.remove(point);
+        }
+        inserted
     }
 
     /// A copy. The only error is want of memory.

@@ -4,6 +4,7 @@ ghost use Rattle.std.specs.Prelude.{◌≡◌};
 
 use crate::shared::Shared;
 use lgm_check::UpdateRow;
+use lgm_rows::KeptUpdate;
 use std::alloc::AllocError;
 use std::marker::Model;
 
@@ -12,7 +13,7 @@ use std::marker::Model;
 pub(crate) struct Dated {
     /// In seconds since 1970.
     time: u32,
-    row: Shared<UpdateRow>,
+    row: Shared<KeptUpdate>,
 }
 
 impl Model for Dated {
@@ -27,11 +28,11 @@ impl Model for Dated {
 }
 
 impl Dated {
-    pub(crate) fn new(row: Shared<UpdateRow>) -> Dated
+    pub(crate) fn new(row: Shared<KeptUpdate>) -> Dated
         ensures { result ≡ row }
     {
         Dated {
-            time: row.get().message.timestamp,
+            time: row.get().timestamp(),
             row,
         }
     }
@@ -42,10 +43,17 @@ impl Dated {
         self.time
     }
 
-    pub(crate) fn row(&self) -> &UpdateRow
-        ensures { result.now ≡ self.now }
+    pub(crate) fn row(&self) -> UpdateRow<'_>
+        ensures { result ≡ self.now }
     {
-        self.row.get()
+        self.row.get().row()
+    }
+
+    /// The whole message as it came.
+    pub(crate) fn raw(&self) -> &[u8]
+        ensures { result.now ≡ self.now.raw }
+    {
+        self.row.get().raw()
     }
 }
 

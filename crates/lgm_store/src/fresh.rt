@@ -6,8 +6,8 @@ ghost use Rattle.lgm_store.specs.Rows.{is_second};
 use crate::dated::Dated;
 use crate::named::Named;
 use crate::shared::Shared;
-use lgm_check::{ChannelRow, NodeRow, UpdateRow};
 use lgm_gossip::{Point, Scid};
+use lgm_rows::{KeptChannel, KeptNode, KeptUpdate};
 use std::alloc::{AllocError, Global};
 use std::marker::Model;
 
@@ -15,7 +15,7 @@ use std::marker::Model;
 #[derive(Drop)]
 pub(crate) struct NewChannel {
     channel: Named,
-    row: Shared<ChannelRow>,
+    row: Shared<KeptChannel>,
 }
 
 impl Model for NewChannel {
@@ -30,7 +30,7 @@ impl Model for NewChannel {
 }
 
 impl NewChannel {
-    pub(crate) fn new(alloc: Global, row: ChannelRow) -> Result<NewChannel, AllocError>
+    pub(crate) fn new(alloc: Global, row: KeptChannel) -> Result<NewChannel, AllocError>
         ensures { IfOk result (λ made. made ≡ row) }
     {
         let row = Shared::new(alloc, row)?;
@@ -48,7 +48,7 @@ impl NewChannel {
     }
 
     /// What the map gets, and what the operation gets.
-    pub(crate) fn into_owners(self) -> (Named, Shared<ChannelRow>)
+    pub(crate) fn into_owners(self) -> (Named, Shared<KeptChannel>)
         ensures map { result.0 ≡ self }
         ensures operation { result.1 ≡ self }
     {
@@ -63,7 +63,7 @@ pub(crate) struct NewUpdate {
     /// Whether the direction is that from node 2.
     second: bool,
     update: Dated,
-    row: Shared<UpdateRow>,
+    row: Shared<KeptUpdate>,
 }
 
 impl Model for NewUpdate {
@@ -83,7 +83,7 @@ impl Model for NewUpdate {
 }
 
 impl NewUpdate {
-    pub(crate) fn new(alloc: Global, row: UpdateRow) -> Result<NewUpdate, AllocError>
+    pub(crate) fn new(alloc: Global, row: KeptUpdate) -> Result<NewUpdate, AllocError>
         ensures { IfOk result (λ made. made ≡ row) }
     {
         let (scid, second) = (row.scid(), row.is_second());
@@ -118,7 +118,7 @@ impl NewUpdate {
     }
 
     /// What the map gets, and what the operation gets.
-    pub(crate) fn into_owners(self) -> (Dated, Shared<UpdateRow>)
+    pub(crate) fn into_owners(self) -> (Dated, Shared<KeptUpdate>)
         ensures map { result.0 ≡ self }
         ensures operation { result.1 ≡ self }
     {
@@ -132,8 +132,8 @@ pub(crate) struct NewNode {
     node: Point,
     /// In seconds since 1970.
     time: u32,
-    held: Shared<NodeRow>,
-    row: Shared<NodeRow>,
+    held: Shared<KeptNode>,
+    row: Shared<KeptNode>,
 }
 
 impl Model for NewNode {
@@ -152,10 +152,10 @@ impl Model for NewNode {
 }
 
 impl NewNode {
-    pub(crate) fn new(alloc: Global, row: NodeRow) -> Result<NewNode, AllocError>
+    pub(crate) fn new(alloc: Global, row: KeptNode) -> Result<NewNode, AllocError>
         ensures { IfOk result (λ made. made ≡ row) }
     {
-        let (node, time) = (row.node(), row.message.timestamp);
+        let (node, time) = (row.node(), row.timestamp());
         let row = Shared::new(alloc, row)?;
         Ok(NewNode {
             node,
@@ -180,7 +180,7 @@ impl NewNode {
     }
 
     /// What the map gets, and what the operation gets.
-    pub(crate) fn into_owners(self) -> (Shared<NodeRow>, Shared<NodeRow>)
+    pub(crate) fn into_owners(self) -> (Shared<KeptNode>, Shared<KeptNode>)
         ensures map { result.0 ≡ self }
         ensures operation { result.1 ≡ self }
     {

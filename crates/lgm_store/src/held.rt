@@ -13,6 +13,7 @@ use crate::named::Named;
 use crate::shared::Shared;
 use lgm_check::{ChannelRow, Refusal, UpdateRow};
 use lgm_gossip::{Point, Scid};
+use lgm_rows::KeptUpdate;
 use std::alloc::AllocError;
 
 /// A channel, and the update of each of its directions that has one.
@@ -38,10 +39,17 @@ impl Held {
     }
 
     /// The channel's row.
-    pub fn row(&self) -> &ChannelRow
-        ensures { result.now ≡ self.now.channel }
+    pub fn row(&self) -> ChannelRow<'_>
+        ensures { result ≡ self.now.channel }
     {
         self.channel.row()
+    }
+
+    /// The channel's announcement as it came.
+    pub fn raw(&self) -> &[u8]
+        ensures { result.now ≡ self.now.channel.raw }
+    {
+        self.channel.raw()
     }
 
     /// The channel's name. It is at hand without its row.
@@ -59,11 +67,21 @@ impl Held {
     }
 
     /// The update from node 2 if `second`, else that from node 1.
-    pub fn update(&self, second: bool) -> Option<&UpdateRow>
-        ensures { option_copied result ≡ update_in second self.now }
+    pub fn update(&self, second: bool) -> Option<UpdateRow<'_>>
+        ensures { result ≡ update_in second self.now }
     {
         match self.dated(second) {
             Some(dated) => Some(dated.row()),
+            None => None,
+        }
+    }
+
+    /// That update as it came.
+    pub fn update_raw(&self, second: bool) -> Option<&[u8]>
+        ensures { option_copied result ≡ option_map (λ row. row.raw) (update_in second self.now) }
+    {
+        match self.dated(second) {
+            Some(dated) => Some(dated.raw()),
             None => None,
         }
     }
@@ -109,7 +127,7 @@ impl Held {
         &mut self,
         row: NewUpdate,
         signer: &Point,
-    ) -> Result<Shared<UpdateRow>, Refusal>
+    ) -> Result<Shared<KeptUpdate>, Refusal>
         ensures admission { Offers (updating result) (update_admission (Some self.old.channel) (update_in (is_second row) self.old) row signer.now) }
         ensures accepted { IfOk result (λ put. (put ≡ row) × (self.new ≡ with_update_in (is_second row) self.old row)) }
         ensures refused { OnErr result (self.new ≡ self.old) }
@@ -122,7 +140,7 @@ impl Held {
     }
 
     /// Puts an update in the place of that from node 2 if `second`, else of that from node 1.
-    pub(crate) fn put_update(&mut self, second: bool, row: Shared<UpdateRow>)
+    pub(crate) fn put_update(&mut self, second: bool, row: Shared<KeptUpdate>)
         ensures { self.new ≡ with_update_in second self.old row }
     {
         self.put_dated(second, Dated::new(row));

@@ -4,16 +4,15 @@ ghost use Rattle.std.specs.Prelude.{List};
 ghost use Rattle.lgm_store.specs.declared.op.Op.{Op};
 ghost use Rattle.lgm_store.specs.Rows.{IsAscending};
 ghost use Rattle.lgm_store.specs.History.{fold};
-ghost use Rattle.lgm_store.specs.Laws.{IsLawful, AreAllowed};
+ghost use Rattle.lgm_store.specs.Laws.{IsLawful};
 
 /// The rows that a history leaves ascend, with no key twice. A call does nothing: its contract is the law.
 pub fn rows_ascend()
     ensures { (history : List Op) → IsAscending (fold history) }
 {}
 
-/// What a history leaves: each update's channel, a channel at each node, and no channel at a banned node. A call does
-/// nothing: its contract is the law.
+/// What a history leaves: rows that ascend, with each update's channel, a channel at each node, and no channel at a
+/// banned node. A call does nothing: its contract is the law.
 pub fn histories_are_lawful()
-    ensures lawful { (history : List Op) → IsLawful (fold history) }
-    ensures allowed { (history : List Op) → AreAllowed (fold history) }
+    ensures { (history : List Op) → IsLawful (fold history) }
 {}

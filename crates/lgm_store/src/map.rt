@@ -12,12 +12,12 @@ mod reading;
 mod replaying;
 
 use crate::banned::Banned;
-use crate::end_counts::EndCounts;
+use crate::ends::Ends;
 use crate::held::Held;
 use crate::seed::Seed;
 use crate::shared::Shared;
-use lgm_check::NodeRow;
 use lgm_gossip::{Point, Scid};
+use lgm_rows::KeptNode;
 use std::alloc::{AllocError, Global};
 use std::collections::BTreeMap;
 use std::marker::Model;
@@ -25,14 +25,16 @@ use std::marker::Model;
 /// The public channels, directions and nodes, as far as they were announced, and the banned nodes. Contracts see its
 /// rows.
 ///
-/// Each call on one item costs a logarithm of the map, but a ban, which walks the channels once.
+/// Each call on one item costs a logarithm of the map, and a ban as much for each channel that ends at one of its four
+/// points.
 #[derive(Drop)]
 pub struct Map {
     alloc: Global,
     /// Channels with their updates.
     channels: BTreeMap<Scid, Held>,
-    nodes: BTreeMap<Point, Shared<NodeRow>>,
-    ends: EndCounts,
+    nodes: BTreeMap<Point, Shared<KeptNode>>,
+    /// The ids of the channels that end at each point.
+    ends: Ends,
     banned: Banned,
 }
 
@@ -74,7 +76,7 @@ impl Map {
             alloc,
             channels: BTreeMap::new(alloc),
             nodes: BTreeMap::new(alloc),
-            ends: EndCounts::new(alloc, seed)?,
+            ends: Ends::new(alloc, seed)?,
             banned: Banned::new(alloc),
         })
     }

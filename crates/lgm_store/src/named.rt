@@ -5,6 +5,7 @@ ghost use Rattle.std.specs.Prelude.{◌≡◌, if◌then◌else◌};
 use crate::shared::Shared;
 use lgm_check::ChannelRow;
 use lgm_gossip::{Point, Scid};
+use lgm_rows::KeptChannel;
 use std::alloc::AllocError;
 use std::marker::Model;
 
@@ -14,7 +15,7 @@ pub(crate) struct Named {
     scid: Scid,
     first: Point,
     second: Point,
-    row: Shared<ChannelRow>,
+    row: Shared<KeptChannel>,
 }
 
 impl Model for Named {
@@ -33,7 +34,7 @@ impl Model for Named {
 }
 
 impl Named {
-    pub(crate) fn new(row: Shared<ChannelRow>) -> Named
+    pub(crate) fn new(row: Shared<KeptChannel>) -> Named
         ensures { result ≡ row }
     {
         Named {
@@ -57,10 +58,17 @@ impl Named {
         if second { &self.second } else { &self.first }
     }
 
-    pub(crate) fn row(&self) -> &ChannelRow
-        ensures { result.now ≡ self.now }
+    pub(crate) fn row(&self) -> ChannelRow<'_>
+        ensures { result ≡ self.now }
     {
-        self.row.get()
+        self.row.get().row()
+    }
+
+    /// The whole message as it came.
+    pub(crate) fn raw(&self) -> &[u8]
+        ensures { result.now ≡ self.now.raw }
+    {
+        self.row.get().raw()
     }
 }
 

@@ -3,19 +3,20 @@
 ghost use Rattle.std.specs.Prelude.{◌≡◌, IfOk};
 
 use crate::shared::Shared;
-use lgm_check::{BanRow, ChannelRow, NodeRow, UpdateRow};
+use lgm_check::BanRow;
 use lgm_gossip::Scid;
+use lgm_rows::{KeptChannel, KeptNode, KeptUpdate};
 use std::alloc::{AllocError, Global};
 
 /// What an accepted item does to a map. It shares its row with the maps that it is done to.
 #[derive(Debug, Drop)]
 pub enum Op {
     /// A channel is added.
-    Channel(Shared<ChannelRow>),
+    Channel(Shared<KeptChannel>),
     /// A direction of a channel gets these terms.
-    Update(Shared<UpdateRow>),
+    Update(Shared<KeptUpdate>),
     /// A node gets this announcement.
-    Node(Shared<NodeRow>),
+    Node(Shared<KeptNode>),
     /// A channel goes, with all that hangs on it.
     Close(Scid),
     /// The nodes of two announcements of one channel are banned, and their channels go.

@@ -7,8 +7,8 @@ ghost use Rattle.lgm_store.specs.Reading.{is_between};
 
 use crate::held::Held;
 use crate::shared::Shared;
-use lgm_check::NodeRow;
 use lgm_gossip::{Point, Scid};
+use lgm_rows::KeptNode;
 use std::collections::btree_map::Range;
 use std::marker::Model;
 
@@ -113,7 +113,7 @@ fn is_between(scid: Scid, from: u64, to: u64) -> bool
 /// A step costs no search, and takes no memory.
 #[derive(Drop)]
 pub struct Nodes<'a> {
-    entries: Range<'a, Point, Shared<NodeRow>>,
+    entries: Range<'a, Point, Shared<KeptNode>>,
 }
 
 impl<'a> Model for Nodes<'a> {
@@ -127,7 +127,7 @@ impl<'a> Model for Nodes<'a> {
 }
 
 impl<'a> Nodes<'a> {
-    pub(crate) fn new(entries: Range<'a, Point, Shared<NodeRow>>) -> Nodes<'a>
+    pub(crate) fn new(entries: Range<'a, Point, Shared<KeptNode>>) -> Nodes<'a>
         ensures { result ≡ values_of entries.entry }
     {
         Nodes { entries }
@@ -135,13 +135,13 @@ impl<'a> Nodes<'a> {
 }
 
 impl<'a> Iterator for Nodes<'a> {
-    type Item = &'a NodeRow;
+    type Item = &'a KeptNode;
 
     ghost next_gives = { YieldsFirstRef (λ left. left) };
 
     ghost remaining = { item_count (λ left. left) };
 
-    fn next(&mut self) -> Option<&'a NodeRow> {
+    fn next(&mut self) -> Option<&'a KeptNode> {
         match self.entries.next() {
             Some((_, row)) => Some(row.get()),
             None => None,

@@ -1,8 +1,10 @@
-//! Tests of the libraries by their own calls: a module for each library.
+//! Tests of the libraries by their own calls: a module for each library, and two for scripts.
 #![tactic(auto)]
 
 #[cfg(test)]
 mod graph;
+#[cfg(test)]
+mod items;
 #[cfg(test)]
 mod made;
 #[cfg(test)]

@@ -1,7 +1,14 @@
 //! Operations of few numbers.
 
+ghost use Rattle.std.specs.Prelude.{IfOk};
+ghost use Rattle.lgm_gossip.specs.Message.{Wire};
+
 use lgm_check::{ChannelRow, NodeRow, UpdateRow};
-use lgm_gossip::{Announce, Bytes, ChainHash, ChannelUpdate, NodeAnnounce, Point, Scid};
+use lgm_gossip::{
+    Announce, Bytes, ChainHash, ChannelUpdate, Lent, Message, NodeAnnounce, Point, Scid, Signature,
+    encode,
+};
+use lgm_rows::{KeptChannel, KeptNode, KeptUpdate};
 use lgm_store::{Op, Shared};
 use std::alloc::{AllocError, Global};
 
@@ -25,44 +32,60 @@ pub const FREE: Terms = Terms {
 };
 
 /// The node of a number.
-pub fn point(number: u8) -> Point {
+pub fn point(number: u16) -> Point {
     let mut bytes = [0; 33];
     bytes[0] = 2;
-    bytes[32] = number;
+    let [high, low] = number.to_be_bytes();
+    bytes[31] = high;
+    bytes[32] = low;
     Point(bytes)
+}
+
+/// A signature.
+const ZEROS: [u8; 64] = [0; 64];
+
+/// The bytes of a message, which isn't too long.
+fn written(alloc: Global, message: &Message) -> Result<Bytes, AllocError>
+    ensures { IfOk result (λ bytes. Wire message.now bytes) }
+{
+    match encode(alloc, message) {
+        Ok(bytes) => Ok(bytes),
+        Err(_) => Err(AllocError),
+    }
 }
 
 /// The announcement of a channel between two nodes, of so many satoshi, with these features.
 pub fn channel(
     alloc: Global,
     scid: Scid,
-    nodes: (u8, u8),
+    nodes: (u16, u16),
     sat: u64,
     features: &[u8],
 ) -> Result<Op, AllocError> {
     let message = Announce {
-        node_signature_1: [0; 64],
-        node_signature_2: [0; 64],
-        bitcoin_signature_1: [0; 64],
-        bitcoin_signature_2: [0; 64],
-        features: Bytes::from_slice(alloc, features)?,
+        node_signature_1: Signature::new(&ZEROS),
+        node_signature_2: Signature::new(&ZEROS),
+        bitcoin_signature_1: Signature::new(&ZEROS),
+        bitcoin_signature_2: Signature::new(&ZEROS),
+        features: Lent::new(features),
         chain_hash: ChainHash([0; 32]),
         short_channel_id: scid,
         node_id_1: point(nodes.0),
         node_id_2: point(nodes.1),
         bitcoin_key_1: point(0),
         bitcoin_key_2: point(0),
-        rest: Bytes::from_slice(alloc, &[])?,
+        rest: Lent::new(&[]),
     };
-    let raw = Bytes::from_slice(alloc, &[])?;
-    let row = ChannelRow { message, sat, raw };
-    Ok(Op::Channel(Shared::new(alloc, row)?))
+    let bytes = written(alloc, &Message::Announce(message.again()))?;
+    let raw = Lent::new(bytes.as_slice());
+    let kept = KeptChannel::of(alloc, &ChannelRow { message, sat, raw })?;
+    Ok(Op::Channel(Shared::new(alloc, kept)?))
 }
 
 /// An update with these channel flags and terms.
 pub fn update(alloc: Global, scid: Scid, flags: u8, terms: &Terms) -> Result<Op, AllocError> {
     let message = ChannelUpdate {
-        signature: [0; 64],
+        signature: Signature::new(&ZEROS),
         chain_hash: ChainHash([0; 32]),
         short_channel_id: scid,
         timestamp: 1,
@@ -73,24 +96,28 @@ pub fn update(alloc: Global, scid: Scid, flags: u8, terms: &Terms) -> Result<Op,
         fee_base_msat: terms.base,
         fee_proportional_millionths: terms.millionths,
         htlc_maximum_msat: terms.max,
-        rest: Bytes::from_slice(alloc, &[])?,
+        rest: Lent::new(&[]),
     };
-    let raw = Bytes::from_slice(alloc, &[])?;
-    Ok(Op::Update(Shared::new(alloc, UpdateRow { message, raw })?))
+    let bytes = written(alloc, &Message::ChannelUpdate(message.again()))?;
+    let raw = Lent::new(bytes.as_slice());
+    let kept = KeptUpdate::of(alloc, &UpdateRow { message, raw })?;
+    Ok(Op::Update(Shared::new(alloc, kept)?))
 }
 
 /// The announcement of a node with these features.
-pub fn node(alloc: Global, number: u8, features: &[u8]) -> Result<Op, AllocError> {
+pub fn node(alloc: Global, number: u16, features: &[u8]) -> Result<Op, AllocError> {
     let message = NodeAnnounce {
-        signature: [0; 64],
-        features: Bytes::from_slice(alloc, features)?,
+        signature: Signature::new(&ZEROS),
+        features: Lent::new(features),
         timestamp: 1,
         node_id: point(number),
         rgb_color: [0; 3],
         alias: [0; 32],
-        addresses: Bytes::from_slice(alloc, &[])?,
-        rest: Bytes::from_slice(alloc, &[])?,
+        addresses: Lent::new(&[]),
+        rest: Lent::new(&[]),
     };
-    let raw = Bytes::from_slice(alloc, &[])?;
-    Ok(Op::Node(Shared::new(alloc, NodeRow { message, raw })?))
+    let bytes = written(alloc, &Message::NodeAnnounce(message.again()))?;
+    let raw = Lent::new(bytes.as_slice());
+    let kept = KeptNode::of(alloc, &NodeRow { message, raw })?;
+    Ok(Op::Node(Shared::new(alloc, kept)?))
 }

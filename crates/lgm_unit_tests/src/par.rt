@@ -124,3 +124,59 @@ fn all_pieces_at_once(rt: HostRuntime) {
         "ended at the limit"
     );
 }
+
+/// Lets the pieces of ten items go one after the other, the last piece first.
+#[derive(Drop)]
+struct Backwards {
+    /// How many items are done before each piece.
+    before: [u64; 3],
+    done: AtomicU64,
+    turns: AtomicU64,
+}
+
+impl Gate for Backwards {
+    fn pass(&self, piece: usize) {
+        let Some(wanted) = self.before.get(piece) else {
+            return;
+        };
+        let mut turns = 0;
+        for turn in 0..LIMIT {
+            turns = turn + 1;
+            if self.done.load(Ordering::SeqCst) >= *wanted {
+                break;
+            }
+            thread::yield_now();
+        }
+        self.turns.fetch_max(turns, Ordering::SeqCst);
+    }
+}
+
+// Piece 2 has the last three items, piece 1 the three before them, and piece 0 the first four: an item's answer is how
+// many were done before it.
+#[test]
+fn pieces_of_four_three_and_three(rt: HostRuntime) {
+    let alloc: Global = rt.alloc();
+    let items = [0u32; 10];
+    let gate = Backwards {
+        before: [6, 3, 0],
+        done: AtomicU64::new(0),
+        turns: AtomicU64::new(0),
+    };
+    let answers = map_chunks(
+        &rt,
+        alloc,
+        3,
+        &gate,
+        &items,
+        &|_item| { gate.done.fetch_add(1, Ordering::SeqCst) },
+    )
+    .expect(&rt, "memory");
+    assert_eq!(rt;
+        answers.as_slice(),
+        [6, 7, 8, 9, 3, 4, 5, 0, 1, 2].as_slice()
+    );
+    assert!(rt;
+        gate.turns.load(Ordering::SeqCst) < LIMIT,
+        "ended at the limit"
+    );
+}

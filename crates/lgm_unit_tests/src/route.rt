@@ -18,8 +18,8 @@ fn join(
     map: &mut Map,
     alloc: Global,
     scid: Scid,
-    from: u8,
-    to: u8,
+    from: u16,
+    to: u16,
     terms: &Terms,
 ) -> Result<(), AllocError> {
     map.absorb(&channel(alloc, scid, (from, to), 2_100_000_000_000_000, &[])?)?;
@@ -44,7 +44,7 @@ fn answer(
     rt: &(impl Abort + Threads + Sync),
     alloc: Global,
     map: &Map,
-    to: u8,
+    to: u16,
     amount: u64,
     expiry: u32,
 ) -> Result<Result<Route, RouteFault>, AllocError> {
@@ -114,21 +114,19 @@ fn fee_of_the_second_channel(rt: HostRuntime) -> Result<(), Fail> {
 /// The most turns that a piece is held.
 const LIMIT: u64 = 100_000_000;
 
-/// Lets the first pass through, and then holds piece 0 until piece 1 has passed.
+/// Holds piece 0 until piece 1 has passed.
 #[derive(Drop)]
 struct Pairs {
-    passes: AtomicU64,
     ones: AtomicU64,
     turns: AtomicU64,
 }
 
 impl Gate for Pairs {
     fn pass(&self, piece: usize) {
-        let first = self.passes.fetch_add(1, Ordering::SeqCst) == 0;
         if piece == 1 {
             self.ones.fetch_add(1, Ordering::SeqCst);
         }
-        if first || piece != 0 {
+        if piece != 0 {
             return;
         }
         let mut turns = 0;
@@ -143,24 +141,36 @@ impl Gate for Pairs {
     }
 }
 
-/// Both nodes beside the payee are led on at once, each in a piece of its own.
+/// How many nodes are enough for two workers.
+const MANY: u16 = 3_200;
+
+/// The nodes between the payer, 0, and the payee are led on at once, in two pieces. Of routes that send the same over as
+/// many channels the one of the least ids is taken.
 #[test]
 fn two_pieces_at_once(rt: HostRuntime) -> Result<(), Fail> {
     let alloc = rt.alloc();
     let mut map = Map::new(alloc)?;
-    for (block, from, to) in [(1, 0, 1), (2, 0, 2), (3, 1, 3), (4, 2, 3)] {
-        join(&mut map, alloc, Scid::new(block, 0, 0), from, to, &FREE)?;
+    for node in 1..=MANY {
+        let block = u32::from(node);
+        join(&mut map, alloc, Scid::new(block, 0, 0), 0, node, &FREE)?;
+        join(
+            &mut map,
+            alloc,
+            Scid::new(4_000 + block, 0, 0),
+            node,
+            MANY + 1,
+            &FREE,
+        )?;
     }
     assert!(rt; map.count() <= 2_000_000_000);
     let view = View::of(alloc, &map, &Known::all())?;
     let request = Request {
         payer: point(0),
-        payee: point(3),
+        payee: point(MANY + 1),
         amount: 1000,
         expiry: 700_000,
     };
     let gate = Pairs {
-        passes: AtomicU64::new(0),
         ones: AtomicU64::new(0),
         turns: AtomicU64::new(0),
     };
@@ -169,7 +179,7 @@ fn two_pieces_at_once(rt: HostRuntime) -> Result<(), Fail> {
         1000,
         700_040,
         Scid::new(1, 0, 0).to_u64(),
-        Scid::new(3, 0, 0).to_u64(),
+        Scid::new(4_001, 0, 0).to_u64(),
     ];
     assert_route(&rt, alloc, found, &ids)?;
     let turns = gate.turns.load(Ordering::SeqCst);

@@ -1,17 +1,19 @@
 //! What operations do to a map and its view.
 
-ghost use Rattle.std.specs.Prelude.{◌≡◌, ◌+◌, ◌<◌, ◌≤◌, ◌^◌, length, OnOk, OnErr};
-ghost use Rattle.lgm_store.specs.History.{absorbed};
+ghost use Rattle.std.specs.Prelude.{◌≡◌, ◌<◌, ◌^◌, length};
 ghost use Rattle.lgm_store.specs.declared.op.Op.TheVariants as ops;
 ghost use Rattle.lgm_graph.specs.Graph.{IsGraphOf};
 ghost use Rattle.lgm_graph.specs.Sound.{graph_in};
+ghost use Rattle.lgm_graph.specs.Applying.{IsDoneToBoth};
 
 use crate::edge::edge_on;
 use crate::known::Known;
 use crate::link::linked_if;
 use crate::nodes::Nodes;
-use lgm_check::{BanRow, ChannelRow, NodeRow, UpdateRow};
+use crate::view::parting::parted;
+use lgm_check::BanRow;
 use lgm_gossip::Scid;
+use lgm_rows::{KeptChannel, KeptNode, KeptUpdate};
 use lgm_store::{Map, Op};
 use std::alloc::{AllocError, Global};
 
@@ -21,16 +23,12 @@ pub(super) fn apply_update(
     nodes: &mut Nodes,
     map: &mut Map,
     op: &Op,
-    row: &UpdateRow,
+    row: &KeptUpdate,
 ) -> Result<(), AllocError>
     requires op { op.now ≡ ops.Update row.now }
     requires few { length nodes.old.points.keys < 2 ^ 32 }
     requires beside { IsGraphOf map.old (graph_in known.now nodes.old) }
-    ensures map { OnOk result (map.new ≡ absorbed map.old op.now) }
-    ensures beside { OnOk result (IsGraphOf map.new (graph_in known.now nodes.new)) }
-    ensures few { length nodes.new.points.keys ≤ length nodes.old.points.keys + 2 }
-    ensures map_stays { OnErr result (map.new ≡ map.old) }
-    ensures stays { OnErr result (graph_in known.now nodes.new ≡ graph_in known.now nodes.old) }
+    ensures { IsDoneToBoth known.now op.now map.old map.new nodes.old nodes.new result }
 {
     map.rows_are_lawful();
     // It says that points are distinct.
@@ -39,7 +37,7 @@ pub(super) fn apply_update(
     let Some(channel) = map.channel(scid) else {
         return map.absorb(op);
     };
-    let edge = edge_on(channel, row);
+    let edge = edge_on(&channel, &row.row());
     let (from, to) = (channel.node(second), channel.node(!second));
     let from = nodes.number_of(&from);
     let to = nodes.number_of(&to);
@@ -56,15 +54,11 @@ pub(super) fn apply_node(
     nodes: &mut Nodes,
     map: &mut Map,
     op: &Op,
-    row: &NodeRow,
+    row: &KeptNode,
 ) -> Result<(), AllocError>
     requires op { op.now ≡ ops.Node row.now }
     requires beside { IsGraphOf map.old (graph_in known.now nodes.old) }
-    ensures map { OnOk result (map.new ≡ absorbed map.old op.now) }
-    ensures beside { OnOk result (IsGraphOf map.new (graph_in known.now nodes.new)) }
-    ensures few { length nodes.new.points.keys ≤ length nodes.old.points.keys + 2 }
-    ensures map_stays { OnErr result (map.new ≡ map.old) }
-    ensures stays { OnErr result (graph_in known.now nodes.new ≡ graph_in known.now nodes.old) }
+    ensures { IsDoneToBoth known.now op.now map.old map.new nodes.old nodes.new result }
 {
     map.absorb(op)?;
     nodes.look_at(known, map, &row.node());
@@ -81,11 +75,7 @@ pub(super) fn apply_close(
 ) -> Result<(), AllocError>
     requires op { op.now ≡ ops.Close scid }
     requires beside { IsGraphOf map.old (graph_in known.now nodes.old) }
-    ensures map { OnOk result (map.new ≡ absorbed map.old op.now) }
-    ensures beside { OnOk result (IsGraphOf map.new (graph_in known.now nodes.new)) }
-    ensures few { length nodes.new.points.keys ≤ length nodes.old.points.keys + 2 }
-    ensures map_stays { OnErr result (map.new ≡ map.old) }
-    ensures stays { OnErr result (graph_in known.now nodes.new ≡ graph_in known.now nodes.old) }
+    ensures { IsDoneToBoth known.now op.now map.old map.new nodes.old nodes.new result }
 {
     map.rows_are_lawful();
     let Some(channel) = map.channel(scid) else {
@@ -105,15 +95,11 @@ pub(super) fn apply_channel(
     nodes: &mut Nodes,
     map: &mut Map,
     op: &Op,
-    row: &ChannelRow,
+    row: &KeptChannel,
 ) -> Result<(), AllocError>
     requires op { op.now ≡ ops.Channel row.now }
     requires beside { IsGraphOf map.old (graph_in known.now nodes.old) }
-    ensures map { OnOk result (map.new ≡ absorbed map.old op.now) }
-    ensures beside { OnOk result (IsGraphOf map.new (graph_in known.now nodes.new)) }
-    ensures few { length nodes.new.points.keys ≤ length nodes.old.points.keys + 2 }
-    ensures map_stays { OnErr result (map.new ≡ map.old) }
-    ensures stays { OnErr result (graph_in known.now nodes.new ≡ graph_in known.now nodes.old) }
+    ensures { IsDoneToBoth known.now op.now map.old map.new nodes.old nodes.new result }
 {
     map.rows_are_lawful();
     nodes.reserve(2)?;
@@ -125,6 +111,7 @@ pub(super) fn apply_channel(
 
 /// Does a ban to a map and the nodes that show it.
 pub(super) fn apply_ban(
+    alloc: Global,
     known: &Known,
     nodes: &mut Nodes,
     map: &mut Map,
@@ -133,16 +120,14 @@ pub(super) fn apply_ban(
 ) -> Result<(), AllocError>
     requires op { op.now ≡ ops.Ban ban.now }
     requires beside { IsGraphOf map.old (graph_in known.now nodes.old) }
-    ensures map { OnOk result (map.new ≡ absorbed map.old op.now) }
-    ensures beside { OnOk result (IsGraphOf map.new (graph_in known.now nodes.new)) }
-    ensures few { length nodes.new.points.keys ≤ length nodes.old.points.keys + 2 }
-    ensures map_stays { OnErr result (map.new ≡ map.old) }
-    ensures stays { OnErr result (graph_in known.now nodes.new ≡ graph_in known.now nodes.old) }
+    ensures { IsDoneToBoth known.now op.now map.old map.new nodes.old nodes.new result }
 {
     map.rows_are_lawful();
+    let parted = parted(alloc, map, ban)?;
     map.absorb(op)?;
-    nodes.drop_banned(map);
-    nodes.look_at_all(known, map);
+    for node in parted.as_slice() {
+        nodes.ban_at(known, map, node);
+    }
     Ok(())
 }
 
@@ -156,17 +141,13 @@ pub(super) fn apply(
 ) -> Result<(), AllocError>
     requires few { length nodes.old.points.keys < 2 ^ 32 }
     requires beside { IsGraphOf map.old (graph_in known.now nodes.old) }
-    ensures map { OnOk result (map.new ≡ absorbed map.old op.now) }
-    ensures beside { OnOk result (IsGraphOf map.new (graph_in known.now nodes.new)) }
-    ensures few { length nodes.new.points.keys ≤ length nodes.old.points.keys + 2 }
-    ensures map_stays { OnErr result (map.new ≡ map.old) }
-    ensures stays { OnErr result (graph_in known.now nodes.new ≡ graph_in known.now nodes.old) }
+    ensures { IsDoneToBoth known.now op.now map.old map.new nodes.old nodes.new result }
 {
     match op {
         Op::Channel(row) => apply_channel(alloc, known, nodes, map, op, row.get()),
         Op::Update(row) => apply_update(known, nodes, map, op, row.get()),
         Op::Node(row) => apply_node(known, nodes, map, op, row.get()),
         Op::Close(scid) => apply_close(known, nodes, map, op, *scid),
-        Op::Ban(ban) => apply_ban(known, nodes, map, op, ban.get()),
+        Op::Ban(ban) => apply_ban(alloc, known, nodes, map, op, ban.get()),
     }
 }

@@ -1,17 +1,24 @@
 //! The view of a map, from nothing.
+//!
+//! A first walk of the channels numbers their ends and writes the links down one behind the other. Only then the lists
+//! are made, each as long as it has to be.
 
-ghost use Rattle.std.specs.Prelude.{◌≡◌, not, ℕ, ◌+◌, ◌*◌, ◌<◌, ◌≤◌, ◌^◌, ◌++◌, List, length, IfOk, OnOk, option_to_list, Option};
+ghost use Rattle.std.specs.Prelude.{◌≡◌, ℕ, ◌+◌, ◌*◌, ◌<◌, ◌≤◌, ◌^◌, ◌++◌, [], List, length, IfOk, OnOk, option_to_list, Option};
+ghost use Rattle.std.specs.Option.{option_and_then, option_map};
+ghost use Rattle.lgm_store.specs.Held.{update_in};
 ghost use Rattle.lgm_store.specs.HeldAt.{held_at};
 ghost use Rattle.lgm_graph.specs.declared.edge.Edge.{Edge as AnEdge};
-ghost use Rattle.lgm_graph.specs.Edges.{end_of};
-ghost use Rattle.lgm_graph.specs.Graph.{IsGraphOf, IsNumbered, number_of};
+ghost use Rattle.lgm_graph.specs.Edges.{edge_on};
+ghost use Rattle.lgm_graph.specs.Graph.{IsGraphOf, IsNumbered, linked, number_of};
 ghost use Rattle.lgm_graph.specs.Sound.{AreLookedAt, ShowsIn};
-ghost use Rattle.lgm_graph.specs.Walk.{KeepsNumbers, edges_of_channel, edge_of_direction};
+ghost use Rattle.lgm_graph.specs.Walk.{AreLinksOf, KeepsNumbers, edges_of_channel};
 
 use super::View;
+use super::hints::Hints;
+use super::linking::put_links;
 use crate::edge::edge_on;
 use crate::known::Known;
-use crate::link::linked;
+use crate::link::{Link, linked};
 use crate::nodes::{Nodes, takes_payments};
 use lgm_gossip::Point;
 use lgm_store::{Held, Map};
@@ -28,9 +35,12 @@ impl View {
     {
         map.rows_are_lawful();
         let mut nodes = Nodes::new(alloc, map.seed());
+        let mut hints = Hints::new(alloc, map.count())?;
+        let mut links = Vec::with_capacity(alloc, map.count())?;
         for held in map.channels() {
-            add_channel(alloc, &mut nodes, known, map, held)?;
+            add_channel(alloc, &mut nodes, &mut hints, &mut links, known, map, held)?;
         }
+        put_links(alloc, &mut nodes, &links)?;
         let known = known.copy(alloc)?;
         Ok(View {
             alloc,
@@ -40,30 +50,57 @@ impl View {
     }
 }
 
-/// Numbers the ends of a channel, and puts its edges behind the others.
+/// Numbers the ends of a channel, and writes its links behind the others.
 fn add_channel(
     alloc: Global,
     nodes: &mut Nodes,
+    hints: &mut Hints,
+    links: &mut Vec<Link>,
     known: &Known,
     map: &Map,
     held: &Held,
 ) -> Result<(), AllocError>
     requires few { length nodes.old.points.keys + 2 < 2 ^ 32 }
-    requires shown { (edges : List AnEdge) × ShowsIn edges nodes.old }
     requires own { held.now ≡ held_at map.now held.now.channel }
     ensures few { OnOk result (length nodes.new.points.keys ≤ length nodes.old.points.keys + 2) }
     ensures kept { OnOk result (KeepsNumbers nodes.old.points.keys nodes.new.points.keys) }
     ensures first { OnOk result (IsNumbered nodes.new.points.keys held.now.channel.message.node_id_1) }
     ensures second { OnOk result (IsNumbered nodes.new.points.keys held.now.channel.message.node_id_2) }
     ensures takes { OnOk result (AreLookedAt known.now map.now.nodes nodes.old → AreLookedAt known.now map.now.nodes nodes.new) }
-    ensures shows { OnOk result ((edges : List AnEdge) → ShowsIn edges nodes.old
-        → ShowsIn (edges ++ edges_of_channel map.now.updates held.now.channel) nodes.new) }
+    ensures bare { OnOk result (ShowsIn [] nodes.old → ShowsIn [] nodes.new) }
+    ensures links { OnOk result ((edges : List AnEdge) → AreLinksOf edges nodes.old.points.keys links.old.items
+        → AreLinksOf (edges ++ edges_of_channel map.now.updates held.now.channel) nodes.new.points.keys links.new.items) }
 {
-    let first = number(alloc, nodes, known, map, *held.node(false))?;
-    let second = number(alloc, nodes, known, map, *held.node(true))?;
-    add_direction(nodes, map, held, false, first, second)?;
-    add_direction(nodes, map, held, true, second, first)?;
+    let first = number_end(alloc, nodes, hints, known, map, *held.node(false))?;
+    let second = number_end(alloc, nodes, hints, known, map, *held.node(true))?;
+    add_direction(links, held, false, first, second)?;
+    add_direction(links, held, true, second, first)?;
     Ok(())
+}
+
+/// The number of a channel's end, which it gets unless it has one. Where a hint tells it, the point isn't hashed.
+fn number_end(
+    alloc: Global,
+    nodes: &mut Nodes,
+    hints: &mut Hints,
+    known: &Known,
+    map: &Map,
+    point: Point,
+) -> Result<usize, AllocError>
+    ensures number { IfOk result (λ n. n ≡ number_of nodes.new.points.keys point) }
+    ensures few { OnOk result (length nodes.new.points.keys ≤ length nodes.old.points.keys + 1) }
+    ensures kept { OnOk result (KeepsNumbers nodes.old.points.keys nodes.new.points.keys) }
+    ensures numbered { OnOk result (IsNumbered nodes.new.points.keys point) }
+    ensures takes { OnOk result (AreLookedAt known.now map.now.nodes nodes.old → AreLookedAt known.now map.now.nodes nodes.new) }
+    ensures shows { OnOk result ((edges : List AnEdge) → ShowsIn edges nodes.old
+        → ShowsIn edges nodes.new) }
+{
+    if let Some(number) = hints.number(nodes, &point) {
+        return Ok(number);
+    }
+    let number = number(alloc, nodes, known, map, point)?;
+    hints.note(&point, number);
+    Ok(number)
 }
 
 /// The number of a point, which it gets unless it has one.
@@ -92,36 +129,25 @@ fn number(
     Ok(number)
 }
 
-/// Puts the edge of a channel's direction, if there is one, behind the others.
+/// Writes the link of a channel's direction, if there is one, behind the others.
 fn add_direction(
-    nodes: &mut Nodes,
-    map: &Map,
+    links: &mut Vec<Link>,
     held: &Held,
     second: bool,
     from: usize,
     to: usize,
 ) -> Result<(), AllocError>
-    requires few { length nodes.old.points.keys < 2 ^ 32 }
-    requires from { from ≡ number_of nodes.old.points.keys (end_of held.now.channel second) }
-    requires to { to ≡ number_of nodes.old.points.keys (end_of held.now.channel (not second)) }
-    requires first { IsNumbered nodes.old.points.keys held.now.channel.message.node_id_1 }
-    requires second { IsNumbered nodes.old.points.keys held.now.channel.message.node_id_2 }
-    requires shown { (edges : List AnEdge) × ShowsIn edges nodes.old }
-    requires own { held.now ≡ held_at map.now held.now.channel }
-    ensures points { nodes.new.points.keys ≡ nodes.old.points.keys }
-    ensures takes { nodes.new.takes.items ≡ nodes.old.takes.items }
-    ensures shows { OnOk result ((edges : List AnEdge) → ShowsIn edges nodes.old
-        → ShowsIn (edges ++ option_to_list (edge_of_direction map.now.updates held.now.channel second)) nodes.new) }
+    requires from { from < 2 ^ 32 }
+    requires to { to < 2 ^ 32 }
+    ensures { OnOk result (links.new.items ≡ links.old.items ++ option_to_list
+        (option_map (λ e. linked e from to) (option_and_then (edge_on held.now.channel) (update_in second held.now)))) }
 {
     let Some(update) = held.update(second) else {
         return Ok(());
     };
-    let Some(edge) = edge_on(held.row(), update) else {
+    let Some(edge) = edge_on(&held.row(), &update) else {
         return Ok(());
     };
-    let _ = nodes.points.len();
-    let link = linked(&edge, from, to);
-    nodes.reserve_links(from, to)?;
-    nodes.push_link(from, to, link);
+    links.push(linked(&edge, from, to))?;
     Ok(())
 }

@@ -2,8 +2,8 @@
 
 use super::words::{assert_fault, assert_written, bytes_of};
 use lgm_gossip::{
-    Bytes, ChainHash, DecodeFault, EncodeFault, IdsQuery, Message, NodeAnnounce, Point, RangeReply,
-    Scid, Scids, decode, encode,
+    ChainHash, DecodeFault, EncodeFault, IdsQuery, Lent, Message, NodeAnnounce, Point, RangeReply,
+    Scid, Scids, Signature, decode, encode,
 };
 use std::alloc::Global;
 use std::test::Fail;
@@ -46,31 +46,31 @@ fn written_len(alloc: Global, message: &Message) -> Result<usize, EncodeFault> {
     Ok(encode(alloc, message)?.as_slice().len())
 }
 
-fn zeros(alloc: Global, count: u32) -> Result<Bytes, Fail> {
-    let mut bytes = Vec::new(alloc);
-    for _ in 0..count {
-        bytes.push(0)?;
-    }
-    Ok(Bytes::from_vec(bytes))
-}
-
-fn node(alloc: Global, features: u32, addresses: u32) -> Result<Message, Fail> {
-    Ok(Message::NodeAnnounce(NodeAnnounce {
-        signature: [0; 64],
-        features: zeros(alloc, features)?,
+fn node_len(
+    alloc: Global,
+    features: usize,
+    addresses: usize,
+) -> Result<Result<usize, EncodeFault>, Fail> {
+    let features = vec![in alloc; 0u8; features]?;
+    let addresses = vec![in alloc; 0u8; addresses]?;
+    let signature = [0; 64];
+    let message = Message::NodeAnnounce(NodeAnnounce {
+        signature: Signature::new(&signature),
+        features: Lent::new(features.as_slice()),
         timestamp: 5,
         node_id: Point([2; 33]),
         rgb_color: [0; 3],
         alias: [0; 32],
-        addresses: zeros(alloc, addresses)?,
-        rest: zeros(alloc, 0)?,
-    }))
+        addresses: Lent::new(addresses.as_slice()),
+        rest: Lent::new(&[]),
+    });
+    Ok(written_len(alloc, &message))
 }
 
 /// Features and addresses that fill a message of 65,535 bytes, one byte more, and more than their length can say.
 #[test]
 fn long_features_and_addresses(rt: HostRuntime) -> Result<(), Fail> {
-    let table: [(u32, u32, Result<usize, EncodeFault>); 6] = [
+    let table: [(usize, usize, Result<usize, EncodeFault>); 6] = [
         (65_393, 0, Ok(65_535)),
         (0, 65_393, Ok(65_535)),
         (65_394, 0, Err(EncodeFault::TooLong)),
@@ -79,14 +79,13 @@ fn long_features_and_addresses(rt: HostRuntime) -> Result<(), Fail> {
         (0, 65_536, Err(EncodeFault::TooLong)),
     ];
     for (features, addresses, want) in table {
-        let message = node(rt.alloc(), features, addresses)?;
-        let len = written_len(rt.alloc(), &message);
+        let len = node_len(rt.alloc(), features, addresses)?;
         assert_eq!(rt; len, want, "of {features} and {addresses} bytes");
     }
     Ok(())
 }
 
-fn ids_query(alloc: Global, count: u16) -> Result<Message, Fail> {
+fn ids_query(alloc: Global, count: u16) -> Result<Message<'static>, Fail> {
     Ok(Message::IdsQuery(IdsQuery {
         chain_hash: ChainHash([0xc1; 32]),
         ids: Scids::from_vec(ids(alloc, count)?),
@@ -94,7 +93,7 @@ fn ids_query(alloc: Global, count: u16) -> Result<Message, Fail> {
     }))
 }
 
-fn range_reply(alloc: Global, count: u16) -> Result<Message, Fail> {
+fn range_reply(alloc: Global, count: u16) -> Result<Message<'static>, Fail> {
     Ok(Message::RangeReply(RangeReply {
         chain_hash: ChainHash([0xc1; 32]),
         first_blocknum: 0,

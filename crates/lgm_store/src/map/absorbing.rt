@@ -9,13 +9,13 @@ ghost use Rattle.lgm_store.specs.Sound.{point_of};
 ghost use Rattle.lgm_store.specs.History.{with_channel, with_update, with_node, without_channel, absorbed};
 
 use super::Map;
-use crate::end_counts::EndCounts;
+use crate::ends::Ends;
 use crate::held::Held;
 use crate::named::Named;
 use crate::op::Op;
 use crate::shared::Shared;
-use lgm_check::{ChannelRow, NodeRow, UpdateRow};
 use lgm_gossip::{Point, Scid};
+use lgm_rows::{KeptChannel, KeptNode, KeptUpdate};
 use std::alloc::AllocError;
 use std::collections::BTreeMap;
 
@@ -25,9 +25,9 @@ impl Map {
     /// A channel is added unless it is held, or a node of it is banned. An update is kept if its channel is held, and a
     /// node if a channel ends at it, each in place of the row that it had. A close takes a channel out with its
     /// updates, and then each node at which no channel ends any more; of a channel that isn't held it does nothing. A
-    /// ban bans its four points, and takes out the channels that end at a banned node with their updates, and then
-    /// each node at which no channel ends any more; it walks the channels once. Want of memory leaves the map as it
-    /// was.
+    /// ban bans its four points, and takes out the channels that end at one of them with their updates, and then each
+    /// node at which no channel ends any more; it costs a logarithm for each of these channels. Want of memory leaves
+    /// the map as it was.
     pub fn absorb(&mut self, op: &Op) -> Result<(), AllocError>
         ensures ok { OnOk result (self.new ≡ absorbed self.old op.now) }
         ensures err { OnErr result (self.new ≡ self.old) }
@@ -47,14 +47,15 @@ impl Map {
         }
     }
 
-    fn add_channel(&mut self, row: Shared<ChannelRow>) -> Result<(), AllocError>
+    fn add_channel(&mut self, row: Shared<KeptChannel>) -> Result<(), AllocError>
         ensures ok { OnOk result (self.new ≡ with_channel self.old row) }
         ensures err { OnErr result (self.new ≡ self.old) }
     {
-        if self.held(row.get().scid()).is_some() || self.banned.ends(row.get()) {
+        let row = Named::new(row);
+        if self.held(row.scid()).is_some() || self.banned.ends_named(&row) {
             return Ok(());
         }
-        self.insert_channel(Named::new(row))?;
+        self.insert_channel(row)?;
         Ok(())
     }
 
@@ -66,19 +67,18 @@ impl Map {
         ensures err { OnErr result (self.new ≡ self.old) }
     {
         let scid = row.scid();
-        prove!(self.channels.len() < usize::MAX);
         let (first, second) = (*row.node(false), *row.node(true));
-        self.ends.add(first, second)?;
+        self.ends.add(first, second, scid)?;
         match self.channels.insert(scid, Held::new(row)) {
             Ok(_) => Ok(()),
             Err(refused) => {
-                self.ends.remove(first, second);
+                self.ends.remove(&first, &second, scid);
                 Err(refused.into())
             }
         }
     }
 
-    fn put_update(&mut self, row: Shared<UpdateRow>)
+    fn put_update(&mut self, row: Shared<KeptUpdate>)
         ensures { self.new ≡ with_update self.old row }
     {
         let (scid, second) = (row.get().scid(), row.get().is_second());
@@ -88,7 +88,7 @@ impl Map {
         held.put_update(second, row);
     }
 
-    pub(crate) fn put_node(&mut self, row: Shared<NodeRow>) -> Result<(), AllocError>
+    pub(crate) fn put_node(&mut self, row: Shared<KeptNode>) -> Result<(), AllocError>
         ensures ok { OnOk result (self.new ≡ with_node self.old row) }
         ensures err { OnErr result (self.new ≡ self.old) }
     {
@@ -103,7 +103,7 @@ impl Map {
     pub(crate) fn insert_node(
         &mut self,
         node: Point,
-        row: Shared<NodeRow>,
+        row: Shared<KeptNode>,
     ) -> Result<(), AllocError>
         requires own { node ≡ row.message.node_id }
         requires ended { ends_channel self.old.channels row.message.node_id ≡ true }
@@ -121,14 +121,14 @@ impl Map {
             return;
         };
         let (first, second) = (*held.node(false), *held.node(true));
-        self.ends.remove(first, second);
+        self.ends.remove(&first, &second, scid);
         drop_unless_ended(&mut self.nodes, &self.ends, &first);
         drop_unless_ended(&mut self.nodes, &self.ends, &second);
     }
 }
 
 /// The node goes if no channel ends at it any more.
-fn drop_unless_ended(nodes: &mut BTreeMap<Point, Shared<NodeRow>>, ends: &EndCounts, node: &Point)
+fn drop_unless_ended(nodes: &mut BTreeMap<Point, Shared<KeptNode>>, ends: &Ends, node: &Point)
     requires keyed { IsKeyed point_of nodes.old.entries }
     requires ascend { IsOrdered point_cmp nodes.old }
     ensures keyed { IsKeyed point_of nodes.new.entries }

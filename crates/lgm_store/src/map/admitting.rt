@@ -4,12 +4,14 @@ ghost use Rattle.std.specs.Prelude.{◌≡◌};
 ghost use Rattle.lgm_store.specs.Rows.{channel_of, update_of, node_of, ends_channel, is_banned, is_second};
 ghost use Rattle.lgm_store.specs.Admission.{have_same_nodes, channel_admission, update_admission, node_admission, admitted, admitted_close, Offers};
 ghost use Rattle.lgm_store.specs.Decided.{channel_op, update_op, node_op};
+ghost use Rattle.lgm_store.specs.Candidate.{IsSpelled};
 
 use super::Map;
 use crate::op::Op;
 use crate::shared::Shared;
 use lgm_check::{BanRow, ChannelRow, Checked, NodeRow, Refusal, UpdateRow};
 use lgm_gossip::{Point, Scid};
+use lgm_rows::{KeptChannel, KeptNode, KeptUpdate};
 use std::alloc::Global;
 
 impl Map {
@@ -21,42 +23,24 @@ impl Map {
     /// if its timestamp isn't above the held one. A `channel_update`: 11 `unknown-channel`, 10 `signature` if another
     /// point signed it than the node of its direction, 15 `not-newer` as above (BOLT 7).
     ///
-    /// Memory is asked for only for an operation: a refusal takes none.
+    /// The bytes of the message's row spell its fields, as those of what [`precheck`](lgm_check::precheck) accepts do: the
+    /// operation keeps the bytes alone. Memory is asked for only for an operation: a refusal takes none.
     pub fn admit(&self, alloc: Global, checked: &Checked) -> Result<Op, Refusal>
+        requires { IsSpelled checked.now }
         ensures { Offers result (admitted self.now checked.now) }
     {
         match checked {
             Checked::Channel(row) => match self.admit_channel(row)? {
                 Some(ban) => Ok(Op::Ban(Shared::new(alloc, ban)?)),
-                None => Ok(Op::Channel(Shared::new(alloc, row.copy(alloc)?)?)),
+                None => Ok(Op::Channel(Shared::new(alloc, KeptChannel::of(alloc, row)?)?)),
             },
             Checked::Update(row, signer) => {
                 self.admit_update(row, signer)?;
-                Ok(Op::Update(Shared::new(alloc, row.copy(alloc)?)?))
+                Ok(Op::Update(Shared::new(alloc, KeptUpdate::of(alloc, row)?)?))
             }
             Checked::Node(row) => {
                 self.admit_node(row)?;
-                Ok(Op::Node(Shared::new(alloc, row.copy(alloc)?)?))
-            }
-        }
-    }
-
-    /// The same of a message that is given away: its row is kept and not copied.
-    pub fn admit_owned(&self, alloc: Global, checked: Checked) -> Result<Op, Refusal>
-        ensures { Offers result (admitted self.now checked) }
-    {
-        match checked {
-            Checked::Channel(row) => match self.admit_channel(&row)? {
-                Some(ban) => Ok(Op::Ban(Shared::new(alloc, ban)?)),
-                None => Ok(Op::Channel(Shared::new(alloc, row)?)),
-            },
-            Checked::Update(row, signer) => {
-                self.admit_update(&row, &signer)?;
-                Ok(Op::Update(Shared::new(alloc, row)?))
-            }
-            Checked::Node(row) => {
-                self.admit_node(&row)?;
-                Ok(Op::Node(Shared::new(alloc, row)?))
+                Ok(Op::Node(Shared::new(alloc, KeptNode::of(alloc, row)?)?))
             }
         }
     }
@@ -65,7 +49,7 @@ impl Map {
     pub fn admit_close(&self, scid: Scid) -> Result<Op, Refusal>
         ensures { result ≡ admitted_close self.now scid }
     {
-        match self.channel(scid) {
+        match self.held(scid) {
             None => Err(Refusal::UnknownChannel),
             Some(_) => Ok(Op::Close(scid)),
         }
@@ -80,7 +64,7 @@ impl Map {
         }
         match self.channel(row.scid()) {
             None => Ok(None),
-            Some(held) if have_same_nodes(held, row) => Err(Refusal::Known),
+            Some(held) if have_same_nodes(&held, row) => Err(Refusal::Known),
             Some(held) => Ok(Some(BanRow {
                 held1: held.node(false),
                 held2: held.node(true),
@@ -111,8 +95,8 @@ impl Map {
         if !self.ends_channel(&node) {
             return Err(Refusal::UnknownNode);
         }
-        match self.node(&node) {
-            Some(held) if row.message.timestamp <= held.message.timestamp => Err(Refusal::NotNewer),
+        match self.kept_node(&node) {
+            Some(held) if row.message.timestamp <= held.timestamp() => Err(Refusal::NotNewer),
             _ => Ok(()),
         }
     }

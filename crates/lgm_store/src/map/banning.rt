@@ -1,14 +1,15 @@
 //! Bans of nodes.
 
-ghost use Rattle.std.specs.Prelude.{◌≡◌, OnOk, OnErr, IfOk, map};
-ghost use Rattle.lgm_store.specs.Sound.{id_of};
-ghost use Rattle.lgm_store.specs.History.{with_ban, banned_channels};
+ghost use Rattle.std.specs.Prelude.{◌≡◌, ◌++◌, OnOk, OnErr, IfOk};
+ghost use Rattle.lgm_store.specs.Reading.{ids_at};
+ghost use Rattle.lgm_store.specs.History.{with_ban};
 
 use super::Map;
 use crate::banned::Banned;
 use lgm_check::BanRow;
 use lgm_gossip::Scid;
 use std::alloc::AllocError;
+use std::mem;
 
 impl Map {
     /// Bans the nodes of two channels. Want of memory leaves the map as it was.
@@ -16,25 +17,26 @@ impl Map {
         ensures ok { OnOk result (self.new ≡ with_ban self.old ban.now) }
         ensures err { OnErr result (self.new ≡ self.old) }
     {
-        let banned = self.banned.with(ban)?;
-        let scids = self.channels_of(&banned)?;
-        self.banned = banned;
+        let scids = self.ids_of(ban)?;
+        self.banned.ban(ban)?;
+        // No channel of a map ends at a banned node, so the points are set aside while channels still do.
+        let banned = mem::replace(&mut self.banned, Banned::new(self.alloc));
         for scid in &scids {
             self.close(*scid);
         }
+        self.banned = banned;
         Ok(())
     }
 
-    /// The channels that end at one of these points, ascending. This walks the channels once.
-    fn channels_of(&self, banned: &Banned) -> Result<Vec<Scid>, AllocError>
-        ensures { IfOk result (λ scids. scids.items ≡ map id_of (banned_channels banned.now self.now.channels)) }
+    /// The ids of the channels that end at the four points, and for each point anew.
+    fn ids_of(&self, ban: &BanRow) -> Result<Vec<Scid>, AllocError>
+        ensures { IfOk result (λ scids. scids.items ≡ ((ids_at self.now.channels ban.now.held1 ++ ids_at self.now.channels ban.now.held2) ++ ids_at self.now.channels ban.now.new1) ++ ids_at self.now.channels ban.now.new2) }
     {
         let mut scids = Vec::new(self.alloc);
-        for (scid, held) in &self.channels {
-            if banned.ends_held(held) {
-                scids.push(*scid)?;
-            }
-        }
+        self.ends.gather(&ban.held1, &mut scids)?;
+        self.ends.gather(&ban.held2, &mut scids)?;
+        self.ends.gather(&ban.new1, &mut scids)?;
+        self.ends.gather(&ban.new2, &mut scids)?;
         Ok(scids)
     }
 }

@@ -5,6 +5,7 @@ ghost use Rattle.lgm_store.specs.Rows.{channel_of, update_of, node_of, ends_chan
 ghost use Rattle.lgm_store.specs.Admission.{channel_admission, update_admission, node_admission, admitted, Offers};
 ghost use Rattle.lgm_store.specs.Decided.{channel_op, node_op};
 ghost use Rattle.lgm_store.specs.History.{absorbed};
+ghost use Rattle.lgm_store.specs.Candidate.{IsSpelled};
 
 use super::Map;
 use crate::candidate::{Candidate, Kind};
@@ -13,29 +14,31 @@ use crate::op::Op;
 use crate::shared::Shared;
 use lgm_check::{BanRow, Checked, Refusal};
 use lgm_gossip::Point;
+use lgm_rows::{KeptChannel, KeptNode, KeptUpdate};
 use std::alloc::Global;
 
 impl Map {
-    /// Admits a message and does its operation, which it gives: [`Map::admit_owned`], and then [`Map::absorb`].
+    /// Admits a message and does its operation, which it gives: [`Map::admit`], and then [`Map::absorb`].
     ///
     /// A refusal or want of memory leaves the map as it was. A refused message is refused also where memory is short.
-    pub fn offer(&mut self, alloc: Global, checked: Checked) -> Result<Op, Refusal>
-        ensures admission { Offers result (admitted self.old checked) }
+    pub fn offer(&mut self, alloc: Global, checked: &Checked) -> Result<Op, Refusal>
+        requires { IsSpelled checked.now }
+        ensures admission { Offers result (admitted self.old checked.now) }
         ensures accepted { IfOk result (λ op. self.new ≡ absorbed self.old op) }
         ensures refused { OnErr result (self.new ≡ self.old) }
     {
         match checked {
             Checked::Channel(row) => {
-                self.admit_channel(&row)?;
-                self.offer_channel(alloc, NewChannel::new(alloc, row)?)
+                self.admit_channel(row)?;
+                self.offer_channel(alloc, NewChannel::new(alloc, KeptChannel::of(alloc, row)?)?)
             }
             Checked::Update(row, signer) => {
-                self.admit_update(&row, &signer)?;
-                self.offer_update(NewUpdate::new(alloc, row)?, &signer)
+                self.admit_update(row, signer)?;
+                self.offer_update(NewUpdate::new(alloc, KeptUpdate::of(alloc, row)?)?, signer)
             }
             Checked::Node(row) => {
-                self.admit_node(&row)?;
-                self.offer_node(NewNode::new(alloc, row)?)
+                self.admit_node(row)?;
+                self.offer_node(NewNode::new(alloc, KeptNode::of(alloc, row)?)?)
             }
         }
     }
@@ -119,8 +122,8 @@ impl Map {
         if !self.ends_channel(node) {
             return Err(Refusal::UnknownNode);
         }
-        match self.node(node) {
-            Some(held) if new.time() <= held.message.timestamp => Err(Refusal::NotNewer),
+        match self.kept_node(node) {
+            Some(held) if new.time() <= held.timestamp() => Err(Refusal::NotNewer),
             _ => Ok(()),
         }
     }

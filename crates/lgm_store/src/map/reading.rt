@@ -6,7 +6,7 @@ ghost use Rattle.lgm_store.specs.Held.{update_in};
 ghost use Rattle.lgm_store.specs.HeldAt.{held_at};
 ghost use Rattle.lgm_store.specs.Laws.{IsLawful};
 ghost use Rattle.lgm_store.specs.Rows.{IsAscending, channel_of, update_of, node_of, ends_channel, is_banned};
-ghost use Rattle.lgm_store.specs.Reading.{next_channel_of, next_node_of, block_of, ids_between_of, channels_between_of};
+ghost use Rattle.lgm_store.specs.Reading.{next_channel_of, next_node_of, ids_at, block_of, ids_between_of, channels_between_of};
 ghost use Rattle.lgm_store.specs.Start.{start_after, IsEndBefore};
 
 use super::Map;
@@ -15,6 +15,7 @@ use crate::shared::found;
 use crate::walks::{Channels, ChannelsBetween, Nodes};
 use lgm_check::{ChannelRow, NodeRow, UpdateRow};
 use lgm_gossip::{Point, Scid, Scids};
+use lgm_rows::KeptNode;
 use std::alloc::{AllocError, Global};
 use std::ops::Bound;
 
@@ -36,22 +37,30 @@ impl Map {
     }
 
     /// The row of a channel, if it is held.
-    pub fn channel(&self, scid: Scid) -> Option<&ChannelRow>
-        ensures { option_copied result ≡ channel_of self.now.channels scid }
+    pub fn channel(&self, scid: Scid) -> Option<ChannelRow<'_>>
+        ensures { result ≡ channel_of self.now.channels scid }
     {
         let held = self.held(scid)?;
         Some(held.row())
     }
 
     /// The row of a channel's direction, if it is held: that from node 2 if `second`, else that from node 1.
-    pub fn update(&self, scid: Scid, second: bool) -> Option<&UpdateRow>
-        ensures { option_copied result ≡ update_of self.now.updates scid second }
+    pub fn update(&self, scid: Scid, second: bool) -> Option<UpdateRow<'_>>
+        ensures { result ≡ update_of self.now.updates scid second }
     {
         self.held(scid)?.update(second)
     }
 
     /// The row of a node, if it is held.
-    pub fn node(&self, node: &Point) -> Option<&NodeRow>
+    pub fn node(&self, node: &Point) -> Option<NodeRow<'_>>
+        ensures { result ≡ node_of self.now.nodes node.now }
+    {
+        let kept = self.kept_node(node)?;
+        Some(kept.row())
+    }
+
+    /// A node as it is kept, if it is held.
+    pub fn kept_node(&self, node: &Point) -> Option<&KeptNode>
         ensures { option_copied result ≡ node_of self.now.nodes node.now }
     {
         found(self.nodes.get(node))
@@ -62,6 +71,15 @@ impl Map {
         ensures { result ≡ ends_channel self.now.channels node.now }
     {
         self.ends.contains(node)
+    }
+
+    /// The ids of the channels that end at a node, ascending. Only these are walked.
+    pub fn ids_at(&self, alloc: Global, node: &Point) -> Result<Scids, AllocError>
+        ensures { IfOk result (λ ids. ids ≡ ids_at self.now.channels node.now) }
+    {
+        let mut ids = Vec::new(alloc);
+        self.ends.gather(node, &mut ids)?;
+        Ok(Scids::from_vec(ids))
     }
 
     /// Whether the node is banned. It takes no memory.
@@ -80,8 +98,8 @@ impl Map {
     }
 
     /// The channel with the least id above one, or with the least of all.
-    pub fn next_channel(&self, after: Option<Scid>) -> Option<&ChannelRow>
-        ensures { option_copied result ≡ next_channel_of self.now.channels after }
+    pub fn next_channel(&self, after: Option<Scid>) -> Option<ChannelRow<'_>>
+        ensures { result ≡ next_channel_of self.now.channels after }
     {
         let range = (start_after(after), Bound::Unbounded);
         let (_, held) = self.channels.range(range).next()?;
@@ -89,12 +107,12 @@ impl Map {
     }
 
     /// The node with the least point above one, byte by byte, or with the least of all.
-    pub fn next_node(&self, after: Option<&Point>) -> Option<&NodeRow>
-        ensures { option_copied result ≡ next_node_of self.now.nodes (option_copied after.entry) }
+    pub fn next_node(&self, after: Option<&Point>) -> Option<NodeRow<'_>>
+        ensures { result ≡ next_node_of self.now.nodes (option_copied after.entry) }
     {
         let range = (start_after(after.copied()), Bound::Unbounded);
         let (_, row) = self.nodes.range(range).next()?;
-        Some(row.get())
+        Some(row.get().row())
     }
 
     /// The channels with their updates, by id.

@@ -1,5 +1,7 @@
 //! A pen and its eyes.
 
+ghost use Rattle.std.specs.Prelude.{◌≡◌};
+
 use super::{channel, scid, update};
 use crate::made::node;
 use lgm_graph::Known;
@@ -10,6 +12,8 @@ use std::process::Abort;
 use std::random::RandomSource;
 use std::sync::Wait;
 use std::test::Fail;
+use std::thread;
+use std::thread::Threads;
 
 /// What a map has of the channel.
 #[derive(Clone, Copy, Debug, PartialEq, Eq)]
@@ -62,7 +66,9 @@ fn look(eye: Eye) -> (Eye, Option<Shown>) {
 }
 
 /// Appends two operations and publishes them.
-fn publish_two<R: Wait>(rt: &R, pen: &mut Pen, first: Op, second: Op) -> bool {
+fn publish_two<R: Wait>(rt: &R, pen: &mut Pen, first: Op, second: Op) -> bool
+    ensures { pen.new.board ≡ pen.old.board }
+{
     let one = pen.append(first).is_ok();
     let two = pen.append(second).is_ok();
     let published = pen.publish(rt).is_ok();
@@ -70,7 +76,9 @@ fn publish_two<R: Wait>(rt: &R, pen: &mut Pen, first: Op, second: Op) -> bool {
 }
 
 /// Appends an operation and publishes it.
-fn publish_one<R: Wait>(rt: &R, pen: &mut Pen, op: Op) -> bool {
+fn publish_one<R: Wait>(rt: &R, pen: &mut Pen, op: Op) -> bool
+    ensures { pen.new.board ≡ pen.old.board }
+{
     let appended = pen.append(op).is_ok();
     let published = pen.publish(rt).is_ok();
     appended && published
@@ -189,5 +197,167 @@ fn views_are_under_the_known_features(rt: HostRuntime) -> Result<(), Fail> {
         let (pen, eye) = pen_and_eye(&rt, alloc, &known)?;
         assert_eq!(rt; edges_of(&rt, pen, eye, ops), Some(want));
     }
+    Ok(())
+}
+
+/// A pen and two eyes, neither of which is told anything.
+fn pen_and_two_eyes<R: Wait + RandomSource + Abort>(
+    rt: &R,
+    alloc: Global,
+) -> Result<(Pen, Eye, Eye), Fail> {
+    let (pen, mut eyes) = board(rt, alloc, 2, &Known::all())?;
+    let second = eyes.pop().expect(rt, "an eye");
+    let first = eyes.pop().expect(rt, "another eye");
+    Ok((pen, first, second))
+}
+
+/// What two eyes are shown, of which one is told what is published.
+#[derive(Clone, Copy, Debug, PartialEq, Eq)]
+struct Told {
+    told: Option<Shown>,
+    other: Option<u64>,
+    /// What a copy has of the map that the first eye is shown while a close is appended alone.
+    copied: Option<Held>,
+    published: u64,
+}
+
+/// What a copy has of the map that a guard of the eye shows.
+fn copied(alloc: Global, eye: Eye) -> Option<Held> {
+    let guard = match eye.enter() {
+        Ok(guard) => guard,
+        Err(_eye) => return None,
+    };
+    let held = match guard.map().copy(alloc) {
+        Ok(map) => Some(holds(&map)),
+        Err(_) => None,
+    };
+    guard.leave();
+    held
+}
+
+/// Two operations are published, and then one; one eye is told of it.
+fn watch_two<R: Wait + RandomSource + Abort>(
+    rt: &R,
+    alloc: Global,
+    (one, two, three): (Op, Op, Op),
+) -> Result<Told, Fail> {
+    let (mut pen, mut eyes) = board(rt, alloc, 2, &Known::all())?;
+    let mut first = eyes.pop().expect(rt, "an eye");
+    let second = eyes.pop().expect(rt, "another eye");
+    publish_two(rt, &mut pen, one, two);
+    publish_one(rt, &mut pen, three);
+    first.learn(pen.tell());
+    let (first, told) = look(first);
+    let (_second, other) = look(second);
+    let _ = pen.append(Op::Close(scid()));
+    let copied = copied(alloc, first);
+    let published = pen.published();
+    pen.end(rt);
+    Ok(Told {
+        told,
+        other: other.map(|shown| shown.version),
+        copied,
+        published,
+    })
+}
+
+// The eye that wasn't told is shown one of the versions.
+#[test]
+fn an_eye_that_was_told_and_one_that_was_not(rt: HostRuntime) -> Result<(), Fail> {
+    let alloc = rt.alloc();
+    let ops = (channel(alloc)?, update(alloc, 0)?, update(alloc, 1)?);
+    let story = watch_two(&rt, alloc, ops)?;
+    let whole = Held {
+        sat: 100_000,
+        updates: (true, true),
+    };
+    let told = Shown {
+        version: 3,
+        map: whole,
+        edges: 2,
+    };
+    assert_eq!(rt; story.told, Some(told));
+    assert_eq!(rt; story.copied, Some(whole));
+    assert_eq!(rt; story.published, 3);
+    assert!(rt; story.other == Some(0) || story.other == Some(2) || story.other == Some(3));
+    Ok(())
+}
+
+/// What a guard of the first eye shows before and after a look through the second one, and whether that one was let in.
+fn look_twice(first: Eye, second: Eye) -> Option<(Shown, Shown, bool)> {
+    let guard = match first.enter() {
+        Ok(guard) => guard,
+        Err(_eye) => return None,
+    };
+    let before = shows(&guard);
+    let (_second, beside) = look(second);
+    let after = shows(&guard);
+    guard.leave();
+    Some((before, after, beside.is_some()))
+}
+
+/// What a guard shows while another thread publishes twice, and how much is published in the end.
+fn watch_beside<R: Wait + Threads>(
+    rt: &R,
+    mut pen: Pen,
+    eyes: (Eye, Eye),
+    (one, two, three): (Op, Op, Op),
+) -> (Option<(Shown, Shown, bool)>, u64) {
+    publish_one(rt, &mut pen, one);
+    let mut eyes = Some(eyes);
+    let mut ops = Some((two, three));
+    let (shown, ()) = thread::join_mut(
+        rt,
+        &mut || match eyes.take() {
+            Some((first, second)) => look_twice(first, second),
+            None => None,
+        },
+        &mut || {
+            if let Some((two, three)) = ops.take() {
+                publish_one(rt, &mut pen, two);
+                publish_one(rt, &mut pen, three);
+            }
+        },
+    );
+    let published = pen.published();
+    pen.end(rt);
+    (shown, published)
+}
+
+// A guard shows what it was entered on, whatever is published meanwhile. The other eye isn't held up.
+#[test]
+fn a_guard_is_held_over_a_publication(rt: HostRuntime) -> Result<(), Fail> {
+    let alloc = rt.alloc();
+    let ops = (channel(alloc)?, update(alloc, 0)?, update(alloc, 1)?);
+    let (pen, first, second) = pen_and_two_eyes(&rt, alloc)?;
+    let (shown, published) = watch_beside(&rt, pen, (first, second), ops);
+    assert_eq!(rt; published, 3);
+    let (before, after, beside) = shown.expect(&rt, "a guard");
+    assert_eq!(rt; before, after);
+    assert!(rt; beside);
+    Ok(())
+}
+
+/// Publishes each operation by itself, and tells what the eye is shown then.
+fn publish_each<R: Wait>(rt: &R, mut pen: Pen, eye: Eye, ops: Vec<Op>) -> Option<Shown> {
+    for op in ops {
+        publish_one(rt, &mut pen, op);
+    }
+    let (_eye, shown) = look(eye);
+    pen.end(rt);
+    shown
+}
+
+// The channel comes and goes a hundred times.
+#[test]
+fn two_hundred_versions(rt: HostRuntime) -> Result<(), Fail> {
+    let alloc = rt.alloc();
+    let mut ops = Vec::new(alloc);
+    for _turn in 0..100 {
+        ops.push(channel(alloc)?)?;
+        ops.push(Op::Close(scid()))?;
+    }
+    let (pen, eye) = pen_and_eye(&rt, alloc, &Known::all())?;
+    assert_eq!(rt; publish_each(&rt, pen, eye, ops), Some(without(200)));
     Ok(())
 }

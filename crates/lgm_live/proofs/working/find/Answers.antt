@@ -17,6 +17,6 @@ returns c =
       | inl none ↦ inl none
       | inr answer ↦ inr (answer-tried (edges view) (edges_of known rows) c.args.request.now c.least.result
           (are_directions known rows (subst IsAscending c.map.ensures c.rows_are_lawful.ensures.ascend))
-          (λ edge. subst (λ k. Contains (edges view) edge ↔ Contains (edges_of k rows) edge) c.view-view.ensures.known (c.shows_the_edges.ensures rows c.view-view.ensures.beside edge))
+          (λ edge. subst (λ k. Contains (edges view) edge ↔ Contains (edges_of k rows) edge) c.view-view.ensures.known (c.shows_the_edges.ensures.found rows c.view-view.ensures.beside edge))
           answer)
     ]

@@ -18,6 +18,6 @@ returns c =
       | inr answer ↦ inr (answer-tried (edges view) (edges_of graph.known rows) c.args.request.now c.least.result
           (are_directions graph.known rows (subst IsAscending c.map.ensures c.rows_are_lawful.ensures.ascend))
           (λ edge. subst (λ k. Contains (edges view) edge ↔ Contains (edges_of k rows) edge) (ap (λ (g : Graph). g.known) shown)
-          (c.shows_the_edges.ensures rows (subst (IsGraphOf rows) (sym shown) c.view-view.ensures.beside) edge))
+          (c.shows_the_edges.ensures.found rows (subst (IsGraphOf rows) (sym shown) c.view-view.ensures.beside) edge))
           answer)
     ]

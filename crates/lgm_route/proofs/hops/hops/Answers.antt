@@ -1,5 +1,4 @@
-use Rattle.std.proofs.Common.{◌-◌, length, get_or, refl, arith}
-use Rattle.lgm_route.specs.Searching.{no_arc}
+use Rattle.std.proofs.Common.{arith}
 use Rattle.lgm_route.proofs.HopLaws.{hops_more, owed_fits}
 use Rattle.lgm_route.proofs.hops.hops.Goals as goal
 
@@ -10,6 +9,6 @@ overflow_cast-amount c =
 pub loop-i-preserved : goal.loop-i-preserved
 loop-i-preserved c =
     let walk = c.args.walk.now in
-    let arc = get_or walk (length walk - 1 - c.loop-i.i) no_arc in
-    hops_more c.args.view.now c.args.request.now walk c.loop-i.i c.loop-i.owed c.loop-i.due c.loop-i.hops.items c.push.new.self.items no_arc arc c.hop_over.result c.fee-owed.result
-    c.loop-i-test.true refl (omega arith) c.hop_over.ensures c.fee-owed.ensures.value c.in_ok-push.ensures.items c.loop-i.invariant
+    let link = c.index-walk-walk.result in
+    hops_more c.args.view.now c.args.request.now walk c.loop-i.i c.loop-i.owed c.loop-i.due c.loop-i.hops.items c.push.new.self.items link link c.hop_over.result c.fee-owed.result
+    c.loop-i-test.true c.index-walk-walk.is (omega arith) c.hop_over.ensures c.fee-owed.ensures.value c.in_ok-push.ensures.items c.loop-i.invariant

@@ -16,5 +16,5 @@ returns c =
     elim c.least.ensures.answer [
       | inl none ↦ inl none
       | inr answer ↦ inr (answer-tried (edges view) (edges_of chart.known rows) c.args.request.now c.least.result (are_directions chart.known rows c.rows_are_lawful.ensures.ascend)
-          (λ edge. subst (λ k. Contains (edges view) edge ↔ Contains (edges_of k rows) edge) is.known_is (c.shows_the_edges.ensures rows is.graph edge)) answer)
+          (λ edge. subst (λ k. Contains (edges view) edge ↔ Contains (edges_of k rows) edge) is.known_is (c.shows_the_edges.ensures.found rows is.graph edge)) answer)
     ]

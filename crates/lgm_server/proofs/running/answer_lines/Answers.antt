@@ -1,4 +1,4 @@
-use Rattle.std.proofs.Common.{◌≡◌, Bool, [], ℕ, Option, refl, sym, ap, subst, ◌∙◌, arith, rules}
+use Rattle.std.proofs.Common.{◌≡◌, Bool, [], ℕ, ◌-◌, Option, refl, sym, ap, subst, ◌∙◌, arith, rules}
 use Rattle.std.proofs.lemmas.List.{length-map}
 use Rattle.std.specs.Prelude.{map}
 use Rattle.std.proofs.lemmas.Result.{err_from_is_err_and}
@@ -45,7 +45,7 @@ returns-in_err-count-clause-some g c =
     let new = seen g.W.Sink.taken g.W.Sink.failures c.next_line.new.output in
     (cut c.args.chain.now c.args.engine.now.known (g.R.Source.left c.args.source.now) c.loop-number.number c.loop-number.engine c.next_line.new.lines (g.R.Source.left c.next_line.new.source)
     (ahead c.loop-number.lines (g.R.Source.left c.loop-number.source)) (seen g.W.Sink.taken g.W.Sink.failures c.args.output.now) mid new
-    c.loop-number.invariant.so_far c.in_err-count.ensures.kept (line_some {T = Option ℕ} c.in_err-count.field-0.0 mid new c.in_err-count.ensures.told c.in_err-count.ensures.write))
+    c.loop-number.invariant.so_far c.loop-number.invariant.within c.in_err-count.ensures.kept (line_some {T = Option ℕ} c.in_err-count.field-0.0 mid new c.in_err-count.ensures.told c.in_err-count.ensures.write))
 
 pub returns-in_default-clause-ok : goal.returns-in_default-clause-ok
 returns-in_default-clause-ok g c =
@@ -76,10 +76,10 @@ returns-in_err-some-clause-some g c =
     let new = seen g.W.Sink.taken g.W.Sink.failures c.answer_next.new.output in
     let first = rw c.in-Some.is at c.in_ok-count.ensures.line in
     let begun = c.in_err-some.ensures.fault in
-    cut_in chain known script k c.in-Some.count state c.next_line.new.lines (g.R.Source.left c.next_line.new.source) input old own new
+    cut_in chain known script k (10000000 - k) c.in-Some.count state c.next_line.new.lines (g.R.Source.left c.next_line.new.source) input old own new
     (told_on chain known script k state input old mid own c.loop-number.invariant.so_far (c.in_ok-count.ensures.told (λ e. absurd cc)))
-    c.in_ok-count.ensures.kept first
-    (record { lines = begun.lines; len = begun.len; next = begun.next; text = some_of_part own new _ c.in_err-some.field-0.0 begun.text })
+    (omega (arith, c.loop-number-test.true)) c.in_ok-count.ensures.kept first
+    (record { lines = begun.lines; len = begun.len; next = begun.next; limit = begun.limit; text = some_of_part own new _ c.in_err-some.field-0.0 begun.text })
 
 pub loop-number-preserved : goal.loop-number-preserved
 loop-number-preserved g c =
@@ -116,7 +116,7 @@ returns-in_err-more_begins-clause-some g c =
     let new = seen g.W.Sink.taken g.W.Sink.failures c.more_begins.new.output in
     (cut c.args.chain.now c.args.engine.now.known (g.R.Source.left c.args.source.now) c.loop-number.number c.loop-number.engine c.more_begins.new.lines (g.R.Source.left c.more_begins.new.source)
     (ahead c.loop-number.lines (g.R.Source.left c.loop-number.source)) (seen g.W.Sink.taken g.W.Sink.failures c.args.output.now) mid new
-    c.loop-number.invariant.so_far c.in_err-more_begins.ensures.kept (line_some {T = Bool} c.in_err-more_begins.field-0.0 mid new c.in_err-more_begins.ensures.told c.in_err-more_begins.ensures.write))
+    c.loop-number.invariant.so_far c.loop-number.invariant.within c.in_err-more_begins.ensures.kept (line_some {T = Bool} c.in_err-more_begins.field-0.0 mid new c.in_err-more_begins.ensures.told c.in_err-more_begins.ensures.write))
 
 pub returns-then-branch-clause-too_many : goal.returns-then-branch-clause-too_many
 returns-then-branch-clause-too_many g c = λ _.
@@ -139,7 +139,7 @@ returns-then-branch-clause-some g c =
     let new = seen g.W.Sink.taken g.W.Sink.failures c.more_begins.new.output in
     cut c.args.chain.now c.args.engine.now.known (g.R.Source.left c.args.source.now) c.loop-number.number c.loop-number.engine c.more_begins.new.lines (g.R.Source.left c.more_begins.new.source)
     (ahead c.loop-number.lines (g.R.Source.left c.loop-number.source)) (seen g.W.Sink.taken g.W.Sink.failures c.args.output.now) mid new
-    c.loop-number.invariant.so_far c.in_ok-more_begins.ensures.kept (some_of_all mid new [] (c.in_ok-more_begins.ensures.told (λ e. absurd cc)))
+    c.loop-number.invariant.so_far c.loop-number.invariant.within c.in_ok-more_begins.ensures.kept (some_of_all mid new [] (c.in_ok-more_begins.ensures.told (λ e. absurd cc)))
 
 pub returns-clause-ok : goal.returns-clause-ok
 returns-clause-ok g c =
@@ -162,7 +162,7 @@ returns-in_default-clause-some g c =
     let new = seen g.W.Sink.taken g.W.Sink.failures c.next_line.new.output in
     cut c.args.chain.now c.args.engine.now.known (g.R.Source.left c.args.source.now) c.loop-number.number c.loop-number.engine c.next_line.new.lines (g.R.Source.left c.next_line.new.source)
     (ahead c.loop-number.lines (g.R.Source.left c.loop-number.source)) (seen g.W.Sink.taken g.W.Sink.failures c.args.output.now) mid new
-    c.loop-number.invariant.so_far c.in_ok-count.ensures.kept (some_of_all mid new [] (c.in_ok-count.ensures.told (λ e. absurd cc)))
+    c.loop-number.invariant.so_far c.loop-number.invariant.within c.in_ok-count.ensures.kept (some_of_all mid new [] (c.in_ok-count.ensures.told (λ e. absurd cc)))
 
 pub returns-clause-some : goal.returns-clause-some
 returns-clause-some g c =
@@ -170,4 +170,4 @@ returns-clause-some g c =
     let new = seen g.W.Sink.taken g.W.Sink.failures c.more_begins.new.output in
     cut c.args.chain.now c.args.engine.now.known (g.R.Source.left c.args.source.now) c.loop-number.number c.loop-number.engine c.more_begins.new.lines (g.R.Source.left c.more_begins.new.source)
     (ahead c.loop-number.lines (g.R.Source.left c.loop-number.source)) (seen g.W.Sink.taken g.W.Sink.failures c.args.output.now) mid new
-    c.loop-number.invariant.so_far c.in_ok-more_begins.ensures.kept (some_of_all mid new [] (c.in_ok-more_begins.ensures.told (λ e. absurd cc)))
+    c.loop-number.invariant.so_far c.loop-number.invariant.within c.in_ok-more_begins.ensures.kept (some_of_all mid new [] (c.in_ok-more_begins.ensures.told (λ e. absurd cc)))

@@ -34,6 +34,7 @@ returns-in_err-group-clause-fault g c =
       lines = take c.args.first buffered ∷ [];
       len = min (c.args.first + 1) (length buffered);
       next = first_alone buffered c.args.first c.requires.line.0 c.requires.line.1;
+      limit = c.requires.most.0;
       text = tells_none _ _;
     })
 
@@ -50,5 +51,6 @@ returns-in_err-answer-clause-fault g c =
         short = c.in_ok-group.ensures.short;
         front = rw c.buffered.ensures at c.in_ok-group.ensures.lines;
       };
+      limit = omega (arith, c.in_ok-group.ensures.few, length-map items (λ line. line.now));
       text = subst (λ a. SendsPart g.W.Sink.taken g.W.Sink.failures c.args.output.now c.answer.new.output (text_from c.args.chain.now c.args.number c.args.engine.now a) c.in_err-answer.field-0.0) (asked_texts items) c.in_err-answer.ensures.fault;
     })

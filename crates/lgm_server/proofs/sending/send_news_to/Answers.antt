@@ -1,4 +1,4 @@
-use Rattle.std.proofs.Common.{◌∷◌, Some, List, ℕ, refl, sym, ap, ◌∙◌}
+use Rattle.std.proofs.Common.{Some, refl, sym, ap, ◌∙◌}
 use Rattle.std.specs.List.{flat_map}
 use Rattle.std.proofs.lemmas.Result.{err_from_is_err_and}
 use Rattle.lgm_script.specs.Text.{message_line}
@@ -13,7 +13,7 @@ pub loop-message-preserved : goal.loop-message-preserved
 loop-message-preserved g c = record {
   writer = c.in_ok-send_message.ensures.writer ∙ c.loop-message.invariant.writer;
   told = onward_more _ _ _ _ _ _ _ c.loop-message.invariant.told
-      (ap (flat_map (message_line c.args.number (Some c.args.own.now.peer))) (c.in-Some.ensures.steps ∙ ap (λ (m : List ℕ). m ∷ c.next.new.self) (sym c.as_slice.ensures)))
+      (ap (flat_map (message_line c.args.number (Some c.args.own.now.peer))) c.in-Some.ensures.steps)
       c.in_ok-send_message.ensures.told;
 }
 
@@ -21,7 +21,7 @@ pub returns-in_err-send_message-clause-fault : goal.returns-in_err-send_message-
 returns-in_err-send_message-clause-fault g c =
     let p = err_from_is_err_and c.from_residual.result c.from_residual.ensures.1 in
     rw (p.1, p.2) (onward_stops _ _ _ _ _ _ _ _ c.loop-message.invariant.told
-    (ap (flat_map (message_line c.args.number (Some c.args.own.now.peer))) (c.in-Some.ensures.steps ∙ ap (λ (m : List ℕ). m ∷ c.next.new.self) (sym c.as_slice.ensures)))
+    (ap (flat_map (message_line c.args.number (Some c.args.own.now.peer))) c.in-Some.ensures.steps)
     c.in_err-send_message.ensures.fault)
 
 pub returns-clause-told : goal.returns-clause-told

@@ -7,8 +7,8 @@ pub returns : goal.returns
 returns c =
     let m = c.args.self.now in
     encodes 258 c.join.result
-    (then_whole 64 c.whole.result m.signature c.whole.ensures
-    (then_whole 32 c.whole-2.result m.chain_hash.0 c.whole-2.ensures
+    (then_whole 64 c.part.result m.signature c.part.ensures
+    (then_whole 32 c.whole.result m.chain_hash.0 c.whole.ensures
     (then_64 c.to_u64.result m.short_channel_id c.to_u64.ensures
     (then_32 m.timestamp
     (then_8 m.message_flags

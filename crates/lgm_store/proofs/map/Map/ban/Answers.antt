@@ -1,35 +1,50 @@
-use Rattle.std.proofs.Common.{◌≡◌, ◌∙◌, ap, sym, refl, take, map}
+use Rattle.std.proofs.Common.{◌≡◌, ◌∙◌, ap, sym, subst, take}
 use Rattle.std.proofs.lemmas.List.{take_all}
-use Rattle.std.specs.Map.{values_of}
-use Rattle.lgm_store.specs.Held.{channel_entries, update_entries}
 use Rattle.lgm_store.specs.Rows.{Rows}
-use Rattle.lgm_store.specs.History.{without_channel, with_ban, banning, banned_channels}
-use Rattle.lgm_store.specs.Sound.{id_of}
-use Rattle.lgm_store.proofs.Bans.{closed_all, closed_all-more, closed_all-bans}
-use Rattle.lgm_store.proofs.Ascending.{ascend-channels}
+use Rattle.lgm_store.specs.History.{without_channel, with_banned, with_ban}
+use Rattle.lgm_store.specs.Laws.{AreAllowed}
+use Rattle.lgm_store.specs.declared.op.Op.TheVariants as ops
+use Rattle.lgm_store.proofs.Bans.{closed_all-more, closed_all, allowed-none, banned-all}
+use Rattle.lgm_store.proofs.Ascending.{ascend-with_banned}
+use Rattle.lgm_store.proofs.Lawful.{AreAllowed-absorbed}
+use Rattle.lgm_store.proofs.Kept.{rows_of, kept-lawful}
 use Rattle.lgm_store.proofs.map.Map.ban.Goals as goal
+use Rattle.lgm_store.proofs.map.Map.ban.Goals.{After-drop-scids-2}
 
-pub loop-scid-init : goal.loop-scid-init
-loop-scid-init c = refl
+pub invariant_of-self-2 : goal.invariant_of-self-2
+invariant_of-self-2 c = record {
+  rows = c.self.invariant.rows;
+  banned_ascend = rw (c.replace-banned.ensures.after) c.new.ensures.ascend;
+  allowed = rw (c.replace-banned.ensures.after, c.new.ensures.none) (allowed-none _);
+}
 
 pub loop-scid-preserved : goal.loop-scid-preserved
 loop-scid-preserved c =
     c.close.ensures ∙ ap (λ rows. without_channel rows c.scid-item.result) c.loop-scid.invariant
     ∙ sym (closed_all-more _ c.deref-scid-items.result.now c.loop-scid.scid-index c.scid-item.result c.loop-scid-test.true c.scid-item.is)
 
+-- the rows with the points back in their place
+done : (c : After-drop-scids-2) → rows_of c.self-2.inside.channels.entries c.self-2.inside.nodes.entries c.replace-banned.result ≡ with_ban c.args.self.now c.args.ban.now
+done c =
+    let points : Rows → Rows = λ rows. record rows { banned = c.replace-banned.result } in
+    let aside : Rows → Rows = λ rows. record rows { banned = c.replace-banned.new.dest } in
+    let lawful = kept-lawful c.self.inside.channels.entries c.self.inside.nodes.entries c.self.inside.ends c.self.inside.banned c.args.self.now c.self.view_is c.self.invariant in
+    let whole : take c.loop-scid.scid-index c.deref-scid-items.result.now ≡ c.in_ok-scids.scids.items =
+    take_all c.loop-scid.scid-index c.deref-scid-items.result.now c.loop-scid-test.false ∙ c.deref-scid-items.ensures.value in
+    let start : Rows = rows_of c.self.inside.channels.entries c.self.inside.nodes.entries c.replace-banned.new.dest in
+    ap points c.self-2.view_is
+    ∙ banned-all c.args.self.now start c.loop-scid.self c.replace-banned.new.dest c.replace-banned.result c.in_ok-scids.scids.items c.args.ban.now lawful
+    (c.replace-banned.ensures.after ∙ c.new.ensures.none) (ap aside c.self.view_is) c.in_ok-scids.ensures (c.loop-scid.invariant ∙ ap (closed_all start) whole)
+    (c.replace-banned.ensures.value ∙ c.in_ok-ban.ensures.ok ∙ ap (λ rows. with_banned rows.banned c.args.ban.now) c.self.view_is)
+
+pub invariant_of-self-3 : goal.invariant_of-self-3
+invariant_of-self-3 c =
+    let lawful = kept-lawful c.self.inside.channels.entries c.self.inside.nodes.entries c.self.inside.ends c.self.inside.banned c.args.self.now c.self.view_is c.self.invariant in
+    record {
+      rows = c.self-2.invariant.rows;
+      banned_ascend = rw (c.replace-banned.ensures.value, c.in_ok-ban.ensures.ok) (ascend-with_banned c.self.inside.banned c.args.ban.now c.self.invariant.banned_ascend);
+      allowed = subst AreAllowed (sym (done c)) (AreAllowed-absorbed c.args.self.now (ops.Ban c.args.ban.now) lawful.allowed);
+    }
+
 pub returns-clause-ok : goal.returns-clause-ok
-returns-clause-ok c =
-    let ids = c.in_ok-scids.scids.items in
-    let rows : Rows = record {
-      channels = values_of (channel_entries c.self.inside.channels.entries);
-      updates = values_of (update_entries c.self.inside.channels.entries);
-      nodes = values_of c.self.inside.nodes.entries;
-      banned = c.in_ok-banned.banned;
-    } in
-    let sound = c.self.invariant.rows in
-    let whole : take c.loop-scid.scid-index c.deref-scid-items.result.now ≡ ids = take_all c.loop-scid.scid-index c.deref-scid-items.result.now c.loop-scid-test.false ∙ c.deref-scid-items.ensures.value in
-    let ids_are = c.in_ok-scids.ensures ∙ ap (λ r. map id_of (banned_channels c.in_ok-banned.banned r.channels)) (sym c.self.view_is) in
-    c.loop-scid.invariant ∙ ap (closed_all rows) whole
-    ∙ closed_all-bans ids rows c.in_ok-banned.banned refl ids_are (ascend-channels (channel_entries c.self.inside.channels.entries) sound.channels_keyed sound.channels_ascend) sound.nodes_ended
-    ∙ ap (banning rows) (c.in_ok-banned.ensures.points)
-    ∙ ap (λ r. with_ban r c.args.ban.now) c.self.view_is
+returns-clause-ok c = done c

@@ -1,10 +1,12 @@
-use Rattle.std.proofs.Common.{◌≡◌, true, sym, ◌∙◌, ap}
+use Rattle.std.proofs.Common.{◌≡◌, true, false, sym, ◌∙◌, ap}
 use Rattle.std.specs.Prelude.{is_some}
 use Rattle.std.specs.Map.{values_of}
-use Rattle.lgm_store.specs.Rows.{channel_of}
+use Rattle.lgm_store.specs.Held.{channel_entries}
+use Rattle.lgm_store.specs.Rows.{channel_of, ends_banned}
 use Rattle.lgm_store.specs.History.{channels_without, updates_without, ended_nodes}
 use Rattle.lgm_store.proofs.Holding.{ascend-held}
 use Rattle.lgm_store.proofs.Soundness.{closed, IsSound-unchanged}
+use Rattle.lgm_store.proofs.Lawful.{All-filtered}
 use Rattle.lgm_store.proofs.Changes.{is_held, without_channel-held, without_channel-none}
 use Rattle.lgm_store.proofs.map.Map.close.Goals as goal
 
@@ -14,6 +16,7 @@ invariant_of-self c =
       rows =
           IsSound-unchanged c.self.inside.channels.entries c.remove.new.self.entries c.self.inside.nodes.entries c.self.inside.ends c.in_default.ensures.unchanged c.self.invariant.rows;
       banned_ascend = c.self.invariant.banned_ascend;
+      allowed = rw (c.in_default.ensures.unchanged) c.self.invariant.allowed;
     }
 
 pub returns-in_default : goal.returns-in_default
@@ -23,14 +26,16 @@ returns-in_default c =
 
 pub invariant_of-self-2 : goal.invariant_of-self-2
 invariant_of-self-2 c =
+    let left = closed c.self.inside.channels.entries c.remove.new.self.entries c.self.inside.nodes.entries c.drop_unless_ended.new.nodes.entries c.drop_unless_ended-2.new.nodes.entries
+    c.self.inside.ends c.remove-2.new.self c.args.scid c.in-Some.held c.node.result.now c.node-2.result.now
+    c.node.ensures c.node-2.ensures
+    c.remove.ensures.entries (sym c.in-Some.ensures.value) (ascend-held c.self.inside.channels.entries c.self.invariant.rows.channels_ascend) c.remove.ensures.ordered
+    c.remove-2.ensures c.drop_unless_ended.ensures.left c.drop_unless_ended-2.ensures.left c.drop_unless_ended-2.ensures.keyed c.drop_unless_ended-2.ensures.ascend c.self.invariant.rows in
     record {
-      rows =
-          (closed c.self.inside.channels.entries c.remove.new.self.entries c.self.inside.nodes.entries c.drop_unless_ended.new.nodes.entries c.drop_unless_ended-2.new.nodes.entries
-          c.self.inside.ends c.remove-2.new.self c.args.scid c.in-Some.held c.node.result.now c.node-2.result.now
-          c.node.ensures c.node-2.ensures
-          c.remove.ensures.entries (sym c.in-Some.ensures.value) (ascend-held c.self.inside.channels.entries c.self.invariant.rows.channels_ascend) c.remove.ensures.ordered
-          c.remove-2.ensures c.drop_unless_ended.ensures.left c.drop_unless_ended-2.ensures.left c.drop_unless_ended-2.ensures.keyed c.drop_unless_ended-2.ensures.ascend c.self.invariant.rows).sound;
+      rows = left.sound;
       banned_ascend = c.self.invariant.banned_ascend;
+      allowed = rw (left.channels_left) (All-filtered (λ row. ends_banned c.self.inside.banned row ≡ false) (λ row. ends_banned c.self.inside.banned row ≡ false) _ (values_of (channel_entries c.self.inside.channels.entries))
+          (λ row is allowed. allowed) c.self.invariant.allowed);
     }
 
 pub returns : goal.returns

@@ -2,10 +2,10 @@ use Rattle.std.proofs.Common.{◌∙◌, ap}
 use Rattle.std.specs.Map.{values_of}
 use Rattle.lgm_store.specs.Held.{channel_entries}
 use Rattle.lgm_store.specs.Rows.{ends_channel}
-use Rattle.lgm_store.proofs.Soundness.{ends-counted}
+use Rattle.lgm_store.proofs.Soundness.{ends-listed}
 use Rattle.lgm_store.proofs.map.Map.ends_channel.Goals as goal
 
 pub returns : goal.returns
 returns c =
-    c.contains.ensures ∙ ends-counted c.self.inside.ends (values_of (channel_entries c.self.inside.channels.entries)) c.args.node.now c.self.invariant.rows.counted
+    c.contains.ensures ∙ ends-listed c.self.inside.ends (values_of (channel_entries c.self.inside.channels.entries)) c.args.node.now c.self.invariant.rows.listed
     ∙ ap (λ rows. ends_channel rows.channels c.args.node.now) c.self.view_is

@@ -1,30 +1,28 @@
-use Rattle.std.proofs.Common.{◌∙◌, ap}
+use Rattle.std.proofs.Common.{◌≡◌, false, ◌∙◌, ap}
 use Rattle.std.specs.Map.{values_of}
-use Rattle.std.specs.BTreeMap.{insert_entry}
+use Rattle.std.specs.Option.{option_map}
+use Rattle.std.specs.BTreeMap.{is_at, insert_entry}
 use Rattle.std.specs.Ordering.{nat_cmp}
 use Rattle.lgm_store.specs.Held.{alone, channel_entries, update_entries}
-use Rattle.lgm_store.specs.Rows.{put, by_id}
+use Rattle.lgm_store.specs.Rows.{put, by_id, ends_banned}
 use Rattle.lgm_store.proofs.Lists.{values-channel}
-use Rattle.lgm_store.proofs.Holding.{length-channels, insert-channels, insert-updates}
-use Rattle.lgm_store.proofs.Soundness.{number_at-bound, IsSound-held, IsSound-undone, IsSound-counted}
+use Rattle.lgm_store.proofs.Holding.{lookup-channels, insert-channels, insert-updates}
+use Rattle.lgm_store.proofs.Soundness.{IsSound-held, IsSound-undone, IsSound-listed, lacks}
+use Rattle.lgm_store.proofs.Lawful.{All-put}
 use Rattle.lgm_store.proofs.Changes.{not_held, with_channel-new}
 use Rattle.lgm_store.proofs.map.Map.insert_channel.Goals as goal
 
-pub add-requires-clause-first : goal.add-requires-clause-first
-add-requires-clause-first c =
-    number_at-bound c.self.inside.ends (channel_entries c.self.inside.channels.entries) c.node.result.now c.self.invariant.rows.counted (rw (c.len.ensures.len, ← length-channels c.self.inside.channels.entries) at c.len.ensures.small)
-
-pub add-requires-clause-second : goal.add-requires-clause-second
-add-requires-clause-second c =
-    number_at-bound c.self.inside.ends (channel_entries c.self.inside.channels.entries) c.node-2.result.now c.self.invariant.rows.counted (rw (c.len.ensures.len, ← length-channels c.self.inside.channels.entries) at c.len.ensures.small)
-
 pub invariant_of-self : goal.invariant_of-self
 invariant_of-self c =
+    let none = rw (← c.scid-scid.ensures) at c.requires.new in
+    let lookup_none = not_held c.self.inside.channels.entries c.args.self.now.channels c.scid-scid.result c.self.invariant.rows.channels_keyed (ap (λ rows. rows.channels) c.self.view_is) none in
+    let none_held = lookup-channels (is_at (nat_cmp c.scid-scid.result)) c.self.inside.channels.entries ∙ ap (option_map (λ held. held.channel)) lookup_none in
     record {
       rows =
-          IsSound-counted (channel_entries c.self.inside.channels.entries) (update_entries c.self.inside.channels.entries) c.self.inside.nodes.entries c.self.inside.ends c.add.new.self
-          (c.in_err-add.ensures.err _ c.self.invariant.rows.counted) c.self.invariant.rows;
+          IsSound-listed (channel_entries c.self.inside.channels.entries) (update_entries c.self.inside.channels.entries) c.self.inside.nodes.entries c.self.inside.ends c.add.new.self
+          (c.in_err-add.ensures.err _ c.self.invariant.rows.listed (lacks c.scid-scid.result (channel_entries c.self.inside.channels.entries) c.self.invariant.rows.channels_keyed none_held)) c.self.invariant.rows;
       banned_ascend = c.self.invariant.banned_ascend;
+      allowed = c.self.invariant.allowed;
     }
 
 pub invariant_of-self-in-Ok : goal.invariant_of-self-in-Ok
@@ -32,12 +30,17 @@ invariant_of-self-in-Ok c =
     let own = c.scid-scid.ensures in
     let none = rw (← own) at c.requires.new in
     let lookup_none = not_held c.self.inside.channels.entries c.args.self.now.channels c.scid-scid.result c.self.invariant.rows.channels_keyed (ap (λ rows. rows.channels) c.self.view_is) none in
+    let is = c.in-Ok.ensures.entries ∙ ap (insert_entry nat_cmp c.self.inside.channels.entries c.scid-scid.result) c.new.ensures in
+    let put_is = values-channel (channel_entries c.self.inside.channels.entries) (channel_entries c.insert.new.self.entries) c.scid-scid.result c.args.row own
+    (ap channel_entries is ∙ insert-channels c.scid-scid.result (alone c.args.row) c.self.inside.channels.entries) c.self.invariant.rows.channels_keyed c.self.invariant.rows.channels_ascend in
     record {
       rows =
           IsSound-held c.self.inside.channels.entries c.insert.new.self.entries c.self.inside.nodes.entries c.self.inside.ends c.add.new.self
           c.scid-scid.result c.args.row c.node.result.now c.node-2.result.now c.scid-scid.ensures c.node.ensures c.node-2.ensures
-          (c.in-Ok.ensures.entries ∙ ap (insert_entry nat_cmp c.self.inside.channels.entries c.scid-scid.result) c.new.ensures) lookup_none c.insert.ensures.ordered c.in_ok-add.ensures.ok c.self.invariant.rows;
+          is lookup_none c.insert.ensures.ordered c.in_ok-add.ensures.ok c.self.invariant.rows;
       banned_ascend = c.self.invariant.banned_ascend;
+      allowed = rw (put_is) (All-put (λ row. ends_banned c.self.inside.banned row ≡ false) by_id (values_of (channel_entries c.self.inside.channels.entries)) c.args.row
+          (ap (λ rows. ends_banned rows.banned c.args.row) c.self.view_is ∙ c.requires.allowed) c.self.invariant.allowed);
     }
 
 pub returns-in-Ok-clause-ok : goal.returns-in-Ok-clause-ok
@@ -56,9 +59,12 @@ returns-in-Ok-clause-ok c =
 
 pub invariant_of-self-in-Err : goal.invariant_of-self-in-Err
 invariant_of-self-in-Err c =
+    let none = rw (← c.scid-scid.ensures) at c.requires.new in
+    let lookup_none = not_held c.self.inside.channels.entries c.args.self.now.channels c.scid-scid.result c.self.invariant.rows.channels_keyed (ap (λ rows. rows.channels) c.self.view_is) none in
     record {
       rows =
           IsSound-undone c.self.inside.channels.entries c.insert.new.self.entries c.self.inside.nodes.entries c.self.inside.ends c.add.new.self c.remove.new.self
-          c.node.result.now c.node-2.result.now c.in-Err.ensures.err c.in_ok-add.ensures.ok c.remove.ensures c.self.invariant.rows;
+          c.scid-scid.result c.node.result.now c.node-2.result.now c.in-Err.ensures.err lookup_none c.in_ok-add.ensures.ok c.remove.ensures c.self.invariant.rows;
       banned_ascend = c.self.invariant.banned_ascend;
+      allowed = rw (c.in-Err.ensures.err) c.self.invariant.allowed;
     }

@@ -13,6 +13,7 @@ invariant_of-self-2 c =
           IsSound-node (channel_entries c.self.inside.channels.entries) (update_entries c.self.inside.channels.entries) c.self.inside.nodes.entries c.insert.new.self.entries c.self.inside.ends
           c.args.node c.args.row c.requires.own c.in_ok-insert.ensures.entries c.insert.ensures.ordered (ap (λ rows. ends_channel rows.channels c.args.row.message.node_id) c.self.view_is ∙ c.requires.ended) c.self.invariant.rows;
       banned_ascend = c.self.invariant.banned_ascend;
+      allowed = c.self.invariant.allowed;
     }
 
 pub returns-clause-ok : goal.returns-clause-ok

@@ -1,5 +1,5 @@
 use Rattle.std.proofs.Common.{ℕ, List, Option, Some, sym, ap, ◌∙◌}
-use Rattle.std.specs.Option.{option_copied, option_map}
+use Rattle.std.specs.Option.{option_map}
 use Rattle.std.specs.Ordering.{nat_cmp}
 use Rattle.std.specs.declared.ops.Bound.TheVariants.{Unbounded}
 use Rattle.std.specs.BTreeMap.Range.{range_contains, entries_between}
@@ -21,7 +21,7 @@ first_channel entries = option_map (λ held. held.channel) (first_value entries)
 pub returns-in_err-held : goal.returns-in_err-held
 returns-in_err-held c =
     let between = c.range.ensures.between tt ∙ ap (λ start. entries_between nat_cmp start Unbounded c.self.inside.channels.entries) c.start_after.ensures in
-    ap option_copied c.from_residual.ensures ∙ ap first_channel (sym c.in_err-held.ensures.steps.0 ∙ between)
+    c.from_residual.ensures ∙ ap first_channel (sym c.in_err-held.ensures.steps.0 ∙ between)
     ∙ first-filtered (range_contains nat_cmp (start_after c.args.after) Unbounded) c.self.inside.channels.entries
     ∙ sym (next_channel-between (channel_entries c.self.inside.channels.entries) c.args.after c.self.invariant.rows.channels_keyed) ∙ ap (λ rows. next_channel_of rows.channels c.args.after) c.self.view_is
 

@@ -49,6 +49,13 @@ put_entries : (c : Joined-offer_update) → c.offer_update.new.self ≡ with_upd
     → (c.get_mut.follows.lender c.offer_update.new.self).entries ≡ set_value (is_at (nat_cmp c.scid.result)) c.self.inside.channels.entries (with_update_in (is_second c.args.row) c.in-Some.held.now c.args.row)
 put_entries c put_is = (c.get_mut.follows.holds c.offer_update.new.self).0 ∙ ap (set_value (is_at (nat_cmp c.scid.result)) c.self.inside.channels.entries) put_is
 
+same_channels : (c : Joined-offer_update) → c.offer_update.new.self ≡ with_update_in (is_second c.args.row) c.in-Some.held.now c.args.row
+    → values_of (channel_entries (c.get_mut.follows.lender c.offer_update.new.self).entries) ≡ values_of (channel_entries c.self.inside.channels.entries)
+same_channels c put_is =
+    ap values_of (ap channel_entries (put_entries c put_is)
+    ∙ set-channels (is_at (nat_cmp c.scid.result)) c.self.inside.channels.entries c.in-Some.held.now (with_update_in (is_second c.args.row) c.in-Some.held.now c.args.row)
+    (sym c.in-Some.ensures.value) (channel-with (is_second c.args.row) c.in-Some.held.now c.args.row))
+
 own_direction : (c : Joined-offer_update) → (c.scid.result, is_second c.args.row) ≡ direction_of c.args.row
 own_direction c = rw c.scid.ensures refl
 
@@ -81,6 +88,7 @@ invariant_of-self-2 c = elim c.match-offer_update.branch [
         c.scid.result (is_second c.args.row) c.args.row c.in-Some.held.now (own_direction c) (sym c.in-Some.ensures.value) (put_entries c w.in-Ok.ensures.accepted.1)
         c.in-Some.ensures.ordered (c.get_mut.follows.holds c.offer_update.new.self).4 c.self.invariant.rows;
     banned_ascend = c.self.invariant.banned_ascend;
+    allowed = rw (same_channels c w.in-Ok.ensures.accepted.1) c.self.invariant.allowed;
   }
   | in-Err w ↦ rw (same_entries c w.in-Err.ensures.refused) c.self.invariant
 ]

@@ -29,6 +29,7 @@ invariant_of-self-2 c =
           IsSound-put c.self.inside.channels.entries (c.get_mut.follows.lender c.put_update.new.self).entries c.self.inside.nodes.entries c.self.inside.ends
           c.scid-scid.result c.is_second-second.result c.args.row c.in-Some.held.now own (sym c.in-Some.ensures.value) is c.in-Some.ensures.ordered written.4 c.self.invariant.rows;
       banned_ascend = c.self.invariant.banned_ascend;
+      allowed = rw (ap values_of (ap channel_entries is ∙ set-channels (is_at (nat_cmp c.scid-scid.result)) c.self.inside.channels.entries c.in-Some.held.now (with_update_in c.is_second-second.result c.in-Some.held.now c.args.row) (sym c.in-Some.ensures.value) (channel-with c.is_second-second.result c.in-Some.held.now c.args.row))) c.self.invariant.allowed;
     }
 
 pub returns : goal.returns

@@ -1,0 +1,75 @@
+#!/usr/bin/env python3
+"""Measures readers beside a writer: `lgm live` on a made network, by workers.
+
+For each number of workers: how many payments a second they answer on a map that stands still, and
+beside a writer that publishes 1,000 updates at a time; and what such a publication takes.
+"""
+
+import argparse
+import os
+import sys
+import tempfile
+from pathlib import Path
+
+sys.dont_write_bytecode = True  # the repository gets no made files
+
+import running
+from measure import PROGRAM
+from workloads import LIVE_ROUTES_A_ROUND, ROUNDS, ROUTES
+
+SCRIPTS = ("sync", "routes", "updates", "live")
+TIMES = 10  # each payment is asked for so often, so that payments outweigh the network
+
+
+def words():
+    """The words of the command line."""
+    parser = argparse.ArgumentParser(description=__doc__)
+    add = parser.add_argument
+    add("--program", type=Path, default=PROGRAM, help="crates/lgm/out/lgm if left out")
+    add("--channels", type=int, default=45_000, help="of the network; 45,000 if left out")
+    add("--workers", type=lambda text: [int(word) for word in text.split(",")], default=[1, 2, 4])
+    add("--runs", type=int, default=3, help="the least of these counts; 3 if left out")
+    add("--seed", type=int, default=1, help="of the network; 1 if left out")
+    options = parser.parse_args()
+    if not os.access(options.program, os.X_OK):
+        parser.error(f"{options.program} isn't built")
+    return options
+
+
+def make_script(options, script, workload):
+    """The workload's script, with each payment asked for so often."""
+    running.make_script(script, options.channels, workload, options.seed)
+    lines = script.read_bytes().splitlines(keepends=True)
+    script.write_bytes(b"".join(line * TIMES if line.startswith(b"route ") else line for line in lines))
+
+
+def seconds(options, script, workers):
+    """The least time of `lgm live` on the clock, once its answers were looked at."""
+    program = running.command(options.program.resolve(), "live", workers)
+    running.bytes_answered(program, script)
+    return min(running.run(program, script).wall for _ in range(options.runs))
+
+
+def measure(options, scripts, workers):
+    """Payments a second on a map that stands still and beside the writer; seconds of a publication."""
+    taken = {name: seconds(options, script, workers) for name, script in scripts.items()}
+    still = TIMES * ROUTES / (taken["routes"] - taken["sync"])
+    beside = TIMES * ROUNDS * LIVE_ROUTES_A_ROUND / (taken["live"] - taken["sync"])
+    return still, beside, (taken["updates"] - taken["sync"]) / ROUNDS
+
+
+def main():
+    """Prints the table."""
+    options = words()
+    print(f"{'workers':<9}{'routes/s':>11}{'beside':>11}{'publish ms':>12}")
+    with tempfile.TemporaryDirectory(prefix="lgm-bench-") as folder:
+        scripts = {name: Path(folder, name) for name in SCRIPTS}
+        for name, script in scripts.items():
+            make_script(options, script, name)
+        for workers in options.workers:
+            still, beside, publication = measure(options, scripts, workers)
+            print(f"{workers:<9}{still:>11.0f}{beside:>11.0f}{publication * 1000:>12.1f}", flush=True)
+
+
+if __name__ == "__main__":
+    main()

@@ -1,0 +1,53 @@
+//! Scripts, answered as options say.
+
+ghost use Rattle.std.specs.Prelude.{◌+◌, ◌<◌, ◌≤◌, ◌^◌};
+ghost use Rattle.lgm.specs.Ended.{AnswersAs};
+
+use crate::options::{Mode, Options};
+use lgm_live::{LiveReport, RunLiveFault, run_live};
+use lgm_par::Gate;
+use lgm_script::{Sink, Source};
+use lgm_server::{Counts, Remains, RunFault, run_keeping};
+use std::alloc::Global;
+use std::marker::Sync;
+use std::random::RandomSource;
+use std::sync::Wait;
+use std::thread::Threads;
+
+/// How a script ended.
+#[derive(Drop)]
+pub enum Ended {
+    /// That of `lgm run`.
+    Ran(Result<Counts, RunFault>),
+    /// That of `lgm live`.
+    RanLive(Result<LiveReport, RunLiveFault>),
+}
+
+/// Answers a script as the options say: by their command, over their chain and known bits, and with as many workers, all
+/// of whose pieces pass the gate. What `lgm run` made for it remains.
+pub fn answer<Rt: Threads + Wait + Sync + RandomSource, G: Gate, R: Source, W: Sink>(
+    rt: &Rt,
+    alloc: Global,
+    options: &Options,
+    gate: &G,
+    reader: &mut R,
+    writer: &mut W,
+    remains: &mut Remains,
+) -> Ended
+    requires workers { (1 ≤ options.now.workers) × (options.now.workers ≤ 64) }
+    requires reader { R.failures reader.old + 1 < 2 ^ 64 }
+    requires writer { W.failures writer.old + 1 < 2 ^ 64 }
+    ensures { AnswersAs R.left R.failures W.taken W.failures options.now.mode options.now reader.old reader.new writer.old writer.new result }
+{
+    let chain = &options.chain;
+    let known = &options.known;
+    let workers = options.workers;
+    match options.mode {
+        Mode::Run => Ended::Ran(run_keeping(
+            rt, alloc, reader, writer, chain, known, workers, gate, remains,
+        )),
+        Mode::Live => Ended::RanLive(run_live(
+            rt, alloc, reader, writer, chain, known, workers, gate,
+        )),
+    }
+}

@@ -1,0 +1,90 @@
+//! Bytes that are lent.
+
+ghost use Rattle.std.specs.Prelude.{◌≡◌};
+ghost use Rattle.lgm_gossip.specs.Fields.{fixed};
+ghost use Rattle.lgm_gossip.specs.Part.{text};
+
+use crate::joining::whole;
+use crate::part::Part;
+use std::marker::Model;
+
+/// Bytes of a message, where they lie. Contracts see the list.
+#[derive(Debug, Drop)]
+pub struct Lent<'a> {
+    bytes: &'a [u8],
+}
+
+impl<'a> Model for Lent<'a> {
+    ghost use Rattle.std.specs.Prelude.{ℕ, List};
+
+    ghost Value = { List ℕ };
+
+    ghost view = { λ lent. lent.bytes.now };
+}
+
+impl<'a> Lent<'a> {
+    /// These bytes, lent.
+    pub fn new(bytes: &'a [u8]) -> Lent<'a>
+        ensures { result ≡ bytes.now }
+    {
+        Lent { bytes }
+    }
+
+    /// The same bytes, lent once more.
+    pub fn again(&self) -> Lent<'a>
+        ensures { result ≡ self.now }
+    {
+        Lent { bytes: self.bytes }
+    }
+
+    /// The bytes, for as long as they were lent.
+    pub fn as_slice(&self) -> &'a [u8]
+        ensures { result.now ≡ self.now }
+    {
+        self.bytes
+    }
+}
+
+/// A signature of a message, where it lies. Contracts see the list of its bytes.
+#[derive(Debug, Drop)]
+pub struct Signature<'a> {
+    bytes: &'a [u8; 64],
+}
+
+impl<'a> Model for Signature<'a> {
+    ghost use Rattle.std.specs.Prelude.{ℕ, List};
+
+    ghost Value = { List ℕ };
+
+    ghost view = { λ signature. signature.bytes.now };
+}
+
+impl<'a> Signature<'a> {
+    /// These bytes, lent.
+    pub fn new(bytes: &'a [u8; 64]) -> Signature<'a>
+        ensures { result ≡ bytes.now }
+    {
+        Signature { bytes }
+    }
+
+    /// The same bytes, lent once more.
+    pub fn again(&self) -> Signature<'a>
+        ensures { result ≡ self.now }
+    {
+        Signature { bytes: self.bytes }
+    }
+
+    /// The bytes, for as long as they were lent.
+    pub fn as_array(&self) -> &'a [u8; 64]
+        ensures { result.now ≡ self.now }
+    {
+        self.bytes
+    }
+
+    /// The bytes, to be written.
+    pub(crate) fn part(&self) -> Part<'a>
+        ensures { (fixed 64 self.now).Is (text result) }
+    {
+        whole(self.bytes)
+    }
+}

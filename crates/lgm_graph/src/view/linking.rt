@@ -1,0 +1,30 @@
+//! Links put in their lists, all at once.
+
+ghost use Rattle.std.specs.Prelude.{◌≡◌, [], List, OnOk};
+ghost use Rattle.lgm_graph.specs.declared.edge.Edge.{Edge as AnEdge};
+ghost use Rattle.lgm_graph.specs.Sound.{ShowsIn};
+ghost use Rattle.lgm_graph.specs.Walk.{AreLinksOf};
+
+use crate::link::Link;
+use crate::nodes::Nodes;
+use std::alloc::{AllocError, Global};
+
+/// Puts links in the lists of the nodes that they join, which have none yet.
+pub(super) fn put_links(alloc: Global, nodes: &mut Nodes, links: &[Link]) -> Result<(), AllocError>
+    requires bare { ShowsIn [] nodes.old }
+    requires links { (edges : List AnEdge) × AreLinksOf edges nodes.old.points.keys links.now }
+    ensures points { OnOk result (nodes.new.points.keys ≡ nodes.old.points.keys) }
+    ensures takes { OnOk result (nodes.new.takes.items ≡ nodes.old.takes.items) }
+    ensures shows { OnOk result ((edges : List AnEdge) → AreLinksOf edges nodes.old.points.keys links.now
+        → ShowsIn edges nodes.new) }
+{
+    nodes.reserve_for(alloc, links)?;
+    for link in links {
+        // It says that points are distinct.
+        let _ = nodes.points.len();
+        let (from, to) = (link.from as usize, link.to as usize);
+        nodes.reserve_links(from, to)?;
+        nodes.push_link(from, to, *link);
+    }
+    Ok(())
+}

@@ -1,0 +1,22 @@
+-- The news of pairs.
+use Rattle.std.proofs.Common.{◌≡◌, ℕ, List, [], ◌∷◌, ◌++◌, ap, ◌∙◌, append_assoc, append-nil}
+use Rattle.std.specs.List.{flat_map}
+use Rattle.std.proofs.lemmas.List.Concat.{flat_map-append}
+use Rattle.lgm_store.specs.Rows.{Rows}
+use Rattle.lgm_query.specs.declared.filter.Filter.{Filter}
+use Rattle.lgm_query.specs.declared.pairs.ChannelPair.{ChannelPair}
+use Rattle.lgm_query.specs.KeyNews.{news_of_channel}
+use Rattle.lgm_query.specs.Differences.{news_of_channel_pair}
+
+-- one more pair tells what was left to its id
+pub one_more_pair : (f : Filter) (before after : Rows) (pairs : List ChannelPair) (pair : ChannelPair) (id : ℕ) (ids : List ℕ)
+    → news_of_channel_pair f pair ≡ news_of_channel f before after id
+    → flat_map (news_of_channel_pair f) (pairs ++ pair ∷ []) ++ flat_map (news_of_channel f before after) ids
+    ≡ flat_map (news_of_channel_pair f) pairs ++ flat_map (news_of_channel f before after) (id ∷ ids)
+one_more_pair f before after pairs pair id ids same =
+    let told = flat_map (news_of_channel_pair f) pairs in
+    let left = flat_map (news_of_channel f before after) ids in
+    let more : List (List ℕ) → List (List ℕ) = λ messages. (told ++ messages) ++ left in
+    ap (λ (messages : List (List ℕ)). messages ++ left) (flat_map-append (news_of_channel_pair f) pairs (pair ∷ []))
+    ∙ ap more (append-nil (news_of_channel_pair f pair) ∙ same)
+    ∙ append_assoc told (news_of_channel f before after id) left

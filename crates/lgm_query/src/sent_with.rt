@@ -1,0 +1,65 @@
+//! How a message was sent before.
+
+ghost use Rattle.std.specs.Prelude.{◌≡◌};
+ghost use Rattle.std.specs.Option.{option_copied};
+ghost use Rattle.lgm_store.specs.Held.{update_in};
+ghost use Rattle.lgm_query.specs.SentWith.{is_sent_with, sent_with, passes_update, passed_with};
+
+use crate::filter::Filter;
+use lgm_store::Held;
+
+/// With which updates of an earlier channel a message was sent: it has the bytes of the update, or of the channel's
+/// announcement, which is sent with either.
+#[derive(Clone, Copy)]
+pub(crate) struct SentWith {
+    /// With that from node 1.
+    first: bool,
+    /// With that from node 2.
+    second: bool,
+}
+
+impl SentWith {
+    /// Of a message and an earlier channel, where there are both. Their bytes are compared.
+    pub(crate) fn of(message: Option<&[u8]>, before: Option<&Held>) -> SentWith
+        ensures { result ≡ sent_with (option_copied before.entry) (option_copied message.entry) }
+    {
+        let (Some(message), Some(held)) = (message, before) else {
+            return SentWith {
+                first: false,
+                second: false,
+            };
+        };
+        SentWith {
+            first: is_sent_with(held, false, message),
+            second: is_sent_with(held, true, message),
+        }
+    }
+
+    /// Whether one of these updates passes, and so the message passed. Only timestamps are looked at.
+    pub(crate) fn passed(&self, filter: &Filter, before: &Held) -> bool
+        ensures { result ≡ passed_with filter.now before.now self.now }
+    {
+        (self.first && passes(filter, before, false))
+            || (self.second && passes(filter, before, true))
+    }
+}
+
+/// Whether a message is that of a channel's update, or the channel's announcement, if there is an update.
+fn is_sent_with(held: &Held, second: bool, message: &[u8]) -> bool
+    ensures { result ≡ is_sent_with held.now.channel (update_in second held.now) message.now }
+{
+    let Some(update) = held.update_raw(second) else {
+        return false;
+    };
+    message == held.raw() || message == update
+}
+
+/// Whether a channel's update is held and passes.
+fn passes(filter: &Filter, held: &Held, second: bool) -> bool
+    ensures { result ≡ passes_update filter.now (update_in second held.now) }
+{
+    match held.update_time(second) {
+        Some(time) => filter.passes(time),
+        None => false,
+    }
+}

@@ -1,0 +1,305 @@
+-- A search as one value, from step to step.
+use Rattle.std.proofs.Common.{◌≡◌, ◌≢◌, ◌⊎◌, ℕ, zero, suc, ◌+◌, ◌*◌, ◌^◌, ◌<◌, ◌≤◌, List, [], ◌∷◌, length, get_or, Option, Some, None, Bool, true, false, refl, sym, ◌∙◌, ap, subst, inl, inr, arith}
+use Rattle.std.proofs.lemmas.List.{get_or_default}
+use Rattle.lgm_graph.specs.Graph.{Graph, links, links_into, AreLinked}
+use Rattle.lgm_graph.specs.declared.link.Link.{Link}
+use Rattle.lgm_route.specs.declared.numbered_request.NumberedRequest.{NumberedRequest}
+use Rattle.lgm_route.specs.declared.label.Label.{Label}
+use Rattle.lgm_route.specs.Bounding.{AreLow}
+use Rattle.lgm_route.specs.Numbered.{sent, IsLeast}
+use Rattle.lgm_route.specs.Searching.{label_at, link_at, no_link, Spells, first_of, bound_of, number_at, IsSettled, AreLabels, IsFound, Grows, IsMarked, IsOffered, IsBetter, PassesOn, AreSpelled, SomeRest, IsNoBetter, StandsIn}
+use Rattle.lgm_route.specs.Leading.{IsInto, IsLed, AreLeads}
+use Rattle.lgm_route.specs.State.{Ground, State, state_of, IsGround, IsSearch, Extends, IsSettledAt, IsMarkedAt, IsIntoAt, IsLeadAt, AreLeadsAt, IsPassedOn, IsLeftAt, IsFinished, bound_in}
+use Rattle.lgm_route.proofs.Rests.{trichotomy}
+use Rattle.lgm_route.proofs.Labels.{grows-refl, grows-trans, found-grows, no_better-grows, at-later, long-later, none_better}
+use Rattle.lgm_route.proofs.Steps.{least_of, sent_small, still_settled, settled_more, settled_left, settled_hopeless, settled_for, passes_from, passes_later, all_passed, spelled_labels}
+use Rattle.lgm_route.proofs.Leads.{leads_later, led_later, all_taken, passed_needless, taken_walk, taken_rest}
+
+-- ---- one search, later
+
+pub extends-refl : (s : State) → Extends s s
+extends-refl s = record {
+  ground = refl;
+  grows = grows-refl s.ground.graph s.ground.request s.ground.start s.labels s.best;
+  still = λ i h. h;
+}
+
+-- what the ground says holds of the later search too
+abbrev Growing : Ground → State → State → Type 0
+Growing ground before after = Grows ground.graph ground.request ground.start before.labels before.best after.labels after.best
+
+pub extends-trans : (a b c : State) → Extends a b → Extends b c → Extends a c
+extends-trans a b c h k = record {
+  ground = k.ground ∙ h.ground;
+  grows = grows-trans a.ground.graph a.ground.request a.ground.start a.labels b.labels c.labels a.best b.best c.best h.grows
+      (subst (λ g. Growing g b c) h.ground k.grows);
+  still = λ i m. k.still i (h.still i m);
+}
+
+pub at_later : (a b : State) (i : ℕ) → Extends a b → i < length a.labels → label_at b.labels i ≡ label_at a.labels i
+at_later a b i h within = at-later a.ground.graph a.ground.request a.ground.low a.ground.start a.labels a.best b.labels b.best h.grows i within
+
+pub long_later : (a b : State) → Extends a b → length a.labels ≤ length b.labels
+long_later a b h = long-later a.ground.graph a.ground.request a.ground.low a.ground.start a.labels a.best b.labels b.best h.grows
+
+-- the edge is still the one at its place
+pub into_later : (a b : State) (i at : ℕ) (edge : Link) → Extends a b → IsIntoAt a i at edge → IsIntoAt b i at edge
+into_later a b i at edge h into =
+    subst (λ g. IsInto g.graph b.labels i at edge) (sym h.ground)
+    (let same = at_later a b i h into.within in
+    record {
+      within = omega (arith, into.within, long_later a b h);
+      inside = subst (λ l. at < length (links_into a.ground.graph l.node)) (sym same) into.inside;
+      is = subst (λ l. link_at (links_into a.ground.graph l.node) at ≡ edge) (sym same) into.is;
+    })
+
+abbrev Passing : Ground → List Label → ℕ → State → Link → Type 0
+Passing ground labels i after edge = PassesOn ground.graph ground.request ground.low ground.start labels i after.labels after.best edge
+
+-- passing over an edge, seen from an earlier state, or in a later one
+pub passed_from : (a b c : State) (i : ℕ) (edge : Link) → Extends a b → i < length a.labels → IsPassedOn b i edge c → IsPassedOn a i edge c
+passed_from a b c i edge h within passed =
+    passes_from a.ground.graph a.ground.request a.ground.low a.ground.start i a.labels a.best b.labels b.best c.labels c.best edge h.grows within
+    (subst (λ g. Passing g b.labels i c edge) h.ground passed)
+
+pub passed_later : (a b c : State) (i : ℕ) (edge : Link) → Extends a b → Extends b c → IsPassedOn a i edge b → IsPassedOn a i edge c
+passed_later a b c i edge h k passed =
+    passes_later a.ground.graph a.ground.request a.ground.low a.ground.start i a.labels b.labels b.best c.labels c.best edge
+    (subst (λ g. Growing g b c) h.ground k.grows) passed
+
+-- one more of several edges was passed over
+pub passed_more : (a b c : State) (at : ℕ → Link) (i place : ℕ) → i < length a.labels → Extends a b → Extends b c →
+    ((j : ℕ) → j < place → IsPassedOn a i (at j) b) → IsPassedOn b i (at place) c → (j : ℕ) → j < place + 1 → IsPassedOn a i (at j) c
+passed_more a b c at i place within h k before new j to = by (trichotomy j place)
+  where
+    by : (j < place) ⊎ (j ≡ place) ⊎ (place < j) → IsPassedOn a i (at j) c
+    by (inl p) = passed_later a b c i (at j) h k (before j p)
+    by (inr (inl e)) = passed_from a b c i (at j) h within (subst (λ n. IsPassedOn b i (at n) c) (sym e) new)
+    by (inr (inr p)) = absurd (omega arith)
+
+-- over all edges into the node
+pub left_all : (a b : State) (i : ℕ) → IsGround a.ground →
+    ((j : ℕ) → j < length (links_into a.ground.graph (label_at a.labels i).node) → IsPassedOn a i (link_at (links_into a.ground.graph (label_at a.labels i).node) j) b) →
+    IsLeftAt a i b
+left_all a b i ground passed =
+    all_passed a.ground.graph a.ground.request a.ground.low a.ground.start i a.labels b.labels b.best ground.linked passed
+
+-- ---- what the fields of a search keep
+
+-- more labels, and a better walk
+pub search_grown : (s : State) (labels : List Label) (best : Option Label) → IsSearch s → AreLabels s.ground.graph s.ground.request labels →
+    IsFound s.ground.graph s.ground.request labels s.ground.start best → Grows s.ground.graph s.ground.request s.ground.start s.labels s.best labels best →
+    IsSearch (record s { labels = labels; best = best })
+search_grown s labels best is labelled found grows = record {
+  ground = is.ground;
+  labelled = labelled;
+  found = found;
+  settled = still_settled s.ground.graph s.ground.request s.ground.low s.ground.start s.labels s.best labels best s.done grows is.settled;
+}
+
+-- a label was offered
+pub offered_grows : (s : State) (new : Label) (labels : List Label) → IsOffered s.ground.graph s.ground.request s.labels new labels →
+    Grows s.ground.graph s.ground.request s.ground.start s.labels s.best labels s.best
+offered_grows s new labels offered = record {
+  more = offered.more;
+  is = offered.is;
+  lower = omega arith;
+  first = λ walk h. subst (λ ls. IsNoBetter s.ground.graph s.ground.request ls s.ground.start s.best walk) (sym offered.is)
+      (no_better-grows s.ground.graph s.ground.request s.labels offered.more s.ground.start s.best walk h);
+}
+
+pub search_offered : (s : State) (new : Label) (labels : List Label) → IsSearch s → IsOffered s.ground.graph s.ground.request s.labels new labels →
+    IsSearch (record s { labels = labels })
+search_offered s new labels is offered =
+    search_grown s labels s.best is offered.labelled
+    (subst (λ ls. IsFound s.ground.graph s.ground.request ls s.ground.start s.best) (sym offered.is)
+    (found-grows s.ground.graph s.ground.request s.labels offered.more s.ground.start s.best is.found))
+    (offered_grows s new labels offered)
+
+pub extends_offered : (s : State) (new : Label) (labels : List Label) → IsOffered s.ground.graph s.ground.request s.labels new labels →
+    Extends s (record s { labels = labels })
+extends_offered s new labels offered = record { ground = refl; grows = offered_grows s new labels offered; still = λ i h. h }
+
+-- a walk was taken, or not
+pub better_grows : (s : State) (new : Label) (best : Option Label) → IsBetter s.ground.graph s.ground.request s.labels s.ground.start s.best new best →
+    Grows s.ground.graph s.ground.request s.ground.start s.labels s.best s.labels best
+better_grows s new best better =
+    let same = grows-refl s.ground.graph s.ground.request s.ground.start s.labels s.best in
+    record { more = same.more; is = same.is; lower = better.lower; first = better.keeps }
+
+pub search_better : (s : State) (new : Label) (best : Option Label) → IsSearch s → IsBetter s.ground.graph s.ground.request s.labels s.ground.start s.best new best →
+    IsSearch (record s { best = best })
+search_better s new best is better = search_grown s s.labels best is is.labelled better.found_is (better_grows s new best better)
+
+pub extends_better : (s : State) (new : Label) (best : Option Label) → IsBetter s.ground.graph s.ground.request s.labels s.ground.start s.best new best →
+    Extends s (record s { best = best })
+extends_better s new best better = record { ground = refl; grows = better_grows s new best better; still = λ i h. h }
+
+-- a settled label was marked
+pub search_marked : (s : State) (i : ℕ) (done : List Bool) → IsSearch s → i < length s.labels → IsSettledAt s i → IsMarked s.done i done → IsSearch (record s { done = done })
+search_marked s i done is within settled marked = record {
+  ground = is.ground;
+  labelled = is.labelled;
+  found = is.found;
+  settled = settled_more s.ground.graph s.ground.request s.ground.low s.ground.start s.labels s.best s.labels s.best s.done done i
+      (grows-refl s.ground.graph s.ground.request s.ground.start s.labels s.best) is.settled marked within settled;
+}
+
+pub extends_marked : (s : State) (i : ℕ) (done : List Bool) → IsMarked s.done i done → Extends s (record s { done = done })
+extends_marked s i done marked = record {
+  ground = refl;
+  grows = grows-refl s.ground.graph s.ground.request s.ground.start s.labels s.best;
+  still = marked.still;
+}
+
+-- marks that say the same
+pub search_same : (s : State) (done : List Bool) → IsSearch s → ((j : ℕ) → get_or done j false ≡ get_or s.done j false) → IsSearch (record s { done = done })
+search_same s done is same = record { ground = is.ground; labelled = is.labelled; found = is.found; settled = λ j h. is.settled j (sym (same j) ∙ h) }
+
+-- ---- settling
+
+pub spelled : (s : State) → IsSearch s → AreSpelled s.ground.graph s.labels
+spelled s is = spelled_labels s.ground.graph s.ground.request s.labels is.labelled
+
+abbrev Settled : Ground → State → ℕ → Type 0
+Settled ground s i = IsSettled ground.graph ground.request ground.low ground.start s.labels s.best (label_at s.labels i)
+
+-- a label that was led on is settled
+pub settled_led : (a b : State) (i : ℕ) → IsSearch a → Extends a b → i < length a.labels → IsLeftAt a i b → IsSettledAt b i
+settled_led a b i is h within left =
+    subst (λ g. Settled g b i) (sym h.ground)
+    (settled_left a.ground.graph a.ground.request a.ground.low a.ground.start a.labels a.best b.labels b.best i h.grows within (is.labelled.sound i within) left)
+
+-- so is one that no walk over it can make better
+pub settled_vain : (s : State) (i : ℕ) → IsSearch s → i < length s.labels →
+    bound_in s ≤ ((label_at s.labels i).owed + number_at s.ground.low (label_at s.labels i).node) * 32 + (label_at s.labels i).count → IsSettledAt s i
+settled_vain s i is within h =
+    settled_hopeless s.ground.graph s.ground.request s.ground.low s.ground.start s.labels s.best (label_at s.labels i) (is.labelled.sound i within) h
+
+-- and one for which another stands in that is
+pub settled_by : (a b : State) (i place : ℕ) → IsSearch a → IsSearch b → Extends a b → i < length a.labels → StandsIn a.ground.graph a.labels i place → IsMarkedAt b place → IsSettledAt b i
+settled_by a b i place is later h within stands marked =
+    subst (λ g. Settled g b i) (sym h.ground)
+    (settled_for a.ground.graph a.ground.request a.ground.low a.ground.start a.labels a.best b.labels b.best i place h.grows is.labelled within stands
+    (subst (λ g. Settled g b place) h.ground (later.settled place marked).1))
+
+-- one more label is marked
+pub marked_more : (a b : State) (i : ℕ) → Extends a b → ((j : ℕ) → j < i → IsMarkedAt a j) → IsMarkedAt b i → (j : ℕ) → j < i + 1 → IsMarkedAt b j
+marked_more a b i h before here j to = by (trichotomy j i)
+  where
+    by : (j < i) ⊎ (j ≡ i) ⊎ (i < j) → IsMarkedAt b j
+    by (inl p) = h.still j (before j p)
+    by (inr (inl e)) = subst (λ n. IsMarkedAt b n) (sym e) here
+    by (inr (inr p)) = absurd (omega arith)
+
+-- once all labels are marked the search is finished
+pub finished : (s : State) → IsSearch s → ((i : ℕ) → i < length s.labels → IsMarkedAt s i) → IsFinished s
+finished s is all =
+    none_better s.ground.graph s.ground.request s.ground.low s.ground.start s.labels s.best is.labelled is.ground.low (λ i within. (is.settled i (all i within)).1) is.found
+
+-- the best walk is the least
+pub walk_least : (s : State) (best : Label) (walk : List Link) → s.best ≡ Some best → IsSearch s → IsFinished s →
+    Spells s.ground.graph s.labels best walk × (length walk ≡ best.count) →
+    IsLeast (links s.ground.graph) s.ground.request walk × (sent s.ground.request.amount walk < 2 ^ 64)
+walk_least s best walk some is finished spelled =
+    let found = subst (λ o. IsFound s.ground.graph s.ground.request s.labels s.ground.start o) some is.found in (
+      least_of s.ground.graph s.ground.request s.labels s.ground.start best walk
+          (λ other usable. subst (λ o. IsNoBetter s.ground.graph s.ground.request s.labels s.ground.start o other) some (finished other usable)) found spelled.0 spelled.1,
+      sent_small s.ground.graph s.ground.request s.labels s.ground.start best walk is.ground.small found spelled.0 spelled.1,
+    )
+
+-- a search that begins
+pub begun : (graph : Graph) (request : NumberedRequest) (low : List ℕ) (start : ℕ) → AreLinked graph → length low ≡ length graph.points → AreLow (links graph) request low → start ≤ 2 ^ 64 →
+    (labels : List Label) → labels ≡ record { owed = request.amount; next = 0; at = 0; node = request.payee; count = 0 } ∷ [] → (done : List Bool) → done ≡ [] →
+    IsSearch (state_of graph request low start labels None done)
+begun graph request low start linked long are_low small labels one done none = record {
+  ground = record { linked = linked; long = long; low = are_low; small = small };
+  labelled = rw one first;
+  found = tt;
+  settled = rw none (λ i h. absurd (no i h));
+}
+  where
+    no : (i : ℕ) → get_or [] i false ≡ true → ⊥
+    no i h = cc
+
+    label : Label
+    label = record { owed = request.amount; next = 0; at = 0; node = request.payee; count = 0 }
+
+    sound : (i : ℕ) → i < length (label ∷ []) → SomeRest graph request (label ∷ []) (label_at (label ∷ []) i)
+    sound zero within = ([], record { spells = tt; long = refl; joins = refl; owes = refl })
+    sound (suc i) within = absurd (omega arith)
+
+    few : (i : ℕ) → i < length (label ∷ []) → (label_at (label ∷ []) i).count ≤ 19
+    few zero within = omega arith
+    few (suc i) within = absurd (omega arith)
+
+    first : AreLabels graph request (label ∷ [])
+    first = record { some = omega arith; first = (refl, refl); sound = sound; few = few }
+
+-- an edge read from a run is the one at its place
+pub into_at : (s : State) (i at : ℕ) (label : Label) (run : List Link) (edge : Link) → i < length s.labels → label ≡ label_at s.labels i → run ≡ links_into s.ground.graph label.node →
+    at < length run → edge ≡ get_or run at edge → IsIntoAt s i at edge
+into_at s i at label run edge within is run_is inside read =
+    let same : run ≡ links_into s.ground.graph (label_at s.labels i).node = run_is ∙ ap (λ l. links_into s.ground.graph l.node) is in
+    record {
+      within = within;
+      inside = subst (λ r. at < length r) same inside;
+      is = subst (λ r. link_at r at ≡ edge) same (sym (get_or_default run at edge no_link inside) ∙ sym read);
+    }
+
+-- ---- taking leads
+
+abbrev Led : Ground → State → ℕ → List Label → Type 0
+Led ground s i leads = AreLeads ground.graph ground.request ground.low (bound_of ground.start s.best) s.labels i leads
+
+pub leads_at_later : (a b : State) (i : ℕ) (leads : List Label) → Extends a b → i < length a.labels → AreLeadsAt a i leads → AreLeadsAt b i leads
+leads_at_later a b i leads h within are =
+    subst (λ g. Led g b i leads) (sym h.ground)
+    (leads_later a.ground.graph a.ground.request a.ground.low a.ground.start a.labels a.best b.labels b.best i leads h.grows within are)
+
+-- what was led on leads from the label that it names
+pub led_self : (s : State) (i : ℕ) (edge : Link) (new : Label) → IsLed s.ground.graph s.ground.request s.labels i edge new →
+    IsLed s.ground.graph s.ground.request s.labels new.next (first_of s.ground.graph s.labels new) new
+led_self s i edge new led =
+    subst (λ n. IsLed s.ground.graph s.ground.request s.labels n (first_of s.ground.graph s.labels new) new) (sym led.next)
+    (subst (λ e. IsLed s.ground.graph s.ground.request s.labels i e new) (sym led.over) led)
+
+pub passed_self : (a b : State) (i : ℕ) (edge : Link) (new : Label) → IsLed a.ground.graph a.ground.request a.labels i edge new →
+    IsPassedOn a new.next (first_of a.ground.graph a.labels new) b → IsPassedOn a i edge b
+passed_self a b i edge new led passed = subst (λ n. IsPassedOn a n edge b) led.next (subst (λ e. IsPassedOn a new.next e b) led.over passed)
+
+-- what was led on, later
+abbrev IsLedBy : Ground → List Label → ℕ → Link → Label → Type 0
+IsLedBy ground labels i edge new = IsLed ground.graph ground.request labels i edge new
+
+pub led_at_later : (a b : State) (i : ℕ) (edge : Link) (new : Label) → Extends a b → i < length a.labels → IsLed a.ground.graph a.ground.request a.labels i edge new →
+    IsLed b.ground.graph b.ground.request b.labels i edge new
+led_at_later a b i edge new h within led =
+    subst (λ g. IsLedBy g b.labels i edge new) (sym h.ground)
+    (led_later a.ground.graph a.ground.request a.ground.low a.ground.start a.labels a.best b.labels b.best h.grows i within edge new led)
+
+-- where nothing is led on, that was needless
+pub passed_none : (s : State) (i : ℕ) (edge : Link) → IsLeadAt s i edge None → IsPassedOn s i edge s
+passed_none s i edge needless =
+    passed_needless s.ground.graph s.ground.request s.ground.low s.ground.start (bound_in s) i s.labels s.labels s.best edge (omega arith) needless
+
+-- a walk was taken
+pub passed_walk : (s after : State) (new : Label) → IsSearch s → IsLed s.ground.graph s.ground.request s.labels new.next (first_of s.ground.graph s.labels new) new →
+    new.node ≡ s.ground.request.payer → after.labels ≡ s.labels →
+    IsBetter s.ground.graph s.ground.request s.labels s.ground.start s.best new after.best → IsPassedOn s new.next (first_of s.ground.graph s.labels new) after
+passed_walk s after new is led at same better =
+    subst (λ ls. PassesOn s.ground.graph s.ground.request s.ground.low s.ground.start s.labels new.next ls after.best (first_of s.ground.graph s.labels new)) (sym same)
+    (taken_walk s.ground.graph s.ground.request s.labels new is.labelled led s.ground.start s.best after.best at better s.ground.low)
+
+-- a rest was offered
+pub passed_rest : (s after : State) (new : Label) → IsSearch s → IsLed s.ground.graph s.ground.request s.labels new.next (first_of s.ground.graph s.labels new) new →
+    new.node ≢ s.ground.request.payer → after.best ≡ s.best →
+    IsOffered s.ground.graph s.ground.request s.labels new after.labels → IsPassedOn s new.next (first_of s.ground.graph s.labels new) after
+passed_rest s after new is led other same offered =
+    subst (λ o. PassesOn s.ground.graph s.ground.request s.ground.low s.ground.start s.labels new.next after.labels o (first_of s.ground.graph s.labels new)) (sym same)
+    (taken_rest s.ground.graph s.ground.request s.labels new is.labelled led s.ground.start s.best after.labels other offered s.ground.low)
+
+pub left_taken : (a b : State) (i : ℕ) (leads : List Label) → IsGround a.ground → Extends a b → AreLeadsAt a i leads →
+    ((k : ℕ) → k < length leads → IsPassedOn a i (first_of a.ground.graph a.labels (label_at leads k)) b) → IsLeftAt a i b
+left_taken a b i leads ground h are taken =
+    all_taken a.ground.graph a.ground.request a.ground.low a.ground.start i a.labels a.best b.labels b.best leads ground.linked h.grows are taken

@@ -1,0 +1,5 @@
+use Rattle.lgm_route.specs.State.{Extends}
+use Rattle.lgm_route.proofs.queue.Queue.fill.Given as goal
+
+abbrev pub invariant-loop-i : goal.invariant-loop-i
+invariant-loop-i l = Extends l.fn.search l.search

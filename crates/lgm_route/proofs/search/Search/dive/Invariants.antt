@@ -1,0 +1,9 @@
+use Rattle.std.proofs.Common.{◌<◌, length}
+use Rattle.lgm_route.specs.State.{Extends}
+use Rattle.lgm_route.proofs.search.Search.dive.Given as goal
+
+abbrev pub invariant-loop-step : goal.invariant-loop-step
+invariant-loop-step l = record {
+  extends : Extends l.fn.self l.self;
+  within : l.here < length l.self.labels;
+}

@@ -1,0 +1,19 @@
+use Rattle.std.proofs.Common.{◌+◌, ◌*◌, ◌∙◌, ap, arith}
+use Rattle.lgm_route.specs.Searching.{number_at}
+use Rattle.lgm_route.proofs.Searches.{extends-trans, settled_vain, settled_by}
+use Rattle.lgm_route.proofs.search.Search.settle.Goals as goal
+
+pub mark-requires-clause-settled : goal.mark-requires-clause-settled
+mark-requires-clause-settled c =
+    let s = c.args.self.now in
+    let least = c.hope.ensures ∙ ap (λ l. (l.owed + number_at s.ground.low l.node) * 32 + l.count) c.label-label.ensures.label in
+    settled_vain s c.args.i c.label-label.ensures.search c.requires (omega (arith, least, c.bound.ensures.exact, c.if-bound-hope.true))
+
+pub mark-requires-2-clause-settled : goal.mark-requires-2-clause-settled
+mark-requires-2-clause-settled c =
+    settled_by c.args.self.now c.close.new.self c.args.i c.stand_in-place.result c.label-label.ensures.search c.is_done-2.ensures.search c.in_ok-close.ensures.extends c.requires
+    c.stand_in-place.ensures c.in_ok-close.ensures.here
+
+pub returns-clause-extends : goal.returns-clause-extends
+returns-clause-extends c =
+    extends-trans c.args.self.now c.close.new.self c.mark-2.new.self c.in_ok-close.ensures.extends c.in_ok-mark-2.ensures.extends

@@ -1,0 +1,5 @@
+use Rattle.lgm_route.specs.State.{Extends}
+use Rattle.lgm_route.proofs.search.Search.share_layer.Given as goal
+
+abbrev pub invariant-loop-k : goal.invariant-loop-k
+invariant-loop-k g l = Extends l.fn.self l.self

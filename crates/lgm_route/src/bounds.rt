@@ -1,0 +1,73 @@
+//! Bounds from below on what is charged between the payer and each node.
+
+ghost use Rattle.std.specs.Prelude.{◌≡◌, length};
+ghost use Rattle.lgm_route.specs.Searching.{number_at};
+ghost use Rattle.lgm_route.specs.Bounding.{bounds_in};
+
+use lgm_gossip::Scid;
+use std::marker::Model;
+
+/// What is charged at least between the payer and each node, in msat. Contracts see the bounds by number of the node.
+///
+/// They come of a pass that begins at the payer. What it found beside them, over which channel each node is reached for
+/// what is charged up to it, is a hint: no proof rests on it.
+#[derive(Drop)]
+pub(crate) struct Bounds {
+    /// What is charged up to each node that the pass reached.
+    charged: Vec<u64>,
+    /// The channel over which it reached the node for that.
+    over: Vec<Scid>,
+    /// The least that is charged up to a node that was reached and not taken up: no bound is above it.
+    radius: u64,
+}
+
+impl Model for Bounds {
+    ghost use Rattle.std.specs.Prelude.{ℕ, List};
+    ghost use Rattle.lgm_route.specs.Bounding.{bounds_in};
+
+    ghost Value = { List ℕ };
+
+    ghost view = { λ b. bounds_in b.radius b.charged.items };
+}
+
+impl Bounds {
+    pub(crate) fn new(charged: Vec<u64>, over: Vec<Scid>, radius: u64) -> Bounds
+        ensures { result ≡ bounds_in radius charged.items }
+    {
+        Bounds {
+            charged,
+            over,
+            radius,
+        }
+    }
+
+    /// How many nodes have a bound.
+    pub(crate) fn len(&self) -> usize
+        ensures { result ≡ length self.now }
+    {
+        self.charged.len()
+    }
+
+    /// The bound of a node, and 0 of a number that is none.
+    #[inline(always)]
+    pub(crate) fn at(&self, node: u32) -> u64
+        ensures { result ≡ number_at self.now node }
+    {
+        let node = node as usize;
+        if node < self.charged.len() {
+            self.charged[node].min(self.radius)
+        } else {
+            0
+        }
+    }
+
+    /// The channel that leads to a node on the way that the pass found from the payer, if the node is within the radius.
+    pub(crate) fn channel_to(&self, node: u32) -> Option<Scid> {
+        let charged = self.charged.get(node as usize)?;
+        if *charged == u64::MAX || self.radius < *charged {
+            return None;
+        }
+        let over = self.over.get(node as usize)?;
+        Some(*over)
+    }
+}

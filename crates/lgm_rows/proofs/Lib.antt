@@ -1,0 +1,4 @@
+pub mod PlaceLaws
+pub mod UpdateLaws
+pub mod AnnounceLaws
+pub mod NodeLaws

@@ -1,0 +1,4 @@
+pub mod Places
+pub mod Update
+pub mod Announce
+pub mod Node

@@ -1,0 +1,122 @@
+//! Channels as they are kept.
+
+ghost use Rattle.std.specs.Prelude.{◌≡◌, ◌+◌, ◌≤◌, length, IfOk, if◌then◌else◌};
+ghost use Rattle.lgm_gossip.specs.Message.{Wire};
+ghost use Rattle.lgm_gossip.specs.declared.message.Message.TheVariants as messages;
+ghost use Rattle.lgm_rows.specs.Announce.{features_len, announce_in, channel_row, IsAnnounce};
+
+use crate::places::{array, lent, number16, number64, point, rest, signature};
+use lgm_check::ChannelRow;
+use lgm_gossip::{Announce, Bytes, ChainHash, Lent, Point, Scid};
+use std::alloc::{AllocError, Global};
+use std::marker::Model;
+
+/// A channel, as the bytes of its announcement and its capacity. Contracts see the row that they spell.
+#[derive(Debug, Drop)]
+pub struct KeptChannel {
+    sat: u64,
+    raw: Bytes,
+}
+
+impl Model for KeptChannel {
+    ghost use Rattle.lgm_check.specs.declared.row.ChannelRow.{ChannelRow};
+
+    ghost Value = { ChannelRow };
+
+    ghost use Rattle.lgm_rows.specs.Announce.{channel_row, IsAnnounce};
+
+    ghost view = { λ kept. channel_row kept.sat kept.raw };
+
+    ghost invariant = { λ kept. IsAnnounce kept.raw };
+}
+
+/// How far the fields behind the features are off.
+fn shift(raw: &[u8]) -> usize
+    requires { 260 ≤ length raw.now }
+    ensures { result ≡ features_len raw.now }
+{
+    usize::from(number16(raw, 258))
+}
+
+/// The announcement that bytes spell, field by field.
+fn announce(raw: &[u8]) -> Announce<'_>
+    requires { 432 + features_len raw.now ≤ length raw.now }
+    ensures { result ≡ announce_in raw.now }
+{
+    let n = shift(raw);
+    Announce {
+        node_signature_1: signature(raw, 2),
+        node_signature_2: signature(raw, 66),
+        bitcoin_signature_1: signature(raw, 130),
+        bitcoin_signature_2: signature(raw, 194),
+        features: lent(raw, 260, n),
+        chain_hash: ChainHash(array(raw, 260 + n)),
+        short_channel_id: Scid::from_u64(number64(raw, 292 + n)),
+        node_id_1: point(raw, 300 + n),
+        node_id_2: point(raw, 333 + n),
+        bitcoin_key_1: point(raw, 366 + n),
+        bitcoin_key_2: point(raw, 399 + n),
+        rest: rest(raw, 432 + n),
+    }
+}
+
+impl KeptChannel {
+    /// A row whose bytes spell its message, kept as a copy of them.
+    pub fn of(alloc: Global, row: &ChannelRow) -> Result<KeptChannel, AllocError>
+        requires { Wire (messages.Announce row.now.message) row.now.raw }
+        ensures { IfOk result (λ kept. kept ≡ row.now) }
+    {
+        Ok(KeptChannel {
+            sat: row.sat,
+            raw: Bytes::from_slice(alloc, row.raw.as_slice())?,
+        })
+    }
+
+    /// The row that these bytes spell, kept as they are.
+    pub fn of_owned(raw: Bytes, sat: u64) -> KeptChannel
+        requires { IsAnnounce raw }
+        ensures { result ≡ channel_row sat raw }
+    {
+        KeptChannel { sat, raw }
+    }
+
+    /// The row, read from the bytes.
+    pub fn row(&self) -> ChannelRow<'_>
+        ensures row { result ≡ self.now }
+        ensures spelled { Wire (messages.Announce self.now.message) self.now.raw }
+    {
+        let raw = self.raw.as_slice();
+        ChannelRow {
+            message: announce(raw),
+            sat: self.sat,
+            raw: Lent::new(raw),
+        }
+    }
+
+    /// The whole message as it came.
+    pub fn raw(&self) -> &[u8]
+        ensures { result.now ≡ self.now.raw }
+    {
+        self.raw.as_slice()
+    }
+
+    /// The channel's name.
+    pub fn scid(&self) -> Scid
+        ensures { result ≡ self.now.message.short_channel_id }
+    {
+        let raw = self.raw.as_slice();
+        Scid::from_u64(number64(raw, 292 + shift(raw)))
+    }
+
+    /// Node 2 if `second`, else node 1.
+    pub fn node(&self, second: bool) -> Point
+        ensures { result ≡ (if second then self.now.message.node_id_2 else self.now.message.node_id_1) }
+    {
+        let raw = self.raw.as_slice();
+        if second {
+            point(raw, 333 + shift(raw))
+        } else {
+            point(raw, 300 + shift(raw))
+        }
+    }
+}

@@ -1,0 +1,111 @@
+//! Updates as they are kept.
+
+ghost use Rattle.std.specs.Prelude.{◌≡◌, ◌%◌, ◌==◌, ◌≤◌, length, IfOk};
+ghost use Rattle.lgm_gossip.specs.Message.{Wire};
+ghost use Rattle.lgm_gossip.specs.declared.message.Message.TheVariants as messages;
+ghost use Rattle.lgm_rows.specs.Update.{update_in, update_row, IsUpdate};
+
+use crate::places::{array, number8, number16, number32, number64, rest, signature};
+use lgm_check::UpdateRow;
+use lgm_gossip::{Bytes, ChainHash, ChannelUpdate, Lent, Scid};
+use std::alloc::{AllocError, Global};
+use std::marker::Model;
+
+/// An update of a direction, as its bytes. Contracts see the row that they spell.
+#[derive(Debug, Drop)]
+pub struct KeptUpdate {
+    raw: Bytes,
+}
+
+impl Model for KeptUpdate {
+    ghost use Rattle.lgm_check.specs.declared.row.UpdateRow.{UpdateRow};
+
+    ghost Value = { UpdateRow };
+
+    ghost use Rattle.lgm_rows.specs.Update.{update_row, IsUpdate};
+
+    ghost view = { λ kept. update_row kept.raw };
+
+    ghost invariant = { λ kept. IsUpdate kept.raw };
+}
+
+/// The update that bytes spell, field by field.
+fn update(raw: &[u8]) -> ChannelUpdate<'_>
+    requires { 138 ≤ length raw.now }
+    ensures { result ≡ update_in raw.now }
+{
+    ChannelUpdate {
+        signature: signature(raw, 2),
+        chain_hash: ChainHash(array(raw, 66)),
+        short_channel_id: Scid::from_u64(number64(raw, 98)),
+        timestamp: number32(raw, 106),
+        message_flags: number8(raw, 110),
+        channel_flags: number8(raw, 111),
+        cltv_expiry_delta: number16(raw, 112),
+        htlc_minimum_msat: number64(raw, 114),
+        fee_base_msat: number32(raw, 122),
+        fee_proportional_millionths: number32(raw, 126),
+        htlc_maximum_msat: number64(raw, 130),
+        rest: rest(raw, 138),
+    }
+}
+
+impl KeptUpdate {
+    /// A row whose bytes spell its message, kept as a copy of them.
+    pub fn of(alloc: Global, row: &UpdateRow) -> Result<KeptUpdate, AllocError>
+        requires { Wire (messages.ChannelUpdate row.now.message) row.now.raw }
+        ensures { IfOk result (λ kept. kept ≡ row.now) }
+    {
+        Ok(KeptUpdate {
+            raw: Bytes::from_slice(alloc, row.raw.as_slice())?,
+        })
+    }
+
+    /// The row that these bytes spell, kept as they are.
+    pub fn of_owned(raw: Bytes) -> KeptUpdate
+        requires { IsUpdate raw }
+        ensures { result ≡ update_row raw }
+    {
+        KeptUpdate { raw }
+    }
+
+    /// The row, read from the bytes.
+    pub fn row(&self) -> UpdateRow<'_>
+        ensures row { result ≡ self.now }
+        ensures spelled { Wire (messages.ChannelUpdate self.now.message) self.now.raw }
+    {
+        let raw = self.raw.as_slice();
+        UpdateRow {
+            message: update(raw),
+            raw: Lent::new(raw),
+        }
+    }
+
+    /// The whole message as it came.
+    pub fn raw(&self) -> &[u8]
+        ensures { result.now ≡ self.now.raw }
+    {
+        self.raw.as_slice()
+    }
+
+    /// The channel's name.
+    pub fn scid(&self) -> Scid
+        ensures { result ≡ self.now.message.short_channel_id }
+    {
+        Scid::from_u64(number64(self.raw.as_slice(), 98))
+    }
+
+    /// The timestamp, in seconds since 1970.
+    pub fn timestamp(&self) -> u32
+        ensures { result ≡ self.now.message.timestamp }
+    {
+        number32(self.raw.as_slice(), 106)
+    }
+
+    /// Whether the direction is that from node 2: bit 0 of `channel_flags`.
+    pub fn is_second(&self) -> bool
+        ensures { result ≡ (self.now.message.channel_flags % 2 == 1) }
+    {
+        number8(self.raw.as_slice(), 111) % 2 == 1
+    }
+}

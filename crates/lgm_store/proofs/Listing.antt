@@ -1,0 +1,146 @@
+-- Lists of channels' ids, kept for each point.
+use Rattle.std.proofs.Common.{◌≡◌, ℕ, Bool, true, false, cond, ◌||◌, List, [], ◌∷◌, Some, None, unwrap_or, refl, sym, ap, ◌∙◌, arith}
+use Rattle.std.specs.Prelude.{if◌then◌else◌}
+use Rattle.std.specs.List.{list_any}
+use Rattle.std.specs.Set.{remove_key}
+use Rattle.std.specs.BTreeMap.{is_at}
+use Rattle.std.specs.BTreeSet.{insert_key}
+use Rattle.std.specs.declared.cmp.Ordering.{Ordering}
+use Rattle.std.specs.declared.cmp.Ordering.TheVariants.{Less, Equal, Greater}
+use Rattle.std.specs.Ordering.{is_eq, nat_cmp, match_ordering}
+use Rattle.std.proofs.lemmas.Cmp.{nat_list_eq_equiv}
+use Rattle.std.proofs.lemmas.Bool.Decides.{nat_tests}
+use Rattle.lgm_wire.specs.declared.point.Point.{Point}
+use Rattle.lgm_store.specs.Rows.{is_point}
+use Rattle.lgm_store.proofs.Points.{same_point, is_point-self}
+use Rattle.lgm_store.specs.Ends.{with_id, without_id, entry_of, list_at, kept, IsSame, Sets, Lists, Lacks, changed}
+
+-- ---- keys that are put in and taken out
+
+-- a key that wasn't there goes again
+pub remove_key-insert : {K : Type 0} (cmp : K → K → Ordering) (k : K) → is_at (cmp k) k ≡ true → (ks : List K) → list_any (is_at (cmp k)) ks ≡ false
+    → remove_key (is_at (cmp k)) (insert_key cmp ks k) ≡ ks
+remove_key-insert {K} cmp k own [] lacks = rw own refl
+remove_key-insert {K} cmp k own (x ∷ xs) lacks = by (remove_key-insert cmp k own xs) (cmp k x) refl lacks
+  where
+    by : (list_any (is_at (cmp k)) xs ≡ false → remove_key (is_at (cmp k)) (insert_key cmp xs k) ≡ xs)
+        → (o : Ordering) → cmp k x ≡ o → (is_eq (cmp k x) || list_any (is_at (cmp k)) xs) ≡ false
+        → remove_key (is_at (cmp k)) (match_ordering (cmp k x) (k ∷ x ∷ xs) (x ∷ xs) (x ∷ insert_key cmp xs k)) ≡ x ∷ xs
+    by others Less is lacks = rw (is, own) refl
+    by others Equal is lacks = let never : true ≡ false = rw is at lacks in absurd cc
+    by others Greater is lacks =
+        let rest : list_any (is_at (cmp k)) xs ≡ false = rw is at lacks in
+        let past : is_at (cmp k) x ≡ false = rw is refl in
+        rw is (rw (past, others rest) refl)
+
+is_at-id : (id : ℕ) → is_at (nat_cmp id) id ≡ true
+is_at-id id = grind (arith, nat_tests)
+
+pub without-with : (ids : List ℕ) (id : ℕ) → list_any (is_at (nat_cmp id)) ids ≡ false → without_id (with_id ids id) id ≡ ids
+without-with ids id lacks = remove_key-insert nat_cmp id (is_at-id id) ids lacks
+
+-- a list with an id more is kept
+pub kept-with : (ids : List ℕ) (id : ℕ) → kept (with_id ids id) ≡ Some (with_id ids id)
+kept-with [] id = refl
+kept-with (x ∷ xs) id = by (nat_cmp id x)
+  where
+    by : (o : Ordering) → kept (match_ordering o (id ∷ x ∷ xs) (x ∷ xs) (x ∷ with_id xs id)) ≡ Some (match_ordering o (id ∷ x ∷ xs) (x ∷ xs) (x ∷ with_id xs id))
+    by Less = refl
+    by Equal = refl
+    by Greater = refl
+
+-- ---- lists at points
+
+-- a kept list, read
+pub unwrap_or-kept : (ids : List ℕ) → unwrap_or (kept ids) [] ≡ ids
+unwrap_or-kept [] = refl
+unwrap_or-kept (id ∷ ids) = refl
+
+-- the list that an index has for a point
+pub list_at-lists : (entries : List (Point × List ℕ)) (ids : Point → List ℕ) (p : Point) → Lists entries ids → list_at entries p ≡ ids p
+list_at-lists entries ids p lists = rw (lists p) (unwrap_or-kept (ids p))
+
+list_at-here : (old mid : List (Point × List ℕ)) (p : Point) (list : List ℕ) → Sets old mid p list → list_at mid p ≡ list
+list_at-here old mid p list sets = ap (λ o. unwrap_or o []) (rw is_point-self at (sets p)) ∙ unwrap_or-kept list
+
+-- an index in which a point has another list
+Lists-set : (old new : List (Point × List ℕ)) (p : Point) (list : List ℕ) (ids other : Point → List ℕ) → Sets old new p list
+    → Lists old ids → list ≡ other p → ((q : Point) → is_point p q ≡ false → ids q ≡ other q) → Lists new other
+Lists-set old new p list ids other sets lists here apart q = by (is_point p q) refl
+  where
+    by : (b : Bool) → is_point p q ≡ b → entry_of new q ≡ kept (other q)
+    by true is = sets q ∙ rw is (ap kept here ∙ ap (λ (x : Point). kept (other x)) (same_point p q is))
+    by false is = sets q ∙ rw is (lists q ∙ ap kept (apart q is))
+
+-- lists are changed at two points that are one
+pub Lists-change_same : (change : List ℕ → List ℕ) (old new : List (Point × List ℕ)) (p other : Point) (ids : Point → List ℕ) → is_point other p ≡ true
+    → Sets old new p (change (list_at old p)) → Lists old ids → Lists new (changed change ids p other)
+Lists-change_same change old new p other ids same sets lists =
+    Lists-set old new p (change (list_at old p)) ids (changed change ids p other) sets lists
+    (rw (is_point-self p, list_at-lists old ids p lists) refl)
+    (λ q is. rw (same_point other p same, is) refl)
+
+-- lists are changed at two points
+pub Lists-change : (change : List ℕ → List ℕ) (old mid new : List (Point × List ℕ)) (first second : Point) (ids : Point → List ℕ) → is_point second first ≡ false
+    → Sets old mid first (change (list_at old first)) → Sets mid new second (change (list_at mid second)) → Lists old ids → Lists new (changed change ids first second)
+Lists-change change old mid new first second ids apart sets sets' lists =
+    let more : Point → List ℕ = λ q. if is_point first q then change (ids q) else ids q in
+    let halfway : Lists mid more = Lists-set old mid first (change (list_at old first)) ids more sets lists
+    (rw (is_point-self first, list_at-lists old ids first lists) refl)
+    (λ q is. rw is refl) in
+    let other : is_point first second ≡ false = nat_list_eq_equiv.symm first.0 second.0 ∙ apart in
+    Lists-set mid new second (change (list_at mid second)) more (changed change ids first second) sets' halfway
+    (rw (list_at-lists mid more second halfway, other, is_point-self second) refl)
+    (λ q is. at_other q is (is_point first q) refl)
+  where
+    at_other : (q : Point) → is_point second q ≡ false → (b : Bool) → is_point first q ≡ b
+        → (if is_point first q then change (ids q) else ids q) ≡ changed change ids first second q
+    at_other q is true first_is = rw (is, first_is) refl
+    at_other q is false first_is = rw (is, first_is) refl
+
+-- an id that a list lacked comes in at a point, and goes again
+pub Lists-undo : (id : ℕ) (old mid mid' new : List (Point × List ℕ)) (p : Point) (ids : Point → List ℕ)
+    → Sets old mid p (with_id (list_at old p) id) → IsSame mid mid' → Sets mid' new p (without_id (list_at mid' p) id) → Lacks ids id → Lists old ids → Lists new ids
+Lists-undo id old mid mid' new p ids sets same sets' lacks lists q = by (is_point p q) refl
+  where
+    by : (b : Bool) → is_point p q ≡ b → entry_of new q ≡ kept (ids q)
+    by true is =
+        let here : list_at mid' p ≡ with_id (ids p) id =
+        ap (λ o. unwrap_or o []) (same p) ∙ list_at-here old mid p (with_id (list_at old p) id) sets ∙ ap (λ l. with_id l id) (list_at-lists old ids p lists) in
+        let back : without_id (list_at mid' p) id ≡ ids p = ap (λ l. without_id l id) here ∙ without-with (ids p) id (lacks p) in
+        sets' q ∙ rw is (ap kept back ∙ ap (λ (x : Point). kept (ids x)) (same_point p q is))
+    by false is = sets' q ∙ rw is (same q ∙ sets q ∙ rw is (lists q))
+
+-- ---- what calls of a map of lists tell
+
+-- a point that isn't there has no list
+pub Sets-none : (id : ℕ) (old : List (Point × List ℕ)) (p : Point) → entry_of old p ≡ None → Sets old old p (without_id (list_at old p) id)
+Sets-none id old p none q = by (is_point p q) refl
+  where
+    by : (b : Bool) → is_point p q ≡ b → entry_of old q ≡ cond (is_point p q) (kept (without_id (list_at old p) id)) (entry_of old q)
+    by true is = rw (is, none) (ap (entry_of old) (sym (same_point p q is)) ∙ none)
+    by false is = rw is refl
+
+-- a list that isn't empty, put at a point
+pub Sets-put : (old inside new : List (Point × List ℕ)) (p : Point) (list other : List ℕ) → inside ≡ old → list ≡ other → kept list ≡ Some list
+    → ((q : Point) → entry_of new q ≡ cond (is_point p q) (Some list) (entry_of inside q)) → Sets old new p other
+Sets-put old inside new p list other view_is is there puts q = rw (← is, there, ← view_is) (puts q)
+
+-- a point taken out, whose list was empty
+pub Sets-out : (old inside mid new : List (Point × List ℕ)) (p : Point) (list other : List ℕ) → inside ≡ old → other ≡ []
+    → ((q : Point) → entry_of mid q ≡ cond (is_point p q) (Some list) (entry_of inside q))
+    → ((q : Point) → entry_of new q ≡ cond (is_point p q) None (entry_of mid q)) → Sets old new p other
+Sets-out old inside mid new p list other view_is none written out q = by (is_point p q) refl
+  where
+    by : (b : Bool) → is_point p q ≡ b → entry_of new q ≡ cond (is_point p q) (kept other) (entry_of old q)
+    by true is = out q ∙ rw (is, none) refl
+    by false is = out q ∙ rw (is, written q, is) (ap (λ es. entry_of es q) view_is)
+
+-- a list that is put where it was
+pub IsSame-put : (old inside new : List (Point × List ℕ)) (p : Point) (list : List ℕ) → inside ≡ old → Some list ≡ entry_of inside p
+    → ((q : Point) → entry_of new q ≡ cond (is_point p q) (Some list) (entry_of inside q)) → IsSame old new
+IsSame-put old inside new p list view_is was puts q = by (is_point p q) refl
+  where
+    by : (b : Bool) → is_point p q ≡ b → entry_of new q ≡ entry_of old q
+    by true is = puts q ∙ rw is (was ∙ ap (entry_of inside) (same_point p q is) ∙ ap (λ es. entry_of es q) view_is)
+    by false is = puts q ∙ rw is (ap (λ es. entry_of es q) view_is)

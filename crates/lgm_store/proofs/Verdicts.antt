@@ -1,0 +1,43 @@
+-- A message that is accepted is the one that its bytes and what was found of it make.
+use Rattle.std.proofs.Common.{◌≡◌, ℕ, List, sym, ap, subst, ◌∙◌}
+use Rattle.lgm_wire.specs.declared.chain_hash.ChainHash.{ChainHash}
+use Rattle.lgm_gossip.specs.declared.announce.Announce.{Announce}
+use Rattle.lgm_gossip.specs.declared.channel_update.ChannelUpdate.{ChannelUpdate}
+use Rattle.lgm_gossip.specs.declared.node_announce.NodeAnnounce.{NodeAnnounce}
+use Rattle.lgm_gossip.specs.Message.{Wire}
+use Rattle.lgm_gossip.specs.declared.message.Message.TheVariants as wired
+use Rattle.lgm_check.specs.declared.evidence.Evidence.{Evidence}
+use Rattle.lgm_check.specs.declared.row.ChannelRow.{ChannelRow}
+use Rattle.lgm_check.specs.declared.row.UpdateRow.{UpdateRow}
+use Rattle.lgm_check.specs.declared.row.NodeRow.{NodeRow}
+use Rattle.lgm_check.specs.declared.row.Checked.{Checked}
+use Rattle.lgm_check.specs.declared.row.Checked.TheVariants as messages
+use Rattle.lgm_check.specs.Accepted.{IsAccepted}
+use Rattle.lgm_rows.proofs.AnnounceLaws as announces
+use Rattle.lgm_rows.proofs.UpdateLaws as updates
+use Rattle.lgm_rows.proofs.NodeLaws as nodes
+use Rattle.lgm_store.specs.Candidate.{IsSpelled, Fits, verdict_of, checked_by}
+
+-- its bytes spell a message of its type
+pub accepted_fits : (chain : ChainHash) (bytes : List ℕ) (evidence : Evidence) (made : Checked) → IsAccepted chain bytes evidence made → Fits (verdict_of made) bytes
+accepted_fits chain bytes evidence (messages.Channel row) is = (announces.spelled_in row.message bytes is.spelled).0
+accepted_fits chain bytes evidence (messages.Update row signer) is = (updates.spelled_in row.message bytes is.spelled).0
+accepted_fits chain bytes evidence (messages.Node row) is = (nodes.spelled_in row.message bytes is.spelled).0
+
+-- and it is the one that they make
+pub accepted_made : (chain : ChainHash) (bytes : List ℕ) (evidence : Evidence) (made : Checked) → IsAccepted chain bytes evidence made → checked_by (verdict_of made) bytes ≡ made
+accepted_made chain bytes evidence (messages.Channel row) is =
+    let with : Announce → List ℕ → Checked = λ m raw. let same : ChannelRow = record { message = m; sat = row.sat; raw = raw } in messages.Channel same in
+    ap (λ m. with m bytes) (announces.spelled_in row.message bytes is.spelled).1 ∙ ap (with row.message) (sym is.raw)
+accepted_made chain bytes evidence (messages.Update row signer) is =
+    let with : ChannelUpdate → List ℕ → Checked = λ m raw. let same : UpdateRow = record { message = m; raw = raw } in messages.Update same signer in
+    ap (λ m. with m bytes) (updates.spelled_in row.message bytes is.spelled).1 ∙ ap (with row.message) (sym is.raw)
+accepted_made chain bytes evidence (messages.Node row) is =
+    let with : NodeAnnounce → List ℕ → Checked = λ m raw. let same : NodeRow = record { message = m; raw = raw } in messages.Node same in
+    ap (λ m. with m bytes) (nodes.spelled_in row.message bytes is.spelled).1 ∙ ap (with row.message) (sym is.raw)
+
+-- the bytes of its row spell it
+pub accepted_spelled : (chain : ChainHash) (bytes : List ℕ) (evidence : Evidence) (made : Checked) → IsAccepted chain bytes evidence made → IsSpelled made
+accepted_spelled chain bytes evidence (messages.Channel row) is = subst (Wire (wired.Announce row.message)) (sym is.raw) is.spelled
+accepted_spelled chain bytes evidence (messages.Update row signer) is = subst (Wire (wired.ChannelUpdate row.message)) (sym is.raw) is.spelled
+accepted_spelled chain bytes evidence (messages.Node row) is = subst (Wire (wired.NodeAnnounce row.message)) (sym is.raw) is.spelled
