@@ -4,6 +4,8 @@
 
 mod gate;
 mod mapping;
+mod pool;
 
 pub use gate::{Gate, Open};
 pub use mapping::map_chunks;
+pub use pool::Pool;

@@ -50,7 +50,7 @@ fn map_piece<T, A: Drop, F: Fn(&T) -> A>(
     requires { AcceptsAll F.Fn f.now items.now }
     ensures { IfOk result (λ answers. GivesAll F.Fn f.now items.now answers.items) }
 {
-    let mut answers = Vec::new(alloc);
+    let mut answers = Vec::with_capacity(alloc, items.len())?;
     for item in items {
         answers.push(answer_at(f, item))?;
     }
@@ -63,8 +63,9 @@ fn map_piece<T, A: Drop, F: Fn(&T) -> A>(
 /// The slice of n items is cut into p pieces that lie one after the other, p the lesser of
 /// `workers` and n; the first `n mod p` of them are one item longer than the others. Each piece
 /// passes the gate with its number, from 0, and is then done, side by side with the others: on a
-/// thread of its own, or on one that is there where no more can be started. An empty slice starts
-/// no thread and passes no gate. The call waits for all pieces.
+/// thread of its own, or on one that is there where no more can be started. One piece alone is done
+/// on the caller's thread. An empty slice starts no thread and passes no gate. The call waits for all
+/// pieces.
 ///
 /// `f` must be callable on each item. `AllocError` comes where memory for a list of answers was
 /// refused; what `f` answered until then is dropped.
@@ -81,6 +82,10 @@ pub fn map_chunks<Rt: Threads + Sync, G: Gate, T: Sync, A: Send + Drop, F: Fn(&T
     ensures { IfOk result (λ answers. GivesAll F.Fn f.now items.now answers.items) }
 {
     let pieces = workers.min(items.len());
+    if pieces == 1 {
+        gate.pass(0);
+        return map_piece(alloc, items, f);
+    }
     let work = |piece: usize| -> Result<Vec<A>, AllocError>
         requires { (piece < pieces) × AcceptsAll F.Fn f.now items.now }
         ensures { IfOk result (λ answers. GivesAll F.Fn f.entry.now (piece_of items.entry.now pieces piece) answers.items) }
@@ -89,7 +94,7 @@ pub fn map_chunks<Rt: Threads + Sync, G: Gate, T: Sync, A: Send + Drop, F: Fn(&T
         map_piece(alloc, piece_at(items, pieces, piece), f)
     };
     let parts = thread::map_indices(rt, alloc, pieces, &work)?;
-    let mut answers = Vec::new(alloc);
+    let mut answers = Vec::with_capacity(alloc, items.len())?;
     for part in parts {
         answers.append(&mut part?)?;
     }
