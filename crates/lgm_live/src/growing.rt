@@ -16,10 +16,10 @@ use crate::report::LiveReport;
 use crate::requests::{RequestList, RequestLists};
 use crate::tying::tie_all;
 use crate::working::{Worked, work_all};
-use crate::writing::{Written, write_all};
+use crate::writing::{Written, publish_batches};
 use lgm_gossip::ChainHash;
 use lgm_graph::Known;
-use lgm_par::Gate;
+use lgm_par::{Gate, Pool};
 use lgm_publish::{Eye, Pen, PublishFault, board};
 use std::alloc::Global;
 use std::marker::Sync;
@@ -29,9 +29,7 @@ use std::thread::{Threads, join_mut};
 
 /// Lets the workers answer by eyes that are handed over.
 fn work_given<R: Threads + Sync, G: Gate>(
-    rt: &R,
-    alloc: Global,
-    gate: &G,
+    pool: &Pool<'_, R, G>,
     given: &mut Option<Vec<Eye>>,
     lists: &[RequestList],
 ) -> Result<Vec<Worked>, LiveFault>
@@ -43,16 +41,14 @@ fn work_given<R: Threads + Sync, G: Gate>(
     let Some(eyes) = given.take() else {
         return Err(LiveFault::Closed);
     };
-    work_all(rt, alloc, gate, 0, eyes, lists)
+    work_all(pool.rt, pool.alloc, pool.gate, 0, eyes, lists)
 }
 
 /// The writer on one side, the workers on the other. Where no thread can be started, the writer comes first: workers may
 /// wait for what it publishes.
 fn run_both<R: Threads + Wait + Sync + RandomSource, G: Gate>(
-    rt: &R,
-    alloc: Global,
+    pool: &Pool<'_, R, G>,
     chain: &ChainHash,
-    gate: &G,
     pen: &mut Pen,
     eyes: Vec<Eye>,
     batches: &[Batch],
@@ -73,20 +69,20 @@ fn run_both<R: Threads + Wait + Sync + RandomSource, G: Gate>(
 {
     let mut given = Some(eyes);
     let (works, written) = join_mut(
-        rt,
+        pool.rt,
         &mut || -> Result<Vec<Worked>, LiveFault>
             requires sync { IsSync R.row }
             requires given { IfSome given (λ eyes. length eyes.items ≡ length lists.now) }
             requires some { 0 < length lists.now }
             requires few { length lists.now ≤ 64 }
-        { work_given(rt, alloc, gate, &mut given, lists) },
+        { work_given(pool, &mut given, lists) },
         &mut || -> Result<Written, LiveFault>
             requires published { pen.now.published ≡ [] }
             requires pending { pen.now.pending ≡ [] }
             requires items { length (items_of batches.now) ≤ 2000000000 }
         {
-            let written = write_all(rt, alloc, chain, gate, lists.len(), pen, batches);
-            gate.published(usize::MAX);
+            let written = publish_batches(pool, chain, pen, batches);
+            pool.gate.published(usize::MAX);
             written
         },
     );
@@ -165,16 +161,13 @@ pub fn live<R: Threads + Wait + Sync + RandomSource, G: Gate>(
         Err(PublishFault::NoMemory) => return Err(LiveFault::NoMemory),
         Err(PublishFault::Places) => return Err(LiveFault::Closed),
     };
-    let (written, works) = run_both(
+    let pool = Pool {
         rt,
         alloc,
-        chain,
+        workers: lists.len(),
         gate,
-        &mut pen,
-        eyes,
-        batches.as_slice(),
-        lists,
-    );
+    };
+    let (written, works) = run_both(&pool, chain, &mut pen, eyes, batches.as_slice(), lists);
     let report = gather(alloc, &mut pen, written, works);
     pen.end(rt);
     report

@@ -14,7 +14,7 @@ use crate::run_live_fault::RunLiveFault;
 use crate::telling::tell;
 use lgm_gossip::ChainHash;
 use lgm_graph::Known;
-use lgm_par::Gate;
+use lgm_par::{Gate, Pool};
 use lgm_script::{BLOCK, Output, Sink, Source};
 use std::alloc::Global;
 use std::marker::Sync;
@@ -24,42 +24,40 @@ use std::thread::Threads;
 
 /// Runs a whole script to an output where nothing is gathered.
 fn run_all<Rt: Threads + Wait + Sync + RandomSource, G: Gate, R: Source, W: Sink>(
-    rt: &Rt,
-    alloc: Global,
+    pool: &Pool<'_, Rt, G>,
     source: &mut R,
     output: &mut Output<'_, W>,
     chain: &ChainHash,
     known: &Known,
-    workers: usize,
-    gate: &G,
 ) -> Result<LiveReport, RunLiveFault>
-    requires workers { (1 ≤ workers) × (workers ≤ 64) }
     requires gathered { output.old.gathered.now.items ≡ [] }
     requires source { R.failures source.old + 1 < 2 ^ 64 }
     requires writer { W.failures output.old.writer.now + 1 < 2 ^ 64 }
     ensures writer { output.new.writer.ghost_name ≡ output.old.writer.ghost_name }
     ensures ok { IfOk result (λ report. IfSome (R.left source.old)
-        (IsToldWhole chain.now known.now workers (Appends (W.taken output.old.writer.now) (W.taken output.new.writer.now)) report)) }
+        (IsToldWhole chain.now known.now pool.now.workers
+        (Appends (W.taken output.old.writer.now) (W.taken output.new.writer.now)) report)) }
     ensures too_many { result ≡ Err RunLiveFault.TooManyLines → IfSome (R.left source.old) HasMoreLines }
     ensures too_long { result ≡ Err RunLiveFault.LineTooLong → IfSome (R.left source.old) HasLongLine }
     ensures silent { IfErr result (λ fault. ComesFirst fault → W.taken output.new.writer.now ≡ W.taken output.old.writer.now) }
     ensures fault { OnErr result ((W.taken output.new.writer.now ≡ W.taken output.old.writer.now) ⊎ IfSome (R.left source.old)
-        (IsToldInPart chain.now known.now workers (AppendsSome (W.taken output.old.writer.now) (W.taken output.new.writer.now)))) }
+        (IsToldInPart chain.now known.now pool.now.workers
+        (AppendsSome (W.taken output.old.writer.now) (W.taken output.new.writer.now)))) }
     ensures read { result ≡ Err RunLiveFault.Read → R.failures source.old < R.failures source.new }
     ensures write { result ≡ Err RunLiveFault.Write → W.failures output.old.writer.now < W.failures output.new.writer.now }
 {
-    let agenda = read_script(alloc, workers, source, output)?;
-    let paced = Paced::new(rt, alloc, gate, workers, agenda.above())?;
+    let agenda = read_script(pool.alloc, pool.workers, source, output)?;
+    let paced = Paced::new(pool, agenda.above())?;
     let report = live(
-        rt,
-        alloc,
+        pool.rt,
+        pool.alloc,
         chain,
         known,
         agenda.batches(),
         agenda.lists(),
         &paced,
     )?;
-    tell(alloc, workers, agenda.slots(), &report, output)?;
+    tell(pool.alloc, pool.workers, agenda.slots(), &report, output)?;
     Ok(report)
 }
 
@@ -110,5 +108,11 @@ pub fn run_live<Rt: Threads + Wait + Sync + RandomSource, G: Gate, R: Source, W:
 {
     let mut block = Vec::with_capacity(alloc, BLOCK)?;
     let mut output = Output::new(&mut block, writer);
-    run_all(rt, alloc, reader, &mut output, chain, known, workers, gate)
+    let pool = Pool {
+        rt,
+        alloc,
+        workers,
+        gate,
+    };
+    run_all(&pool, reader, &mut output, chain, known)
 }

@@ -13,7 +13,7 @@ use crate::report::LiveAnswer;
 use crate::requests::RequestList;
 use lgm_par::Gate;
 use lgm_publish::{Eye, Guard};
-use lgm_route::{Request, Route, RouteFault, least};
+use lgm_route::{Request, Route, RouteFault};
 use std::alloc::Global;
 use std::marker::Sync;
 use std::thread::{Threads, join};
@@ -27,12 +27,10 @@ pub(crate) struct Worked {
 
 /// The least route of a payment over the edges of the map that a guard shows.
 fn find(alloc: Global, guard: &Guard, request: &Request) -> Result<Route, RouteFault>
-    ensures { (result ≡ Err RouteFault.NoMemory) ⊎ (result ≡ answer_of (edges_of guard.now.known (fold guard.now.ops)) request.now) }
+    ensures { (result ≡ Err RouteFault.NoMemory) ⊎
+        (result ≡ answer_of (edges_of guard.now.known (fold guard.now.ops)) request.now) }
 {
-    guard.map().rows_are_lawful();
-    let view = guard.view();
-    view.shows_the_edges();
-    least(alloc, view, request)
+    lgm_route::answer(alloc, guard.map(), guard.view(), request)
 }
 
 /// Answers a payment over the map that a guard shows.

@@ -10,7 +10,7 @@ use crate::batches::Batch;
 use crate::fault::LiveFault;
 use lgm_check::Refusal;
 use lgm_gossip::ChainHash;
-use lgm_par::Gate;
+use lgm_par::{Gate, Pool};
 use lgm_publish::{AppendCause, Pen};
 use lgm_script::Item;
 use lgm_store::{Map, Op, Seed};
@@ -118,11 +118,8 @@ impl Written {
     /// Offers a batch's items to the map, one after the other, and publishes what was accepted.
     fn take_batch<R: Wait, G: Gate>(
         &mut self,
-        rt: &R,
-        alloc: Global,
+        pool: &Pool<'_, R, G>,
         chain: &ChainHash,
-        gate: &G,
-        workers: usize,
         pen: &mut Pen,
         batch: &[Item],
     ) -> Result<(), LiveFault>
@@ -139,20 +136,17 @@ impl Written {
         ensures pending { OnOk result (pen.new.pending ≡ []) }
     {
         for item in batch {
-            self.take_item(alloc, chain, pen, item)?;
+            self.take_item(pool.alloc, chain, pen, item)?;
         }
-        gate.pass(workers);
-        self.publish(rt, pen)
+        pool.gate.pass(pool.workers);
+        self.publish(pool.rt, pen)
     }
 }
 
 /// Offers each batch's items to a map, one after the other, and publishes what was accepted of each.
-pub(crate) fn write_all<R: Wait + RandomSource, G: Gate>(
-    rt: &R,
-    alloc: Global,
+pub(crate) fn publish_batches<R: Wait + RandomSource, G: Gate>(
+    pool: &Pool<'_, R, G>,
     chain: &ChainHash,
-    gate: &G,
-    workers: usize,
     pen: &mut Pen,
     batches: &[Batch],
 ) -> Result<Written, LiveFault>
@@ -165,10 +159,10 @@ pub(crate) fn write_all<R: Wait + RandomSource, G: Gate>(
     ensures board { pen.new.board ≡ pen.old.board }
     ensures published { IfOk result (λ written. pen.new.published ≡ written.ops.items) }
 {
-    let mut written = Written::new(alloc, Seed::random(rt))?;
+    let mut written = Written::new(pool.alloc, Seed::random(pool.rt))?;
     for batch in batches {
-        written.take_batch(rt, alloc, chain, gate, workers, pen, batch.as_slice())?;
-        gate.published(written.ends.len());
+        written.take_batch(pool, chain, pen, batch.as_slice())?;
+        pool.gate.published(written.ends.len());
     }
     Ok(written)
 }

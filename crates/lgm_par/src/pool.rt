@@ -9,55 +9,22 @@ use std::alloc::{AllocError, Global};
 use std::marker::Sync;
 use std::thread::Threads;
 
-/// From 1 to 64 workers, with what they need: who starts their threads, the memory that answers
-/// are kept in, and the gate that each piece of work passes before it begins. No answer depends on
-/// any of these.
+/// From 1 to 64 workers, with what they need. No answer depends on any of it.
+#[derive(Drop)]
 pub struct Pool<'a, Rt, G> {
-    rt: &'a Rt,
-    alloc: Global,
-    workers: usize,
-    gate: &'a G,
+    /// Who starts their threads.
+    pub rt: &'a Rt,
+    /// The memory that they take.
+    pub alloc: Global,
+    /// How many they are, from 1 to 64.
+    pub workers: usize,
+    /// What each piece of work passes before it begins.
+    pub gate: &'a G,
     ghost some: { 1 ≤ workers },
     ghost few: { workers ≤ 64 },
 }
 
 impl<'a, Rt: Threads + Sync, G: Gate> Pool<'a, Rt, G> {
-    /// So many workers.
-    pub fn new(rt: &'a Rt, alloc: Global, workers: usize, gate: &'a G) -> Pool<'a, Rt, G>
-        requires some { 1 ≤ workers }
-        requires few { workers ≤ 64 }
-    {
-        Pool {
-            rt,
-            alloc,
-            workers,
-            gate,
-        }
-    }
-
-    /// Who starts the threads.
-    pub fn rt(&self) -> &'a Rt {
-        self.rt
-    }
-
-    /// The memory that answers are kept in.
-    pub fn alloc(&self) -> Global {
-        self.alloc
-    }
-
-    /// How many workers there are, from 1 to 64.
-    pub fn workers(&self) -> usize
-        ensures some { 1 ≤ result }
-        ensures few { result ≤ 64 }
-    {
-        self.workers
-    }
-
-    /// The gate that pieces of work pass.
-    pub fn gate(&self) -> &'a G {
-        self.gate
-    }
-
     /// The same, with at most so many workers.
     pub fn at_most(&self, most: usize) -> Pool<'a, Rt, G>
         requires { 1 ≤ most }

@@ -6,7 +6,7 @@ ghost use Rattle.lgm_graph.specs.Edges.{edges_of};
 ghost use Rattle.lgm_route.specs.Choice.{answer_of};
 
 use lgm_graph::{Known, Network};
-use lgm_route::{Request, Route, RouteFault, least};
+use lgm_route::{Request, Route, RouteFault, answer};
 use lgm_store::{Map, Op};
 use std::alloc::{AllocError, Global};
 
@@ -25,12 +25,10 @@ fn replay(alloc: Global, known: &Known, history: &[Op]) -> Result<Network, Alloc
 
 /// The least route of a payment over the edges of a map.
 fn find_in(alloc: Global, network: &Network, request: &Request) -> Result<Route, RouteFault>
-    ensures { (result ≡ Err RouteFault.NoMemory) ⊎ (result ≡ answer_of (edges_of network.now.graph.known network.now.rows) request.now) }
+    ensures { (result ≡ Err RouteFault.NoMemory) ⊎
+        (result ≡ answer_of (edges_of network.now.graph.known network.now.rows) request.now) }
 {
-    network.map().rows_are_lawful();
-    let view = network.view();
-    view.shows_the_edges();
-    least(alloc, view, request)
+    answer(alloc, network.map(), network.view(), request)
 }
 
 /// The least route of a payment over the edges of the map that a history leaves.

@@ -7,7 +7,7 @@ ghost use Rattle.lgm_route.specs.State.{AreLeadsAt, Extends};
 
 use crate::label::Label;
 use crate::search::Search;
-use lgm_par::{Gate, map_chunks};
+use lgm_par::{Gate, Pool};
 use std::alloc::{AllocError, Global};
 use std::thread::Threads;
 
@@ -85,35 +85,17 @@ fn push(labels: &mut Vec<Label>, label: Option<Label>) -> Result<(), AllocError>
     Ok(())
 }
 
-/// How many of the workers a layer of so many labels is worth.
-fn hands(workers: usize, labels: usize) -> usize
-    requires { workers ≤ 64 }
-    ensures { result ≤ 64 }
-{
-    workers.min(labels / SHARE)
-}
-
 /// All that each label of the frontier leads on to, found in pieces.
 fn all_leads<Rt: Threads + Sync, G: Gate>(
-    rt: &Rt,
-    alloc: Global,
-    workers: usize,
-    gate: &G,
+    pool: &Pool<'_, Rt, G>,
     search: &Search,
     frontier: &[usize],
 ) -> Result<Vec<Result<Vec<Label>, AllocError>>, AllocError>
-    requires workers { (1 ≤ workers) × (workers ≤ 64) }
-    requires frontier { All (λ i. i < length search.now.labels) frontier.now }
+    requires { All (λ i. i < length search.now.labels) frontier.now }
     ensures { IfOk result (λ all. AllZip (λ i leads. IfOk leads (λ leads. AreLeadsAt search.now i leads.items)) frontier.now all.items) }
 {
-    map_chunks(
-        rt,
-        alloc,
-        workers,
-        gate,
-        frontier,
-        &|i| search.leads(alloc, *i),
-    )
+    let alloc = pool.alloc;
+    pool.map(frontier, &|i| search.leads(alloc, *i))
 }
 
 impl<'a> Search<'a> {
@@ -157,17 +139,13 @@ impl<'a> Search<'a> {
     /// Leads the labels of a frontier on, in pieces.
     fn share_layer<Rt: Threads + Sync, G: Gate>(
         &mut self,
-        rt: &Rt,
-        alloc: Global,
-        workers: usize,
-        gate: &G,
+        pool: &Pool<'_, Rt, G>,
         frontier: &[usize],
     ) -> Result<(), AllocError>
-        requires workers { (1 ≤ workers) × (workers ≤ 64) }
-        requires frontier { All (λ i. i < length self.old.labels) frontier.now }
+        requires { All (λ i. i < length self.old.labels) frontier.now }
         ensures { IfOk result (λ _. Extends self.old self.new) }
     {
-        let all = all_leads(rt, alloc, workers, gate, self, frontier)?;
+        let all = all_leads(pool, self, frontier)?;
         for k in 0..frontier.len() {
             match &all[k] {
                 Ok(leads) => self.merge(frontier[k], leads)?,
@@ -191,40 +169,32 @@ impl<'a> Search<'a> {
     /// Leads the labels of a frontier on, by as many of the workers as they are worth.
     fn lead_layer<Rt: Threads + Sync, G: Gate>(
         &mut self,
-        rt: &Rt,
-        alloc: Global,
-        workers: usize,
-        gate: &G,
+        pool: &Pool<'_, Rt, G>,
         frontier: &[usize],
     ) -> Result<(), AllocError>
-        requires workers { (1 ≤ workers) × (workers ≤ 64) }
-        requires frontier { All (λ i. i < length self.old.labels) frontier.now }
+        requires { All (λ i. i < length self.old.labels) frontier.now }
         ensures { IfOk result (λ _. Extends self.old self.new) }
     {
-        let hands = hands(workers, frontier.len());
+        let hands = frontier.len() / SHARE;
         if hands <= 1 {
             self.settle_layer(frontier)
         } else {
-            self.share_layer(rt, alloc, hands, gate, frontier)
+            self.share_layer(&pool.at_most(hands), frontier)
         }
     }
 
     /// Settles labels by their number of edges.
     fn settle_layers<Rt: Threads + Sync, G: Gate>(
         &mut self,
-        rt: &Rt,
-        alloc: Global,
-        workers: usize,
-        gate: &G,
+        pool: &Pool<'_, Rt, G>,
     ) -> Result<(), AllocError>
-        requires { (1 ≤ workers) × (workers ≤ 64) }
         ensures { IfOk result (λ _. Extends self.old self.new) }
     {
-        let mut layers = Layers::new(alloc)?;
+        let mut layers = Layers::new(pool.alloc)?;
         for count in 0..LAYERS {
             layers.fill(self)?;
-            let frontier = layers.frontier(alloc, self, count)?;
-            self.lead_layer(rt, alloc, workers, gate, &frontier)?;
+            let frontier = layers.frontier(pool.alloc, self, count)?;
+            self.lead_layer(pool, &frontier)?;
         }
         Ok(())
     }
@@ -232,18 +202,14 @@ impl<'a> Search<'a> {
     /// Settles labels best first, and then, if many are left, by their number of edges.
     pub(crate) fn settle_chunked<Rt: Threads + Sync, G: Gate>(
         &mut self,
-        rt: &Rt,
-        alloc: Global,
-        workers: usize,
-        gate: &G,
+        pool: &Pool<'_, Rt, G>,
     ) -> Result<(), AllocError>
-        requires { (1 ≤ workers) × (workers ≤ 64) }
         ensures { IfOk result (λ _. Extends self.old self.new) }
     {
-        if self.settle_best_first(alloc, ALONE)? {
+        if self.settle_best_first(pool.alloc, ALONE)? {
             return Ok(());
         }
-        self.settle_layers(rt, alloc, workers, gate)?;
+        self.settle_layers(pool)?;
         Ok(())
     }
 }

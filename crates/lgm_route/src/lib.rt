@@ -4,6 +4,7 @@
 //! over each, and a [`RouteFault`] why there is none.
 #![tactic(auto)]
 
+mod answering;
 mod bounding;
 mod bounds;
 mod comparing;
@@ -27,6 +28,7 @@ mod search;
 mod settling;
 mod starting;
 
+pub use answering::{answer, answer_chunked};
 pub use fault::RouteFault;
 pub use laws::{answer_is_one, least_is_one};
 pub use request::Request;

@@ -18,7 +18,7 @@ use crate::route::{Hop, Route};
 use crate::search::Search;
 use crate::starting::most_sent;
 use lgm_graph::{Link, View};
-use lgm_par::Gate;
+use lgm_par::{Gate, Pool};
 use std::alloc::{AllocError, Global};
 use std::thread::Threads;
 
@@ -59,20 +59,16 @@ fn best_walk(
 
 /// The same, found in pieces.
 fn best_walk_chunked<Rt: Threads + Sync, G: Gate>(
-    rt: &Rt,
-    alloc: Global,
-    workers: usize,
-    gate: &G,
+    pool: &Pool<'_, Rt, G>,
     view: &View,
     request: &NumberedRequest,
 ) -> Result<Option<Vec<Link>>, AllocError>
-    requires { (1 ≤ workers) × (workers ≤ 64) }
     ensures { IfOk result (λ best. IsBestWalk (links view.now) request.now (option_map (λ walk. walk.items) best)) }
 {
-    let mut search = begin(alloc, view, request)?;
-    search.settle_chunked(rt, alloc, workers, gate)?;
+    let mut search = begin(pool.alloc, view, request)?;
+    search.settle_chunked(pool)?;
     search.sweep()?;
-    search.best_walk(alloc)
+    search.best_walk(pool.alloc)
 }
 
 /// The request between numbered nodes, where both ends have a number.
@@ -218,6 +214,12 @@ pub fn least_chunked<Rt: Threads + Sync, G: Gate>(
     let Some(numbered) = numbering_of(view, request) else {
         return Err(RouteFault::NoRoute);
     };
-    let walk = best_walk_chunked(rt, alloc, workers, gate, view, &numbered)?;
+    let pool = Pool {
+        rt,
+        alloc,
+        workers,
+        gate,
+    };
+    let walk = best_walk_chunked(&pool, view, &numbered)?;
     route_over(alloc, view, request, &numbered, walk)
 }

@@ -6,8 +6,8 @@ ghost use Rattle.lgm_server.specs.Answer.{answer_text, outcome_word};
 
 use crate::filters::{Filters, PeerFilter};
 use crate::objection::Objection;
+use crate::route_sending::send_route;
 use crate::sending::{send_filtered, send_messages, send_news, send_range};
-use crate::telling::send_route;
 use lgm_check::Refusal;
 use lgm_gossip::{ChainHash, RangeQuery};
 use lgm_payload::Payloads;

@@ -12,8 +12,8 @@ ghost use Rattle.lgm_server.specs.Steps.{state_alone, text_alone, state_from, te
 
 use crate::answer::Answer;
 use crate::checking::{Offered, check_lines};
+use crate::context::Context;
 use crate::engine::Engine;
-use lgm_gossip::ChainHash;
 use lgm_par::Gate;
 use lgm_script::{Group, Kind, Output, Payment, Request, SendFault, Sink, may_ask_routes, parse};
 use std::alloc::{AllocError, Global};
@@ -44,30 +44,25 @@ fn offer<W: Sink>(
 
 /// Answers lines of items, the first of that number: they are checked side by side, and offered in their order.
 fn answer_items<Rt: Threads + Sync, G: Gate, W: Sink>(
-    rt: &Rt,
-    alloc: Global,
-    workers: usize,
-    gate: &G,
-    chain: &ChainHash,
+    context: &Context<'_, Rt, G>,
     first: u64,
     lines: &[&[u8]],
     engine: &mut Engine,
     output: &mut Output<'_, W>,
 ) -> Result<(), SendFault>
-    requires workers { (1 ≤ workers) × (workers ≤ 64) }
     requires items { AllByRecursion (IsOfKind Kind.Item) (asked_in lines.now) }
     requires number { first + length lines.now < 2 ^ 64 }
     requires few { engine.old.accepted + length lines.now ≤ 10000000 }
     requires writer { W.failures output.old.writer.now + 1 < 2 ^ 64 }
     ensures writer { output.new.writer.ghost_name ≡ output.old.writer.ghost_name }
-    ensures state { OnOk result (engine.new ≡ state_from chain.now engine.old (asked_in lines.now)) }
-    ensures told { OnOk result (Sends W.taken W.failures output.old output.new (text_from chain.now first engine.old (asked_in lines.now))) }
-    ensures fault { IfErr result (SendsPart W.taken W.failures output.old output.new (text_from chain.now first engine.old (asked_in lines.now))) }
+    ensures state { OnOk result (engine.new ≡ state_from context.now.chain.now engine.old (asked_in lines.now)) }
+    ensures told { OnOk result (Sends W.taken W.failures output.old output.new (text_from context.now.chain.now first engine.old (asked_in lines.now))) }
+    ensures fault { IfErr result (SendsPart W.taken W.failures output.old output.new (text_from context.now.chain.now first engine.old (asked_in lines.now))) }
 {
-    let all = check_lines(rt, alloc, workers, gate, chain, lines)?;
+    let all = check_lines(context, lines)?;
     let mut number = first;
     for item in all {
-        offer(alloc, number, item?, engine, output)?;
+        offer(context.pool.alloc, number, item?, engine, output)?;
         number += 1;
     }
     Ok(())
@@ -88,31 +83,26 @@ fn lone_payment(alloc: Global, lines: &[&[u8]]) -> Result<Option<Payment>, Alloc
 
 /// Answers lines that ask of the committed items, the first of that number.
 fn answer_questions<Rt: Threads + Sync, G: Gate, W: Sink>(
-    rt: &Rt,
-    alloc: Global,
-    workers: usize,
-    gate: &G,
-    chain: &ChainHash,
+    context: &Context<'_, Rt, G>,
     first: u64,
     lines: &[&[u8]],
     engine: &mut Engine,
     output: &mut Output<'_, W>,
 ) -> Result<(), SendFault>
-    requires workers { (1 ≤ workers) × (workers ≤ 64) }
     requires questions { AllByRecursion (IsOfKind Kind.Question) (asked_in lines.now) }
     requires number { first + length lines.now < 2 ^ 64 }
     requires few { engine.old.accepted ≤ 10000000 }
     requires writer { W.failures output.old.writer.now + 1 < 2 ^ 64 }
     ensures writer { output.new.writer.ghost_name ≡ output.old.writer.ghost_name }
-    ensures state { OnOk result (engine.new ≡ state_from chain.now engine.old (asked_in lines.now)) }
-    ensures told { OnOk result (Sends W.taken W.failures output.old output.new (text_from chain.now first engine.old (asked_in lines.now))) }
-    ensures fault { IfErr result (SendsPart W.taken W.failures output.old output.new (text_from chain.now first engine.old (asked_in lines.now))) }
+    ensures state { OnOk result (engine.new ≡ state_from context.now.chain.now engine.old (asked_in lines.now)) }
+    ensures told { OnOk result (Sends W.taken W.failures output.old output.new (text_from context.now.chain.now first engine.old (asked_in lines.now))) }
+    ensures fault { IfErr result (SendsPart W.taken W.failures output.old output.new (text_from context.now.chain.now first engine.old (asked_in lines.now))) }
 {
-    if let Some(payment) = lone_payment(alloc, lines)? {
-        let answer = engine.answer_route(rt, alloc, workers, gate, &payment)?;
-        return answer.send(alloc, first, output);
+    if let Some(payment) = lone_payment(context.pool.alloc, lines)? {
+        let answer = engine.answer_route(&context.pool, &payment)?;
+        return answer.send(context.pool.alloc, first, output);
     }
-    engine.answer_questions(rt, alloc, workers, gate, chain, first, lines, output)
+    engine.answer_questions(context, first, lines, output)
 }
 
 /// Answers a line that stands alone: a commit, nothing, or no form of the grammar.
@@ -140,34 +130,25 @@ fn answer_alone<W: Sink>(
 /// Answers the lines of a group, the first of that number. Behind it their items are held if they are accepted, their
 /// peers have their filters, and what was accepted is committed if they ask for that.
 pub fn answer<Rt: Threads + Sync, G: Gate, W: Sink>(
-    rt: &Rt,
-    alloc: Global,
-    workers: usize,
-    gate: &G,
-    chain: &ChainHash,
+    context: &Context<'_, Rt, G>,
     first: u64,
     group: &Group<'_>,
     engine: &mut Engine,
     output: &mut Output<'_, W>,
 ) -> Result<(), SendFault>
-    requires workers { (1 ≤ workers) × (workers ≤ 64) }
     requires alike { AreAlike group.now.kind (map (λ line. line.now) group.now.lines.items) }
     requires number { first + length group.now.lines.items < 2 ^ 64 }
     requires few { engine.old.accepted + length group.now.lines.items ≤ 10000000 }
     requires writer { W.failures output.old.writer.now + 1 < 2 ^ 64 }
     ensures writer { output.new.writer.ghost_name ≡ output.old.writer.ghost_name }
-    ensures state { OnOk result (engine.new ≡ state_from chain.now engine.old (asked_in group.now.lines.items)) }
-    ensures told { OnOk result (Sends W.taken W.failures output.old output.new (text_from chain.now first engine.old (asked_in group.now.lines.items))) }
-    ensures fault { IfErr result (SendsPart W.taken W.failures output.old output.new (text_from chain.now first engine.old (asked_in group.now.lines.items))) }
+    ensures state { OnOk result (engine.new ≡ state_from context.now.chain.now engine.old (asked_in group.now.lines.items)) }
+    ensures told { OnOk result (Sends W.taken W.failures output.old output.new (text_from context.now.chain.now first engine.old (asked_in group.now.lines.items))) }
+    ensures fault { IfErr result (SendsPart W.taken W.failures output.old output.new (text_from context.now.chain.now first engine.old (asked_in group.now.lines.items))) }
 {
     let lines = group.lines.as_slice();
     match group.kind {
-        Kind::Item => answer_items(
-            rt, alloc, workers, gate, chain, first, lines, engine, output,
-        ),
-        Kind::Question => answer_questions(
-            rt, alloc, workers, gate, chain, first, lines, engine, output,
-        ),
-        Kind::Other => answer_alone(alloc, first, lines[0], engine, output),
+        Kind::Item => answer_items(context, first, lines, engine, output),
+        Kind::Question => answer_questions(context, first, lines, engine, output),
+        Kind::Other => answer_alone(context.pool.alloc, first, lines[0], engine, output),
     }
 }

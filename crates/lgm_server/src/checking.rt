@@ -6,9 +6,10 @@ ghost use Rattle.lgm_script.specs.Request.{request_of};
 ghost use Rattle.lgm_server.specs.Offered.{offered_of, offered_in};
 ghost use Rattle.lgm_server.specs.Questions.{asked_in};
 
+use crate::context::Context;
 use lgm_check::Refusal;
 use lgm_gossip::{ChainHash, Scid};
-use lgm_par::{Gate, map_chunks};
+use lgm_par::Gate;
 use lgm_script::{Item, parse_item};
 use lgm_store::Candidate;
 use std::alloc::{AllocError, Global};
@@ -53,22 +54,15 @@ fn check_line(alloc: Global, chain: &ChainHash, line: &[u8]) -> Result<Option<Of
 
 /// Checks the items of lines in pieces, side by side. Each has its own want of memory.
 pub fn check_lines<Rt: Threads + Sync, G: Gate>(
-    rt: &Rt,
-    alloc: Global,
-    workers: usize,
-    gate: &G,
-    chain: &ChainHash,
+    context: &Context<'_, Rt, G>,
     lines: &[&[u8]],
 ) -> Result<Vec<Result<Option<Offered>, AllocError>>, AllocError>
-    requires { (1 ≤ workers) × (workers ≤ 64) }
-    ensures { IfOk result (λ all. AllZip (λ request offered. IfOk offered (λ o. o ≡ offered_in chain.now request)) (asked_in lines.now) all.items) }
+    ensures { IfOk result (λ all. AllZip (λ request offered. IfOk offered
+        (λ o. o ≡ offered_in context.now.chain.now request)) (asked_in lines.now) all.items) }
 {
-    map_chunks(
-        rt,
-        alloc,
-        workers,
-        gate,
-        lines,
-        &|line| check_line(alloc, chain, line),
-    )
+    let alloc = context.pool.alloc;
+    let chain = context.chain;
+    context
+        .pool
+        .map(lines, &|line| check_line(alloc, chain, line))
 }

@@ -11,13 +11,13 @@ ghost use Rattle.lgm_server.specs.Steps.{opening, state_behind, state_committed}
 
 use crate::answer::Answer;
 use crate::checking::Offered;
+use crate::context::Context;
 use crate::filters::Filters;
 use crate::maps::Maps;
 use crate::routing::{answer_found, asked_route};
 use lgm_check::Refusal;
-use lgm_gossip::ChainHash;
 use lgm_graph::Known;
-use lgm_par::Gate;
+use lgm_par::{Gate, Pool};
 use lgm_script::{Output, Payment, SendFault, Sink};
 use lgm_store::Seed;
 use std::alloc::{AllocError, Global};
@@ -80,57 +80,38 @@ impl Engine {
     /// The answer to a payment, on the committed items, found by several workers.
     pub fn answer_route<Rt: Threads + Sync, G: Gate>(
         &mut self,
-        rt: &Rt,
-        alloc: Global,
-        workers: usize,
-        gate: &G,
+        pool: &Pool<'_, Rt, G>,
         payment: &Payment,
     ) -> Result<Answer<'static>, AllocError>
-        requires workers { (1 ≤ workers) × (workers ≤ 64) }
         requires few { self.old.accepted ≤ 2000000000 }
         ensures same { self.new ≡ self.old }
         ensures answer { IfOk result (λ answer. (n : ℕ) → answer_text n answer ≡ route_text n payment.now.secret (route_answer self.old.known self.old.committed payment.now)) }
     {
-        let found = self
-            .maps
-            .find_route(rt, alloc, workers, gate, &asked_route(payment));
-        answer_found(alloc, &payment.secret, found)
+        let found = self.maps.find_route(pool, &asked_route(payment));
+        answer_found(pool.alloc, &payment.secret, found)
     }
 
     /// Answers lines that ask of the committed items, the first of that number, and sets the filters among them.
     pub fn answer_questions<Rt: Threads + Sync, G: Gate, W: Sink>(
         &mut self,
-        rt: &Rt,
-        alloc: Global,
-        workers: usize,
-        gate: &G,
-        chain: &ChainHash,
+        context: &Context<'_, Rt, G>,
         number: u64,
         lines: &[&[u8]],
         output: &mut Output<'_, W>,
     ) -> Result<(), SendFault>
-        requires workers { (1 ≤ workers) × (workers ≤ 64) }
         requires few { self.old.accepted ≤ 2000000000 }
         requires number { number + length lines.now < 2 ^ 64 }
         requires writer { W.failures output.old.writer.now + 1 < 2 ^ 64 }
         ensures writer { output.new.writer.ghost_name ≡ output.old.writer.ghost_name }
-        ensures state { OnOk result (self.new ≡ record self.old { filters = filters_behind chain.now self.old.filters (asked_in lines.now) }) }
+        ensures state { OnOk result (self.new ≡ record self.old
+            { filters = filters_behind context.now.chain.now self.old.filters (asked_in lines.now) }) }
         ensures told { OnOk result (Sends W.taken W.failures output.old output.new
-            (questions_text chain.now self.old.known self.old.committed number self.old.filters (asked_in lines.now))) }
+            (questions_text context.now.chain.now self.old.known self.old.committed number self.old.filters (asked_in lines.now))) }
         ensures fault { IfErr result (SendsPart W.taken W.failures output.old output.new
-            (questions_text chain.now self.old.known self.old.committed number self.old.filters (asked_in lines.now))) }
+            (questions_text context.now.chain.now self.old.known self.old.committed number self.old.filters (asked_in lines.now))) }
     {
-        self.maps.answer_questions(
-            rt,
-            alloc,
-            workers,
-            gate,
-            chain,
-            number,
-            lines,
-            &mut self.filters,
-            output,
-        )
+        self.maps
+            .answer_questions(context, number, lines, &mut self.filters, output)
     }
 
     /// Makes the accepted items those that requests are answered on, and tells what is new to the peers. It costs what

@@ -15,14 +15,14 @@ ghost use Rattle.lgm_server.specs.Questions.{asked_in, filters_behind, questions
 
 use crate::chart::{Chart, Kept};
 use crate::checking::Offered;
+use crate::context::Context;
 use crate::filters::Filters;
 use crate::leveling::level;
 use crate::offering::offer;
 use crate::questions::{answer_questions, find_chunked};
 use lgm_check::Refusal;
-use lgm_gossip::ChainHash;
 use lgm_graph::{Known, View};
-use lgm_par::Gate;
+use lgm_par::{Gate, Pool};
 use lgm_query::{Changes, Differences};
 use lgm_route::{Request, Route, RouteFault};
 use lgm_script::{Output, SendFault, Sink, may_ask_routes};
@@ -177,64 +177,48 @@ impl Maps {
     /// The least route of a payment over the edges of the committed map, found by several workers.
     pub fn find_route<Rt: Threads + Sync, G: Gate>(
         &mut self,
-        rt: &Rt,
-        alloc: Global,
-        workers: usize,
-        gate: &G,
+        pool: &Pool<'_, Rt, G>,
         request: &Request,
     ) -> Result<Route, RouteFault>
-        requires workers { (1 ≤ workers) × (workers ≤ 64) }
         requires few { length self.old.committed.channels ≤ 2000000000 }
         ensures same { self.new ≡ self.old }
-        ensures found { (result ≡ Err RouteFault.NoMemory) ⊎ (result ≡ answer_of (edges_of self.old.known self.old.committed) request.now) }
+        ensures found { (result ≡ Err RouteFault.NoMemory) ⊎
+            (result ≡ answer_of (edges_of self.old.known self.old.committed) request.now) }
     {
         chart_routes(
-            alloc,
+            pool.alloc,
             true,
             &self.committed,
             &mut self.map,
             &mut self.due,
             &mut self.chart,
         )?;
-        find_chunked(
-            rt,
-            alloc,
-            workers,
-            gate,
-            &self.committed,
-            &self.chart,
-            request,
-        )
+        find_chunked(pool, &self.committed, &self.chart, request)
     }
 
     /// Answers lines that ask of the committed map, the first of that number: they are decided side by side, and told in
     /// their order.
     pub fn answer_questions<Rt: Threads + Sync, G: Gate, W: Sink>(
         &mut self,
-        rt: &Rt,
-        alloc: Global,
-        workers: usize,
-        gate: &G,
-        chain: &ChainHash,
+        context: &Context<'_, Rt, G>,
         number: u64,
         lines: &[&[u8]],
         filters: &mut Filters,
         output: &mut Output<'_, W>,
     ) -> Result<(), SendFault>
-        requires workers { (1 ≤ workers) × (workers ≤ 64) }
         requires few { length self.old.committed.channels ≤ 2000000000 }
         requires number { number + length lines.now < 2 ^ 64 }
         requires writer { W.failures output.old.writer.now + 1 < 2 ^ 64 }
         ensures same { self.new ≡ self.old }
         ensures writer { output.new.writer.ghost_name ≡ output.old.writer.ghost_name }
-        ensures filters { OnOk result (filters.new ≡ filters_behind chain.now filters.old (asked_in lines.now)) }
+        ensures filters { OnOk result (filters.new ≡ filters_behind context.now.chain.now filters.old (asked_in lines.now)) }
         ensures told { OnOk result (Sends W.taken W.failures output.old output.new
-            (questions_text chain.now self.old.known self.old.committed number filters.old (asked_in lines.now))) }
+            (questions_text context.now.chain.now self.old.known self.old.committed number filters.old (asked_in lines.now))) }
         ensures fault { IfErr result (SendsPart W.taken W.failures output.old output.new
-            (questions_text chain.now self.old.known self.old.committed number filters.old (asked_in lines.now))) }
+            (questions_text context.now.chain.now self.old.known self.old.committed number filters.old (asked_in lines.now))) }
     {
         chart_routes(
-            alloc,
+            context.pool.alloc,
             may_ask_routes(lines),
             &self.committed,
             &mut self.map,
@@ -243,11 +227,7 @@ impl Maps {
         )?;
         let committed = &self.committed;
         answer_questions(
-            rt,
-            alloc,
-            workers,
-            gate,
-            chain,
+            context,
             committed,
             &self.chart,
             number,

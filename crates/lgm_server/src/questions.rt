@@ -17,13 +17,14 @@ ghost use Rattle.lgm_server.specs.Questions.{asked_in, filters_by, filters_behin
 
 use crate::answer::Answer;
 use crate::chart::{Chart, Kept};
-use crate::filtering::read_filter;
+use crate::context::Context;
+use crate::filter_reading::read_filter;
 use crate::filters::{Filters, PeerFilter};
-use crate::querying::answer_query;
+use crate::query_answering::answer_query;
 use crate::routing::{answer_found, asked_route};
 use lgm_gossip::ChainHash;
-use lgm_par::{Gate, map_chunks};
-use lgm_route::{Request as RouteRequest, Route, RouteFault, least, least_chunked};
+use lgm_par::{Gate, Pool};
+use lgm_route::{Request as RouteRequest, Route, RouteFault, answer, answer_chunked};
 use lgm_script::{Output, Payment, Request, SendFault, Sink, parse};
 use lgm_store::Map;
 use std::alloc::{AllocError, Global};
@@ -38,37 +39,31 @@ fn find(
 ) -> Result<Route, RouteFault>
     requires shows { ShowsCommitted committed.now chart.now }
     requires beside { IsBeside chart.now.kept }
-    ensures { (result ≡ Err RouteFault.NoMemory) ⊎ (result ≡ answer_of (edges_of chart.now.known committed.now) request.now) }
+    ensures { (result ≡ Err RouteFault.NoMemory) ⊎
+        (result ≡ answer_of (edges_of chart.now.known committed.now) request.now) }
 {
     let Kept::Beside(view) = &chart.kept else {
         unreachable!();
     };
-    view.shows_the_edges();
-    committed.rows_are_lawful();
-    least(alloc, view, request)
+    answer(alloc, committed, view, request)
 }
 
 /// The same, found by several workers.
 pub fn find_chunked<Rt: Threads + Sync, G: Gate>(
-    rt: &Rt,
-    alloc: Global,
-    workers: usize,
-    gate: &G,
+    pool: &Pool<'_, Rt, G>,
     committed: &Map,
     chart: &Chart,
     request: &RouteRequest,
 ) -> Result<Route, RouteFault>
-    requires workers { (1 ≤ workers) × (workers ≤ 64) }
     requires shows { ShowsCommitted committed.now chart.now }
     requires beside { IsBeside chart.now.kept }
-    ensures { (result ≡ Err RouteFault.NoMemory) ⊎ (result ≡ answer_of (edges_of chart.now.known committed.now) request.now) }
+    ensures { (result ≡ Err RouteFault.NoMemory) ⊎
+        (result ≡ answer_of (edges_of chart.now.known committed.now) request.now) }
 {
     let Kept::Beside(view) = &chart.kept else {
         unreachable!();
     };
-    view.shows_the_edges();
-    committed.rows_are_lawful();
-    least_chunked(rt, alloc, workers, gate, view, request)
+    answer_chunked(pool, committed, view, request)
 }
 
 /// The answer to a payment.
@@ -126,27 +121,18 @@ fn decide<'a>(
 
 /// Decides the answers to lines in pieces, side by side. Each has its own want of memory.
 fn decide_all<'a, Rt: Threads + Sync, G: Gate>(
-    rt: &Rt,
-    alloc: Global,
-    workers: usize,
-    gate: &G,
-    chain: &ChainHash,
+    context: &Context<'_, Rt, G>,
     committed: &'a Map,
     chart: &Chart,
     lines: &[&[u8]],
 ) -> Result<Vec<Result<Answer<'a>, AllocError>>, AllocError>
-    requires workers { (1 ≤ workers) × (workers ≤ 64) }
     requires ready { All (λ line. IsReady chart.now committed.now (request_of line.now)) lines.now }
-    ensures { IfOk result (λ all. AllZip (λ request answer. IfOk answer (IsAnswerTo chain.now chart.now.known committed.now request)) (asked_in lines.now) all.items) }
+    ensures { IfOk result (λ all. AllZip (λ request answer. IfOk answer
+        (IsAnswerTo context.now.chain.now chart.now.known committed.now request)) (asked_in lines.now) all.items) }
 {
-    map_chunks(
-        rt,
-        alloc,
-        workers,
-        gate,
-        lines,
-        &|line| decide(alloc, chain, committed, chart, line),
-    )
+    let alloc = context.pool.alloc;
+    let chain = context.chain;
+    context.pool.map(lines, &|line| decide(alloc, chain, committed, chart, line))
 }
 
 /// Tells an answer in its turn, and sets the filter that it is about, if it is about one.
@@ -171,11 +157,7 @@ fn tell<W: Sink>(
 
 /// Answers lines that ask of the committed map, the first of that number.
 pub fn answer_questions<Rt: Threads + Sync, G: Gate, W: Sink>(
-    rt: &Rt,
-    alloc: Global,
-    workers: usize,
-    gate: &G,
-    chain: &ChainHash,
+    context: &Context<'_, Rt, G>,
     committed: &Map,
     chart: &Chart,
     first: u64,
@@ -183,24 +165,23 @@ pub fn answer_questions<Rt: Threads + Sync, G: Gate, W: Sink>(
     filters: &mut Filters,
     output: &mut Output<'_, W>,
 ) -> Result<(), SendFault>
-    requires workers { (1 ≤ workers) × (workers ≤ 64) }
     requires ready { All (λ line. IsReady chart.now committed.now (request_of line.now)) lines.now }
     requires number { first + length lines.now < 2 ^ 64 }
     requires writer { W.failures output.old.writer.now + 1 < 2 ^ 64 }
     ensures writer { output.new.writer.ghost_name ≡ output.old.writer.ghost_name }
-    ensures filters { OnOk result (filters.new ≡ filters_behind chain.now filters.old (asked_in lines.now)) }
+    ensures filters { OnOk result (filters.new ≡ filters_behind context.now.chain.now filters.old (asked_in lines.now)) }
     ensures told { OnOk result (Sends W.taken W.failures output.old output.new
-        (questions_text chain.now chart.now.known committed.now first filters.old (asked_in lines.now))) }
+        (questions_text context.now.chain.now chart.now.known committed.now first filters.old (asked_in lines.now))) }
     ensures fault { IfErr result (SendsPart W.taken W.failures output.old output.new
-        (questions_text chain.now chart.now.known committed.now first filters.old (asked_in lines.now))) }
+        (questions_text context.now.chain.now chart.now.known committed.now first filters.old (asked_in lines.now))) }
 {
-    let all = decide_all(rt, alloc, workers, gate, chain, committed, chart, lines)?;
+    let all = decide_all(context, committed, chart, lines)?;
     let mut number = first;
     for answer in all.as_slice() {
         let Ok(answer) = answer else {
             return Err(SendFault::NoMemory);
         };
-        tell(alloc, number, answer, filters, output)?;
+        tell(context.pool.alloc, number, answer, filters, output)?;
         number += 1;
     }
     Ok(())

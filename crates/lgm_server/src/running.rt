@@ -9,12 +9,13 @@ ghost use Rattle.lgm_server.specs.Runs.{Runs, AnswersAll, StopsAtLimit, StopsAtL
 ghost use Rattle.lgm_server.specs.Ending.{IsEnded};
 
 use crate::answering::answer;
+use crate::context::Context;
 use crate::engine::Engine;
 use crate::remains::Remains;
 use crate::run_fault::RunFault;
 use lgm_gossip::ChainHash;
 use lgm_graph::Known;
-use lgm_par::Gate;
+use lgm_par::{Gate, Pool};
 use lgm_script::{
     BLOCK, LineReader, MAX_LINE, Output, SendFault, Sink, Source, more_begins, next_group,
     next_line,
@@ -47,11 +48,7 @@ fn most_for(workers: usize) -> usize
 /// Answers the next lines, the first of that number and of so many bytes. Gives how many they are, at most so many, and
 /// how many bytes they take up.
 fn answer_next<Rt: Threads + Sync, G: Gate, W: Sink>(
-    rt: &Rt,
-    alloc: Global,
-    workers: usize,
-    gate: &G,
-    chain: &ChainHash,
+    context: &Context<'_, Rt, G>,
     number: u64,
     first: usize,
     most: usize,
@@ -59,53 +56,45 @@ fn answer_next<Rt: Threads + Sync, G: Gate, W: Sink>(
     engine: &mut Engine,
     output: &mut Output<'_, W>,
 ) -> Result<(u64, usize), SendFault>
-    requires workers { (1 ≤ workers) × (workers ≤ 64) }
     requires line { (first ≤ length lines.now) × (first ≤ MAX_LINE) }
     requires most { (0 < most) × (most ≤ 10000000) }
     requires number { number ≤ 10000000 }
     requires few { engine.old.accepted + most ≤ 10000000 }
     requires writer { W.failures output.old.writer.now + 1 < 2 ^ 64 }
     ensures writer { output.new.writer.ghost_name ≡ output.old.writer.ghost_name }
-    ensures answered { IfOk result (λ done. HaveAnswers chain.now number engine.old engine.new lines.now first
+    ensures answered { IfOk result (λ done. HaveAnswers context.now.chain.now number engine.old engine.new lines.now first
         (Sends W.taken W.failures output.old output.new) done.0 done.1) }
     ensures few { IfOk result (λ done. done.0 ≤ most) }
-    ensures fault { IfErr result (λ fault. HaveBegun chain.now number most engine.old lines.now first
+    ensures fault { IfErr result (λ fault. HaveBegun context.now.chain.now number most engine.old lines.now first
         (λ text. SendsPart W.taken W.failures output.old output.new text fault)) }
 {
-    let most = most.min(most_for(workers));
-    let group = next_group(alloc, lines.buffered(), first, most)?;
-    answer(
-        rt, alloc, workers, gate, chain, number, &group, engine, output,
-    )?;
+    let most = most.min(most_for(context.pool.workers));
+    let group = next_group(context.pool.alloc, lines.buffered(), first, most)?;
+    answer(context, number, &group, engine, output)?;
     Ok((group.lines.len() as u64, group.len))
 }
 
 /// Answers the lines of a script, where nothing was read or answered yet. Some of the answers may still be gathered.
 fn answer_lines<Rt: Threads + Sync, G: Gate, R: Source, W: Sink>(
-    rt: &Rt,
-    alloc: Global,
-    workers: usize,
-    gate: &G,
-    chain: &ChainHash,
+    context: &Context<'_, Rt, G>,
     lines: &mut LineReader,
     source: &mut R,
     engine: &mut Engine,
     output: &mut Output<'_, W>,
 ) -> Result<Counts, RunFault>
-    requires workers { (1 ≤ workers) × (workers ≤ 64) }
     requires lines { lines.old ≡ [] }
     requires engine { engine.old ≡ opening engine.old.known }
     requires source { R.failures source.old + 1 < 2 ^ 64 }
     requires writer { W.failures output.old.writer.now + 1 < 2 ^ 64 }
     ensures writer { output.new.writer.ghost_name ≡ output.old.writer.ghost_name }
     ensures ok { IfOk result (λ counts. IfSome (R.left source.old)
-        (IsAnswered chain.now engine.old.known (Sends W.taken W.failures output.old output.new) counts)) }
+        (IsAnswered context.now.chain.now engine.old.known (Sends W.taken W.failures output.old output.new) counts)) }
     ensures too_many { result ≡ Err RunFault.TooManyLines → IfSome (R.left source.old)
-        (IsTooMany chain.now engine.old.known (Sends W.taken W.failures output.old output.new)) }
+        (IsTooMany context.now.chain.now engine.old.known (Sends W.taken W.failures output.old output.new)) }
     ensures too_long { result ≡ Err RunFault.LineTooLong → IfSome (R.left source.old)
-        (IsTooLong chain.now engine.old.known (Sends W.taken W.failures output.old output.new)) }
+        (IsTooLong context.now.chain.now engine.old.known (Sends W.taken W.failures output.old output.new)) }
     ensures some { IfSome (R.left source.old)
-        (IsCutShort chain.now engine.old.known (SendsSome W.taken W.failures output.old output.new) (R.left source.new)) }
+        (IsCutShort context.now.chain.now engine.old.known (SendsSome W.taken W.failures output.old output.new) (R.left source.new)) }
     ensures read { result ≡ Err RunFault.Read → R.failures source.old < R.failures source.new }
     ensures write { result ≡ Err RunFault.Write → W.failures output.old.writer.now < W.failures output.new.writer.now }
     ensures well { result ≢ Err RunFault.Write → W.failures output.new.writer.now ≡ W.failures output.old.writer.now }
@@ -119,19 +108,7 @@ fn answer_lines<Rt: Threads + Sync, G: Gate, R: Source, W: Sink>(
             });
         };
         let most = (MAX_LINES - number) as usize;
-        let (some, len) = answer_next(
-            rt,
-            alloc,
-            workers,
-            gate,
-            chain,
-            number + 1,
-            count,
-            most,
-            lines,
-            engine,
-            output,
-        )?;
+        let (some, len) = answer_next(context, number + 1, count, most, lines, engine, output)?;
         lines.drop_front(len);
         number += some;
     }
@@ -146,30 +123,24 @@ fn answer_lines<Rt: Threads + Sync, G: Gate, R: Source, W: Sink>(
 
 /// Answers a whole script to an output where nothing is gathered, and writes all answers. What was made for it remains.
 fn answer_all<Rt: Threads + Sync + RandomSource, G: Gate, R: Source, W: Sink>(
-    rt: &Rt,
-    alloc: Global,
-    workers: usize,
-    gate: &G,
-    chain: &ChainHash,
+    context: &Context<'_, Rt, G>,
     known: &Known,
     source: &mut R,
     output: &mut Output<'_, W>,
     remains: &mut Remains,
 ) -> Result<Counts, RunFault>
-    requires workers { (1 ≤ workers) × (workers ≤ 64) }
     requires gathered { output.old.gathered.now.items ≡ [] }
     requires source { R.failures source.old + 1 < 2 ^ 64 }
     requires writer { W.failures output.old.writer.now + 1 < 2 ^ 64 }
     ensures writer { output.new.writer.ghost_name ≡ output.old.writer.ghost_name }
-    ensures runs { Runs R.left R.failures W.taken W.failures chain.now known.now source.old source.new
+    ensures runs { Runs R.left R.failures W.taken W.failures context.now.chain.now known.now source.old source.new
         output.old.writer.now output.new.writer.now result }
 {
+    let alloc = context.pool.alloc;
     let mut lines = LineReader::new(alloc)?;
-    let made = Engine::new(alloc, Seed::random(rt), known)?;
+    let made = Engine::new(alloc, Seed::random(context.pool.rt), known)?;
     let engine = remains.hold(made);
-    let answered = answer_lines(
-        rt, alloc, workers, gate, chain, &mut lines, source, engine, output,
-    );
+    let answered = answer_lines(context, &mut lines, source, engine, output);
     write_answers(answered, output)
 }
 
@@ -271,15 +242,14 @@ pub fn run_keeping<Rt: Threads + Sync + RandomSource, G: Gate, R: Source, W: Sin
 {
     let mut block = Vec::with_capacity(alloc, BLOCK)?;
     let mut output = Output::new(&mut block, writer);
-    answer_all(
-        rt,
-        alloc,
-        workers,
-        gate,
+    let context = Context {
+        pool: Pool {
+            rt,
+            alloc,
+            workers,
+            gate,
+        },
         chain,
-        known,
-        reader,
-        &mut output,
-        remains,
-    )
+    };
+    answer_all(&context, known, reader, &mut output, remains)
 }

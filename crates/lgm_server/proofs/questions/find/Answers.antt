@@ -1,20 +1,22 @@
-use Rattle.std.proofs.Common.{inl, inr, subst, []}
-use Rattle.std.specs.Prelude.{◌↔◌, Contains}
+use Rattle.std.proofs.Common.{inl, inr, subst, ap, [], ◌∙◌}
 use Rattle.lgm_graph.specs.Edges.{edges_of}
-use Rattle.lgm_graph.specs.Graph.{edges}
-use Rattle.lgm_graph.proofs.Holding.{are_directions}
-use Rattle.lgm_route.proofs.Choosing.{answer-tried}
+use Rattle.lgm_route.specs.Choice.{answer_of}
 use Rattle.lgm_server.specs.Chart.{IsViewOf, ShowsAs}
 use Rattle.lgm_server.proofs.questions.find.Goals as goal
 
+pub answer-requires : goal.answer-requires
+answer-requires c =
+    let rows = c.args.committed.now in
+    let is : IsViewOf c.args.chart.now.known rows c.in-Beside.view =
+    subst (ShowsAs c.args.chart.now.known rows [] rows) c.in-Beside.is c.requires.shows in
+    is.graph
+
 pub returns : goal.returns
 returns c =
-    let view = c.in-Beside.view in
-    let chart = c.args.chart.now in
     let rows = c.args.committed.now in
-    let is : IsViewOf chart.known rows view = subst (ShowsAs chart.known rows [] rows) c.in-Beside.is c.requires.shows in
-    elim c.least.ensures.answer [
+    let is : IsViewOf c.args.chart.now.known rows c.in-Beside.view =
+    subst (ShowsAs c.args.chart.now.known rows [] rows) c.in-Beside.is c.requires.shows in
+    elim c.answer.ensures [
       | inl none ↦ inl none
-      | inr answer ↦ inr (answer-tried (edges view) (edges_of chart.known rows) c.args.request.now c.least.result (are_directions chart.known rows c.rows_are_lawful.ensures.ascend)
-          (λ edge. subst (λ k. Contains (edges view) edge ↔ Contains (edges_of k rows) edge) is.known_is (c.shows_the_edges.ensures.found rows is.graph edge)) answer)
+      | inr found ↦ inr (found ∙ ap (λ known. answer_of (edges_of known rows) c.args.request.now) is.known_is)
     ]

@@ -5,7 +5,7 @@ use Rattle.lgm_script.specs.Output.{Sends, SendsPart}
 use Rattle.lgm_script.specs.Text.{hop_line}
 use Rattle.lgm_script.proofs.Telling.{onward_more, onward_stops, onward_ends}
 use Rattle.lgm_server.proofs.Hops.{hop_there, hops_end}
-use Rattle.lgm_server.proofs.telling.send_hops.Goals as goal
+use Rattle.lgm_server.proofs.route_sending.send_hops.Goals as goal
 
 pub loop-place-preserved : goal.loop-place-preserved
 loop-place-preserved g c =

@@ -4,7 +4,7 @@ use Rattle.lgm_script.specs.Output.{Sends, SendsPart}
 use Rattle.lgm_script.specs.Text.{route_line}
 use Rattle.lgm_script.proofs.Telling.{tells_part_more, told_behind, fault_behind}
 use Rattle.lgm_route.specs.Route.{sent, expiry}
-use Rattle.lgm_server.proofs.telling.send_route.Goals as goal
+use Rattle.lgm_server.proofs.route_sending.send_route.Goals as goal
 
 pub returns-in_err-send_route-clause-fault : goal.returns-in_err-send_route-clause-fault
 returns-in_err-send_route-clause-fault g c =

@@ -3,7 +3,7 @@ use Rattle.lgm_script.specs.Output.{seen}
 use Rattle.lgm_script.proofs.Telling.{Onward}
 use Rattle.lgm_server.specs.Answer.{hops_text}
 use Rattle.lgm_server.proofs.Hops.{hops_from}
-use Rattle.lgm_server.proofs.telling.send_hops.Given as goal
+use Rattle.lgm_server.proofs.route_sending.send_hops.Given as goal
 
 -- the first hops were told
 abbrev pub invariant-loop-place : goal.invariant-loop-place

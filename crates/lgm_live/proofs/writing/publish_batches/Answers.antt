@@ -6,7 +6,7 @@ use Rattle.lgm_script.specs.declared.item.Item.{Item}
 use Rattle.lgm_live.specs.Batches.{items_of, ends_of}
 use Rattle.lgm_live.specs.Written.{IsWritten}
 use Rattle.lgm_live.proofs.Items.{items_more, ends_more}
-use Rattle.lgm_live.proofs.writing.write_all.Goals as goal
+use Rattle.lgm_live.proofs.writing.publish_batches.Goals as goal
 
 pub loop-batch-init : goal.loop-batch-init
 loop-batch-init g c =

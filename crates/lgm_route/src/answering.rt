@@ -1,0 +1,47 @@
+//! The one answer to a payment over the edges of a map.
+
+ghost use Rattle.std.specs.Prelude.{◌≡◌, ◌⊎◌, Err};
+ghost use Rattle.lgm_graph.specs.Edges.{edges_of};
+ghost use Rattle.lgm_graph.specs.Graph.{IsGraphOf};
+ghost use Rattle.lgm_route.specs.Choice.{answer_of};
+ghost use Rattle.lgm_route.specs.declared.fault.RouteFault.{RouteFault};
+
+use crate::fault::RouteFault;
+use crate::request::Request;
+use crate::route::Route;
+use crate::routing::{least, least_chunked};
+use lgm_graph::View;
+use lgm_par::{Gate, Pool};
+use lgm_store::Map;
+use std::alloc::Global;
+use std::thread::Threads;
+
+/// The answer to a payment over the edges of a map, which the view is of: what [`least`] gives is
+/// the only answer that the rows leave, however the view has them in order.
+///
+/// `NoMemory` says nothing of the payment.
+pub fn answer(alloc: Global, map: &Map, view: &View, request: &Request) -> Result<Route, RouteFault>
+    requires { IsGraphOf map.now view.now }
+    ensures { (result ≡ Err RouteFault.NoMemory) ⊎
+        (result ≡ answer_of (edges_of view.now.known map.now) request.now) }
+{
+    map.rows_are_lawful();
+    view.shows_the_edges();
+    least(alloc, view, request)
+}
+
+/// The same answer, found by a pool of workers as [`least_chunked`] does.
+pub fn answer_chunked<Rt: Threads + Sync, G: Gate>(
+    pool: &Pool<'_, Rt, G>,
+    map: &Map,
+    view: &View,
+    request: &Request,
+) -> Result<Route, RouteFault>
+    requires { IsGraphOf map.now view.now }
+    ensures { (result ≡ Err RouteFault.NoMemory) ⊎
+        (result ≡ answer_of (edges_of view.now.known map.now) request.now) }
+{
+    map.rows_are_lawful();
+    view.shows_the_edges();
+    least_chunked(pool.rt, pool.alloc, pool.workers, pool.gate, view, request)
+}
