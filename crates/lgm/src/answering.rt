@@ -5,9 +5,9 @@ ghost use Rattle.lgm.specs.Ended.{AnswersAs};
 
 use crate::options::{Mode, Options};
 use lgm_live::{LiveReport, RunLiveFault, run_live};
-use lgm_par::Gate;
+use lgm_par::{Gate, Pool};
 use lgm_script::{Sink, Source};
-use lgm_server::{Counts, Remains, RunFault, run_keeping};
+use lgm_server::{Context, Counts, Remains, RunFault, run_keeping};
 use std::alloc::Global;
 use std::marker::Sync;
 use std::random::RandomSource;
@@ -43,9 +43,16 @@ pub fn answer<Rt: Threads + Wait + Sync + RandomSource, G: Gate, R: Source, W: S
     let known = &options.known;
     let workers = options.workers;
     match options.mode {
-        Mode::Run => Ended::Ran(run_keeping(
-            rt, alloc, reader, writer, chain, known, workers, gate, remains,
-        )),
+        Mode::Run => {
+            let pool = Pool {
+                rt,
+                alloc,
+                workers,
+                gate,
+            };
+            let context = Context { pool, chain };
+            Ended::Ran(run_keeping(&context, known, reader, writer, remains))
+        }
         Mode::Live => Ended::RanLive(run_live(
             rt, alloc, reader, writer, chain, known, workers, gate,
         )),

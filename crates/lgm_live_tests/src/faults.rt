@@ -1,10 +1,12 @@
 //! Devices that fail, and limits, in whole scripts whose payments are answered beside.
 
+ghost use Rattle.std.specs.Prelude.{◌+◌, ◌<◌, ◌^◌};
+
 use lgm_gossip::ChainHash;
 use lgm_graph::Known;
-use lgm_live::{RunLiveFault, run_live};
+use lgm_live::{LiveReport, RunLiveFault, run_live};
 use lgm_par::Open;
-use lgm_script::{MemorySink, MemorySource};
+use lgm_script::{MemorySink, MemorySource, Sink, Source};
 use lgm_test_scripts::{FailingSink, FailingSource};
 use std::alloc::{AllocError, Global};
 use std::marker::Sync;
@@ -18,6 +20,28 @@ const SCRIPT: &str = "hello\n# a note\nclose 1x0x0\ncommit\nq 00\nm 0010 all 1";
 
 /// Its text.
 const TEXT: &str = "1 bad\n3 unknown-channel\n4 commit 0\n5 not-live\n6 unknown-even\n";
+
+/// Runs a script by three workers.
+fn run_by_three<Rt: Threads + Wait + Sync + RandomSource, R: Source, W: Sink>(
+    rt: &Rt,
+    alloc: Global,
+    reader: &mut R,
+    writer: &mut W,
+) -> Result<LiveReport, RunLiveFault>
+    requires reader { R.failures reader.old + 1 < 2 ^ 64 }
+    requires writer { W.failures writer.old + 1 < 2 ^ 64 }
+{
+    run_live(
+        rt,
+        alloc,
+        reader,
+        writer,
+        &ChainHash([0xc1; 32]),
+        &Known::all(),
+        3,
+        &Open,
+    )
+}
 
 /// How the script ends where a read and a write fail, each by its number, and what is written then.
 fn ended<Rt: Threads + Wait + Sync + RandomSource>(
@@ -34,16 +58,7 @@ fn ended<Rt: Threads + Wait + Sync + RandomSource>(
         fails_at: write,
         failures: 0,
     };
-    let ended = run_live(
-        rt,
-        alloc,
-        &mut reader,
-        &mut writer,
-        &ChainHash([0xc1; 32]),
-        &Known::all(),
-        3,
-        &Open,
-    );
+    let ended = run_by_three(rt, alloc, &mut reader, &mut writer);
     Ok((ended.err(), writer.taken))
 }
 
@@ -55,16 +70,7 @@ fn ended_at_once<Rt: Threads + Wait + Sync + RandomSource>(
 ) -> (Option<RunLiveFault>, usize) {
     let mut reader = MemorySource::new(script, 1_000_000);
     let mut writer = MemorySink::new(alloc);
-    let ended = run_live(
-        rt,
-        alloc,
-        &mut reader,
-        &mut writer,
-        &ChainHash([0xc1; 32]),
-        &Known::all(),
-        3,
-        &Open,
-    );
+    let ended = run_by_three(rt, alloc, &mut reader, &mut writer);
     (ended.err(), writer.taken().len())
 }
 

@@ -1,12 +1,11 @@
 //! Routes where memory is refused.
 
-use lgm_gossip::ChainHash;
 use lgm_graph::Known;
 use lgm_par::Open as Pieces;
 use lgm_script::{MemorySink, MemorySource};
-use lgm_server::{RunFault, run};
+use lgm_server::RunFault;
 use lgm_test_scripts::Line::{self, Channel, Close, Commit, Node, Open, Pay, Update};
-use lgm_test_scripts::{FREE, script_of, text_of};
+use lgm_test_scripts::{FREE, run_by, script_of, text_of};
 use std::alloc::Global;
 use std::random::RandomSource;
 use std::test::Fail;
@@ -48,13 +47,12 @@ fn ended<Rt: Threads + Sync + RandomSource>(
 ) -> (Option<RunFault>, MemorySink) {
     let mut reader = MemorySource::new(script, 100_000);
     let mut writer = MemorySink::new(alloc);
-    let ended = run(
+    let ended = run_by(
         rt,
         alloc,
+        &Known::all(),
         &mut reader,
         &mut writer,
-        &ChainHash([0xc1; 32]),
-        &Known::all(),
         2,
         &Pieces,
     );

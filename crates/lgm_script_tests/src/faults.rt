@@ -1,10 +1,9 @@
 //! Devices that fail, and memory that is refused, in whole scripts.
 
-use lgm_gossip::ChainHash;
 use lgm_graph::Known;
 use lgm_par::Open;
-use lgm_server::{RunFault, run};
-use lgm_test_scripts::{FailingSink, FailingSource};
+use lgm_server::RunFault;
+use lgm_test_scripts::{FailingSink, FailingSource, run_by};
 use std::alloc::{AllocError, Global};
 use std::random::RandomSource;
 use std::test::Fail;
@@ -35,16 +34,7 @@ fn ended<Rt: Threads + Sync + RandomSource>(
         fails_at: write,
         failures: 0,
     };
-    let ended = run(
-        rt,
-        alloc,
-        &mut reader,
-        &mut writer,
-        &ChainHash([0xc1; 32]),
-        &Known::all(),
-        4,
-        &Open,
-    );
+    let ended = run_by(rt, alloc, &Known::all(), &mut reader, &mut writer, 4, &Open);
     Ok((ended.err(), writer.taken))
 }
 

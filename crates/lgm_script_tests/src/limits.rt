@@ -1,11 +1,10 @@
 //! Scripts and lines as long as they may be, and longer.
 
-use lgm_gossip::ChainHash;
 use lgm_graph::Known;
 use lgm_par::Open;
 use lgm_script::{MemorySink, MemorySource};
-use lgm_server::{Counts, RunFault, run};
-use lgm_test_scripts::{CHAIN, announcement, point};
+use lgm_server::{Counts, RunFault};
+use lgm_test_scripts::{CHAIN, announcement, point, run_by};
 use std::alloc::{AllocError, Global};
 use std::random::RandomSource;
 use std::test::Fail;
@@ -19,16 +18,7 @@ fn ended<Rt: Threads + Sync + RandomSource>(
 ) -> Result<(Result<Counts, RunFault>, Vec<u8>), AllocError> {
     let mut reader = MemorySource::new(script, 100_000);
     let mut writer = MemorySink::new(alloc);
-    let ended = run(
-        rt,
-        alloc,
-        &mut reader,
-        &mut writer,
-        &ChainHash([0xc1; 32]),
-        &Known::all(),
-        4,
-        &Open,
-    );
+    let ended = run_by(rt, alloc, &Known::all(), &mut reader, &mut writer, 4, &Open);
     Ok((ended, Vec::from_slice(alloc, writer.taken())?))
 }
 

@@ -1,11 +1,9 @@
 //! Work that is shared by workers.
 
-use lgm_gossip::ChainHash;
 use lgm_graph::Known;
 use lgm_par::Gate;
 use lgm_script::{MemorySink, MemorySource};
-use lgm_server::run;
-use lgm_test_scripts::{CHAIN, announcement, point};
+use lgm_test_scripts::{CHAIN, announcement, point, run_by};
 use std::alloc::Global;
 use std::random::RandomSource;
 use std::sync::atomic::{AtomicU64, Ordering};
@@ -76,14 +74,13 @@ pub fn answered<Rt: Threads + Sync + RandomSource>(
 ) -> Result<Vec<u8>, Fail> {
     let mut reader = MemorySource::new(script, 1_000_000);
     let mut writer = MemorySink::new(alloc);
-    run(
+    run_by(
         rt,
         alloc,
+        &Known::all(),
         &mut reader,
         &mut writer,
-        &ChainHash([0xc1; 32]),
-        &Known::all(),
-        workers.clamp(1, 64),
+        workers,
         gate,
     )?;
     Ok(Vec::from_slice(alloc, writer.taken())?)

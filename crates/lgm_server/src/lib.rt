@@ -26,6 +26,7 @@ mod running;
 mod sending;
 
 pub use answer::outcome_word;
+pub use context::Context;
 pub use remains::Remains;
 pub use route_sending::send_route;
 pub use routing::asked_route;

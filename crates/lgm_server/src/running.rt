@@ -203,45 +203,6 @@ pub fn run<Rt: Threads + Sync + RandomSource, G: Gate, R: Source, W: Sink>(
     ensures read { result ≡ Err RunFault.Read → R.failures reader.old < R.failures reader.new }
     ensures write { result ≡ Err RunFault.Write → W.failures writer.old < W.failures writer.new }
 {
-    let mut remains = Remains::none();
-    run_keeping(
-        rt,
-        alloc,
-        reader,
-        writer,
-        chain,
-        known,
-        workers,
-        gate,
-        &mut remains,
-    )
-}
-
-/// As [`run`], and what was made for the script is kept: the caller drops it, or forgets it where the program ends.
-pub fn run_keeping<Rt: Threads + Sync + RandomSource, G: Gate, R: Source, W: Sink>(
-    rt: &Rt,
-    alloc: Global,
-    reader: &mut R,
-    writer: &mut W,
-    chain: &ChainHash,
-    known: &Known,
-    workers: usize,
-    gate: &G,
-    remains: &mut Remains,
-) -> Result<Counts, RunFault>
-    requires workers { (1 ≤ workers) × (workers ≤ 64) }
-    requires reader { R.failures reader.old + 1 < 2 ^ 64 }
-    requires writer { W.failures writer.old + 1 < 2 ^ 64 }
-
-    ensures ok { AnswersAll chain.now known.now (R.left reader.old) (W.taken writer.old) (W.taken writer.new) result }
-    ensures too_many { StopsAtLimit chain.now known.now (R.left reader.old) (W.taken writer.old) (W.taken writer.new) result }
-    ensures too_long { StopsAtLongLine chain.now known.now (R.left reader.old) (W.taken writer.old) (W.taken writer.new) result }
-    ensures fault { StopsShort chain.now known.now (R.left reader.old) (W.taken writer.old) (W.taken writer.new) result (R.left reader.new) }
-    ensures read { result ≡ Err RunFault.Read → R.failures reader.old < R.failures reader.new }
-    ensures write { result ≡ Err RunFault.Write → W.failures writer.old < W.failures writer.new }
-{
-    let mut block = Vec::with_capacity(alloc, BLOCK)?;
-    let mut output = Output::new(&mut block, writer);
     let context = Context {
         pool: Pool {
             rt,
@@ -251,5 +212,25 @@ pub fn run_keeping<Rt: Threads + Sync + RandomSource, G: Gate, R: Source, W: Sin
         },
         chain,
     };
-    answer_all(&context, known, reader, &mut output, remains)
+    let mut remains = Remains::none();
+    run_keeping(&context, known, reader, writer, &mut remains)
+}
+
+/// As [`run`], by the context's workers over its chain, and what was made for the script is kept: the caller drops it,
+/// or forgets it where the program ends.
+pub fn run_keeping<Rt: Threads + Sync + RandomSource, G: Gate, R: Source, W: Sink>(
+    context: &Context<'_, Rt, G>,
+    known: &Known,
+    reader: &mut R,
+    writer: &mut W,
+    remains: &mut Remains,
+) -> Result<Counts, RunFault>
+    requires reader { R.failures reader.old + 1 < 2 ^ 64 }
+    requires writer { W.failures writer.old + 1 < 2 ^ 64 }
+    ensures runs { Runs R.left R.failures W.taken W.failures context.now.chain.now known.now reader.old reader.new
+        writer.old writer.new result }
+{
+    let mut block = Vec::with_capacity(context.pool.alloc, BLOCK)?;
+    let mut output = Output::new(&mut block, writer);
+    answer_all(context, known, reader, &mut output, remains)
 }

@@ -1,10 +1,12 @@
 //! Runs of scripts.
 
+ghost use Rattle.std.specs.Prelude.{◌+◌, ◌<◌, ◌^◌};
+
 use lgm_gossip::ChainHash;
 use lgm_graph::Known;
-use lgm_par::Open;
-use lgm_script::{MemorySink, MemorySource};
-use lgm_server::run;
+use lgm_par::{Gate, Open};
+use lgm_script::{MemorySink, MemorySource, Sink, Source};
+use lgm_server::{Counts, RunFault, run};
 use std::alloc::Global;
 use std::random::RandomSource;
 use std::test::Fail;
@@ -19,6 +21,31 @@ pub struct Differing {
     pub written: Vec<u8>,
 }
 
+/// Runs a script of the tests' chain by these workers, at least 1 and at most 64.
+pub fn run_by<Rt: Threads + Sync + RandomSource, G: Gate, R: Source, W: Sink>(
+    rt: &Rt,
+    alloc: Global,
+    known: &Known,
+    reader: &mut R,
+    writer: &mut W,
+    workers: usize,
+    gate: &G,
+) -> Result<Counts, RunFault>
+    requires reader { R.failures reader.old + 1 < 2 ^ 64 }
+    requires writer { W.failures writer.old + 1 < 2 ^ 64 }
+{
+    run(
+        rt,
+        alloc,
+        reader,
+        writer,
+        &ChainHash([0xc1; 32]),
+        known,
+        workers.clamp(1, 64),
+        gate,
+    )
+}
+
 /// What is written for the script, which is read in pieces of so many bytes, by these workers.
 fn run_script<Rt: Threads + Sync + RandomSource>(
     rt: &Rt,
@@ -30,16 +57,7 @@ fn run_script<Rt: Threads + Sync + RandomSource>(
 ) -> Result<Vec<u8>, Fail> {
     let mut reader = MemorySource::new(script, piece);
     let mut writer = MemorySink::new(alloc);
-    run(
-        rt,
-        alloc,
-        &mut reader,
-        &mut writer,
-        &ChainHash([0xc1; 32]),
-        known,
-        workers.clamp(1, 64),
-        &Open,
-    )?;
+    run_by(rt, alloc, known, &mut reader, &mut writer, workers, &Open)?;
     Ok(Vec::from_slice(alloc, writer.taken())?)
 }
 
