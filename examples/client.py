@@ -1,32 +1,112 @@
 #!/usr/bin/env python3
-"""Asks `lgm` for a route at the other end of a pipe: it announces, commits, asks, and prints the answer.
+"""A client of `lgm run`, which asks a running process over its two pipes.
+
+    from client import Client
+
+    with Client(chain="c1" * 32) as lgm:
+        outcomes = lgm.ask([f"m {message} all {capacity}" for message, capacity in announcements])
+        lgm.ask(["commit"])
+        [route] = lgm.ask([f"route {payer} {payee} {msat} {expiry} {secret}"])
+
+A pipe holds some 64 KiB. Whoever writes lines and reads no answers waits for good once both pipes are full, and so
+does `lgm`. So a thread of the client reads all the time, and lines are written in batches.
+
+Run by itself it announces the channels of examples/payments.txt, commits, asks for a route, and prints the answers:
 
     python3 examples/client.py [PROGRAM]
 """
 
+import queue
 import subprocess
 import sys
+import threading
 from pathlib import Path
 
 HERE = Path(__file__).resolve().parent
-PROGRAM = sys.argv[1] if len(sys.argv) > 1 else HERE.parent / "lgm"
-SCRIPT = [line for line in open(HERE / "payments.txt") if line.strip() and not line.startswith("#")]
-GOSSIP = [line for line in SCRIPT if line.startswith("m ")]
-PAYMENT = next(line for line in SCRIPT if line.startswith("route "))
+LINES = 10_000_000  # as many lines a process answers
+END = "end"  # no form of the grammar, so it is answered `bad`, and nothing else is done
 
-with subprocess.Popen([PROGRAM, "run", "--chain", "c1" * 32], text=True, bufsize=1,
-                      stdin=subprocess.PIPE, stdout=subprocess.PIPE) as lgm:
 
-    def ask(line):
-        """The first line of the answer, without its number: each line is answered before the next is read."""
-        lgm.stdin.write(line)
-        return lgm.stdout.readline().split(maxsplit=1)[1].strip()
+class Ended(Exception):
+    """The process has ended: its exit status, and the line on standard error. Answers that it gave before are lost."""
 
-    print("announced:", *(ask(line) for line in GOSSIP[:6]))
-    print(ask("commit\n"))
-    route = ask(PAYMENT)
-    print(route)
-    hops = int(route.split()[3]) if route.startswith("route ") else 0
-    for _ in range(hops):
-        print(lgm.stdout.readline().split(maxsplit=1)[1].strip())
-    lgm.stdin.close()
+
+class Client:
+    """A process of `lgm run`. One thread at a time may ask it."""
+
+    def __init__(self, chain, program=HERE.parent / "lgm", options=()):
+        """Starts the process. The chain is 64 hexadecimal digits; `options` are further words, as `--workers`, `1`."""
+        self._process = subprocess.Popen(
+            [program, "run", "--chain", chain, *options],
+            stdin=subprocess.PIPE, stdout=subprocess.PIPE, stderr=subprocess.PIPE)
+        self._answers = queue.SimpleQueue()
+        self._reader = threading.Thread(target=self._read, daemon=True)
+        self._reader.start()
+        self.written = 0  # lines, those that mark an end included; the process ends behind LINES
+
+    def _read(self):
+        """Takes the lines of all answers, and None at the end."""
+        for line in self._process.stdout:
+            self._answers.put(line)
+        self._answers.put(None)
+
+    def ask(self, lines):
+        """Writes lines, without line feeds, and gives a list for each: the lines of its answer, without their number.
+
+        The list of a comment or an empty line is empty. How many lines answer a query, a filter or a commit isn't known
+        before: a last line is written that is answered `bad`, and all that comes before that is the answer. Many lines at
+        once cost less than one line at a time. Raises Ended where the process has ended.
+        """
+        lines = [*lines, END]
+        first = self.written + 1
+        self.written += len(lines)
+        try:
+            self._process.stdin.write("".join(f"{line}\n" for line in lines).encode())
+            self._process.stdin.flush()
+        except BrokenPipeError:
+            self._fail()
+        answers = [[] for _ in lines]
+        while not answers[-1]:
+            answer = self._answers.get()
+            if answer is None:
+                self._fail()
+            number, text = answer.decode().rstrip("\n").split(" ", 1)
+            answers[int(number) - first].append(text)
+        return answers[:-1]
+
+    def _fail(self):
+        """Raises Ended with what the process said."""
+        status = self._process.wait()
+        raise Ended(status, self._process.stderr.read().decode().strip())
+
+    def close(self):
+        """Ends the script, and waits for the process."""
+        self._process.stdin.close()
+        self._process.wait()
+        self._reader.join()
+        self._process.stdout.close()
+        self._process.stderr.close()
+
+    def __enter__(self):
+        return self
+
+    def __exit__(self, *_):
+        try:
+            self.close()
+        except BrokenPipeError:
+            pass
+
+
+def main():
+    """Announces, commits, asks for a route, and prints the answers."""
+    script = [line.strip() for line in open(HERE / "payments.txt") if line.strip() and not line.startswith("#")]
+    gossip = [line for line in script if line.startswith("m ")][:6]
+    payment = next(line for line in script if line.startswith("route "))
+    with Client("c1" * 32, *sys.argv[1:2]) as lgm:
+        print("announced:", *(answer for [answer] in lgm.ask(gossip)))
+        [committed], route = lgm.ask(["commit", payment])
+        print(committed, *route, sep="\n")
+
+
+if __name__ == "__main__":
+    main()

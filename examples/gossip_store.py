@@ -1,35 +1,69 @@
 #!/usr/bin/env python3
 """Writes the network that a Core Lightning node sees as a script of `lgm run`.
 
-Reads the file `gossip_store` that the node keeps in its folder, and writes a line `m` for each message that
-it holds, a line `close` for each channel that it has taken out, and a `commit`. The node has checked
-signatures and funding outputs, so each message gets the verdict that it was right.
-
     python3 examples/gossip_store.py ~/.lightning/bitcoin/gossip_store > network.txt
+
+Reads the file `gossip_store` that the node keeps in its folder. The node has checked signatures and funding outputs, so
+each message gets the verdict that it is right. The script announces the channels with their updates, closes those that
+the store takes out, announces the nodes of the channels that are left, and commits.
+
+Left out are records that are deleted, zombies or dying channels, and channels that the node doesn't announce to others.
+A store that isn't read to its end, since a record is damaged, the store was replaced or its version isn't known, is a
+failure: a line on standard error, status 1, and a script without `commit`. A last record that the node is still writing
+is left out, with a line on standard error.
 """
 
 import struct
 import sys
 
 HEADER = struct.Struct(">HHII")  # flags, length of the message, CRC, timestamp
-DELETED = 0x8000
+DELETED, ZOMBIE, DYING = 0x8000, 0x1000, 0x0800  # flags of a record
+VERSIONS = range(12, 16)  # the first byte: three bits of a major version, here 0, and five of a minor one
 ANNOUNCEMENT, NODE, UPDATE = 256, 257, 258  # BOLT 7
-AMOUNT, TAKEN_OUT, REPLACED = 4101, 4103, 4105  # the store's own
+AMOUNT, TAKEN_OUT, REPLACED, IS_DYING = 4101, 4103, 4105, 4106  # the store's own
+
+
+def crc_table():
+    """What a byte adds to a CRC-32C."""
+    for byte in range(256):
+        for _ in range(8):
+            byte = byte >> 1 ^ (0x82F63B78 if byte & 1 else 0)
+        yield byte
+
+
+CRC = tuple(crc_table())
+
+
+def crc32c(start, message):
+    """The CRC-32C (Castagnoli) of a message behind bytes whose CRC is `start`."""
+    crc = start ^ 0xFFFFFFFF
+    for byte in message:
+        crc = CRC[(crc ^ byte) & 0xFF] ^ crc >> 8
+    return crc ^ 0xFFFFFFFF
+
+
+def fail(why):
+    """Ends the script with a line on standard error."""
+    sys.exit(f"gossip_store: {why}")
 
 
 def records(file):
-    """The messages of a store that aren't deleted. What is cut off at the end is left out."""
+    """The flags and the message of each record. What is cut off at the end is left out."""
     version = file.read(1)
-    if not version or version[0] >> 5:
-        sys.exit("gossip_store: not a store of a version that is known")
+    if not version or version[0] not in VERSIONS:
+        found = f"version {version[0] >> 5}.{version[0] & 31}" if version else "an empty file"
+        fail(f"{found}; known are the versions 0.{VERSIONS[0]} to 0.{VERSIONS[-1]}")
+    place = 1
     while header := file.read(HEADER.size):
-        flags, length, _, _ = HEADER.unpack(header) if len(header) == HEADER.size else (0, None, 0, 0)
+        flags, length, crc, timestamp = HEADER.unpack(header) if len(header) == HEADER.size else (0, None, 0, 0)
         message = file.read(length) if length is not None else b""
         if length is None or len(message) < length:
             print("gossip_store: the last record is cut off, and left out", file=sys.stderr)
             return
-        if not flags & DELETED:
-            yield message
+        if crc32c(timestamp, message) != crc:
+            fail(f"the record at byte {place} has a wrong CRC")
+        yield flags, message
+        place += HEADER.size + length
 
 
 def after_counted(message, place):
@@ -42,28 +76,35 @@ def scid_text(scid):
     return "x".join(str(int.from_bytes(part, "big")) for part in (scid[:3], scid[3:6], scid[6:8]))
 
 
-def lines(messages):
-    """The script of these messages."""
-    nodes = {}  # the two points of each channel, by its id
+def lines(stored):
+    """The script of these records."""
+    ends = {}  # the two points of each channel that was written, by its id
+    nodes = []  # the announcements of nodes, with their points
     announcement = None  # one whose amount comes next
-    for message in messages:
+    for flags, message in stored:
         kind, own = int.from_bytes(message[:2], "big"), announcement
         announcement = None
+        if kind == REPLACED:
+            fail("the store was replaced; read the new one")
+        if flags & (DELETED | ZOMBIE | DYING):
+            continue
         if kind == ANNOUNCEMENT:
             announcement = message
         elif kind == AMOUNT and own is not None:
             place = after_counted(own, 258) + 32
-            nodes[own[place:place + 8]] = own[place + 8:place + 41], own[place + 41:place + 74]
+            ends[own[place:place + 8]] = own[place + 8:place + 41], own[place + 41:place + 74]
             yield f"m {own.hex()} all {int.from_bytes(message[2:10], 'big')}\n"
-        elif kind == UPDATE and message[98:106] in nodes:
-            yield f"m {message.hex()} {nodes[message[98:106]][message[111] & 1].hex()} -\n"
+        elif kind == UPDATE and message[98:106] in ends:
+            yield f"m {message.hex()} {ends[message[98:106]][message[111] & 1].hex()} -\n"
         elif kind == NODE:
             place = after_counted(message, 66) + 4
-            yield f"m {message.hex()} {message[place:place + 33].hex()} -\n"
-        elif kind == TAKEN_OUT:
+            nodes.append((message[place:place + 33], message))
+        elif kind in (TAKEN_OUT, IS_DYING) and ends.pop(message[2:10], None):
             yield f"close {scid_text(message[2:10])}\n"
-        elif kind == REPLACED:
-            print("gossip_store: the file was replaced; read the new one", file=sys.stderr)
+    open_ends = {point for pair in ends.values() for point in pair}
+    for point, message in nodes:
+        if point in open_ends:
+            yield f"m {message.hex()} {point.hex()} -\n"
     yield "commit\n"
 
 

@@ -1,0 +1,189 @@
+#!/usr/bin/env python3
+"""Proves and builds the program `lgm`: the libraries that it stands on, lowest first, and then the program.
+
+    python3 build.py [--at-once N]
+
+Says on standard error which crate it is at, of how many, and how long each took; what `rt` says is shown where it fails.
+Libraries that don't need each other are proved side by side, as many as processors and memory allow, or N. A check locks
+the folders of its crate and of those below, so each of several has a copy of them in the system's temporary folder.
+"""
+
+import argparse
+import os
+import shutil
+import subprocess
+import sys
+import tempfile
+import time
+from concurrent.futures import FIRST_COMPLETED, ThreadPoolExecutor, wait
+from pathlib import Path
+
+TOP = Path(__file__).resolve().parent
+PROGRAM = "lgm"
+SOURCES = ("src", "specs", "proofs")
+MOST_AT_ONCE = 4
+MEMORY_OF_ONE = 6 << 30  # bytes, for a check that shares its work among several processors
+NO_CHAIN = "00" * 32
+
+
+class Failed(Exception):
+    """A crate isn't proved: its name, and what `rt` said."""
+
+
+def read_crates(file):
+    """The crates of a file as crates.txt, each with the crates of the same file that it uses."""
+    lines = (line.split("#")[0].split(":") for line in file.read_text().splitlines())
+    used = {parts[0].split()[0]: parts[1].split() for parts in lines if len(parts) == 2}
+    return {name: [it for it in uses if it in used] for name, uses in used.items()}
+
+
+def below(used, name):
+    """All crates that one stands on, lowest first."""
+    found = []
+    for it in used[name]:
+        found += [lower for lower in (*below(used, it), it) if lower not in found]
+    return found
+
+
+def files_of(crate):
+    """The sources, specs and proofs of a crate."""
+    return [file for part in SOURCES for file in (TOP / "crates" / crate / part).rglob("*") if file.is_file()]
+
+
+def stamp_of(crate):
+    """The file that a library's build writes last."""
+    return TOP / "crates" / crate / "out" / "rlib" / "stamp"
+
+
+def is_fresh(used, crate):
+    """Whether a library was built behind the last change of its files, and of those below it. Where that is wrong, the
+    build of the program builds it anew."""
+    stamp = stamp_of(crate)
+    if not stamp.exists():
+        return False
+    others = [stamp_of(lower) for lower in used[crate]]
+    return all(it.exists() and it.stat().st_mtime <= stamp.stat().st_mtime
+               for it in (*files_of(crate), *others, TOP / "crates.txt"))
+
+
+def default_at_once():
+    """How many checks processors and memory allow side by side."""
+    processors = len(os.sched_getaffinity(0)) if hasattr(os, "sched_getaffinity") else os.cpu_count() or 1
+    try:
+        lines = Path("/proc/meminfo").read_text().splitlines()
+        free = next(int(line.split()[1]) << 10 for line in lines if line.startswith("MemAvailable:"))
+    except (OSError, StopIteration):
+        free = 0
+    return max(1, min(MOST_AT_ONCE, processors // 2, free // MEMORY_OF_ONE))
+
+
+def say(text):
+    """A line on standard error."""
+    print(f"lgm: {text}", file=sys.stderr, flush=True)
+
+
+def rt(crate, folder, *words):
+    """Runs `rt` in a crate's folder."""
+    done = subprocess.run(["rt", *words], cwd=folder, stdin=subprocess.DEVNULL, stdout=subprocess.PIPE,
+                          stderr=subprocess.STDOUT, check=False)
+    if done.returncode:
+        raise Failed(crate, done.stdout.decode(errors="replace"))
+
+
+def prove(crate):
+    """Proves and builds a library in its folder."""
+    rt(crate, TOP / "crates" / crate, "lib")
+
+
+def prove_apart(used, crate):
+    """Proves and builds a library in a copy of it and of those below, and brings back what that leaves."""
+    own = TOP / "crates" / crate
+    with tempfile.TemporaryDirectory(prefix="lgm-") as name:
+        top = Path(name)
+        names = [*below(used, crate), crate]
+        lines = (TOP / "crates.txt").read_text().splitlines(keepends=True)
+        (top / "crates.txt").write_text("".join(it for it in lines if it.split(":")[0].split()[:1] in [[n] for n in names]))
+        shutil.copy2(TOP / "HANDLES", top)
+        for it in names:
+            folder = TOP / "crates" / it
+            for part in SOURCES:
+                if (folder / part).is_dir():
+                    shutil.copytree(folder / part, top / "crates" / it / part)
+            if it != crate:
+                shutil.copytree(folder / "out" / "rlib", top / "crates" / it / "out" / "rlib")
+        out = top / "crates" / crate / "out"
+        if (own / "out").is_dir():
+            shutil.move(own / "out", out)
+        try:
+            rt(crate, out.parent, "lib")
+        finally:
+            if out.is_dir():
+                shutil.move(out, own / "out")
+
+
+def prove_all(used, crates, at_once):
+    """Proves and builds libraries, each behind those below it, and first those with most work above them."""
+    size = {it: sum(file.stat().st_size for file in files_of(it)) for it in crates}
+    work = {it: 0 for it in crates}
+    for it in reversed(crates):
+        work[it] = size[it] + max((work[above] for above in crates if it in used[above]), default=0)
+    left, done, running, started = sorted(crates, key=lambda it: -work[it]), set(), {}, {}
+    with ThreadPoolExecutor(at_once) as pool:
+        while left or running:
+            ready = [it for it in left if all(lower in done for lower in used[it] if lower in crates)]
+            for it in ready[:at_once - len(running)]:
+                left.remove(it)
+                started[it] = time.monotonic()
+                say(f"{it} ..")
+                call = (prove_apart, used, it) if at_once > 1 else (prove, it)
+                running[pool.submit(*call)] = it
+            for ended in wait(running, return_when=FIRST_COMPLETED).done:
+                it = running.pop(ended)
+                try:
+                    ended.result()
+                except Failed:
+                    left.clear()
+                    raise
+                done.add(it)
+                say(f"{it}: {time.monotonic() - started[it]:.0f} s, {len(done)} of {len(crates) + 1}")
+
+
+def build_program(count):
+    """Proves, builds and runs the program, on an empty script, which writes nothing."""
+    program = TOP / "crates" / PROGRAM / "out" / PROGRAM
+    started, clock = time.time(), time.monotonic()
+    say(f"{PROGRAM} ..")
+    rt(PROGRAM, program.parent.parent, "run", "--", "run", "--chain", NO_CHAIN)
+    # As old as the start: a file that was edited meanwhile is newer.
+    os.utime(program, (started, started))
+    say(f"{PROGRAM}: {time.monotonic() - clock:.0f} s, {count} of {count}")
+
+
+def main():
+    """Builds what isn't fresh. The exit status is 1 where that fails."""
+    parser = argparse.ArgumentParser(description=__doc__.split("\n")[0])
+    parser.add_argument("--at-once", type=int, default=default_at_once(), metavar="N", help="so many checks side by side")
+    at_once = max(1, parser.parse_args().at_once)
+    used = read_crates(TOP / "crates.txt")
+    crates, stale = below(used, PROGRAM), []
+    for it in crates:
+        if any(lower in stale for lower in used[it]) or not is_fresh(used, it):
+            stale.append(it)
+    say(f"proving and building {len(stale) + 1} of {len(crates) + 1} crates, {at_once} at once; all of them take some 20 minutes")
+    begun = time.monotonic()
+    try:
+        prove_all(used, stale, at_once)
+        build_program(len(stale) + 1)
+    except Failed as failed:
+        crate, said = failed.args
+        sys.stderr.write(said)
+        say(f"{crate} couldn't be built")
+        sys.exit(1)
+    except KeyboardInterrupt:
+        say("interrupted; what was proved is kept")
+        sys.exit(130)
+    say(f"built in {time.monotonic() - begun:.0f} s")
+
+
+if __name__ == "__main__":
+    main()

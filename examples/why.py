@@ -1,0 +1,171 @@
+#!/usr/bin/env python3
+"""Says why lines of a script are answered `bad`: which field isn't a form of the grammar in docs/script.md.
+
+    python3 examples/why.py SCRIPT          (- reads standard input)
+
+Prints `N: reason` for each such line, and for a line that ends the run since it is too long or one too many.
+The exit status is 0 where it found nothing to say, else 1. It reads the text alone: that a message is refused
+with a word, or a payment has no route, is no fault of the grammar (see docs/questions.md).
+"""
+
+import re
+import sys
+
+LINE_BYTES = 140_000
+LINES = 10_000_000
+FORMS = {
+    b"m": "HEX SIG FUNDING",
+    b"close": "SCID",
+    b"commit": "",
+    b"q": "HEX",
+    b"filter": "PEER HEX",
+    b"route": "PAYER PAYEE MSAT EXPIRY SECRET",
+}
+DIGITS = re.compile(rb"[0-9a-fA-F]*")
+NUMBER = re.compile(rb"0|[1-9][0-9]*")
+
+
+def hexadecimal(field, length=None):
+    """Why a field isn't an even number of hexadecimal digits, at least two, or not so many; else nothing."""
+    if field[:2].lower() == b"0x":
+        return "begins with 0x; digits stand alone"
+    good = DIGITS.match(field).end()
+    if good < len(field):
+        return f"character {good + 1} is {shown(field[good:good + 1])}, which is no hexadecimal digit"
+    if length is not None and len(field) != length:
+        return f"has {len(field)} digits; {length} are wanted"
+    if len(field) % 2:
+        return f"has an odd number of digits, {len(field)}"
+    return "" if field else "is empty"
+
+
+def number(field, below, unit):
+    """Why a field isn't a decimal number below a bound; else nothing."""
+    if not field:
+        return "is empty"
+    if not NUMBER.fullmatch(field):
+        if field.lstrip(b"0").isdigit() or not field.strip(b"0"):
+            return f"{shown(field)} has a leading zero"
+        return f"{shown(field)} is no decimal number of {unit}: digits alone, with no unit, sign or separator"
+    return "" if len(field) <= 20 and int(field) < below else f"{shown(field)} is {below} or more"
+
+
+def signature(field):
+    """Why a field is no SIG."""
+    if field in (b"all", b"not-all", b"nobody"):
+        return ""
+    why = hexadecimal(field, 66)
+    return why and f"{shown(field)} is none of all, not-all, nobody and a POINT of 66 digits ({why})"
+
+
+def funding(field):
+    """Why a field is no FUNDING."""
+    if field in (b"spent", b"wrong", b"-"):
+        return ""
+    why = number(field, 2**64, "satoshi")
+    return why and f"is none of spent, wrong, - and a number of satoshi ({why})"
+
+
+def scid(field):
+    """Why a field is no SCID."""
+    parts = field.split(b"x")
+    if len(parts) != 3:
+        return f"{shown(field)} isn't BLOCKxINDEXxOUTPUT, as 800000x12x0"
+    bounds = ((2**24, "block"), (2**24, "index"), (2**16, "output"))
+    whys = (number(part, below, name) for part, (below, name) in zip(parts, bounds))
+    return next((f"{name}: {why}" for why, (_, name) in zip(whys, bounds) if why), "")
+
+
+def peer(field):
+    """Why a field is no PEER."""
+    return number(field, 1_000, "a peer")
+
+
+FIELDS = {
+    "HEX": hexadecimal,
+    "SIG": signature,
+    "FUNDING": funding,
+    "SCID": scid,
+    "PEER": peer,
+    "PAYER": lambda field: hexadecimal(field, 66),
+    "PAYEE": lambda field: hexadecimal(field, 66),
+    "MSAT": lambda field: number(field, 2**64, "millisatoshi"),
+    "EXPIRY": lambda field: number(field, 2**32, "blocks"),
+    "SECRET": lambda field: hexadecimal(field, 64),
+}
+
+
+def shown(field):
+    """A field as it is shown: quoted, and cut where it is long."""
+    text = field.decode("utf-8", "backslashreplace")
+    return repr(text if len(text) <= 40 else f"{text[:37]}...")
+
+
+def spacing(line):
+    """What is wrong with the spaces and line ends of a line, if anything is."""
+    if line.endswith(b"\r"):
+        return "ends in a carriage return: the file has Windows line ends"
+    if b"\t" in line:
+        return "has a tab; fields stand between single spaces"
+    if line.startswith(b" ") or line.endswith(b" "):
+        return "begins or ends with a space"
+    return "has two spaces side by side" if b"  " in line else ""
+
+
+def reason(line):
+    """Why a line, without its line feed, is answered `bad`; nothing where it isn't."""
+    if not line or line.startswith(b"#"):
+        return ""
+    if line.startswith(b"\xef\xbb\xbf"):
+        return "begins with a byte order mark; save the file as UTF-8 without one"
+    if line.startswith((b"\xff\xfe", b"\xfe\xff")):
+        return "begins with a byte order mark of UTF-16; save the file as UTF-8"
+    try:
+        line.decode()
+    except UnicodeDecodeError as fault:
+        return f"isn't UTF-8, at byte {fault.start + 1}"
+    why = spacing(line)
+    if why:
+        return why
+    word, *fields = line.split(b" ")
+    if word not in FORMS:
+        return f"{shown(word)} is none of {', '.join(form.decode() for form in FORMS)}"
+    names = FORMS[word].split()
+    for name, field in zip(names, fields):
+        why = FIELDS[name](field)
+        if why:
+            return f"{name} {why}"
+    if len(fields) < len(names):
+        return f"{names[len(fields)]} is missing: {word.decode()} {' '.join(names)}"
+    return f"{shown(fields[len(names)])} stands behind the last field" if len(fields) > len(names) else ""
+
+
+def findings(lines):
+    """Each line that is at fault, by its number, with the reason. `lines` are bytes, with their line feeds."""
+    for count, line in enumerate(lines, 1):
+        line = line[:-1] if line.endswith(b"\n") else line
+        if count > LINES:
+            yield count, f"is one more than {LINES} lines, where the run ends"
+            return
+        if len(line) > LINE_BYTES:
+            yield count, f"has {len(line)} bytes, more than {LINE_BYTES}, and the run ends here"
+            return
+        why = reason(line)
+        if why:
+            yield count, why
+
+
+def main():
+    """Reads the script that is named, and prints what it finds."""
+    if len(sys.argv) != 2:
+        sys.exit(__doc__)
+    found = False
+    with sys.stdin.buffer if sys.argv[1] == "-" else open(sys.argv[1], "rb") as script:
+        for count, why in findings(script):
+            found = True
+            print(f"{count}: {why}")
+    sys.exit(1 if found else 0)
+
+
+if __name__ == "__main__":
+    main()

@@ -1,0 +1,205 @@
+#!/usr/bin/env python3
+"""Checks that what the pages name is there: links and their anchors, files, calls, clauses and definitions.
+
+    python3 tests/pages.py
+
+A page names things in `code spans`. Checked are
+
+- links to files of the repository, and to headings in them;
+- paths, as `examples/client.py` or `lgm_wire/specs`, also behind `python3`;
+- calls, as `Map::offer`, and definitions of a module, as `Script.text_for`;
+- clauses behind calls, as `decode`: `found`, `only`, each of which one of the calls before the colon has to have;
+- all other names, which have to occur somewhere outside the pages, unless they are those of the kit or of a tool.
+
+Prints a line for each thing that isn't there; the exit status is then 1.
+"""
+
+import re
+import sys
+from collections import defaultdict
+from pathlib import Path
+
+TOP = Path(__file__).resolve().parent.parent
+PAGES = sorted([*TOP.glob("*.md"), *TOP.glob("docs/*.md"), *TOP.glob("bench/*.md")])
+SOURCES = ("crates/*/src/**/*.rt", "crates/*/specs/**/*.antt", "crates/*/proofs/**/*.antt", "crates/*/include/*.h",
+           "crates/*/must-fail/*.edit", "crates/*/args", "examples/*.py", "bench/*.py", "tests/*.py", "*.py",
+           "crates.txt", "lgm", ".ci/run")
+COMMANDS = ("rt", "lgm", "./lgm", "python3", "git", "cd", "awk", "bitcoin-cli")
+# Names that aren't this repository's: the kit's, clap's, the C library's, the protocol's, placeholders.
+OUTSIDE = set("""
+    rt clap hex thiserror memchr itoa indexmap left_right logbook crossbeam_channel core std decimal OutOfMemory RandomState
+    replace_with read_exact decode_of decode_sized encode_lower PATH HANDLES NAME PROGRAM SCRIPT N V K GLIBC_TUNABLES LC_ALL
+    BUILD out may_wait tests_may Threads Wait requires ensures proves unwrap impl specs my_service
+    htlc_maximum_msat htlc_minimum_msat fee_base_msat min_final_cltv_expiry_delta announcement_signatures dont_forward
+    sync_complete full_information first_blocknum number_of_blocks first_timestamp timestamp_range
+    channel_announcement node_announcement channel_update query_short_channel_ids reply_short_channel_ids_end
+    query_channel_range reply_channel_range gossip_timestamp_filter amt_to_forward outgoing_cltv_value payment_data
+    payment_metadata short_channel_id tu16 tu32 tu64 fd fe ff c1 end d1 u64
+    ns/byte specs/declared network.txt out/
+""".split())
+
+HASH = re.compile(r"[0-9a-f]{64}")
+NAME = re.compile(r"[A-Za-z_][A-Za-z0-9_]*")
+PATH = re.compile(r"[.A-Za-z0-9_*-]+(/[.A-Za-z0-9_*-]*)+")
+FILE = re.compile(r"[A-Za-z0-9_-]+\.(rt|antt|py|md|txt|out|svg|c|h|edit)")
+
+
+def records():
+    """The fields of each record of the specs, by its name."""
+    fields = {}
+    for spec in TOP.glob("crates/*/specs/**/*.antt"):
+        name = None
+        for line in spec.read_text().splitlines():
+            if found := re.match(r"(?:pub )?record (\w+)", line):
+                name = found[1]
+                fields[name] = set()
+            elif name and (found := re.match(r"  (?:pub )?(\w+) :", line)):
+                fields[name].add(found[1])
+            elif line.strip() and not line.startswith(" "):
+                name = None
+    return fields
+
+
+def named_clauses():
+    """For each call, as `decode` and as `Map::offer`, the names of its clauses, and of the fields of records that they
+    cite; and all members of each type."""
+    clauses, members, fields, aliases = defaultdict(set), defaultdict(set), records(), {}
+    for source in TOP.glob("crates/*/src/**/*.rt"):
+        owner, call = None, None
+        for line in source.read_text().splitlines():
+            if found := re.match(r"pub type (\w+)(?:<.*>)? = (?:\w+::)*(\w+)", line):
+                aliases[found[1]] = found[2]
+            if found := re.match(r"(?:pub )?(?:impl|trait|enum|struct)\b(?:<[^{]*?>)?\s*(?:.*\bfor )?(?:\w+::)*(\w+)", line):
+                owner = found[1]
+            elif line.startswith("}"):
+                owner = None
+            if found := re.search(r"\bfn (\w+)", line):
+                call = found[1]
+                clauses[call]
+                if owner:
+                    members[owner].add(call)
+                    clauses[f"{owner}::{call}"]
+            elif found := re.match(r"\s*(?:ensures|requires) (\w* ?)\{", line):
+                names = {found[1].strip()}.union(*(fields.get(name, ()) for name in NAME.findall(line)))
+                for name in {call, f"{owner}::{call}", owner} - {None}:
+                    clauses[name] |= names
+            elif owner and (found := re.match(r"    (\w+)\b.*[,({]?$", line)):
+                members[owner].add(found[1])
+    for alias, name in aliases.items():
+        members[alias] |= members[name]
+    return clauses, members
+
+
+def definitions():
+    """For each module of specs, the names that it declares; and the fields of records, by the record's name."""
+    names = defaultdict(set)
+    for spec in TOP.glob("crates/*/specs/**/*.antt"):
+        names[spec.stem] |= set(NAME.findall(spec.read_text()))
+    return names
+
+
+def anchors(page):
+    """The anchors of a page's headings."""
+    heads = re.findall(r"(?m)^#+ (.*)$", page.read_text())
+    return {re.sub(r"[^\w\- ]", "", re.sub(r"[`*]", "", head)).strip().lower().replace(" ", "-") for head in heads}
+
+
+def prose(text):
+    """A page without its blocks of code, whose lines stay as empty ones."""
+    lines, before = [], ""
+    for line in text.splitlines():
+        is_block = line.startswith("    ") and not re.match(r"\s*([-*]|\d+\.) ", line) and before in ("", None)
+        lines.append("" if is_block else line)
+        before = None if is_block else line.strip()
+    return lines
+
+
+class Checker:
+    """Collects what isn't there."""
+
+    def __init__(self):
+        self.clauses, self.members = named_clauses()
+        self.modules = definitions()
+        self.words = set(OUTSIDE)
+        for pattern in SOURCES:
+            for source in TOP.glob(pattern):
+                if "out" not in source.parts:
+                    self.words |= set(NAME.findall(source.read_text(errors="replace")))
+                    self.words |= {source.stem, *source.parts}
+        self.faults = []
+
+    def page(self, page):
+        """Checks a page."""
+        for count, line in enumerate(prose(page.read_text()), 1):
+            for why in (*self.links(page, line), *self.spans(page, line), *self.cited(line)):
+                self.faults.append(f"{page.relative_to(TOP)}:{count}: {why}")
+
+    def links(self, page, line):
+        """Links of a line that lead nowhere."""
+        for target in re.findall(r"\]\(([^)\s]+)\)", line):
+            if re.match(r"[a-z]+:", target):
+                continue
+            path, _, anchor = target.partition("#")
+            file = (page.parent / path).resolve() if path else page
+            if not file.exists():
+                yield f"there is no file {target}"
+            elif anchor and anchor not in anchors(file):
+                yield f"{path or page.name} has no heading #{anchor}"
+
+    def spans(self, page, line):
+        """Code spans of a line that name what isn't there."""
+        for span in re.findall(r"`([^`]+)`", line):
+            words = span.split()
+            if not words:
+                continue
+            if words[0] in COMMANDS:
+                words = [word for word in words[1:] if PATH.fullmatch(word) and "." in word]
+            elif len(words) > 1:
+                continue
+            for word in words:
+                if why := self.missing(page, word.strip(",;")):
+                    yield why
+
+    def missing(self, page, word):
+        """Why a word of a code span names nothing, if so."""
+        if word in OUTSIDE or "NAME" in word or word.startswith("~"):
+            return ""
+        if PATH.fullmatch(word) or FILE.fullmatch(word):
+            word = word.rstrip("/")
+            is_there = any(any(TOP.glob(pattern)) for pattern in (word, f"crates/{word}", f"crates/*/{word}"))
+            is_there = is_there or (page.parent / word).exists() or FILE.fullmatch(word) and any(TOP.glob(f"**/{word}"))
+            return "" if is_there else f"there is no file {word}"
+        if found := re.fullmatch(r"(\w+)::(\w+)", word):
+            if found[2] in self.members[found[1]] or found[1].islower() and found[2] in self.words:
+                return ""
+            return f"{found[1]} has no {found[2]}"
+        if (found := re.fullmatch(r"(\w+)\.(\w+)", word)) and found[1] in self.modules:
+            return "" if found[2] in self.modules[found[1]] else f"the module {found[1]} has no {found[2]}"
+        if NAME.fullmatch(word) and not HASH.fullmatch(word) and word not in self.words and word not in self.modules:
+            return f"nothing outside the pages is named {word}"
+        return ""
+
+    def cited(self, line):
+        """Clauses behind calls that none of the calls has."""
+        span = r"`[\w:]+`"
+        for calls, clauses in re.findall(rf"((?:{span}, )*{span}): ((?:{span}, )*{span})", line):
+            calls = re.findall(r"`([\w:]+)`", calls)
+            bare = [re.sub(r"^lgm_\w+::", "", call) for call in calls]
+            known = [self.clauses[call] | self.members[call] for call in bare if call in self.clauses]
+            for clause in re.findall(r"`([\w:]+)`", clauses) if known else []:
+                if not any(clause in names for names in known):
+                    yield f"{' and '.join(calls)} {'has' if len(calls) == 1 else 'have'} no clause {clause}"
+
+
+def main():
+    """Checks all pages."""
+    checker = Checker()
+    for page in PAGES:
+        checker.page(page)
+    print(*checker.faults, sep="\n", end="\n" if checker.faults else "")
+    print(f"{len(PAGES)} pages, {len(checker.faults)} faults")
+    sys.exit(1 if checker.faults else 0)
+
+
+if __name__ == "__main__":
+    main()

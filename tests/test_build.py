@@ -1,0 +1,129 @@
+#!/usr/bin/env python3
+"""Tests the shell script `lgm` and build.py over made crates, with a stand-in for `rt` that proves nothing.
+
+    python3 tests/test_build.py
+"""
+
+import os
+import subprocess
+import tempfile
+import time
+from pathlib import Path
+
+TOP = Path(__file__).resolve().parent.parent
+CRATES = """# Each crate, and what it stands on.
+low:
+left: low
+right may_wait=2: low hex
+lgm: left right clap
+other_tests: left
+"""
+RT = """#!/bin/sh
+# Notes what it does, and leaves what the builds of rt leave.
+crate=$(basename "$PWD")
+grep -q "^$crate" ../../crates.txt || exit 3
+echo "begin $crate" >> "$LOG"
+[ "$crate" = "${BROKEN:-}" ] && { echo "a clause isn't proved"; exit 1; }
+case $crate in left|right) [ -f ../low/out/rlib/stamp ] || exit 4 ;; esac
+sleep 0.5
+mkdir -p out/rlib
+echo "$*" > out/rlib/stamp
+[ "$1" = run ] && { printf '#!/bin/sh\\necho "$@"\\n' > out/lgm; chmod +x out/lgm; }
+echo "end $crate" >> "$LOG"
+"""
+
+
+class Place:
+    """A made repository, with `rt` on the path."""
+
+    def __init__(self, folder):
+        self.top, self.log = folder / "repository", folder / "log"
+        (folder / "bin").mkdir()
+        self.path = f"{folder / 'bin'}:{os.environ['PATH']}"
+        (folder / "bin" / "rt").write_text(RT)
+        (folder / "bin" / "rt").chmod(0o755)
+        self.top.mkdir()
+        for name in ("lgm", "build.py"):
+            (self.top / name).write_bytes((TOP / name).read_bytes())
+            (self.top / name).chmod(0o755)
+        (self.top / "crates.txt").write_text(CRATES)
+        (self.top / "HANDLES").write_text("Handles allowed: none.\n")
+        for name in ("low", "left", "right", "lgm", "other_tests"):
+            for part in ("src", "specs", "proofs"):
+                (self.top / "crates" / name / part).mkdir(parents=True)
+            (self.top / "crates" / name / "src" / "lib.rt").write_text("//! A made crate.\n")
+
+    def run(self, *words, **more):
+        """What a command wrote, and what `rt` did."""
+        self.log.write_text("")
+        done = subprocess.run(words, cwd=self.top, capture_output=True, text=True, check=False,
+                              env={**os.environ, "PATH": self.path, "LOG": str(self.log), **more})
+        return done, self.log.read_text().split("\n")[:-1]
+
+    def touch(self, crate):
+        """Changes a crate."""
+        time.sleep(0.02)
+        (self.top / "crates" / crate / "src" / "lib.rt").write_text("//! A changed crate.\n")
+
+
+def builds_and_runs(place):
+    """The first run builds each crate once, and says so; the next one only runs."""
+    done, log = place.run("./lgm", "run", "a b")
+    assert (done.returncode, done.stdout) == (0, "run a b\n"), done
+    assert sorted(log) == sorted(f"{verb} {it}" for it in ("low", "left", "right", "lgm") for verb in ("begin", "end")), log
+    assert log[:2] == ["begin low", "end low"] and log[-2:] == ["begin lgm", "end lgm"]
+    for line in ("4 of 4 crates", "low: ", "1 of 4", "2 of 4", "3 of 4", "4 of 4"):
+        assert line in done.stderr, done.stderr
+    done, log = place.run("./lgm", "live")
+    assert (done.stdout, done.stderr, log) == ("live\n", "", []), done
+
+
+def builds_what_changed(place):
+    """Behind a change that crate and those above it are built."""
+    place.touch("left")
+    done, log = place.run("./lgm", "run")
+    assert done.stdout == "run\n" and log == ["begin left", "end left", "begin lgm", "end lgm"], log
+    place.touch("other_tests")
+    done, log = place.run("./lgm", "run")
+    assert done.stdout == "run\n" and log == ["begin lgm", "end lgm"], log
+
+
+def builds_side_by_side(place):
+    """Two libraries that don't need each other are built at the same time, or one after the other."""
+    place.touch("low")
+    _, log = place.run("./build.py", "--at-once", "2")
+    assert log[2][:5] == log[3][:5] == "begin" and len(log) == 8, log
+    place.touch("low")
+    _, log = place.run("./build.py", "--at-once", "1")
+    assert log[2].replace("begin", "end") == log[3] and len(log) == 8, log
+
+
+def says_what_failed(place):
+    """A crate that isn't proved, and a toolchain that isn't there, have their statuses and lines."""
+    place.touch("low")
+    for words in (("./lgm", "run"), ("./build.py", "--at-once", "1")):
+        done, log = place.run(*words, BROKEN="right")
+        assert done.returncode == (126 if words[0] == "./lgm" else 1) and done.stdout == "", done
+        assert "a clause isn't proved\nlgm: right couldn't be built\n" in done.stderr and "begin lgm" not in log, done.stderr
+    (place.top.parent / "bin" / "rt").unlink()
+    bare = place.top.parent / "bare"
+    bare.mkdir()
+    for name in ("sh", "find", "head", "dirname", "readlink"):
+        (bare / name).symlink_to(subprocess.check_output(["which", name], text=True).strip())
+    place.path = str(bare)
+    done, _ = place.run("./lgm", "run")
+    assert done.returncode == 127 and "isn't on the PATH" in done.stderr, done
+
+
+def main():
+    """Runs each test, in order, in one place."""
+    tests = (builds_and_runs, builds_what_changed, builds_side_by_side, says_what_failed)
+    with tempfile.TemporaryDirectory() as folder:
+        place = Place(Path(folder))
+        for test in tests:
+            test(place)
+    print(f"{len(tests)} passed")
+
+
+if __name__ == "__main__":
+    main()
