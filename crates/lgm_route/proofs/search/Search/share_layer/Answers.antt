@@ -21,4 +21,4 @@ merge-requires-clause-leads g c =
     let at = subst (R i) (sym c.index.ensures) (zip_at R c.args.frontier.now c.in_ok-all.all.items k 0 c.index.result.now c.in_ok-all.ensures c.loop-k-test.true) in
     let found : AreLeadsAt first i c.in-Ok.leads.items = subst (R i) c.in-Ok.is at in
     subst (AreLeadsAt c.loop-k.self i) (sym c.deref.ensures.value)
-    (leads_at_later first c.loop-k.self i c.in-Ok.leads.items c.loop-k.invariant (c.requires.frontier k 0 c.loop-k-test.true) found)
+    (leads_at_later first c.loop-k.self i c.in-Ok.leads.items c.loop-k.invariant (c.requires k 0 c.loop-k-test.true) found)
