@@ -50,7 +50,10 @@ pub fn answer<Rt: Threads + Wait + Sync + RandomSource, G: Gate, R: Source, W: S
                 workers,
                 gate,
             };
-            let context = Context { pool, chain };
+            let context = Context {
+                pool,
+                chain: *chain,
+            };
             Ended::Ran(run_keeping(&context, known, reader, writer, remains))
         }
         Mode::Live => Ended::RanLive(run_live(

@@ -21,7 +21,7 @@ use std::thread::Threads;
 ///
 /// `NoMemory` says nothing of the payment.
 pub fn answer(alloc: Global, map: &Map, view: &View, request: &Request) -> Result<Route, RouteFault>
-    requires { IsGraphOf map.now view.now }
+    requires beside { IsGraphOf map.now view.now }
     ensures { (result ≡ Err RouteFault.NoMemory) ⊎
         (result ≡ answer_of (edges_of view.now.known map.now) request.now) }
 {
@@ -37,7 +37,7 @@ pub fn answer_chunked<Rt: Threads + Sync, G: Gate>(
     view: &View,
     request: &Request,
 ) -> Result<Route, RouteFault>
-    requires { IsGraphOf map.now view.now }
+    requires beside { IsGraphOf map.now view.now }
     ensures { (result ≡ Err RouteFault.NoMemory) ⊎
         (result ≡ answer_of (edges_of view.now.known map.now) request.now) }
 {

@@ -55,9 +55,9 @@ fn answer_items<Rt: Threads + Sync, G: Gate, W: Sink>(
     requires few { engine.old.accepted + length lines.now ≤ 10000000 }
     requires writer { W.failures output.old.writer.now + 1 < 2 ^ 64 }
     ensures writer { output.new.writer.ghost_name ≡ output.old.writer.ghost_name }
-    ensures state { OnOk result (engine.new ≡ state_from context.now.chain.now engine.old (asked_in lines.now)) }
-    ensures told { OnOk result (Sends W.taken W.failures output.old output.new (text_from context.now.chain.now first engine.old (asked_in lines.now))) }
-    ensures fault { IfErr result (SendsPart W.taken W.failures output.old output.new (text_from context.now.chain.now first engine.old (asked_in lines.now))) }
+    ensures state { OnOk result (engine.new ≡ state_from context.now.chain engine.old (asked_in lines.now)) }
+    ensures told { OnOk result (Sends W.taken W.failures output.old output.new (text_from context.now.chain first engine.old (asked_in lines.now))) }
+    ensures fault { IfErr result (SendsPart W.taken W.failures output.old output.new (text_from context.now.chain first engine.old (asked_in lines.now))) }
 {
     let all = check_lines(context, lines)?;
     let mut number = first;
@@ -94,9 +94,9 @@ fn answer_questions<Rt: Threads + Sync, G: Gate, W: Sink>(
     requires few { engine.old.accepted ≤ 10000000 }
     requires writer { W.failures output.old.writer.now + 1 < 2 ^ 64 }
     ensures writer { output.new.writer.ghost_name ≡ output.old.writer.ghost_name }
-    ensures state { OnOk result (engine.new ≡ state_from context.now.chain.now engine.old (asked_in lines.now)) }
-    ensures told { OnOk result (Sends W.taken W.failures output.old output.new (text_from context.now.chain.now first engine.old (asked_in lines.now))) }
-    ensures fault { IfErr result (SendsPart W.taken W.failures output.old output.new (text_from context.now.chain.now first engine.old (asked_in lines.now))) }
+    ensures state { OnOk result (engine.new ≡ state_from context.now.chain engine.old (asked_in lines.now)) }
+    ensures told { OnOk result (Sends W.taken W.failures output.old output.new (text_from context.now.chain first engine.old (asked_in lines.now))) }
+    ensures fault { IfErr result (SendsPart W.taken W.failures output.old output.new (text_from context.now.chain first engine.old (asked_in lines.now))) }
 {
     if let Some(payment) = lone_payment(context.pool.alloc, lines)? {
         let answer = engine.answer_route(&context.pool, &payment)?;
@@ -141,9 +141,9 @@ pub fn answer<Rt: Threads + Sync, G: Gate, W: Sink>(
     requires few { engine.old.accepted + length group.now.lines.items ≤ 10000000 }
     requires writer { W.failures output.old.writer.now + 1 < 2 ^ 64 }
     ensures writer { output.new.writer.ghost_name ≡ output.old.writer.ghost_name }
-    ensures state { OnOk result (engine.new ≡ state_from context.now.chain.now engine.old (asked_in group.now.lines.items)) }
-    ensures told { OnOk result (Sends W.taken W.failures output.old output.new (text_from context.now.chain.now first engine.old (asked_in group.now.lines.items))) }
-    ensures fault { IfErr result (SendsPart W.taken W.failures output.old output.new (text_from context.now.chain.now first engine.old (asked_in group.now.lines.items))) }
+    ensures state { OnOk result (engine.new ≡ state_from context.now.chain engine.old (asked_in group.now.lines.items)) }
+    ensures told { OnOk result (Sends W.taken W.failures output.old output.new (text_from context.now.chain first engine.old (asked_in group.now.lines.items))) }
+    ensures fault { IfErr result (SendsPart W.taken W.failures output.old output.new (text_from context.now.chain first engine.old (asked_in group.now.lines.items))) }
 {
     let lines = group.lines.as_slice();
     match group.kind {

@@ -58,10 +58,10 @@ pub fn check_lines<Rt: Threads + Sync, G: Gate>(
     lines: &[&[u8]],
 ) -> Result<Vec<Result<Option<Offered>, AllocError>>, AllocError>
     ensures { IfOk result (λ all. AllZip (λ request offered. IfOk offered
-        (λ o. o ≡ offered_in context.now.chain.now request)) (asked_in lines.now) all.items) }
+        (λ o. o ≡ offered_in context.now.chain request)) (asked_in lines.now) all.items) }
 {
     let alloc = context.pool.alloc;
-    let chain = context.chain;
+    let chain = &context.chain;
     context
         .pool
         .map(lines, &|line| check_line(alloc, chain, line))

@@ -9,5 +9,5 @@ pub struct Context<'a, Rt, G> {
     /// The workers that share the work.
     pub pool: Pool<'a, Rt, G>,
     /// The chain that the map is of.
-    pub chain: &'a ChainHash,
+    pub chain: ChainHash,
 }

@@ -104,11 +104,11 @@ impl Engine {
         requires writer { W.failures output.old.writer.now + 1 < 2 ^ 64 }
         ensures writer { output.new.writer.ghost_name ≡ output.old.writer.ghost_name }
         ensures state { OnOk result (self.new ≡ record self.old
-            { filters = filters_behind context.now.chain.now self.old.filters (asked_in lines.now) }) }
+            { filters = filters_behind context.now.chain self.old.filters (asked_in lines.now) }) }
         ensures told { OnOk result (Sends W.taken W.failures output.old output.new
-            (questions_text context.now.chain.now self.old.known self.old.committed number self.old.filters (asked_in lines.now))) }
+            (questions_text context.now.chain self.old.known self.old.committed number self.old.filters (asked_in lines.now))) }
         ensures fault { IfErr result (SendsPart W.taken W.failures output.old output.new
-            (questions_text context.now.chain.now self.old.known self.old.committed number self.old.filters (asked_in lines.now))) }
+            (questions_text context.now.chain self.old.known self.old.committed number self.old.filters (asked_in lines.now))) }
     {
         self.maps
             .answer_questions(context, number, lines, &mut self.filters, output)

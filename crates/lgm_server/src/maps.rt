@@ -211,11 +211,11 @@ impl Maps {
         requires writer { W.failures output.old.writer.now + 1 < 2 ^ 64 }
         ensures same { self.new ≡ self.old }
         ensures writer { output.new.writer.ghost_name ≡ output.old.writer.ghost_name }
-        ensures filters { OnOk result (filters.new ≡ filters_behind context.now.chain.now filters.old (asked_in lines.now)) }
+        ensures filters { OnOk result (filters.new ≡ filters_behind context.now.chain filters.old (asked_in lines.now)) }
         ensures told { OnOk result (Sends W.taken W.failures output.old output.new
-            (questions_text context.now.chain.now self.old.known self.old.committed number filters.old (asked_in lines.now))) }
+            (questions_text context.now.chain self.old.known self.old.committed number filters.old (asked_in lines.now))) }
         ensures fault { IfErr result (SendsPart W.taken W.failures output.old output.new
-            (questions_text context.now.chain.now self.old.known self.old.committed number filters.old (asked_in lines.now))) }
+            (questions_text context.now.chain self.old.known self.old.committed number filters.old (asked_in lines.now))) }
     {
         chart_routes(
             context.pool.alloc,

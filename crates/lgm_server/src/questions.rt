@@ -128,10 +128,10 @@ fn decide_all<'a, Rt: Threads + Sync, G: Gate>(
 ) -> Result<Vec<Result<Answer<'a>, AllocError>>, AllocError>
     requires ready { All (λ line. IsReady chart.now committed.now (request_of line.now)) lines.now }
     ensures { IfOk result (λ all. AllZip (λ request answer. IfOk answer
-        (IsAnswerTo context.now.chain.now chart.now.known committed.now request)) (asked_in lines.now) all.items) }
+        (IsAnswerTo context.now.chain chart.now.known committed.now request)) (asked_in lines.now) all.items) }
 {
     let alloc = context.pool.alloc;
-    let chain = context.chain;
+    let chain = &context.chain;
     context.pool.map(lines, &|line| decide(alloc, chain, committed, chart, line))
 }
 
@@ -169,11 +169,11 @@ pub fn answer_questions<Rt: Threads + Sync, G: Gate, W: Sink>(
     requires number { first + length lines.now < 2 ^ 64 }
     requires writer { W.failures output.old.writer.now + 1 < 2 ^ 64 }
     ensures writer { output.new.writer.ghost_name ≡ output.old.writer.ghost_name }
-    ensures filters { OnOk result (filters.new ≡ filters_behind context.now.chain.now filters.old (asked_in lines.now)) }
+    ensures filters { OnOk result (filters.new ≡ filters_behind context.now.chain filters.old (asked_in lines.now)) }
     ensures told { OnOk result (Sends W.taken W.failures output.old output.new
-        (questions_text context.now.chain.now chart.now.known committed.now first filters.old (asked_in lines.now))) }
+        (questions_text context.now.chain chart.now.known committed.now first filters.old (asked_in lines.now))) }
     ensures fault { IfErr result (SendsPart W.taken W.failures output.old output.new
-        (questions_text context.now.chain.now chart.now.known committed.now first filters.old (asked_in lines.now))) }
+        (questions_text context.now.chain chart.now.known committed.now first filters.old (asked_in lines.now))) }
 {
     let all = decide_all(context, committed, chart, lines)?;
     let mut number = first;

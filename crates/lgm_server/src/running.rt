@@ -62,10 +62,10 @@ fn answer_next<Rt: Threads + Sync, G: Gate, W: Sink>(
     requires few { engine.old.accepted + most ≤ 10000000 }
     requires writer { W.failures output.old.writer.now + 1 < 2 ^ 64 }
     ensures writer { output.new.writer.ghost_name ≡ output.old.writer.ghost_name }
-    ensures answered { IfOk result (λ done. HaveAnswers context.now.chain.now number engine.old engine.new lines.now first
+    ensures answered { IfOk result (λ done. HaveAnswers context.now.chain number engine.old engine.new lines.now first
         (Sends W.taken W.failures output.old output.new) done.0 done.1) }
     ensures few { IfOk result (λ done. done.0 ≤ most) }
-    ensures fault { IfErr result (λ fault. HaveBegun context.now.chain.now number most engine.old lines.now first
+    ensures fault { IfErr result (λ fault. HaveBegun context.now.chain number most engine.old lines.now first
         (λ text. SendsPart W.taken W.failures output.old output.new text fault)) }
 {
     let most = most.min(most_for(context.pool.workers));
@@ -88,13 +88,13 @@ fn answer_lines<Rt: Threads + Sync, G: Gate, R: Source, W: Sink>(
     requires writer { W.failures output.old.writer.now + 1 < 2 ^ 64 }
     ensures writer { output.new.writer.ghost_name ≡ output.old.writer.ghost_name }
     ensures ok { IfOk result (λ counts. IfSome (R.left source.old)
-        (IsAnswered context.now.chain.now engine.old.known (Sends W.taken W.failures output.old output.new) counts)) }
+        (IsAnswered context.now.chain engine.old.known (Sends W.taken W.failures output.old output.new) counts)) }
     ensures too_many { result ≡ Err RunFault.TooManyLines → IfSome (R.left source.old)
-        (IsTooMany context.now.chain.now engine.old.known (Sends W.taken W.failures output.old output.new)) }
+        (IsTooMany context.now.chain engine.old.known (Sends W.taken W.failures output.old output.new)) }
     ensures too_long { result ≡ Err RunFault.LineTooLong → IfSome (R.left source.old)
-        (IsTooLong context.now.chain.now engine.old.known (Sends W.taken W.failures output.old output.new)) }
+        (IsTooLong context.now.chain engine.old.known (Sends W.taken W.failures output.old output.new)) }
     ensures some { IfSome (R.left source.old)
-        (IsCutShort context.now.chain.now engine.old.known (SendsSome W.taken W.failures output.old output.new) (R.left source.new)) }
+        (IsCutShort context.now.chain engine.old.known (SendsSome W.taken W.failures output.old output.new) (R.left source.new)) }
     ensures read { result ≡ Err RunFault.Read → R.failures source.old < R.failures source.new }
     ensures write { result ≡ Err RunFault.Write → W.failures output.old.writer.now < W.failures output.new.writer.now }
     ensures well { result ≢ Err RunFault.Write → W.failures output.new.writer.now ≡ W.failures output.old.writer.now }
@@ -133,7 +133,7 @@ fn answer_all<Rt: Threads + Sync + RandomSource, G: Gate, R: Source, W: Sink>(
     requires source { R.failures source.old + 1 < 2 ^ 64 }
     requires writer { W.failures output.old.writer.now + 1 < 2 ^ 64 }
     ensures writer { output.new.writer.ghost_name ≡ output.old.writer.ghost_name }
-    ensures runs { Runs R.left R.failures W.taken W.failures context.now.chain.now known.now source.old source.new
+    ensures runs { Runs R.left R.failures W.taken W.failures context.now.chain known.now source.old source.new
         output.old.writer.now output.new.writer.now result }
 {
     let alloc = context.pool.alloc;
@@ -210,7 +210,7 @@ pub fn run<Rt: Threads + Sync + RandomSource, G: Gate, R: Source, W: Sink>(
             workers,
             gate,
         },
-        chain,
+        chain: *chain,
     };
     let mut remains = Remains::none();
     run_keeping(&context, known, reader, writer, &mut remains)
@@ -227,7 +227,7 @@ pub fn run_keeping<Rt: Threads + Sync + RandomSource, G: Gate, R: Source, W: Sin
 ) -> Result<Counts, RunFault>
     requires reader { R.failures reader.old + 1 < 2 ^ 64 }
     requires writer { W.failures writer.old + 1 < 2 ^ 64 }
-    ensures runs { Runs R.left R.failures W.taken W.failures context.now.chain.now known.now reader.old reader.new
+    ensures runs { Runs R.left R.failures W.taken W.failures context.now.chain known.now reader.old reader.new
         writer.old writer.new result }
 {
     let mut block = Vec::with_capacity(context.pool.alloc, BLOCK)?;

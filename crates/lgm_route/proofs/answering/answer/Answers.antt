@@ -13,5 +13,5 @@ returns c =
       | inl none ↦ inl none
       | inr answer ↦ inr (answer-tried (edges view) (edges_of view.known rows) c.args.request.now c.least.result
           (are_directions view.known rows c.rows_are_lawful.ensures.ascend)
-          (c.shows_the_edges.ensures.found rows c.requires) answer)
+          (c.shows_the_edges.ensures.found rows c.requires.beside) answer)
     ]

@@ -29,7 +29,7 @@ returns-in-Other-clause-state g c =
     let asked : asked_in items ≡ request_of first ∷ [] = ap asked_in (sym c.as_slice-lines.ensures.value) ∙ asked_alone lines (record { ref_ptr = (0, 0); now = [] }) one in
     let each = kinds_of Other items (subst (λ kind. AllByRecursion (λ line. IsOfKind kind (request_of line)) (map (λ line. line.now) items)) c.in-Other.is c.requires.alike.each) in
     let kind = subst (AllByRecursion (IsOfKind Other)) asked each in
-    other_leaves c.answer_alone.result c.args.context.now.chain.now c.args.first c.args.engine.now (request_of first) (asked_in items) asked kind.0 c.answer_alone.new.engine c.answer_alone.ensures.state
+    other_leaves c.answer_alone.result c.args.context.now.chain c.args.first c.args.engine.now (request_of first) (asked_in items) asked kind.0 c.answer_alone.new.engine c.answer_alone.ensures.state
 
 pub returns-in-Other-clause-told : goal.returns-in-Other-clause-told
 returns-in-Other-clause-told g c =
@@ -40,7 +40,7 @@ returns-in-Other-clause-told g c =
     let asked : asked_in items ≡ request_of first ∷ [] = ap asked_in (sym c.as_slice-lines.ensures.value) ∙ asked_alone lines (record { ref_ptr = (0, 0); now = [] }) one in
     let each = kinds_of Other items (subst (λ kind. AllByRecursion (λ line. IsOfKind kind (request_of line)) (map (λ line. line.now) items)) c.in-Other.is c.requires.alike.each) in
     let kind = subst (AllByRecursion (IsOfKind Other)) asked each in
-    other_is_told c.answer_alone.result c.args.context.now.chain.now c.args.first c.args.engine.now (request_of first) (asked_in items) asked kind.0 (Sends g.W.Sink.taken g.W.Sink.failures c.args.output.now c.answer_alone.new.output) c.answer_alone.ensures.told
+    other_is_told c.answer_alone.result c.args.context.now.chain c.args.first c.args.engine.now (request_of first) (asked_in items) asked kind.0 (Sends g.W.Sink.taken g.W.Sink.failures c.args.output.now c.answer_alone.new.output) c.answer_alone.ensures.told
 
 pub returns-in-Other-clause-fault : goal.returns-in-Other-clause-fault
 returns-in-Other-clause-fault g c =
@@ -51,4 +51,4 @@ returns-in-Other-clause-fault g c =
     let asked : asked_in items ≡ request_of first ∷ [] = ap asked_in (sym c.as_slice-lines.ensures.value) ∙ asked_alone lines (record { ref_ptr = (0, 0); now = [] }) one in
     let each = kinds_of Other items (subst (λ kind. AllByRecursion (λ line. IsOfKind kind (request_of line)) (map (λ line. line.now) items)) c.in-Other.is c.requires.alike.each) in
     let kind = subst (AllByRecursion (IsOfKind Other)) asked each in
-    other_begins c.answer_alone.result c.args.context.now.chain.now c.args.first c.args.engine.now (request_of first) (asked_in items) asked kind.0 (SendsPart g.W.Sink.taken g.W.Sink.failures c.args.output.now c.answer_alone.new.output) c.answer_alone.ensures.fault
+    other_begins c.answer_alone.result c.args.context.now.chain c.args.first c.args.engine.now (request_of first) (asked_in items) asked kind.0 (SendsPart g.W.Sink.taken g.W.Sink.failures c.args.output.now c.answer_alone.new.output) c.answer_alone.ensures.fault

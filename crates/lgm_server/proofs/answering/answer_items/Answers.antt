@@ -30,7 +30,7 @@ returns-in_err-all-clause-fault g c =
 
 pub returns-in_err-item-clause-fault : goal.returns-in_err-item-clause-fault
 returns-in_err-item-clause-fault g c =
-    let chain = c.args.context.now.chain.now in
+    let chain = c.args.context.now.chain in
     let asked = asked_in c.args.lines.now in
     let all = c.in_ok-all.all.items in
     let old = seen g.W.Sink.taken g.W.Sink.failures c.args.output.now in
@@ -47,7 +47,7 @@ returns-in_err-item-clause-fault g c =
 
 pub offer-requires-clause-checked : goal.offer-requires-clause-checked
 offer-requires-clause-checked g c =
-    let chain = c.args.context.now.chain.now in
+    let chain = c.args.context.now.chain in
     let asked = asked_in c.args.lines.now in
     let all = c.in_ok-all.all.items in
     let old = seen g.W.Sink.taken g.W.Sink.failures c.args.output.now in
@@ -62,7 +62,7 @@ offer-requires-clause-checked g c =
 
 pub returns-in_err-offer-clause-fault : goal.returns-in_err-offer-clause-fault
 returns-in_err-offer-clause-fault g c =
-    let chain = c.args.context.now.chain.now in
+    let chain = c.args.context.now.chain in
     let asked = asked_in c.args.lines.now in
     let all = c.in_ok-all.all.items in
     let old = seen g.W.Sink.taken g.W.Sink.failures c.args.output.now in
@@ -83,7 +83,7 @@ returns-in_err-offer-clause-fault g c =
 
 pub overflow_add-number : goal.overflow_add-number
 overflow_add-number g c =
-    let chain = c.args.context.now.chain.now in
+    let chain = c.args.context.now.chain in
     let asked = asked_in c.args.lines.now in
     let all = c.in_ok-all.all.items in
     let old = seen g.W.Sink.taken g.W.Sink.failures c.args.output.now in
@@ -98,7 +98,7 @@ overflow_add-number g c =
 
 pub loop-item-preserved : goal.loop-item-preserved
 loop-item-preserved g c =
-    let chain = c.args.context.now.chain.now in
+    let chain = c.args.context.now.chain in
     let asked = asked_in c.args.lines.now in
     let all = c.in_ok-all.all.items in
     let old = seen g.W.Sink.taken g.W.Sink.failures c.args.output.now in
@@ -124,7 +124,7 @@ loop-item-preserved g c =
 
 pub returns-clause-state : goal.returns-clause-state
 returns-clause-state g c =
-    let chain = c.args.context.now.chain.now in
+    let chain = c.args.context.now.chain in
     let asked = asked_in c.args.lines.now in
     let all = c.in_ok-all.all.items in
     let old = seen g.W.Sink.taken g.W.Sink.failures c.args.output.now in
@@ -139,7 +139,7 @@ returns-clause-state g c =
 
 pub returns-clause-told : goal.returns-clause-told
 returns-clause-told g c =
-    let chain = c.args.context.now.chain.now in
+    let chain = c.args.context.now.chain in
     let asked = asked_in c.args.lines.now in
     let all = c.in_ok-all.all.items in
     let old = seen g.W.Sink.taken g.W.Sink.failures c.args.output.now in

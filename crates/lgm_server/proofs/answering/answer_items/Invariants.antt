@@ -10,6 +10,6 @@ abbrev pub invariant-loop-item : goal.invariant-loop-item
 invariant-loop-item g l = record {
   name : l.output.writer.ghost_name ≡ l.fn.output.writer.ghost_name;
   few : l.engine.accepted ≤ l.fn.engine.accepted + length l.yielded;
-  at : IsAt (state_after l.context.chain.now) (text_for l.context.chain.now) l.first l.fn.engine (asked_in l.lines)
+  at : IsAt (state_after l.context.chain) (text_for l.context.chain) l.first l.fn.engine (asked_in l.lines)
       (seen g.W.Sink.taken g.W.Sink.failures l.fn.output) (length l.yielded) l.number l.engine (seen g.W.Sink.taken g.W.Sink.failures l.output);
 }

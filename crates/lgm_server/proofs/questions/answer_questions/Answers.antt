@@ -17,7 +17,7 @@ use Rattle.lgm_server.proofs.questions.answer_questions.Goals as goal
 pub loop-answer-init : goal.loop-answer-init
 loop-answer-init g c = record {
   name = refl;
-  at = at_first (filters_after c.args.context.now.chain.now) (λ n filters request. question_text c.args.context.now.chain.now c.args.chart.now.known c.args.committed.now n request) c.args.first c.args.filters.now (asked_in c.args.lines.now)
+  at = at_first (filters_after c.args.context.now.chain) (λ n filters request. question_text c.args.context.now.chain c.args.chart.now.known c.args.committed.now n request) c.args.first c.args.filters.now (asked_in c.args.lines.now)
       (seen g.W.Sink.taken g.W.Sink.failures c.args.output.now);
 }
 
@@ -28,7 +28,7 @@ returns-in_err-all-clause-fault g c =
 
 pub loop-answer-preserved : goal.loop-answer-preserved
 loop-answer-preserved g c =
-    let chain = c.args.context.now.chain.now in
+    let chain = c.args.context.now.chain in
     let known = c.args.chart.now.known in
     let rows = c.args.committed.now in
     let asked = asked_in c.args.lines.now in
@@ -48,7 +48,7 @@ loop-answer-preserved g c =
 
 pub returns-in_default-clause-fault : goal.returns-in_default-clause-fault
 returns-in_default-clause-fault g c =
-    let chain = c.args.context.now.chain.now in
+    let chain = c.args.context.now.chain in
     let known = c.args.chart.now.known in
     let rows = c.args.committed.now in
     let asked = asked_in c.args.lines.now in
@@ -64,7 +64,7 @@ returns-in_default-clause-fault g c =
 
 pub returns-in_err-tell-clause-fault : goal.returns-in_err-tell-clause-fault
 returns-in_err-tell-clause-fault g c =
-    let chain = c.args.context.now.chain.now in
+    let chain = c.args.context.now.chain in
     let known = c.args.chart.now.known in
     let rows = c.args.committed.now in
     let asked = asked_in c.args.lines.now in
@@ -83,7 +83,7 @@ returns-in_err-tell-clause-fault g c =
 
 pub overflow_add-number : goal.overflow_add-number
 overflow_add-number g c =
-    let chain = c.args.context.now.chain.now in
+    let chain = c.args.context.now.chain in
     let known = c.args.chart.now.known in
     let rows = c.args.committed.now in
     let asked = asked_in c.args.lines.now in
@@ -96,7 +96,7 @@ overflow_add-number g c =
 
 pub returns-clause-filters : goal.returns-clause-filters
 returns-clause-filters g c =
-    let chain = c.args.context.now.chain.now in
+    let chain = c.args.context.now.chain in
     let known = c.args.chart.now.known in
     let rows = c.args.committed.now in
     let asked = asked_in c.args.lines.now in
@@ -111,7 +111,7 @@ returns-clause-filters g c =
 
 pub returns-clause-told : goal.returns-clause-told
 returns-clause-told g c =
-    let chain = c.args.context.now.chain.now in
+    let chain = c.args.context.now.chain in
     let known = c.args.chart.now.known in
     let rows = c.args.committed.now in
     let asked = asked_in c.args.lines.now in

@@ -9,7 +9,7 @@ answer-requires c =
     let rows = c.args.committed.now in
     let is : IsViewOf c.args.chart.now.known rows c.in-Beside.view =
     subst (ShowsAs c.args.chart.now.known rows [] rows) c.in-Beside.is c.requires.shows in
-    is.graph
+    record { beside = is.graph }
 
 pub returns : goal.returns
 returns c =

@@ -4,8 +4,8 @@ use Rattle.lgm_route.specs.Choice.{answer_of}
 use Rattle.lgm_server.specs.Chart.{IsViewOf, ShowsAs}
 use Rattle.lgm_server.proofs.questions.find_chunked.Goals as goal
 
-pub answer_chunked-requires : goal.answer_chunked-requires
-answer_chunked-requires g c =
+pub answer_chunked-requires-clause-beside : goal.answer_chunked-requires-clause-beside
+answer_chunked-requires-clause-beside g c _ _ =
     let rows = c.args.committed.now in
     let is : IsViewOf c.args.chart.now.known rows c.in-Beside.view =
     subst (ShowsAs c.args.chart.now.known rows [] rows) c.in-Beside.is c.requires.shows in

@@ -10,11 +10,11 @@ use Rattle.lgm_server.proofs.running.answer_all.Goals as goal
 pub returns-in_err-made-clause-runs : goal.returns-in_err-made-clause-runs
 returns-in_err-made-clause-runs g c =
     let p = err_from_is_err_and c.from_residual-in_err-made.result c.from_residual-in_err-made.ensures.1 in
-    rw (p.1, p.2) (nothing_ran g.R.Source.left g.R.Source.failures g.W.Sink.taken g.W.Sink.failures c.args.context.now.chain.now c.args.known.now c.args.source.now c.args.output.now.writer.now)
+    rw (p.1, p.2) (nothing_ran g.R.Source.left g.R.Source.failures g.W.Sink.taken g.W.Sink.failures c.args.context.now.chain c.args.known.now c.args.source.now c.args.output.now.writer.now)
 
 pub returns-clause-runs : goal.returns-clause-runs
 returns-clause-runs g c =
-    let chain = c.args.context.now.chain.now in
+    let chain = c.args.context.now.chain in
     let bits = c.args.known.now in
     let script = g.R.Source.left c.args.source.now in
     let left = g.R.Source.left c.answer_lines-answered.new.source in

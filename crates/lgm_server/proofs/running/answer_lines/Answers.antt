@@ -17,13 +17,13 @@ loop-number-init g c = rw (c.requires.engine, c.requires.lines) (record {
   writer = refl;
   within = omega arith;
   few = omega arith;
-  so_far = starts c.args.context.now.chain.now c.args.engine.now.known (g.R.Source.left c.args.source.now) (seen g.W.Sink.taken g.W.Sink.failures c.args.output.now);
+  so_far = starts c.args.context.now.chain c.args.engine.now.known (g.R.Source.left c.args.source.now) (seen g.W.Sink.taken g.W.Sink.failures c.args.output.now);
 })
 
 pub returns-in_err-count-clause-too_long : goal.returns-in_err-count-clause-too_long
 returns-in_err-count-clause-too_long g c = λ e.
     let p = err_from_is_err_and c.from_residual.result c.from_residual.ensures.1 in
-    let chain = c.args.context.now.chain.now in
+    let chain = c.args.context.now.chain in
     let known = c.args.engine.now.known in
     let script = g.R.Source.left c.args.source.now in
     let k = c.loop-number.number in
@@ -43,13 +43,13 @@ pub returns-in_err-count-clause-some : goal.returns-in_err-count-clause-some
 returns-in_err-count-clause-some g c =
     let mid = seen g.W.Sink.taken g.W.Sink.failures c.loop-number.output in
     let new = seen g.W.Sink.taken g.W.Sink.failures c.next_line.new.output in
-    (cut c.args.context.now.chain.now c.args.engine.now.known (g.R.Source.left c.args.source.now) c.loop-number.number c.loop-number.engine c.next_line.new.lines (g.R.Source.left c.next_line.new.source)
+    (cut c.args.context.now.chain c.args.engine.now.known (g.R.Source.left c.args.source.now) c.loop-number.number c.loop-number.engine c.next_line.new.lines (g.R.Source.left c.next_line.new.source)
     (ahead c.loop-number.lines (g.R.Source.left c.loop-number.source)) (seen g.W.Sink.taken g.W.Sink.failures c.args.output.now) mid new
     c.loop-number.invariant.so_far c.loop-number.invariant.within c.in_err-count.ensures.kept (line_some {T = Option ℕ} c.in_err-count.field-0.0 mid new c.in_err-count.ensures.told c.in_err-count.ensures.write))
 
 pub returns-in_default-clause-ok : goal.returns-in_default-clause-ok
 returns-in_default-clause-ok g c =
-    let chain = c.args.context.now.chain.now in
+    let chain = c.args.context.now.chain in
     let known = c.args.engine.now.known in
     let script = g.R.Source.left c.args.source.now in
     let k = c.loop-number.number in
@@ -64,7 +64,7 @@ returns-in_default-clause-ok g c =
 
 pub returns-in_err-some-clause-some : goal.returns-in_err-some-clause-some
 returns-in_err-some-clause-some g c =
-    let chain = c.args.context.now.chain.now in
+    let chain = c.args.context.now.chain in
     let known = c.args.engine.now.known in
     let script = g.R.Source.left c.args.source.now in
     let k = c.loop-number.number in
@@ -83,7 +83,7 @@ returns-in_err-some-clause-some g c =
 
 pub loop-number-preserved : goal.loop-number-preserved
 loop-number-preserved g c =
-    let chain = c.args.context.now.chain.now in
+    let chain = c.args.context.now.chain in
     let known = c.args.engine.now.known in
     let script = g.R.Source.left c.args.source.now in
     let k = c.loop-number.number in
@@ -114,14 +114,14 @@ pub returns-in_err-more_begins-clause-some : goal.returns-in_err-more_begins-cla
 returns-in_err-more_begins-clause-some g c =
     let mid = seen g.W.Sink.taken g.W.Sink.failures c.loop-number.output in
     let new = seen g.W.Sink.taken g.W.Sink.failures c.more_begins.new.output in
-    (cut c.args.context.now.chain.now c.args.engine.now.known (g.R.Source.left c.args.source.now) c.loop-number.number c.loop-number.engine c.more_begins.new.lines (g.R.Source.left c.more_begins.new.source)
+    (cut c.args.context.now.chain c.args.engine.now.known (g.R.Source.left c.args.source.now) c.loop-number.number c.loop-number.engine c.more_begins.new.lines (g.R.Source.left c.more_begins.new.source)
     (ahead c.loop-number.lines (g.R.Source.left c.loop-number.source)) (seen g.W.Sink.taken g.W.Sink.failures c.args.output.now) mid new
     c.loop-number.invariant.so_far c.loop-number.invariant.within c.in_err-more_begins.ensures.kept (line_some {T = Bool} c.in_err-more_begins.field-0.0 mid new c.in_err-more_begins.ensures.told c.in_err-more_begins.ensures.write))
 
 pub returns-then-branch-clause-too_many : goal.returns-then-branch-clause-too_many
 returns-then-branch-clause-too_many g c = λ _.
     let full : c.loop-number.number ≡ 10000000 = omega arith in
-    let chain = c.args.context.now.chain.now in
+    let chain = c.args.context.now.chain in
     let known = c.args.engine.now.known in
     let script = g.R.Source.left c.args.source.now in
     let state = c.loop-number.engine in
@@ -137,14 +137,14 @@ pub returns-then-branch-clause-some : goal.returns-then-branch-clause-some
 returns-then-branch-clause-some g c =
     let mid = seen g.W.Sink.taken g.W.Sink.failures c.loop-number.output in
     let new = seen g.W.Sink.taken g.W.Sink.failures c.more_begins.new.output in
-    cut c.args.context.now.chain.now c.args.engine.now.known (g.R.Source.left c.args.source.now) c.loop-number.number c.loop-number.engine c.more_begins.new.lines (g.R.Source.left c.more_begins.new.source)
+    cut c.args.context.now.chain c.args.engine.now.known (g.R.Source.left c.args.source.now) c.loop-number.number c.loop-number.engine c.more_begins.new.lines (g.R.Source.left c.more_begins.new.source)
     (ahead c.loop-number.lines (g.R.Source.left c.loop-number.source)) (seen g.W.Sink.taken g.W.Sink.failures c.args.output.now) mid new
     c.loop-number.invariant.so_far c.loop-number.invariant.within c.in_ok-more_begins.ensures.kept (some_of_all mid new [] (c.in_ok-more_begins.ensures.told (λ e. absurd cc)))
 
 pub returns-clause-ok : goal.returns-clause-ok
 returns-clause-ok g c =
     let full : c.loop-number.number ≡ 10000000 = omega arith in
-    let chain = c.args.context.now.chain.now in
+    let chain = c.args.context.now.chain in
     let known = c.args.engine.now.known in
     let script = g.R.Source.left c.args.source.now in
     let state = c.loop-number.engine in
@@ -160,7 +160,7 @@ pub returns-in_default-clause-some : goal.returns-in_default-clause-some
 returns-in_default-clause-some g c =
     let mid = seen g.W.Sink.taken g.W.Sink.failures c.loop-number.output in
     let new = seen g.W.Sink.taken g.W.Sink.failures c.next_line.new.output in
-    cut c.args.context.now.chain.now c.args.engine.now.known (g.R.Source.left c.args.source.now) c.loop-number.number c.loop-number.engine c.next_line.new.lines (g.R.Source.left c.next_line.new.source)
+    cut c.args.context.now.chain c.args.engine.now.known (g.R.Source.left c.args.source.now) c.loop-number.number c.loop-number.engine c.next_line.new.lines (g.R.Source.left c.next_line.new.source)
     (ahead c.loop-number.lines (g.R.Source.left c.loop-number.source)) (seen g.W.Sink.taken g.W.Sink.failures c.args.output.now) mid new
     c.loop-number.invariant.so_far c.loop-number.invariant.within c.in_ok-count.ensures.kept (some_of_all mid new [] (c.in_ok-count.ensures.told (λ e. absurd cc)))
 
@@ -168,6 +168,6 @@ pub returns-clause-some : goal.returns-clause-some
 returns-clause-some g c =
     let mid = seen g.W.Sink.taken g.W.Sink.failures c.loop-number.output in
     let new = seen g.W.Sink.taken g.W.Sink.failures c.more_begins.new.output in
-    cut c.args.context.now.chain.now c.args.engine.now.known (g.R.Source.left c.args.source.now) c.loop-number.number c.loop-number.engine c.more_begins.new.lines (g.R.Source.left c.more_begins.new.source)
+    cut c.args.context.now.chain c.args.engine.now.known (g.R.Source.left c.args.source.now) c.loop-number.number c.loop-number.engine c.more_begins.new.lines (g.R.Source.left c.more_begins.new.source)
     (ahead c.loop-number.lines (g.R.Source.left c.loop-number.source)) (seen g.W.Sink.taken g.W.Sink.failures c.args.output.now) mid new
     c.loop-number.invariant.so_far c.loop-number.invariant.within c.in_ok-more_begins.ensures.kept (some_of_all mid new [] (c.in_ok-more_begins.ensures.told (λ e. absurd cc)))
