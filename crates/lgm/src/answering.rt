@@ -1,4 +1,4 @@
-//! Scripts, answered as options say.
+//! Answering a script according to the options.
 
 ghost use Rattle.std.specs.Prelude.{◌+◌, ◌<◌, ◌≤◌, ◌^◌};
 ghost use Rattle.lgm.specs.Ended.{AnswersAs};
@@ -17,14 +17,14 @@ use std::thread::Threads;
 /// How a script ended.
 #[derive(Drop)]
 pub enum Ended {
-    /// That of `lgm run`.
+    /// By `lgm run`.
     Ran(Result<Counts, RunFault>),
-    /// That of `lgm live`.
+    /// By `lgm live`.
     RanLive(Result<LiveReport, RunLiveFault>),
 }
 
-/// Answers a script as the options say: by their command, over their chain and known bits, and with as many workers, all
-/// of whose pieces pass the gate. What `lgm run` made for it remains.
+/// Answers a script according to the options: by their command, on their chain and known bits, and with their number of
+/// workers, all of whose chunks pass the gate. The maps of `lgm run` are left in `remains`.
 pub fn answer<Rt: Threads + Wait + Sync + RandomSource, G: Gate, R: Source, W: Sink>(
     rt: &Rt,
     alloc: Global,

@@ -1,4 +1,4 @@
-//! The program `lgm`: a Lightning gossip map, asked by a script.
+//! The program `lgm`: a Lightning gossip map and route server that answers a script.
 #![tactic(auto)]
 
 mod answering;
@@ -29,7 +29,7 @@ fn main(rt: HostRuntime) -> ExitCode {
         &mut errors,
         &mut remains,
     );
-    // The program ends: the system takes the memory back.
+    // The process ends: the system reclaims the memory.
     forget(remains);
     ExitCode::from(status)
 }

@@ -1,4 +1,4 @@
-//! The words of the command line.
+//! The command line.
 
 ghost use Rattle.std.specs.Prelude.{◌≡◌, ◌≤◌, [], IfOk, codes};
 ghost use Rattle.std.specs.Option.{option_map, unwrap_or};
@@ -15,43 +15,68 @@ use std::env;
 use std::env::Env;
 use std::io::ErrorKind;
 
-/// The most bytes that the known feature bits take.
+/// The greatest number of bytes of the known feature bits.
 const MAX_KNOWN: usize = 256;
 
-/// What is done with a script.
+/// The program's version, and the kit that it is proved with.
+const VERSION: &str = "1.0 (rattle-kit-13f)";
+
+/// The end of the help of `lgm run`: for the chain of the examples, and for mainnet.
+const RUN_EXAMPLES: &str = "\
+Examples:
+  lgm run --chain c1c1c1c1c1c1c1c1c1c1c1c1c1c1c1c1c1c1c1c1c1c1c1c1c1c1c1c1c1c1c1c1 \
+< examples/payments.txt
+  lgm run --chain 6fe28c0ab6f1b372c1a6a246ae63f74f931e8365e15a089c68d6190000000000 \
+--workers 1 < network.txt
+
+docs/script.md has the grammar, docs/questions.md the chains, `bad` and `no-route`.
+";
+
+/// The end of the help of `lgm live`.
+const LIVE_EXAMPLES: &str = "\
+Examples:
+  lgm live --chain c1c1c1c1c1c1c1c1c1c1c1c1c1c1c1c1c1c1c1c1c1c1c1c1c1c1c1c1c1c1c1c1 \
+< examples/live.txt
+  lgm live --chain 6fe28c0ab6f1b372c1a6a246ae63f74f931e8365e15a089c68d6190000000000 \
+--workers 8 < network.txt
+
+docs/script.md says what is answered, under \"A map that grows\".
+";
+
+/// The command.
 #[derive(Clone, Copy, Debug, PartialEq, Eq)]
 pub enum Mode {
-    /// `lgm run`: its lines are answered one after the other.
+    /// `lgm run`: lines are answered one after the other.
     Run,
-    /// `lgm live`: its payments are answered while its items are admitted.
+    /// `lgm live`: payments are answered while items are admitted.
     Live,
 }
 
-/// What `lgm run` or `lgm live` is told.
+/// What the command line says.
 #[derive(Drop)]
 pub struct Options {
-    /// What is done with the script.
+    /// The command.
     pub mode: Mode,
-    /// The chain whose channels are taken.
+    /// The chain whose messages are accepted.
     pub chain: ChainHash,
-    /// Which feature bits of nodes are known.
+    /// The node feature bits that are known.
     pub known: Known,
-    /// How many threads may work side by side, 1 to 64.
+    /// The number of threads, 1 to 64.
     pub workers: usize,
 }
 
-/// Why the words tell nothing, in the order in which it is found.
+/// Why the command line gives no options, in the order of the checks.
 #[derive(Drop)]
 pub enum BadWords {
-    /// One of them isn't UTF-8.
+    /// An argument isn't UTF-8.
     NotText,
-    /// They don't fit the command line, or ask for help.
+    /// `clap` refused the arguments, or was asked for help or the version.
     Words(Error),
-    /// The chain isn't 32 bytes in hexadecimal digits.
+    /// The chain isn't 64 hexadecimal digits.
     Chain,
-    /// The known feature bits aren't 1 to 256 bytes in hexadecimal digits.
+    /// The known feature bits aren't 2 to 512 hexadecimal digits, an even number.
     Known,
-    /// Memory was refused.
+    /// Out of memory.
     NoMemory,
 }
 
@@ -63,46 +88,55 @@ impl From<AllocError> for BadWords {
     }
 }
 
-/// A command that takes a script.
+/// A subcommand that reads a script.
 fn script_command<'a>(
     alloc: Global,
     name: &'a str,
     about: &'a str,
+    examples: &'a str,
 ) -> Result<Command<'a>, AllocError> {
     let chain = Arg::new(alloc, "chain")
         .long("chain")
         .value_name("HEX")
-        .help("The chain, as 64 hexadecimal digits")
+        .help("The chain hash, 64 hexadecimal digits in the byte order of BOLT 0")
         .required(true)
         .action(ArgAction::Set);
     let known = Arg::new(alloc, "known")
         .long("known")
         .value_name("HEX")
-        .help("The known feature bits of nodes, as 2 to 512 hexadecimal digits; else all are")
+        .help("The node feature bits that are known, 2 to 512 hexadecimal digits; by default all")
         .action(ArgAction::Set);
     let workers = Arg::new(alloc, "workers")
         .long("workers")
         .value_name("N")
-        .help("How many threads may work side by side, 1 to 64")
+        .help("The number of threads, 1 to 64")
         .value_parser(ValueParser::unsigned(1, 64))
         .default_value("4")
         .action(ArgAction::Set);
     Command::new(alloc, name)
         .about(about)
+        .after_help(examples)
         .arg(chain)?
         .arg(known)?
         .arg(workers)
 }
 
 fn program<'a>(alloc: Global) -> Result<Command<'a>, AllocError> {
-    let run = script_command(alloc, "run", "Answers a script on standard input")?;
+    let run = script_command(
+        alloc,
+        "run",
+        "Answers a script on standard input, line by line",
+        RUN_EXAMPLES,
+    )?;
     let live = script_command(
         alloc,
         "live",
         "Answers the payments of a script on standard input while its items are admitted",
+        LIVE_EXAMPLES,
     )?;
     Command::new(alloc, "lgm")
-        .about("A Lightning gossip map")
+        .about("A verified Lightning gossip map and route server")
+        .version(VERSION)
         .subcommand_required(true)
         .subcommand(run)?
         .subcommand(live)
@@ -117,7 +151,7 @@ fn chain(digits: &str) -> Result<ChainHash, BadWords>
     }
 }
 
-/// The known feature bits. Where no digits are given, all are known.
+/// The known feature bits. Without digits all are known.
 fn known(alloc: Global, digits: Option<&str>) -> Result<Known, BadWords>
     ensures { IfOk result (AreKnown (option_map (λ d. d.now) digits.entry)) }
 {
@@ -136,14 +170,14 @@ fn known(alloc: Global, digits: Option<&str>) -> Result<Known, BadWords>
     }
 }
 
-/// The options that the words behind a command give.
+/// The options that the arguments of a subcommand give.
 fn options_of(alloc: Global, mode: Mode, words: &ArgMatches) -> Result<Options, BadWords>
     ensures mode { IfOk result (λ options. options.mode ≡ mode) }
     ensures chain { IfOk result (λ options. AreChain (unwrap_or (first_value (found_of words.now) (codes "chain")) []) options.chain) }
     ensures known { IfOk result (λ options. AreKnown (first_value (found_of words.now) (codes "known")) options.known) }
     ensures workers { IfOk result (λ options. (1 ≤ options.workers) × (options.workers ≤ 64)) }
 {
-    // `clap` has seen to it that they are 1 to 64.
+    // `clap` has checked that they are 1 to 64.
     let workers = words.get_one::<u64>("workers").unwrap_or(4).clamp(1, 64);
     Ok(Options {
         mode,
@@ -153,7 +187,7 @@ fn options_of(alloc: Global, mode: Mode, words: &ArgMatches) -> Result<Options, 
     })
 }
 
-/// The words that an environment gives, the program's name first.
+/// The arguments of an environment, the program's name first.
 pub fn read_words<E: Env + AllocGlobal>(env: &E) -> Result<Vec<String>, BadWords> {
     match env::args(env) {
         Ok(words) => Ok(words.collect(env.alloc())?),
@@ -164,7 +198,7 @@ pub fn read_words<E: Env + AllocGlobal>(env: &E) -> Result<Vec<String>, BadWords
     }
 }
 
-/// The options that the words give, the program's name first.
+/// The options that arguments give, the program's name first.
 pub fn parse(alloc: Global, words: &[String]) -> Result<Options, BadWords>
     ensures { IfOk result (λ options. (1 ≤ options.workers) × (options.workers ≤ 64)) }
 {

@@ -25,14 +25,14 @@ const FAILED: u8 = 1;
 
 const BAD_WORDS: u8 = 2;
 
-/// Writes a text on what went wrong. A fault in that changes nothing.
+/// Writes a text about what went wrong. A failure to write is ignored.
 fn tell<S: Sink>(errors: &mut S, text: &str)
     requires { S.failures errors.old + 1 < 2 ^ 64 }
 {
     let _ = write_all(errors, text.as_bytes());
 }
 
-/// The line of a fault of `lgm live`.
+/// The line for a fault of `lgm live`.
 fn line_of(fault: RunLiveFault) -> &'static str {
     match fault {
         RunLiveFault::Read => "lgm: read failed\n",
@@ -45,7 +45,7 @@ fn line_of(fault: RunLiveFault) -> &'static str {
     }
 }
 
-/// The same fault of `lgm live`, which has all those of `lgm run`.
+/// The same fault as one of `lgm live`, which has all those of `lgm run`.
 fn as_live(fault: RunFault) -> RunLiveFault {
     match fault {
         RunFault::Read => RunLiveFault::Read,
@@ -64,7 +64,7 @@ fn fail<S: Sink>(errors: &mut S, fault: RunLiveFault) -> u8
     FAILED
 }
 
-/// Tells the fault of a script that wasn't answered, and gives the exit status.
+/// Writes the fault of a script that wasn't answered, and returns the exit status.
 pub fn finish<S: Sink>(errors: &mut S, ended: &Ended) -> u8
     requires { S.failures errors.old + 1 < 2 ^ 64 }
     ensures { result ≡ status_of ended.now }
@@ -76,7 +76,7 @@ pub fn finish<S: Sink>(errors: &mut S, ended: &Ended) -> u8
     }
 }
 
-/// Writes what `clap` says of the words.
+/// Writes what `clap` says about the arguments.
 fn explain<S: Sink>(alloc: Global, errors: &mut S, error: &Error) -> u8
     requires { S.failures errors.old + 1 < 2 ^ 64 }
 {
@@ -92,7 +92,7 @@ fn explain<S: Sink>(alloc: Global, errors: &mut S, error: &Error) -> u8
     }
 }
 
-/// Tells why the words are no options, and gives the exit status.
+/// Writes why there are no options, and returns the exit status.
 fn refuse<S: Sink>(alloc: Global, errors: &mut S, bad: &BadWords) -> u8
     requires { S.failures errors.old + 1 < 2 ^ 64 }
 {
@@ -107,7 +107,7 @@ fn refuse<S: Sink>(alloc: Global, errors: &mut S, bad: &BadWords) -> u8
     BAD_WORDS
 }
 
-/// The options that the words of an environment give.
+/// The options that the arguments of an environment give.
 fn options<E: Env + AllocGlobal>(env: &E) -> Result<Options, BadWords>
     ensures { IfOk result (λ options. (1 ≤ options.workers) × (options.workers ≤ 64)) }
 {
@@ -115,12 +115,13 @@ fn options<E: Env + AllocGlobal>(env: &E) -> Result<Options, BadWords>
     parse(env.alloc(), words.as_slice())
 }
 
-/// Runs the program that the words of an environment name, the program's own name first, and gives its exit status.
+/// Runs the program on the arguments of an environment, the program's own name first, and returns its exit status.
 ///
-/// Status 0: the script was answered, as [`answer`] promises of the options. Status 2: the words are bad, or ask for
-/// help, and `clap`'s text is on `errors`; or a word isn't UTF-8, the chain isn't 64 hexadecimal digits, or the known
-/// feature bits aren't 2 to 512. Status 1: the run failed, and its line is on `errors`. A fault in writing to `errors`
-/// changes nothing. What the maps hold remains, since it takes a sixth of the time to free it.
+/// Status 0: the script was answered, as [`answer`] promises for the options. Status 2: the arguments are wrong, or ask
+/// for help or the version, and `clap`'s text is on `errors`; or an argument isn't UTF-8, the chain isn't 64 hexadecimal
+/// digits, or the known feature bits aren't 2 to 512, an even number. Status 1: the run failed, and its line is on
+/// `errors`. A failure to write to `errors` changes nothing. The maps are left in `remains`, since freeing them takes a
+/// sixth of the time.
 pub fn start<
     Rt: Threads + Wait + Sync + RandomSource,
     E: Env + AllocGlobal,

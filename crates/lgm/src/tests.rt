@@ -88,7 +88,7 @@ pub fn started<Rt: Threads + Wait + Sync + RandomSource>(
 
 #[test]
 fn words_are_checked_first(rt: HostRuntime) -> Result<(), Fail> {
-    let table: [(&[&str], u8); 12] = [
+    let table: [(&[&str], u8); 13] = [
         (&["lgm"], 2),
         (&["lgm", "run"], 2),
         (&["lgm", "run", "--chain", CHAIN, "--workers", "65"], 2),
@@ -112,6 +112,7 @@ fn words_are_checked_first(rt: HostRuntime) -> Result<(), Fail> {
             0,
         ),
         (&["lgm", "--help"], 2),
+        (&["lgm", "run", "--version"], 2),
         (&["lgm", "stop", "--chain", CHAIN], 2),
     ];
     for (given, want) in table {
@@ -122,6 +123,28 @@ fn words_are_checked_first(rt: HostRuntime) -> Result<(), Fail> {
             !errors.taken().starts_with(b"lgm: bad chain"),
             "at {given:?}"
         );
+        assert!(rt; writer.taken().is_empty());
+    }
+    Ok(())
+}
+
+#[test]
+fn the_version_names_the_kit(rt: HostRuntime) -> Result<(), Fail> {
+    let (status, writer, errors) = started(&rt, rt.alloc(), &["lgm", "--version"], b"");
+    assert_eq!(rt; status, 2);
+    assert_eq!(rt; errors.taken(), b"lgm 1.0 (rattle-kit-13f)\n".as_slice());
+    assert!(rt; writer.taken().is_empty());
+    Ok(())
+}
+
+#[test]
+fn help_ends_with_examples_and_the_docs(rt: HostRuntime) -> Result<(), Fail> {
+    let run = b"docs/questions.md the chains, `bad` and `no-route`.\n";
+    let live = b"docs/script.md says what is answered, under \"A map that grows\".\n";
+    for (command, end) in [("run", run.as_slice()), ("live", live.as_slice())] {
+        let (status, writer, errors) = started(&rt, rt.alloc(), &["lgm", command, "--help"], b"");
+        assert_eq!(rt; status, 2, "at {command}");
+        assert!(rt; errors.taken().ends_with(end), "at {command}");
         assert!(rt; writer.taken().is_empty());
     }
     Ok(())
