@@ -1,4 +1,4 @@
 use Rattle.lgm.proofs.answering.answer.Goals as goal
 
 pub returns-in-Run : goal.returns-in-Run
-returns-in-Run g c = rw c.in-Run.is c.run_keeping.ensures
+returns-in-Run g c = rw c.in-Run.is c.run_keeping.ensures.runs
