@@ -131,6 +131,7 @@ impl Held {
         ensures admission { Offers (updating result) (update_admission (Some self.old.channel) (update_in (is_second row) self.old) row signer.now) }
         ensures accepted { IfOk result (λ put. (put ≡ row) × (self.new ≡ with_update_in (is_second row) self.old row)) }
         ensures refused { OnErr result (self.new ≡ self.old) }
+        ensures channel { self.new.channel ≡ self.old.channel }
     {
         self.judge_update(&row, signer)?;
         let second = row.is_second();

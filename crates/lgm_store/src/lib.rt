@@ -22,6 +22,7 @@ mod op;
 mod scid_set;
 mod seed;
 mod shared;
+mod slots;
 mod walks;
 
 pub use candidate::Candidate;

@@ -101,10 +101,7 @@ impl Map {
         ensures accepted { IfOk result (λ op. self.new ≡ absorbed self.old op) }
         ensures refused { OnErr result (self.new ≡ self.old) }
     {
-        let Some(held) = self.channels.get_mut(&row.scid()) else {
-            return Err(Refusal::UnknownChannel);
-        };
-        match held.offer_update(row, signer) {
+        match self.channels.offer_update(row, signer) {
             Ok(row) => Ok(Op::Update(row)),
             Err(refusal) => Err(refusal),
         }

@@ -1,0 +1,58 @@
+use Rattle.std.proofs.Common.{◌≡◌, ℕ, List, Some, None, refl, sym, ap, ◌∙◌}
+use Rattle.std.proofs.lemmas.Result.{IfOk-weaker, on_err_weaker}
+use Rattle.std.specs.Map.{lookup, set_value}
+use Rattle.std.specs.BTreeMap.{is_at}
+use Rattle.std.specs.Ordering.{nat_cmp}
+use Rattle.slab.specs.Slab.{with_value}
+use Rattle.lgm_store.specs.declared.held.Held.{Held}
+use Rattle.lgm_store.specs.Slots.{entries_in}
+use Rattle.lgm_store.specs.Sound.{id_of}
+use Rattle.lgm_store.proofs.HeldRows.{set_value-same}
+use Rattle.lgm_store.proofs.Slotted.{found-held, found-none, has-slot, numbered-put, entries-put, put-is}
+use Rattle.lgm_store.proofs.slots.Slots.offer_update.Goals as goal
+use Rattle.lgm_store.proofs.slots.Slots.offer_update.Goals.{After-self-1}
+
+pub returns-in_default-clause-admission : goal.returns-in_default-clause-admission
+returns-in_default-clause-admission c =
+    let none = found-none c.self.inside.slots.slots c.self.inside.numbers.entries c.args.self.now c.scid.result c.self.invariant.own c.self.view_is (sym c.in_default.ensures.value) in
+    let none' : lookup (is_at (nat_cmp c.args.row.message.short_channel_id)) c.args.self.now ≡ None = rw c.scid.ensures at none in
+    rw none' refl
+
+pub index_mut-held-requires : goal.index_mut-held-requires
+index_mut-held-requires c =
+    has-slot c.self.inside.slots.slots c.self.inside.numbers.entries c.scid.result c.in-Some.number.now c.self.invariant.own (sym c.in-Some.ensures.value)
+
+found : (c : After-self-1) → lookup (is_at (nat_cmp c.scid.result)) c.args.self.now ≡ Some c.index_mut-held.result.now
+found c =
+    found-held c.self.inside.slots.slots c.self.inside.numbers.entries c.args.self.now c.scid.result c.in-Some.number.now c.index_mut-held.result.now c.self.invariant.own c.self.view_is
+    (sym c.in-Some.ensures.value) c.index_mut-held.ensures.value
+
+-- the channels with what is left in its slot
+left : (c : After-self-1) → entries_in (with_value c.self.inside.slots c.in-Some.number.now c.offer_update.new.self).slots c.self.inside.numbers.entries
+    ≡ set_value (is_at (nat_cmp c.scid.result)) c.args.self.now c.offer_update.new.self
+left c =
+    entries-put c.self.inside.slots c.self.inside.numbers.entries c.in-Some.number.now c.index_mut-held.result.now c.offer_update.new.self c.self.invariant c.index_mut-held.ensures.value
+    (ap id_of c.offer_update.ensures.channel) c.scid.result (sym c.in-Some.ensures.value)
+    ∙ ap (λ (es : List (ℕ × Held)). set_value (is_at (nat_cmp c.scid.result)) es c.offer_update.new.self) c.self.view_is
+
+pub invariant_of-self : goal.invariant_of-self
+invariant_of-self c =
+    numbered-put c.self.inside.slots c.self.inside.numbers.entries c.in-Some.number.now c.index_mut-held.result.now c.offer_update.new.self c.self.invariant c.index_mut-held.ensures.value
+    (ap id_of c.offer_update.ensures.channel)
+
+pub returns-clause-admission : goal.returns-clause-admission
+returns-clause-admission c =
+    let here : lookup (is_at (nat_cmp c.args.row.message.short_channel_id)) c.args.self.now ≡ Some c.index_mut-held.result.now = rw c.scid.ensures at (found c) in
+    rw here c.offer_update.ensures.admission
+
+pub returns-clause-accepted : goal.returns-clause-accepted
+returns-clause-accepted c =
+    IfOk-weaker c.offer_update.result _ _
+    (λ put is. (is.0, left c ∙ put-is c.args.self.now c.args.row c.scid.result c.index_mut-held.result.now c.offer_update.new.self c.scid.ensures (found c) is.1))
+    c.offer_update.ensures.accepted
+
+pub returns-clause-refused : goal.returns-clause-refused
+returns-clause-refused c =
+    on_err_weaker c.offer_update.result
+    (λ same. left c ∙ ap (set_value (is_at (nat_cmp c.scid.result)) c.args.self.now) same ∙ set_value-same (is_at (nat_cmp c.scid.result)) c.args.self.now c.index_mut-held.result.now (found c))
+    c.offer_update.ensures.refused
