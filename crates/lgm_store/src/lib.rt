@@ -14,6 +14,7 @@ mod candidate;
 mod dated;
 mod ends;
 mod fresh;
+mod guesses;
 mod held;
 mod laws;
 mod map;

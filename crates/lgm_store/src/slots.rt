@@ -12,9 +12,10 @@ ghost use Rattle.lgm_store.specs.Held.{update_in};
 ghost use Rattle.lgm_store.specs.Rows.{is_second};
 ghost use Rattle.lgm_store.specs.Admission.{update_admission, Offers};
 ghost use Rattle.lgm_store.specs.Decided.{updating};
-ghost use Rattle.lgm_store.specs.Slots.{id_in, with_update_at};
+ghost use Rattle.lgm_store.specs.Slots.{id_in, IsNumbered, with_update_at};
 
 use crate::fresh::NewUpdate;
+use crate::guesses::Guesses;
 use crate::held::Held;
 use crate::shared::Shared;
 use crate::walks::Channels;
@@ -29,12 +30,14 @@ use std::ops::Bound;
 
 /// Channels with their updates, by id. Contracts see each id with its channel, ascending.
 ///
-/// A channel has a slot, and the tree has its number beside its id: so a search reads ids and numbers alone. The number
-/// of a channel that went is given to a later one.
+/// A channel has a slot, and the tree has its number beside its id: so a search reads ids and numbers alone, and mostly a
+/// guess spares the search. The number of a channel that went is given to a later one.
 #[derive(Drop)]
 pub(crate) struct Slots {
     numbers: BTreeMap<Scid, usize>,
     slots: Slab<Held>,
+    /// In front of the tree. Nothing rests on them.
+    guesses: Guesses,
 }
 
 impl Model for Slots {
@@ -57,6 +60,7 @@ impl Slots {
         Slots {
             numbers: BTreeMap::new(alloc),
             slots: Slab::new(alloc),
+            guesses: Guesses::new(alloc),
         }
     }
 
@@ -70,8 +74,8 @@ impl Slots {
     pub(crate) fn get(&self, scid: Scid) -> Option<&Held>
         ensures { option_copied result ≡ lookup (is_at (nat_cmp scid)) self.now }
     {
-        let number = self.numbers.get(&scid)?;
-        Some(&self.slots[*number])
+        let number = number_of(&self.numbers, &self.slots, &self.guesses, scid)?;
+        Some(&self.slots[number])
     }
 
     /// The channels whose ids are in a range.
@@ -90,8 +94,11 @@ impl Slots {
         ensures ascend { OnOk result (IsStrictlySortedBy nat_cmp (keys_of self.new)) }
     {
         self.slots.reserve(1)?;
-        self.numbers.insert(held.scid(), self.slots.vacant_key())?;
+        let (scid, number) = (held.scid(), self.slots.vacant_key());
+        self.numbers.insert(scid, number)?;
         self.slots.insert_reserved(held);
+        self.guesses.reserve(self.numbers.len());
+        self.guesses.note(scid, number);
         Ok(())
     }
 
@@ -110,10 +117,11 @@ impl Slots {
         ensures { self.new ≡ with_update_at self.old row }
     {
         let (scid, second) = (row.get().scid(), row.get().is_second());
-        let Some(number) = self.numbers.get(&scid) else {
+        let Some(number) = number_of(&self.numbers, &self.slots, &self.guesses, scid) else {
             return;
         };
-        let held = &mut self.slots[*number];
+        self.guesses.note(scid, number);
+        let held = &mut self.slots[number];
         held.put_update(second, row);
     }
 
@@ -128,10 +136,12 @@ impl Slots {
         ensures accepted { IfOk result (λ put. (put ≡ row) × (self.new ≡ with_update_at self.old row)) }
         ensures refused { OnErr result (self.new ≡ self.old) }
     {
-        let Some(number) = self.numbers.get(&row.scid()) else {
+        let scid = row.scid();
+        let Some(number) = number_of(&self.numbers, &self.slots, &self.guesses, scid) else {
             return Err(Refusal::UnknownChannel);
         };
-        let held = &mut self.slots[*number];
+        self.guesses.note(scid, number);
+        let held = &mut self.slots[number];
         held.offer_update(row, signer)
     }
 }
@@ -143,6 +153,24 @@ impl Clone for Slots {
         Ok(Slots {
             numbers: self.numbers.clone()?,
             slots: self.slots.clone()?,
+            guesses: self.guesses.clone()?,
         })
+    }
+}
+
+/// The number of a channel, if it is there: the guess where that is right, and else what the tree has.
+fn number_of(
+    numbers: &BTreeMap<Scid, usize>,
+    slots: &Slab<Held>,
+    guesses: &Guesses,
+    scid: Scid,
+) -> Option<usize>
+    requires { IsNumbered slots.now.slots numbers.now.entries }
+    ensures { result ≡ lookup (is_at (nat_cmp scid)) numbers.now.entries }
+{
+    let number = guesses.guess(scid);
+    match slots.get(number) {
+        Some(held) if held.scid() == scid => Some(number),
+        _ => numbers.get(&scid).copied(),
     }
 }

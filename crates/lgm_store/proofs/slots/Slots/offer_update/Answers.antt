@@ -14,45 +14,45 @@ use Rattle.lgm_store.proofs.slots.Slots.offer_update.Goals.{After-self-1}
 
 pub returns-in_default-clause-admission : goal.returns-in_default-clause-admission
 returns-in_default-clause-admission c =
-    let none = found-none c.self.inside.slots.slots c.self.inside.numbers.entries c.args.self.now c.scid.result c.self.invariant.own c.self.view_is (sym c.in_default.ensures.value) in
-    let none' : lookup (is_at (nat_cmp c.args.row.message.short_channel_id)) c.args.self.now ≡ None = rw c.scid.ensures at none in
+    let none = found-none c.self.inside.slots.slots c.self.inside.numbers.entries c.args.self.now c.scid-scid.result c.self.invariant.own c.self.view_is (sym c.in_default.ensures) in
+    let none' : lookup (is_at (nat_cmp c.args.row.message.short_channel_id)) c.args.self.now ≡ None = rw c.scid-scid.ensures at none in
     rw none' refl
 
 pub index_mut-held-requires : goal.index_mut-held-requires
 index_mut-held-requires c =
-    has-slot c.self.inside.slots.slots c.self.inside.numbers.entries c.scid.result c.in-Some.number.now c.self.invariant.own (sym c.in-Some.ensures.value)
+    has-slot c.self.inside.slots.slots c.self.inside.numbers.entries c.scid-scid.result c.in-Some.number c.self.invariant.own (sym c.in-Some.ensures)
 
-found : (c : After-self-1) → lookup (is_at (nat_cmp c.scid.result)) c.args.self.now ≡ Some c.index_mut-held.result.now
+found : (c : After-self-1) → lookup (is_at (nat_cmp c.scid-scid.result)) c.args.self.now ≡ Some c.index_mut-held.result.now
 found c =
-    found-held c.self.inside.slots.slots c.self.inside.numbers.entries c.args.self.now c.scid.result c.in-Some.number.now c.index_mut-held.result.now c.self.invariant.own c.self.view_is
-    (sym c.in-Some.ensures.value) c.index_mut-held.ensures.value
+    found-held c.self.inside.slots.slots c.self.inside.numbers.entries c.args.self.now c.scid-scid.result c.in-Some.number c.index_mut-held.result.now c.self.invariant.own c.self.view_is
+    (sym c.in-Some.ensures) c.index_mut-held.ensures.value
 
 -- the channels with what is left in its slot
-left : (c : After-self-1) → entries_in (with_value c.self.inside.slots c.in-Some.number.now c.offer_update.new.self).slots c.self.inside.numbers.entries
-    ≡ set_value (is_at (nat_cmp c.scid.result)) c.args.self.now c.offer_update.new.self
+left : (c : After-self-1) → entries_in (with_value c.self.inside.slots c.in-Some.number c.offer_update.new.self).slots c.self.inside.numbers.entries
+    ≡ set_value (is_at (nat_cmp c.scid-scid.result)) c.args.self.now c.offer_update.new.self
 left c =
-    entries-put c.self.inside.slots c.self.inside.numbers.entries c.in-Some.number.now c.index_mut-held.result.now c.offer_update.new.self c.self.invariant c.index_mut-held.ensures.value
-    (ap id_of c.offer_update.ensures.channel) c.scid.result (sym c.in-Some.ensures.value)
-    ∙ ap (λ (es : List (ℕ × Held)). set_value (is_at (nat_cmp c.scid.result)) es c.offer_update.new.self) c.self.view_is
+    entries-put c.self.inside.slots c.self.inside.numbers.entries c.in-Some.number c.index_mut-held.result.now c.offer_update.new.self c.self.invariant c.index_mut-held.ensures.value
+    (ap id_of c.offer_update.ensures.channel) c.scid-scid.result (sym c.in-Some.ensures)
+    ∙ ap (λ (es : List (ℕ × Held)). set_value (is_at (nat_cmp c.scid-scid.result)) es c.offer_update.new.self) c.self.view_is
 
 pub invariant_of-self : goal.invariant_of-self
 invariant_of-self c =
-    numbered-put c.self.inside.slots c.self.inside.numbers.entries c.in-Some.number.now c.index_mut-held.result.now c.offer_update.new.self c.self.invariant c.index_mut-held.ensures.value
+    numbered-put c.self.inside.slots c.self.inside.numbers.entries c.in-Some.number c.index_mut-held.result.now c.offer_update.new.self c.self.invariant c.index_mut-held.ensures.value
     (ap id_of c.offer_update.ensures.channel)
 
 pub returns-clause-admission : goal.returns-clause-admission
 returns-clause-admission c =
-    let here : lookup (is_at (nat_cmp c.args.row.message.short_channel_id)) c.args.self.now ≡ Some c.index_mut-held.result.now = rw c.scid.ensures at (found c) in
+    let here : lookup (is_at (nat_cmp c.args.row.message.short_channel_id)) c.args.self.now ≡ Some c.index_mut-held.result.now = rw c.scid-scid.ensures at (found c) in
     rw here c.offer_update.ensures.admission
 
 pub returns-clause-accepted : goal.returns-clause-accepted
 returns-clause-accepted c =
     IfOk-weaker c.offer_update.result _ _
-    (λ put is. (is.0, left c ∙ put-is c.args.self.now c.args.row c.scid.result c.index_mut-held.result.now c.offer_update.new.self c.scid.ensures (found c) is.1))
+    (λ put is. (is.0, left c ∙ put-is c.args.self.now c.args.row c.scid-scid.result c.index_mut-held.result.now c.offer_update.new.self c.scid-scid.ensures (found c) is.1))
     c.offer_update.ensures.accepted
 
 pub returns-clause-refused : goal.returns-clause-refused
 returns-clause-refused c =
     on_err_weaker c.offer_update.result
-    (λ same. left c ∙ ap (set_value (is_at (nat_cmp c.scid.result)) c.args.self.now) same ∙ set_value-same (is_at (nat_cmp c.scid.result)) c.args.self.now c.index_mut-held.result.now (found c))
+    (λ same. left c ∙ ap (set_value (is_at (nat_cmp c.scid-scid.result)) c.args.self.now) same ∙ set_value-same (is_at (nat_cmp c.scid-scid.result)) c.args.self.now c.index_mut-held.result.now (found c))
     c.offer_update.ensures.refused
