@@ -14,4 +14,5 @@ pub mod Lawful
 pub mod Kept
 pub mod Slotted
 pub mod Putting
+pub mod Deciding
 pub mod Verdicts

@@ -13,7 +13,6 @@ mod banned;
 mod candidate;
 mod dated;
 mod ends;
-mod fresh;
 mod guesses;
 mod held;
 mod laws;

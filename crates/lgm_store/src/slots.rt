@@ -11,10 +11,9 @@ ghost use Rattle.std.specs.Ordering.{nat_cmp};
 ghost use Rattle.lgm_store.specs.Held.{update_in};
 ghost use Rattle.lgm_store.specs.Rows.{is_second};
 ghost use Rattle.lgm_store.specs.Admission.{update_admission, Offers};
-ghost use Rattle.lgm_store.specs.Decided.{updating};
+ghost use Rattle.lgm_store.specs.Decided.{update_op};
 ghost use Rattle.lgm_store.specs.Slots.{id_in, IsNumbered, with_update_at};
 
-use crate::fresh::NewUpdate;
 use crate::guesses::Guesses;
 use crate::held::Held;
 use crate::shared::Shared;
@@ -125,18 +124,18 @@ impl Slots {
         held.put_update(second, row);
     }
 
-    /// Puts an update that is admitted, and gives its row. A refusal leaves the channels as they were.
+    /// Puts an update that is admitted, whose row it shares. A refusal leaves the channels as they were.
     pub(crate) fn offer_update(
         &mut self,
-        row: NewUpdate,
+        row: &Shared<KeptUpdate>,
         signer: &Point,
-    ) -> Result<Shared<KeptUpdate>, Refusal>
-        ensures admission { let held = lookup (is_at (nat_cmp row.message.short_channel_id)) self.old in
-            Offers (updating result) (update_admission (option_map (λ h. h.channel) held) (option_and_then (update_in (is_second row)) held) row signer.now) }
-        ensures accepted { IfOk result (λ put. (put ≡ row) × (self.new ≡ with_update_at self.old row)) }
+    ) -> Result<(), Refusal>
+        ensures admission { let held = lookup (is_at (nat_cmp row.now.message.short_channel_id)) self.old in
+            Offers (update_op row.now result) (update_admission (option_map (λ h. h.channel) held) (option_and_then (update_in (is_second row.now)) held) row.now signer.now) }
+        ensures accepted { OnOk result (self.new ≡ with_update_at self.old row.now) }
         ensures refused { OnErr result (self.new ≡ self.old) }
     {
-        let scid = row.scid();
+        let scid = row.get().scid();
         let Some(number) = number_of(&self.numbers, &self.slots, &self.guesses, scid) else {
             return Err(Refusal::UnknownChannel);
         };

@@ -52,7 +52,7 @@ impl Map {
         ensures err { OnErr result (self.new ≡ self.old) }
     {
         let row = Named::new(row);
-        if self.held(row.scid()).is_some() || self.banned.ends_named(&row) {
+        if self.banned.ends(row.node(false), row.node(true)) || self.held(row.scid()).is_some() {
             return Ok(());
         }
         self.insert_channel(row)?;

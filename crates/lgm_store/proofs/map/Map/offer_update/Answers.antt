@@ -1,4 +1,4 @@
-use Rattle.std.proofs.Common.{◌≡◌, ℕ, List, sym, ap, ◌∙◌}
+use Rattle.std.proofs.Common.{◌≡◌, ℕ, List, ap, ◌∙◌}
 use Rattle.std.specs.Option.{option_map, option_and_then}
 use Rattle.std.specs.Map.{lookup}
 use Rattle.std.specs.BTreeMap.{is_at}
@@ -6,7 +6,6 @@ use Rattle.std.specs.Ordering.{nat_cmp}
 use Rattle.lgm_store.specs.declared.held.Held.{Held}
 use Rattle.lgm_store.specs.Held.{update_in}
 use Rattle.lgm_store.specs.Rows.{channel_of, update_of, is_second}
-use Rattle.lgm_store.specs.History.{with_update}
 use Rattle.lgm_store.proofs.Holding.{ascend-held}
 use Rattle.lgm_store.proofs.HeldRows.{channel_at, update_at}
 use Rattle.lgm_store.proofs.Kept.{rows_of}
@@ -27,7 +26,7 @@ update_is c =
 
 pub invariant_of-self : goal.invariant_of-self
 invariant_of-self c = elim c.match-offer_update.branch [
-  | in-Ok w ↦ rw w.in-Ok.ensures.accepted.1 (put-kept c.self.inside.channels c.self.inside.nodes.entries c.self.inside.ends c.self.inside.banned c.args.row c.self.invariant)
+  | in-Ok w ↦ rw w.in-Ok.ensures.accepted (put-kept c.self.inside.channels c.self.inside.nodes.entries c.self.inside.ends c.self.inside.banned c.args.row c.self.invariant)
   | in-Err w ↦ rw w.in-Err.ensures.refused c.self.invariant
 ]
 
@@ -39,8 +38,7 @@ returns-clause-admission c = elim c.match-offer_update.branch [
 
 pub returns-clause-accepted : goal.returns-clause-accepted
 returns-clause-accepted c = elim c.match-offer_update.branch [
-  | in-Ok w ↦ rw w.result-is (ap (λ (es : List (ℕ × Held)). rows_of es c.self.inside.nodes.entries c.self.inside.banned) w.in-Ok.ensures.accepted.1
-      ∙ put-rows c.self.inside.channels c.self.inside.nodes.entries c.self.inside.ends c.self.inside.banned c.args.row c.self.invariant c.args.self.now c.self.view_is
-      ∙ ap (with_update c.args.self.now) (sym w.in-Ok.ensures.accepted.0))
+  | in-Ok w ↦ rw w.result-is (ap (λ (es : List (ℕ × Held)). rows_of es c.self.inside.nodes.entries c.self.inside.banned) w.in-Ok.ensures.accepted
+      ∙ put-rows c.self.inside.channels c.self.inside.nodes.entries c.self.inside.ends c.self.inside.banned c.args.row c.self.invariant c.args.self.now c.self.view_is)
   | in-Err w ↦ rw w.result-is tt
 ]

@@ -1,5 +1,5 @@
 use Rattle.std.proofs.Common.{◌≡◌, ℕ, List, Some, None, refl, sym, ap, ◌∙◌}
-use Rattle.std.proofs.lemmas.Result.{IfOk-weaker, on_err_weaker}
+use Rattle.std.proofs.lemmas.Result.{on_ok_weaker, on_err_weaker}
 use Rattle.std.specs.Map.{lookup, set_value}
 use Rattle.std.specs.BTreeMap.{is_at}
 use Rattle.std.specs.Ordering.{nat_cmp}
@@ -15,12 +15,15 @@ use Rattle.lgm_store.proofs.slots.Slots.offer_update.Goals.{After-self-1}
 pub returns-in_default-clause-admission : goal.returns-in_default-clause-admission
 returns-in_default-clause-admission c =
     let none = found-none c.self.inside.slots.slots c.self.inside.numbers.entries c.args.self.now c.scid-scid.result c.self.invariant.own c.self.view_is (sym c.in_default.ensures) in
-    let none' : lookup (is_at (nat_cmp c.args.row.message.short_channel_id)) c.args.self.now ≡ None = rw c.scid-scid.ensures at none in
+    let none' : lookup (is_at (nat_cmp c.args.row.now.message.short_channel_id)) c.args.self.now ≡ None = rw (c.scid-scid.ensures ∙ ap (λ row. row.message.short_channel_id) c.get.ensures) at none in
     rw none' refl
 
 pub index_mut-held-requires : goal.index_mut-held-requires
 index_mut-held-requires c =
     has-slot c.self.inside.slots.slots c.self.inside.numbers.entries c.scid-scid.result c.in-Some.number c.self.invariant.own (sym c.in-Some.ensures)
+
+own_id : (c : After-self-1) → c.scid-scid.result ≡ c.args.row.now.message.short_channel_id
+own_id c = c.scid-scid.ensures ∙ ap (λ row. row.message.short_channel_id) c.get.ensures
 
 found : (c : After-self-1) → lookup (is_at (nat_cmp c.scid-scid.result)) c.args.self.now ≡ Some c.index_mut-held.result.now
 found c =
@@ -42,13 +45,13 @@ invariant_of-self c =
 
 pub returns-clause-admission : goal.returns-clause-admission
 returns-clause-admission c =
-    let here : lookup (is_at (nat_cmp c.args.row.message.short_channel_id)) c.args.self.now ≡ Some c.index_mut-held.result.now = rw c.scid-scid.ensures at (found c) in
+    let here : lookup (is_at (nat_cmp c.args.row.now.message.short_channel_id)) c.args.self.now ≡ Some c.index_mut-held.result.now = rw (own_id c) at (found c) in
     rw here c.offer_update.ensures.admission
 
 pub returns-clause-accepted : goal.returns-clause-accepted
 returns-clause-accepted c =
-    IfOk-weaker c.offer_update.result _ _
-    (λ put is. (is.0, left c ∙ put-is c.args.self.now c.args.row c.scid-scid.result c.index_mut-held.result.now c.offer_update.new.self c.scid-scid.ensures (found c) is.1))
+    on_ok_weaker c.offer_update.result
+    (λ is. left c ∙ put-is c.args.self.now c.args.row.now c.scid-scid.result c.index_mut-held.result.now c.offer_update.new.self (own_id c) (found c) is)
     c.offer_update.ensures.accepted
 
 pub returns-clause-refused : goal.returns-clause-refused
