@@ -12,4 +12,6 @@ mod item;
 #[cfg(test)]
 mod made;
 #[cfg(test)]
+mod many;
+#[cfg(test)]
 mod plain;

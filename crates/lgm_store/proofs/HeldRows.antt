@@ -15,6 +15,7 @@ use Rattle.lgm_store.specs.declared.held.Held.{Held}
 use Rattle.lgm_store.specs.Keyed.{IsKeyed}
 use Rattle.lgm_store.specs.Held.{update_in, channel_entries, update_entry, update_entries}
 use Rattle.lgm_store.specs.HeldAt.{held_at}
+use Rattle.lgm_store.specs.Slots.{id_in}
 use Rattle.lgm_store.specs.Reading.{is_between, ids_between_of, channels_between_of}
 use Rattle.lgm_store.specs.Rows.{Rows, channel_of, update_of}
 use Rattle.lgm_store.specs.Sound.{id_of, direction_of}
@@ -159,17 +160,14 @@ filter-past {X} p t xs more = filter-filter p t xs ∙ filter-same _ t (λ x. by
     by x true is = rw (is, more x is) refl
     by x false is = rw is (and_false (p x))
 
-abbrev id_held : Held → ℕ
-id_held held = held.channel.message.short_channel_id
-
 -- the ids of the channels of a range of blocks
 pub ids-channels : (rows : Rows) (channels : List ChannelRow) (from to : ℕ)
     → map (λ held. held.channel.message.short_channel_id) (map (held_at rows) (channels_between_of channels from to)) ≡ ids_between_of channels from to
 ids-channels rows [] from to = refl
 ids-channels rows (x ∷ xs) from to = by (ids-channels rows xs from to) (is_between (id_of x) from to)
   where
-    by : map id_held (map (held_at rows) (channels_between_of xs from to)) ≡ ids_between_of xs from to
-        → (b : Bool) → map id_held (map (held_at rows) (cond b (x ∷ channels_between_of xs from to) (channels_between_of xs from to))) ≡ cond b (id_of x ∷ ids_between_of xs from to) (ids_between_of xs from to)
+    by : map id_in (map (held_at rows) (channels_between_of xs from to)) ≡ ids_between_of xs from to
+        → (b : Bool) → map id_in (map (held_at rows) (cond b (x ∷ channels_between_of xs from to) (channels_between_of xs from to))) ≡ cond b (id_of x ∷ ids_between_of xs from to) (ids_between_of xs from to)
     by others true = ap (λ (ids : List ℕ). id_of x ∷ ids) others
     by others false = others
 
@@ -200,3 +198,19 @@ set_value-same {X} test (e ∷ es) x found = by (set_value-same test es x) (test
     by others false is found =
         let later : lookup test es ≡ Some x = rw is at found in
         rw (is, others later) refl
+
+-- a filter of channels by their ids is one of entries
+pub filter-keyed : (test p : ℕ → Bool) (es : List (ℕ × Held)) → IsKeyed id_of (channel_entries es)
+    → filter (λ held. test (id_in held)) (values_of (filter (λ e. p e.0) es)) ≡ values_of (filter (λ e. test e.0) (filter (λ e. p e.0) es))
+filter-keyed test p [] keyed = refl
+filter-keyed test p (e ∷ es) keyed = by (filter-keyed test p es keyed.1) (p e.0) (test e.0) refl (ap test (sym keyed.0))
+  where
+    left : List (ℕ × Held)
+    left = filter (λ e. p e.0) es
+
+    by : filter (λ held. test (id_in held)) (values_of left) ≡ values_of (filter (λ e. test e.0) left)
+        → (b d : Bool) → test e.0 ≡ d → test (id_in e.1) ≡ test e.0
+        → filter (λ held. test (id_in held)) (values_of (cond b (e ∷ left) left)) ≡ values_of (filter (λ e. test e.0) (cond b (e ∷ left) left))
+    by others true true is same = rw (same, is, others) refl
+    by others true false is same = rw (same, is) others
+    by others false d is same = others

@@ -81,6 +81,16 @@ remove-channels test (e ∷ es) = by (remove-channels test es) (test e.0)
     by others false = rw others refl
 
 -- another update leaves the channels
+-- nothing goes where no key passes
+pub remove-none : {X : Type 0} (test : ℕ → Bool) (es : List (ℕ × X)) → lookup test es ≡ None → remove_entry test es ≡ es
+remove-none {X} test [] none = refl
+remove-none {X} test (e ∷ es) none = by (remove-none test es) (test e.0) refl none
+  where
+    by : (lookup test es ≡ None → remove_entry test es ≡ es) → (b : Bool) → test e.0 ≡ b → cond (test e.0) (Some e.1) (lookup test es) ≡ None
+        → cond (test e.0) es (e ∷ remove_entry test es) ≡ e ∷ es
+    by others true is none = let never : Some e.1 ≡ None = rw is at none in absurd cc
+    by others false is none = rw (is, others (rw is at none)) refl
+
 pub set-channels : (test : ℕ → Bool) (es : List (ℕ × Held)) (old new : Held) → lookup test es ≡ Some old → new.channel ≡ old.channel
     → channel_entries (set_value test es new) ≡ channel_entries es
 set-channels test [] old new found same = refl

@@ -12,4 +12,7 @@ pub mod Bans
 pub mod HeldRows
 pub mod Lawful
 pub mod Kept
+pub mod Slotted
+pub mod Putting
+pub mod Deciding
 pub mod Verdicts

@@ -1,10 +1,13 @@
 -- What was decided of a message, as its operation.
-use Rattle.std.specs.Prelude.{Option, Some, None, Result, Ok, Err}
+use Rattle.std.specs.Prelude.{ℕ, Bool, ◌||◌, ◌&&◌, nat_lt, List, Option, Some, None, Result, Ok, Err, if◌then◌else◌}
+use Rattle.lgm_wire.specs.declared.point.Point.{Point}
 use Rattle.lgm_check.specs.declared.row.ChannelRow.{ChannelRow}
 use Rattle.lgm_check.specs.declared.row.UpdateRow.{UpdateRow}
 use Rattle.lgm_check.specs.declared.row.NodeRow.{NodeRow}
 use Rattle.lgm_check.specs.declared.row.BanRow.{BanRow}
 use Rattle.lgm_check.specs.declared.refusal.Refusal.{Refusal}
+use Rattle.lgm_check.specs.declared.refusal.Refusal.TheVariants as refusals
+use Rattle.lgm_store.specs.Rows.{is_point, is_banned}
 use Rattle.lgm_store.specs.declared.op.Op.{Op}
 use Rattle.lgm_store.specs.declared.op.Op.TheVariants as ops
 
@@ -22,7 +25,35 @@ abbrev pub node_op : NodeRow → Result (Unit {0}) Refusal → Result Op Refusal
 node_op row (Ok _) = Ok (ops.Node row)
 node_op row (Err refusal) = Err refusal
 
--- a row that is put, as its operation
-abbrev pub updating : Result UpdateRow Refusal → Result Op Refusal
-updating (Ok row) = Ok (ops.Update row)
-updating (Err refusal) = Err refusal
+-- ---- what is decided by what admission looks at
+
+-- an announcement of a channel between two nodes, beside the held row of its id: it adds a channel, or asks for a ban
+abbrev pub beside_channel : Option ChannelRow → Point → Point → Result (Option BanRow) Refusal
+beside_channel None first second = Ok None
+beside_channel (Some held) first second =
+    if is_point held.message.node_id_1 first && is_point held.message.node_id_2 second then Err refusals.Known
+    else Ok (Some (record { held1 = held.message.node_id_1; held2 = held.message.node_id_2; new1 = first; new2 = second }))
+
+-- and beside the banned points
+abbrev pub channel_verdict : List Point → Option ChannelRow → Point → Point → Result (Option BanRow) Refusal
+channel_verdict banned held first second =
+    if is_banned banned first || is_banned banned second then Err refusals.Banned else beside_channel held first second
+
+-- a timestamp, beside that of a held update
+abbrev pub beside_update : Option UpdateRow → ℕ → Result (Unit {0}) Refusal
+beside_update None time = Ok tt
+beside_update (Some held) time = if nat_lt held.message.timestamp time then Ok tt else Err refusals.NotNewer
+
+-- an update of a direction, beside its channel's row and the held one of its direction
+abbrev pub update_verdict : ChannelRow → Option UpdateRow → Bool → ℕ → Point → Result (Unit {0}) Refusal
+update_verdict channel held second time signer =
+    if is_point signer (if second then channel.message.node_id_2 else channel.message.node_id_1) then beside_update held time else Err refusals.Signature
+
+-- a timestamp, beside that of a held announcement of the node
+abbrev pub beside_node : Option NodeRow → ℕ → Result (Unit {0}) Refusal
+beside_node None time = Ok tt
+beside_node (Some held) time = if nat_lt held.message.timestamp time then Ok tt else Err refusals.NotNewer
+
+-- a node's announcement, beside whether the node is banned, whether a channel ends at it, and its held row
+abbrev pub node_verdict : Bool → Bool → Option NodeRow → ℕ → Result (Unit {0}) Refusal
+node_verdict banned ends held time = if banned then Err refusals.Banned else if ends then beside_node held time else Err refusals.UnknownNode

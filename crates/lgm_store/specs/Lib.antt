@@ -7,6 +7,7 @@ pub mod Reading
 pub mod Keyed
 pub mod Held
 pub mod HeldAt
+pub mod Slots
 pub mod Laws
 pub mod Ends
 pub mod Sound

@@ -1,13 +1,12 @@
 //! The points of banned nodes.
 
-ghost use Rattle.std.specs.Prelude.{◌≡◌, [], IfOk, OnOk, OnErr};
+ghost use Rattle.std.specs.Prelude.{◌≡◌, ◌||◌, [], IfOk, OnOk, OnErr};
 ghost use Rattle.std.specs.List.Sorted.{IsStrictlySortedBy};
 ghost use Rattle.lgm_wire.specs.declared.point.Point.{Point};
-ghost use Rattle.lgm_store.specs.Rows.{by_point, is_banned, ends_banned};
+ghost use Rattle.lgm_store.specs.Rows.{by_point, is_banned};
 ghost use Rattle.lgm_store.specs.History.{with_points, with_banned};
 
-use crate::named::Named;
-use lgm_check::{BanRow, ChannelRow};
+use lgm_check::BanRow;
 use lgm_gossip::Point;
 use std::alloc::{AllocError, Global};
 use std::collections::BTreeSet;
@@ -49,18 +48,11 @@ impl Banned {
         self.points.contains(point)
     }
 
-    /// Whether the channel ends at one of them.
-    pub(crate) fn ends(&self, row: &ChannelRow) -> bool
-        ensures { result ≡ ends_banned self.now row.now }
+    /// Whether one of two nodes is banned.
+    pub(crate) fn ends(&self, first: &Point, second: &Point) -> bool
+        ensures { result ≡ (is_banned self.now first.now || is_banned self.now second.now) }
     {
-        self.contains(&row.node(false)) || self.contains(&row.node(true))
-    }
-
-    /// The same of a channel as a map has it.
-    pub(crate) fn ends_named(&self, row: &Named) -> bool
-        ensures { result ≡ ends_banned self.now row.now }
-    {
-        self.contains(row.node(false)) || self.contains(row.node(true))
+        self.contains(first) || self.contains(second)
     }
 
     /// Four points more. Want of memory leaves them as they were.

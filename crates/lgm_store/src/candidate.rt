@@ -5,7 +5,7 @@ ghost use Rattle.lgm_wire.specs.Reading.{Gives};
 ghost use Rattle.lgm_check.specs.Precheck.{checked_of};
 ghost use Rattle.lgm_store.specs.Candidate.{Fits, checked_by, message_of, verdict_of};
 
-use crate::fresh::{NewChannel, NewNode, NewUpdate};
+use crate::shared::Shared;
 use lgm_check::{Checked, Evidence, Refusal, precheck};
 use lgm_gossip::{Bytes, ChainHash, Point};
 use lgm_rows::{KeptChannel, KeptNode, KeptUpdate};
@@ -14,9 +14,8 @@ use std::marker::Model;
 
 /// A message that is lawful by itself, ready to be offered to a map. Contracts see the message.
 ///
-/// Its row is shared already, and what admission reads of it stands beside it. So all that takes memory for the row is
-/// done when the candidate is made, which needs no map, and [`Map::offer_candidate`](crate::Map::offer_candidate) moves
-/// owners only.
+/// Its row is shared already. So all that takes memory for the row is done when the candidate is made, which needs no
+/// map, and [`Map::offer_candidate`](crate::Map::offer_candidate) adds an owner only.
 #[derive(Drop)]
 pub struct Candidate {
     pub(crate) kind: Kind,
@@ -26,11 +25,11 @@ pub struct Candidate {
 #[derive(Drop)]
 pub(crate) enum Kind {
     /// Of a `channel_announcement`.
-    Channel(NewChannel),
+    Channel(Shared<KeptChannel>),
     /// Of a `channel_update`, and the point that signed it.
-    Update(NewUpdate, Point),
+    Update(Shared<KeptUpdate>, Point),
     /// Of a `node_announcement`.
-    Node(NewNode),
+    Node(Shared<KeptNode>),
 }
 
 impl Model for Candidate {
@@ -106,15 +105,15 @@ fn keep(alloc: Global, bytes: Bytes, verdict: Verdict) -> Result<Kind, AllocErro
     match verdict {
         Verdict::Channel(sat) => {
             let row = KeptChannel::of_owned(bytes, sat);
-            Ok(Kind::Channel(NewChannel::new(alloc, row)?))
+            Ok(Kind::Channel(Shared::new(alloc, row)?))
         }
         Verdict::Update(signer) => {
             let row = KeptUpdate::of_owned(bytes);
-            Ok(Kind::Update(NewUpdate::new(alloc, row)?, signer))
+            Ok(Kind::Update(Shared::new(alloc, row)?, signer))
         }
         Verdict::Node => {
             let row = KeptNode::of_owned(bytes);
-            Ok(Kind::Node(NewNode::new(alloc, row)?))
+            Ok(Kind::Node(Shared::new(alloc, row)?))
         }
     }
 }

@@ -1,14 +1,13 @@
 //! A channel with its updates.
 
-ghost use Rattle.std.specs.Prelude.{◌≡◌, Some, IfOk, OnErr, if◌then◌else◌};
+ghost use Rattle.std.specs.Prelude.{◌≡◌, Some, IfOk, OnOk, OnErr, if◌then◌else◌};
 ghost use Rattle.std.specs.Option.{option_copied, option_map};
 ghost use Rattle.lgm_store.specs.Held.{alone, update_in, with_update_in};
 ghost use Rattle.lgm_store.specs.Rows.{is_second};
 ghost use Rattle.lgm_store.specs.Admission.{update_admission, Offers};
-ghost use Rattle.lgm_store.specs.Decided.{update_op, updating};
+ghost use Rattle.lgm_store.specs.Decided.{update_op, update_verdict};
 
 use crate::dated::Dated;
-use crate::fresh::NewUpdate;
 use crate::named::Named;
 use crate::shared::Shared;
 use lgm_check::{ChannelRow, Refusal, UpdateRow};
@@ -100,55 +99,49 @@ impl Held {
     pub(crate) fn admit_update(&self, row: &UpdateRow, signer: &Point) -> Result<(), Refusal>
         ensures { update_op row.now result ≡ update_admission (Some self.now.channel) (update_in (is_second row.now) self.now) row.now signer.now }
     {
-        if *signer != *self.node(row.is_second()) {
-            return Err(Refusal::Signature);
-        }
-        match self.update_time(row.is_second()) {
-            Some(time) if time >= row.message.timestamp => Err(Refusal::NotNewer),
-            _ => Ok(()),
-        }
+        self.judge_update(row.is_second(), row.message.timestamp, signer)
     }
 
-    /// The same of an update that isn't in a map yet. Its row isn't read.
-    fn judge_update(&self, new: &NewUpdate, signer: &Point) -> Result<(), Refusal>
-        ensures { update_op new.now result ≡ update_admission (Some self.now.channel) (update_in (is_second new.now) self.now) new.now signer.now }
+    /// The same of a row that is kept.
+    fn admit_kept_update(&self, row: &KeptUpdate, signer: &Point) -> Result<(), Refusal>
+        ensures { update_op row.now result ≡ update_admission (Some self.now.channel) (update_in (is_second row.now) self.now) row.now signer.now }
     {
-        if *signer != *self.node(new.is_second()) {
+        self.judge_update(row.is_second(), row.timestamp(), signer)
+    }
+
+    fn judge_update(&self, second: bool, time: u32, signer: &Point) -> Result<(), Refusal>
+        ensures { result ≡ update_verdict self.now.channel (update_in second self.now) second time signer.now }
+    {
+        if *signer != *self.node(second) {
             return Err(Refusal::Signature);
         }
-        match self.update_time(new.is_second()) {
-            Some(time) if time >= new.time() => Err(Refusal::NotNewer),
+        match self.update_time(second) {
+            Some(held) if held >= time => Err(Refusal::NotNewer),
             _ => Ok(()),
         }
     }
 
-    /// Puts an update that is admitted, and gives its row. A refusal leaves all as it was.
+    /// Puts an update that is admitted, whose row it shares. A refusal leaves all as it was.
     pub(crate) fn offer_update(
         &mut self,
-        row: NewUpdate,
+        row: &Shared<KeptUpdate>,
         signer: &Point,
-    ) -> Result<Shared<KeptUpdate>, Refusal>
-        ensures admission { Offers (updating result) (update_admission (Some self.old.channel) (update_in (is_second row) self.old) row signer.now) }
-        ensures accepted { IfOk result (λ put. (put ≡ row) × (self.new ≡ with_update_in (is_second row) self.old row)) }
+    ) -> Result<(), Refusal>
+        ensures admission { Offers (update_op row.now result) (update_admission (Some self.old.channel) (update_in (is_second row.now) self.old) row.now signer.now) }
+        ensures accepted { OnOk result (self.new ≡ with_update_in (is_second row.now) self.old row.now) }
         ensures refused { OnErr result (self.new ≡ self.old) }
+        ensures channel { self.new.channel ≡ self.old.channel }
     {
-        self.judge_update(&row, signer)?;
-        let second = row.is_second();
-        let (update, row) = row.into_owners();
-        self.put_dated(second, update);
-        Ok(row)
+        self.admit_kept_update(row.get(), signer)?;
+        self.put_update(row.get().is_second(), row.share()?);
+        Ok(())
     }
 
     /// Puts an update in the place of that from node 2 if `second`, else of that from node 1.
     pub(crate) fn put_update(&mut self, second: bool, row: Shared<KeptUpdate>)
         ensures { self.new ≡ with_update_in second self.old row }
     {
-        self.put_dated(second, Dated::new(row));
-    }
-
-    fn put_dated(&mut self, second: bool, update: Dated)
-        ensures { self.new ≡ with_update_in second self.old update }
-    {
+        let update = Dated::new(row);
         if second {
             self.second = Some(update);
         } else {

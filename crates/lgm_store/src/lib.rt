@@ -13,7 +13,7 @@ mod banned;
 mod candidate;
 mod dated;
 mod ends;
-mod fresh;
+mod guesses;
 mod held;
 mod laws;
 mod map;
@@ -22,6 +22,7 @@ mod op;
 mod scid_set;
 mod seed;
 mod shared;
+mod slots;
 mod walks;
 
 pub use candidate::Candidate;

@@ -13,10 +13,10 @@ mod replaying;
 
 use crate::banned::Banned;
 use crate::ends::Ends;
-use crate::held::Held;
 use crate::seed::Seed;
 use crate::shared::Shared;
-use lgm_gossip::{Point, Scid};
+use crate::slots::Slots;
+use lgm_gossip::Point;
 use lgm_rows::KeptNode;
 use std::alloc::{AllocError, Global};
 use std::collections::BTreeMap;
@@ -31,7 +31,7 @@ use std::marker::Model;
 pub struct Map {
     alloc: Global,
     /// Channels with their updates.
-    channels: BTreeMap<Scid, Held>,
+    channels: Slots,
     nodes: BTreeMap<Point, Shared<KeptNode>>,
     /// The ids of the channels that end at each point.
     ends: Ends,
@@ -49,13 +49,13 @@ impl Model for Map {
     ghost use Rattle.lgm_store.specs.Sound.{IsKept};
 
     ghost view = { λ m. record {
-      channels = values_of (channel_entries m.channels.entries);
-      updates = values_of (update_entries m.channels.entries);
+      channels = values_of (channel_entries m.channels);
+      updates = values_of (update_entries m.channels);
       nodes = values m.nodes;
       banned = m.banned;
     } };
 
-    ghost invariant = { λ m. IsKept (channel_entries m.channels.entries) (update_entries m.channels.entries) m.nodes.entries m.ends m.banned };
+    ghost invariant = { λ m. IsKept (channel_entries m.channels) (update_entries m.channels) m.nodes.entries m.ends m.banned };
 }
 
 impl Map {
@@ -74,7 +74,7 @@ impl Map {
     {
         Ok(Map {
             alloc,
-            channels: BTreeMap::new(alloc),
+            channels: Slots::new(alloc),
             nodes: BTreeMap::new(alloc),
             ends: Ends::new(alloc, seed)?,
             banned: Banned::new(alloc),

@@ -4,11 +4,13 @@ ghost use Rattle.std.specs.Prelude.{◌≡◌, filter};
 ghost use Rattle.std.specs.Map.{values_of};
 ghost use Rattle.std.specs.Iterator.{YieldsFirstRef, item_count};
 ghost use Rattle.lgm_store.specs.Reading.{is_between};
+ghost use Rattle.lgm_store.specs.Slots.{entries_in, id_in, HaveOwn};
 
 use crate::held::Held;
 use crate::shared::Shared;
 use lgm_gossip::{Point, Scid};
 use lgm_rows::KeptNode;
+use slab::Slab;
 use std::collections::btree_map::Range;
 use std::marker::Model;
 
@@ -17,24 +19,30 @@ use std::marker::Model;
 /// A step costs no search, and takes no memory.
 #[derive(Drop)]
 pub struct Channels<'a> {
-    entries: Range<'a, Scid, Held>,
+    numbers: Range<'a, Scid, usize>,
+    slots: &'a Slab<Held>,
 }
 
 impl<'a> Model for Channels<'a> {
     ghost use Rattle.std.specs.Prelude.{List};
     ghost use Rattle.std.specs.Map.{values_of};
     ghost use Rattle.lgm_store.specs.declared.held.Held.{Held};
+    ghost use Rattle.lgm_store.specs.Slots.{entries_in, HaveOwn};
 
     ghost Value = { List Held };
 
-    ghost view = { λ c. values_of c.entries };
+    ghost view = { λ c. values_of (entries_in c.slots.now.slots c.numbers) };
+
+    ghost invariant = { λ c. HaveOwn c.slots.now.slots c.numbers };
 }
 
 impl<'a> Channels<'a> {
-    pub(crate) fn new(entries: Range<'a, Scid, Held>) -> Channels<'a>
-        ensures { result ≡ values_of entries.entry }
+    /// The channels of these slots, each of which has the channel of its id.
+    pub(crate) fn new(numbers: Range<'a, Scid, usize>, slots: &'a Slab<Held>) -> Channels<'a>
+        requires { HaveOwn slots.now.slots numbers }
+        ensures { result ≡ values_of (entries_in slots.now.slots numbers.entry) }
     {
-        Channels { entries }
+        Channels { numbers, slots }
     }
 }
 
@@ -46,10 +54,8 @@ impl<'a> Iterator for Channels<'a> {
     ghost remaining = { item_count (λ left. left) };
 
     fn next(&mut self) -> Option<&'a Held> {
-        match self.entries.next() {
-            Some((_, held)) => Some(held),
-            None => None,
-        }
+        let (_, number) = self.numbers.next()?;
+        Some(&self.slots[*number])
     }
 }
 
@@ -58,28 +64,28 @@ impl<'a> Iterator for Channels<'a> {
 /// A step costs no search, and takes no memory.
 #[derive(Drop)]
 pub struct ChannelsBetween<'a> {
-    /// These, but for the ids of other blocks.
-    entries: Range<'a, Scid, Held>,
+    /// These, but for those of other blocks.
+    channels: Channels<'a>,
     from: u64,
     to: u64,
 }
 
 impl<'a> Model for ChannelsBetween<'a> {
     ghost use Rattle.std.specs.Prelude.{List, filter};
-    ghost use Rattle.std.specs.Map.{values_of};
     ghost use Rattle.lgm_store.specs.declared.held.Held.{Held};
     ghost use Rattle.lgm_store.specs.Reading.{is_between};
+    ghost use Rattle.lgm_store.specs.Slots.{id_in};
 
     ghost Value = { List Held };
 
-    ghost view = { λ c. values_of (filter (λ e. is_between e.0 c.from c.to) c.entries) };
+    ghost view = { λ c. filter (λ held. is_between (id_in held) c.from c.to) c.channels };
 }
 
 impl<'a> ChannelsBetween<'a> {
-    pub(crate) fn new(entries: Range<'a, Scid, Held>, from: u64, to: u64) -> ChannelsBetween<'a>
-        ensures { result ≡ values_of (filter (λ e. is_between e.0 from to) entries.entry) }
+    pub(crate) fn new(channels: Channels<'a>, from: u64, to: u64) -> ChannelsBetween<'a>
+        ensures { result ≡ filter (λ held. is_between (id_in held) from to) channels.entry }
     {
-        ChannelsBetween { entries, from, to }
+        ChannelsBetween { channels, from, to }
     }
 }
 
@@ -91,8 +97,8 @@ impl<'a> Iterator for ChannelsBetween<'a> {
     ghost remaining = { item_count (λ left. left) };
 
     fn next(&mut self) -> Option<&'a Held> {
-        while let Some((scid, held)) = self.entries.next() {
-            if is_between(*scid, self.from, self.to) {
+        while let Some(held) = self.channels.next() {
+            if is_between(held.scid(), self.from, self.to) {
                 return Some(held);
             }
         }

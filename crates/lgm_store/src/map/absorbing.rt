@@ -52,7 +52,7 @@ impl Map {
         ensures err { OnErr result (self.new ≡ self.old) }
     {
         let row = Named::new(row);
-        if self.held(row.scid()).is_some() || self.banned.ends_named(&row) {
+        if self.banned.ends(row.node(false), row.node(true)) || self.held(row.scid()).is_some() {
             return Ok(());
         }
         self.insert_channel(row)?;
@@ -69,11 +69,11 @@ impl Map {
         let scid = row.scid();
         let (first, second) = (*row.node(false), *row.node(true));
         self.ends.add(first, second, scid)?;
-        match self.channels.insert(scid, Held::new(row)) {
-            Ok(_) => Ok(()),
+        match self.channels.insert(Held::new(row)) {
+            Ok(()) => Ok(()),
             Err(refused) => {
                 self.ends.remove(&first, &second, scid);
-                Err(refused.into())
+                Err(refused)
             }
         }
     }
@@ -81,11 +81,7 @@ impl Map {
     fn put_update(&mut self, row: Shared<KeptUpdate>)
         ensures { self.new ≡ with_update self.old row }
     {
-        let (scid, second) = (row.get().scid(), row.get().is_second());
-        let Some(held) = self.channels.get_mut(&scid) else {
-            return;
-        };
-        held.put_update(second, row);
+        self.channels.put_update(row);
     }
 
     pub(crate) fn put_node(&mut self, row: Shared<KeptNode>) -> Result<(), AllocError>
@@ -117,7 +113,7 @@ impl Map {
     pub(crate) fn close(&mut self, scid: Scid)
         ensures { self.new ≡ without_channel self.old scid }
     {
-        let Some(held) = self.channels.remove(&scid) else {
+        let Some(held) = self.channels.remove(scid) else {
             return;
         };
         let (first, second) = (*held.node(false), *held.node(true));

@@ -2,8 +2,8 @@
 
 ghost use Rattle.std.specs.Prelude.{◌≡◌};
 ghost use Rattle.lgm_store.specs.Rows.{channel_of, update_of, node_of, ends_channel, is_banned, is_second};
-ghost use Rattle.lgm_store.specs.Admission.{have_same_nodes, channel_admission, update_admission, node_admission, admitted, admitted_close, Offers};
-ghost use Rattle.lgm_store.specs.Decided.{channel_op, update_op, node_op};
+ghost use Rattle.lgm_store.specs.Admission.{channel_admission, update_admission, node_admission, admitted, admitted_close, Offers};
+ghost use Rattle.lgm_store.specs.Decided.{channel_op, update_op, node_op, channel_verdict, node_verdict};
 ghost use Rattle.lgm_store.specs.Candidate.{IsSpelled};
 
 use super::Map;
@@ -59,17 +59,37 @@ impl Map {
     pub(crate) fn admit_channel(&self, row: &ChannelRow) -> Result<Option<BanRow>, Refusal>
         ensures { channel_op row.now result ≡ channel_admission self.now.banned (channel_of self.now.channels row.now.message.short_channel_id) row.now }
     {
-        if self.banned.ends(row) {
+        self.judge_channel(row.scid(), &row.node(false), &row.node(true))
+    }
+
+    /// The same of a row that is kept.
+    pub(crate) fn admit_kept_channel(&self, row: &KeptChannel) -> Result<Option<BanRow>, Refusal>
+        ensures { channel_op row.now result ≡ channel_admission self.now.banned (channel_of self.now.channels row.now.message.short_channel_id) row.now }
+    {
+        self.judge_channel(row.scid(), &row.node(false), &row.node(true))
+    }
+
+    fn judge_channel(
+        &self,
+        scid: Scid,
+        first: &Point,
+        second: &Point,
+    ) -> Result<Option<BanRow>, Refusal>
+        ensures { result ≡ channel_verdict self.now.banned (channel_of self.now.channels scid) first.now second.now }
+    {
+        if self.banned.ends(first, second) {
             return Err(Refusal::Banned);
         }
-        match self.channel(row.scid()) {
+        match self.held(scid) {
             None => Ok(None),
-            Some(held) if have_same_nodes(&held, row) => Err(Refusal::Known),
+            Some(held) if held.node(false) == first && held.node(true) == second => {
+                Err(Refusal::Known)
+            }
             Some(held) => Ok(Some(BanRow {
-                held1: held.node(false),
-                held2: held.node(true),
-                new1: row.node(false),
-                new2: row.node(true),
+                held1: *held.node(false),
+                held2: *held.node(true),
+                new1: *first,
+                new2: *second,
             })),
         }
     }
@@ -88,22 +108,29 @@ impl Map {
         ensures { let node = row.now.message.node_id in
             node_op row.now result ≡ node_admission (is_banned self.now.banned node) (ends_channel self.now.channels node) (node_of self.now.nodes node) row.now }
     {
-        let node = row.node();
-        if self.banned(&node) {
+        self.judge_node(&row.node(), row.message.timestamp)
+    }
+
+    /// The same of a row that is kept.
+    pub(crate) fn admit_kept_node(&self, row: &KeptNode) -> Result<(), Refusal>
+        ensures { let node = row.now.message.node_id in
+            node_op row.now result ≡ node_admission (is_banned self.now.banned node) (ends_channel self.now.channels node) (node_of self.now.nodes node) row.now }
+    {
+        self.judge_node(&row.node(), row.timestamp())
+    }
+
+    fn judge_node(&self, node: &Point, time: u32) -> Result<(), Refusal>
+        ensures { result ≡ node_verdict (is_banned self.now.banned node.now) (ends_channel self.now.channels node.now) (node_of self.now.nodes node.now) time }
+    {
+        if self.banned(node) {
             return Err(Refusal::Banned);
         }
-        if !self.ends_channel(&node) {
+        if !self.ends_channel(node) {
             return Err(Refusal::UnknownNode);
         }
-        match self.kept_node(&node) {
-            Some(held) if row.message.timestamp <= held.timestamp() => Err(Refusal::NotNewer),
+        match self.kept_node(node) {
+            Some(held) if time <= held.timestamp() => Err(Refusal::NotNewer),
             _ => Ok(()),
         }
     }
-}
-
-fn have_same_nodes(a: &ChannelRow, b: &ChannelRow) -> bool
-    ensures { result ≡ have_same_nodes a.now b.now }
-{
-    a.message.node_id_1 == b.message.node_id_1 && a.message.node_id_2 == b.message.node_id_2
 }

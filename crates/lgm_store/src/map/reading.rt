@@ -33,7 +33,7 @@ impl Map {
         ensures update { (second : Bool) → option_and_then (update_in second) (option_copied result) ≡ update_of self.now.updates scid second }
         ensures held { option_copied result ≡ option_map (held_at self.now) (channel_of self.now.channels scid) }
     {
-        self.channels.get(&scid)
+        self.channels.get(scid)
     }
 
     /// The row of a channel, if it is held.
@@ -101,8 +101,8 @@ impl Map {
     pub fn next_channel(&self, after: Option<Scid>) -> Option<ChannelRow<'_>>
         ensures { result ≡ next_channel_of self.now.channels after }
     {
-        let range = (start_after(after), Bound::Unbounded);
-        let (_, held) = self.channels.range(range).next()?;
+        let mut channels = self.channels.range(start_after(after), Bound::Unbounded);
+        let held = channels.next()?;
         Some(held.row())
     }
 
@@ -119,8 +119,7 @@ impl Map {
     pub fn channels(&self) -> Channels<'_>
         ensures { result ≡ map (held_at self.now) self.now.channels }
     {
-        let all: (Bound<Scid>, Bound<Scid>) = (Bound::Unbounded, Bound::Unbounded);
-        Channels::new(self.channels.range(all))
+        self.channels.range(Bound::Unbounded, Bound::Unbounded)
     }
 
     /// The nodes, by point.
@@ -142,8 +141,8 @@ impl Map {
         } else {
             Bound::Excluded(start)
         };
-        let entries = self.channels.range((Bound::Included(start), end));
-        ChannelsBetween::new(entries, from, to)
+        let channels = self.channels.range(Bound::Included(start), end);
+        ChannelsBetween::new(channels, from, to)
     }
 
     /// The ids of the channels that were funded in the blocks from `from` on and before `to`, ascending. Only these

@@ -1,18 +1,18 @@
-use Rattle.std.proofs.Common.{◌≡◌, ℕ, List, true, filter, ◌∙◌, ap}
+use Rattle.std.proofs.Common.{◌≡◌, ℕ, true, filter, ◌∙◌, ap}
 use Rattle.std.specs.Map.{values_of}
 use Rattle.std.specs.declared.ops.Bound.TheVariants.{Included}
 use Rattle.std.specs.BTreeMap.Range.{range_contains}
 use Rattle.std.specs.Ordering.{nat_cmp}
-use Rattle.lgm_store.specs.declared.held.Held.{Held}
 use Rattle.lgm_store.specs.Reading.{is_between}
+use Rattle.lgm_store.specs.Slots.{id_in}
 use Rattle.lgm_store.proofs.Holding.{ascend-held}
-use Rattle.lgm_store.proofs.HeldRows.{values-held_at, filter-past}
+use Rattle.lgm_store.proofs.HeldRows.{values-held_at, filter-past, filter-keyed}
 use Rattle.lgm_store.proofs.Walking.{forward, within, backward, never}
 use Rattle.lgm_store.proofs.map.Map.channels_between.Goals as goal
 use Rattle.lgm_store.proofs.map.Map.channels_between.Goals.{then-from-to, else-from-to}
 
-pub range-entries-requires : goal.range-entries-requires
-range-entries-requires c =
+pub range-channels-requires : goal.range-channels-requires
+range-channels-requires c =
     elim c.if-from-to.branch [
       | then-from-to w ↦ rw w.end-is (forward w.end_before-end.result c.start_of-start.result c.args.from c.args.to c.start_of-start.ensures.least w.if-from-to.true w.end_before-end.ensures)
       | else-from-to w ↦ rw w.end-is (backward c.start_of-start.result)
@@ -27,8 +27,9 @@ returns c =
       | then-from-to w ↦ rw w.end-is (within w.end_before-end.result start c.args.from c.args.to id c.start_of-start.ensures.earlier w.end_before-end.ensures between)
       | else-from-to w ↦ absurd (never id c.args.from c.args.to w.if-from-to.false between)
     ] in
-    c.new.ensures ∙ ap (λ (es : List (ℕ × Held)). values_of (filter (λ e. is_between e.0 c.args.from c.args.to) es)) (c.range-entries.ensures.between tt)
-    ∙ ap values_of (filter-past (λ e. range_contains nat_cmp (Included start) c.if-from-to.end e.0) (λ e. is_between e.0 c.args.from c.args.to) c.self.inside.channels.entries (λ e. ranged e.0))
-    ∙ values-held_at c.self.inside.channels.entries c.args.self.now sound.channels_keyed sound.updates_keyed
-    (ascend-held c.self.inside.channels.entries sound.channels_ascend) (ap (λ rows. rows.channels) c.self.view_is) (ap (λ rows. rows.updates) c.self.view_is)
+    c.new.ensures ∙ ap (filter (λ held. is_between (id_in held) c.args.from c.args.to)) c.range-channels.ensures
+    ∙ filter-keyed (λ id. is_between id c.args.from c.args.to) (range_contains nat_cmp (Included start) c.if-from-to.end) c.self.inside.channels sound.channels_keyed
+    ∙ ap values_of (filter-past (λ e. range_contains nat_cmp (Included start) c.if-from-to.end e.0) (λ e. is_between e.0 c.args.from c.args.to) c.self.inside.channels (λ e. ranged e.0))
+    ∙ values-held_at c.self.inside.channels c.args.self.now sound.channels_keyed sound.updates_keyed
+    (ascend-held c.self.inside.channels sound.channels_ascend) (ap (λ rows. rows.channels) c.self.view_is) (ap (λ rows. rows.updates) c.self.view_is)
     (λ id. is_between id c.args.from c.args.to)

@@ -10,7 +10,7 @@ pub invariant_of-self-2 : goal.invariant_of-self-2
 invariant_of-self-2 c =
     record {
       rows =
-          IsSound-node (channel_entries c.self.inside.channels.entries) (update_entries c.self.inside.channels.entries) c.self.inside.nodes.entries c.insert.new.self.entries c.self.inside.ends
+          IsSound-node (channel_entries c.self.inside.channels) (update_entries c.self.inside.channels) c.self.inside.nodes.entries c.insert.new.self.entries c.self.inside.ends
           c.args.node c.args.row c.requires.own c.in_ok-insert.ensures.entries c.insert.ensures.ordered (ap (λ rows. ends_channel rows.channels c.args.row.message.node_id) c.self.view_is ∙ c.requires.ended) c.self.invariant.rows;
       banned_ascend = c.self.invariant.banned_ascend;
       allowed = c.self.invariant.allowed;

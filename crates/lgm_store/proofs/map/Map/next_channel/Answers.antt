@@ -1,12 +1,16 @@
-use Rattle.std.proofs.Common.{ℕ, List, Option, Some, sym, ap, ◌∙◌}
+use Rattle.std.proofs.Common.{◌≡◌, ℕ, List, [], ◌∷◌, Option, Some, None, refl, sym, ap, ◌∙◌}
 use Rattle.std.specs.Option.{option_map}
+use Rattle.std.specs.Map.{values_of}
 use Rattle.std.specs.Ordering.{nat_cmp}
+use Rattle.std.specs.declared.ops.Bound.{Bound}
 use Rattle.std.specs.declared.ops.Bound.TheVariants.{Unbounded}
 use Rattle.std.specs.BTreeMap.Range.{range_contains, entries_between}
 use Rattle.lgm_check.specs.declared.row.ChannelRow.{ChannelRow}
 use Rattle.lgm_store.specs.declared.held.Held.{Held}
+use Rattle.lgm_store.specs.Keyed.{IsKeyed}
 use Rattle.lgm_store.specs.Held.{channel_entries}
 use Rattle.lgm_store.specs.Reading.{next_channel_of}
+use Rattle.lgm_store.specs.Sound.{id_of}
 use Rattle.lgm_store.specs.Start.{start_after}
 use Rattle.lgm_store.proofs.Holding.{first-filtered}
 use Rattle.lgm_store.proofs.Walking.{first_value, next_channel-between}
@@ -15,19 +19,31 @@ use Rattle.lgm_store.proofs.map.Map.next_channel.Goals as goal
 abbrev some_row : ChannelRow → Option ChannelRow
 some_row row = Some row
 
-abbrev first_channel : List (ℕ × Held) → Option ChannelRow
-first_channel entries = option_map (λ held. held.channel) (first_value entries)
+abbrev first_channel : List Held → Option ChannelRow
+first_channel [] = None
+first_channel (held ∷ others) = Some held.channel
+
+first_of : (es : List (ℕ × Held)) → first_channel (values_of es) ≡ option_map (λ held. held.channel) (first_value es)
+first_of [] = refl
+first_of (e ∷ es) = refl
+
+next_is : (channels : List Held) (start : Bound ℕ) (entries : List (ℕ × Held)) (after : Option ℕ) (rows : List ChannelRow)
+    → channels ≡ values_of (entries_between nat_cmp start Unbounded entries) → start ≡ start_after after → IsKeyed id_of (channel_entries entries) → values_of (channel_entries entries) ≡ rows
+    → first_channel channels ≡ next_channel_of rows after
+next_is channels start entries after rows is start_is keyed rows_are =
+    ap first_channel (is ∙ ap (λ s. values_of (entries_between nat_cmp s Unbounded entries)) start_is)
+    ∙ first_of (entries_between nat_cmp (start_after after) Unbounded entries)
+    ∙ first-filtered (range_contains nat_cmp (start_after after) Unbounded) entries
+    ∙ sym (next_channel-between (channel_entries entries) after keyed) ∙ ap (λ rs. next_channel_of rs after) rows_are
 
 pub returns-in_err-held : goal.returns-in_err-held
 returns-in_err-held c =
-    let between = c.range.ensures.between tt ∙ ap (λ start. entries_between nat_cmp start Unbounded c.self.inside.channels.entries) c.start_after.ensures in
-    c.from_residual.ensures ∙ ap first_channel (sym c.in_err-held.ensures.steps.0 ∙ between)
-    ∙ first-filtered (range_contains nat_cmp (start_after c.args.after) Unbounded) c.self.inside.channels.entries
-    ∙ sym (next_channel-between (channel_entries c.self.inside.channels.entries) c.args.after c.self.invariant.rows.channels_keyed) ∙ ap (λ rows. next_channel_of rows.channels c.args.after) c.self.view_is
+    c.from_residual.ensures ∙ ap first_channel (sym c.in_err-held.ensures.steps.0)
+    ∙ next_is c.range-channels.result c.start_after.result c.self.inside.channels c.args.after c.args.self.now.channels c.range-channels.ensures c.start_after.ensures c.self.invariant.rows.channels_keyed
+    (ap (λ rows. rows.channels) c.self.view_is)
 
 pub returns : goal.returns
 returns c =
-    let between = c.range.ensures.between tt ∙ ap (λ start. entries_between nat_cmp start Unbounded c.self.inside.channels.entries) c.start_after.ensures in
-    ap some_row c.row.ensures ∙ ap first_channel (sym c.in_ok-held.ensures.steps ∙ between)
-    ∙ first-filtered (range_contains nat_cmp (start_after c.args.after) Unbounded) c.self.inside.channels.entries
-    ∙ sym (next_channel-between (channel_entries c.self.inside.channels.entries) c.args.after c.self.invariant.rows.channels_keyed) ∙ ap (λ rows. next_channel_of rows.channels c.args.after) c.self.view_is
+    ap some_row c.row.ensures ∙ ap first_channel (sym c.in_ok-held.ensures.steps)
+    ∙ next_is c.range-channels.result c.start_after.result c.self.inside.channels c.args.after c.args.self.now.channels c.range-channels.ensures c.start_after.ensures c.self.invariant.rows.channels_keyed
+    (ap (λ rows. rows.channels) c.self.view_is)

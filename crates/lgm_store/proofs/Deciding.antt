@@ -1,0 +1,65 @@
+-- What is decided by what admission looks at is what admission is.
+use Rattle.std.proofs.Common.{◌≡◌, Bool, true, false, List, Option, Some, None, Ok, Err, refl}
+use Rattle.std.specs.Prelude.{nat_lt, is_some}
+use Rattle.lgm_wire.specs.declared.point.Point.{Point}
+use Rattle.lgm_check.specs.declared.row.ChannelRow.{ChannelRow}
+use Rattle.lgm_check.specs.declared.row.UpdateRow.{UpdateRow}
+use Rattle.lgm_check.specs.declared.row.NodeRow.{NodeRow}
+use Rattle.lgm_check.specs.declared.refusal.Refusal.TheVariants as refusals
+use Rattle.lgm_store.specs.declared.op.Op.TheVariants as ops
+use Rattle.lgm_store.specs.Rows.{is_point, is_second, ends_banned}
+use Rattle.lgm_store.specs.Admission.{have_same_nodes, ban_of, channel_admission, update_admission, node_admission, node_by}
+use Rattle.lgm_store.specs.Decided.{channel_op, update_op, node_op, channel_verdict, update_verdict, node_verdict}
+
+pub channel-decided : (banned : List Point) (held : Option ChannelRow) (row : ChannelRow)
+    → channel_op row (channel_verdict banned held row.message.node_id_1 row.message.node_id_2) ≡ channel_admission banned held row
+channel-decided banned held row = by held (ends_banned banned row) refl
+  where
+    by : (held : Option ChannelRow) (b : Bool) → ends_banned banned row ≡ b → channel_op row (channel_verdict banned held row.message.node_id_1 row.message.node_id_2) ≡ channel_admission banned held row
+    by held true is = rw is refl
+    by None false is = rw is refl
+    by (Some old) false is = same (have_same_nodes old row) refl
+      where
+        same : (b : Bool) → have_same_nodes old row ≡ b → channel_op row (channel_verdict banned (Some old) row.message.node_id_1 row.message.node_id_2) ≡ channel_admission banned (Some old) row
+        same true same_is = rw (is, same_is) refl
+        same false same_is = rw (is, same_is) refl
+
+-- a channel that is added is new, and has no banned node
+pub added : (banned : List Point) (held : Option ChannelRow) (row : ChannelRow) → Ok (ops.Channel row) ≡ channel_admission banned held row
+    → (is_some held ≡ false) × (ends_banned banned row ≡ false)
+added banned held row is = by held (ends_banned banned row) refl is
+  where
+    by : (held : Option ChannelRow) (b : Bool) → ends_banned banned row ≡ b → Ok (ops.Channel row) ≡ channel_admission banned held row → (is_some held ≡ false) × (ends_banned banned row ≡ false)
+    by held true banned_is is = let never : Ok (ops.Channel row) ≡ Err refusals.Banned = rw banned_is at is in absurd cc
+    by None false banned_is is = (refl, banned_is)
+    by (Some old) false banned_is is = same (have_same_nodes old row) refl
+      where
+        same : (b : Bool) → have_same_nodes old row ≡ b → (is_some (Some old) ≡ false) × (ends_banned banned row ≡ false)
+        same true same_is = let never : Ok (ops.Channel row) ≡ Err refusals.Known = rw (banned_is, same_is) at is in absurd cc
+        same false same_is = let never : Ok (ops.Channel row) ≡ Ok (ops.Ban (ban_of old row)) = rw (banned_is, same_is) at is in absurd cc
+
+pub update-decided : (channel : ChannelRow) (held : Option UpdateRow) (row : UpdateRow) (signer : Point)
+    → update_op row (update_verdict channel held (is_second row) row.message.timestamp signer) ≡ update_admission (Some channel) held row signer
+update-decided channel held row signer = by held (is_point signer (node_by channel row)) refl
+  where
+    by : (held : Option UpdateRow) (b : Bool) → is_point signer (node_by channel row) ≡ b
+        → update_op row (update_verdict channel held (is_second row) row.message.timestamp signer) ≡ update_admission (Some channel) held row signer
+    by held false is = rw is refl
+    by None true is = rw is refl
+    by (Some old) true is = newer (nat_lt old.message.timestamp row.message.timestamp) refl
+      where
+        newer : (b : Bool) → nat_lt old.message.timestamp row.message.timestamp ≡ b
+            → update_op row (update_verdict channel (Some old) (is_second row) row.message.timestamp signer) ≡ update_admission (Some channel) (Some old) row signer
+        newer true newer_is = rw (is, newer_is) refl
+        newer false newer_is = rw (is, newer_is) refl
+
+pub node-decided : (banned ends : Bool) (held : Option NodeRow) (row : NodeRow) → node_op row (node_verdict banned ends held row.message.timestamp) ≡ node_admission banned ends held row
+node-decided true ends held row = refl
+node-decided false false held row = refl
+node-decided false true None row = refl
+node-decided false true (Some old) row = newer (nat_lt old.message.timestamp row.message.timestamp) refl
+  where
+    newer : (b : Bool) → nat_lt old.message.timestamp row.message.timestamp ≡ b
+        → node_op row (node_verdict false true (Some old) row.message.timestamp) ≡ node_admission false true (Some old) row
+    newer true newer_is = rw newer_is refl
+    newer false newer_is = rw newer_is refl

@@ -1,0 +1,65 @@
+-- An update that is put, in the maps that keep rows.
+use Rattle.std.proofs.Common.{◌≡◌, ℕ, false, List, Option, Some, None, refl, ap, ◌∙◌}
+use Rattle.std.specs.Prelude.{is_some}
+use Rattle.std.specs.Option.{option_map}
+use Rattle.std.specs.List.Sorted.{IsStrictlySortedBy}
+use Rattle.std.specs.Map.{lookup, set_value, keys_of, values_of}
+use Rattle.std.specs.BTreeMap.{is_at}
+use Rattle.std.specs.Ordering.{nat_cmp}
+use Rattle.lgm_wire.specs.declared.point.Point.{Point}
+use Rattle.lgm_check.specs.declared.row.UpdateRow.{UpdateRow}
+use Rattle.lgm_check.specs.declared.row.NodeRow.{NodeRow}
+use Rattle.lgm_store.specs.declared.held.Held.{Held}
+use Rattle.lgm_store.specs.Held.{with_update_in, channel_entries, update_entries}
+use Rattle.lgm_store.specs.Slots.{with_update_for, with_update_at}
+use Rattle.lgm_store.specs.Rows.{Rows, put, by_direction, channel_of, is_second}
+use Rattle.lgm_store.specs.History.{with_update}
+use Rattle.lgm_store.specs.Sound.{IsKept}
+use Rattle.lgm_store.proofs.Lists.{values-update}
+use Rattle.lgm_store.proofs.Holding.{ascend-held, channel-with, set-channels, set-updates}
+use Rattle.lgm_store.proofs.HeldRows.{channel_at}
+use Rattle.lgm_store.proofs.Soundness.{IsSound-put}
+use Rattle.lgm_store.proofs.Changes.{with_update-new, with_update-none}
+use Rattle.lgm_store.proofs.Kept.{rows_of}
+
+module _ (held : List (ℕ × Held)) (nodes : List (Point × NodeRow)) (ends : List (Point × List ℕ)) (banned : List Point) (row : UpdateRow)
+    (kept : IsKept (channel_entries held) (update_entries held) nodes ends banned) where
+  abbrev id : ℕ
+  id = row.message.short_channel_id
+
+  abbrev written : Held → List (ℕ × Held)
+  written old = set_value (is_at (nat_cmp id)) held (with_update_in (is_second row) old row)
+
+  same_channels : (old : Held) → lookup (is_at (nat_cmp id)) held ≡ Some old → channel_entries (written old) ≡ channel_entries held
+  same_channels old found = set-channels (is_at (nat_cmp id)) held old (with_update_in (is_second row) old row) found (channel-with (is_second row) old row)
+
+  pub put-kept : IsKept (channel_entries (with_update_at held row)) (update_entries (with_update_at held row)) nodes ends banned
+  put-kept = by (lookup (is_at (nat_cmp id)) held) refl
+    where
+      by : (o : Option Held) → lookup (is_at (nat_cmp id)) held ≡ o → IsKept (channel_entries (with_update_for o held row)) (update_entries (with_update_for o held row)) nodes ends banned
+      by None found = kept
+      by (Some old) found =
+          let same = same_channels old found in
+          let ascend : IsStrictlySortedBy nat_cmp (keys_of (written old)) = ascend-held (written old) (rw same kept.rows.channels_ascend) in
+          record {
+            rows = IsSound-put held (written old) nodes ends id (is_second row) row old refl found refl (ascend-held held kept.rows.channels_ascend) ascend kept.rows;
+            banned_ascend = kept.banned_ascend;
+            allowed = rw same kept.allowed;
+          }
+
+  pub put-rows : (rows : Rows) → rows_of held nodes banned ≡ rows → rows_of (with_update_at held row) nodes banned ≡ with_update rows row
+  put-rows rows view_is = by (lookup (is_at (nat_cmp id)) held) refl
+    where
+      channel_is : channel_of rows.channels id ≡ option_map (λ h. h.channel) (lookup (is_at (nat_cmp id)) held)
+      channel_is = channel_at held rows.channels id kept.rows.channels_keyed (ap (λ rs. rs.channels) view_is)
+
+      by : (o : Option Held) → lookup (is_at (nat_cmp id)) held ≡ o → rows_of (with_update_for o held row) nodes banned ≡ with_update rows row
+      by None found =
+          let none : is_some (channel_of rows.channels id) ≡ false = ap is_some channel_is ∙ ap (λ o. is_some (option_map (λ h. h.channel) o)) found in
+          view_is ∙ with_update-none rows row none
+      by (Some old) found =
+          let updates_are = set-updates id (is_second row) row held old (ascend-held held kept.rows.channels_ascend) found in
+          with_update-new rows (rows_of (written old) nodes banned) row (ap is_some channel_is ∙ ap (λ o. is_some (option_map (λ h. h.channel) o)) found)
+          (ap values_of (same_channels old found) ∙ ap (λ rs. rs.channels) view_is)
+          (values-update (update_entries held) (update_entries (written old)) (id, is_second row) row refl updates_are kept.rows.updates_keyed kept.rows.updates_ascend ∙ ap (λ rs. put by_direction rs.updates row) view_is)
+          (ap (λ rs. rs.nodes) view_is) (ap (λ rs. rs.banned) view_is)

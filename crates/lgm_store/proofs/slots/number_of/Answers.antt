@@ -1,0 +1,14 @@
+use Rattle.std.proofs.Common.{◌≡◌, ℕ, true, eqb, Some, sym, ap, ◌∙◌, arith}
+use Rattle.std.proofs.lemmas.Bool.Decides.{nat_tests}
+use Rattle.std.specs.Option.{option_map}
+use Rattle.lgm_store.specs.Slots.{id_in, slot_at}
+use Rattle.lgm_store.proofs.slots.number_of.Goals as goal
+
+same : (a b : ℕ) → eqb a b ≡ true → a ≡ b
+same a b e = grind (arith, nat_tests)
+
+pub returns-in-Some : goal.returns-in-Some
+returns-in-Some c =
+    let here : option_map id_in (slot_at c.args.slots.now.slots c.guess-number.result) ≡ Some c.args.scid =
+    ap (option_map id_in) (sym c.in-Some.ensures) ∙ ap (λ (id : ℕ). Some id) (sym c.scid.ensures ∙ same c.scid.result c.args.scid (sym c.eq.ensures ∙ c.if-eq.true)) in
+    sym (c.requires.listed c.guess-number.result c.args.scid here)
