@@ -1,5 +1,5 @@
 -- What comes of an operation that is judged, and then done.
-use Rattle.std.proofs.Common.{◌≡◌, ◌⊎◌, Option, Some, None, Result, Ok, Err, refl, inl, inr, sym, ap, subst, ◌∙◌}
+use Rattle.std.proofs.Common.{◌≡◌, ◌⊎◌, Some, Result, Ok, Err, refl, inl, inr, sym, ap, subst, ◌∙◌}
 use Rattle.std.specs.Prelude.{ℕ, Bool, true, false, is_some, OnOk, OnErr, IfErr, IsErrAnd}
 use Rattle.lgm_wire.specs.Reading.{◌>>=◌}
 use Rattle.lgm_check.specs.Precheck.{require}

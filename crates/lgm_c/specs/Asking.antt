@@ -1,5 +1,5 @@
 -- What a peer's messages are answered with.
-use Rattle.std.specs.Prelude.{ℕ, nat_eq, List, Option, Some, None, Result, Ok, Err, if◌then◌else◌}
+use Rattle.std.specs.Prelude.{ℕ, nat_eq, List, Result, Ok, Err, if◌then◌else◌}
 use Rattle.std.specs.Cmp.Lexicographic.{pointwise}
 use Rattle.lgm_wire.specs.Reading.{◌>>=◌}
 use Rattle.lgm_wire.specs.declared.chain_hash.ChainHash.{ChainHash}

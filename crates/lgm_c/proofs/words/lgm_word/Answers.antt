@@ -1,4 +1,3 @@
-use Rattle.std.proofs.Common.{rules}
 use Rattle.lgm_c.proofs.ShortWords.{word_short}
 use Rattle.lgm_c.proofs.words.lgm_word.Goals as goal
 

@@ -1,4 +1,3 @@
-use Rattle.std.proofs.Common.{sym, ◌∙◌}
 use Rattle.lgm_c.proofs.Doings.{close_tells}
 use Rattle.lgm_c.proofs.inner.Inner.close.Goals as goal
 
