@@ -1,0 +1,5 @@
+mod Values
+mod Doings
+mod Marks
+mod Hops
+mod ShortWords

@@ -1,0 +1,36 @@
+-- How a mark follows a map.
+use Rattle.std.proofs.Common.{◌≡◌, ℕ, ◌<◌, List, [], ◌∷◌, ◌++◌, length, get_or, drop, filter, Option, Some, None, Result, Ok, Err, refl, sym, ap, ◌∙◌, arith}
+use Rattle.std.specs.Prelude.{not, IfOk}
+use Rattle.std.specs.List.{AllByRecursion}
+use Rattle.lgm_store.specs.declared.op.Op.{Op}
+use Rattle.lgm_store.specs.Rows.{Rows, empty}
+use Rattle.lgm_query.specs.declared.filter.Filter.{Filter}
+use Rattle.lgm_query.specs.Backlog.{is_among, backlog, news}
+use Rattle.lgm_query.specs.Touched.{TellsKey}
+use Rattle.lgm_c.specs.Held.{Marked, rows_at}
+use Rattle.lgm_c.specs.Telling.{all_framed}
+
+-- the first operation, and those behind it
+pub first_and_rest : (history : List Op) (op : Op) → 0 < length history → history ≡ get_or history 0 op ∷ drop 1 history
+first_and_rest [] op some = absurd (omega arith)
+first_and_rest (o ∷ os) op some = refl
+
+-- one more
+pub told_one_more : (since : List Op) (op : Op) → AllByRecursion TellsKey since → TellsKey op → AllByRecursion TellsKey (since ++ op ∷ [])
+told_one_more [] op all own = (own, tt)
+told_one_more (o ∷ os) op all own = (all.0, told_one_more os op all.1 own)
+
+-- of no messages none is known
+all_news : (messages : List (List ℕ)) → filter (λ message. not (is_among [] message)) messages ≡ messages
+all_news [] = refl
+all_news (message ∷ messages) = ap (λ others. message ∷ others) (all_news messages)
+
+pub no_mark : (mark : Option Marked) → ((m : Marked) → mark ≡ Some m → ⊥) → rows_at mark ≡ empty
+no_mark None none = refl
+no_mark (Some m) none = absurd (none m refl)
+
+-- before the first mark all that passes is news
+pub first_news : {X E : Type 0} (result : Result X E) (items : X → List ℕ) (marked rows : Rows) (f : Filter) → marked ≡ empty
+    → IfOk result (λ told. items told ≡ all_framed (backlog rows f)) → IfOk result (λ told. items told ≡ all_framed (news marked rows f))
+first_news (Ok told) items marked rows f none is = rw none (is ∙ ap all_framed (sym (all_news (backlog rows f))))
+first_news (Err e) items marked rows f none is = tt

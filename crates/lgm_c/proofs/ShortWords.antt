@@ -1,0 +1,54 @@
+-- Words are short.
+use Rattle.std.proofs.Common.{ℕ, ◌≤◌, Bool, true, false, List, length, Option, Some, None, lit≤}
+use Rattle.std.specs.Prelude.{◌==◌, if◌then◌else◌}
+use Rattle.lgm_check.specs.declared.refusal.Refusal.{Refusal}
+use Rattle.lgm_check.specs.declared.refusal.Refusal.TheVariants as refusals
+use Rattle.lgm_check.specs.Refusal.{word_of}
+use Rattle.lgm_route.specs.declared.fault.RouteFault.{RouteFault}
+use Rattle.lgm_route.specs.declared.fault.RouteFault.TheVariants as reasons
+use Rattle.lgm_route.specs.Words.{route_word}
+use Rattle.lgm_c.specs.Words.{refusal_at, reason_at, word_of_call, word_by, word_at}
+
+refusal_short : (refusal : Refusal) → length (word_of refusal) ≤ 24
+refusal_short refusals.Malformed = lit≤ tt
+refusal_short refusals.UnknownEven = lit≤ tt
+refusal_short refusals.Ignored = lit≤ tt
+refusal_short refusals.NotGossip = lit≤ tt
+refusal_short refusals.Chain = lit≤ tt
+refusal_short refusals.Point = lit≤ tt
+refusal_short refusals.NodeOrder = lit≤ tt
+refusal_short refusals.Private = lit≤ tt
+refusal_short refusals.Funding = lit≤ tt
+refusal_short refusals.Signature = lit≤ tt
+refusal_short refusals.UnknownChannel = lit≤ tt
+refusal_short refusals.Known = lit≤ tt
+refusal_short refusals.Conflict = lit≤ tt
+refusal_short refusals.UnknownNode = lit≤ tt
+refusal_short refusals.NotNewer = lit≤ tt
+refusal_short refusals.Banned = lit≤ tt
+refusal_short refusals.NoMemory = lit≤ tt
+
+reason_short : (reason : RouteFault) → length (route_word reason) ≤ 24
+reason_short reasons.AmountZero = lit≤ tt
+reason_short reasons.AmountTooLarge = lit≤ tt
+reason_short reasons.ExpiryTooLarge = lit≤ tt
+reason_short reasons.SelfPayment = lit≤ tt
+reason_short reasons.NoRoute = lit≤ tt
+reason_short reasons.NoMemory = lit≤ tt
+
+either_short : (test : Bool) (word other : List ℕ) → length word ≤ 24 → length other ≤ 24 → length (if test then word else other) ≤ 24
+either_short true word other short short' = short
+either_short false word other short short' = short'
+
+call_short : (number : ℕ) → length (word_of_call number) ≤ 24
+call_short number =
+    either_short (number == 0) _ _ (lit≤ tt) (either_short (number == 31) _ _ (lit≤ tt) (either_short (number == 32) _ _ (lit≤ tt) (either_short (number == 33) _ _ (lit≤ tt) (either_short (number == 100) _ _ (lit≤ tt) (either_short (number == 101) _ _ (lit≤ tt) (either_short (number == 102) _ _ (lit≤ tt) (either_short (number == 103) _ _ (lit≤ tt) (either_short (number == 104) _ _ (lit≤ tt) (either_short (number == 105) _ _ (lit≤ tt) (lit≤ tt))))))))))
+
+pub word_short : (number : ℕ) → length (word_at number) ≤ 24
+unfolding word_at
+word_short number = by (refusal_at number) (reason_at number)
+  where
+    by : (refusal : Option Refusal) (reason : Option RouteFault) → length (word_by refusal reason number) ≤ 24
+    by (Some refusal) reason = refusal_short refusal
+    by None (Some reason) = reason_short reason
+    by None None = call_short number

@@ -1,0 +1,11 @@
+pub mod Handle
+pub mod Held
+pub mod Status
+pub mod Telling
+pub mod Evidence
+pub mod Opening
+pub mod Doing
+pub mod Asking
+pub mod Routing
+pub mod Looking
+pub mod Words

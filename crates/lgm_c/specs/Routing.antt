@@ -1,0 +1,79 @@
+-- What C is told of a payment.
+use Rattle.std.specs.Prelude.{◌≡◌, ◌⊎◌, ℕ, ◌<◌, List, map, length, Result, Ok, Err}
+use Rattle.std.specs.List.{flat_map, zip}
+use Rattle.lgm_graph.specs.Edges.{edges_of}
+use Rattle.lgm_route.specs.Choice.{answer_of}
+use Rattle.lgm_route.specs.declared.request.Request.{Request}
+use Rattle.lgm_route.specs.declared.route.Hop.{Hop}
+use Rattle.lgm_route.specs.declared.fault.RouteFault.{RouteFault}
+use Rattle.lgm_payload.specs.Building.{payloads_of}
+use Rattle.lgm_c.specs.declared.routing.LgmPayment.{LgmPayment}
+use Rattle.lgm_c.specs.declared.routing.LgmHop.{LgmHop}
+use Rattle.lgm_c.specs.declared.routing.LgmLengths.{LgmLengths}
+use Rattle.lgm_c.specs.declared.fault.Fault.{Fault}
+use Rattle.lgm_c.specs.declared.fault.Fault.TheVariants as faults
+use Rattle.lgm_c.specs.Held.{Held}
+use Rattle.lgm_c.specs.Status.{number_of, no_memory, unrouted}
+use Rattle.lgm_c.specs.Telling.{in_front}
+
+abbrev pub request_of : LgmPayment → Request
+request_of payment = record {
+  payer = record { 0 = payment.payer };
+  payee = record { 0 = payment.payee };
+  amount = payment.amount_msat;
+  expiry = payment.expiry;
+}
+
+abbrev pub found_or_unrouted : Result (List Hop) RouteFault → Result (List Hop) Fault
+found_or_unrouted (Ok hops) = Ok hops
+found_or_unrouted (Err reason) = Err (unrouted reason)
+
+-- the hops of the least walk over the edges of the rows, or why there is none
+abbrev pub route_asked : LgmPayment → Held → Result (List Hop) Fault
+route_asked payment held = found_or_unrouted (answer_of (edges_of held.known held.rows) (request_of payment))
+
+-- a hop, with the payload for the node at its end
+abbrev pub told_hop : Hop → List ℕ → LgmHop
+told_hop hop payload = record {
+  scid = hop.scid;
+  amount_msat = hop.amount;
+  payload_len = length payload;
+  expiry = hop.expiry;
+  from = hop.from.0;
+  to = hop.to.0;
+}
+
+abbrev pub told_hops : List Hop → List (List ℕ) → List LgmHop
+told_hops hops payloads = map (λ (pair : Hop × List ℕ). told_hop pair.0 pair.1) (zip hops payloads)
+
+-- payloads one behind the other
+abbrev pub all_payloads : List (List ℕ) → List ℕ
+all_payloads payloads = flat_map (λ payload. payload) payloads
+
+-- the caller's buffers, and the lengths that it is told
+pub record Buffers : Type 0 where
+  pub hops : List LgmHop
+  pub payloads : List ℕ
+  pub lengths : LgmLengths
+
+abbrev pub lengths_of : List LgmHop → List ℕ → LgmLengths
+lengths_of hops payloads = record { hops = length hops; payloads = length payloads }
+
+-- hops and payloads were told: whole, or their lengths alone where a buffer is shorter
+abbrev pub HasToldRoute : List LgmHop → List ℕ → ℕ → Buffers → Buffers → Type 0
+HasToldRoute hops payloads status old new =
+    (new.lengths ≡ lengths_of hops payloads)
+    × (((status ≡ 0) × (new.hops ≡ in_front hops old.hops) × (new.payloads ≡ in_front payloads old.payloads))
+    ⊎ ((status ≡ number_of faults.Room)
+    × ((length old.hops < length hops) ⊎ (length old.payloads < length payloads))
+    × (new.hops ≡ old.hops) × (new.payloads ≡ old.payloads)))
+
+-- a route was told, with its payloads, or its fault
+abbrev pub TellsFound : Result (List Hop) Fault → List ℕ → ℕ → Buffers → Buffers → Type 0
+TellsFound (Ok hops) secret status old new =
+    HasToldRoute (told_hops hops (payloads_of secret hops)) (all_payloads (payloads_of secret hops)) status old new
+TellsFound (Err fault) secret status old new = (status ≡ number_of fault) × (new ≡ old)
+
+-- the same, or memory was refused
+abbrev pub TellsRoute : Result (List Hop) Fault → List ℕ → ℕ → Buffers → Buffers → Type 0
+TellsRoute answer secret status old new = TellsFound answer secret status old new ⊎ ((status ≡ no_memory) × (new ≡ old))

@@ -1,0 +1,62 @@
+-- The numbers of what calls answer.
+use Rattle.std.specs.Prelude.{◌≡◌, ℕ, Option, Some, None, Result, Ok, Err}
+use Rattle.lgm_check.specs.Refusal.{number_of as number_of_refusal}
+use Rattle.lgm_check.specs.declared.refusal.Refusal.{Refusal}
+use Rattle.lgm_check.specs.declared.refusal.Refusal.TheVariants as refusals
+use Rattle.lgm_route.specs.declared.fault.RouteFault.{RouteFault}
+use Rattle.lgm_route.specs.declared.fault.RouteFault.TheVariants as reasons
+use Rattle.lgm_c.specs.declared.fault.Fault.{Fault}
+use Rattle.lgm_c.specs.declared.fault.Fault.TheVariants as faults
+
+abbrev pub no_memory : ℕ
+no_memory = 102
+
+-- a number, or that of want of memory
+abbrev pub or_no_memory : Option ℕ → ℕ
+or_no_memory (Some number) = number
+or_no_memory None = no_memory
+
+abbrev pub number_of_unrouted : RouteFault → ℕ
+number_of_unrouted reasons.AmountZero = 21
+number_of_unrouted reasons.AmountTooLarge = 22
+number_of_unrouted reasons.ExpiryTooLarge = 23
+number_of_unrouted reasons.SelfPayment = 24
+number_of_unrouted reasons.NoRoute = 25
+number_of_unrouted reasons.NoMemory = no_memory
+
+abbrev pub number_of : Fault → ℕ
+number_of (faults.Refused refusal) = or_no_memory (number_of_refusal refusal)
+number_of (faults.Unrouted fault) = number_of_unrouted fault
+number_of faults.NotQuery = 31
+number_of faults.NotFilter = 32
+number_of faults.NotAnnounced = 33
+number_of faults.Closed = 100
+number_of faults.Open = 101
+number_of faults.NoMemory = no_memory
+number_of faults.Argument = 103
+number_of faults.Room = 104
+number_of faults.Full = 105
+
+-- a refusal of an item, and a reason why a payment has no route; want of memory is neither
+abbrev pub refused : Refusal → Fault
+refused refusals.NoMemory = faults.NoMemory
+refused refusal = faults.Refused refusal
+
+abbrev pub unrouted : RouteFault → Fault
+unrouted reasons.NoMemory = faults.NoMemory
+unrouted reason = faults.Unrouted reason
+
+-- 0 where a call did what it was asked
+abbrev pub status_of : {A : Type 0} → Result A Fault → ℕ
+status_of (Ok answer) = 0
+status_of (Err fault) = number_of fault
+
+-- the answer of an open handle; a closed one has none
+abbrev pub if_open : {H A : Type 0} → Option H → (H → Result A Fault) → Result A Fault
+if_open None answer = Err faults.Closed
+if_open (Some held) answer = answer held
+
+-- a value was told, or the fault of a call, which leaves what stood in its place
+abbrev pub Finds : {A : Type 0} → Result A Fault → ℕ → A → A → Type 0
+Finds (Ok found) status old new = (status ≡ 0) × (new ≡ found)
+Finds (Err fault) status old new = (status ≡ number_of fault) × (new ≡ old)

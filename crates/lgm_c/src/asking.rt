@@ -1,0 +1,169 @@
+//! What peers ask for, and what they are to be told.
+
+ghost use Rattle.std.specs.Prelude.{◌≡◌, Ok};
+ghost use Rattle.lgm_wire.specs.Reading.{Gives};
+ghost use Rattle.lgm_gossip.specs.MessageReading.{message_at};
+ghost use Rattle.lgm_c.specs.Asking.{replies_in, framed_answer, query_answer, filter_in, backlog_answer, news_answer};
+ghost use Rattle.lgm_c.specs.Opening.{MovesMark};
+ghost use Rattle.lgm_c.specs.Status.{if_open};
+ghost use Rattle.lgm_c.specs.Telling.{Answers};
+
+use crate::fault::{Fault, status};
+use crate::framing::{frame_backlog, frame_replies};
+use crate::inner::Inner;
+use crate::map::LgmMap;
+use crate::telling::tell;
+use lgm_check::Refusal;
+use lgm_gossip::{ChainHash, Message, decode};
+use lgm_query::{Backlog, Filter, answer_ids, answer_range};
+use std::alloc::Global;
+
+/// The replies to a query, each behind its length.
+fn replies_to(alloc: Global, inner: &Inner, message: &Message) -> Result<Vec<u8>, Fault>
+    ensures { Gives Fault.NoMemory (λ told. told.items) result (framed_answer (replies_in inner.now (Ok message.now))) }
+{
+    let (chain, map) = (inner.chain(), inner.map());
+    match message {
+        Message::IdsQuery(query) => {
+            let replies = answer_ids(alloc, chain, map, query)?;
+            Ok(frame_replies(alloc, replies.as_slice())?)
+        }
+        Message::RangeQuery(query) => {
+            let replies = answer_range(alloc, chain, map, query)?;
+            Ok(frame_replies(alloc, replies.as_slice())?)
+        }
+        _ => Err(Fault::NotQuery),
+    }
+}
+
+/// The same of the query that bytes spell.
+fn answer_query(alloc: Global, inner: &Inner, bytes: &[u8]) -> Result<Vec<u8>, Fault>
+    ensures { Gives Fault.NoMemory (λ told. told.items) result (query_answer bytes.now inner.now) }
+{
+    match decode(alloc, bytes) {
+        Ok(message) => replies_to(alloc, inner, &message),
+        Err(fault) => Err(Fault::from(Refusal::from(fault))),
+    }
+}
+
+/// The filter of a message, if it is one of this chain.
+fn filter_in(chain: &ChainHash, message: &Message) -> Result<Filter, Fault>
+    ensures { result ≡ filter_in chain.now (Ok message.now) }
+{
+    let Message::FilterMsg(filter) = message else {
+        return Err(Fault::NotFilter);
+    };
+    if filter.chain_hash != *chain {
+        return Err(Fault::Refused(Refusal::Chain));
+    }
+    Ok(Filter {
+        first: filter.first_timestamp,
+        range: filter.timestamp_range,
+    })
+}
+
+/// The filter that bytes spell.
+fn read_filter(alloc: Global, chain: &ChainHash, bytes: &[u8]) -> Result<Filter, Fault>
+    ensures { Gives Fault.NoMemory (λ filter. filter) result (filter_in chain.now (message_at bytes.now)) }
+{
+    match decode(alloc, bytes) {
+        Ok(message) => filter_in(chain, &message),
+        Err(fault) => Err(Fault::from(Refusal::from(fault))),
+    }
+}
+
+/// What passes a filter, each message behind its length.
+fn answer_filter(alloc: Global, inner: &Inner, bytes: &[u8]) -> Result<Vec<u8>, Fault>
+    ensures { Gives Fault.NoMemory (λ told. told.items) result (backlog_answer bytes.now inner.now) }
+{
+    let filter = read_filter(alloc, inner.chain(), bytes)?;
+    Ok(frame_backlog(alloc, Backlog::of(inner.map(), &filter))?)
+}
+
+/// What is new to a filter since the mark, each message behind its length.
+fn answer_news(alloc: Global, inner: &mut Inner, bytes: &[u8]) -> Result<Vec<u8>, Fault>
+    ensures same { inner.new ≡ inner.old }
+    ensures news { Gives Fault.NoMemory (λ told. told.items) result (news_answer bytes.now inner.old) }
+{
+    let filter = read_filter(alloc, inner.chain(), bytes)?;
+    Ok(inner.news(alloc, &filter)?)
+}
+
+/// The replies to a peer's query of channels or of a range of blocks (BOLT 7, "Query Messages").
+#[unsafe(no_mangle)]
+pub extern "C" fn lgm_query(
+    alloc: Global,
+    map: &mut LgmMap,
+    query: &[u8],
+    replies: &mut [u8],
+    needed: &mut usize,
+) -> u32
+    ensures same { map.new.handle.value ≡ map.old.handle.value }
+    ensures replies { Answers (if_open map.old.handle.value (query_answer query.now)) result
+        (record { room = replies.old; needed = needed.old }) (record { room = replies.new; needed = needed.new }) }
+{
+    let Some(inner) = map.take(alloc) else {
+        return Fault::Closed.number();
+    };
+    let answer = answer_query(alloc, &inner, query);
+    *map = LgmMap::open(inner);
+    tell(&answer, replies, needed)
+}
+
+/// What passes a peer's filter of all that the map holds (BOLT 7, "The gossip_timestamp_filter Message").
+#[unsafe(no_mangle)]
+pub extern "C" fn lgm_filter(
+    alloc: Global,
+    map: &mut LgmMap,
+    filter: &[u8],
+    messages: &mut [u8],
+    needed: &mut usize,
+) -> u32
+    ensures same { map.new.handle.value ≡ map.old.handle.value }
+    ensures backlog { Answers (if_open map.old.handle.value (backlog_answer filter.now)) result
+        (record { room = messages.old; needed = needed.old }) (record { room = messages.new; needed = needed.new }) }
+{
+    let Some(inner) = map.take(alloc) else {
+        return Fault::Closed.number();
+    };
+    let answer = answer_filter(alloc, &inner, filter);
+    *map = LgmMap::open(inner);
+    tell(&answer, messages, needed)
+}
+
+/// What passes a peer's filter of the map as it is, and didn't at the mark. Before the first mark that is what passes.
+#[unsafe(no_mangle)]
+pub extern "C" fn lgm_news(
+    alloc: Global,
+    map: &mut LgmMap,
+    filter: &[u8],
+    messages: &mut [u8],
+    needed: &mut usize,
+) -> u32
+    ensures same { map.new.handle.value ≡ map.old.handle.value }
+    ensures news { Answers (if_open map.old.handle.value (news_answer filter.now)) result
+        (record { room = messages.old; needed = needed.old }) (record { room = messages.new; needed = needed.new }) }
+{
+    let Some(mut inner) = map.take(alloc) else {
+        return Fault::Closed.number();
+    };
+    let answer = answer_news(alloc, &mut inner, filter);
+    *map = LgmMap::open(inner);
+    tell(&answer, messages, needed)
+}
+
+/// Moves the mark to the map as it is.
+#[unsafe(no_mangle)]
+pub extern "C" fn lgm_mark(alloc: Global, map: &mut LgmMap) -> u32
+    ensures { MovesMark result map.old.handle.value map.new.handle.value }
+{
+    let Some(mut inner) = map.take(alloc) else {
+        return Fault::Closed.number();
+    };
+    let renewed = inner.renew_mark(alloc);
+    *map = LgmMap::open(inner);
+    match renewed {
+        Ok(()) => 0,
+        Err(_) => Fault::NoMemory.number(),
+    }
+}

@@ -1,0 +1,29 @@
+//! The verdicts of the caller on a message.
+
+ghost use Rattle.std.specs.Prelude.{◌≡◌};
+ghost use Rattle.lgm_c.specs.Evidence.{evidence_of};
+
+use lgm_check::{Evidence, Funding, Sig};
+use lgm_gossip::Point;
+
+/// The verdicts that numbers name, if they name some: on the signatures, of which one may be by the signer, and on the
+/// funding output, which may have so many satoshi.
+pub(crate) fn evidence(sig: u32, signer: &[u8; 33], funding: u32, sat: u64) -> Option<Evidence>
+    ensures { result ≡ evidence_of sig signer.now funding sat }
+{
+    let sig = match sig {
+        0 => Sig::AllFour(true),
+        1 => Sig::AllFour(false),
+        2 => Sig::By(Point(*signer)),
+        3 => Sig::Nobody,
+        _ => return None,
+    };
+    let funding = match funding {
+        0 => Funding::NotAsked,
+        1 => Funding::Unspent(sat),
+        2 => Funding::Spent,
+        3 => Funding::Wrong,
+        _ => return None,
+    };
+    Some(Evidence { sig, funding })
+}

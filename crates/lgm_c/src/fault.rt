@@ -1,0 +1,105 @@
+//! Why a call failed, and the numbers that C is told.
+
+ghost use Rattle.std.specs.Prelude.{◌≡◌};
+ghost use Rattle.lgm_c.specs.Status.{number_of, status_of, refused, unrouted};
+ghost use Rattle.lgm_c.specs.declared.fault.Fault.TheVariants.{NoMemory};
+
+use lgm_check::Refusal;
+use lgm_route::RouteFault;
+use std::alloc::AllocError;
+
+/// Why a call failed. It left the map, and what it was to write to, as they were.
+#[derive(Clone, Copy, Debug, PartialEq, Eq)]
+pub(crate) enum Fault {
+    /// 1 to 16: an item was refused.
+    Refused(Refusal),
+    /// 21 to 25: a payment has no route.
+    Unrouted(RouteFault),
+    /// 31: the message is no query.
+    NotQuery,
+    /// 32: the message is no filter.
+    NotFilter,
+    /// 33: the node isn't announced.
+    NotAnnounced,
+    /// 100: the handle holds no map.
+    Closed,
+    /// 101: the handle holds a map already.
+    Open,
+    /// 102: memory was refused.
+    NoMemory,
+    /// 103: a number of a verdict names none.
+    Argument,
+    /// 104: the answer is longer than the room for it.
+    Room,
+    /// 105: the map has given all its numbers to points.
+    Full,
+}
+
+impl Fault {
+    /// Its number.
+    pub(crate) fn number(self) -> u32
+        ensures { result ≡ number_of self }
+    {
+        match self {
+            Fault::Refused(refusal) => match refusal.number() {
+                Some(number) => u32::from(number),
+                None => 102,
+            },
+            Fault::Unrouted(RouteFault::AmountZero) => 21,
+            Fault::Unrouted(RouteFault::AmountTooLarge) => 22,
+            Fault::Unrouted(RouteFault::ExpiryTooLarge) => 23,
+            Fault::Unrouted(RouteFault::SelfPayment) => 24,
+            Fault::Unrouted(RouteFault::NoRoute) => 25,
+            Fault::Unrouted(RouteFault::NoMemory) => 102,
+            Fault::NotQuery => 31,
+            Fault::NotFilter => 32,
+            Fault::NotAnnounced => 33,
+            Fault::Closed => 100,
+            Fault::Open => 101,
+            Fault::NoMemory => 102,
+            Fault::Argument => 103,
+            Fault::Room => 104,
+            Fault::Full => 105,
+        }
+    }
+}
+
+/// The number of how a call went: 0, or that of its fault.
+pub(crate) fn status(outcome: &Result<(), Fault>) -> u32
+    ensures { result ≡ status_of outcome.now }
+{
+    match outcome {
+        Ok(()) => 0,
+        Err(fault) => fault.number(),
+    }
+}
+
+impl From<AllocError> for Fault {
+    ghost from_gives = { λ _ fault. fault ≡ NoMemory };
+
+    fn from(_e: AllocError) -> Fault {
+        Fault::NoMemory
+    }
+}
+
+impl From<Refusal> for Fault {
+    ghost from_gives = { λ refusal fault. fault ≡ refused refusal };
+
+    fn from(refusal: Refusal) -> Fault {
+        match refusal {
+            Refusal::NoMemory => Fault::NoMemory,
+            refusal => Fault::Refused(refusal),
+        }
+    }
+}
+
+impl From<RouteFault> for Fault {
+    ghost from_gives = { λ reason fault. fault ≡ unrouted reason };
+
+    fn from(reason: RouteFault) -> Fault {
+        match reason {
+            RouteFault::NoMemory => Fault::NoMemory,
+            reason => Fault::Unrouted(reason),
+        }
+    }
+}

@@ -1,0 +1,54 @@
+//! A pointer that C holds.
+
+ghost use Rattle.std.specs.Prelude.{◌≡◌, Some, None, Option, is_some, true};
+ghost use Rattle.lgm_c.specs.Held.{Held};
+
+use crate::inner::Inner;
+use crate::loose::Loose;
+use std::alloc::Global;
+use std::marker::Model;
+
+/// A pointer to what stands behind an open handle, or null. C holds it, and reads nothing through it.
+#[repr(C)]
+#[derive(Drop)]
+pub struct Handle {
+    at: *mut u8,
+    ghost value: { Option Held },
+}
+
+impl Model for Handle {
+    ghost use Rattle.lgm_c.specs.Handle.{owns_box};
+
+    ghost also_owns = { λ h. owns_box h.at h.value };
+}
+
+impl Handle {
+    /// The pointer of a box.
+    pub(crate) fn of(loose: Loose<Inner, Global>) -> Handle
+        ensures { result.value ≡ Some loose.value }
+    {
+        let Loose { at, alloc: _ } = loose;
+        Handle { at: at as *mut u8 }
+    }
+
+    /// Null.
+    pub(crate) fn none() -> Handle
+        ensures { result.value ≡ None }
+    {
+        Handle {
+            at: std::ptr::null_mut(),
+        }
+    }
+
+    /// The box of a pointer that isn't null.
+    pub(crate) fn into_loose(self, alloc: Global) -> Loose<Inner, Global>
+        requires { is_some self.value ≡ true }
+        ensures { Some result.value ≡ self.value }
+    {
+        let Handle { at } = self;
+        Loose {
+            at: at as *mut Inner,
+            alloc,
+        }
+    }
+}

@@ -1,0 +1,201 @@
+//! What a map holds.
+
+ghost use Rattle.std.specs.Prelude.{◌≡◌};
+ghost use Rattle.lgm_c.specs.Looking.{count_of, told_direction, channel_found, told_node, node_found, TellsNode};
+ghost use Rattle.lgm_c.specs.Status.{if_open, status_of, Finds};
+
+use crate::fault::{Fault, status};
+use crate::inner::Inner;
+use crate::map::LgmMap;
+use crate::telling::tell_bytes;
+use lgm_check::{NodeRow, Refusal, UpdateRow};
+use lgm_gossip::{Point, Scid};
+use std::alloc::Global;
+
+/// The terms of a channel's direction, from its `channel_update` (BOLT 7, "The channel_update Message").
+#[repr(C)]
+#[derive(Clone, Copy)]
+pub struct LgmDirection {
+    /// Whether an update is held. Where none is, all else is 0.
+    pub is_held: bool,
+    /// Its flags.
+    pub message_flags: u8,
+    /// Its flags: bit 0 is the direction, and bit 1 is set where it is disabled.
+    pub channel_flags: u8,
+    /// By how many blocks the node that sets the terms wants to be safe.
+    pub cltv_expiry_delta: u16,
+    /// When it was made, in seconds since 1970.
+    pub timestamp: u32,
+    /// The fixed part of the fee, in msat.
+    pub fee_base_msat: u32,
+    /// The millionths of the amount that are added.
+    pub fee_proportional_millionths: u32,
+    /// The least amount, in msat.
+    pub htlc_minimum_msat: u64,
+    /// The most, in msat.
+    pub htlc_maximum_msat: u64,
+}
+
+/// A channel.
+#[repr(C)]
+#[derive(Clone, Copy)]
+pub struct LgmChannel {
+    /// Its capacity, in satoshi.
+    pub capacity_sat: u64,
+    /// Node 1, the lesser one byte by byte.
+    pub node_1: [u8; 33],
+    /// Node 2.
+    pub node_2: [u8; 33],
+    /// The terms from node 1 to node 2, which node 1 sets.
+    pub from_1: LgmDirection,
+    /// The terms from node 2 to node 1.
+    pub from_2: LgmDirection,
+}
+
+/// A node, from its `node_announcement` (BOLT 7, "The node_announcement Message").
+#[repr(C)]
+#[derive(Clone, Copy)]
+pub struct LgmNode {
+    /// When it was made, in seconds since 1970.
+    pub timestamp: u32,
+    /// The node's color: red, green and blue.
+    pub rgb: [u8; 3],
+    /// Its name: any bytes.
+    pub alias: [u8; 32],
+}
+
+/// The number of channels of a handle's map: 0 of a closed one.
+#[unsafe(no_mangle)]
+pub extern "C" fn lgm_count(alloc: Global, map: &mut LgmMap) -> usize
+    ensures same { map.new.handle.value ≡ map.old.handle.value }
+    ensures count { result ≡ count_of map.old.handle.value }
+{
+    let Some(inner) = map.take(alloc) else {
+        return 0;
+    };
+    let count = inner.map().count();
+    *map = LgmMap::open(inner);
+    count
+}
+
+fn told_direction(update: Option<UpdateRow<'_>>) -> LgmDirection
+    ensures { result ≡ told_direction update.entry }
+{
+    match update {
+        Some(row) => LgmDirection {
+            is_held: true,
+            message_flags: row.message.message_flags,
+            channel_flags: row.message.channel_flags,
+            cltv_expiry_delta: row.message.cltv_expiry_delta,
+            timestamp: row.message.timestamp,
+            fee_base_msat: row.message.fee_base_msat,
+            fee_proportional_millionths: row.message.fee_proportional_millionths,
+            htlc_minimum_msat: row.message.htlc_minimum_msat,
+            htlc_maximum_msat: row.message.htlc_maximum_msat,
+        },
+        None => LgmDirection {
+            is_held: false,
+            message_flags: 0,
+            channel_flags: 0,
+            cltv_expiry_delta: 0,
+            timestamp: 0,
+            fee_base_msat: 0,
+            fee_proportional_millionths: 0,
+            htlc_minimum_msat: 0,
+            htlc_maximum_msat: 0,
+        },
+    }
+}
+
+fn find_channel(inner: &Inner, scid: Scid) -> Result<LgmChannel, Fault>
+    ensures { result ≡ channel_found scid inner.now }
+{
+    let map = inner.map();
+    let Some(held) = map.held(scid) else {
+        return Err(Fault::Refused(Refusal::UnknownChannel));
+    };
+    let node_1 = held.node(false).0;
+    let node_2 = held.node(true).0;
+    Ok(LgmChannel {
+        capacity_sat: held.row().sat,
+        node_1,
+        node_2,
+        from_1: told_direction(held.update(false)),
+        from_2: told_direction(held.update(true)),
+    })
+}
+
+/// What the map holds of a channel.
+#[unsafe(no_mangle)]
+pub extern "C" fn lgm_channel(
+    alloc: Global,
+    map: &mut LgmMap,
+    scid: u64,
+    channel: &mut LgmChannel,
+) -> u32
+    ensures same { map.new.handle.value ≡ map.old.handle.value }
+    ensures channel { Finds (if_open map.old.handle.value (channel_found scid)) result channel.old channel.new }
+{
+    let Some(inner) = map.take(alloc) else {
+        return Fault::Closed.number();
+    };
+    let found = find_channel(&inner, Scid::from_u64(scid));
+    *map = LgmMap::open(inner);
+    match found {
+        Ok(told) => {
+            *channel = told;
+            0
+        }
+        Err(fault) => fault.number(),
+    }
+}
+
+fn told_node(row: &NodeRow<'_>) -> LgmNode
+    ensures { result ≡ told_node row.now }
+{
+    LgmNode {
+        timestamp: row.message.timestamp,
+        rgb: row.message.rgb_color,
+        alias: row.message.alias,
+    }
+}
+
+/// Tells what the map holds of a node.
+fn tell_node(
+    inner: &Inner,
+    point: &Point,
+    node: &mut LgmNode,
+    addresses: &mut [u8],
+    needed: &mut usize,
+) -> Result<(), Fault>
+    ensures { TellsNode (node_found point.now.0 inner.now) (status_of result) node.old node.new
+        (record { room = addresses.old; needed = needed.old }) (record { room = addresses.new; needed = needed.new }) }
+{
+    let Some(row) = inner.map().node(point) else {
+        return Err(Fault::NotAnnounced);
+    };
+    *node = told_node(&row);
+    tell_bytes(row.message.addresses.as_slice(), addresses, needed)
+}
+
+/// What the map holds of a node, and its addresses as they were announced: descriptors one behind the other.
+#[unsafe(no_mangle)]
+pub extern "C" fn lgm_node(
+    alloc: Global,
+    map: &mut LgmMap,
+    point: &[u8; 33],
+    node: &mut LgmNode,
+    addresses: &mut [u8],
+    needed: &mut usize,
+) -> u32
+    ensures same { map.new.handle.value ≡ map.old.handle.value }
+    ensures node { TellsNode (if_open map.old.handle.value (node_found point.now)) result node.old node.new
+        (record { room = addresses.old; needed = needed.old }) (record { room = addresses.new; needed = needed.new }) }
+{
+    let Some(inner) = map.take(alloc) else {
+        return Fault::Closed.number();
+    };
+    let outcome = tell_node(&inner, &Point(*point), node, addresses, needed);
+    *map = LgmMap::open(inner);
+    status(&outcome)
+}

@@ -1,0 +1,53 @@
+//! A map, as C holds it.
+
+ghost use Rattle.std.specs.Prelude.{◌≡◌, Some, None, is_some};
+ghost use Rattle.std.specs.Option.{option_map};
+
+use crate::handle::Handle;
+use crate::inner::Inner;
+use crate::loose::Loose;
+use std::alloc::Global;
+use std::mem::replace;
+
+/// A handle: a map that C holds, in 16 bytes, or none. All zeros are a closed handle, which holds none.
+#[repr(C)]
+#[derive(Drop)]
+pub struct LgmMap {
+    is_open: bool,
+    pub(crate) handle: Handle,
+    ghost sound: { is_open ≡ is_some handle.value },
+}
+
+impl LgmMap {
+    /// A closed handle.
+    pub(crate) fn closed() -> LgmMap
+        ensures { result.handle.value ≡ None }
+    {
+        LgmMap {
+            is_open: false,
+            handle: Handle::none(),
+        }
+    }
+
+    /// A handle of a map.
+    pub(crate) fn open(inner: Box<Inner>) -> LgmMap
+        ensures { result.handle.value ≡ Some inner.value }
+    {
+        LgmMap {
+            is_open: true,
+            handle: Handle::of(Loose::of(inner)),
+        }
+    }
+
+    /// Takes the map out, if there is one. The handle is closed then.
+    pub(crate) fn take(&mut self, alloc: Global) -> Option<Box<Inner>>
+        ensures left { self.new.handle.value ≡ None }
+        ensures taken { option_map (λ inner. inner.value) result ≡ self.old.handle.value }
+    {
+        if !self.is_open {
+            return None;
+        }
+        let LgmMap { is_open: _, handle } = replace(self, LgmMap::closed());
+        Some(handle.into_loose(alloc).into_box())
+    }
+}

@@ -1,0 +1,144 @@
+//! Marks: what is new is what came since.
+
+ghost use Rattle.std.specs.Prelude.{◌≡◌, ◌+◌, ◌≤◌, [], length, drop, IfOk, OnOk, OnErr};
+ghost use Rattle.std.specs.List.{AllByRecursion};
+ghost use Rattle.lgm_store.specs.History.{absorbed, fold_from};
+ghost use Rattle.lgm_query.specs.KeyNews.{TellKeys};
+ghost use Rattle.lgm_query.specs.Touched.{HasTouched, TellsKey};
+ghost use Rattle.lgm_query.specs.Backlog.{news};
+ghost use Rattle.lgm_c.specs.Telling.{all_framed};
+
+use crate::framing::frame;
+use lgm_graph::Network;
+use lgm_query::{Changes, Differences, Filter};
+use lgm_store::{Map, Op};
+use std::alloc::{AllocError, Global};
+use std::collections::VecDeque;
+use std::marker::Model;
+use std::mem::swap;
+
+/// A map at a mark, and the operations that were done to a map beside it since. Contracts see the rows of both.
+#[derive(Drop)]
+pub struct Mark {
+    /// The map at the mark, but for what is due.
+    map: Map,
+    /// What it has yet to do, in order.
+    due: VecDeque<Op>,
+    /// What was done since the mark.
+    since: VecDeque<Op>,
+}
+
+impl Model for Mark {
+    ghost use Rattle.lgm_c.specs.Held.{Marked, marked_by, AreTold};
+
+    ghost Value = { Marked };
+
+    ghost view = { λ m. marked_by m.map m.due.items m.since.items };
+
+    ghost invariant = { λ m. AreTold m.map m.due.items m.since.items };
+}
+
+/// Takes the first operation out.
+fn forget_first(due: &mut VecDeque<Op>)
+    ensures { due.new.items ≡ drop 1 due.old.items }
+{
+    due.pop_front();
+}
+
+/// Does what is due, from the first on. Each operation is due until it is done.
+fn level(map: &mut Map, due: &mut VecDeque<Op>) -> Result<(), AllocError>
+    requires map { TellKeys map.old }
+    requires due { AllByRecursion TellsKey due.old.items }
+    ensures rows { fold_from map.new due.new.items ≡ fold_from map.old due.old.items }
+    ensures map { TellKeys map.new }
+    ensures due { AllByRecursion TellsKey due.new.items }
+    ensures done { OnOk result (due.new.items ≡ []) }
+{
+    while let Some(op) = due.front() {
+        map.absorb(op)?;
+        forget_first(due);
+    }
+    Ok(())
+}
+
+/// What operations touch.
+fn changes_of(alloc: Global, since: &VecDeque<Op>) -> Result<Changes, AllocError>
+    ensures { IfOk result (λ changes. HasTouched since.now.items changes) }
+{
+    let mut changes = Changes::new(alloc);
+    for place in 0..since.len() {
+        changes.touch(&since[place])?;
+    }
+    Ok(changes)
+}
+
+impl Mark {
+    /// A mark at the rows of a map, of which the messages are about the channels and nodes of their rows.
+    pub(crate) fn of(alloc: Global, map: Map) -> Mark
+        requires { TellKeys map }
+        ensures { result ≡ record { marked = map; rows = map } }
+    {
+        Mark {
+            map,
+            due: VecDeque::new(alloc),
+            since: VecDeque::new(alloc),
+        }
+    }
+
+    /// Does an operation to the map beside it, and keeps it. Want of memory leaves both as they were.
+    pub(crate) fn absorb(
+        &mut self,
+        alloc: Global,
+        network: &mut Network,
+        op: &Op,
+    ) -> Result<(), AllocError>
+        requires few { length network.old.graph.points ≤ 4294967290 }
+        requires beside { self.old.rows ≡ network.old.rows }
+        requires tells { TellsKey op.now }
+        ensures marked { self.new.marked ≡ self.old.marked }
+        ensures beside { self.new.rows ≡ network.new.rows }
+        ensures rows { OnOk result (network.new.rows ≡ absorbed network.old.rows op.now) }
+        ensures known { network.new.graph.known ≡ network.old.graph.known }
+        ensures few { length network.new.graph.points ≤ length network.old.graph.points + 2 }
+        ensures stays { OnErr result (network.new ≡ network.old) }
+    {
+        let kept = op.copy(alloc)?;
+        self.since.reserve(1)?;
+        network.absorb(op)?;
+        match self.since.push_back(kept) {
+            Ok(()) => Ok(()),
+            Err(_) => unreachable!(),
+        }
+    }
+
+    /// Moves the mark to what the map beside it has. Want of memory leaves it where it was.
+    pub(crate) fn renew(&mut self) -> Result<(), AllocError>
+        ensures renewed { OnOk result (self.new ≡ record { marked = self.old.rows; rows = self.old.rows }) }
+        ensures stays { OnErr result (self.new ≡ self.old) }
+    {
+        level(&mut self.map, &mut self.due)?;
+        swap(&mut self.due, &mut self.since);
+        Ok(())
+    }
+
+    /// What is new to a filter in the map beside it, each message behind its length.
+    pub(crate) fn news(
+        &mut self,
+        alloc: Global,
+        map: &Map,
+        filter: &Filter,
+    ) -> Result<Vec<u8>, AllocError>
+        requires { self.old.rows ≡ map.now }
+        ensures same { self.new ≡ self.old }
+        ensures news { IfOk result (λ told. told.items ≡ all_framed (news self.old.marked map.now filter.now)) }
+    {
+        level(&mut self.map, &mut self.due)?;
+        let changes = changes_of(alloc, &self.since)?;
+        let differences = Differences::between(alloc, &self.map, map, &changes)?;
+        let mut told = Vec::new(alloc);
+        for message in differences.news(filter) {
+            frame(&mut told, message)?;
+        }
+        Ok(told)
+    }
+}

@@ -1,0 +1,189 @@
+//! Routes of payments.
+
+ghost use Rattle.std.specs.Prelude.{◌≡◌, Ok, IfOk};
+ghost use Rattle.lgm_c.specs.Routing.{request_of, route_asked, told_hop, told_hops, all_payloads, TellsRoute, HasToldRoute};
+ghost use Rattle.lgm_c.specs.Status.{if_open, status_of};
+
+use crate::fault::{Fault, status};
+use crate::inner::Inner;
+use crate::map::LgmMap;
+use crate::telling::copy_in_front;
+use lgm_gossip::{Bytes, Point};
+use lgm_payload::build;
+use lgm_route::{Hop, Request, Route};
+use std::alloc::{AllocError, Global};
+
+/// A payment to be made.
+#[repr(C)]
+#[derive(Clone, Copy)]
+pub struct LgmPayment {
+    /// What the payee is to get, in msat.
+    pub amount_msat: u64,
+    /// The block height at which what the payee is offered expires.
+    pub expiry: u32,
+    /// The node that pays.
+    pub payer: [u8; 33],
+    /// The node that is paid.
+    pub payee: [u8; 33],
+    /// The payment secret, from the invoice.
+    pub secret: [u8; 32],
+}
+
+/// A hop of a route: one channel, with the HTLC that is offered over it (BOLT 7, "HTLC Fees").
+#[repr(C)]
+#[derive(Clone, Copy)]
+pub struct LgmHop {
+    /// The channel.
+    pub scid: u64,
+    /// What goes over it, in msat.
+    pub amount_msat: u64,
+    /// How many bytes the payload for the node at its end has.
+    pub payload_len: usize,
+    /// The block height at which the HTLC expires.
+    pub expiry: u32,
+    /// The node that offers it.
+    pub from: [u8; 33],
+    /// The node that it is offered to.
+    pub to: [u8; 33],
+}
+
+/// How long a route is.
+#[repr(C)]
+#[derive(Clone, Copy)]
+pub struct LgmLengths {
+    /// How many hops it has: 1 to 20.
+    pub hops: usize,
+    /// How many bytes their payloads have together.
+    pub payloads: usize,
+}
+
+fn request_of(payment: &LgmPayment) -> Request
+    ensures { result ≡ request_of payment.now }
+{
+    Request {
+        payer: Point(payment.payer),
+        payee: Point(payment.payee),
+        amount: payment.amount_msat,
+        expiry: payment.expiry,
+    }
+}
+
+fn told_hop(hop: &Hop, payload: &[u8]) -> LgmHop
+    ensures { result ≡ told_hop hop.now payload.now }
+{
+    LgmHop {
+        scid: hop.scid.to_u64(),
+        amount_msat: hop.amount,
+        payload_len: payload.len(),
+        expiry: hop.expiry,
+        from: hop.from.0,
+        to: hop.to.0,
+    }
+}
+
+/// Hops, each with the length of its payload.
+fn told_hops(alloc: Global, hops: &[Hop], payloads: &[Bytes]) -> Result<Vec<LgmHop>, AllocError>
+    ensures { IfOk result (λ told. told.items ≡ told_hops hops.now payloads.now) }
+{
+    let count = hops.len().min(payloads.len());
+    let mut told = Vec::with_capacity(alloc, count)?;
+    for place in 0..count {
+        told.push(told_hop(&hops[place], payloads[place].as_slice()))?;
+    }
+    Ok(told)
+}
+
+/// Payloads, one behind the other.
+fn joined(alloc: Global, payloads: &[Bytes]) -> Result<Vec<u8>, AllocError>
+    ensures { IfOk result (λ joined. joined.items ≡ all_payloads payloads.now) }
+{
+    let mut joined = Vec::new(alloc);
+    for payload in payloads {
+        joined.extend_from_slice(payload.as_slice())?;
+    }
+    Ok(joined)
+}
+
+/// Tells hops and payloads where the buffers have room for both, and how long they are in any case.
+fn write(
+    told: &[LgmHop],
+    joined: &[u8],
+    hops: &mut [LgmHop],
+    payloads: &mut [u8],
+    lengths: &mut LgmLengths,
+) -> Result<(), Fault>
+    ensures { HasToldRoute told.now joined.now (status_of result)
+        (record { hops = hops.old; payloads = payloads.old; lengths = lengths.old })
+        (record { hops = hops.new; payloads = payloads.new; lengths = lengths.new }) }
+{
+    *lengths = LgmLengths {
+        hops: told.len(),
+        payloads: joined.len(),
+    };
+    if hops.len() < told.len() || payloads.len() < joined.len() {
+        return Err(Fault::Room);
+    }
+    copy_in_front(told, hops);
+    copy_in_front(joined, payloads);
+    Ok(())
+}
+
+/// Tells a route, with its payloads.
+fn tell_route(
+    alloc: Global,
+    route: &Route,
+    secret: &[u8; 32],
+    hops: &mut [LgmHop],
+    payloads: &mut [u8],
+    lengths: &mut LgmLengths,
+) -> Result<(), Fault>
+    ensures { TellsRoute (Ok route.now) secret.now (status_of result)
+        (record { hops = hops.old; payloads = payloads.old; lengths = lengths.old })
+        (record { hops = hops.new; payloads = payloads.new; lengths = lengths.new }) }
+{
+    let built = build(alloc, route, secret)?;
+    let told = told_hops(alloc, route.as_slice(), built.as_slice())?;
+    let joined = joined(alloc, built.as_slice())?;
+    write(&told, &joined, hops, payloads, lengths)
+}
+
+/// Finds and tells the route of a payment.
+fn find(
+    alloc: Global,
+    inner: &Inner,
+    payment: &LgmPayment,
+    hops: &mut [LgmHop],
+    payloads: &mut [u8],
+    lengths: &mut LgmLengths,
+) -> Result<(), Fault>
+    ensures { TellsRoute (route_asked payment.now inner.now) payment.now.secret (status_of result)
+        (record { hops = hops.old; payloads = payloads.old; lengths = lengths.old })
+        (record { hops = hops.new; payloads = payloads.new; lengths = lengths.new }) }
+{
+    let route = inner.route(alloc, &request_of(payment))?;
+    tell_route(alloc, &route, &payment.secret, hops, payloads, lengths)
+}
+
+/// The route of a payment by which the payer sends the least: its hops, from the payer on, and their payloads one behind
+/// the other (BOLT 7, "HTLC Fees"; BOLT 4, "Payload Format").
+#[unsafe(no_mangle)]
+pub extern "C" fn lgm_route(
+    alloc: Global,
+    map: &mut LgmMap,
+    payment: &LgmPayment,
+    hops: &mut [LgmHop],
+    payloads: &mut [u8],
+    lengths: &mut LgmLengths,
+) -> u32
+    ensures same { map.new.handle.value ≡ map.old.handle.value }
+    ensures route { TellsRoute (if_open map.old.handle.value (route_asked payment.now)) payment.now.secret result
+        (record { hops = hops.old; payloads = payloads.old; lengths = lengths.old })
+        (record { hops = hops.new; payloads = payloads.new; lengths = lengths.new }) }
+{
+    let Some(inner) = map.take(alloc) else {
+        return Fault::Closed.number();
+    };
+    let outcome = find(alloc, &inner, payment, hops, payloads, lengths);
+    *map = LgmMap::open(inner);
+    status(&outcome)
+}

@@ -1,0 +1,42 @@
+//! Answers, as they are written to the caller's buffers.
+
+ghost use Rattle.std.specs.Prelude.{◌≡◌, ◌≤◌, length, ℕ, List, Result};
+ghost use Rattle.lgm_wire.specs.Reading.{Gives};
+ghost use Rattle.lgm_c.specs.declared.fault.Fault.{Fault as AFault};
+ghost use Rattle.lgm_c.specs.Status.{status_of};
+ghost use Rattle.lgm_c.specs.Telling.{in_front, HasTold, Answers};
+
+use crate::fault::{Fault, status};
+
+/// Copies items to the front of a buffer that has room for them.
+pub(crate) fn copy_in_front<T: Copy>(items: &[T], room: &mut [T])
+    requires { length items.now ≤ length room.old }
+    ensures { room.new ≡ in_front items.now room.old }
+{
+    let n = items.len();
+    room[..n].copy_from_slice(items);
+}
+
+/// Tells bytes where the buffer has room for them, and their length in any case.
+pub(crate) fn tell_bytes(bytes: &[u8], room: &mut [u8], needed: &mut usize) -> Result<(), Fault>
+    ensures { HasTold bytes.now (status_of result) (record { room = room.old; needed = needed.old }) (record { room = room.new; needed = needed.new }) }
+{
+    *needed = bytes.len();
+    if room.len() < bytes.len() {
+        return Err(Fault::Room);
+    }
+    copy_in_front(bytes, room);
+    Ok(())
+}
+
+/// Tells an answer, or its fault.
+pub(crate) fn tell(answer: &Result<Vec<u8>, Fault>, room: &mut [u8], needed: &mut usize) -> u32
+    ensures { (expected : Result (List ℕ) AFault)
+        → Gives Fault.NoMemory (λ told. told.items) answer.now expected
+        → Answers expected result (record { room = room.old; needed = needed.old }) (record { room = room.new; needed = needed.new }) }
+{
+    match answer {
+        Ok(bytes) => status(&tell_bytes(bytes, room, needed)),
+        Err(fault) => fault.number(),
+    }
+}

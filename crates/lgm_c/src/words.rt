@@ -1,0 +1,97 @@
+//! The words of numbers.
+
+ghost use Rattle.std.specs.Prelude.{◌≡◌};
+ghost use Rattle.lgm_c.specs.Words.{refusal_at, reason_at, word_of_call, word_at, padded};
+
+use crate::telling::copy_in_front;
+use lgm_check::Refusal;
+use lgm_route::RouteFault;
+
+/// The refusal of a number.
+fn refusal_at(number: u32) -> Option<Refusal>
+    ensures { result ≡ refusal_at number }
+{
+    match number {
+        1 => Some(Refusal::Malformed),
+        2 => Some(Refusal::UnknownEven),
+        3 => Some(Refusal::Ignored),
+        4 => Some(Refusal::NotGossip),
+        5 => Some(Refusal::Chain),
+        6 => Some(Refusal::Point),
+        7 => Some(Refusal::NodeOrder),
+        8 => Some(Refusal::Private),
+        9 => Some(Refusal::Funding),
+        10 => Some(Refusal::Signature),
+        11 => Some(Refusal::UnknownChannel),
+        12 => Some(Refusal::Known),
+        13 => Some(Refusal::Conflict),
+        14 => Some(Refusal::UnknownNode),
+        15 => Some(Refusal::NotNewer),
+        16 => Some(Refusal::Banned),
+        _ => None,
+    }
+}
+
+/// The reason of a number why a payment has no route.
+fn reason_at(number: u32) -> Option<RouteFault>
+    ensures { result ≡ reason_at number }
+{
+    match number {
+        21 => Some(RouteFault::AmountZero),
+        22 => Some(RouteFault::AmountTooLarge),
+        23 => Some(RouteFault::ExpiryTooLarge),
+        24 => Some(RouteFault::SelfPayment),
+        25 => Some(RouteFault::NoRoute),
+        _ => None,
+    }
+}
+
+/// The word of a number that neither a refusal nor a reason has.
+fn word_of_call(number: u32) -> &'static str
+    ensures { result.now ≡ word_of_call number }
+{
+    match number {
+        0 => "accepted",
+        31 => "not-query",
+        32 => "not-filter",
+        33 => "not-announced",
+        100 => "closed",
+        101 => "open",
+        102 => "no-memory",
+        103 => "argument",
+        104 => "room",
+        105 => "full",
+        _ => "",
+    }
+}
+
+#[tactic(auto, unfolding(crate::specs::Words::word_at))]
+fn word_at(number: u32) -> &'static str
+    ensures { result.now ≡ word_at number }
+{
+    if let Some(refusal) = refusal_at(number) {
+        return refusal.word();
+    }
+    match reason_at(number) {
+        Some(reason) => reason.word(),
+        None => word_of_call(number),
+    }
+}
+
+/// The word of a number that a call answered, and zeros behind it. A number that none answers has no word.
+#[unsafe(no_mangle)]
+pub extern "C" fn lgm_word(number: u32, word: &mut [u8; 24])
+    ensures { word.new ≡ padded (word_at number) }
+{
+    let bytes = word_at(number).as_bytes();
+    *word = [0; 24];
+    copy_in_front(bytes, word);
+}
+
+/// The version of this interface, which is 1.
+#[unsafe(no_mangle)]
+pub extern "C" fn lgm_version() -> u32
+    ensures { result ≡ 1 }
+{
+    1
+}
