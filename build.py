@@ -171,6 +171,7 @@ def main():
             stale.append(it)
     say(f"proving and building {len(stale) + 1} of {len(crates) + 1} crates, {at_once} at once; all of them take some 20 minutes")
     begun = time.monotonic()
+    at_once = min(at_once, max(1, len(stale)))
     try:
         prove_all(used, stale, at_once)
         build_program(len(stale) + 1)
