@@ -41,6 +41,22 @@ def many_lines_do_not_stick():
         assert lgm.written == 100_005
 
 
+def accepted_items_make_the_map_again():
+    """A new process that gets the accepted items alone answers as the old one, bans included."""
+    asked = ["commit", f"q 0107{CHAIN}00000000ffffffff010101", f"filter 0 0109{CHAIN}00000000ffffffff"]
+    lines = script("announcements.txt") + script("map.txt")
+    with Client(CHAIN, PROGRAM) as lgm:
+        outcomes = lgm.ask(lines)
+        before = lgm.ask(asked)
+    kept = [line for line, answer in zip(lines, outcomes) if answer == ["accepted"]]
+    assert 1 < len(kept) < len(lines)
+    with Client(CHAIN, PROGRAM) as lgm:
+        assert lgm.ask(kept) == [["accepted"]] * len(kept)
+        after = lgm.ask(asked)
+        again = lgm.ask([line for line, answer in zip(lines, outcomes) if answer == ["banned"]])
+    assert before == after and again == [["banned"]] * len(again) != []
+
+
 def an_end_is_told():
     """A process that has ended says why."""
     lgm = Client(CHAIN, PROGRAM)
@@ -53,7 +69,7 @@ def an_end_is_told():
 
 def main():
     """Runs each test."""
-    tests = (answers_have_ends, many_lines_do_not_stick, an_end_is_told)
+    tests = (answers_have_ends, many_lines_do_not_stick, accepted_items_make_the_map_again, an_end_is_told)
     for test in tests:
         test()
     print(f"{len(tests)} passed")
