@@ -5,6 +5,8 @@ pub mod Candidate
 pub mod History
 pub mod Reading
 pub mod Keyed
+pub mod HeldRows
+pub mod Side
 pub mod Held
 pub mod HeldAt
 pub mod Slots

@@ -1,39 +1,85 @@
 //! A channel with its updates.
 
-ghost use Rattle.std.specs.Prelude.{◌≡◌, Some, IfOk, OnOk, OnErr, if◌then◌else◌};
+ghost use Rattle.std.specs.Prelude.{◌≡◌, Some, None, IfOk, OnOk, OnErr, if◌then◌else◌};
 ghost use Rattle.std.specs.Option.{option_copied, option_map};
 ghost use Rattle.lgm_store.specs.Held.{alone, update_in, with_update_in};
+ghost use Rattle.lgm_store.specs.Side.{IsSideOf};
 ghost use Rattle.lgm_store.specs.Rows.{is_second};
 ghost use Rattle.lgm_store.specs.Admission.{update_admission, Offers};
 ghost use Rattle.lgm_store.specs.Decided.{update_op, update_verdict};
 
-use crate::dated::Dated;
-use crate::named::Named;
 use crate::shared::Shared;
 use lgm_check::{ChannelRow, Refusal, UpdateRow};
 use lgm_gossip::{Point, Scid};
-use lgm_rows::KeptUpdate;
+use lgm_rows::{KeptChannel, KeptUpdate};
 use std::alloc::AllocError;
+use std::marker::Model;
 
-/// A channel, and the update of each of its directions that has one.
+/// A channel, and the update of each of its directions that has one. Contracts see the rows.
+///
+/// What walks and admission read stands beside the rows: the id, and for each direction its node and its update's
+/// timestamp, side by side.
 #[derive(Drop)]
 pub struct Held {
-    channel: Named,
-    /// That from node 1.
-    first: Option<Dated>,
-    /// That from node 2.
-    second: Option<Dated>,
+    scid: Scid,
+    row: Shared<KeptChannel>,
+    /// From node 1.
+    first: Side,
+    /// From node 2.
+    second: Side,
+}
+
+/// A direction of a channel.
+#[derive(Drop)]
+struct Side {
+    /// The node that its updates are by.
+    node: Point,
+    /// The timestamp of its update, in seconds since 1970.
+    time: u32,
+    row: Option<Shared<KeptUpdate>>,
+}
+
+impl Model for Held {
+    ghost use Rattle.std.specs.Prelude.{◌≡◌};
+    ghost use Rattle.lgm_store.specs.HeldRows.{HeldRows};
+
+    ghost Value = { HeldRows };
+
+    ghost view = { λ h. record { channel = h.row; first = h.first.row; second = h.second.row } };
+
+    ghost use Rattle.lgm_store.specs.Side.{IsSideOf};
+
+    ghost invariant = { λ h. record {
+      scid_is : h.scid ≡ h.row.message.short_channel_id;
+      first_is : IsSideOf h.row.message.node_id_1 h.first;
+      second_is : IsSideOf h.row.message.node_id_2 h.second;
+    } };
+}
+
+impl Side {
+    /// A direction without an update.
+    fn new(node: Point) -> Side
+        ensures side { IsSideOf node result }
+        ensures row { result.row ≡ None }
+    {
+        Side {
+            node,
+            time: 0,
+            row: None,
+        }
+    }
 }
 
 impl Held {
     /// A channel without updates.
-    pub(crate) fn new(channel: Named) -> Held
-        ensures { result ≡ alone channel }
+    pub(crate) fn new(row: Shared<KeptChannel>) -> Held
+        ensures { result ≡ alone row }
     {
         Held {
-            channel,
-            first: None,
-            second: None,
+            scid: row.get().scid(),
+            first: Side::new(row.get().node(false)),
+            second: Side::new(row.get().node(true)),
+            row,
         }
     }
 
@@ -41,36 +87,36 @@ impl Held {
     pub fn row(&self) -> ChannelRow<'_>
         ensures { result ≡ self.now.channel }
     {
-        self.channel.row()
+        self.row.get().row()
     }
 
     /// The channel's announcement as it came.
     pub fn raw(&self) -> &[u8]
         ensures { result.now ≡ self.now.channel.raw }
     {
-        self.channel.raw()
+        self.row.get().raw()
     }
 
     /// The channel's name. It is at hand without its row.
     pub fn scid(&self) -> Scid
         ensures { result ≡ self.now.channel.message.short_channel_id }
     {
-        self.channel.scid()
+        self.scid
     }
 
     /// Node 2 if `second`, else node 1. It is at hand without the row.
     pub fn node(&self, second: bool) -> &Point
         ensures { result.now ≡ (if second then self.now.channel.message.node_id_2 else self.now.channel.message.node_id_1) }
     {
-        self.channel.node(second)
+        &self.side(second).node
     }
 
     /// The update from node 2 if `second`, else that from node 1.
     pub fn update(&self, second: bool) -> Option<UpdateRow<'_>>
         ensures { result ≡ update_in second self.now }
     {
-        match self.dated(second) {
-            Some(dated) => Some(dated.row()),
+        match &self.side(second).row {
+            Some(row) => Some(row.get().row()),
             None => None,
         }
     }
@@ -79,8 +125,8 @@ impl Held {
     pub fn update_raw(&self, second: bool) -> Option<&[u8]>
         ensures { option_copied result ≡ option_map (λ row. row.raw) (update_in second self.now) }
     {
-        match self.dated(second) {
-            Some(dated) => Some(dated.raw()),
+        match &self.side(second).row {
+            Some(row) => Some(row.get().raw()),
             None => None,
         }
     }
@@ -89,10 +135,18 @@ impl Held {
     pub fn update_time(&self, second: bool) -> Option<u32>
         ensures { result ≡ option_map (λ row. row.message.timestamp) (update_in second self.now) }
     {
-        match self.dated(second) {
-            Some(dated) => Some(dated.time()),
+        let side = self.side(second);
+        match &side.row {
+            Some(_) => Some(side.time),
             None => None,
         }
+    }
+
+    fn side(&self, second: bool) -> &Side
+        ensures side { IsSideOf (if second then self.now.channel.message.node_id_2 else self.now.channel.message.node_id_1) result.now }
+        ensures row { result.now.row ≡ update_in second self.now }
+    {
+        if second { &self.second } else { &self.first }
     }
 
     /// Whether an update that this point signed is admitted.
@@ -141,22 +195,26 @@ impl Held {
     pub(crate) fn put_update(&mut self, second: bool, row: Shared<KeptUpdate>)
         ensures { self.new ≡ with_update_in second self.old row }
     {
-        let update = Dated::new(row);
+        let time = row.get().timestamp();
         if second {
-            self.second = Some(update);
+            self.second.time = time;
+            self.second.row = Some(row);
         } else {
-            self.first = Some(update);
+            self.first.time = time;
+            self.first.row = Some(row);
         }
     }
+}
 
-    fn dated(&self, second: bool) -> Option<&Dated>
-        ensures { option_copied result ≡ update_in second self.now }
-    {
-        if second {
-            self.second.as_ref()
-        } else {
-            self.first.as_ref()
-        }
+impl Clone for Side {
+    ghost is_clone = { λ side copy. copy ≡ side };
+
+    fn clone(&self) -> Result<Side, AllocError> {
+        Ok(Side {
+            node: self.node,
+            time: self.time,
+            row: copied(&self.row)?,
+        })
     }
 }
 
@@ -165,19 +223,20 @@ impl Clone for Held {
 
     fn clone(&self) -> Result<Held, AllocError> {
         Ok(Held {
-            channel: self.channel.clone()?,
-            first: copied(&self.first)?,
-            second: copied(&self.second)?,
+            scid: self.scid,
+            row: self.row.share()?,
+            first: self.first.clone()?,
+            second: self.second.clone()?,
         })
     }
 }
 
 /// One more owner, if there is an update.
-fn copied(update: &Option<Dated>) -> Result<Option<Dated>, AllocError>
-    ensures { IfOk result (λ copy. copy ≡ update.now) }
+fn copied(row: &Option<Shared<KeptUpdate>>) -> Result<Option<Shared<KeptUpdate>>, AllocError>
+    ensures { IfOk result (λ copy. copy ≡ row.now) }
 {
-    match update {
-        Some(dated) => Ok(Some(dated.clone()?)),
+    match row {
+        Some(row) => Ok(Some(row.share()?)),
         None => Ok(None),
     }
 }

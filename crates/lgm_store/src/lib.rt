@@ -11,13 +11,11 @@
 
 mod banned;
 mod candidate;
-mod dated;
 mod ends;
 mod guesses;
 mod held;
 mod laws;
 mod map;
-mod named;
 mod op;
 mod scid_set;
 mod seed;

@@ -11,7 +11,6 @@ ghost use Rattle.lgm_store.specs.History.{with_channel, with_update, with_node, 
 use super::Map;
 use crate::ends::Ends;
 use crate::held::Held;
-use crate::named::Named;
 use crate::op::Op;
 use crate::shared::Shared;
 use lgm_gossip::{Point, Scid};
@@ -51,25 +50,27 @@ impl Map {
         ensures ok { OnOk result (self.new ≡ with_channel self.old row) }
         ensures err { OnErr result (self.new ≡ self.old) }
     {
-        let row = Named::new(row);
-        if self.banned.ends(row.node(false), row.node(true)) || self.held(row.scid()).is_some() {
+        let channel = row.get();
+        if self.banned.ends(&channel.node(false), &channel.node(true)) {
             return Ok(());
         }
-        self.insert_channel(row)?;
-        Ok(())
+        if self.held(channel.scid()).is_some() {
+            return Ok(());
+        }
+        self.insert_channel(row)
     }
 
     /// Adds a channel that isn't held, and that has no banned node.
-    pub(crate) fn insert_channel(&mut self, row: Named) -> Result<(), AllocError>
+    pub(crate) fn insert_channel(&mut self, row: Shared<KeptChannel>) -> Result<(), AllocError>
         requires new { is_some (channel_of self.old.channels row.message.short_channel_id) ≡ false }
         requires allowed { ends_banned self.old.banned row ≡ false }
         ensures ok { OnOk result (self.new ≡ with_channel self.old row) }
         ensures err { OnErr result (self.new ≡ self.old) }
     {
-        let scid = row.scid();
-        let (first, second) = (*row.node(false), *row.node(true));
+        let held = Held::new(row);
+        let (scid, first, second) = (held.scid(), *held.node(false), *held.node(true));
         self.ends.add(first, second, scid)?;
-        match self.channels.insert(Held::new(row)) {
+        match self.channels.insert(held) {
             Ok(()) => Ok(()),
             Err(refused) => {
                 self.ends.remove(&first, &second, scid);

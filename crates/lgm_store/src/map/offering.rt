@@ -8,7 +8,6 @@ ghost use Rattle.lgm_store.specs.Candidate.{IsSpelled};
 
 use super::Map;
 use crate::candidate::{Candidate, Kind};
-use crate::named::Named;
 use crate::op::Op;
 use crate::shared::Shared;
 use lgm_check::{Checked, Refusal};
@@ -69,7 +68,7 @@ impl Map {
             self.ban(ban.get())?;
             return Ok(Op::Ban(ban));
         }
-        self.insert_channel(Named::new(row.share()?))?;
+        self.insert_channel(row.share()?)?;
         Ok(Op::Channel(row))
     }
 
