@@ -59,7 +59,11 @@ fn update(alloc: Global, map: &mut Map, number: u16) -> &'static str {
 /// Announces a channel, and updates it.
 fn open(rt: &impl Abort, alloc: Global, map: &mut Map, number: u16) {
     announce(rt, alloc, map, number);
-    assert_eq!(rt; update(alloc, map, number), "accepted", "update of {number}");
+    assert_eq!(rt;
+        update(alloc, map, number),
+        "accepted",
+        "update of {number}"
+    );
 }
 
 fn close(rt: &impl Abort, alloc: Global, map: &mut Map, number: u16) {
@@ -82,7 +86,11 @@ fn map_of_many(rt: &impl Abort, alloc: Global) -> Result<Map, Fail> {
     for number in 0..1500u16 {
         if number % 3 == 0 {
             close(rt, alloc, &mut map, number);
-            assert_eq!(rt; update(alloc, &mut map, number), "unknown-channel", "{number}");
+            assert_eq!(rt;
+                update(alloc, &mut map, number),
+                "unknown-channel",
+                "{number}"
+            );
         }
     }
     for number in 1500..2000u16 {

@@ -167,9 +167,11 @@ fn number_of(
     requires { IsNumbered slots.now.slots numbers.now.entries }
     ensures { result ≡ lookup (is_at (nat_cmp scid)) numbers.now.entries }
 {
-    let number = guesses.guess(scid);
-    match slots.get(number) {
-        Some(held) if held.scid() == scid => Some(number),
-        _ => numbers.get(&scid).copied(),
+    if let Some(number) = guesses.guess(scid) {
+        match slots.get(number) {
+            Some(held) if held.scid() == scid => return Some(number),
+            _ => {}
+        }
     }
+    numbers.get(&scid).copied()
 }
