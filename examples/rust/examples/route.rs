@@ -37,14 +37,13 @@ fn main() -> Result<(), Box<dyn Error>> {
         let words: Vec<&str> = line.split(' ').collect();
         match words[0] {
             "m" => offer(&mut map, words[1], words[2], words[3])??,
-            "commit" => println!("{} channels", map.count()),
-            "route" if map.count() > 0 => match map.route(&payment(&words)?) {
-                Ok(hops) => {
-                    println!("{} msat over {} channels", hops[0].amount_msat, hops.len());
-                    return Ok(());
+            "route" => {
+                match map.route(&payment(&words)?) {
+                    Ok(hops) => println!("{} msat over {} channels", hops[0].amount_msat, hops.len()),
+                    Err(reason) => println!("{reason}"),
                 }
-                Err(reason) => println!("{reason}"),
-            },
+                return Ok(());
+            }
             _ => {}
         }
     }
