@@ -63,9 +63,8 @@ def test_c(out):
 def test_faults(out):
     """Calls that aren't done leave all as it was; and nothing is freed twice, lost, or written past its end."""
     program = out / "faults"
-    subprocess.run(
-        ["cc", "-std=c11", "-g", "-I", TOP / "include", HERE / "c" / "faults.c", out / "liblgm.a", "-o", program],
-        check=True)
+    words = ["cc", "-std=c11", "-Wall", "-Wextra", "-g", "-I", TOP / "include", "-Wl,--wrap=malloc,--wrap=realloc"]
+    subprocess.run([*words, HERE / "c" / "faults.c", out / "liblgm.a", "-o", program], check=True)
     report("faults", output([program]) == b"ok\n")
     if shutil.which("valgrind"):
         report("faults, valgrind", output([*VALGRIND, program]) == b"ok\n")

@@ -1,6 +1,9 @@
 /*
- * Shows what calls answer that aren't done: the number of the fault, with the map and the buffers as they were.
- * It ends with 0 if all is so. Under valgrind it also shows that nothing is freed twice, written past its end, or lost.
+ * Shows what calls answer that aren't done: the number of the fault, with the map and the buffers as they were. Each
+ * request for memory is refused in turn, too. It ends with 0 if all is so. Under valgrind it also shows that nothing is
+ * freed twice, written past its end, or lost.
+ *
+ * It is linked with -Wl,--wrap=malloc,--wrap=realloc, so that it can refuse memory.
  */
 #include "lgm.h"
 
@@ -14,6 +17,31 @@ static void expect(const char *what, uint64_t found, uint64_t wanted) {
     if (found == wanted) return;
     printf("%s: %llu, and not %llu\n", what, (unsigned long long)found, (unsigned long long)wanted);
     failures++;
+}
+
+/* ---- memory, of which one request may be refused */
+
+/* How many requests there are up to the one that is refused; 0 where none is, or was. */
+static long left;
+static bool was_refused;
+
+void *__real_malloc(size_t size);
+void *__real_realloc(void *block, size_t size);
+void *__wrap_malloc(size_t size);
+void *__wrap_realloc(void *block, size_t size);
+
+static bool is_refused(void) {
+    if (left == 0 || --left != 0) return false;
+    was_refused = true;
+    return true;
+}
+
+void *__wrap_malloc(size_t size) {
+    return is_refused() ? NULL : __real_malloc(size);
+}
+
+void *__wrap_realloc(void *block, size_t size) {
+    return is_refused() ? NULL : __real_realloc(block, size);
 }
 
 /* ---- messages, as BOLT 7 has them */
@@ -255,8 +283,65 @@ static void words(void) {
     }
 }
 
+/* A call that memory was refused for is made again. */
+#define AGAIN(what, call, wanted)                 \
+    do {                                          \
+        uint32_t number = (call);                 \
+        if (number == LGM_NO_MEMORY) {            \
+            expect(what, was_refused, true);      \
+            number = (call);                      \
+        }                                         \
+        expect(what, number, wanted);             \
+    } while (0)
+
+/* Each call once, with one request for memory refused. */
+static void refusing(void) {
+    lgm_map map = {0};
+    lgm_payment payment = {.amount_msat = 1000, .expiry = 700000};
+    lgm_hop hops[LGM_MOST_HOPS];
+    lgm_lengths lengths;
+    uint8_t channel[ANNOUNCEMENT], terms[UPDATE], one[NODE], range[QUERY], other[FILTER], room[2000], known = 0;
+    size_t needed;
+    announcement(channel);
+    node(one);
+    query(range, 263);
+    query(other, 265);
+    memcpy(payment.payer, a, 33);
+    memcpy(payment.payee, b, 33);
+    AGAIN("opening", lgm_open(&map, chain, false, &known, 1, seed), LGM_OK);
+    AGAIN("a channel", lgm_offer(&map, channel, ANNOUNCEMENT, LGM_SIG_ALL_FOUR, a, LGM_FUNDING_UNSPENT, 100000),
+          LGM_OK);
+    AGAIN("a mark", lgm_mark(&map), LGM_OK);
+    for (uint32_t time = 1; time <= 2; time++) {
+        update(terms, time);
+        AGAIN("an update", lgm_offer(&map, terms, UPDATE, LGM_SIG_BY, a, LGM_FUNDING_NOT_ASKED, 0), LGM_OK);
+        AGAIN("the same", lgm_offer(&map, terms, UPDATE, LGM_SIG_BY, a, LGM_FUNDING_NOT_ASKED, 0), LGM_NOT_NEWER);
+        AGAIN("news", lgm_news(&map, other, FILTER, room, sizeof room, &needed), LGM_OK);
+        expect("news", needed, 8 + UPDATE + (time == 1 ? 8 + ANNOUNCEMENT : 0));
+        AGAIN("a mark", lgm_mark(&map), LGM_OK);
+    }
+    AGAIN("a node", lgm_offer(&map, one, NODE, LGM_SIG_BY, a, LGM_FUNDING_NOT_ASKED, 0), LGM_OK);
+    AGAIN("a route", lgm_route(&map, &payment, hops, LGM_MOST_HOPS, room, sizeof room, &lengths), LGM_OK);
+    expect("its hops", lengths.hops, 1);
+    AGAIN("a range", lgm_query(&map, range, QUERY, room, sizeof room, &needed), LGM_OK);
+    expect("its reply", needed, 8 + 45 + 1 + 8);
+    AGAIN("a filter", lgm_filter(&map, other, FILTER, room, sizeof room, &needed), LGM_OK);
+    expect("its messages", needed, 3 * 8 + ANNOUNCEMENT + UPDATE + NODE);
+    AGAIN("a close", lgm_close_channel(&map, scid), LGM_OK);
+    expect("no channel", lgm_count(&map), 0);
+    lgm_free(&map);
+}
+
 int main(void) {
     lgm_map map = {0};
+    long requests = 0;
+    do {
+        was_refused = false;
+        left = ++requests;
+        refusing();
+        left = 0;
+    } while (was_refused);
+    expect("some memory", requests > 20, true);
     closed_handles();
     words();
     opening(&map);
