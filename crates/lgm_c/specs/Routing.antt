@@ -56,6 +56,9 @@ pub record Buffers : Type 0 where
   pub payloads : List ℕ
   pub lengths : LgmLengths
 
+abbrev pub buffers : List LgmHop → List ℕ → LgmLengths → Buffers
+buffers hops payloads lengths = record { hops = hops; payloads = payloads; lengths = lengths }
+
 abbrev pub lengths_of : List LgmHop → List ℕ → LgmLengths
 lengths_of hops payloads = record { hops = length hops; payloads = length payloads }
 

@@ -23,6 +23,9 @@ pub record Buffer : Type 0 where
   pub room : List ℕ
   pub needed : ℕ
 
+abbrev pub buffer : List ℕ → ℕ → Buffer
+buffer room needed = record { room = room; needed = needed }
+
 -- bytes were told: whole, or their length alone where the buffer is shorter
 abbrev pub HasTold : List ℕ → ℕ → Buffer → Buffer → Type 0
 HasTold bytes status old new =

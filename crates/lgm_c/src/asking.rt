@@ -6,7 +6,7 @@ ghost use Rattle.lgm_gossip.specs.MessageReading.{message_at};
 ghost use Rattle.lgm_c.specs.Asking.{replies_in, framed_answer, query_answer, filter_in, backlog_answer, news_answer};
 ghost use Rattle.lgm_c.specs.Opening.{MovesMark};
 ghost use Rattle.lgm_c.specs.Status.{if_open};
-ghost use Rattle.lgm_c.specs.Telling.{Answers};
+ghost use Rattle.lgm_c.specs.Telling.{Answers, buffer};
 
 use crate::fault::{Fault, status};
 use crate::framing::{frame_backlog, frame_replies};
@@ -20,7 +20,8 @@ use std::alloc::Global;
 
 /// The replies to a query, each behind its length.
 fn replies_to(alloc: Global, inner: &Inner, message: &Message) -> Result<Vec<u8>, Fault>
-    ensures { Gives Fault.NoMemory (λ told. told.items) result (framed_answer (replies_in inner.now (Ok message.now))) }
+    ensures { Gives Fault.NoMemory (λ told. told.items) result
+        (framed_answer (replies_in inner.now (Ok message.now))) }
 {
     let (chain, map) = (inner.chain(), inner.map());
     match message {
@@ -64,7 +65,8 @@ fn filter_in(chain: &ChainHash, message: &Message) -> Result<Filter, Fault>
 
 /// The filter that bytes spell.
 fn read_filter(alloc: Global, chain: &ChainHash, bytes: &[u8]) -> Result<Filter, Fault>
-    ensures { Gives Fault.NoMemory (λ filter. filter) result (filter_in chain.now (message_at bytes.now)) }
+    ensures { Gives Fault.NoMemory (λ filter. filter) result
+        (filter_in chain.now (message_at bytes.now)) }
 {
     match decode(alloc, bytes) {
         Ok(message) => filter_in(chain, &message),
@@ -74,7 +76,8 @@ fn read_filter(alloc: Global, chain: &ChainHash, bytes: &[u8]) -> Result<Filter,
 
 /// What passes a filter, each message behind its length.
 fn answer_filter(alloc: Global, inner: &Inner, bytes: &[u8]) -> Result<Vec<u8>, Fault>
-    ensures { Gives Fault.NoMemory (λ told. told.items) result (backlog_answer bytes.now inner.now) }
+    ensures { Gives Fault.NoMemory (λ told. told.items) result
+        (backlog_answer bytes.now inner.now) }
 {
     let filter = read_filter(alloc, inner.chain(), bytes)?;
     Ok(frame_backlog(alloc, Backlog::of(inner.map(), &filter))?)
@@ -83,7 +86,8 @@ fn answer_filter(alloc: Global, inner: &Inner, bytes: &[u8]) -> Result<Vec<u8>, 
 /// What is new to a filter since the mark, each message behind its length.
 fn answer_news(alloc: Global, inner: &mut Inner, bytes: &[u8]) -> Result<Vec<u8>, Fault>
     ensures same { inner.new ≡ inner.old }
-    ensures news { Gives Fault.NoMemory (λ told. told.items) result (news_answer bytes.now inner.old) }
+    ensures news { Gives Fault.NoMemory (λ told. told.items) result
+        (news_answer bytes.now inner.old) }
 {
     let filter = read_filter(alloc, inner.chain(), bytes)?;
     Ok(inner.news(alloc, &filter)?)
@@ -100,7 +104,7 @@ pub extern "C" fn lgm_query(
 ) -> u32
     ensures same { map.new.handle.value ≡ map.old.handle.value }
     ensures replies { Answers (if_open map.old.handle.value (query_answer query.now)) result
-        (record { room = replies.old; needed = needed.old }) (record { room = replies.new; needed = needed.new }) }
+        (buffer replies.old needed.old) (buffer replies.new needed.new) }
 {
     let Some(inner) = map.take(alloc) else {
         return Fault::Closed.number();
@@ -121,7 +125,7 @@ pub extern "C" fn lgm_filter(
 ) -> u32
     ensures same { map.new.handle.value ≡ map.old.handle.value }
     ensures backlog { Answers (if_open map.old.handle.value (backlog_answer filter.now)) result
-        (record { room = messages.old; needed = needed.old }) (record { room = messages.new; needed = needed.new }) }
+        (buffer messages.old needed.old) (buffer messages.new needed.new) }
 {
     let Some(inner) = map.take(alloc) else {
         return Fault::Closed.number();
@@ -142,7 +146,7 @@ pub extern "C" fn lgm_news(
 ) -> u32
     ensures same { map.new.handle.value ≡ map.old.handle.value }
     ensures news { Answers (if_open map.old.handle.value (news_answer filter.now)) result
-        (record { room = messages.old; needed = needed.old }) (record { room = messages.new; needed = needed.new }) }
+        (buffer messages.old needed.old) (buffer messages.new needed.new) }
 {
     let Some(mut inner) = map.take(alloc) else {
         return Fault::Closed.number();

@@ -81,7 +81,8 @@ impl Inner {
 
     /// The operation that a message gives, with the verdicts on it.
     fn judge(&self, alloc: Global, bytes: &[u8], evidence: &Evidence) -> Result<Op, Fault>
-        ensures outcome { Gives Fault.NoMemory (λ op. op) result (judged (outcome_of_message self.now bytes.now evidence.now)) }
+        ensures outcome { Gives Fault.NoMemory (λ op. op) result
+            (judged (outcome_of_message self.now bytes.now evidence.now)) }
         ensures tells { IfOk result TellsKey }
     {
         let checked = precheck(alloc, &self.chain, bytes, evidence)?;
@@ -130,7 +131,8 @@ impl Inner {
     /// What is new to a filter since the mark, each message behind its length: before the first mark, all that passes.
     pub(crate) fn news(&mut self, alloc: Global, filter: &Filter) -> Result<Vec<u8>, AllocError>
         ensures same { self.new ≡ self.old }
-        ensures news { IfOk result (λ told. told.items ≡ all_framed (news self.old.marked self.old.rows filter.now)) }
+        ensures news { IfOk result (λ told.
+            told.items ≡ all_framed (news self.old.marked self.old.rows filter.now)) }
     {
         let Some(mark) = &mut self.mark else {
             return frame_backlog(alloc, Backlog::of(self.network.map(), filter));
@@ -140,7 +142,8 @@ impl Inner {
 
     /// The least route of a payment.
     pub(crate) fn route(&self, alloc: Global, request: &Request) -> Result<Route, RouteFault>
-        ensures { (result ≡ Err unrouted.NoMemory) ⊎ (result ≡ answer_of (edges_of self.now.known self.now.rows) request.now) }
+        ensures { (result ≡ Err unrouted.NoMemory)
+            ⊎ (result ≡ answer_of (edges_of self.now.known self.now.rows) request.now) }
     {
         let view = self.network.view();
         view.shows_the_edges();

@@ -3,6 +3,7 @@
 ghost use Rattle.std.specs.Prelude.{◌≡◌};
 ghost use Rattle.lgm_c.specs.Looking.{count_of, told_direction, channel_found, told_node, node_found, TellsNode};
 ghost use Rattle.lgm_c.specs.Status.{if_open, status_of, Finds};
+ghost use Rattle.lgm_c.specs.Telling.{buffer};
 
 use crate::fault::{Fault, status};
 use crate::inner::Inner;
@@ -134,7 +135,8 @@ pub extern "C" fn lgm_channel(
     channel: &mut LgmChannel,
 ) -> u32
     ensures same { map.new.handle.value ≡ map.old.handle.value }
-    ensures channel { Finds (if_open map.old.handle.value (channel_found scid)) result channel.old channel.new }
+    ensures channel { Finds (if_open map.old.handle.value (channel_found scid)) result
+        channel.old channel.new }
 {
     let Some(inner) = map.take(alloc) else {
         return Fault::Closed.number();
@@ -169,7 +171,7 @@ fn tell_node(
     needed: &mut usize,
 ) -> Result<(), Fault>
     ensures { TellsNode (node_found point.now.0 inner.now) (status_of result) node.old node.new
-        (record { room = addresses.old; needed = needed.old }) (record { room = addresses.new; needed = needed.new }) }
+        (buffer addresses.old needed.old) (buffer addresses.new needed.new) }
 {
     let Some(row) = inner.map().node(point) else {
         return Err(Fault::NotAnnounced);
@@ -189,8 +191,8 @@ pub extern "C" fn lgm_node(
     needed: &mut usize,
 ) -> u32
     ensures same { map.new.handle.value ≡ map.old.handle.value }
-    ensures node { TellsNode (if_open map.old.handle.value (node_found point.now)) result node.old node.new
-        (record { room = addresses.old; needed = needed.old }) (record { room = addresses.new; needed = needed.new }) }
+    ensures node { TellsNode (if_open map.old.handle.value (node_found point.now)) result
+        node.old node.new (buffer addresses.old needed.old) (buffer addresses.new needed.new) }
 {
     let Some(inner) = map.take(alloc) else {
         return Fault::Closed.number();

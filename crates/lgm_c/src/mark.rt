@@ -113,7 +113,8 @@ impl Mark {
 
     /// Moves the mark to what the map beside it has. Want of memory leaves it where it was.
     pub(crate) fn renew(&mut self) -> Result<(), AllocError>
-        ensures renewed { OnOk result (self.new ≡ record { marked = self.old.rows; rows = self.old.rows }) }
+        ensures renewed { OnOk result
+            (self.new ≡ record { marked = self.old.rows; rows = self.old.rows }) }
         ensures stays { OnErr result (self.new ≡ self.old) }
     {
         level(&mut self.map, &mut self.due)?;
@@ -130,7 +131,8 @@ impl Mark {
     ) -> Result<Vec<u8>, AllocError>
         requires { self.old.rows ≡ map.now }
         ensures same { self.new ≡ self.old }
-        ensures news { IfOk result (λ told. told.items ≡ all_framed (news self.old.marked map.now filter.now)) }
+        ensures news { IfOk result (λ told.
+            told.items ≡ all_framed (news self.old.marked map.now filter.now)) }
     {
         level(&mut self.map, &mut self.due)?;
         let changes = changes_of(alloc, &self.since)?;

@@ -33,7 +33,8 @@ fn new_map(
     known: &[u8],
     seed: &[u8; 16],
 ) -> Result<Box<Inner>, AllocError>
-    ensures { IfOk result (λ inner. inner.value ≡ opened chain.now (known_of all_known known.now)) }
+    ensures { IfOk result (λ inner.
+        inner.value ≡ opened chain.now (known_of all_known known.now)) }
 {
     let known = known_bits(alloc, all_known, known)?;
     let inner = Inner::new(alloc, ChainHash(*chain), &known, Seed::new(*seed))?;
@@ -50,7 +51,8 @@ pub extern "C" fn lgm_open(
     known: &[u8],
     seed: &[u8; 16],
 ) -> u32
-    ensures { Opens (opened chain.now (known_of all_known known.now)) result map.old.handle.value map.new.handle.value }
+    ensures { Opens (opened chain.now (known_of all_known known.now)) result
+        map.old.handle.value map.new.handle.value }
 {
     if let Some(inner) = map.take(alloc) {
         *map = LgmMap::open(inner);
@@ -76,7 +78,8 @@ pub extern "C" fn lgm_offer(
     funding: u32,
     sat: u64,
 ) -> u32
-    ensures { Offers message.now (evidence_of sig signer.now funding sat) result map.old.handle.value map.new.handle.value }
+    ensures { Offers message.now (evidence_of sig signer.now funding sat) result
+        map.old.handle.value map.new.handle.value }
 {
     let Some(mut inner) = map.take(alloc) else {
         return Fault::Closed.number();

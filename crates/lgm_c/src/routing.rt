@@ -1,7 +1,7 @@
 //! Routes of payments.
 
 ghost use Rattle.std.specs.Prelude.{◌≡◌, Ok, IfOk};
-ghost use Rattle.lgm_c.specs.Routing.{request_of, route_asked, told_hop, told_hops, all_payloads, TellsRoute, HasToldRoute};
+ghost use Rattle.lgm_c.specs.Routing.{request_of, route_asked, told_hop, told_hops, all_payloads, TellsRoute, HasToldRoute, buffers};
 ghost use Rattle.lgm_c.specs.Status.{if_open, status_of};
 
 use crate::fault::{Fault, status};
@@ -113,8 +113,8 @@ fn write(
     lengths: &mut LgmLengths,
 ) -> Result<(), Fault>
     ensures { HasToldRoute told.now joined.now (status_of result)
-        (record { hops = hops.old; payloads = payloads.old; lengths = lengths.old })
-        (record { hops = hops.new; payloads = payloads.new; lengths = lengths.new }) }
+        (buffers hops.old payloads.old lengths.old)
+        (buffers hops.new payloads.new lengths.new) }
 {
     *lengths = LgmLengths {
         hops: told.len(),
@@ -138,8 +138,8 @@ fn tell_route(
     lengths: &mut LgmLengths,
 ) -> Result<(), Fault>
     ensures { TellsRoute (Ok route.now) secret.now (status_of result)
-        (record { hops = hops.old; payloads = payloads.old; lengths = lengths.old })
-        (record { hops = hops.new; payloads = payloads.new; lengths = lengths.new }) }
+        (buffers hops.old payloads.old lengths.old)
+        (buffers hops.new payloads.new lengths.new) }
 {
     let built = build(alloc, route, secret)?;
     let told = told_hops(alloc, route.as_slice(), built.as_slice())?;
@@ -157,8 +157,8 @@ fn find(
     lengths: &mut LgmLengths,
 ) -> Result<(), Fault>
     ensures { TellsRoute (route_asked payment.now inner.now) payment.now.secret (status_of result)
-        (record { hops = hops.old; payloads = payloads.old; lengths = lengths.old })
-        (record { hops = hops.new; payloads = payloads.new; lengths = lengths.new }) }
+        (buffers hops.old payloads.old lengths.old)
+        (buffers hops.new payloads.new lengths.new) }
 {
     let route = inner.route(alloc, &request_of(payment))?;
     tell_route(alloc, &route, &payment.secret, hops, payloads, lengths)
@@ -176,9 +176,10 @@ pub extern "C" fn lgm_route(
     lengths: &mut LgmLengths,
 ) -> u32
     ensures same { map.new.handle.value ≡ map.old.handle.value }
-    ensures route { TellsRoute (if_open map.old.handle.value (route_asked payment.now)) payment.now.secret result
-        (record { hops = hops.old; payloads = payloads.old; lengths = lengths.old })
-        (record { hops = hops.new; payloads = payloads.new; lengths = lengths.new }) }
+    ensures route { TellsRoute (if_open map.old.handle.value (route_asked payment.now))
+        payment.now.secret result
+        (buffers hops.old payloads.old lengths.old)
+        (buffers hops.new payloads.new lengths.new) }
 {
     let Some(inner) = map.take(alloc) else {
         return Fault::Closed.number();

@@ -4,7 +4,7 @@ ghost use Rattle.std.specs.Prelude.{◌≡◌, ◌≤◌, length, ℕ, List, Res
 ghost use Rattle.lgm_wire.specs.Reading.{Gives};
 ghost use Rattle.lgm_c.specs.declared.fault.Fault.{Fault as AFault};
 ghost use Rattle.lgm_c.specs.Status.{status_of};
-ghost use Rattle.lgm_c.specs.Telling.{in_front, HasTold, Answers};
+ghost use Rattle.lgm_c.specs.Telling.{in_front, HasTold, Answers, buffer};
 
 use crate::fault::{Fault, status};
 
@@ -19,7 +19,8 @@ pub(crate) fn copy_in_front<T: Copy>(items: &[T], room: &mut [T])
 
 /// Tells bytes where the buffer has room for them, and their length in any case.
 pub(crate) fn tell_bytes(bytes: &[u8], room: &mut [u8], needed: &mut usize) -> Result<(), Fault>
-    ensures { HasTold bytes.now (status_of result) (record { room = room.old; needed = needed.old }) (record { room = room.new; needed = needed.new }) }
+    ensures { HasTold bytes.now (status_of result)
+        (buffer room.old needed.old) (buffer room.new needed.new) }
 {
     *needed = bytes.len();
     if room.len() < bytes.len() {
@@ -33,7 +34,7 @@ pub(crate) fn tell_bytes(bytes: &[u8], room: &mut [u8], needed: &mut usize) -> R
 pub(crate) fn tell(answer: &Result<Vec<u8>, Fault>, room: &mut [u8], needed: &mut usize) -> u32
     ensures { (expected : Result (List ℕ) AFault)
         → Gives Fault.NoMemory (λ told. told.items) answer.now expected
-        → Answers expected result (record { room = room.old; needed = needed.old }) (record { room = room.new; needed = needed.new }) }
+        → Answers expected result (buffer room.old needed.old) (buffer room.new needed.new) }
 {
     match answer {
         Ok(bytes) => status(&tell_bytes(bytes, room, needed)),

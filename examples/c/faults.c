@@ -1,0 +1,361 @@
+/*
+ * Shows what calls answer that aren't done: the number of the fault, with the map and the buffers as they were. Each
+ * request for memory is refused in turn, too. It ends with 0 if all is so. Under valgrind it also shows that nothing is
+ * freed twice, written past its end, or lost.
+ *
+ * It is linked with -Wl,--wrap=malloc,--wrap=realloc, so that it can refuse memory.
+ */
+#include "lgm.h"
+
+#include <stdio.h>
+#include <stdlib.h>
+#include <string.h>
+
+static int failures;
+
+static void expect(const char *what, uint64_t found, uint64_t wanted) {
+    if (found == wanted) return;
+    printf("%s: %llu, and not %llu\n", what, (unsigned long long)found, (unsigned long long)wanted);
+    failures++;
+}
+
+/* ---- memory, of which one request may be refused */
+
+/* How many requests there are up to the one that is refused; 0 where none is, or was. */
+static long left;
+static bool was_refused;
+
+void *__real_malloc(size_t size);
+void *__real_realloc(void *block, size_t size);
+void *__wrap_malloc(size_t size);
+void *__wrap_realloc(void *block, size_t size);
+
+static bool is_refused(void) {
+    if (left == 0 || --left != 0) return false;
+    was_refused = true;
+    return true;
+}
+
+void *__wrap_malloc(size_t size) {
+    return is_refused() ? NULL : __real_malloc(size);
+}
+
+void *__wrap_realloc(void *block, size_t size) {
+    return is_refused() ? NULL : __real_realloc(block, size);
+}
+
+/* ---- messages, as BOLT 7 has them */
+
+enum { ANNOUNCEMENT = 432, UPDATE = 138, NODE = 146, QUERY = 42, FILTER = 42 };
+
+static const uint8_t chain[32] = {0xc1, 0xc1, 0xc1};
+static const uint8_t seed[16] = {7};
+static uint8_t a[33] = {2, 10}, b[33] = {2, 11}, key[33] = {2, 238};
+static const uint64_t scid = 600000ULL << 40 | 1 << 16;
+
+static uint8_t *put(uint8_t *at, const void *bytes, size_t len) {
+    memcpy(at, bytes, len);
+    return at + len;
+}
+
+static uint8_t *put_number(uint8_t *at, uint64_t number, size_t len) {
+    for (size_t i = 0; i < len; i++) at[i] = (uint8_t)(number >> 8 * (len - 1 - i));
+    return at + len;
+}
+
+static uint8_t *put_zeros(uint8_t *at, size_t len) {
+    memset(at, 0, len);
+    return at + len;
+}
+
+static void announcement(uint8_t *at) {
+    at = put_zeros(put_number(at, 256, 2), 256 + 2);
+    at = put_number(put(at, chain, 32), scid, 8);
+    put(put(put(put(at, a, 33), b, 33), key, 33), key, 33);
+}
+
+static void update(uint8_t *at, uint32_t timestamp) {
+    at = put_number(put(put_zeros(put_number(at, 258, 2), 64), chain, 32), scid, 8);
+    at = put_number(put_number(put_number(at, timestamp, 4), 1, 1), 0, 1);
+    at = put_number(put_number(put_number(put_number(at, 40, 2), 1, 8), 1000, 4), 100, 4);
+    put_number(at, 100000000, 8);
+}
+
+/* With no features, a color, a name, and an address of two bytes that is of no known type. */
+static void node(uint8_t *at) {
+    at = put(put_number(put_zeros(put_number(at, 257, 2), 64 + 2), 9, 4), a, 33);
+    at = put_zeros(put(put(at, "rgb", 3), "alice", 5), 32 - 5);
+    put_number(put_number(at, 2, 2), 0xff01, 2);
+}
+
+static void query(uint8_t *at, uint16_t type) {
+    put_number(put_number(put(put_number(at, type, 2), chain, 32), 0, 4), 0xffffffff, 4);
+}
+
+/* ---- the handles */
+
+static void closed_handles(void) {
+    lgm_map map = {0};
+    uint8_t message[QUERY], room[8] = {5, 5, 5, 5, 5, 5, 5, 5};
+    size_t needed = 77;
+    lgm_payment payment = {0};
+    lgm_hop hops[1];
+    lgm_lengths lengths = {77, 77};
+    lgm_channel_info channel = {.capacity_sat = 77};
+    lgm_node_info info = {.timestamp = 77};
+    query(message, 263);
+    lgm_free(&map);
+    lgm_free(&map);
+    expect("a closed handle's count", lgm_count(&map), 0);
+    expect("a closed handle's offer", lgm_offer(&map, message, QUERY, 9, a, 9, 0), LGM_CLOSED);
+    expect("a closed handle's close", lgm_close_channel(&map, scid), LGM_CLOSED);
+    expect("a closed handle's route", lgm_route(&map, &payment, hops, 1, room, 8, &lengths), LGM_CLOSED);
+    expect("a closed handle's query", lgm_query(&map, message, QUERY, room, 8, &needed), LGM_CLOSED);
+    expect("a closed handle's filter", lgm_filter(&map, message, QUERY, room, 8, &needed), LGM_CLOSED);
+    expect("a closed handle's news", lgm_news(&map, message, QUERY, room, 8, &needed), LGM_CLOSED);
+    expect("a closed handle's mark", lgm_mark(&map), LGM_CLOSED);
+    expect("a closed handle's channel", lgm_channel(&map, scid, &channel), LGM_CLOSED);
+    expect("a closed handle's node", lgm_node(&map, a, &info, room, 8, &needed), LGM_CLOSED);
+    expect("what was needed", needed, 77);
+    expect("the lengths", lengths.hops + lengths.payloads, 2 * 77);
+    expect("the channel", channel.capacity_sat, 77);
+    expect("the node", info.timestamp, 77);
+    expect("the room", room[0] + room[7], 2 * 5);
+    expect("the handle", map.is_open, false);
+}
+
+static void opening(lgm_map *map) {
+    uint8_t none = 0;
+    expect("the version", lgm_version(), LGM_VERSION);
+    expect("opening", lgm_open(map, chain, true, &none, 0, seed), LGM_OK);
+    void *at = map->at;
+    expect("opening again", lgm_open(map, chain, true, &none, 0, seed), LGM_OPEN);
+    expect("the map", map->at == at, true);
+}
+
+static void offering(lgm_map *map) {
+    uint8_t channel[ANNOUNCEMENT], terms[UPDATE], one[NODE], nothing = 0;
+    announcement(channel);
+    update(terms, 5);
+    node(one);
+    expect("a verdict that is none", lgm_offer(map, channel, ANNOUNCEMENT, 4, a, LGM_FUNDING_UNSPENT, 100000),
+           LGM_ARGUMENT);
+    expect("another one", lgm_offer(map, channel, ANNOUNCEMENT, LGM_SIG_ALL_FOUR, a, 4, 100000), LGM_ARGUMENT);
+    expect("no bytes", lgm_offer(map, &nothing, 0, LGM_SIG_ALL_FOUR, a, LGM_FUNDING_UNSPENT, 100000), LGM_MALFORMED);
+    expect("signatures", lgm_offer(map, channel, ANNOUNCEMENT, LGM_SIG_NOT_ALL_FOUR, a, LGM_FUNDING_UNSPENT, 100000),
+           LGM_SIGNATURE);
+    expect("an output that is spent",
+           lgm_offer(map, channel, ANNOUNCEMENT, LGM_SIG_ALL_FOUR, a, LGM_FUNDING_SPENT, 0), LGM_FUNDING);
+    expect("an update of no channel", lgm_offer(map, terms, UPDATE, LGM_SIG_BY, a, LGM_FUNDING_NOT_ASKED, 0),
+           LGM_UNKNOWN_CHANNEL);
+    expect("nothing accepted", lgm_count(map), 0);
+    expect("a channel", lgm_offer(map, channel, ANNOUNCEMENT, LGM_SIG_ALL_FOUR, a, LGM_FUNDING_UNSPENT, 100000),
+           LGM_OK);
+    expect("the same", lgm_offer(map, channel, ANNOUNCEMENT, LGM_SIG_ALL_FOUR, a, LGM_FUNDING_UNSPENT, 100000),
+           LGM_KNOWN);
+    expect("its update", lgm_offer(map, terms, UPDATE, LGM_SIG_BY, a, LGM_FUNDING_NOT_ASKED, 0), LGM_OK);
+    expect("the same update", lgm_offer(map, terms, UPDATE, LGM_SIG_BY, a, LGM_FUNDING_NOT_ASKED, 0), LGM_NOT_NEWER);
+    expect("a node", lgm_offer(map, one, NODE, LGM_SIG_BY, a, LGM_FUNDING_NOT_ASKED, 0), LGM_OK);
+    expect("one channel", lgm_count(map), 1);
+    expect("a close of no channel", lgm_close_channel(map, scid + 1), LGM_UNKNOWN_CHANNEL);
+}
+
+static void looking(lgm_map *map) {
+    lgm_channel_info channel = {0};
+    lgm_node_info info = {0};
+    uint8_t addresses[3] = {5, 5, 5};
+    size_t needed = 0;
+    expect("the channel", lgm_channel(map, scid, &channel), LGM_OK);
+    expect("its capacity", channel.capacity_sat, 100000);
+    expect("its nodes", memcmp(channel.node_1, a, 33) == 0 && memcmp(channel.node_2, b, 33) == 0, true);
+    expect("terms of node 1", channel.from_1.is_held, true);
+    expect("their delta", channel.from_1.cltv_expiry_delta, 40);
+    expect("their base fee", channel.from_1.fee_base_msat, 1000);
+    expect("their millionths", channel.from_1.fee_proportional_millionths, 100);
+    expect("their time", channel.from_1.timestamp, 5);
+    expect("their maximum", channel.from_1.htlc_maximum_msat, 100000000);
+    expect("terms of node 2", channel.from_2.is_held, false);
+    expect("another channel", lgm_channel(map, scid + 1, &channel), LGM_UNKNOWN_CHANNEL);
+    expect("a node with no room", lgm_node(map, a, &info, addresses, 1, &needed), LGM_ROOM);
+    expect("what its addresses need", needed, 2);
+    expect("the room", addresses[0], 5);
+    expect("a node", lgm_node(map, a, &info, addresses, 3, &needed), LGM_OK);
+    expect("its addresses", addresses[0] << 16 | addresses[1] << 8 | addresses[2], 0xff0105);
+    expect("its time", info.timestamp, 9);
+    expect("its name", memcmp(info.alias, "alice", 6), 0);
+    expect("its color", memcmp(info.rgb, "rgb", 3), 0);
+    expect("another node", lgm_node(map, b, &info, addresses, 3, &needed), LGM_NOT_ANNOUNCED);
+}
+
+/* Each call with a buffer of each length: nothing is written where it is too short, nor past the answer. */
+typedef uint32_t teller(lgm_map *, const uint8_t *, size_t, uint8_t *, size_t, size_t *);
+
+static void telling(const char *what, lgm_map *map, teller *call, const uint8_t *message, size_t len, size_t wanted) {
+    for (size_t room = 1; room <= wanted + 2; room++) {
+        uint8_t *buffer = malloc(room);
+        size_t needed = 0;
+        memset(buffer, 5, room);
+        expect(what, call(map, message, len, buffer, room, &needed), room < wanted ? LGM_ROOM : LGM_OK);
+        expect(what, needed, wanted);
+        for (size_t i = room < wanted ? 0 : wanted; i < room; i++) expect(what, buffer[i], 5);
+        free(buffer);
+    }
+}
+
+static void asking(lgm_map *map) {
+    uint8_t range[QUERY], other[QUERY], room[1];
+    size_t needed = 77;
+    query(range, 263);
+    query(other, 265);
+    /* One reply: 45 bytes before the ids, the byte of their encoding, and one id. */
+    telling("a range", map, lgm_query, range, QUERY, 8 + 45 + 1 + 8);
+    telling("a filter", map, lgm_filter, other, FILTER, 3 * 8 + ANNOUNCEMENT + UPDATE + NODE);
+    telling("news before a mark", map, lgm_news, other, FILTER, 3 * 8 + ANNOUNCEMENT + UPDATE + NODE);
+    expect("a mark", lgm_mark(map), LGM_OK);
+    telling("no news", map, lgm_news, other, FILTER, 0);
+    uint8_t terms[UPDATE];
+    update(terms, 6);
+    expect("an update", lgm_offer(map, terms, UPDATE, LGM_SIG_BY, a, LGM_FUNDING_NOT_ASKED, 0), LGM_OK);
+    telling("news", map, lgm_news, other, FILTER, 8 + UPDATE);
+    expect("a mark", lgm_mark(map), LGM_OK);
+    telling("no more news", map, lgm_news, other, FILTER, 0);
+    expect("a filter as a query", lgm_query(map, other, FILTER, room, 1, &needed), LGM_NOT_QUERY);
+    expect("a query as a filter", lgm_filter(map, range, QUERY, room, 1, &needed), LGM_NOT_FILTER);
+    expect("a query as a filter", lgm_news(map, range, QUERY, room, 1, &needed), LGM_NOT_FILTER);
+    other[2] = 0xd1;
+    expect("another chain", lgm_filter(map, other, FILTER, room, 1, &needed), LGM_CHAIN);
+    expect("bytes that are cut", lgm_query(map, range, QUERY - 1, room, 1, &needed), LGM_MALFORMED);
+    expect("what was needed", needed, 77);
+}
+
+static void routing(lgm_map *map) {
+    lgm_payment payment = {.amount_msat = 1000, .expiry = 700000};
+    lgm_lengths lengths = {0, 0};
+    memcpy(payment.payer, a, 33);
+    memcpy(payment.payee, b, 33);
+    for (size_t room = 1; room <= 60; room++) {
+        lgm_hop *hops = malloc(2 * sizeof *hops);
+        uint8_t *payloads = malloc(room);
+        memset(hops, 5, 2 * sizeof *hops);
+        memset(payloads, 5, room);
+        uint32_t number = lgm_route(map, &payment, hops, 2, payloads, room, &lengths);
+        expect("a route's hops", lengths.hops, 1);
+        expect("a route", number, room < lengths.payloads ? LGM_ROOM : LGM_OK);
+        for (size_t i = number == LGM_OK ? lengths.payloads : 0; i < room; i++) expect("payloads", payloads[i], 5);
+        expect("hops", hops[1].scid, 0x0505050505050505);
+        expect("the hop", hops[0].scid, number == LGM_OK ? scid : 0x0505050505050505);
+        expect("no room for hops", lgm_route(map, &payment, hops, 0, payloads, room, &lengths), LGM_ROOM);
+        free(hops);
+        free(payloads);
+    }
+    lgm_hop hop;
+    uint8_t payloads[LGM_MOST_PAYLOADS];
+    lengths.hops = 77;
+    payment.amount_msat = 0;
+    expect("no amount", lgm_route(map, &payment, &hop, 1, payloads, sizeof payloads, &lengths), LGM_AMOUNT_ZERO);
+    payment.amount_msat = UINT64_MAX;
+    expect("too great an amount", lgm_route(map, &payment, &hop, 1, payloads, sizeof payloads, &lengths),
+           LGM_AMOUNT_TOO_LARGE);
+    payment.amount_msat = 1000;
+    payment.expiry = UINT32_MAX;
+    expect("too late", lgm_route(map, &payment, &hop, 1, payloads, sizeof payloads, &lengths), LGM_EXPIRY_TOO_LARGE);
+    payment.expiry = 700000;
+    memcpy(payment.payee, a, 33);
+    expect("to itself", lgm_route(map, &payment, &hop, 1, payloads, sizeof payloads, &lengths), LGM_SELF_PAYMENT);
+    memcpy(payment.payee, key, 33);
+    expect("to nowhere", lgm_route(map, &payment, &hop, 1, payloads, sizeof payloads, &lengths), LGM_NO_ROUTE);
+    expect("the lengths", lengths.hops, 77);
+}
+
+static void words(void) {
+    static const struct {
+        uint32_t number;
+        const char *word;
+    } some[] = {{LGM_OK, "accepted"}, {LGM_MALFORMED, "malformed"}, {LGM_BANNED, "banned"},
+                {LGM_AMOUNT_TOO_LARGE, "amount-too-large"}, {LGM_NO_ROUTE, "no-route"}, {LGM_NOT_QUERY, "not-query"},
+                {LGM_ROOM, "room"}, {17, ""}, {UINT32_MAX, ""}};
+    for (size_t i = 0; i < sizeof some / sizeof *some; i++) {
+        uint8_t word[LGM_WORD_LEN];
+        memset(word, 5, sizeof word);
+        lgm_word(some[i].number, word);
+        expect(some[i].word, strcmp((const char *)word, some[i].word), 0);
+        expect(some[i].word, word[LGM_WORD_LEN - 1], 0);
+    }
+}
+
+/* A call that memory was refused for is made again. */
+#define AGAIN(what, call, wanted)                 \
+    do {                                          \
+        uint32_t number = (call);                 \
+        if (number == LGM_NO_MEMORY) {            \
+            expect(what, was_refused, true);      \
+            number = (call);                      \
+        }                                         \
+        expect(what, number, wanted);             \
+    } while (0)
+
+/* Each call once, with one request for memory refused. */
+static void refusing(void) {
+    lgm_map map = {0};
+    lgm_payment payment = {.amount_msat = 1000, .expiry = 700000};
+    lgm_hop hops[LGM_MOST_HOPS];
+    lgm_lengths lengths;
+    uint8_t channel[ANNOUNCEMENT], terms[UPDATE], one[NODE], range[QUERY], other[FILTER], room[2000], known = 0;
+    size_t needed;
+    announcement(channel);
+    node(one);
+    query(range, 263);
+    query(other, 265);
+    memcpy(payment.payer, a, 33);
+    memcpy(payment.payee, b, 33);
+    AGAIN("opening", lgm_open(&map, chain, false, &known, 1, seed), LGM_OK);
+    AGAIN("a channel", lgm_offer(&map, channel, ANNOUNCEMENT, LGM_SIG_ALL_FOUR, a, LGM_FUNDING_UNSPENT, 100000),
+          LGM_OK);
+    AGAIN("a mark", lgm_mark(&map), LGM_OK);
+    for (uint32_t time = 1; time <= 2; time++) {
+        update(terms, time);
+        AGAIN("an update", lgm_offer(&map, terms, UPDATE, LGM_SIG_BY, a, LGM_FUNDING_NOT_ASKED, 0), LGM_OK);
+        AGAIN("the same", lgm_offer(&map, terms, UPDATE, LGM_SIG_BY, a, LGM_FUNDING_NOT_ASKED, 0), LGM_NOT_NEWER);
+        AGAIN("news", lgm_news(&map, other, FILTER, room, sizeof room, &needed), LGM_OK);
+        expect("news", needed, 8 + UPDATE + (time == 1 ? 8 + ANNOUNCEMENT : 0));
+        AGAIN("a mark", lgm_mark(&map), LGM_OK);
+    }
+    AGAIN("a node", lgm_offer(&map, one, NODE, LGM_SIG_BY, a, LGM_FUNDING_NOT_ASKED, 0), LGM_OK);
+    AGAIN("a route", lgm_route(&map, &payment, hops, LGM_MOST_HOPS, room, sizeof room, &lengths), LGM_OK);
+    expect("its hops", lengths.hops, 1);
+    AGAIN("a range", lgm_query(&map, range, QUERY, room, sizeof room, &needed), LGM_OK);
+    expect("its reply", needed, 8 + 45 + 1 + 8);
+    AGAIN("a filter", lgm_filter(&map, other, FILTER, room, sizeof room, &needed), LGM_OK);
+    expect("its messages", needed, 3 * 8 + ANNOUNCEMENT + UPDATE + NODE);
+    AGAIN("a close", lgm_close_channel(&map, scid), LGM_OK);
+    expect("no channel", lgm_count(&map), 0);
+    lgm_free(&map);
+}
+
+int main(void) {
+    lgm_map map = {0};
+    long requests = 0;
+    do {
+        was_refused = false;
+        left = ++requests;
+        refusing();
+        left = 0;
+    } while (was_refused);
+    expect("some memory", requests > 20, true);
+    closed_handles();
+    words();
+    opening(&map);
+    offering(&map);
+    looking(&map);
+    routing(&map);
+    asking(&map);
+    expect("a close", lgm_close_channel(&map, scid), LGM_OK);
+    expect("no channel", lgm_count(&map), 0);
+    lgm_free(&map);
+    lgm_free(&map);
+    expect("a handle that was freed", lgm_close_channel(&map, scid), LGM_CLOSED);
+    opening(&map);
+    lgm_free(&map);
+    puts(failures == 0 ? "ok" : "failed");
+    return failures != 0;
+}

@@ -1,0 +1,375 @@
+/*
+ * Answers a script as `lgm run` does (docs/script.md), over the library: it keeps two handles, one for the items as they
+ * are accepted and one for those that are committed, and asks the second one.
+ *
+ *     run CHAIN < SCRIPT
+ *
+ * It shows each call of include/lgm.h in use. The program itself shares work between threads, and is the quicker one.
+ */
+#define _POSIX_C_SOURCE 200809L
+
+#include "lgm.h"
+
+#include <ctype.h>
+#include <errno.h>
+#include <inttypes.h>
+#include <stdarg.h>
+#include <stdio.h>
+#include <stdlib.h>
+#include <string.h>
+#include <sys/types.h>
+
+enum { MOST_PEERS = 1000, MOST_BYTES = 70000, FILTER_LEN = 42 };
+
+/* ---- memory */
+
+static void *must(void *block) {
+    if (block == NULL) {
+        fputs("run: out of memory\n", stderr);
+        exit(1);
+    }
+    return block;
+}
+
+/* A buffer that grows. It is never empty, so that its pointer isn't null. */
+typedef struct {
+    uint8_t *bytes;
+    size_t len, capacity;
+} buffer;
+
+static void reserve(buffer *b, size_t capacity) {
+    if (b->bytes == NULL || b->capacity < capacity) {
+        b->capacity = capacity < 4096 ? 4096 : 2 * capacity;
+        b->bytes = must(realloc(b->bytes, b->capacity));
+    }
+}
+
+static void append(buffer *b, const void *bytes, size_t len) {
+    reserve(b, b->len + len);
+    memcpy(b->bytes + b->len, bytes, len);
+    b->len += len;
+}
+
+/* ---- fields of lines */
+
+static int digit(char c) {
+    if (c >= '0' && c <= '9') return c - '0';
+    if (c >= 'a' && c <= 'f') return c - 'a' + 10;
+    if (c >= 'A' && c <= 'F') return c - 'A' + 10;
+    return -1;
+}
+
+/* Reads digits, two at least and an even number of them, and says how many bytes they are: 0 where they are none. */
+static size_t read_hex(const char *field, uint8_t *bytes, size_t most) {
+    size_t len = strlen(field);
+    if (len == 0 || len % 2 != 0 || len / 2 > most) return 0;
+    for (size_t i = 0; i < len; i += 2) {
+        int high = digit(field[i]), low = digit(field[i + 1]);
+        if (high < 0 || low < 0) return 0;
+        bytes[i / 2] = (uint8_t)(high << 4 | low);
+    }
+    return len / 2;
+}
+
+static bool read_exactly(const char *field, uint8_t *bytes, size_t len) {
+    return read_hex(field, bytes, len) == len;
+}
+
+/* Reads a decimal number without a sign and without leading zeros, that is at most so great. */
+static bool read_number(const char *field, uint64_t most, uint64_t *number) {
+    if (!isdigit((unsigned char)field[0]) || (field[0] == '0' && field[1] != 0)) return false;
+    char *end;
+    errno = 0;
+    *number = strtoull(field, &end, 10);
+    return errno == 0 && *end == 0 && *number <= most;
+}
+
+static bool read_scid(char *field, uint64_t *scid) {
+    uint64_t block, index, output;
+    char *second = strchr(field, 'x');
+    if (second == NULL) return false;
+    *second++ = 0;
+    char *third = strchr(second, 'x');
+    if (third == NULL) return false;
+    *third++ = 0;
+    if (!read_number(field, 0xffffff, &block) || !read_number(second, 0xffffff, &index)
+        || !read_number(third, 0xffff, &output))
+        return false;
+    *scid = block << 40 | index << 16 | output;
+    return true;
+}
+
+/* Splits a line at single spaces into at most `most` fields, and says how many there are: 0 where one is empty. */
+static size_t split(char *line, char **fields, size_t most) {
+    size_t count = 0;
+    for (char *field = line; field != NULL; count++) {
+        char *space = strchr(field, ' ');
+        if (space != NULL) *space++ = 0;
+        if (*field == 0 || count == most) return 0;
+        fields[count] = field;
+        field = space;
+    }
+    return count;
+}
+
+/* ---- what is offered */
+
+/* An item: a message with the verdicts on it, or the close of a channel. */
+typedef struct {
+    bool is_close;
+    uint64_t scid;
+    size_t start, len; /* where its bytes stand among those of all that are pending */
+    uint32_t sig, funding;
+    uint64_t sat;
+    uint8_t signer[33];
+} item;
+
+static bool read_verdicts(char *sig, char *funding, item *it) {
+    if (strcmp(sig, "all") == 0) it->sig = LGM_SIG_ALL_FOUR;
+    else if (strcmp(sig, "not-all") == 0) it->sig = LGM_SIG_NOT_ALL_FOUR;
+    else if (strcmp(sig, "nobody") == 0) it->sig = LGM_SIG_NOBODY;
+    else if (read_exactly(sig, it->signer, 33)) it->sig = LGM_SIG_BY;
+    else return false;
+    if (strcmp(funding, "-") == 0) it->funding = LGM_FUNDING_NOT_ASKED;
+    else if (strcmp(funding, "spent") == 0) it->funding = LGM_FUNDING_SPENT;
+    else if (strcmp(funding, "wrong") == 0) it->funding = LGM_FUNDING_WRONG;
+    else if (read_number(funding, UINT64_MAX, &it->sat)) it->funding = LGM_FUNDING_UNSPENT;
+    else return false;
+    return true;
+}
+
+static uint32_t offer(lgm_map *map, const item *it, const uint8_t *bytes) {
+    if (it->is_close) return lgm_close_channel(map, it->scid);
+    return lgm_offer(map, bytes, it->len, it->sig, it->signer, it->funding, it->sat);
+}
+
+/* ---- the session */
+
+typedef struct {
+    lgm_map accepted, committed;
+    uint64_t line, items;
+    item *pending;
+    size_t pending_len, pending_capacity;
+    buffer bytes;    /* of the messages that are pending */
+    buffer messages; /* that the library told */
+    bool has_filter[MOST_PEERS];
+    uint8_t filters[MOST_PEERS][FILTER_LEN];
+    size_t filter_lens[MOST_PEERS];
+} session;
+
+static void tell(const session *s, const char *format, ...) {
+    va_list words;
+    va_start(words, format);
+    printf("%" PRIu64 " ", s->line);
+    vprintf(format, words);
+    putchar('\n');
+    va_end(words);
+}
+
+static void tell_bytes(const session *s, const char *what, const uint8_t *bytes, size_t len) {
+    printf("%" PRIu64 " %s", s->line, what);
+    for (size_t i = 0; i < len; i++) printf("%02x", bytes[i]);
+    putchar('\n');
+}
+
+/* Tells the word of a number. What memory was refused for isn't answered. */
+static void tell_word(const session *s, uint32_t number) {
+    uint8_t word[LGM_WORD_LEN];
+    lgm_word(number, word);
+    if (number >= LGM_CLOSED) {
+        fprintf(stderr, "run: line %" PRIu64 ": %s\n", s->line, (const char *)word);
+        exit(1);
+    }
+    tell(s, "%s", (const char *)word);
+}
+
+/* The call of the library that tells messages: lgm_query, lgm_filter or lgm_news. */
+typedef uint32_t teller(lgm_map *, const uint8_t *, size_t, uint8_t *, size_t, size_t *);
+
+static uint32_t ask(session *s, teller *call, const uint8_t *bytes, size_t len) {
+    reserve(&s->messages, 1);
+    uint32_t number = call(&s->committed, bytes, len, s->messages.bytes, s->messages.capacity, &s->messages.len);
+    if (number == LGM_ROOM) {
+        reserve(&s->messages, s->messages.len);
+        number = call(&s->committed, bytes, len, s->messages.bytes, s->messages.capacity, &s->messages.len);
+    }
+    return number;
+}
+
+static void tell_messages(const session *s, const char *what) {
+    for (size_t at = 0; at < s->messages.len;) {
+        uint64_t len = 0;
+        for (size_t i = 8; i-- > 0;) len = len << 8 | s->messages.bytes[at + i];
+        tell_bytes(s, what, s->messages.bytes + at + 8, len);
+        at += 8 + len;
+    }
+}
+
+static void tell_to_peer(const session *s, uint64_t peer) {
+    char what[16];
+    snprintf(what, sizeof what, "to %" PRIu64 " ", peer);
+    tell_messages(s, what);
+}
+
+/* ---- the lines */
+
+static void take_item(session *s, item *it, const uint8_t *bytes) {
+    uint32_t number = offer(&s->accepted, it, bytes);
+    tell_word(s, number);
+    if (number != LGM_OK) return;
+    s->items++;
+    it->start = s->bytes.len;
+    append(&s->bytes, bytes, it->len);
+    if (s->pending_len == s->pending_capacity) {
+        s->pending_capacity = 2 * s->pending_capacity + 16;
+        s->pending = must(realloc(s->pending, s->pending_capacity * sizeof *s->pending));
+    }
+    s->pending[s->pending_len++] = *it;
+}
+
+static void take_message(session *s, char *hex, char *sig, char *funding) {
+    static uint8_t bytes[MOST_BYTES];
+    item it = {0};
+    it.len = read_hex(hex, bytes, sizeof bytes);
+    if (it.len == 0 || !read_verdicts(sig, funding, &it)) tell(s, "bad");
+    else take_item(s, &it, bytes);
+}
+
+static void take_close(session *s, char *scid) {
+    item it = {.is_close = true};
+    if (!read_scid(scid, &it.scid)) tell(s, "bad");
+    else take_item(s, &it, it.signer);
+}
+
+/* The committed map gets what is pending, and each peer the news of that. */
+static void commit(session *s) {
+    for (size_t i = 0; i < s->pending_len; i++) {
+        uint32_t number = offer(&s->committed, &s->pending[i], s->bytes.bytes + s->pending[i].start);
+        if (number != LGM_OK) tell_word(s, number);
+    }
+    s->pending_len = 0;
+    s->bytes.len = 0;
+    tell(s, "commit %" PRIu64, s->items);
+    for (uint64_t peer = 0; peer < MOST_PEERS; peer++) {
+        if (!s->has_filter[peer]) continue;
+        uint32_t number = ask(s, lgm_news, s->filters[peer], s->filter_lens[peer]);
+        if (number != LGM_OK) tell_word(s, number);
+        else tell_to_peer(s, peer);
+    }
+    uint32_t number = lgm_mark(&s->committed);
+    if (number != LGM_OK) tell_word(s, number);
+}
+
+static void query(session *s, char *hex) {
+    static uint8_t bytes[MOST_BYTES];
+    size_t len = read_hex(hex, bytes, sizeof bytes);
+    if (len == 0) {
+        tell(s, "bad");
+        return;
+    }
+    uint32_t number = ask(s, lgm_query, bytes, len);
+    if (number != LGM_OK) tell_word(s, number);
+    else tell_messages(s, "");
+}
+
+static void filter(session *s, char *peer_field, char *hex) {
+    static uint8_t bytes[MOST_BYTES];
+    uint64_t peer;
+    size_t len = read_hex(hex, bytes, sizeof bytes);
+    if (len == 0 || !read_number(peer_field, MOST_PEERS - 1, &peer)) {
+        tell(s, "bad");
+        return;
+    }
+    uint32_t number = ask(s, lgm_filter, bytes, len);
+    if (number != LGM_OK) {
+        tell_word(s, number);
+        return;
+    }
+    /* What stands behind the fields of a filter says nothing. */
+    s->has_filter[peer] = true;
+    s->filter_lens[peer] = len < FILTER_LEN ? len : FILTER_LEN;
+    memcpy(s->filters[peer], bytes, s->filter_lens[peer]);
+    tell(s, "filter");
+    tell_to_peer(s, peer);
+}
+
+static void tell_hops(const session *s, const lgm_hop *hops, size_t count, const uint8_t *payload) {
+    tell(s, "route %" PRIu64 " %" PRIu32 " %zu", hops[0].amount_msat, hops[0].expiry, count);
+    for (size_t i = 0; i < count; i++) {
+        char what[64];
+        snprintf(what, sizeof what, "hop %" PRIu64 "x%" PRIu64 "x%" PRIu64 " ", hops[i].scid >> 40,
+                 hops[i].scid >> 16 & 0xffffff, hops[i].scid & 0xffff);
+        tell_bytes(s, what, payload, hops[i].payload_len);
+        payload += hops[i].payload_len;
+    }
+}
+
+static void route(session *s, char **fields) {
+    lgm_payment payment;
+    lgm_hop hops[LGM_MOST_HOPS];
+    uint8_t payloads[LGM_MOST_PAYLOADS];
+    lgm_lengths lengths;
+    uint64_t expiry;
+    if (!read_exactly(fields[1], payment.payer, 33) || !read_exactly(fields[2], payment.payee, 33)
+        || !read_number(fields[3], UINT64_MAX, &payment.amount_msat)
+        || !read_number(fields[4], UINT32_MAX, &expiry) || !read_exactly(fields[5], payment.secret, 32)) {
+        tell(s, "bad");
+        return;
+    }
+    payment.expiry = (uint32_t)expiry;
+    uint32_t number = lgm_route(&s->committed, &payment, hops, LGM_MOST_HOPS, payloads, sizeof payloads, &lengths);
+    if (number != LGM_OK) tell_word(s, number);
+    else tell_hops(s, hops, lengths.hops, payloads);
+}
+
+static void answer(session *s, char *line) {
+    char *fields[7];
+    if (line[0] == 0 || line[0] == '#') return;
+    size_t count = split(line, fields, 7);
+    const char *word = count == 0 ? "" : fields[0];
+    if (count == 4 && strcmp(word, "m") == 0) take_message(s, fields[1], fields[2], fields[3]);
+    else if (count == 2 && strcmp(word, "close") == 0) take_close(s, fields[1]);
+    else if (count == 1 && strcmp(word, "commit") == 0) commit(s);
+    else if (count == 2 && strcmp(word, "q") == 0) query(s, fields[1]);
+    else if (count == 3 && strcmp(word, "filter") == 0) filter(s, fields[1], fields[2]);
+    else if (count == 6 && strcmp(word, "route") == 0) route(s, fields);
+    else tell(s, "bad");
+}
+
+static void open_map(lgm_map *map, const uint8_t chain[32]) {
+    uint8_t seed[16], none = 0;
+    FILE *random = fopen("/dev/urandom", "rb");
+    if (random == NULL || fread(seed, 1, sizeof seed, random) != sizeof seed) {
+        fputs("run: no random bytes\n", stderr);
+        exit(1);
+    }
+    fclose(random);
+    if (lgm_open(map, chain, true, &none, 0, seed) != LGM_OK) must(NULL);
+}
+
+int main(int argc, char **argv) {
+    static session s;
+    uint8_t chain[32];
+    if (argc != 2 || !read_exactly(argv[1], chain, sizeof chain) || lgm_version() != LGM_VERSION) {
+        fputs("usage: run CHAIN < SCRIPT\n", stderr);
+        return 2;
+    }
+    open_map(&s.accepted, chain);
+    open_map(&s.committed, chain);
+    if (lgm_mark(&s.committed) != LGM_OK) must(NULL);
+    reserve(&s.bytes, 1);
+    char *line = NULL;
+    size_t capacity = 0;
+    for (ssize_t len; (len = getline(&line, &capacity, stdin)) > 0;) {
+        if (line[len - 1] == '\n') line[len - 1] = 0;
+        s.line++;
+        answer(&s, line);
+    }
+    lgm_free(&s.accepted);
+    lgm_free(&s.committed);
+    free(line);
+    free(s.pending);
+    free(s.bytes.bytes);
+    free(s.messages.bytes);
+    return 0;
+}

@@ -1,0 +1,139 @@
+#!/usr/bin/env python3
+"""Tests the library in other programs (docs/embedding.md): it builds them, and compares them with `lgm`.
+
+    python3 examples/test_embedding.py [PROGRAM]
+
+PROGRAM is `lgm`; rt, cc and ar are wanted. What cargo or valgrind would be needed for is left out where they aren't
+installed.
+"""
+
+import os
+import shutil
+import subprocess
+import sys
+import tempfile
+from pathlib import Path
+
+HERE = Path(__file__).resolve().parent
+TOP = HERE.parent
+PROGRAM = sys.argv[1] if len(sys.argv) > 1 else TOP / "lgm"
+CHAIN = "c1" * 32
+CHANNELS = 2_000
+WORKLOADS = ("routes", "queries", "churn", "filters", "bans")
+VALGRIND = ("valgrind", "--quiet", "--error-exitcode=99", "--leak-check=full", "--errors-for-leak-kinds=all")
+
+failures = 0
+
+
+def report(what, is_right):
+    """Tells how a test went."""
+    global failures
+    failures += not is_right
+    print(f"{what}: {'ok' if is_right else 'DIFFERS'}", flush=True)
+
+
+def output(words, script=b""):
+    """What a program writes, or `None` where it fails."""
+    ran = subprocess.run(words, input=script, stdout=subprocess.PIPE)
+    return ran.stdout if ran.returncode == 0 else None
+
+
+def answer(script):
+    """What `lgm` writes."""
+    return output([PROGRAM, "run", "--chain", CHAIN], script)
+
+
+def made_script(workload):
+    """A script over a made network."""
+    words = [sys.executable, TOP / "bench" / "make_script.py", "--channels", str(CHANNELS), "--workload", workload]
+    return output(words)
+
+
+def test_c(out):
+    """The program in C answers scripts as `lgm` does."""
+    for script in sorted(HERE.glob("*.txt")):
+        if script.name != "live.txt":
+            wanted = script.with_suffix(".out").read_bytes()
+            report(f"run, {script.name}", output([out / "run", CHAIN], script.read_bytes()) == wanted)
+    for workload in WORKLOADS:
+        script = made_script(workload)
+        report(f"run, {workload} of {CHANNELS} channels", output([out / "run", CHAIN], script) == answer(script))
+
+
+def test_faults(out):
+    """Calls that aren't done leave all as it was; and nothing is freed twice, lost, or written past its end."""
+    program = out / "faults"
+    words = ["cc", "-std=c11", "-Wall", "-Wextra", "-g", "-I", TOP / "include", "-Wl,--wrap=malloc,--wrap=realloc"]
+    subprocess.run([*words, HERE / "c" / "faults.c", out / "liblgm.a", "-o", program], check=True)
+    report("faults", output([program]) == b"ok\n")
+    if shutil.which("valgrind"):
+        report("faults, valgrind", output([*VALGRIND, program]) == b"ok\n")
+        for script in sorted(HERE.glob("[!l]*.txt")):
+            found = output([*VALGRIND, out / "run", CHAIN], script.read_bytes())
+            report(f"run, {script.name}, valgrind", found == script.with_suffix(".out").read_bytes())
+
+
+def test_python():
+    """The module answers as `lgm` does: each item, each payment and each query of a made network."""
+    import lgm
+
+    def bytes_in(line):
+        return [bytes.fromhex(word) if len(word) > 24 else word for word in line.decode().split()]
+
+    def answers(network, line):
+        word, *fields = bytes_in(line)
+        try:
+            if word == "m":
+                message, sig, funding = fields
+                network.offer(message, sig, int(funding) if funding.isdigit() else funding)
+                return ["accepted"]
+            if word == "q":
+                return [reply.hex() for reply in network.query(fields[0])]
+            payer, payee, amount, expiry, secret = fields
+            route = network.route(payer, payee, int(amount), int(expiry), secret)
+        except lgm.Fault as fault:
+            return [fault.word]
+        hops = (f"hop {hop.scid >> 40}x{hop.scid >> 16 & 0xffffff}x{hop.scid & 0xffff} {hop.payload.hex()}"
+                for hop in route.hops)
+        return [f"route {route.sent_msat} {route.expiry} {len(route.hops)}", *hops]
+
+    for workload in ("routes", "queries"):
+        script = made_script(workload)
+        with lgm.Map(bytes.fromhex(CHAIN)) as network:
+            lines = [line for line in script.splitlines() if line != b"commit"]
+            found = [text for line in lines for text in answers(network, line)]
+        wanted = [line.split(maxsplit=1)[1].decode() for line in answer(script).splitlines()]
+        report(f"lgm.py, {workload}", found == [text for text in wanted if not text.startswith("commit")])
+    try:
+        network.mark()
+        report("lgm.py, closed", False)
+    except lgm.Closed as fault:
+        report("lgm.py, closed", str(fault) == "closed")
+
+
+def test_routes(out):
+    """The short examples tell the route that the README works out."""
+    found = output([sys.executable, HERE / "python" / "route.py"])
+    report("route.py", found is not None and b"\n10006500 msat over 3 channels, until block 700054\n" in found)
+    if (out / "route").exists():
+        found = output([out / "route", HERE / "payments.txt"])
+        report("route in Rust", found == b"10006500 msat over 3 channels\n")
+
+
+def main():
+    """Builds and tests."""
+    with tempfile.TemporaryDirectory() as folder:
+        out = Path(folder)
+        subprocess.run([HERE / "build-c", out], check=True)
+        os.environ["LGM_LIBRARY"] = str(out / "liblgm.so")
+        sys.dont_write_bytecode = True
+        sys.path.insert(0, str(HERE / "python"))
+        test_c(out)
+        test_faults(out)
+        test_python()
+        test_routes(out)
+    return 0 if failures == 0 else 1
+
+
+if __name__ == "__main__":
+    sys.exit(main())
