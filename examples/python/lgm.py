@@ -34,6 +34,7 @@ _UNSPENT = 1
 _FUNDINGS = {NOT_ASKED: 0, SPENT: 2, WRONG: 3}
 
 _Point = ctypes.c_uint8 * 33
+_NO_POINT = bytes(33)
 
 
 class _Handle(ctypes.Structure):
@@ -250,7 +251,8 @@ class Map:
 
     def __init__(self, chain, known=None, seed=None):
         """`known` has the feature bits that are known, all where it is `None`; `seed` 16 random bytes."""
-        self._handle = _Handle()
+        self._map = _Handle()
+        self._handle = ctypes.byref(self._map)
         self._room = ctypes.create_string_buffer(4096)
         self._hops = (_Hop * _MOST_HOPS)()
         self._payloads = ctypes.create_string_buffer(_MOST_PAYLOADS)
@@ -279,12 +281,11 @@ class Map:
 
     def offer(self, message, sig=NOBODY, funding=NOT_ASKED):
         """Offers a gossip message, with the verdicts on it."""
-        by = isinstance(sig, (bytes, bytearray))
-        signer = _sized("a point", sig, 33) if by else bytes(33)
-        unspent = isinstance(funding, int)
-        _check(_library.lgm_offer(
-            self._handle, message, len(message), _BY if by else _SIGS[sig], signer,
-            _UNSPENT if unspent else _FUNDINGS[funding], funding if unspent else 0))
+        sig, signer = (_SIGS[sig], _NO_POINT) if isinstance(sig, str) else (_BY, _sized("a point", sig, 33))
+        funding, sat = (_UNSPENT, funding) if isinstance(funding, int) else (_FUNDINGS[funding], 0)
+        number = _library.lgm_offer(self._handle, message, len(message), sig, signer, funding, sat)
+        if number != 0:
+            raise _FAULTS[number]()
 
     def close_channel(self, scid):
         """Forgets a channel, since its funding output is spent."""
