@@ -19,7 +19,7 @@ use lgm_check::{Evidence, precheck};
 use lgm_gossip::{ChainHash, Scid};
 use lgm_graph::{Known, Network};
 use lgm_query::{Backlog, Filter};
-use lgm_route::{Request, Route, RouteFault, least};
+use lgm_route::{Request, Route, RouteFault, answer};
 use lgm_store::{Map, Op, Seed};
 use std::alloc::{AllocError, Global};
 use std::marker::Model;
@@ -145,10 +145,7 @@ impl Inner {
         ensures { (result ≡ Err unrouted.NoMemory)
             ⊎ (result ≡ answer_of (edges_of self.now.known self.now.rows) request.now) }
     {
-        let view = self.network.view();
-        view.shows_the_edges();
-        self.network.map().rows_are_lawful();
-        least(alloc, view, request)
+        answer(alloc, self.network.map(), self.network.view(), request)
     }
 
     /// The chain.
