@@ -1,4 +1,5 @@
--- Reading the fields of a message in order, in a `do` block: a line reads one field and names its value, and the last line makes the message.
+-- Reading the fields of a message in order, in a `do` block: each line reads a field and names its value, and the last
+-- line makes the message.
 use Rattle.std.specs.Prelude.{ℕ, List, Result}
 use Rattle.lgm_gossip.specs.declared.fault.DecodeFault.{DecodeFault}
 use Rattle.lgm_gossip.specs.FieldReading.{read_on}
