@@ -95,7 +95,7 @@ fn next_of_kind(bytes: &[u8], kind: Kind) -> Option<(&[u8], &[u8])>
 }
 
 /// The first line of what was read ahead, which has `first` bytes, with the complete lines of its kind that follow it:
-/// at most 1,024 lines for items and 64 for questions; others are answered alone.
+/// at most `most` lines, 1,024 for items and 64 for questions; others are answered alone.
 pub fn next_group(
     alloc: Global,
     buffered: &[u8],
