@@ -37,7 +37,7 @@ fn hop_over(view: &View, link: &Link, amount: u64, expiry: u32) -> Hop
     }
 }
 
-/// The hops of a walk, with what goes over each edge.
+/// The hops of a walk, with the amount and the expiry on each edge.
 pub(crate) fn hops(
     alloc: Global,
     view: &View,
