@@ -1,4 +1,4 @@
--- The same state, request by request, as the engine keeps it.
+-- The same state, request by request, as the engine maintains it.
 use Rattle.std.specs.Prelude.{ℕ, ◌+◌, List, [], Option, Result, Ok, Err, codes}
 use Rattle.lgm_wire.specs.declared.chain_hash.ChainHash.{ChainHash}
 use Rattle.lgm_check.specs.declared.refusal.Refusal.{Refusal}
@@ -22,12 +22,12 @@ use Rattle.lgm_server.specs.Turns.{behind_all, texts_of}
 abbrev pub opening : Option (List ℕ) → State
 opening known = record { known = known; rows = empty; committed = empty; accepted = 0; filters = [] }
 
--- behind an item that was accepted or refused
+-- after an item that was accepted or refused
 abbrev pub state_behind : State → Result Op Refusal → State
 state_behind state (Ok op) = record state { rows = absorbed state.rows op; accepted = state.accepted + 1 }
 state_behind state (Err refusal) = state
 
--- behind a commit
+-- after a commit
 abbrev pub state_committed : State → State
 state_committed state = record state { committed = state.rows }
 
@@ -36,7 +36,7 @@ abbrev pub filters_with : List PeerFilter → ℕ → Result Filter Objection �
 filters_with filters peer (Ok filter) = put by_peer filters (record { peer = peer; filter = filter })
 filters_with filters peer (Err objection) = filters
 
--- behind a filter of a peer
+-- after a filter of a peer
 abbrev pub with_filter : State → ℕ → Result Filter Objection → State
 with_filter state peer filter = record state { filters = filters_with state.filters peer filter }
 
@@ -62,6 +62,6 @@ text_alone number state _ = word_line number (codes "bad")
 abbrev pub state_from : ChainHash → State → List Request → State
 state_from chain = behind_all (state_after chain)
 
--- their text, the lines from that number on
+-- their text, for the lines from this number on
 abbrev pub text_from : ChainHash → ℕ → State → List Request → List ℕ
 text_from chain = texts_of (state_after chain) (text_for chain)
