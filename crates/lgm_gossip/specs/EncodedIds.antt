@@ -1,4 +1,5 @@
--- Encoded channel ids: a byte 0 and the ids one after the other. Empty bytes are no ids as well.
+-- Encoded channel ids: a byte 0 and the ids one after the other. Empty bytes are an empty list as
+-- well.
 use Rattle.std.specs.Prelude.{◌≡◌, ℕ, ◌<◌, ◌^◌, ◌⊎◌, List, [], ◌∷◌}
 use Rattle.std.specs.List.{flat_map, AllByRecursion}
 use Rattle.std.specs.Int.{w64, to_be_bytes}

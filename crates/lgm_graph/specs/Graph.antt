@@ -70,7 +70,7 @@ edge_at points link = record {
 abbrev pub takes_at : Graph → ℕ → Bool
 takes_at graph number = slice_index_or graph.takes number false
 
--- the links into the node of a number: none where it takes no payments
+-- the links into the node of a number: none if it takes no payments
 abbrev pub links_into : Graph → ℕ → List Link
 links_into graph number = if takes_at graph number then slice_index_or graph.into number [] else []
 

@@ -1,4 +1,4 @@
--- What a run beside workers writes.
+-- What a run with workers writes.
 use Rattle.std.specs.Prelude.{◌≡◌, ℕ, ◌<◌, ◌≤◌, List, [], length, map, take, All, Option, slice_index_or}
 use Rattle.std.specs.List.{AllZip, AllByRecursion}
 use Rattle.std.specs.Result.{result_err}

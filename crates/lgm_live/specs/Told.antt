@@ -35,7 +35,7 @@ abbrev pub replay_word : Option (List ℕ) → List Op → Payment → LiveAnswe
 replay_word known ops payment answer =
     if same_answer answer.result (route_answer known (fold (take answer.version ops)) payment) then codes "same" else codes "other"
 
--- ---- what requests are told
+-- ---- the text for requests
 
 -- the answer to a payment, by its index among all that were dealt to this many workers round-robin
 abbrev pub answer_at : ℕ → List (Vec LiveAnswer) → ℕ → Option LiveAnswer

@@ -1,4 +1,4 @@
-//! Faults of a run beside workers.
+//! Faults of a run with workers.
 
 ghost use Rattle.std.specs.Prelude.{◌≡◌};
 ghost use Rattle.lgm_live.specs.Running.{line_fault, send_fault, live_fault};

@@ -1,9 +1,9 @@
-//! Gates, which each chunk passes before it starts, and which are told of each publication.
+//! Gates, which each chunk passes before it starts, and which are notified of each publication.
 
 use std::marker::Sync;
 
 /// Each chunk of work passes the gate once before it starts; a test can thus hold one chunk until another has started.
-/// Who publishes reports that to the gate, so that a chunk can be held until then. No result depends on it.
+/// The publisher notifies the gate, so that a chunk can be held until something is published. No result depends on it.
 pub trait Gate: Sync {
     /// Called before chunk `piece`, counted from 0, starts, on the thread that runs it. It may wait.
     fn pass(&self, piece: usize);

@@ -12,7 +12,7 @@ pub record IsViewOf (known : Option (List ℕ)) (rows : Rows) (view : Graph) : T
   pub known_is : view.known ≡ known
   pub graph : IsGraphOf rows view
 
--- ---- beside a map that is behind
+-- ---- a map that is behind
 
 -- a view that follows the map is that of its rows
 abbrev pub FollowsAs : Option (List ℕ) → Rows → Kept → Type 0
@@ -28,7 +28,7 @@ GoesOn (views.Behind view) (views.Beside other) = ⊥
 GoesOn (views.Behind view) _ = Unit {0}
 GoesOn kept kept' = kept' ≡ kept
 
--- ---- beside both maps
+-- ---- both maps
 
 -- the view is that of the committed rows, or of rows that are behind them by what is due
 abbrev pub ShowsAs : Option (List ℕ) → Rows → List Op → Rows → Kept → Type 0
@@ -43,7 +43,7 @@ Shows rows due committed chart = ShowsAs chart.known rows due committed chart.ke
 abbrev pub ShowsCommitted : Rows → Chart → Type 0
 ShowsCommitted committed chart = Shows committed [] committed chart
 
--- there is one, beside the committed map
+-- there is one, of the committed map
 abbrev pub IsBeside : Kept → Type 0
 IsBeside (views.Beside view) = Unit {0}
 IsBeside _ = ⊥

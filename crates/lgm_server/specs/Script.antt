@@ -79,7 +79,7 @@ state_of chain known asked = record {
   filters = filters_of chain asked;
 }
 
--- ---- what they are told
+-- ---- the text for them
 
 -- the text for a request, for the line with this number
 abbrev pub text_for : ChainHash → ℕ → State → Request → List ℕ
