@@ -86,8 +86,7 @@ fn serve<R: Threads + Wait + Sync>(
     if changed { seen } else { None }
 }
 
-/// Runs the server, and returns what the readers have observed, and what one of them observes after the last
-/// publication.
+/// Runs the server. Returns what the readers have observed, and what one of them observes after the last publication.
 fn run<R: Threads + Wait + Sync>(
     rt: &R,
     alloc: Global,

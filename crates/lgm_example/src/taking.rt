@@ -1,5 +1,4 @@
-//! The writer's side: gossip is validated, admitted to a map of the writer's own, and appended to what is published
-//! next.
+//! The writer's side: gossip is validated, admitted to the writer's own map, and appended to be published next.
 
 use crate::messages::CHAIN;
 use lgm_check::{Evidence, Refusal};

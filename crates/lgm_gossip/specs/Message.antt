@@ -1,5 +1,4 @@
--- Which bytes encode which message. This is what `decode` promises; the modules named Reading define in which order
--- they are parsed.
+-- Which bytes encode which message, as `decode` promises; the modules named Reading define the order of parsing.
 use Rattle.std.specs.Prelude.{◌≡◌, ℕ, ◌≤◌, List, ◌++◌, length}
 use Rattle.std.specs.Int.{w16, to_be_bytes}
 use Rattle.lgm_gossip.specs.declared.message.Message.{Message}

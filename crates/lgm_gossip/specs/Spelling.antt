@@ -1,5 +1,5 @@
--- The canonical encoding of a message, which `encode` writes: ids always after a byte 0, a record of type 1 if its
--- option is present, and no other record.
+-- The canonical encoding, which `encode` writes: ids after a byte 0, a record of type 1 for an option, and no other
+-- record.
 use Rattle.std.specs.Prelude.{◌≡◌, ℕ, ◌<◌, ◌↔◌, List, ◌++◌, length, Result, Err, IfOk}
 use Rattle.std.specs.List.{flat_map}
 use Rattle.std.specs.Int.{w16, to_be_bytes}

@@ -25,11 +25,10 @@ fn bytes(alloc: Global, message: &Message) -> Result<Bytes, EncodeFault>
     }
 }
 
-/// Encodes a message, beginning with the two bytes of its type (BOLT 7). [`decode`](crate::decode) returns the message
-/// again.
+/// Encodes a message, beginning with the two bytes of its type (BOLT 7). [`decode`](crate::decode) is the inverse.
 ///
 /// Ids are written after a byte 0, even if there are none. An option is written as a record of type 1, and no other
-/// record is written. It allocates once, exactly the length of the encoding, and nothing if that is too long.
+/// record is written. It allocates once, the length of the encoding, and nothing if that is too long.
 pub fn encode(alloc: Global, message: &Message) -> Result<Bytes, EncodeFault>
     // The bytes encode the message, and are decoded to it.
     ensures spelled { IfOk result (λ bytes. Wire message.now bytes) }

@@ -64,7 +64,7 @@ edge_at points link = record {
   max = link.max;
 }
 
--- ---- what a view holds
+-- ---- the contents of a view
 
 -- whether the node of a number takes payments
 abbrev pub takes_at : Graph → ℕ → Bool
@@ -105,7 +105,7 @@ pub record AreLinked (graph : Graph) : Type 0 where
   pub into : (number : ℕ) (link : Link) → Contains (links_into graph number) link → (link.to ≡ number) × Contains (links graph) link
   pub leaving : (number : ℕ) (link : Link) → Contains (links_leaving graph number) link → (link.from ≡ number) × (link.to < length graph.points)
 
--- ---- what a view shows of rows
+-- ---- the view of rows
 
 -- the links of the edges that have each of the points as an end
 abbrev pub links_by : (Edge → Point) → List Point → List Edge → List (List Link)

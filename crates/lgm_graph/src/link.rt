@@ -29,7 +29,7 @@ pub struct Link {
     pub second: bool,
 }
 
-/// An edge with numbers for its ends.
+/// An edge with numbers for its nodes.
 pub(crate) fn linked(edge: &Edge, from: usize, to: usize) -> Link
     requires from { from < 2 ^ 32 }
     requires to { to < 2 ^ 32 }

@@ -248,8 +248,7 @@ impl Nodes {
         self.add(alloc, point, takes);
     }
 
-    /// Removes the links from or to a banned node at a node, if it is numbered, and determines again whether the node
-    /// takes payments.
+    /// Removes the links to banned nodes at a node, if it is numbered, and checks again whether it takes payments.
     pub(crate) fn ban_at(&mut self, known: &Known, map: &Map, node: &Point)
         requires takes { length self.old.takes.items ≡ length self.old.points.keys }
         requires into { length self.old.into.items ≡ length self.old.points.keys }

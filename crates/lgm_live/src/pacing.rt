@@ -12,8 +12,7 @@ use std::sync::{Condvar, Mutex, Wait};
 pub(crate) struct Paced<'a, R: Wait, G: Gate> {
     rt: &'a R,
     gate: &'a G,
-    /// For each payment, in the script's order, the number of batches before it. Payments are dealt to the workers
-    /// round-robin.
+    /// For each payment, in the script's order, the number of batches before it. Payments are dealt round-robin.
     above: &'a [usize],
     /// The number of payments that each worker has started.
     begun: Vec<AtomicU64>,
@@ -44,8 +43,7 @@ impl<'a, R: Wait, G: Gate> Paced<'a, R, G> {
     }
 }
 
-/// The number of batches to be published before a worker's next payment, which is counted as started; none before what
-/// isn't a payment.
+/// The number of batches to be published before a worker's next payment, which counts as started; 0 if there is none.
 fn due(begun: &[AtomicU64], above: &[usize], worker: usize) -> usize {
     let Some(count) = begun.get(worker) else {
         return 0;

@@ -151,10 +151,10 @@ fn parse(alloc: Global, bytes: &[u8]) -> Result<HopPayload, PayloadFault>
 /// Parses a payload, which is all of the bytes and begins with its length (BOLT 4, "Payload
 /// Format").
 ///
-/// Any bytes of any length are allowed. Faults are checked in the order of the variants of
-/// [`PayloadFault`]: the length; the first fault of the TLV stream; the first faulty record,
-/// `Blinded` or `Kind`; `Missing`; `Extra`. Records of unknown odd types are skipped. `NoMemory`
-/// says nothing about the bytes.
+/// Any bytes of any length are allowed. Faults are checked in the order of [`PayloadFault`]'s
+/// variants: the length; the first fault of the TLV stream; the first faulty record, `Blinded` or
+/// `Kind`; `Missing`; `Extra`. Unknown odd types are skipped. `NoMemory` says nothing about the
+/// bytes.
 pub fn read(alloc: Global, bytes: &[u8]) -> Result<HopPayload, PayloadFault>
     // A payload is returned if and only if the bytes encode it.
     ensures found { IfOk result (λ payload. IsPayload payload bytes.now) }

@@ -103,8 +103,7 @@ impl Pen {
     /// Publishes all pending operations atomically. Waits for the guards that still show the edition before the last
     /// publication.
     ///
-    /// On an error the published and the pending operations are unchanged, and the next call publishes all pending
-    /// ones.
+    /// On an error the published and the pending operations are unchanged; the next call publishes them.
     pub fn publish<R: Wait>(&mut self, rt: &R) -> Result<(), NoMemory>
         ensures board { self.new.board ≡ self.old.board }
         ensures published { MatchResult result (λ _. self.new.published ≡ self.old.published ++ self.old.pending) (λ _. self.new.published ≡ self.old.published) }

@@ -1,5 +1,4 @@
-//! Lists of operations that the book of a board has reached. The book exists for the proofs: at run time it is one
-//! number.
+//! Lists of operations that the book of a board has reached. It is for the proofs: at run time it is one number.
 
 ghost use Rattle.std.specs.Prelude.{◌≡◌, ◌≤◌, [], length, None, MatchBool};
 ghost use mathlib.Core.List.{IsPrefix};

@@ -69,7 +69,7 @@ fn flags_at(query: &IdsQuery, place: usize) -> u64
 fn end(alloc: Global, query: &IdsQuery, full_information: u8) -> Result<Bytes, AllocError>
     ensures { IfOk result (λ bytes. bytes ≡ end_bytes query.now full_information) }
 {
-    // So the message isn't too long.
+    // With this the message isn't too long.
     let chain: &[u8] = &query.chain_hash.0;
     prove!(chain.len() == 32);
     let end = IdsEnd {

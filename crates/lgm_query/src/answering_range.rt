@@ -76,7 +76,7 @@ fn reply(
     ensures { (rows : Rows) → times.now ≡ timestamps_beside rows query.now ids.now
         → IfOk result (λ bytes. bytes ≡ reply_bytes rows query.now ids.now place) }
 {
-    // So the reply isn't too long.
+    // With this the reply isn't too long.
     let chain: &[u8] = &query.chain_hash.0;
     prove!(chain.len() == 32);
     let own = ids_at(ids, place);

@@ -40,11 +40,9 @@ impl<'a> Model for Differences<'a> {
 
 impl<'a> Differences<'a> {
     /// The differences from an earlier map to one made from it by operations that touched these keys. The messages of
-    /// both maps, and of the operations, have to be about the channel or node of their row, as all checked messages
-    /// are.
+    /// both maps and of the operations must be about the key of their row, as all checked messages are.
     ///
-    /// Time is logarithmic in the maps for each touched channel and node, whose messages are read. The only error is
-    /// out of memory.
+    /// Time is logarithmic in the maps for each touched key, whose messages are read. The only error is out of memory.
     pub fn between(
         alloc: Global,
         before: &'a Map,

@@ -84,7 +84,7 @@ impl<'a> Passing<'a> {
         }
     }
 
-    /// The message of a node, if it passes and didn't before. No message is read.
+    /// The message of a node, if it passes and didn't before. It isn't read.
     pub(crate) fn news_of_node(filter: &Filter, pair: &NodePair<'a>) -> Passing<'a>
         ensures { result ≡ news_of_node_pair filter.now pair.now }
     {

@@ -25,8 +25,7 @@ impl Dives {
         }
     }
 
-    /// Dives from a label with this lower bound, if that is smaller than those before and the label's node is near the
-    /// payer.
+    /// Dives from a label with this bound, if it is smaller than those before and the label's node is near the payer.
     #[inline(always)]
     pub(crate) fn dive(
         &mut self,

@@ -11,7 +11,7 @@ use lgm_gossip::Point;
 use lgm_graph::{Link, View, fee};
 use std::alloc::{AllocError, Global};
 
-/// The point of a number that is one.
+/// The point of a node's number.
 fn point_at(view: &View, number: u32) -> Point
     requires { number < length view.now.points }
     ensures { result ≡ point_at view.now number }

@@ -1,5 +1,4 @@
--- A channel_announcement by the offsets of its fields: those after the features are shifted by the length of the
--- features.
+-- A channel_announcement by the offsets of its fields: those after the features are shifted by their length.
 use Rattle.std.specs.Prelude.{ℕ, ◌+◌, ◌≤◌, List, length, drop}
 use Rattle.std.specs.Int.{w16, w64}
 use Rattle.lgm_gossip.specs.declared.announce.Announce.{Announce}

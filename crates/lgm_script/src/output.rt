@@ -110,7 +110,7 @@ impl<'a, W: Sink> Output<'a, W> {
         self.flush_block()
     }
 
-    /// Writes a message in hexadecimal digits: `N HEX`, or `N to PEER HEX` for a peer.
+    /// Writes a message in hexadecimal digits: `N HEX`, or for a peer `N to PEER HEX`.
     pub fn send_message(
         &mut self,
         number: u64,

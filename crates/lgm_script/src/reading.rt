@@ -91,8 +91,8 @@ pub fn next_line<R: Source, W: Sink>(
     }
 }
 
-/// Whether another byte is there. If nothing was read ahead it reads the source, and before that writes what is
-/// buffered, as [`next_line`] does.
+/// Whether another byte is there. If nothing was read ahead it reads the source, after writing what is buffered, as
+/// [`next_line`] does.
 pub fn more_begins<R: Source, W: Sink>(
     lines: &mut LineReader,
     source: &mut R,

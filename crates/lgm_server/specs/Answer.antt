@@ -53,8 +53,7 @@ filter_text number peer rows (Err objection) = word_line number (objection_word 
 abbrev pub news_text : ℕ → Rows → Rows → PeerFilter → List ℕ
 news_text number before after own = flat_map (message_line number (Some own.peer)) (news before after own.filter)
 
--- a commit is answered with the number of accepted items, and then the news of each peer in later
--- rows
+-- a commit is answered with the number of accepted items, and then the news of each peer
 abbrev pub commit_text : ℕ → ℕ → Rows → Rows → List PeerFilter → List ℕ
 commit_text number accepted before after filters = commit_line number accepted ++ flat_map (news_text number before after) filters
 

@@ -13,7 +13,7 @@ pub record IsFlushed (old new : Told) (answered result : Result Counts RunFault)
   pub told : Tells old new []
   pub clear : new.gathered ≡ []
 
--- the sink failed then
+-- the sink failed while it was written
 pub record FailsThen (old new : Told) (result : Result Counts RunFault) : Type 0 where
   pub write : result ≡ Err Write
   pub part : TellsPart old new [] sending.Write

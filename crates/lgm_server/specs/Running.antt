@@ -55,8 +55,8 @@ pub record AreRead (script : List ℕ) (left : Option (List ℕ)) (n : ℕ) : Ty
   pub left_is : left ≡ Some rest
   pub whole : (n ≤ length (filter ends_line front)) ⊎ (rest ≡ [])
 
--- the lines whose text was started are within the limits, all of them were read, and nothing but a prefix of their text
--- was written
+-- the lines whose text was started are within the limits and were read, and nothing but a prefix of their text was
+-- written
 pub record IsCutShort (chain : ChainHash) (known : Option (List ℕ)) (told_part : List ℕ → Type 0) (left : Option (List ℕ)) (script : List ℕ) : Type 0 where
   pub answered : ℕ
   pub limit : answered ≤ 10000000

@@ -24,7 +24,7 @@ use Rattle.lgm_server.specs.Routing.{route_answer}
 abbrev pub requests_of : List ℕ → List Request
 requests_of script = map request_of (lines_of script)
 
--- ---- what requests leave
+-- ---- the effect of requests
 
 -- the item that is offered
 abbrev pub item_in : Request → Option Item
@@ -48,7 +48,7 @@ abbrev pub filter_given : ChainHash → ℕ → Request → Option Filter
 filter_given chain peer (requests.Filter other bytes) = if other == peer then result_ok (filter_read chain bytes) else None
 filter_given chain peer _ = None
 
--- the filter of a peer: the last that it was given
+-- the filter of a peer: the last one that was set
 abbrev pub filter_of : ChainHash → List Request → ℕ → Option Filter
 filter_of chain asked peer = last_or None (filter_map (filter_given chain peer) asked)
 

@@ -31,7 +31,7 @@ state_behind state (Err refusal) = state
 abbrev pub state_committed : State → State
 state_committed state = record state { committed = state.rows }
 
--- filters with that of a peer, if it is one
+-- filters with that of a peer, if it is valid
 abbrev pub filters_with : List PeerFilter → ℕ → Result Filter Objection → List PeerFilter
 filters_with filters peer (Ok filter) = put by_peer filters (record { peer = peer; filter = filter })
 filters_with filters peer (Err objection) = filters
@@ -46,7 +46,7 @@ state_after chain state (requests.Offer item) = state_behind state (outcome_of c
 state_after chain state (requests.Filter peer bytes) = with_filter state peer (filter_read chain bytes)
 state_after chain state _ = state
 
--- ---- a request that is none of an item or of the committed rows
+-- ---- a request that is neither an item nor a question
 
 abbrev pub state_alone : State → Request → State
 state_alone state requests.Commit = state_committed state

@@ -28,8 +28,7 @@ pub struct RangeAsked<'a> {
     pub map: &'a Map,
 }
 
-/// The answer to a line of a script. It is computed before it is written, and borrows what it
-/// writes.
+/// The answer to a line of a script. It is computed before it is written, and borrows its text.
 #[derive(Drop)]
 pub enum Answer<'a> {
     /// The line isn't a form of the grammar.

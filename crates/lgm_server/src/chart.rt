@@ -64,8 +64,7 @@ impl Chart {
     }
 }
 
-/// Applies an operation to the map that is behind, and to a view that follows it. Out of memory leaves the map
-/// unchanged.
+/// Applies an operation to the map that is behind, and to a view that follows it. The error leaves the map unchanged.
 pub fn absorb(map: &mut Map, chart: &mut Chart, op: &Op) -> Result<(), AllocError>
     requires { Follows map.old chart.old }
     ensures map { OnOk result (map.new ≡ absorbed map.old op.now) }

@@ -91,8 +91,7 @@ impl Engine {
         answer_found(pool.alloc, &payment.secret, found)
     }
 
-    /// Answers lines that request something of the committed map, the first of which has this number, and sets the
-    /// filters among them.
+    /// Answers lines that request something of the committed map, the first with this number, and sets their filters.
     pub fn answer_questions<Rt: Threads + Sync, G: Gate, W: Sink>(
         &mut self,
         context: &Context<'_, Rt, G>,

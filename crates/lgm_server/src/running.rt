@@ -1,4 +1,4 @@
-//! A whole script.
+//! Running a whole script.
 
 ghost use Rattle.std.specs.Prelude.{◌≡◌, ◌≢◌, ◌+◌, ◌<◌, ◌≤◌, ◌^◌, [], length, IfSome, IfOk, IfErr};
 ghost use Rattle.lgm_script.specs.Output.{Sends, SendsPart, SendsSome};

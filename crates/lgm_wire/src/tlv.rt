@@ -21,8 +21,7 @@ pub struct Tlv<'a> {
     pub value: &'a [u8],
 }
 
-/// The records of a stream, with strictly increasing types. Contracts see a list of types and
-/// values.
+/// The records of a stream. Contracts see a list of types and values, with increasing types.
 #[derive(Debug, Drop)]
 pub struct Tlvs<'a> {
     items: Vec<Tlv<'a>>,
