@@ -59,7 +59,7 @@ checked_announce chain m bytes evidence = do
 abbrev pub is_private : ChannelUpdate → Bool
 is_private m = m.message_flags / 2 % 2 == 1
 
--- the point whose signature it is
+-- the point that signed
 abbrev pub signer_of : Sig → Result Point Refusal
 signer_of (sigs.By point) = Ok point
 signer_of _ = Err refusals.Signature

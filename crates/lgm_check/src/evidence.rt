@@ -16,7 +16,7 @@ pub struct Evidence {
 pub enum Sig {
     /// Whether all four signatures of a `channel_announcement` are valid.
     AllFour(bool),
-    /// The node whose signature it is, if there is one signature and it is valid.
+    /// The signature is valid, and by this node.
     By(Point),
     /// The signature is no node's.
     Nobody,

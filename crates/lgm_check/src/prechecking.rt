@@ -87,7 +87,7 @@ fn is_private(message: &ChannelUpdate) -> bool
     message.message_flags / 2 % 2 == 1
 }
 
-/// The point whose signature it is.
+/// The point that signed.
 fn signer(sig: Sig) -> Result<Point, Refusal>
     ensures { result ≡ signer_of sig }
 {
