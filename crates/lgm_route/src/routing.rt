@@ -150,13 +150,13 @@ fn refusal(request: &Request) -> Option<RouteFault>
     }
 }
 
-/// The best route of a payment over the edges of a view: the one that sends least among all walks of 1 to 20 edges from
-/// the payer to the payee (BOLT 7, "HTLC Fees").
+/// The best route of a payment over the edges of a view: the one that sends least among all usable walks of 1 to 20
+/// edges from the payer to the payee (BOLT 7, "HTLC Fees").
 ///
 /// The last channel carries the request's amount, with its expiry; each other one carries the amount of the next plus
-/// the fee of its node for that, and the expiry of the next plus its `cltv_expiry_delta`. The payer's own channel
-/// charges nothing. A channel's maximum applies to the amount that it carries, its minimum to the request's amount.
-/// Ties are broken by fewer channels, then by the lexicographically smaller list of ids from the payer on.
+/// the next one's fee for it, and the expiry of the next plus the next one's `cltv_expiry_delta`. The payer's own
+/// channel charges nothing. A channel's maximum applies to the amount that it carries, its minimum to the request's
+/// amount. Ties are broken by fewer channels, then by the lexicographically smaller list of ids from the payer on.
 ///
 /// Refusals come in the order of the variants of [`RouteFault`]; the first four allocate nothing. `NoRoute` comes only
 /// if no walk is usable. `NoMemory` says nothing about the payment.
