@@ -1,4 +1,4 @@
--- What an accepted message is, a line for each type: this is what `precheck` promises.
+-- What an accepted message is, one record per type: this is what `precheck` promises.
 use Rattle.std.specs.Prelude.{◌≡◌, ℕ, ◌/◌, ◌%◌, ◌≤◌, List, true, IsTrue}
 use Rattle.lgm_gossip.specs.declared.message.Message.TheVariants as messages
 use Rattle.lgm_wire.specs.declared.chain_hash.ChainHash.{ChainHash}
@@ -15,7 +15,8 @@ use Rattle.lgm_check.specs.declared.row.Checked.{Checked}
 use Rattle.lgm_check.specs.declared.row.Checked.TheVariants as checked
 use Rattle.lgm_check.specs.Precheck.{has_lawful_points, are_in_order}
 
--- a channel_announcement: of two nodes in order, of this chain, of an output that is unspent and has no more satoshi than there are, with four right signatures
+-- a channel_announcement: nodes in order, of this chain, an unspent output that holds no more satoshi than exist, and
+-- four valid signatures
 pub record IsChannel (ours : ChainHash) (bytes : List ℕ) (evidence : Evidence) (row : ChannelRow) : Type 0 where
   pub spelled : Wire (messages.Announce row.message) bytes
   pub chain : row.message.chain_hash ≡ ours
@@ -26,7 +27,8 @@ pub record IsChannel (ours : ChainHash) (bytes : List ℕ) (evidence : Evidence)
   pub signature : evidence.sig ≡ sigs.AllFour true
   pub raw : row.raw ≡ bytes
 
--- a channel_update: of this chain, to be sent on (bit 1 of its message flags is clear), with somebody's right signature
+-- a channel_update: of this chain, may be forwarded (bit 1 of its message flags is 0), with a valid signature of some
+-- node
 pub record IsUpdate (ours : ChainHash) (bytes : List ℕ) (evidence : Evidence) (row : UpdateRow) (signer : Point) : Type 0 where
   pub spelled : Wire (messages.ChannelUpdate row.message) bytes
   pub chain : row.message.chain_hash ≡ ours
@@ -34,14 +36,14 @@ pub record IsUpdate (ours : ChainHash) (bytes : List ℕ) (evidence : Evidence) 
   pub signature : evidence.sig ≡ sigs.By signer
   pub raw : row.raw ≡ bytes
 
--- a node_announcement: of a lawful point, with the node's own right signature
+-- a node_announcement: a well-formed point, with a valid signature of that node
 pub record IsNode (bytes : List ℕ) (evidence : Evidence) (row : NodeRow) : Type 0 where
   pub spelled : Wire (messages.NodeAnnounce row.message) bytes
   pub point : IsTrue (is_lawful row.message.node_id)
   pub signature : evidence.sig ≡ sigs.By row.message.node_id
   pub raw : row.raw ≡ bytes
 
--- bytes and evidence are accepted as this row to be
+-- bytes and evidence are accepted as this row
 abbrev pub IsAccepted : ChainHash → List ℕ → Evidence → Checked → Type 0
 IsAccepted ours bytes evidence (checked.Channel row) = IsChannel ours bytes evidence row
 IsAccepted ours bytes evidence (checked.Update row signer) = IsUpdate ours bytes evidence row signer

@@ -1,4 +1,4 @@
--- The check of a message without a map: the row to be, or the first refusal.
+-- Validation of a message without a map: the row, or the first refusal.
 use Rattle.std.specs.Prelude.{ℕ, ◌/◌, ◌%◌, ◌==◌, List, Bool, false, not, ◌&&◌, nat_eq, nat_le, Result, Ok, Err, if◌then◌else◌}
 use Rattle.std.specs.Cmp.Lexicographic.{pointwise, slice_cmp}
 use Rattle.std.specs.Ordering.{is_lt, nat_cmp}
@@ -24,19 +24,19 @@ use Rattle.lgm_check.specs.declared.refusal.Refusal.{Refusal}
 use Rattle.lgm_check.specs.declared.refusal.Refusal.TheVariants as refusals
 use Rattle.lgm_check.specs.Refusal.{refusal_of}
 
--- go on where the test holds
+-- continue if the test holds, else refuse
 abbrev pub require : Bool → Refusal → Result (Unit {0}) Refusal
 require holds refusal = if holds then Ok tt else Err refusal
 
--- the nodes and the bitcoin keys
+-- the node ids and bitcoin keys
 abbrev pub has_lawful_points : Announce → Bool
 has_lawful_points m = is_lawful m.node_id_1 && is_lawful m.node_id_2 && is_lawful m.bitcoin_key_1 && is_lawful m.bitcoin_key_2
 
--- node 1 is the lesser, byte by byte
+-- node_id_1 is the lesser in byte order
 abbrev pub are_in_order : Announce → Bool
 are_in_order m = is_lt (slice_cmp nat_cmp m.node_id_1.0 m.node_id_2.0)
 
--- an unspent output that pays to the two keys, of no more satoshi than there are
+-- an unspent output that pays to the two keys, and holds no more satoshi than exist
 abbrev pub capacity_of : Funding → Result ℕ Refusal
 capacity_of (fundings.Unspent sat) = if nat_le sat 2100000000000000 then Ok sat else Err refusals.Funding
 capacity_of _ = Err refusals.Funding
@@ -45,7 +45,7 @@ abbrev pub is_all_four : Sig → Bool
 is_all_four (sigs.AllFour right) = right
 is_all_four _ = false
 
--- a channel_announcement: each line is the next refusal of the order
+-- a channel_announcement: each line is the next refusal in the order
 unfoldable pub checked_announce : ChainHash → Announce → List ℕ → Evidence → Result Checked Refusal
 checked_announce chain m bytes evidence = do
   this_chain ← require (pointwise nat_eq m.chain_hash.0 chain.0) refusals.Chain
@@ -59,7 +59,7 @@ checked_announce chain m bytes evidence = do
 abbrev pub is_private : ChannelUpdate → Bool
 is_private m = m.message_flags / 2 % 2 == 1
 
--- the point whose one signature is right
+-- the point that signed
 abbrev pub signer_of : Sig → Result Point Refusal
 signer_of (sigs.By point) = Ok point
 signer_of _ = Err refusals.Signature
@@ -87,7 +87,7 @@ checked_message chain (messages.ChannelUpdate m) bytes evidence = checked_update
 checked_message chain (messages.NodeAnnounce m) bytes evidence = checked_node m bytes evidence
 checked_message chain _ bytes evidence = Err refusals.NotGossip
 
--- bytes that spell no message are refused for their first fault
+-- bytes that aren't a message are refused for their first fault
 abbrev pub checked_read : ChainHash → Result Message DecodeFault → List ℕ → Evidence → Result Checked Refusal
 checked_read chain (Ok m) bytes evidence = checked_message chain m bytes evidence
 checked_read chain (Err fault) bytes evidence = Err (refusal_of fault)

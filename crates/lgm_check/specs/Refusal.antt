@@ -5,7 +5,7 @@ use Rattle.lgm_gossip.specs.declared.fault.DecodeFault.TheVariants as faults
 use Rattle.lgm_check.specs.declared.refusal.Refusal.{Refusal}
 use Rattle.lgm_check.specs.declared.refusal.Refusal.TheVariants as refusals
 
--- the number, from 1 on
+-- the number, counted from 1
 abbrev pub number_of : Refusal → Option ℕ
 number_of refusals.Malformed = Some 1
 number_of refusals.UnknownEven = Some 2
@@ -45,7 +45,8 @@ word_of refusals.NotNewer = codes "not-newer"
 word_of refusals.Banned = codes "banned"
 word_of refusals.NoMemory = []
 
--- the refusal of bytes that spell no message: a type outside the table is unknown-even or ignored, any other fault malformed
+-- the refusal of bytes that aren't a message: unknown-even or ignored for a type outside the table, malformed for any
+-- other fault
 abbrev pub refusal_of : DecodeFault → Refusal
 refusal_of (faults.UnknownEven kind) = refusals.UnknownEven
 refusal_of (faults.UnknownOdd kind) = refusals.Ignored

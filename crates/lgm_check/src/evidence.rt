@@ -1,36 +1,36 @@
-//! Verdicts on what a message claims. Signatures and the chain are looked at by the caller.
+//! The caller's verdicts on signatures and the funding output.
 
 use lgm_gossip::Point;
 
-/// What the caller found out about a message.
+/// The caller's verdicts on a message.
 #[derive(Clone, Copy, Debug, PartialEq, Eq)]
 pub struct Evidence {
-    /// The verdict on the signatures: four of an announcement of a channel, one of any other message.
+    /// The verdict on the signatures: all four of a channel announcement, the only one of any other message.
     pub sig: Sig,
-    /// The verdict on the funding output, which only an announcement of a channel needs.
+    /// The verdict on the funding output, used for channel announcements alone.
     pub funding: Funding,
 }
 
 /// The verdict on a message's signatures.
 #[derive(Clone, Copy, Debug, PartialEq, Eq)]
 pub enum Sig {
-    /// Whether all four signatures of a `channel_announcement` are right.
+    /// Whether all four signatures of a `channel_announcement` are valid.
     AllFour(bool),
-    /// The node whose one signature is right.
+    /// The signature is valid, and by this node.
     By(Point),
-    /// The signature is nobody's.
+    /// The signature is no node's.
     Nobody,
 }
 
-/// The verdict on the funding output that a `channel_announcement` names.
+/// The verdict on the funding output of a `channel_announcement`.
 #[derive(Clone, Copy, Debug, PartialEq, Eq)]
 pub enum Funding {
-    /// It is unspent, pays to the 2-of-2 of the two bitcoin keys, and has this many satoshi.
+    /// Unspent, pays to the 2-of-2 of the two bitcoin keys, and holds this many satoshi.
     Unspent(u64),
-    /// It is spent.
+    /// Spent.
     Spent,
-    /// It isn't there, or pays to something else.
+    /// Doesn't exist, or pays to something else.
     Wrong,
-    /// It wasn't asked for.
+    /// No verdict was requested.
     NotAsked,
 }

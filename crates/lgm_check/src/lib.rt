@@ -1,8 +1,8 @@
-//! What can be said of a gossip message without a map: whether it is lawful by itself, and by the verdicts on its
-//! signatures and its funding output that the caller hands in.
+//! Validation of a gossip message without a map: by its own fields, and by the verdicts on its signatures and funding
+//! output that the caller supplies.
 //!
-//! [`precheck`] gives the row that the message would add to a map, or the first [`Refusal`] of a fixed order. [`accepted_exactly`] says what an accepted
-//! message is, with no word of an order.
+//! [`precheck`] returns the row that the message would add to a map, or the first [`Refusal`] in a fixed order.
+//! [`accepted_exactly`] says what an accepted message is, without reference to any order.
 #![tactic(auto)]
 
 mod evidence;

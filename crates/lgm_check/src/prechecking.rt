@@ -1,4 +1,4 @@
-//! The check of a message without a map.
+//! Validation of a message without a map.
 
 ghost use Rattle.std.specs.Prelude.{◌≡◌, ℕ, ◌<◌, ◌⊎◌, List, Ok, IfOk, MatchResult, slice_index};
 ghost use Rattle.lgm_wire.specs.Reading.{Sees, Gives};
@@ -16,17 +16,17 @@ use crate::row::{ChannelRow, Checked, NodeRow, UpdateRow};
 use lgm_gossip::{Announce, ChainHash, ChannelUpdate, Lent, Message, NodeAnnounce, Point, decode};
 use std::alloc::Global;
 
-/// The most satoshi that a channel can have: all that there will ever be.
+/// The maximum capacity of a channel, in satoshi: all that will ever exist.
 pub const MAX_SAT: u64 = 2_100_000_000_000_000;
 
-/// Nothing where the test holds, else the refusal.
+/// Ok if the test holds, else the refusal.
 fn require(holds: bool, refusal: Refusal) -> Result<(), Refusal>
     ensures { result ≡ requirement holds refusal }
 {
     if holds { Ok(()) } else { Err(refusal) }
 }
 
-/// Whether the nodes and the bitcoin keys are compressed points, by their first byte.
+/// Whether the node ids and bitcoin keys are well-formed points, by their first byte.
 fn has_lawful_points(message: &Announce) -> bool
     ensures { result ≡ has_lawful_points message.now }
 {
@@ -36,14 +36,14 @@ fn has_lawful_points(message: &Announce) -> bool
         && message.bitcoin_key_2.lawful()
 }
 
-/// Whether node 1 is less than node 2, byte by byte.
+/// Whether node_id_1 is less than node_id_2 in byte order.
 fn are_in_order(message: &Announce) -> bool
     ensures { result ≡ are_in_order message.now }
 {
     message.node_id_1.cmp(&message.node_id_2).is_lt()
 }
 
-/// The capacity of an output that may fund a channel, in satoshi.
+/// The capacity in satoshi, if the output can fund the channel.
 fn capacity(funding: Funding) -> Result<u64, Refusal>
     ensures { result ≡ capacity_of funding }
 {
@@ -53,7 +53,7 @@ fn capacity(funding: Funding) -> Result<u64, Refusal>
     }
 }
 
-/// Whether all four signatures are right.
+/// Whether all four signatures are valid.
 fn is_all_four(sig: Sig) -> bool
     ensures { result ≡ is_all_four sig }
 {
@@ -80,14 +80,14 @@ fn announce<'a>(
     Ok(Checked::Channel(ChannelRow { message, sat, raw }))
 }
 
-/// Whether an update isn't to be sent on: bit 1 of its message flags, `dont_forward`.
+/// Whether an update must not be forwarded: bit 1 of its message flags, `dont_forward`.
 fn is_private(message: &ChannelUpdate) -> bool
     ensures { result ≡ is_private message.now }
 {
     message.message_flags / 2 % 2 == 1
 }
 
-/// The point whose one signature is right.
+/// The point that signed.
 fn signer(sig: Sig) -> Result<Point, Refusal>
     ensures { result ≡ signer_of sig }
 {
@@ -152,41 +152,41 @@ fn check<'a>(
     }
 }
 
-/// The row that a message would add to a map, or the first refusal of the order of [`Refusal`]'s numbers up to 10
-/// (BOLT 7, "The channel_announcement Message", "The node_announcement Message", "The channel_update Message").
+/// The row that a message would add to a map, or the first refusal, in the order of their numbers up to 10 (BOLT 7,
+/// "The channel_announcement Message", "The node_announcement Message", "The channel_update Message").
 ///
-/// It depends on the chain, the bytes and the evidence alone. The refusals are 1 `malformed`, 2 `unknown-even` and
-/// 3 `ignored` for bytes that spell no message, and 4 `not-gossip` for a query or an answer. For an announcement of a
-/// channel 5 `chain`, 6 `point`, 7 `node-order`, 9 `funding` and 10 `signature` follow, for an update 5 `chain`,
-/// 8 `private` and 10 `signature` (nobody's), for an announcement of a node 6 `point` and 10 `signature` (not the
-/// node's). Any bytes of any length may be given.
+/// It is a function of the chain, the bytes and the evidence alone. The refusals are 1 `malformed`, 2 `unknown-even`
+/// and 3 `ignored` for bytes that aren't a message, and 4 `not-gossip` for a query or a reply. Then for a channel
+/// announcement 5 `chain`, 6 `point`, 7 `node-order`, 9 `funding` and 10 `signature`, for an update 5 `chain`, 8
+/// `private` and 10 `signature` (no node's), for a node announcement 6 `point` and 10 `signature` (not the node's). Any
+/// bytes of any length are allowed.
 ///
-/// The row borrows the bytes. `NoMemory` is no verdict on the message: memory was refused for what [`decode`] keeps of a
-/// query or an answer. An announcement or an update takes none.
+/// The row borrows the bytes. `NoMemory` is no verdict on the message: it comes only if what [`decode`] stores of a
+/// query or a reply couldn't be allocated. For an announcement or an update nothing is allocated.
 pub fn precheck<'a>(
     alloc: Global,
     chain: &ChainHash,
     bytes: &'a [u8],
     evidence: &Evidence,
 ) -> Result<Checked<'a>, Refusal>
-    // What is accepted is accepted rightly, and nothing else is.
+    // A message is accepted if and only if it is to be accepted, as this row.
     ensures accepted { IfOk result (λ made. IsAccepted chain.now bytes.now evidence.now made) }
     ensures only { (made : Checked) → IsAccepted chain.now bytes.now evidence.now made
         → MatchResult result (λ found. found ≡ made) (λ e. e ≡ Refusal.NoMemory) }
 
-    // The row, or the first refusal of the order.
+    // The row, or the first refusal in the order.
     ensures exact { Gives Refusal.NoMemory (λ made. made) result (checked_of chain.now bytes.now evidence.now) }
 
-    // Memory can run out only where decoding asks for it.
+    // Out of memory comes only if decoding allocates.
     ensures memory { Sees (λ made. made) result (checked_of chain.now bytes.now evidence.now) ⊎ TakesMemory bytes.now }
 {
     check(alloc, chain, bytes, evidence)
 }
 
-/// What is accepted: a law, of which the contract is the statement; the call does nothing.
+/// A law of acceptance, stated by the contract; the call does nothing.
 ///
-/// Testing in the order of the refusals gives a row exactly where the message is one that is to be accepted, of one of
-/// three types, and the row is that of the message: its fields, its bytes, and what the evidence says of it.
+/// Testing in the order of the refusals returns a row if and only if the message is to be accepted, as one of three
+/// types, and the row is that of the message: its fields, its bytes, and what the evidence says about it.
 pub fn accepted_exactly()
     ensures accepted { (chain : ChainHash) (bytes : List ℕ) (evidence : Evidence) (made : Checked)
         → ((i : ℕ) → slice_index bytes i < 256)

@@ -1,4 +1,4 @@
-//! Why an item isn't accepted.
+//! Refusals of items.
 
 ghost use Rattle.std.specs.Prelude.{◌≡◌};
 ghost use Rattle.lgm_check.specs.Refusal.{number_of, word_of, refusal_of};
@@ -8,64 +8,64 @@ use lgm_gossip::DecodeFault;
 use std::alloc::AllocError;
 use thiserror::Error;
 
-/// Why an item isn't accepted, or want of memory. The reasons have numbers and words, with which outcomes are written.
+/// Why an item isn't accepted, or out of memory. Each reason has a number and a word; outcomes are written as words.
 #[derive(Clone, Copy, Debug, PartialEq, Eq, Error)]
 pub enum Refusal {
-    /// 1: the bytes spell no message.
+    /// 1: the bytes aren't a message.
     #[error("malformed")]
     Malformed,
-    /// 2: the type is even and unknown.
+    /// 2: an unknown even type.
     #[error("unknown-even")]
     UnknownEven,
-    /// 3: the type is odd and unknown.
+    /// 3: an unknown odd type.
     #[error("ignored")]
     Ignored,
-    /// 4: the message asks or answers, and announces nothing.
+    /// 4: a query or a reply, which announces nothing.
     #[error("not-gossip")]
     NotGossip,
-    /// 5: it is of another chain.
+    /// 5: another chain.
     #[error("chain")]
     Chain,
-    /// 6: a node or a bitcoin key is no compressed point.
+    /// 6: a node id or bitcoin key isn't a well-formed point.
     #[error("point")]
     Point,
-    /// 7: node 1 isn't less than node 2, byte by byte.
+    /// 7: node_id_1 isn't less than node_id_2 in byte order.
     #[error("node-order")]
     NodeOrder,
-    /// 8: the update isn't to be sent on.
+    /// 8: the update must not be forwarded.
     #[error("private")]
     Private,
-    /// 9: the funding output isn't known to be unspent and right, or has more satoshi than there are.
+    /// 9: the funding output isn't known to be unspent and right, or holds more satoshi than exist.
     #[error("funding")]
     Funding,
-    /// 10: a signature is missing, or is another node's.
+    /// 10: a signature is invalid or missing, or another node's.
     #[error("signature")]
     Signature,
-    /// 11: the channel isn't held.
+    /// 11: the channel isn't in the map.
     #[error("unknown-channel")]
     UnknownChannel,
-    /// 12: the channel is held, between the same nodes.
+    /// 12: the channel is in the map, between the same nodes.
     #[error("known")]
     Known,
-    /// 13: the channel is held, between other nodes. It is never given: such an announcement bans the nodes of both.
+    /// 13: the channel is in the map, between other nodes. Never given: such an announcement bans the nodes of both.
     #[error("conflict")]
     Conflict,
-    /// 14: no held channel ends at the node.
+    /// 14: no channel in the map has this node.
     #[error("unknown-node")]
     UnknownNode,
-    /// 15: the held update or node announcement is as new, or newer.
+    /// 15: the stored update or node announcement is as new, or newer.
     #[error("not-newer")]
     NotNewer,
     /// 16: a node of the message is banned.
     #[error("banned")]
     Banned,
-    /// Memory was refused. This is no outcome, and has no number and no word.
+    /// Out of memory. This is no outcome, and has no number and no word.
     #[error("out of memory")]
     NoMemory,
 }
 
 impl Refusal {
-    /// Its number, 1 to 16. Want of memory has none.
+    /// Its number, 1 to 16; none for out of memory.
     pub fn number(self) -> Option<u8>
         ensures { result ≡ number_of self }
     {
@@ -90,7 +90,7 @@ impl Refusal {
         }
     }
 
-    /// Its word, as outcomes are written. Want of memory has none, and gives no text.
+    /// Its word, as outcomes are written; empty for out of memory.
     pub fn word(self) -> &'static str
         ensures { result.now ≡ word_of self }
     {

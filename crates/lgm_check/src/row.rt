@@ -4,19 +4,19 @@ ghost use Rattle.std.specs.Prelude.{◌≡◌, ◌%◌, ◌==◌, if◌then◌el
 
 use lgm_gossip::{Announce, ChannelUpdate, Lent, NodeAnnounce, Point, Scid};
 
-/// A channel: its announcement, its capacity, and the bytes that are sent on.
+/// A channel: its announcement, its capacity, and the bytes to forward.
 #[derive(Debug, Drop)]
 pub struct ChannelRow<'a> {
     /// The announcement's fields.
     pub message: Announce<'a>,
     /// The capacity, in satoshi.
     pub sat: u64,
-    /// The whole message as it came.
+    /// The whole message as received.
     pub raw: Lent<'a>,
 }
 
 impl<'a> ChannelRow<'a> {
-    /// The channel's name.
+    /// The channel id.
     pub fn scid(&self) -> Scid
         ensures { result ≡ self.now.message.short_channel_id }
     {
@@ -35,24 +35,24 @@ impl<'a> ChannelRow<'a> {
     }
 }
 
-/// A direction of a channel: its update, and the bytes that are sent on.
+/// A direction of a channel: its update, and the bytes to forward.
 #[derive(Debug, Drop)]
 pub struct UpdateRow<'a> {
     /// The update's fields.
     pub message: ChannelUpdate<'a>,
-    /// The whole message as it came.
+    /// The whole message as received.
     pub raw: Lent<'a>,
 }
 
 impl<'a> UpdateRow<'a> {
-    /// The channel's name.
+    /// The channel id.
     pub fn scid(&self) -> Scid
         ensures { result ≡ self.now.message.short_channel_id }
     {
         self.message.short_channel_id
     }
 
-    /// Whether the direction is that from node 2: bit 0 of `channel_flags`.
+    /// Whether the direction is from node 2: bit 0 of `channel_flags`.
     pub fn is_second(&self) -> bool
         ensures { result ≡ (self.now.message.channel_flags % 2 == 1) }
     {
@@ -60,12 +60,12 @@ impl<'a> UpdateRow<'a> {
     }
 }
 
-/// A node: its announcement, and the bytes that are sent on.
+/// A node: its announcement, and the bytes to forward.
 #[derive(Debug, Drop)]
 pub struct NodeRow<'a> {
     /// The announcement's fields.
     pub message: NodeAnnounce<'a>,
-    /// The whole message as it came.
+    /// The whole message as received.
     pub raw: Lent<'a>,
 }
 
@@ -78,13 +78,13 @@ impl<'a> NodeRow<'a> {
     }
 }
 
-/// The nodes of two announcements of one channel that don't agree on them, some perhaps equal. Both were lawful, so all
-/// four are banned.
+/// The nodes of two contradicting announcements of one channel id, not necessarily distinct. Both announcements were
+/// valid, so all four nodes are banned.
 #[derive(Clone, Copy, Debug, PartialEq, Eq)]
 pub struct BanRow {
-    /// Node 1 of the channel that was held.
+    /// Node 1 of the channel in the map.
     pub held1: Point,
-    /// Node 2 of the channel that was held.
+    /// Node 2 of the channel in the map.
     pub held2: Point,
     /// Node 1 of the new announcement.
     pub new1: Point,
@@ -92,7 +92,7 @@ pub struct BanRow {
     pub new2: Point,
 }
 
-/// A message that is lawful by itself, as the row to be.
+/// A message that passed validation, as the row that it would add.
 #[derive(Debug, Drop)]
 pub enum Checked<'a> {
     /// Of a `channel_announcement`.

@@ -1,20 +1,20 @@
-//! A reader's side: payments are answered over the map that was published last.
+//! A reader's side: answers payments on the map published last.
 
 use crate::messages::point;
 use lgm_publish::{Eye, Guard};
 use lgm_route::{Request, RouteFault, least};
 use std::alloc::{AllocError, Global};
 
-/// What a reader has seen.
+/// What a reader has observed.
 #[derive(Clone, Copy, Debug, PartialEq, Eq)]
 pub struct Tally {
-    /// How many payments have a route.
+    /// The number of payments that have a route.
     pub routed: u32,
-    /// How many of them are charged the fee of the version of the map that they are answered on.
+    /// The number of those whose fee is that of the map version on which they were answered.
     pub right: u32,
-    /// How many are answered on a map that is shorter than one before.
+    /// The number that were answered on a shorter map than an earlier one.
     pub fell: u32,
-    /// How many have no answer, since memory was refused. There may be a route.
+    /// The number without an answer because memory ran out. There may be a route.
     pub unanswered: u32,
     /// The version of the last answer.
     pub version: u64,
@@ -22,8 +22,8 @@ pub struct Tally {
     pub sent: u64,
 }
 
-/// What the payer A sends so that C gets 1,000,000 msat, over the map that a guard shows; nothing where there is no route.
-/// The only error is want of memory.
+/// What the payer A sends so that C receives 1,000,000 msat, on the map that a guard shows; none if there is no route.
+/// The only error is out of memory.
 fn find(alloc: Global, guard: &Guard) -> Result<Option<u64>, AllocError> {
     let request = Request {
         payer: point(10),
@@ -39,7 +39,7 @@ fn find(alloc: Global, guard: &Guard) -> Result<Option<u64>, AllocError> {
 }
 
 impl Tally {
-    /// No payment was answered.
+    /// No payment has been answered.
     pub fn new() -> Tally {
         Tally {
             routed: 0,
@@ -51,7 +51,7 @@ impl Tally {
         }
     }
 
-    /// One more answer. From the fourth operation on, each makes the fee 1 msat higher.
+    /// Adds an answer. From the fourth operation on, each raises the fee by 1 msat.
     fn add(&mut self, version: u64, sent: u64) {
         self.routed = self.routed.saturating_add(1);
         if sent == version.saturating_add(1_000_996) {
@@ -65,7 +65,7 @@ impl Tally {
     }
 }
 
-/// Answers so many payments, each over the map that was published last. Gives the eye back.
+/// Answers this many payments, each on the map published last. Returns the eye.
 pub fn answer_all(alloc: Global, eye: Eye, payments: u32) -> (Eye, Tally) {
     let mut tally = Tally::new();
     let mut eye = eye;

@@ -1,7 +1,7 @@
 //! A route server in a few lines: one thread takes gossip while two others answer payments.
 //!
-//! [`taking`] is the side of the writer, [`answering`] that of a reader, and [`messages`] makes the gossip, which a node
-//! would have from its peers. The page `docs/readers.md` explains the calls.
+//! [`taking`] is the writer's side, [`answering`] a reader's, and [`messages`] makes the gossip, which a node would get
+//! from its peers. The page `docs/readers.md` explains the calls.
 #![tactic(auto)]
 
 mod answering;
@@ -21,10 +21,10 @@ use std::process::ExitCode;
 use std::sync::Wait;
 use std::thread::{Threads, join, join_mut};
 
-/// How many times the fee changes while payments are answered.
+/// The number of times that the fee changes while payments are answered.
 const CHANGES: u32 = 50;
 
-/// How many payments each reader answers meanwhile.
+/// The number of payments that each reader answers meanwhile.
 const PAYMENTS: u32 = 1_000;
 
 /// Takes the channels of A with B and of B with C, and publishes them.
@@ -45,7 +45,7 @@ fn open<R: Wait>(rt: &R, alloc: Global, taker: &mut Taker, pen: &mut Pen) -> boo
     pen.publish(rt).is_ok()
 }
 
-/// Changes the fee of the second channel again and again, and publishes each change.
+/// Changes the fee of the second channel repeatedly, and publishes each change.
 fn change<R: Wait>(rt: &R, alloc: Global, taker: &mut Taker, pen: &mut Pen) -> bool {
     for turn in 1..=CHANGES {
         let Ok((bytes, evidence)) = update(alloc, 2, 1 + turn, 1_000 + turn) else {
@@ -58,10 +58,10 @@ fn change<R: Wait>(rt: &R, alloc: Global, taker: &mut Taker, pen: &mut Pen) -> b
     true
 }
 
-/// What both readers have seen when all is done, each with its eye.
+/// What both readers have observed in the end, each with its eye.
 type Seen = ((Eye, Tally), (Eye, Tally));
 
-/// Lets both readers answer payments while the fee changes.
+/// Runs both readers while the fee changes.
 fn serve<R: Threads + Wait + Sync>(
     rt: &R,
     alloc: Global,
@@ -86,7 +86,7 @@ fn serve<R: Threads + Wait + Sync>(
     if changed { seen } else { None }
 }
 
-/// Runs the server, and gives what the readers have seen, and what one of them sees behind the last publication.
+/// Runs the server. Returns what the readers have observed, and what one of them observes after the last publication.
 fn run<R: Threads + Wait + Sync>(
     rt: &R,
     alloc: Global,

@@ -1,4 +1,4 @@
-//! Gossip as a peer would send it, and what a node finds out about it.
+//! Gossip as a peer would send it, with the verdicts of a node.
 
 use lgm_check::{Evidence, Funding, Sig};
 use lgm_gossip::{
@@ -7,7 +7,7 @@ use lgm_gossip::{
 };
 use std::alloc::Global;
 
-/// The chain, which tests use.
+/// The chain, as used in tests.
 pub const CHAIN: ChainHash = ChainHash([0xc1; 32]);
 
 /// A node or a key by its number: a point of 33 bytes.
@@ -17,12 +17,12 @@ pub fn point(number: u8) -> Point {
     Point(bytes)
 }
 
-/// A channel's id by its number: so many blocks behind block 600,000.
+/// A channel id by its number: this many blocks after block 600,000.
 fn scid(number: u32) -> Scid {
     Scid::new(600_000 + number % 1_000, 0, 0)
 }
 
-/// The announcement of a channel of 100,000 sat between two nodes, with all four signatures.
+/// The announcement of a channel of 100,000 sat between two nodes, with all four signatures valid.
 pub fn announcement(
     alloc: Global,
     number: u32,
@@ -51,7 +51,7 @@ pub fn announcement(
     Ok((encode(alloc, &message)?, evidence))
 }
 
-/// The terms of a channel's first node, with a fixed fee of so many msat, signed by the node.
+/// An update by a channel's first node, with this base fee in msat, signed by the node.
 pub fn update(
     alloc: Global,
     number: u32,

@@ -1,4 +1,4 @@
-//! The writer's side: gossip is checked, admitted to a map of the writer's own, and appended to what is published next.
+//! The writer's side: gossip is validated, admitted to the writer's own map, and appended to be published next.
 
 use crate::messages::CHAIN;
 use lgm_check::{Evidence, Refusal};
@@ -7,16 +7,16 @@ use lgm_publish::Pen;
 use lgm_store::{Candidate, Map, Op, Seed};
 use std::alloc::{AllocError, Global};
 
-/// What takes gossip.
+/// The state of the writer.
 #[derive(Drop)]
 pub struct Taker {
     map: Map,
-    /// What the map has done and the board hasn't: an operation that came back. It is appended before anything else.
+    /// An operation that was applied to the map, and returned by the pen. It is appended before anything else.
     back: Option<Op>,
 }
 
 impl Taker {
-    /// No gossip was taken yet. The map's points will be hashed by the seed.
+    /// No gossip was taken yet. Points of the map will be hashed with the seed.
     pub fn new(alloc: Global, seed: Seed) -> Result<Taker, AllocError> {
         Ok(Taker {
             map: Map::with_seed(alloc, seed)?,
@@ -24,7 +24,7 @@ impl Taker {
         })
     }
 
-    /// Appends the operation that came back, if one did.
+    /// Appends the operation that was returned, if any.
     fn append(&mut self, pen: &mut Pen) -> Result<(), AllocError> {
         let Some(op) = self.back.take() else {
             return Ok(());
@@ -38,8 +38,8 @@ impl Taker {
         }
     }
 
-    /// Takes a message, and gives why it is refused, if it is: then the map is as it was, and the next message can come.
-    /// The only error is want of memory, which says nothing of the message.
+    /// Takes a message, and returns its refusal, if it is refused: then the map is unchanged, and the next message can
+    /// be taken. The only error is out of memory, which says nothing about the message.
     pub fn take(
         &mut self,
         alloc: Global,

@@ -12,7 +12,7 @@ descriptor (addresses.Tor2 address port) = 3 ∷ (address ++ to_be_bytes w16 por
 descriptor (addresses.Tor3 address port) = 4 ∷ (address ++ to_be_bytes w16 port)
 descriptor (addresses.Name hostname port) = 5 ∷ length hostname ∷ (hostname ++ to_be_bytes w16 port)
 
--- the sizes of an address
+-- an address has its size
 abbrev pub AddressFits : Address → Type 0
 AddressFits (addresses.V4 address port) = (length address ≡ 4) × (port < 2 ^ 16)
 AddressFits (addresses.V6 address port) = (length address ≡ 16) × (port < 2 ^ 16)
@@ -26,7 +26,7 @@ pub record BeginsWith (l : List Address) (b : List ℕ) : Type 0 where
   pub fits : AllByRecursion AddressFits l
   pub whole : b ≡ flat_map descriptor l ++ rest
 
--- of all lists that b begins with, l is the longest: each other one is its front
+-- l is the longest of all lists that b begins with: every other one is a prefix of it
 pub record IsLongest (l : List Address) (b : List ℕ) : Type 0 where
   pub begins : BeginsWith l b
   pub longest : (m : List Address) → BeginsWith m b → (more : List Address) × (l ≡ m ++ more)

@@ -1,4 +1,4 @@
--- Reading the address descriptor at the front of bytes. Cut stands for every reason why there is none.
+-- Reading the leading address descriptor. Cut is the fault for every reason why there is none.
 use Rattle.std.specs.Prelude.{ℕ, List, [], ◌∷◌, Result, Ok, Err, ◌==◌, if◌then◌else◌}
 use Rattle.std.specs.Int.{w8, w16}
 use Rattle.lgm_wire.specs.Reading.{◌>>=◌}
@@ -8,7 +8,7 @@ use Rattle.lgm_gossip.specs.declared.address.Address.{Address}
 use Rattle.lgm_gossip.specs.declared.address.Address.TheVariants as addresses
 use Rattle.lgm_gossip.specs.FieldReading.{fixed_at, number_at}
 
--- an address of so many bytes, and its port
+-- an address of the given length, and its port
 abbrev pub address_at : ℕ → (List ℕ → ℕ → Address) → List ℕ → Result (Address × List ℕ) DecodeFault
 address_at len variant bytes = fixed_at len bytes >>= λ address. number_at w16 address.1 >>= λ port. Ok (variant address.0 port.0, port.1)
 

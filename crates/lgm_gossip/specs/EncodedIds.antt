@@ -1,4 +1,4 @@
--- Encoded channel ids: a byte 0 and the ids one after the other. No bytes at all are no ids too.
+-- Encoded channel ids: a byte 0 and the ids one after the other. Empty bytes are an empty list.
 use Rattle.std.specs.Prelude.{◌≡◌, ℕ, ◌<◌, ◌^◌, ◌⊎◌, List, [], ◌∷◌}
 use Rattle.std.specs.List.{flat_map, AllByRecursion}
 use Rattle.std.specs.Int.{w64, to_be_bytes}

@@ -1,4 +1,4 @@
--- Reading fields at the front of bytes: a value and the bytes behind it, or the first fault.
+-- Reading leading fields: a value and the bytes after it, or the first fault.
 use Rattle.std.specs.Prelude.{ℕ, List, [], length, take, drop, Result, Ok, Err, nat_lt, if◌then◌else◌}
 use Rattle.std.specs.Int.{Width, w16, byte_len, from_be_bytes}
 use Rattle.lgm_wire.specs.Reading.{◌>>=◌}
@@ -15,24 +15,24 @@ number_at w bytes =
     if nat_lt (length bytes) (byte_len w) then Err Cut
     else Ok (from_be_bytes w (take (byte_len w) bytes), drop (byte_len w) bytes)
 
--- two bytes of length, and so many bytes: one field
+-- a field after its length of two bytes
 abbrev pub counted_at : List ℕ → Result (List ℕ × List ℕ) DecodeFault
 counted_at bytes = do
   n ← number_at w16 bytes
   fixed_at n.0 n.1
 
--- two bytes of length, and so many bytes, which are read in turn
+-- the same, whose bytes are read in turn
 abbrev pub enclosed_at : {A : Type 0} → (List ℕ → Result A DecodeFault) → List ℕ → Result (A × List ℕ) DecodeFault
 enclosed_at read bytes = counted_at bytes >>= λ text. read text.0 >>= λ x. Ok (x, text.1)
 
--- all that is left
+-- all remaining bytes
 abbrev pub rest_at : List ℕ → Result (List ℕ × List ℕ) DecodeFault
 rest_at bytes = Ok (bytes, [])
 
--- a field, and the others, which may be read by its value
+-- a field, and then the others, which may depend on its value
 abbrev pub read_on : {A M : Type 0} → (List ℕ → Result (A × List ℕ) DecodeFault) → (A → List ℕ → Result M DecodeFault) → List ℕ → Result M DecodeFault
 read_on field others = λ bytes. field bytes >>= λ x. others x.0 x.1
 
--- what the fields make; bytes that are left aren't kept
+-- the message that the fields make; remaining bytes are dropped
 abbrev pub made : {M : Type 0} → M → List ℕ → Result M DecodeFault
 made m = λ bytes. Ok m

@@ -1,4 +1,4 @@
--- Reading the fields of a message in order, in a `do` block: a line reads one field and names its value, and the last line makes the message.
+-- Reading fields in order, in a `do` block: each line reads and names a field, and the last line makes the message.
 use Rattle.std.specs.Prelude.{ℕ, List, Result}
 use Rattle.lgm_gossip.specs.declared.fault.DecodeFault.{DecodeFault}
 use Rattle.lgm_gossip.specs.FieldReading.{read_on}

@@ -1,4 +1,4 @@
--- Which bytes spell which message. This is what `decode` promises; the readings of the modules below it are how it is told.
+-- Which bytes encode which message, as `decode` promises; the modules named Reading define the order of parsing.
 use Rattle.std.specs.Prelude.{◌≡◌, ℕ, ◌≤◌, List, ◌++◌, length}
 use Rattle.std.specs.Int.{w16, to_be_bytes}
 use Rattle.lgm_gossip.specs.declared.message.Message.{Message}
@@ -28,13 +28,13 @@ layout (messages.RangeQuery m) = record { kind = 263; fields = range_query.field
 layout (messages.RangeReply m) = record { kind = 264; fields = range_reply.fields m }
 layout (messages.FilterMsg m) = record { kind = 265; fields = filter_msg.fields m }
 
--- b is the two bytes of the type and a text of the fields, together not too long
+-- b is the two bytes of the type and an encoding of the fields, together not too long
 pub record Spells (kind : ℕ) (F : Field) (b : List ℕ) : Type 0 where
   pub body : List ℕ
   pub whole : b ≡ to_be_bytes w16 kind ++ body
   pub fields : F.Is body
   pub len : length b ≤ 65535
 
--- b spells m
+-- b is an encoding of m
 abbrev pub Wire : Message → List ℕ → Type 0
 Wire m b = Spells (layout m).kind (layout m).fields b

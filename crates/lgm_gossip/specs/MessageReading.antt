@@ -15,7 +15,7 @@ use Rattle.lgm_gossip.specs.RangeQueryReading.{range_query_at}
 use Rattle.lgm_gossip.specs.RangeReplyReading.{range_reply_at}
 use Rattle.lgm_gossip.specs.FilterMsgReading.{filter_msg_at}
 
--- what the bytes behind the type spell
+-- the message of these bytes after the type
 unfoldable pub body_at : ℕ → List ℕ → Result Message DecodeFault
 body_at kind body =
     if kind == 256 then (announce_at body >>= λ m. Ok (messages.Announce m))
@@ -29,7 +29,7 @@ body_at kind body =
     else if kind % 2 == 0 then Err (UnknownEven kind)
     else Err (UnknownOdd kind)
 
--- the type, and what is behind it
+-- the type, and then the bytes after it
 abbrev pub typed_at : List ℕ → Result Message DecodeFault
 typed_at [] = Err Short
 typed_at (high ∷ []) = Err Short

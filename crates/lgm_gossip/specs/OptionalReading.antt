@@ -1,4 +1,4 @@
--- Reading what may stand behind the last field: the first record at fault decides.
+-- Reading the TLV stream after the last field: the first faulty record decides.
 use Rattle.std.specs.Prelude.{ℕ, ◌%◌, List, [], ◌∷◌, Option, Some, None, Result, Ok, Err, ◌==◌, if◌then◌else◌}
 use Rattle.lgm_wire.specs.Reading.{◌>>=◌}
 use Rattle.lgm_wire.specs.declared.fault.WireFault.{WireFault}
@@ -14,7 +14,7 @@ or_tlv (Err fault) = Err (Tlv fault)
 abbrev pub stream_at : List ℕ → Result (List TlvRecord) DecodeFault
 stream_at bytes = or_tlv (tlvs_of bytes)
 
--- what is known behind one more record: type 1 is read, another even type is a fault, another odd one is skipped
+-- the value after one more record: type 1 is read, another even type is a fault, another odd one is skipped
 abbrev pub after_record : {A : Type 0} → (List ℕ → Result A DecodeFault) → Option A → TlvRecord → Result (Option A) DecodeFault
 after_record read known r =
     if r.kind == 1 then (read r.value >>= λ x. Ok (Some x))

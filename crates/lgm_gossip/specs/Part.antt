@@ -1,4 +1,4 @@
--- The parts that the bytes of a message are joined from.
+-- The parts from which the encoding of a message is joined.
 use Rattle.std.specs.Prelude.{ℕ, ◌<◌, ◌^◌, List}
 use Rattle.std.specs.List.{flat_map, AllByRecursion}
 use Rattle.std.specs.Int.{w8, w16, w32, w64, to_be_bytes}
@@ -22,7 +22,7 @@ text (parts.Pairs pairs) = flat_map pair_bytes pairs.now
 abbrev pub texts : List Part → List ℕ
 texts ps = flat_map text ps
 
--- its numbers have their width
+-- its numbers fit their width
 abbrev pub PartFits : Part → Type 0
 PartFits (parts.Bytes bytes) = Unit {0}
 PartFits (parts.Number8 n) = n < 2 ^ 8

@@ -1,4 +1,4 @@
--- Query flags: a byte 0, and one number in its shortest form for each id.
+-- Query flags: a byte 0, and one BigSize per id.
 use Rattle.std.specs.Prelude.{◌≡◌, ℕ, ◌<◌, ◌^◌, List, ◌∷◌, length}
 use Rattle.std.specs.List.{flat_map, AllByRecursion}
 use Rattle.lgm_gossip.specs.Streams.{bigsize_bytes}

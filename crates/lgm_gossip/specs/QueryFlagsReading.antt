@@ -14,7 +14,7 @@ or_flags (Err e) = Err Flags
 abbrev pub flag_at : List ℕ → Result (ℕ × List ℕ) DecodeFault
 flag_at bytes = or_flags (bigsize_at bytes)
 
--- so many numbers, and nothing behind them
+-- the given number of flags, and nothing after them
 unfoldable pub all_flags_at : ℕ → List ℕ → Result (List ℕ) DecodeFault
 all_flags_at zero [] = Ok []
 all_flags_at zero (b ∷ bs) = Err Flags

@@ -10,13 +10,13 @@ use Rattle.lgm_gossip.specs.FieldReading.{fixed_at, number_at, made}
 use Rattle.lgm_gossip.specs.InOrder.{◌>>=◌}
 use Rattle.lgm_gossip.specs.OptionalReading.{optional_at}
 
--- a number with nothing behind it
+-- a number with nothing after it
 abbrev pub alone : Result (ℕ × List ℕ) WireFault → Result ℕ DecodeFault
 alone (Ok (v, [])) = Ok v
 alone (Ok (v, b ∷ bs)) = Err (TlvKind 1)
 alone (Err e) = Err (TlvKind 1)
 
--- the options: exactly one number in its shortest form
+-- the options: exactly one BigSize
 abbrev pub options_at : List ℕ → Result ℕ DecodeFault
 options_at bytes = alone (bigsize_at bytes)
 

@@ -1,4 +1,5 @@
--- The spelling of a message that `encode` chooses: ids always behind a byte 0, a record of type 1 where its option is there, and no other record.
+-- The canonical encoding, which `encode` writes: ids after a byte 0, a record of type 1 for an option, and no other
+-- record.
 use Rattle.std.specs.Prelude.{◌≡◌, ℕ, ◌<◌, ◌↔◌, List, ◌++◌, length, Result, Err, IfOk}
 use Rattle.std.specs.List.{flat_map}
 use Rattle.std.specs.Int.{w16, to_be_bytes}
@@ -17,7 +18,8 @@ typed kind texts = to_be_bytes w16 kind ++ flat_map (λ t. t) texts
 abbrev pub spelling : Message → List ℕ
 spelling m = typed (layout m).kind (layout m).fields.texts
 
--- what writing gave: the texts behind the type, which spell the fields, exactly where they aren't too long. A part that its length field can't hold makes them too long.
+-- the result of encoding: the two bytes of the type and the texts, which encode the fields, if and only if they aren't
+-- too long. A part that exceeds its length field makes them too long.
 pub record Encodes (kind : ℕ) (F : Field) (result : Result (List ℕ) EncodeFault) : Type 0 where
   pub too_long : (result ≡ Err TooLong) ↔ (65535 < length (typed kind F.texts))
   pub text : IfOk result (λ b. b ≡ typed kind F.texts)

@@ -1,4 +1,4 @@
--- The words of the wire that messages are told in: streams of records, and numbers in their shortest form.
+-- Terms of lgm_wire that messages use: TLV streams and BigSize.
 pub use Rattle.lgm_wire.specs.BigSize.{bigsize_bytes, IsBigSize}
 pub use Rattle.lgm_wire.specs.Tlv.{TlvRecord, record_bytes, IsTlvStream}
 pub use Rattle.lgm_wire.specs.BigSizeReading.{bigsize_at}

@@ -1,4 +1,4 @@
--- Timestamps: a byte 0, and for each id four bytes of the update by node 1 and four of that by node 2.
+-- Timestamps: a byte 0, and per id four bytes for the update by node 1 and four for that by node 2.
 use Rattle.std.specs.Prelude.{◌≡◌, ℕ, ◌<◌, ◌^◌, List, ◌∷◌, ◌++◌, length}
 use Rattle.std.specs.List.{flat_map, AllByRecursion}
 use Rattle.std.specs.Int.{w32, to_be_bytes}

@@ -1,4 +1,4 @@
-//! Addresses from their descriptors.
+//! Parsing of address descriptors.
 
 ghost use Rattle.std.specs.Prelude.{IfOk};
 ghost use Rattle.lgm_wire.specs.Reading.{Gives};
@@ -11,7 +11,7 @@ use crate::fault::DecodeFault;
 use crate::fields::{fixed, number8, number16, part};
 use std::alloc::{AllocError, Global};
 
-/// The address at the front, and the bytes after it.
+/// The leading address, and the bytes after it.
 #[tactic(auto, unfolding(crate::specs::AddressesReading::descriptor_at))]
 fn descriptor(alloc: Global, bytes: &[u8]) -> Result<(Address, &[u8]), DecodeFault>
     ensures { Gives DecodeFault.NoMemory (λ x. (x.0, x.1.now)) result (descriptor_at bytes.now) }
@@ -51,9 +51,8 @@ fn descriptor(alloc: Global, bytes: &[u8]) -> Result<(Address, &[u8]), DecodeFau
     }
 }
 
-/// The addresses that the bytes begin with, up to the first descriptor that is cut or of an unknown type: of the lists
-/// of addresses that the bytes begin with it is the longest (BOLT 7, "The node_announcement Message"). The only error is
-/// want of memory.
+/// The addresses up to the first descriptor that is incomplete or of an unknown type: the longest list of addresses
+/// that the bytes begin with (BOLT 7, "The node_announcement Message"). The only error is out of memory.
 pub fn addresses(alloc: Global, bytes: &[u8]) -> Result<AddressList, AllocError>
     ensures { IfOk result (λ list. IsLongest list bytes.now) }
 {

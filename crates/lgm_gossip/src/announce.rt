@@ -14,11 +14,11 @@ use crate::part::Part;
 use lgm_wire::{ChainHash, Point, Scid};
 use std::alloc::Global;
 
-/// A `channel_announcement`, type 256: two nodes say, and prove by four signatures, that an output of the chain is
-/// their channel (BOLT 7, "The channel_announcement Message").
+/// A `channel_announcement`, type 256: two nodes prove by four signatures that an output of the chain funds a channel
+/// between them (BOLT 7, "The channel_announcement Message").
 #[derive(Debug, Drop)]
 pub struct Announce<'a> {
-    /// The signature of node 1, 64 bytes, as the other three.
+    /// The signature of node 1, 64 bytes like the other three.
     pub node_signature_1: Signature<'a>,
     /// The signature of node 2.
     pub node_signature_2: Signature<'a>,
@@ -26,21 +26,21 @@ pub struct Announce<'a> {
     pub bitcoin_signature_1: Signature<'a>,
     /// The signature by the second bitcoin key.
     pub bitcoin_signature_2: Signature<'a>,
-    /// Feature bits, numbered from the least bit of the last byte.
+    /// Feature bits, numbered from the least significant bit of the last byte.
     pub features: Lent<'a>,
-    /// The chain that holds the funding output.
+    /// The chain of the funding output.
     pub chain_hash: ChainHash,
-    /// The channel's name: where on the chain its funding output stands.
+    /// The channel id: the position of the funding output in the chain.
     pub short_channel_id: Scid,
-    /// The lesser of the two nodes, byte by byte, in a lawful message.
+    /// In a valid message, the lesser node id in byte order.
     pub node_id_1: Point,
-    /// The greater of the two nodes.
+    /// The greater node id.
     pub node_id_2: Point,
-    /// The key of node 1 that the funding output pays to, with the other one.
+    /// Node 1's key of the 2-of-2 funding output.
     pub bitcoin_key_1: Point,
-    /// The key of node 2 that the funding output pays to, with the other one.
+    /// Node 2's key of the 2-of-2 funding output.
     pub bitcoin_key_2: Point,
-    /// What stands behind the last field, kept so that the message can be sent on as it came.
+    /// Trailing bytes, kept so that the message can be forwarded unchanged.
     pub rest: Lent<'a>,
 }
 
@@ -49,7 +49,7 @@ impl<'a> Announce<'a> {
     ghost use Rattle.lgm_gossip.specs.AnnounceReading.{announce_at};
     ghost use Rattle.lgm_gossip.specs.Spelling.{Encodes};
 
-    /// The same message, lent once more.
+    /// The same message, borrowed again.
     pub fn again(&self) -> Announce<'a>
         ensures { result ≡ self.now }
     {
@@ -64,7 +64,7 @@ impl<'a> Announce<'a> {
         }
     }
 
-    /// The fields, read from left to right, of the bytes behind the type.
+    /// Reads the fields, from left to right, from the bytes after the type.
     #[tactic(auto, unfolding(crate::specs::AnnounceReading::announce_at))]
     pub(crate) fn read(bytes: &'a [u8]) -> Result<Announce<'a>, DecodeFault>
         ensures { Sees (λ m. m) result (announce_at bytes.now) }
@@ -96,7 +96,7 @@ impl<'a> Announce<'a> {
         })
     }
 
-    /// The bytes, the two of the type first.
+    /// The encoding, beginning with the two bytes of the type.
     pub(crate) fn encode(&self, alloc: Global) -> Result<Bytes, EncodeFault>
         ensures { Encodes 256 (fields self.now) result }
     {

@@ -1,4 +1,4 @@
-//! Values of eight bytes each, one after the other.
+//! Sequences of eight-byte values.
 
 ghost use Rattle.std.specs.Prelude.{◌≡◌, ℕ, List, IfOk, map};
 
@@ -7,15 +7,15 @@ use std::alloc::{AllocError, Global};
 
 /// A value of eight bytes.
 pub(crate) trait Cell: Drop {
-    /// The value that eight bytes are.
+    /// The value that eight bytes encode.
     ghost cell_of: { List ℕ → Self };
 
-    /// The value that the bytes are.
+    /// Decodes a value.
     fn from_bytes(bytes: &[u8; 8]) -> Self
         ensures { result ≡ cell_of bytes.now };
 }
 
-/// The values of the chunks. The only error is want of memory.
+/// The values of the chunks. The only error is out of memory.
 pub(crate) fn cells<T: Cell>(alloc: Global, chunks: &[[u8; 8]]) -> Result<Items<T>, AllocError>
     ensures { IfOk result (λ values. values ≡ map T.cell_of chunks.now) }
 {

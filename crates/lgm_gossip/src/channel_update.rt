@@ -13,34 +13,34 @@ use crate::part::Part;
 use lgm_wire::{ChainHash, Scid};
 use std::alloc::Global;
 
-/// A `channel_update`, type 258: one end of a channel tells on which terms it forwards to the other end (BOLT 7, "The
+/// A `channel_update`, type 258: the terms on which one end of a channel forwards to the other end (BOLT 7, "The
 /// channel_update Message").
 #[derive(Debug, Drop)]
 pub struct ChannelUpdate<'a> {
     /// The signature of the end that forwards.
     pub signature: Signature<'a>,
-    /// The chain that holds the funding output.
+    /// The chain of the funding output.
     pub chain_hash: ChainHash,
-    /// The channel's name.
+    /// The channel id.
     pub short_channel_id: Scid,
-    /// Seconds since 1970. Of two updates of a direction the one with the greater number holds.
+    /// Seconds since 1970. Of two updates of a direction the one with the greater timestamp applies.
     pub timestamp: u32,
-    /// Bit 1 says that the update isn't to be sent on (`dont_forward`). No other bit is looked at: bit 0, which senders
-    /// set, says that there is an `htlc_maximum_msat`, which is always read.
+    /// Bit 1 is `dont_forward`. Other bits are ignored: bit 0, which senders set, says that there is an
+    /// `htlc_maximum_msat`, which is always read.
     pub message_flags: u8,
-    /// Bit 0 is the direction: 0 from node 1, 1 from node 2. Bit 1 says that the direction is disabled.
+    /// Bit 0 is the direction: 0 from node 1, 1 from node 2. Bit 1 disables the direction.
     pub channel_flags: u8,
-    /// Blocks that a forwarded payment's expiry is lowered by.
+    /// The blocks that are subtracted from the expiry of an HTLC when it is forwarded.
     pub cltv_expiry_delta: u16,
-    /// The least amount that is forwarded, in thousandths of a satoshi.
+    /// The least amount that is forwarded, in msat.
     pub htlc_minimum_msat: u64,
-    /// The fee's fixed part, in thousandths of a satoshi.
+    /// The base fee, in msat.
     pub fee_base_msat: u32,
-    /// The fee's part that grows with the amount, in millionths of it.
+    /// The proportional fee, in millionths of the amount.
     pub fee_proportional_millionths: u32,
-    /// The greatest amount that is forwarded, in thousandths of a satoshi.
+    /// The greatest amount that is forwarded, in msat.
     pub htlc_maximum_msat: u64,
-    /// What stands behind the last field, kept so that the message can be sent on as it came.
+    /// Trailing bytes, kept so that the message can be forwarded unchanged.
     pub rest: Lent<'a>,
 }
 
@@ -49,7 +49,7 @@ impl<'a> ChannelUpdate<'a> {
     ghost use Rattle.lgm_gossip.specs.ChannelUpdateReading.{channel_update_at};
     ghost use Rattle.lgm_gossip.specs.Spelling.{Encodes};
 
-    /// The same message, lent once more.
+    /// The same message, borrowed again.
     pub fn again(&self) -> ChannelUpdate<'a>
         ensures { result ≡ self.now }
     {
@@ -60,7 +60,7 @@ impl<'a> ChannelUpdate<'a> {
         }
     }
 
-    /// The fields, read from left to right, of the bytes behind the type.
+    /// Reads the fields, from left to right, from the bytes after the type.
     #[tactic(auto, unfolding(crate::specs::ChannelUpdateReading::channel_update_at))]
     pub(crate) fn read(bytes: &'a [u8]) -> Result<ChannelUpdate<'a>, DecodeFault>
         ensures { Sees (λ m. m) result (channel_update_at bytes.now) }
@@ -92,7 +92,7 @@ impl<'a> ChannelUpdate<'a> {
         })
     }
 
-    /// The bytes, the two of the type first.
+    /// The encoding, beginning with the two bytes of the type.
     pub(crate) fn encode(&self, alloc: Global) -> Result<Bytes, EncodeFault>
         ensures { Encodes 258 (fields self.now) result }
     {

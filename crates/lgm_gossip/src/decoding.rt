@@ -1,4 +1,4 @@
-//! Messages from bytes.
+//! Decoding of messages.
 
 ghost use Rattle.std.specs.Prelude.{◌≡◌, Ok, IfOk, IfErr, MatchResult, ◌⊎◌, ◌<◌, ℕ, List, None, slice_index};
 ghost use Rattle.lgm_wire.specs.Reading.{Sees, Gives};
@@ -51,39 +51,39 @@ fn message(alloc: Global, bytes: &[u8]) -> Result<Message<'_>, DecodeFault>
     body(alloc, u16::from_be_bytes([*high, *low]), rest)
 }
 
-/// The message that the bytes spell, its two bytes of type first (BOLT 7).
+/// Decodes a message from its bytes, beginning with the two bytes of its type (BOLT 7).
 ///
-/// Any bytes of any length may be given. A message's length and its type are looked at first (`Long`, `Short`,
-/// `UnknownEven`, `UnknownOdd`), and then its fields from left to right: the first field at fault decides (`Cut`,
-/// `Encoding`, `Ids`). Of the records behind the last field a fault of their stream comes first (`Tlv`), and else the
-/// first record at fault decides: `TlvKind` where it is even and unknown or malformed, `Encoding` where its encoding is
-/// unknown, `Flags` where query flags are malformed or not one for each id.
+/// Any bytes of any length are allowed. Length and type are checked first (`Long`, `Short`, `UnknownEven`,
+/// `UnknownOdd`), then the fields from left to right; the first faulty field is reported (`Cut`, `Encoding`, `Ids`). In
+/// the TLV stream after the fields a fault of the stream comes first (`Tlv`), else the first faulty record is reported:
+/// `TlvKind` if its type is even and unknown, or it is malformed; `Encoding` if its encoding is unknown; `Flags` if
+/// query flags are malformed or not one per id.
 ///
-/// An announcement or an update borrows its signatures, features, addresses and last bytes from the input, and takes no
-/// memory. Memory is taken for the ids, flags and timestamps of a query or an answer, and for a list of its records while
+/// An announcement or an update borrows its signatures, features, addresses and trailing bytes from the input, and
+/// nothing is allocated. Ids, flags and timestamps of a query or a reply are allocated, and a list of its records while
 /// it is read.
 pub fn decode(alloc: Global, bytes: &[u8]) -> Result<Message<'_>, DecodeFault>
-    // What is found is spelled by the bytes, and nothing else is.
+    // A message is returned if and only if the bytes encode it.
     ensures found { IfOk result (λ m. Wire m bytes.now) }
     ensures only { (m : Message) → Wire m bytes.now
         → MatchResult result (λ found. found ≡ m) (λ e. e ≡ DecodeFault.NoMemory) }
 
-    // Another fault than want of memory is the first one of the order.
+    // Any fault but out of memory is the first one in the order above.
     ensures fault { IfErr result (λ e. (e ≡ DecodeFault.NoMemory) ⊎ (fault bytes.now ≡ Some e)) }
 
-    // The same in one: what reading the bytes gives.
+    // The same in one clause: the result of reading the bytes.
     ensures exact { Gives DecodeFault.NoMemory (λ m. m) result (message_at bytes.now) }
 
-    // Memory can run out only where it is asked for: else the result is what reading gives.
+    // Out of memory comes only if something is allocated: otherwise the result is that of the reading.
     ensures memory { Sees (λ m. m) result (message_at bytes.now) ⊎ TakesMemory bytes.now }
 {
     message(alloc, bytes)
 }
 
-/// Laws of the messages, of which the contract is the statement; the call does nothing.
+/// Laws of the messages, stated by the contract; the call does nothing.
 ///
-/// Reading the bytes from left to right gives a message exactly where they spell it. They spell at most one, and spell
-/// one exactly where they have no fault.
+/// Reading the bytes from left to right returns a message if and only if they encode it. They encode at most one, and
+/// exactly one if and only if they have no fault.
 pub fn one_message()
     ensures read { (m : Message) (b : List ℕ) → ((i : ℕ) → slice_index b i < 256)
         → message_at b ≡ Ok m → Wire m b }

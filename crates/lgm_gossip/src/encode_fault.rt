@@ -1,4 +1,4 @@
-//! Why a message has no bytes.
+//! Faults of encoding.
 
 ghost use Rattle.std.specs.Prelude.{◌≡◌};
 ghost use Rattle.lgm_gossip.specs.declared.encode_fault.EncodeFault.TheVariants.{NoMemory};
@@ -6,14 +6,14 @@ ghost use Rattle.lgm_gossip.specs.declared.encode_fault.EncodeFault.TheVariants.
 use std::alloc::AllocError;
 use thiserror::Error;
 
-/// Why a message can't be written as bytes.
+/// Why a message can't be encoded.
 #[derive(Clone, Copy, Debug, PartialEq, Eq, Error)]
 pub enum EncodeFault {
-    /// It would take more than 65,535 bytes, or a part more than its length field can say (BOLT 1, "Lightning Message
+    /// It would have more than 65,535 bytes, or a part longer than its length field allows (BOLT 1, "Lightning Message
     /// Format").
     #[error("more than 65,535 bytes")]
     TooLong,
-    /// Memory was refused.
+    /// Out of memory.
     #[error("out of memory")]
     NoMemory,
 }

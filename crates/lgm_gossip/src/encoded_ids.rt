@@ -1,4 +1,4 @@
-//! Encoded channel ids, as queries and replies hold them.
+//! Encoded channel ids, as in queries and replies.
 
 ghost use Rattle.std.specs.Prelude.{◌<◌, length};
 ghost use Rattle.std.specs.Int.{w64, from_be_bytes};
@@ -12,10 +12,10 @@ use crate::items::Items;
 use lgm_wire::Scid;
 use std::alloc::Global;
 
-/// A list of channels.
+/// A list of channel ids.
 pub type Scids = Items<Scid>;
 
-/// A number, its highest byte first.
+/// A big-endian number.
 impl Cell for Scid {
     ghost cell_of = { from_be_bytes w64 };
 
@@ -24,7 +24,7 @@ impl Cell for Scid {
     }
 }
 
-/// The ids that the bytes are.
+/// The ids of an encoded list without its length.
 fn ids(alloc: Global, bytes: &[u8]) -> Result<Scids, DecodeFault>
     ensures { GivesIf (1 < length bytes.now) DecodeFault.NoMemory (λ ids. ids) result (ids_of bytes.now) }
 {
@@ -41,7 +41,7 @@ fn ids(alloc: Global, bytes: &[u8]) -> Result<Scids, DecodeFault>
     }
 }
 
-/// The ids at the front, behind their length, and the bytes after them.
+/// The leading ids, after their length, and the bytes after them.
 pub(crate) fn encoded_ids(alloc: Global, bytes: &[u8]) -> Result<(Scids, &[u8]), DecodeFault>
     ensures { GivesIf (3 < length bytes.now) DecodeFault.NoMemory (λ x. (x.0, x.1.now)) result
         (encoded_ids_at bytes.now) }

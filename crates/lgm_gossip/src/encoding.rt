@@ -1,4 +1,4 @@
-//! Messages to bytes.
+//! Encoding of messages.
 
 ghost use Rattle.std.specs.Prelude.{◌≡◌, ◌<◌, ◌↔◌, length, IfOk, Ok, Err};
 ghost use Rattle.lgm_gossip.specs.Message.{Wire};
@@ -25,19 +25,19 @@ fn bytes(alloc: Global, message: &Message) -> Result<Bytes, EncodeFault>
     }
 }
 
-/// The bytes of a message, its two bytes of type first (BOLT 7). [`decode`](crate::decode) gives the message back.
+/// Encodes a message, beginning with the two bytes of its type (BOLT 7). [`decode`](crate::decode) is the inverse.
 ///
-/// Ids are written behind a byte 0, also where there are none. An option is written as a record of type 1, and no other
-/// record is written. It takes memory once, as much as the bytes are, and none where they are too long.
+/// Ids are written after a byte 0, even if there are none. An option is written as a record of type 1, and no other
+/// record is written. It allocates once, the length of the encoding, and nothing if that is too long.
 pub fn encode(alloc: Global, message: &Message) -> Result<Bytes, EncodeFault>
-    // The bytes spell the message, so they are read as it.
+    // The bytes encode the message, and are decoded to it.
     ensures spelled { IfOk result (λ bytes. Wire message.now bytes) }
     ensures read { IfOk result (λ bytes. message_at bytes ≡ Ok message.now) }
 
-    // Of its spellings they are this one.
+    // Among its encodings they are the canonical one.
     ensures text { IfOk result (λ bytes. bytes ≡ spelling message.now) }
 
-    // A part that its length field can't hold makes the whole too long as well.
+    // A part that exceeds its length field makes the whole too long as well.
     ensures too_long { (result ≡ Err EncodeFault.TooLong) ↔ (65535 < length (spelling message.now)) }
 {
     bytes(alloc, message)

@@ -1,4 +1,4 @@
-//! Why bytes are no message.
+//! Faults of decoding.
 
 ghost use Rattle.std.specs.Prelude.{◌≡◌};
 ghost use Rattle.lgm_gossip.specs.declared.fault.DecodeFault.TheVariants.{NoMemory};
@@ -7,8 +7,7 @@ use lgm_wire::WireFault;
 use std::alloc::{AllocError, AllocFailed};
 use thiserror::Error;
 
-/// The first fault of bytes that spell no message, or want of memory. [`decode`](crate::decode) says in which order they
-/// are looked for.
+/// The first fault of bytes that don't encode a message, or out of memory. [`decode`](crate::decode) has the order.
 #[derive(Clone, Copy, Debug, PartialEq, Eq, Error)]
 pub enum DecodeFault {
     /// More than 65,535 bytes.
@@ -17,32 +16,32 @@ pub enum DecodeFault {
     /// Fewer than the two bytes of a type.
     #[error("no message type")]
     Short,
-    /// An even type that isn't known: the sender wants the message to be understood (BOLT 1, "It's ok to be odd").
+    /// An unknown even type: the message must be understood (BOLT 1, "It's ok to be odd").
     #[error("unknown even type {0}")]
     UnknownEven(u16),
-    /// An odd type that isn't known: the message may be ignored.
+    /// An unknown odd type: the message may be ignored.
     #[error("unknown odd type {0}")]
     UnknownOdd(u16),
-    /// A field, taken from left to right, goes past the end.
+    /// A field, read from left to right, extends past the end.
     #[error("a field goes past the end")]
     Cut,
-    /// Encoded channel ids, query flags or timestamps begin with this byte in place of 0, the only encoding that is known.
+    /// Encoded channel ids, query flags or timestamps begin with this byte instead of 0, the only known encoding.
     #[error("unknown encoding {0}")]
     Encoding(u8),
-    /// Encoded channel ids aren't eight bytes each.
+    /// The length of encoded channel ids isn't a multiple of eight.
     #[error("channel ids of the wrong length")]
     Ids,
-    /// The bytes behind the last field aren't a stream of records.
+    /// The bytes after the last field aren't a TLV stream.
     #[error("not a TLV stream: {0}")]
     Tlv(WireFault),
-    /// A record of this type is even and unknown, or it is of type 1 and malformed: options that aren't one number in its
-    /// shortest form, or timestamps that aren't a pair for each channel id.
+    /// A record of this type is even and unknown, or of type 1 and malformed: options that aren't exactly one BigSize,
+    /// or timestamps that aren't one pair per channel id.
     #[error("record {0} is unknown or malformed")]
     TlvKind(u64),
-    /// Query flags aren't one number in its shortest form for each channel id.
+    /// Query flags aren't one BigSize per channel id.
     #[error("query flags don't fit the channel ids")]
     Flags,
-    /// Memory was refused. It says nothing of the bytes.
+    /// Out of memory; says nothing about the bytes.
     #[error("out of memory")]
     NoMemory,
 }

@@ -2,8 +2,8 @@
 
 ghost use Rattle.std.specs.Prelude.{◌≢◌, ◌↔◌, IsTrue, Any, bit_and};
 
-/// Whether a bit of an even number is set. Bits are numbered from the least one of the last byte, so the even ones are
-/// those of 0x55 in each byte; a set one must be understood (BOLT 9, "Assigned feature flags").
+/// Whether an even feature bit is set. Bits are numbered from the least significant bit of the last byte, so the even
+/// ones are those of 0x55 in each byte; an even bit must be understood (BOLT 9, "Assigned feature flags").
 pub fn has_even_bit(features: &[u8]) -> bool
     ensures { IsTrue result ↔ Any (λ byte. bit_and byte 0x55 ≢ 0) features.now }
 {

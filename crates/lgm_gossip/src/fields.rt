@@ -1,4 +1,4 @@
-//! Fields at the front of bytes: each reader gives a field and the bytes behind it.
+//! Parsers of fields: each returns the leading field, and the bytes after it.
 
 ghost use Rattle.std.specs.Prelude.{◌≡◌};
 ghost use Rattle.std.specs.Int.{w8, w16, w32, w64};
@@ -8,7 +8,7 @@ ghost use Rattle.lgm_gossip.specs.FieldReading.{fixed_at, number_at, counted_at}
 use crate::fault::DecodeFault;
 use crate::lent::Signature;
 
-/// So many bytes.
+/// A field of `N` bytes.
 pub fn fixed<const N: usize>(bytes: &[u8]) -> Result<([u8; N], &[u8]), DecodeFault>
     ensures { Sees (λ x. (x.0, x.1.now)) result (fixed_at N bytes.now) }
 {
@@ -18,7 +18,7 @@ pub fn fixed<const N: usize>(bytes: &[u8]) -> Result<([u8; N], &[u8]), DecodeFau
     }
 }
 
-/// A signature, where it lies.
+/// A signature, borrowed from the input.
 pub fn signature(bytes: &[u8]) -> Result<(Signature<'_>, &[u8]), DecodeFault>
     ensures { Sees (λ x. (x.0, x.1.now)) result (fixed_at 64 bytes.now) }
 {
@@ -60,7 +60,7 @@ pub fn number64(bytes: &[u8]) -> Result<(u64, &[u8]), DecodeFault>
     Ok((u64::from_be_bytes(front), rest))
 }
 
-/// So many bytes, where they lie.
+/// A field of `len` bytes, borrowed from the input.
 pub fn part(len: usize, bytes: &[u8]) -> Result<(&[u8], &[u8]), DecodeFault>
     ensures { Sees (λ x. (x.0.now, x.1.now)) result (fixed_at len bytes.now) }
 {
@@ -70,7 +70,7 @@ pub fn part(len: usize, bytes: &[u8]) -> Result<(&[u8], &[u8]), DecodeFault>
     Ok(bytes.split_at(len))
 }
 
-/// As many bytes as the two in front of them say.
+/// A field after its length of two bytes.
 pub fn counted(bytes: &[u8]) -> Result<(&[u8], &[u8]), DecodeFault>
     ensures { Sees (λ x. (x.0.now, x.1.now)) result (counted_at bytes.now) }
 {

@@ -11,15 +11,15 @@ use crate::part::Part;
 use lgm_wire::ChainHash;
 use std::alloc::Global;
 
-/// A `gossip_timestamp_filter`, type 265: the sender wants gossip with timestamps of this range (BOLT 7, "The
+/// A `gossip_timestamp_filter`, type 265: the sender requests gossip with timestamps in this range (BOLT 7, "The
 /// gossip_timestamp_filter Message").
 #[derive(Clone, Copy, Debug, PartialEq, Eq)]
 pub struct FilterMsg {
-    /// The chain whose gossip is wanted.
+    /// The chain whose gossip is requested.
     pub chain_hash: ChainHash,
-    /// The least timestamp that is wanted, in seconds since 1970.
+    /// The first timestamp of the range, in seconds since 1970.
     pub first_timestamp: u32,
-    /// How many seconds the range has.
+    /// The length of the range, in seconds.
     pub timestamp_range: u32,
 }
 
@@ -28,7 +28,7 @@ impl FilterMsg {
     ghost use Rattle.lgm_gossip.specs.FilterMsgReading.{filter_msg_at};
     ghost use Rattle.lgm_gossip.specs.Spelling.{Encodes};
 
-    /// The fields, read from left to right, of the bytes behind the type. What stands behind them is dropped.
+    /// Reads the fields, from left to right, from the bytes after the type. Trailing bytes are dropped.
     #[tactic(auto, unfolding(crate::specs::FilterMsgReading::filter_msg_at))]
     pub(crate) fn read(bytes: &[u8]) -> Result<FilterMsg, DecodeFault>
         ensures { Sees (λ m. m) result (filter_msg_at bytes.now) }
@@ -43,7 +43,7 @@ impl FilterMsg {
         })
     }
 
-    /// The bytes, the two of the type first.
+    /// The encoding, beginning with the two bytes of the type.
     pub(crate) fn encode(&self, alloc: Global) -> Result<Bytes, EncodeFault>
         ensures { Encodes 265 (fields self.now) result }
     {

@@ -11,13 +11,13 @@ use crate::part::Part;
 use lgm_wire::ChainHash;
 use std::alloc::Global;
 
-/// A `reply_short_channel_ids_end`, type 262: all that was asked for by ids has been sent (BOLT 7, "The
+/// A `reply_short_channel_ids_end`, type 262: the reply to a query by ids is complete (BOLT 7, "The
 /// query_short_channel_ids/reply_short_channel_ids_end Messages").
 #[derive(Clone, Copy, Debug, PartialEq, Eq)]
 pub struct IdsEnd {
     /// The chain of the query.
     pub chain_hash: ChainHash,
-    /// 0 if the sender doesn't keep up with this chain, else 1. Kept as it came.
+    /// 0 if the sender doesn't maintain this chain, else 1. Stored as received.
     pub full_information: u8,
 }
 
@@ -26,7 +26,7 @@ impl IdsEnd {
     ghost use Rattle.lgm_gossip.specs.IdsEndReading.{ids_end_at};
     ghost use Rattle.lgm_gossip.specs.Spelling.{Encodes};
 
-    /// The fields, read from left to right, of the bytes behind the type. What stands behind them is dropped.
+    /// Reads the fields, from left to right, from the bytes after the type. Trailing bytes are dropped.
     #[tactic(auto, unfolding(crate::specs::IdsEndReading::ids_end_at))]
     pub(crate) fn read(bytes: &[u8]) -> Result<IdsEnd, DecodeFault>
         ensures { Sees (λ m. m) result (ids_end_at bytes.now) }
@@ -39,7 +39,7 @@ impl IdsEnd {
         })
     }
 
-    /// The bytes, the two of the type first.
+    /// The encoding, beginning with the two bytes of the type.
     pub(crate) fn encode(&self, alloc: Global) -> Result<Bytes, EncodeFault>
         ensures { Encodes 262 (fields self.now) result }
     {

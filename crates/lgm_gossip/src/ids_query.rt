@@ -17,15 +17,15 @@ use lgm_wire::ChainHash;
 use std::alloc::Global;
 use std::marker::Model;
 
-/// A `query_short_channel_ids`, type 261: the sender asks for what is known of some channels (BOLT 7, "The
-/// query_short_channel_ids/reply_short_channel_ids_end Messages"). Where there are flags, there is one for each id.
+/// A `query_short_channel_ids`, type 261: a request for the messages about some channels (BOLT 7, "The
+/// query_short_channel_ids/reply_short_channel_ids_end Messages"). If there are flags, there is one for each id.
 #[derive(Debug, Drop)]
 pub struct IdsQuery {
-    /// The chain that is asked about.
+    /// The chain of the channels.
     pub chain_hash: ChainHash,
-    /// The channels that are asked for, in the order of the message.
+    /// The ids of the channels, in the order of the message.
     pub ids: Scids,
-    /// What is wanted of each, if the query says it; else all of it.
+    /// Which messages are requested for each id; if absent, all.
     pub flags: Option<QueryFlags>,
 }
 
@@ -46,7 +46,7 @@ impl IdsQuery {
     ghost use Rattle.lgm_gossip.specs.IdsQueryReading.{ids_query_at};
     ghost use Rattle.lgm_gossip.specs.Spelling.{Encodes};
 
-    /// The fields, read from left to right, of the bytes behind the type.
+    /// Reads the fields, from left to right, from the bytes after the type.
     #[tactic(auto, unfolding(crate::specs::IdsQueryReading::ids_query_at))]
     pub(crate) fn read(alloc: Global, bytes: &[u8]) -> Result<IdsQuery, DecodeFault>
         ensures { GivesIf (35 < length bytes.now) DecodeFault.NoMemory (λ m. m) result (ids_query_at bytes.now) }
@@ -61,7 +61,7 @@ impl IdsQuery {
         })
     }
 
-    /// The bytes, the two of the type first.
+    /// The encoding, beginning with the two bytes of the type.
     pub(crate) fn encode(&self, alloc: Global) -> Result<Bytes, EncodeFault>
         ensures { Encodes 261 (fields self.now) result }
     {

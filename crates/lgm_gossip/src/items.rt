@@ -1,10 +1,10 @@
-//! Lists of things.
+//! Lists.
 
 ghost use Rattle.std.specs.Prelude.{◌≡◌, List, length};
 
 use std::marker::Model;
 
-/// A list, as the messages have them. Contracts see the list.
+/// A list in a message. Contracts see the list.
 #[derive(Debug, Drop)]
 pub struct Items<T> {
     items: Vec<T>,
@@ -17,14 +17,14 @@ impl<T> Model for Items<T> {
 }
 
 impl<T> Items<T> {
-    /// The list of a vector's items, without a copy.
+    /// Wraps a vector, without a copy.
     pub fn from_vec(items: Vec<T>) -> Items<T>
         ensures { result ≡ items.items }
     {
         Items { items }
     }
 
-    /// How many items there are.
+    /// The number of items.
     pub fn len(&self) -> usize
         ensures { result ≡ length self.now }
     {

@@ -1,4 +1,4 @@
-//! Bytes from parts.
+//! Joining parts of an encoding.
 
 ghost use Rattle.std.specs.Prelude.{◌≡◌, ◌<◌, ◌^◌, ◌++◌, ◌↔◌, length, OnOk, IfOk, Err};
 ghost use Rattle.std.specs.List.{flat_map, AllByRecursion};
@@ -16,7 +16,7 @@ use crate::timestamps::Timestamps;
 use lgm_wire::{Scid, write_bigsize};
 use std::alloc::{AllocError, Global};
 
-/// So many bytes.
+/// A field of `N` bytes as a part.
 pub(crate) fn whole<const N: usize>(bytes: &[u8; N]) -> Part<'_>
     ensures { (fixed N bytes.now).Is (text result) }
 {
@@ -72,7 +72,7 @@ fn write(out: &mut Vec<u8>, part: &Part) -> Result<(), AllocError>
     Ok(())
 }
 
-/// The bytes of the parts, one after the other. It takes memory once, and only for what isn't too long.
+/// The bytes of the parts, one after the other. It allocates once, and nothing if they are too long.
 pub(crate) fn join(alloc: Global, parts: &[Part]) -> Result<Bytes, EncodeFault>
     ensures too_long { (result ≡ Err EncodeFault.TooLong) ↔ (65535 < length (texts parts.now)) }
     ensures text { IfOk result (λ bytes. bytes ≡ texts parts.now) }

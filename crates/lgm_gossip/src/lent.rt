@@ -1,4 +1,4 @@
-//! Bytes that are lent.
+//! Borrowed bytes.
 
 ghost use Rattle.std.specs.Prelude.{◌≡◌};
 ghost use Rattle.lgm_gossip.specs.Fields.{fixed};
@@ -8,7 +8,7 @@ use crate::joining::whole;
 use crate::part::Part;
 use std::marker::Model;
 
-/// Bytes of a message, where they lie. Contracts see the list.
+/// Bytes of a message, borrowed from the input. Contracts see the list.
 #[derive(Debug, Drop)]
 pub struct Lent<'a> {
     bytes: &'a [u8],
@@ -23,21 +23,21 @@ impl<'a> Model for Lent<'a> {
 }
 
 impl<'a> Lent<'a> {
-    /// These bytes, lent.
+    /// Borrows these bytes.
     pub fn new(bytes: &'a [u8]) -> Lent<'a>
         ensures { result ≡ bytes.now }
     {
         Lent { bytes }
     }
 
-    /// The same bytes, lent once more.
+    /// The same bytes, borrowed again.
     pub fn again(&self) -> Lent<'a>
         ensures { result ≡ self.now }
     {
         Lent { bytes: self.bytes }
     }
 
-    /// The bytes, for as long as they were lent.
+    /// The bytes, with the lifetime of the input.
     pub fn as_slice(&self) -> &'a [u8]
         ensures { result.now ≡ self.now }
     {
@@ -45,7 +45,7 @@ impl<'a> Lent<'a> {
     }
 }
 
-/// A signature of a message, where it lies. Contracts see the list of its bytes.
+/// A signature of a message, borrowed from the input. Contracts see the list of its bytes.
 #[derive(Debug, Drop)]
 pub struct Signature<'a> {
     bytes: &'a [u8; 64],
@@ -60,28 +60,28 @@ impl<'a> Model for Signature<'a> {
 }
 
 impl<'a> Signature<'a> {
-    /// These bytes, lent.
+    /// Borrows these bytes.
     pub fn new(bytes: &'a [u8; 64]) -> Signature<'a>
         ensures { result ≡ bytes.now }
     {
         Signature { bytes }
     }
 
-    /// The same bytes, lent once more.
+    /// The same bytes, borrowed again.
     pub fn again(&self) -> Signature<'a>
         ensures { result ≡ self.now }
     {
         Signature { bytes: self.bytes }
     }
 
-    /// The bytes, for as long as they were lent.
+    /// The bytes, with the lifetime of the input.
     pub fn as_array(&self) -> &'a [u8; 64]
         ensures { result.now ≡ self.now }
     {
         self.bytes
     }
 
-    /// The bytes, to be written.
+    /// The bytes as a part of an encoding.
     pub(crate) fn part(&self) -> Part<'a>
         ensures { (fixed 64 self.now).Is (text result) }
     {

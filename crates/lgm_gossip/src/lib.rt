@@ -1,9 +1,8 @@
-//! The messages of the gossip protocol: their types, and what bytes they are.
+//! The messages of the gossip protocol as types, and their encoding.
 //!
-//! [`decode`] takes the bytes of one message, as they come from a peer, and gives the [`Message`] that they spell or
-//! the first fault that they have; [`encode`] gives the bytes of a message. Contracts say which bytes spell which
-//! message: field by field, in the order of BOLT 7. [`addresses`] reads a node's addresses, and [`has_even_bit`] looks at
-//! feature bits.
+//! [`decode`] parses the bytes of one message, as received from a peer, into a [`Message`] or reports their first
+//! fault; [`encode`] writes one. Contracts say which bytes encode which message, field by field in the order of BOLT 7.
+//! [`addresses`] parses a node's addresses, and [`has_even_bit`] tests feature bits.
 #![tactic(auto)]
 
 mod address;

@@ -1,4 +1,4 @@
-//! The length of parts.
+//! Lengths of parts.
 
 ghost use Rattle.std.specs.Prelude.{◌≡◌, ◌+◌, ◌<◌, length, MatchOption, MatchResult};
 ghost use Rattle.std.specs.List.{flat_map};
@@ -9,7 +9,7 @@ use crate::encode_fault::EncodeFault;
 use crate::message::MAX_LEN;
 use crate::part::Part;
 
-/// How many bytes the shortest form of a number takes.
+/// The length of a BigSize encoding.
 pub(crate) fn bigsize_len(value: u64) -> usize
     ensures { result ≡ length (bigsize_bytes value) }
 {
@@ -21,7 +21,7 @@ pub(crate) fn bigsize_len(value: u64) -> usize
     }
 }
 
-/// What numbers in their shortest form leave of the room, if they fit.
+/// The room that is left after numbers as BigSize, if they fit.
 fn room_after_bigs(room: usize, values: &[u64]) -> Option<usize>
     ensures { MatchOption result (room < length (flat_map bigsize_bytes values.now))
         (λ left. left + length (flat_map bigsize_bytes values.now) ≡ room) }
@@ -33,7 +33,7 @@ fn room_after_bigs(room: usize, values: &[u64]) -> Option<usize>
     Some(left)
 }
 
-/// What a part leaves of the room, if it fits.
+/// The room that is left after a part, if it fits.
 fn room_after(room: usize, part: &Part) -> Option<usize>
     ensures { MatchOption result (room < length (text part.now)) (λ left. left + length (text part.now) ≡ room) }
 {
@@ -50,7 +50,7 @@ fn room_after(room: usize, part: &Part) -> Option<usize>
     }
 }
 
-/// The length of the parts together, if two bytes can say it.
+/// The total length of the parts, if it fits two bytes.
 pub(crate) fn measure(parts: &[Part]) -> Result<u16, EncodeFault>
     ensures { MatchResult result (λ len. len ≡ length (texts parts.now))
         (λ e. (e ≡ EncodeFault.TooLong) × (65535 < length (texts parts.now))) }

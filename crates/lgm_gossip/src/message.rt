@@ -9,10 +9,10 @@ use crate::node_announce::NodeAnnounce;
 use crate::range_query::RangeQuery;
 use crate::range_reply::RangeReply;
 
-/// The most bytes that a message has, its type included (BOLT 1, "Lightning Message Format").
+/// The maximum length of a message in bytes, with its type (BOLT 1, "Lightning Message Format").
 pub const MAX_LEN: usize = 65_535;
 
-/// A message of the gossip protocol, a variant for each type.
+/// A gossip message, one variant per type.
 #[derive(Debug, Drop)]
 pub enum Message<'a> {
     /// Type 256, `channel_announcement`.

@@ -14,25 +14,24 @@ use crate::part::Part;
 use lgm_wire::Point;
 use std::alloc::Global;
 
-/// A `node_announcement`, type 257: a node tells its name, its features and where it can be reached (BOLT 7, "The
-/// node_announcement Message").
+/// A `node_announcement`, type 257: a node's alias, features and addresses (BOLT 7, "The node_announcement Message").
 #[derive(Debug, Drop)]
 pub struct NodeAnnounce<'a> {
     /// The signature of the node.
     pub signature: Signature<'a>,
-    /// Feature bits, numbered from the least bit of the last byte.
+    /// Feature bits, numbered from the least significant bit of the last byte.
     pub features: Lent<'a>,
-    /// Seconds since 1970. Of two announcements of a node the one with the greater number holds.
+    /// Seconds since 1970. Of two announcements of a node the one with the greater timestamp applies.
     pub timestamp: u32,
-    /// The node that is announced, and that signs.
+    /// The announced node, which signs.
     pub node_id: Point,
     /// Red, green and blue.
     pub rgb_color: [u8; 3],
-    /// The node's name, UTF-8 padded with zeros, as it came.
+    /// The node's alias, UTF-8 padded with zeros, as received.
     pub alias: [u8; 32],
-    /// Address descriptors, as they came: [`addresses`](crate::addresses) reads them.
+    /// Address descriptors, as received: [`addresses`](crate::addresses) parses them.
     pub addresses: Lent<'a>,
-    /// What stands behind the last field, kept so that the message can be sent on as it came.
+    /// Trailing bytes, kept so that the message can be forwarded unchanged.
     pub rest: Lent<'a>,
 }
 
@@ -41,7 +40,7 @@ impl<'a> NodeAnnounce<'a> {
     ghost use Rattle.lgm_gossip.specs.NodeAnnounceReading.{node_announce_at};
     ghost use Rattle.lgm_gossip.specs.Spelling.{Encodes};
 
-    /// The same message, lent once more.
+    /// The same message, borrowed again.
     pub fn again(&self) -> NodeAnnounce<'a>
         ensures { result ≡ self.now }
     {
@@ -54,7 +53,7 @@ impl<'a> NodeAnnounce<'a> {
         }
     }
 
-    /// The fields, read from left to right, of the bytes behind the type.
+    /// Reads the fields, from left to right, from the bytes after the type.
     #[tactic(auto, unfolding(crate::specs::NodeAnnounceReading::node_announce_at))]
     pub(crate) fn read(bytes: &'a [u8]) -> Result<NodeAnnounce<'a>, DecodeFault>
         ensures { Sees (λ m. m) result (node_announce_at bytes.now) }
@@ -78,7 +77,7 @@ impl<'a> NodeAnnounce<'a> {
         })
     }
 
-    /// The bytes, the two of the type first.
+    /// The encoding, beginning with the two bytes of the type.
     pub(crate) fn encode(&self, alloc: Global) -> Result<Bytes, EncodeFault>
         ensures { Encodes 257 (fields self.now) result }
     {

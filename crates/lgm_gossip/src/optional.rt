@@ -1,4 +1,4 @@
-//! What may stand behind a message's last field: a stream of records, of which those of type 1 are known.
+//! The TLV stream after a message's last field, in which records of type 1 are known.
 
 ghost use Rattle.std.specs.Prelude.{ℕ, ◌<◌, ◌≤◌, List, length, None, Result, IfOk};
 ghost use Rattle.lgm_wire.specs.Reading.{Gives};
@@ -11,17 +11,17 @@ use crate::fault::DecodeFault;
 use lgm_wire::{Tlv, Tlvs, WireFault, read_tlvs};
 use std::alloc::Global;
 
-/// What the value of the record of type 1 says.
+/// The value of the record of type 1.
 pub(crate) trait RecordValue: Drop {
-    /// What all of the bytes say, in a message with so many ids.
+    /// The value of all of the bytes, in a message with this many ids.
     ghost value_at: { ℕ → List ℕ → Result Self DecodeFault };
 
-    /// What all of the bytes say, in a message with so many ids.
+    /// Parses all of the bytes, in a message with this many ids.
     fn read(alloc: Global, ids: usize, bytes: &[u8]) -> Result<Self, DecodeFault>
         ensures { Gives DecodeFault.NoMemory (λ value. value) result (value_at ids bytes.now) };
 }
 
-/// The records of a stream, which is all of the bytes.
+/// The records of a stream that is all of the bytes.
 fn records<'a>(alloc: Global, bytes: &'a [u8]) -> Result<Tlvs<'a>, DecodeFault>
     ensures exact { GivesIf (1 < length bytes.now) DecodeFault.NoMemory (λ records. records) result
         (stream_at bytes.now) }
@@ -34,7 +34,7 @@ fn records<'a>(alloc: Global, bytes: &'a [u8]) -> Result<Tlvs<'a>, DecodeFault>
     }
 }
 
-/// The value, if one more record has it.
+/// The value after one more record.
 fn with_record<T: RecordValue>(
     alloc: Global,
     ids: usize,
@@ -51,7 +51,7 @@ fn with_record<T: RecordValue>(
     }
 }
 
-/// The value, if the records have it.
+/// The value, if one of the records has it.
 fn known<T: RecordValue>(
     alloc: Global,
     ids: usize,
@@ -67,7 +67,7 @@ fn known<T: RecordValue>(
     Ok(value)
 }
 
-/// The value, if the stream of records, which is all of the bytes, has it.
+/// The value, if the stream that is all of the bytes has it.
 #[tactic(auto, unfolding(crate::specs::OptionalReading::optional_of))]
 pub(crate) fn optional<T: RecordValue>(
     alloc: Global,

@@ -10,12 +10,12 @@ use crate::optional::RecordValue;
 use lgm_wire::read_bigsize;
 use std::alloc::Global;
 
-/// Flags of a query, one number for each id: bit 0 asks for the announcement, bits 1 and 2 for the update by node 1
-/// and by node 2, bits 3 and 4 for the announcements of node 1 and node 2 (BOLT 7, "The
+/// The flags of a query, one number per id: bit 0 requests the channel announcement, bits 1 and 2 the updates by node 1
+/// and node 2, bits 3 and 4 the announcements of node 1 and node 2 (BOLT 7, "The
 /// query_short_channel_ids/reply_short_channel_ids_end Messages").
 pub type QueryFlags = Items<u64>;
 
-/// The number at the front.
+/// The leading number, and the bytes after it.
 fn flag(bytes: &[u8]) -> Result<(u64, &[u8]), DecodeFault>
     ensures { Sees (λ x. (x.0, x.1.now)) result (flag_at bytes.now) }
 {
@@ -28,7 +28,7 @@ fn flag(bytes: &[u8]) -> Result<(u64, &[u8]), DecodeFault>
     }
 }
 
-/// So many numbers, which are all of the bytes.
+/// This many numbers, which are all of the bytes.
 fn all_flags(alloc: Global, count: usize, bytes: &[u8]) -> Result<Vec<u64>, DecodeFault>
     ensures { Gives DecodeFault.NoMemory (λ flags. flags.items) result (all_flags_at count bytes.now) }
 {
@@ -46,7 +46,7 @@ fn all_flags(alloc: Global, count: usize, bytes: &[u8]) -> Result<Vec<u64>, Deco
     }
 }
 
-/// As many flags as there are ids.
+/// One flag per id.
 impl RecordValue for QueryFlags {
     ghost value_at = { query_flags_at };
 

@@ -15,21 +15,21 @@ use crate::part::Part;
 use lgm_wire::{ChainHash, read_bigsize};
 use std::alloc::Global;
 
-/// A `query_channel_range`, type 263: the sender asks for the ids of the channels whose funding lies in a range of
-/// blocks (BOLT 7, "The query_channel_range and reply_channel_range Messages").
+/// A `query_channel_range`, type 263: a request for the ids of the channels funded in a range of blocks (BOLT 7, "The
+/// query_channel_range and reply_channel_range Messages").
 #[derive(Clone, Copy, Debug, PartialEq, Eq)]
 pub struct RangeQuery {
-    /// The chain that is asked about.
+    /// The chain of the channels.
     pub chain_hash: ChainHash,
     /// The height of the first block.
     pub first_blocknum: u32,
-    /// How many blocks the range has.
+    /// The number of blocks in the range.
     pub number_of_blocks: u32,
-    /// What is wanted besides the ids, if the query says it: bit 0 asks for timestamps, bit 1 for checksums.
+    /// What is requested besides the ids: bit 0 timestamps, bit 1 checksums.
     pub options: Option<u64>,
 }
 
-/// One number in its shortest form, as options are.
+/// Options: one BigSize.
 impl RecordValue for u64 {
     ghost value_at = { λ _ bytes. options_at bytes };
 
@@ -46,7 +46,7 @@ impl RangeQuery {
     ghost use Rattle.lgm_gossip.specs.RangeQueryReading.{range_query_at};
     ghost use Rattle.lgm_gossip.specs.Spelling.{Encodes};
 
-    /// The fields, read from left to right, of the bytes behind the type.
+    /// Reads the fields, from left to right, from the bytes after the type.
     #[tactic(auto, unfolding(crate::specs::RangeQueryReading::range_query_at))]
     pub(crate) fn read(alloc: Global, bytes: &[u8]) -> Result<RangeQuery, DecodeFault>
         ensures { GivesIf (40 < length bytes.now) DecodeFault.NoMemory (λ m. m) result (range_query_at bytes.now) }
@@ -62,7 +62,7 @@ impl RangeQuery {
         })
     }
 
-    /// The bytes, the two of the type first.
+    /// The encoding, beginning with the two bytes of the type.
     pub(crate) fn encode(&self, alloc: Global) -> Result<Bytes, EncodeFault>
         ensures { Encodes 263 (fields self.now) result }
     {

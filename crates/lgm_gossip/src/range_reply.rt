@@ -17,21 +17,21 @@ use lgm_wire::ChainHash;
 use std::alloc::Global;
 use std::marker::Model;
 
-/// A `reply_channel_range`, type 264: ids of the channels of a range of blocks (BOLT 7, "The query_channel_range and
-/// reply_channel_range Messages"). Where there are timestamps, there is a pair for each id. Checksums aren't kept.
+/// A `reply_channel_range`, type 264: ids of the channels in a range of blocks (BOLT 7, "The query_channel_range and
+/// reply_channel_range Messages"). If there are timestamps, there is a pair for each id. Checksums are dropped.
 #[derive(Debug, Drop)]
 pub struct RangeReply {
     /// The chain of the query.
     pub chain_hash: ChainHash,
     /// The height of the first block.
     pub first_blocknum: u32,
-    /// How many blocks the reply is about.
+    /// The number of blocks that the reply covers.
     pub number_of_blocks: u32,
-    /// 1 in the last reply to a query, else 0. Kept as it came.
+    /// 1 in the last reply to a query, else 0. Stored as received.
     pub sync_complete: u8,
-    /// The channels, in the order of the message. Whether they ascend isn't looked at.
+    /// The channel ids, in the order of the message. Whether they ascend isn't checked.
     pub ids: Scids,
-    /// When the updates of each were made, if the query asked for it.
+    /// The timestamps of their updates, if the query requested them.
     pub timestamps: Option<TimestampList>,
 }
 
@@ -59,7 +59,7 @@ impl RangeReply {
     ghost use Rattle.lgm_gossip.specs.RangeReplyReading.{range_reply_at};
     ghost use Rattle.lgm_gossip.specs.Spelling.{Encodes};
 
-    /// The fields, read from left to right, of the bytes behind the type.
+    /// Reads the fields, from left to right, from the bytes after the type.
     #[tactic(auto, unfolding(crate::specs::RangeReplyReading::range_reply_at))]
     pub(crate) fn read(alloc: Global, bytes: &[u8]) -> Result<RangeReply, DecodeFault>
         ensures { GivesIf (44 < length bytes.now) DecodeFault.NoMemory (λ m. m) result (range_reply_at bytes.now) }
@@ -80,7 +80,7 @@ impl RangeReply {
         })
     }
 
-    /// The bytes, the two of the type first.
+    /// The encoding, beginning with the two bytes of the type.
     pub(crate) fn encode(&self, alloc: Global) -> Result<Bytes, EncodeFault>
         ensures { Encodes 264 (fields self.now) result }
     {

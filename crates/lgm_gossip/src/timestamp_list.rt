@@ -9,10 +9,10 @@ use crate::optional::RecordValue;
 use crate::timestamps::Timestamps;
 use std::alloc::Global;
 
-/// Timestamps, a pair for each id.
+/// Timestamps, one pair per id.
 pub type TimestampList = Items<Timestamps>;
 
-/// Four bytes and four bytes.
+/// Two numbers of four bytes.
 impl Cell for Timestamps {
     ghost cell_of = { pair_of };
 
@@ -25,7 +25,7 @@ impl Cell for Timestamps {
     }
 }
 
-/// As many pairs as there are ids.
+/// One pair per id.
 impl RecordValue for TimestampList {
     ghost value_at = { timestamps_at };
 

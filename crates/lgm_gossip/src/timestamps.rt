@@ -1,6 +1,6 @@
 //! Timestamps of a channel's updates.
 
-/// When the two updates of a channel were made, in seconds since 1970; 0 where there is none (BOLT 7, "The
+/// The timestamps of a channel's two updates, in seconds since 1970; 0 if there is none (BOLT 7, "The
 /// query_channel_range and reply_channel_range Messages").
 #[derive(Clone, Copy, Debug, PartialEq, Eq)]
 pub struct Timestamps {

@@ -1,4 +1,4 @@
--- The edges of a map's rows.
+-- The edges of rows.
 use Rattle.std.specs.Prelude.{◌≡◌, ◌⊎◌, Contains, ℕ, ◌*◌, ◌/◌, ◌%◌, Bool, true, not, ◌&&◌, nat_eq, nat_le, List, Option, Some, None, filter, bit_and, if◌then◌else◌}
 use Rattle.std.specs.List.{list_any, filter_map}
 use Rattle.std.specs.Option.{option_and_then, option_map_or}
@@ -14,13 +14,13 @@ use Rattle.lgm_graph.specs.Known.{allows}
 abbrev pub has_even_bit : List ℕ → Bool
 has_even_bit features = list_any (λ byte. not (nat_eq (bit_and byte 0x55) 0)) features
 
--- the direction isn't disabled, the channel's features have no even bit, and no more passes than the channel holds
+-- the direction isn't disabled, the channel has no even feature bit, and the maximum is at most the capacity
 abbrev pub can_carry : ChannelRow → UpdateRow → Bool
 can_carry channel row =
     nat_eq (row.message.channel_flags / 2 % 2) 0 && nat_le row.message.htlc_maximum_msat (channel.sat * 1000)
     && not (has_even_bit channel.message.features)
 
--- the node that a direction of a channel leaves
+-- the node from which a direction of a channel goes
 abbrev pub end_of : ChannelRow → Bool → Point
 end_of channel second = if second then channel.message.node_id_2 else channel.message.node_id_1
 
@@ -42,11 +42,11 @@ edge_of channel row = record {
 abbrev pub edge_on : ChannelRow → UpdateRow → Option Edge
 edge_on channel row = if can_carry channel row then Some (edge_of channel row) else None
 
--- the edge of an update, if its channel is held and it can carry payments
+-- the edge of an update, if its channel is in the map and it can carry payments
 abbrev pub edge_in : List ChannelRow → UpdateRow → Option Edge
 edge_in channels row = option_and_then (λ channel. edge_on channel row) (channel_of channels row.message.short_channel_id)
 
--- the edges, whatever the features of the nodes that they go to
+-- the edges, regardless of the features of the nodes that they go to
 abbrev pub carrying : Rows → List Edge
 carrying rows = filter_map (edge_in rows.channels) rows.updates
 
@@ -54,11 +54,11 @@ carrying rows = filter_map (edge_in rows.channels) rows.updates
 abbrev pub takes_payments : Option (List ℕ) → List NodeRow → Point → Bool
 takes_payments known nodes node = option_map_or (λ row. allows known row.message.features) (node_of nodes node) true
 
--- the edges, by the update rows in their order
+-- the edges, in the order of the update rows
 abbrev pub edges_of : Option (List ℕ) → Rows → List Edge
 edges_of known rows = filter (λ edge. takes_payments known rows.nodes edge.to) (carrying rows)
 
--- two edges of one channel are the same one, or go opposite ways
+-- two edges of one channel are the same or have opposite directions
 abbrev pub AreDirections : List Edge → Type 0
 AreDirections edges =
     (edge other : Edge) → Contains edges edge → Contains edges other → edge.scid ≡ other.scid

@@ -1,4 +1,4 @@
--- What a view shows: numbered points, and the links that join them.
+-- The graph of a view: numbered points, and the links between them.
 use Rattle.std.specs.Prelude.{◌≡◌, ℕ, ◌<◌, Bool, false, List, [], map, filter, flat_map, zip, length, slice_index_or, Contains, Option, if◌then◌else◌}
 use Rattle.std.specs.List.{AllByRecursion, IsDistinct, position_or_len}
 use Rattle.lgm_wire.specs.declared.point.Point.{Point}
@@ -7,20 +7,20 @@ use Rattle.lgm_graph.specs.declared.edge.Edge.{Edge}
 use Rattle.lgm_graph.specs.declared.link.Link.{Link}
 use Rattle.lgm_graph.specs.Edges.{carrying, takes_payments}
 
--- points by number, and what hangs on each of them
+-- points by number, with whether each takes payments and its links
 pub record Graph : Type 0 where
-  -- the known bits of features, or none where all are known
+  -- the known feature bits, or none if all are known
   pub known : Option (List ℕ)
-  -- each point's place is its number
+  -- a point's index is its number
   pub points : List Point
   -- whether the node takes payments
   pub takes : List Bool
   -- the links into the node
   pub into : List (List Link)
-  -- those that leave it
+  -- the links out of the node
   pub out : List (List Link)
 
--- the number of a point, or how many there are where it has none
+-- the number of a point, or the number of points if it has none
 abbrev pub number_of : List Point → Point → ℕ
 number_of points point = position_or_len (is_point point) points
 
@@ -28,7 +28,7 @@ number_of points point = position_or_len (is_point point) points
 abbrev pub IsNumbered : List Point → Point → Type 0
 IsNumbered points point = number_of points point < length points
 
--- an edge, with numbers for its ends
+-- an edge, with numbers for its nodes
 abbrev pub linked : Edge → ℕ → ℕ → Link
 linked edge from to = record {
   scid = edge.scid;
@@ -42,11 +42,11 @@ linked edge from to = record {
   second = edge.second;
 }
 
--- an edge by the numbers of its ends
+-- an edge by the numbers of its nodes
 abbrev pub link_of : List Point → Edge → Link
 link_of points edge = linked edge (number_of points edge.from) (number_of points edge.to)
 
--- stands where no point has the number
+-- a placeholder if no point has the number
 abbrev pub no_point : Point
 no_point = record { 0 = [] }
 
@@ -64,17 +64,17 @@ edge_at points link = record {
   max = link.max;
 }
 
--- ---- what a view holds
+-- ---- the contents of a view
 
 -- whether the node of a number takes payments
 abbrev pub takes_at : Graph → ℕ → Bool
 takes_at graph number = slice_index_or graph.takes number false
 
--- the links into the node of a number: none where it takes no payments
+-- the links into the node of a number: none if it takes no payments
 abbrev pub links_into : Graph → ℕ → List Link
 links_into graph number = if takes_at graph number then slice_index_or graph.into number [] else []
 
--- the links that leave the node of a number, whether or not the nodes that they go to take payments
+-- the links out of the node of a number, whether or not the nodes that they go to take payments
 abbrev pub links_leaving : Graph → ℕ → List Link
 links_leaving graph number = slice_index_or graph.out number []
 
@@ -86,18 +86,18 @@ links graph = flat_map (λ node. if node.0 then node.1 else []) (zip graph.takes
 abbrev pub edges : Graph → List Edge
 edges graph = map (edge_at graph.points) (links graph)
 
--- a link joins numbered nodes, and stands with each of them
+-- a link is between numbered nodes, and in the lists of both
 pub record IsLinked (graph : Graph) (link : Link) : Type 0 where
   pub from : link.from < length graph.points
   pub to : link.to < length graph.points
   pub there : Contains (links_into graph link.to) link
   pub leaves : Contains (links_leaving graph link.from) link
-  -- the numbers are those of its ends
+  -- the numbers are those of its nodes
   pub back : link_of graph.points (edge_at graph.points link) ≡ link
 
--- different points have different numbers, and each link stands with its ends and nowhere else
+-- different points have different numbers, and each link is in the lists of its nodes and nowhere else
 pub record AreLinked (graph : Graph) : Type 0 where
-  -- each number has its places
+  -- each number has an entry
   pub long : length graph.takes ≡ length graph.points
   pub wide : length graph.into ≡ length graph.points
   pub unique : IsDistinct is_point graph.points
@@ -105,24 +105,24 @@ pub record AreLinked (graph : Graph) : Type 0 where
   pub into : (number : ℕ) (link : Link) → Contains (links_into graph number) link → (link.to ≡ number) × Contains (links graph) link
   pub leaving : (number : ℕ) (link : Link) → Contains (links_leaving graph number) link → (link.from ≡ number) × (link.to < length graph.points)
 
--- ---- what a view shows of rows
+-- ---- the view of rows
 
--- the links of the edges with an end at each of the points
+-- the links of the edges that have each of the points as an end
 abbrev pub links_by : (Edge → Point) → List Point → List Edge → List (List Link)
 links_by end points edges = map (λ point. map (link_of points) (filter (λ edge. is_point point (end edge)) edges)) points
 
--- both ends of an edge are numbered
+-- both nodes of an edge are numbered
 abbrev pub IsJoined : List Point → Edge → Type 0
 IsJoined points edge = IsNumbered points edge.from × IsNumbered points edge.to
 
--- these edges stand with both of their ends
+-- these edges are in the lists of both of their nodes
 pub record Shows (edges : List Edge) (points : List Point) (into out : List (List Link)) : Type 0 where
   pub joined : AllByRecursion (IsJoined points) edges
   pub into_is : into ≡ links_by (λ edge. edge.to) points edges
   pub out_is : out ≡ links_by (λ edge. edge.from) points edges
 
--- the view is that of the rows: the ends of each channel are numbered, each node's features are looked at, and the edges
--- stand with their ends
+-- the view is that of the rows: the nodes of each channel are numbered, each node's features are checked, and the edges
+-- are in the lists of their nodes
 pub record IsGraphOf (rows : Rows) (graph : Graph) : Type 0 where
   pub ends : AllByRecursion (λ channel. IsNumbered graph.points channel.message.node_id_1 × IsNumbered graph.points channel.message.node_id_2) rows.channels
   pub takes : graph.takes ≡ map (takes_payments graph.known rows.nodes) graph.points

@@ -1,4 +1,4 @@
--- How a view is kept.
+-- The representation of a view.
 use Rattle.std.specs.Prelude.{◌≡◌, ◌==◌, not, ◌||◌, true, false, slice_get, filter, if◌then◌else◌, ℕ, ◌+◌, ◌<◌, ◌≤◌, ◌^◌, Bool, List, map, length, Option}
 use Rattle.indexmap.specs.IndexSet.{spare}
 use Rattle.std.specs.Vec.{vec_len, vec_capacity}
@@ -18,7 +18,7 @@ use Rattle.lgm_graph.specs.Graph.{Graph, Shows}
 abbrev pub links_in : Links → List Link
 links_in list = list.links.items
 
--- what numbered nodes show
+-- the graph of numbered nodes
 abbrev pub graph_in : Option (List ℕ) → Nodes → Graph
 graph_in known nodes = record {
   known = known;
@@ -28,25 +28,25 @@ graph_in known nodes = record {
   out = map links_in nodes.out.items;
 }
 
--- numbers have 32 bits, and some edges stand with both of their ends
+-- numbers have 32 bits, and some edges are in the lists of both of their nodes
 pub record IsSound (graph : Graph) : Type 0 where
   pub few : length graph.points < 2 ^ 32
   pub long : length graph.takes ≡ length graph.points
   pub edges : List Edge
   pub shows : Shows edges graph.points graph.into graph.out
 
--- one more link fits with no allocation
+-- one more link fits the capacity
 abbrev pub HasRoom : Links → Type 0
 HasRoom list = vec_len list.links < vec_capacity list.links
 
--- so many more nodes fit with no allocation
+-- this many more nodes fit the capacity
 pub record HasPlaces (more : ℕ) (nodes : Nodes) : Type 0 where
   pub points : more ≤ spare nodes.points
   pub takes : vec_len nodes.takes + more ≤ vec_capacity nodes.takes
   pub into : vec_len nodes.into + more ≤ vec_capacity nodes.into
   pub out : vec_len nodes.out + more ≤ vec_capacity nodes.out
 
--- these edges stand with both of their ends among the nodes
+-- these edges are in the lists of both of their nodes
 abbrev pub ShowsIn : List Edge → Nodes → Type 0
 ShowsIn edges nodes = Shows edges nodes.points.keys (map links_in nodes.into.items) (map links_in nodes.out.items)
 
@@ -54,7 +54,7 @@ ShowsIn edges nodes = Shows edges nodes.points.keys (map links_in nodes.into.ite
 abbrev pub AreFlags : (Point → Bool) → Nodes → Type 0
 AreFlags takes nodes = nodes.takes.items ≡ map takes nodes.points.keys
 
--- each takes payments where its features are allowed
+-- each takes payments if its features are allowed
 abbrev pub AreLookedAt : Option (List ℕ) → List NodeRow → Nodes → Type 0
 AreLookedAt known rows nodes = AreFlags (takes_payments known rows) nodes
 
@@ -89,6 +89,6 @@ allowed_at node points banned lists point = if is_point node point then filter (
 abbrev pub is_among : List Point → Point → Bool
 is_among points point = list_any (λ other. is_point other point) points
 
--- both ends of a channel are among some points
+-- both nodes of a channel are among some points
 abbrev pub HasEnds : List Point → ChannelRow → Type 0
 HasEnds points channel = (is_among points channel.message.node_id_1 ≡ true) × (is_among points channel.message.node_id_2 ≡ true)

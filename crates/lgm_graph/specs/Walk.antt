@@ -1,4 +1,4 @@
--- How the view of a map is made, channel by channel.
+-- How the view of a map is built, channel by channel.
 use Rattle.std.specs.Prelude.{◌≡◌, ◌*◌, ◌≤◌, Bool, false, true, List, [], ◌++◌, map, flat_map, length, Option, option_to_list}
 use Rattle.std.specs.List.{AllByRecursion}
 use Rattle.std.specs.Option.{option_and_then}
@@ -13,7 +13,7 @@ use Rattle.lgm_graph.specs.declared.link.Link.{Link}
 use Rattle.lgm_graph.specs.Edges.{edge_on, takes_payments}
 use Rattle.lgm_graph.specs.Graph.{Graph, Shows, IsJoined, IsNumbered, link_of, number_of}
 
--- what was numbered stays so
+-- points keep their numbers
 abbrev pub KeepsNumbers : List Point → List Point → Type 0
 KeepsNumbers old new = (point : Point) → IsNumbered old point → (number_of new point ≡ number_of old point) × IsNumbered new point
 
@@ -25,13 +25,13 @@ edge_of_direction updates channel second = option_and_then (edge_on channel) (up
 abbrev pub edges_of_channel : List UpdateRow → ChannelRow → List Edge
 edges_of_channel updates channel = option_to_list (edge_of_direction updates channel false) ++ option_to_list (edge_of_direction updates channel true)
 
--- the links of edges between numbered points, in their order
+-- the links of edges between numbered points, in order
 pub record AreLinksOf (edges : List Edge) (points : List Point) (links : List Link) : Type 0 where
   pub joined : AllByRecursion (IsJoined points) edges
   pub links_are : links ≡ map (link_of points) edges
 
--- what a walk with these channels still to come has done: those before them are numbered, and their links written down.
--- No node has links yet
+-- the state of the traversal with these channels still to come: the nodes of those before are numbered, and their links
+-- listed. No node has links yet
 pub record HasWalked (rows : Rows) (left : List Held) (links : List Link) (graph : Graph) : Type 0 where
   pub done : List ChannelRow
   pub rest : List ChannelRow

@@ -1,4 +1,4 @@
-//! One direction of a channel, as payments take it.
+//! Edges: directions of channels.
 
 ghost use Rattle.std.specs.Prelude.{◌≡◌};
 ghost use Rattle.lgm_graph.specs.Edges.{can_carry, edge_of, edge_on, has_even_bit};
@@ -6,24 +6,24 @@ ghost use Rattle.lgm_graph.specs.Edges.{can_carry, edge_of, edge_on, has_even_bi
 use lgm_check::{ChannelRow, UpdateRow};
 use lgm_gossip::{Point, Scid};
 
-/// A direction of a channel that payments can take: from one node to the other, on the terms of its
+/// A direction of a channel that payments can use: from one node to the other, on the terms of its
 /// `channel_update` (BOLT 7).
 #[derive(Clone, Copy, Debug)]
 pub struct Edge {
     pub scid: Scid,
-    /// Whether it leaves node 2.
+    /// Whether it is from node 2.
     pub second: bool,
     pub from: Point,
     pub to: Point,
-    /// The fee's fixed part, in msat.
+    /// The base fee, in msat.
     pub base: u32,
-    /// The fee's part that grows with the amount, in millionths of it.
+    /// The proportional fee, in millionths of the amount.
     pub millionths: u32,
-    /// How many blocks the expiry falls over it.
+    /// The `cltv_expiry_delta`, in blocks.
     pub delta: u16,
-    /// The least amount that it takes, in msat.
+    /// The least amount that it forwards, in msat.
     pub min: u64,
-    /// The greatest amount that it takes, in msat.
+    /// The greatest amount that it forwards, in msat.
     pub max: u64,
 }
 
@@ -38,7 +38,7 @@ pub(crate) fn edge_on(channel: &ChannelRow, update: &UpdateRow) -> Option<Edge>
     }
 }
 
-/// The edge that an update makes of its channel.
+/// The edge of an update of a channel.
 #[tactic(auto, unfolding(crate::specs::Edges::edge_of))]
 fn edge_of(channel: &ChannelRow, update: &UpdateRow) -> Edge
     ensures { result ≡ edge_of channel.now update.now }
@@ -58,7 +58,7 @@ fn edge_of(channel: &ChannelRow, update: &UpdateRow) -> Edge
     }
 }
 
-/// Whether payments can take this direction, whatever the features of its end.
+/// Whether payments can use this direction, regardless of the features of the node it goes to.
 fn can_carry(channel: &ChannelRow, update: &UpdateRow) -> bool
     ensures { result ≡ can_carry channel.now update.now }
 {

@@ -1,8 +1,8 @@
-//! The edges that payments can take, kept beside a map.
+//! The routing view of a map: the edges that payments can use.
 //!
-//! A [`View`] numbers the nodes of a map and keeps the edges into each and out of it side by side, as a search for
-//! routes reads them. It is made of a map, or kept while operations change the map. Node features that aren't known
-//! keep payments away from a node.
+//! A [`View`] numbers the nodes of a map, and has the edges into and out of each node as consecutive lists, as a search
+//! for routes reads them. It is built from a map, or maintained while operations change the map. A node that requires
+//! unknown features takes no payments.
 #![tactic(auto)]
 
 mod edge;

@@ -1,4 +1,4 @@
-//! An edge by the numbers of its ends.
+//! Edges between numbered nodes.
 
 ghost use Rattle.std.specs.Prelude.{◌≡◌, ◌^◌, ◌<◌};
 ghost use Rattle.std.specs.Option.{option_map};
@@ -7,29 +7,29 @@ ghost use Rattle.lgm_graph.specs.Graph.{linked};
 use crate::edge::Edge;
 use lgm_gossip::Scid;
 
-/// An [`Edge`] as a view keeps it and a search reads it: the nodes that it joins by their numbers. It has 48 bytes.
+/// An [`Edge`] as a view stores it and a search reads it, with the numbers of its nodes. It has 48 bytes.
 #[derive(Clone, Copy, Debug)]
 pub struct Link {
     pub scid: Scid,
-    /// The greatest amount that it takes, in msat.
+    /// The greatest amount that it forwards, in msat.
     pub max: u64,
-    /// The least amount that it takes, in msat.
+    /// The least amount that it forwards, in msat.
     pub min: u64,
     /// The number of the node that it leaves.
     pub from: u32,
     /// The number of the node that it goes to.
     pub to: u32,
-    /// The fee's fixed part, in msat.
+    /// The base fee, in msat.
     pub base: u32,
-    /// The fee's part that grows with the amount, in millionths of it.
+    /// The proportional fee, in millionths of the amount.
     pub millionths: u32,
-    /// How many blocks the expiry falls over it.
+    /// The `cltv_expiry_delta`, in blocks.
     pub delta: u16,
-    /// Whether it leaves node 2.
+    /// Whether it is from node 2.
     pub second: bool,
 }
 
-/// An edge with numbers for its ends.
+/// An edge with numbers for its nodes.
 pub(crate) fn linked(edge: &Edge, from: usize, to: usize) -> Link
     requires from { from < 2 ^ 32 }
     requires to { to < 2 ^ 32 }
@@ -48,7 +48,7 @@ pub(crate) fn linked(edge: &Edge, from: usize, to: usize) -> Link
     }
 }
 
-/// The same of an edge that there may not be.
+/// The same for an optional edge.
 pub(crate) fn linked_if(edge: &Option<Edge>, from: usize, to: usize) -> Option<Link>
     requires from { from < 2 ^ 32 }
     requires to { to < 2 ^ 32 }

@@ -15,14 +15,14 @@ use lgm_store::{Map, Seed};
 use std::alloc::{AllocError, Global};
 use std::cmp::Ordering;
 
-/// A link's order to an id and direction.
+/// The order of a link relative to an id and direction.
 fn order(link: &Link, scid: Scid, second: bool) -> Ordering
     ensures { result ≡ link_key scid second link.now }
 {
     link.scid.cmp(&scid).then(link.second.cmp(&second))
 }
 
-/// Where the link of an id and direction stands, or would stand.
+/// The index of the link with an id and direction, or the index at which it would be inserted.
 fn place(links: &[Link], scid: Scid, second: bool) -> Result<usize, usize>
     requires { IsCut (link_key scid second) links.now }
     ensures found { MatchResult result
@@ -38,7 +38,7 @@ fn place(links: &[Link], scid: Scid, second: bool) -> Result<usize, usize>
     )
 }
 
-/// Puts a link in the place of the one that stands there, or takes that one out.
+/// Replaces the link at an index, or removes it.
 fn replace(links: &mut Vec<Link>, place: usize, link: Option<Link>)
     requires { place < length links.old.items }
     ensures { links.new.items ≡ take place links.old.items ++ option_to_list link ++ drop (suc place) links.old.items }
@@ -51,7 +51,7 @@ fn replace(links: &mut Vec<Link>, place: usize, link: Option<Link>)
     }
 }
 
-/// Puts a link before the one that stands there, if there is a link.
+/// Inserts a link at an index, if there is one.
 fn insert(links: &mut Vec<Link>, place: usize, link: Option<Link>)
     requires room { vec_len links.old < vec_capacity links.old }
     requires within { place ≤ vec_len links.old }
@@ -66,14 +66,14 @@ fn insert(links: &mut Vec<Link>, place: usize, link: Option<Link>)
 }
 
 impl Links {
-    /// Room for so many more links, and no more.
+    /// Reserves capacity for exactly this many more links.
     fn reserve_exact(&mut self, more: usize) -> Result<(), AllocError>
         ensures { self.new.links.items ≡ self.old.links.items }
     {
         self.links.reserve_exact(more)
     }
 
-    /// Room for one more link.
+    /// Reserves capacity for one more link.
     fn reserve(&mut self) -> Result<(), AllocError>
         ensures same { self.new.links.items ≡ self.old.links.items }
         ensures room { OnOk result (HasRoom self.new) }
@@ -81,7 +81,7 @@ impl Links {
         self.links.reserve(1)
     }
 
-    /// Puts a link in the place of that of its id and direction, or takes that one out.
+    /// Inserts a link or replaces the one with its id and direction, or removes that one.
     fn put(&mut self, scid: Scid, second: bool, link: Option<Link>)
         requires room { HasRoom self.old }
         requires cut { IsCut (link_key scid second) self.old.links.items }
@@ -93,7 +93,7 @@ impl Links {
         }
     }
 
-    /// Puts a link behind the others.
+    /// Appends a link.
     fn push(&mut self, link: Link)
         requires { HasRoom self.old }
         ensures { self.new.links.items ≡ self.old.links.items ++ link ∷ [] }
@@ -103,7 +103,7 @@ impl Links {
 }
 
 impl Links {
-    /// Takes the links of a channel out.
+    /// Removes the links of a channel.
     fn drop_channel(&mut self, scid: Scid)
         ensures { self.new.links.items ≡ filter (is_not_of scid) self.old.links.items }
     {
@@ -126,7 +126,7 @@ fn is_banned(points: &IndexSet<Point, Seed>, held: &Map, number: u32) -> bool
 }
 
 impl Links {
-    /// Takes the links out that join a banned node.
+    /// Removes the links from or to a banned node.
     fn drop_banned(&mut self, points: &IndexSet<Point, Seed>, held: &Map)
         ensures { self.new.links.items ≡ filter (is_allowed points.now.keys held.now.banned) self.old.links.items }
     {
@@ -138,7 +138,7 @@ impl Links {
     }
 }
 
-/// Copies of lists. The only error is want of memory.
+/// Copies of lists. The only error is out of memory.
 pub(crate) fn copies(alloc: Global, lists: &[Links]) -> Result<Vec<Links>, AllocError>
     ensures { IfOk result (λ copies. map links_in copies.items ≡ map links_in lists.now) }
 {
@@ -150,7 +150,7 @@ pub(crate) fn copies(alloc: Global, lists: &[Links]) -> Result<Vec<Links>, Alloc
     Ok(copies)
 }
 
-/// Takes the links that join a banned node away from a node.
+/// Removes the links from or to a banned node at a node.
 pub(crate) fn drop_banned_at(
     lists: &mut Vec<Links>,
     number: usize,
@@ -164,7 +164,7 @@ pub(crate) fn drop_banned_at(
     lists[number].drop_banned(points, held);
 }
 
-/// Takes the links of a channel away from a node.
+/// Removes the links of a channel at a node.
 pub(crate) fn drop_at(lists: &mut Vec<Links>, number: usize, scid: Scid)
     requires { number < length lists.old.items }
     ensures long { length lists.new.items ≡ length lists.old.items }
@@ -173,17 +173,17 @@ pub(crate) fn drop_at(lists: &mut Vec<Links>, number: usize, scid: Scid)
     lists[number].drop_channel(scid);
 }
 
-/// How many links there are, by node.
+/// The number of links, by node.
 #[derive(Drop)]
 pub(crate) struct Counts {
-    /// Those that go to the node.
+    /// Those to the node.
     pub(crate) into: Vec<u32>,
-    /// Those that leave it.
+    /// Those from the node.
     pub(crate) out: Vec<u32>,
 }
 
 impl Counts {
-    /// The counts of links among so many nodes.
+    /// Counts links among this many nodes.
     pub(crate) fn of(alloc: Global, nodes: usize, links: &[Link]) -> Result<Counts, AllocError> {
         let mut into = vec![in alloc; 0; nodes]?;
         let mut out = vec![in alloc; 0; nodes]?;
@@ -195,14 +195,14 @@ impl Counts {
     }
 }
 
-/// Counts one more at a number's place, if it has one.
+/// Adds one to the count at a number, if there is one.
 fn count(counts: &mut [u32], number: u32) {
     if let Some(count) = counts.get_mut(number as usize) {
         *count = count.saturating_add(1);
     }
 }
 
-/// Room at each node for as many more links as are counted there.
+/// Reserves capacity at each node for as many more links as are counted there.
 pub(crate) fn reserve_all(lists: &mut Vec<Links>, counts: &[u32]) -> Result<(), AllocError>
     ensures { map links_in lists.new.items ≡ map links_in lists.old.items }
 {
@@ -214,7 +214,7 @@ pub(crate) fn reserve_all(lists: &mut Vec<Links>, counts: &[u32]) -> Result<(), 
     Ok(())
 }
 
-/// Room for one more link at a node.
+/// Reserves capacity for one more link at a node.
 pub(crate) fn reserve_at(lists: &mut Vec<Links>, number: usize) -> Result<(), AllocError>
     requires { number < length lists.old.items }
     ensures same { map links_in lists.new.items ≡ map links_in lists.old.items }
@@ -223,7 +223,7 @@ pub(crate) fn reserve_at(lists: &mut Vec<Links>, number: usize) -> Result<(), Al
     lists[number].reserve()
 }
 
-/// Puts a link among those at a node, in the place of that of its id and direction, or takes that one out.
+/// Inserts a link at a node or replaces the one with its id and direction, or removes that one.
 pub(crate) fn put_at(
     lists: &mut Vec<Links>,
     number: usize,
@@ -239,7 +239,7 @@ pub(crate) fn put_at(
     lists[number].put(scid, second, link);
 }
 
-/// Puts a link behind those at a node.
+/// Appends a link at a node.
 pub(crate) fn push_at(lists: &mut Vec<Links>, number: usize, link: Link)
     requires within { number < length lists.old.items }
     requires room { HoldsAt HasRoom lists.old.items number }

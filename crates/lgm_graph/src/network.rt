@@ -11,8 +11,8 @@ use lgm_store::{Map, Op};
 use std::alloc::{AllocError, Global};
 use std::marker::Model;
 
-/// A map with its view as one value: what both absorb, they absorb together. Contracts see the map's rows and what the
-/// view shows, which is always the view of these rows.
+/// A map with its view as one value, to which operations are applied together. Contracts see the rows of the map and
+/// the graph of the view, which is always that of these rows.
 #[derive(Drop)]
 pub struct Network {
     map: Map,
@@ -31,8 +31,7 @@ impl Model for Network {
 }
 
 impl Network {
-    /// No channels and no nodes. The features of nodes that are known are kept as a copy. The only error is want of
-    /// memory.
+    /// No channels and no nodes. The known feature bits are copied. The only error is out of memory.
     pub fn new(alloc: Global, known: &Known) -> Result<Network, AllocError>
         ensures rows { IfOk result (λ network. network.rows ≡ empty) }
         ensures known { IfOk result (λ network. network.graph.known ≡ known.now) }
@@ -40,7 +39,7 @@ impl Network {
         Network::of(alloc, Map::new(alloc)?, known)
     }
 
-    /// A map with its view, made from nothing. The only error is want of memory.
+    /// A map, with its view built from it. The only error is out of memory.
     pub fn of(alloc: Global, map: Map, known: &Known) -> Result<Network, AllocError>
         requires { length map.channels ≤ 2000000000 }
         ensures rows { IfOk result (λ network. network.rows ≡ map) }
@@ -51,7 +50,7 @@ impl Network {
         Ok(Network { map, view })
     }
 
-    /// A copy, which has the same rows and shows the same. The only error is want of memory.
+    /// A copy with the same rows and the same graph. The only error is out of memory.
     pub fn copy(&self, alloc: Global) -> Result<Network, AllocError>
         ensures { IfOk result (λ copy. copy ≡ self.now) }
     {
@@ -61,8 +60,8 @@ impl Network {
         })
     }
 
-    /// Does an operation to the map and its view. It numbers at most two points more. The only error is want of memory,
-    /// which leaves both as they were.
+    /// Applies an operation to the map and its view. It numbers at most two more points. The only error is out of
+    /// memory, which leaves both unchanged.
     pub fn absorb(&mut self, op: &Op) -> Result<(), AllocError>
         requires { length self.old.graph.points ≤ 4294967290 }
         ensures rows { OnOk result (self.new.rows ≡ absorbed self.old.rows op.now) }

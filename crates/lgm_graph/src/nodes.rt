@@ -1,4 +1,4 @@
-//! Numbered nodes, and the links that hang on each.
+//! Numbered nodes, and the links of each.
 
 ghost use Rattle.std.specs.Prelude.{◌≡◌, ◌++◌, ◌∷◌, [], ℕ, ◌+◌, ◌<◌, ◌≤◌, List, map, length, slice_set, slice_index_or, OnOk, IfOk, Option, Bool, false, true, if◌then◌else◌};
 ghost use Rattle.std.specs.List.{HoldsAt, list_any};
@@ -28,7 +28,7 @@ pub(crate) struct Links {
     pub(crate) links: Vec<Link>,
 }
 
-/// Points by number, and for each whether its node takes payments, the links into it and those that leave it.
+/// Points by number, and for each whether its node takes payments, the links into it and the links out of it.
 #[derive(Drop)]
 pub(crate) struct Nodes {
     pub(crate) points: IndexSet<Point, Seed>,
@@ -37,7 +37,7 @@ pub(crate) struct Nodes {
     pub(crate) out: Vec<Links>,
 }
 
-/// Whether a node takes payments. Where all features are known, its announcement isn't looked for.
+/// Whether a node takes payments. If all features are known, its announcement isn't looked up.
 pub(crate) fn takes_payments(known: &Known, map: &Map, node: &Point) -> bool
     ensures { result ≡ takes_payments known.now map.now.nodes node.now }
 {
@@ -51,7 +51,7 @@ pub(crate) fn takes_payments(known: &Known, map: &Map, node: &Point) -> bool
 }
 
 impl Nodes {
-    /// None yet. The points will be hashed by the seed.
+    /// No nodes. Points will be hashed with the seed.
     pub(crate) fn new(alloc: Global, seed: Seed) -> Nodes
         ensures points { result.points.keys ≡ [] }
         ensures takes { result.takes.items ≡ [] }
@@ -66,7 +66,7 @@ impl Nodes {
         }
     }
 
-    /// A copy, which shows the same. The only error is want of memory.
+    /// A copy with the same graph. The only error is out of memory.
     pub(crate) fn copy(&self, alloc: Global) -> Result<Nodes, AllocError>
         ensures { (known : Option (List ℕ)) → IfOk result (λ copy. graph_in known copy ≡ graph_in known self.now) }
     {
@@ -78,7 +78,7 @@ impl Nodes {
         })
     }
 
-    /// The number of a point that has one.
+    /// The number of a numbered point.
     pub(crate) fn number_of(&self, point: &Point) -> usize
         requires { IsNumbered self.now.points.keys point.now }
         ensures { result ≡ number_of self.now.points.keys point.now }
@@ -94,7 +94,7 @@ impl Nodes {
         ensures number { result ≡ true → number ≡ number_of self.now.points.keys point.now }
         ensures numbered { result ≡ true → IsNumbered self.now.points.keys point.now }
     {
-        // It says that points are distinct.
+        // The contract of `len` says that points are distinct.
         let _ = self.points.len();
         match self.points.get_index(number) {
             Some(held) => *point == *held,
@@ -102,7 +102,7 @@ impl Nodes {
         }
     }
 
-    /// Room for so many more nodes.
+    /// Reserves capacity for this many more nodes.
     pub(crate) fn reserve(&mut self, more: usize) -> Result<(), AllocError>
         ensures same { (known : Option (List ℕ)) → graph_in known self.new ≡ graph_in known self.old }
         ensures places { OnOk result (HasPlaces more self.new) }
@@ -113,7 +113,7 @@ impl Nodes {
         self.out.reserve(more)
     }
 
-    /// Numbers a further point.
+    /// Numbers another point.
     pub(crate) fn add(&mut self, alloc: Global, point: Point, takes: bool)
         requires room { HasPlaces 1 self.old }
         requires other { list_any (is_point point) self.old.points.keys ≡ false }
@@ -131,7 +131,7 @@ impl Nodes {
         self.out.push_reserved(Links { links });
     }
 
-    /// Room for these links in the lists of the nodes that they join, and no more: none of the lists grows by steps.
+    /// Reserves capacity for exactly these links at their nodes, so that no list grows step by step.
     pub(crate) fn reserve_for(&mut self, alloc: Global, links: &[Link]) -> Result<(), AllocError>
         ensures same { (known : Option (List ℕ)) → graph_in known self.new ≡ graph_in known self.old }
     {
@@ -140,7 +140,7 @@ impl Nodes {
         lists::reserve_all(&mut self.out, &counts.out)
     }
 
-    /// Room for one more link from a node to another.
+    /// Reserves capacity for one more link from one node to another.
     pub(crate) fn reserve_links(&mut self, from: usize, to: usize) -> Result<(), AllocError>
         requires from { from < length self.old.out.items }
         requires to { to < length self.old.into.items }
@@ -152,7 +152,7 @@ impl Nodes {
         lists::reserve_at(&mut self.out, from)
     }
 
-    /// Puts a link behind the others of the nodes that it joins.
+    /// Appends a link at both of its nodes.
     pub(crate) fn push_link(&mut self, from: usize, to: usize, link: Link)
         requires from { from < length self.old.out.items }
         requires to { to < length self.old.into.items }
@@ -168,7 +168,7 @@ impl Nodes {
         lists::push_at(&mut self.out, from, link);
     }
 
-    /// Puts a link in the place of that of its id and direction at the nodes that it joins, or takes that one out.
+    /// At both of its nodes, inserts a link or replaces the one with its id and direction, or removes that one.
     pub(crate) fn put_link(
         &mut self,
         from: usize,
@@ -193,7 +193,7 @@ impl Nodes {
         lists::put_at(&mut self.out, from, scid, second, link);
     }
 
-    /// Says anew whether a node takes payments, if it is numbered.
+    /// Determines again whether a node takes payments, if it is numbered.
     pub(crate) fn look_at(&mut self, known: &Known, map: &Map, node: &Point)
         requires { length self.old.takes.items ≡ length self.old.points.keys }
         ensures points { self.new.points.keys ≡ self.old.points.keys }
@@ -202,14 +202,14 @@ impl Nodes {
         ensures takes { (before : APoint → Bool) → AreFlags before self.old
             → AreFlags (λ q. if is_point node.now q then takes_payments known.now map.now.nodes q else before q) self.new }
     {
-        // It says that points are distinct.
+        // The contract of `len` says that points are distinct.
         let _ = self.points.len();
         if let Some(number) = self.points.get_index_of(node) {
             self.takes[number] = takes_payments(known, map, node);
         }
     }
 
-    /// Takes the links of a channel that is gone away from a node, and looks at the node anew.
+    /// Removes the links of a closed channel at a node, and determines again whether the node takes payments.
     pub(crate) fn close_at(&mut self, known: &Known, map: &Map, node: &Point, scid: Scid)
         requires numbered { IsNumbered self.old.points.keys node.now }
         requires takes { length self.old.takes.items ≡ length self.old.points.keys }
@@ -223,7 +223,7 @@ impl Nodes {
         ensures takes { (before : APoint → Bool) → AreFlags before self.old
             → AreFlags (λ q. if is_point node.now q then takes_payments known.now map.now.nodes q else before q) self.new }
     {
-        // It says that points are distinct.
+        // The contract of `len` says that points are distinct.
         let _ = self.points.len();
         let number = self.number_of(node);
         lists::drop_at(&mut self.into, number, scid);
@@ -231,7 +231,7 @@ impl Nodes {
         self.look_at(known, map, node);
     }
 
-    /// Numbers a point, unless it has a number.
+    /// Numbers a point, unless it is numbered.
     pub(crate) fn number(&mut self, alloc: Global, known: &Known, held: &Map, point: Point)
         requires { HasPlaces 1 self.old }
         ensures few { length self.new.points.keys ≤ length self.old.points.keys + 1 }
@@ -248,7 +248,7 @@ impl Nodes {
         self.add(alloc, point, takes);
     }
 
-    /// Takes the links that join a banned node away from a node, if it is numbered, and looks at the node anew.
+    /// Removes the links to banned nodes at a node, if it is numbered, and checks again whether it takes payments.
     pub(crate) fn ban_at(&mut self, known: &Known, map: &Map, node: &Point)
         requires takes { length self.old.takes.items ≡ length self.old.points.keys }
         requires into { length self.old.into.items ≡ length self.old.points.keys }
@@ -262,7 +262,7 @@ impl Nodes {
         ensures takes { (before : APoint → Bool) → AreFlags before self.old
             → AreFlags (λ q. if is_point node.now q then takes_payments known.now map.now.nodes q else before q) self.new }
     {
-        // It says that points are distinct.
+        // The contract of `len` says that points are distinct.
         let _ = self.points.len();
         if let Some(number) = self.points.get_index_of(node) {
             lists::drop_banned_at(&mut self.into, number, &self.points, map);

@@ -25,8 +25,8 @@ use lgm_store::{Map, Op};
 use std::alloc::{AllocError, Global};
 use std::marker::Model;
 
-/// The edges of a map, between numbered nodes. Contracts see the points by number, and the links into each node and
-/// those that leave it.
+/// The edges of a map, between numbered nodes. Contracts see the points by number, and the links into and out of each
+/// node.
 #[derive(Drop)]
 pub struct View {
     alloc: Global,
@@ -47,8 +47,8 @@ impl Model for View {
 }
 
 impl View {
-    /// How many points are numbered: from 0 to one less than this. Different points have different numbers, and each
-    /// edge stands with both of its ends.
+    /// The number of numbered points, whose numbers are less. Different points have different numbers, and each edge is
+    /// listed at both of its nodes.
     pub fn nodes(&self) -> usize
         ensures count { result ≡ length self.now.points }
         ensures few { result < 2 ^ 32 }
@@ -57,7 +57,7 @@ impl View {
         self.nodes.points.len()
     }
 
-    /// The number of a point, if it has one: each end of a held channel has. It takes no memory.
+    /// The number of a point, if it has one; each node of a channel in the map has. Nothing is allocated.
     pub fn node_number(&self, point: &Point) -> Option<u32>
         ensures { result ≡ position (is_point point.now) self.now.points }
     {
@@ -65,14 +65,14 @@ impl View {
         Some(number as u32)
     }
 
-    /// The point of a number, if it is one.
+    /// The point with a number, if there is one.
     pub fn point(&self, number: u32) -> Option<&Point>
         ensures { option_copied result ≡ slice_get self.now.points number }
     {
         self.nodes.points.get_index(number as usize)
     }
 
-    /// Whether the node of a number takes payments: it has no announcement, or one whose features are known.
+    /// Whether the node with a number takes payments: it has no announcement, or one whose even features are known.
     pub fn takes_payments(&self, number: u32) -> bool
         ensures { result ≡ takes_at self.now number }
     {
@@ -82,8 +82,8 @@ impl View {
         }
     }
 
-    /// The edges into the node of a number, by id and direction: none where it takes no payments, and of a number that
-    /// isn't given.
+    /// The edges into the node with a number, by id and direction: none if it takes no payments or there is no such
+    /// number.
     pub fn links_into(&self, number: u32) -> &[Link]
         ensures { result.now ≡ links_into self.now number }
     {
@@ -96,8 +96,7 @@ impl View {
         }
     }
 
-    /// The edges out of the node of a number, by id and direction, and with them those towards nodes that take no
-    /// payments.
+    /// The edges out of the node with a number, by id and direction, including those to nodes that take no payments.
     pub fn links_leaving(&self, number: u32) -> &[Link]
         ensures { result.now ≡ links_leaving self.now number }
     {
@@ -128,7 +127,7 @@ impl View {
         }
     }
 
-    /// The number of edges. (Of more than 2^64 - 1, of which there are none in any memory, it would be 2^64 - 1.)
+    /// The number of edges, or 2^64 - 1 if there were more, for which there is no memory.
     pub fn edge_count(&self) -> usize
         ensures { result ≡ min (length (edges self.now)) (2 ^ 64 - 1) }
     {
@@ -140,12 +139,11 @@ impl View {
         count
     }
 
-    /// The edge at a place below their number: they are ordered by the node that they go to. It walks the nodes up to
-    /// that one.
+    /// The edge at an index below that number, ordered by the node that they go to. Traverses the nodes up to that one.
     pub fn edge(&self, place: usize) -> Option<Edge>
         ensures { result ≡ slice_get (edges self.now) place }
     {
-        // It says that the ends of links are numbered.
+        // The contract of `nodes` says that the nodes of links are numbered.
         let nodes = self.nodes();
         let mut left = place;
         for number in 0..nodes {
@@ -160,7 +158,7 @@ impl View {
 }
 
 impl View {
-    /// A view of rows holds exactly their edges, each once. A call does nothing: its contract is the law.
+    /// A view of rows has exactly their edges, each once. The call does nothing: its contract is the law.
     pub fn shows_the_edges(&self)
         ensures found { (rows : Rows) → IsGraphOf rows self.now → (edge : AnEdge) → Contains (edges self.now) edge ↔ Contains (edges_of self.now.known rows) edge }
         ensures once { (rows : Rows) → IsGraphOf rows self.now → IsPermutation (edges_of self.now.known rows) (edges self.now) }
@@ -171,7 +169,7 @@ impl View {
 }
 
 impl View {
-    /// A copy, which shows the same. The only error is want of memory.
+    /// A copy with the same graph. The only error is out of memory.
     pub fn copy(&self, alloc: Global) -> Result<View, AllocError>
         ensures { IfOk result (λ copy. copy ≡ self.now) }
     {
@@ -182,12 +180,12 @@ impl View {
         })
     }
 
-    /// Does an operation to a map and its view, which is the new map's then. It numbers at most two points more, and a
-    /// point keeps its number when its last channel goes. The only error is want of memory, which leaves map and view
-    /// as they were.
+    /// Applies an operation to a map and its view, which is then the view of the new map. It numbers at most two more
+    /// points, and a point keeps its number when its last channel goes. The only error is out of memory, which leaves
+    /// map and view unchanged.
     ///
-    /// An update costs two searches in the lists of the nodes that it joins, a node's announcement one look at its
-    /// features, a close a walk of the edges of its two ends, and a ban one of the edges of the nodes at which channels go.
+    /// An update costs two searches in the lists of its nodes, a node announcement one check of its features, a close a
+    /// traversal of the edges of its two nodes, and a ban one of the edges of the nodes that lose channels.
     pub fn apply(&mut self, map: &mut Map, op: &Op) -> Result<(), AllocError>
         requires few { length self.old.points ≤ 4294967290 }
         requires beside { IsGraphOf map.old self.old }

@@ -9,21 +9,21 @@ use hex::FromHexError;
 use std::alloc::Allocator;
 use std::simd::prelude::*;
 
-/// The value of each digit, and 16 or more at any other byte.
+/// The value of each digit, and 16 or more for any other byte.
 #[inline(always)]
 fn values_of(digits: u8x32) -> u8x32
     ensures { (k : ℕ) → k < 32 → IsValue (slice_index digits k) (slice_index result k) }
 {
-    // `0` to `9` become the ten largest bytes and then 0 to 9, and any other byte becomes 16 or more.
+    // `0` to `9` become the ten largest bytes and then 0 to 9; any other byte becomes 16 or more.
     let number = (digits + u8x32::splat(255 - b'9')).saturating_sub(u8x32::splat(6))
         - u8x32::splat(240);
 
-    // `A` to `F` and `a` to `f` become 0 to 5, and any other byte more.
+    // `A` to `F` and `a` to `f` become 0 to 5; any other byte becomes more.
     let letter = (digits & u8x32::splat(0xdf)) - u8x32::splat(b'A');
     number.simd_min(u8x32::splat(10).saturating_add(letter))
 }
 
-/// Whether each is the value of a digit.
+/// Whether all are values of digits.
 #[inline(always)]
 fn are_valid(values: u8x32) -> bool
     ensures { IsTrue result → AreValid values }
@@ -38,13 +38,13 @@ fn joined(values: u8x32) -> u8x16
     ensures lanes { AreValid values → (k : ℕ) → k < 16
         → slice_index result k ≡ slice_index values (2 * k) * 16 + slice_index values (2 * k + 1) }
 {
-    // A pair as a number: its first value, and 256 times its second.
+    // A pair as a number: its first value, plus 256 times its second.
     let pairs = u16x16::from_le_bytes(values);
     let bytes = (pairs * u16x16::splat(0x1001)) >> u16x16::splat(8);
     bytes.cast::<u8>()
 }
 
-/// Writes sixteen bytes, and gives the values of their digits. Where these are valid, the bytes are right.
+/// Writes sixteen bytes, and returns the values of their digits. If these are valid, the bytes are right.
 #[inline(always)]
 fn decode_block(digits: &[u8], out: &mut [u8], at: usize) -> u8x32
     requires room { at + 16 ≤ length out.old }
@@ -57,7 +57,7 @@ fn decode_block(digits: &[u8], out: &mut [u8], at: usize) -> u8x32
     values
 }
 
-/// Writes all bytes, the last sixteen of them in a block of their own. They are right where it gives true.
+/// Writes all bytes, the last sixteen in a block of their own. If it returns true they are right.
 fn decode_blocks(digits: &[u8], out: &mut [u8]) -> bool
     requires some { 16 ≤ length out.old }
     requires twice { length digits.now ≡ 2 * length out.old }
@@ -71,12 +71,12 @@ fn decode_blocks(digits: &[u8], out: &mut [u8]) -> bool
     are_valid(seen)
 }
 
-/// Writes the bytes that the digits spell, of which there are twice as many as `out` has bytes.
+/// Decodes the digits, two per byte of `out`, into `out`.
 ///
-/// It answers as `hex::decode_to_slice` does: `OddLength` where the number of digits is odd, else
-/// `InvalidStringLength` where it isn't twice the length of `out`, else `InvalidHexCharacter` with
-/// the first byte that is no digit, and its index. The first two leave `out` as it was; the last
-/// leaves bytes in it that mean nothing. No memory is taken.
+/// The errors are those of `hex::decode_to_slice`: `OddLength` if the number of digits is odd, else
+/// `InvalidStringLength` if it isn't twice the length of `out`, else `InvalidHexCharacter` with the first byte that
+/// isn't a digit, and its index. The first two leave `out` unchanged; after the last its contents are unspecified.
+/// Nothing is allocated.
 pub fn decode_to_slice(digits: &[u8], out: &mut [u8]) -> Result<(), FromHexError>
     ensures value { MatchResult (decode_sized digits.now (length out.old))
         (λ bytes. (result ≡ Ok tt) × (out.new ≡ bytes))
@@ -90,11 +90,10 @@ pub fn decode_to_slice(digits: &[u8], out: &mut [u8]) -> Result<(), FromHexError
     hex::decode_to_slice(digits, out)
 }
 
-/// The bytes that the digits spell.
+/// Decodes the digits into a new vector.
 ///
-/// It answers as `hex::decode` does: `OddLength` where the number of digits is odd, else
-/// `OutOfMemory` where there is no room for the bytes, else `InvalidHexCharacter` with the first
-/// byte that is no digit, and its index.
+/// The errors are those of `hex::decode`: `OddLength` if the number of digits is odd, else `OutOfMemory` if the bytes
+/// can't be allocated, else `InvalidHexCharacter` with the first byte that isn't a digit, and its index.
 pub fn decode<A: Allocator>(alloc: A, digits: &[u8]) -> Result<Vec<u8, A>, FromHexError>
     ensures ok { IfOk result (λ bytes. decode_of digits.now ≡ Ok bytes.items) }
     ensures err { IfErr result (λ e. (e ≡ OutOfMemory) ⊎ (decode_of digits.now ≡ Err e)) }
@@ -108,8 +107,8 @@ pub fn decode<A: Allocator>(alloc: A, digits: &[u8]) -> Result<Vec<u8, A>, FromH
     Ok(out)
 }
 
-/// Puts the bytes that the digits spell into a vector that is kept, in place of what it held. Memory is asked for only
-/// where its room is too small.
+/// Decodes the digits into a vector that is reused, replacing its contents. Allocates only if its capacity is too
+/// small.
 ///
 /// The errors are those of [`decode`], and leave the vector empty.
 pub fn decode_into<A: Allocator>(out: &mut Vec<u8, A>, digits: &[u8]) -> Result<(), FromHexError>
@@ -118,7 +117,7 @@ pub fn decode_into<A: Allocator>(out: &mut Vec<u8, A>, digits: &[u8]) -> Result<
     ensures odd { length digits.now % 2 ≡ 1 → result ≡ Err OddLength }
     ensures empty { OnErr result (out.new.items ≡ []) }
 
-    // Where there is room for the bytes the answer is that of the digits.
+    // If the capacity suffices, the result is that of the digits alone.
     ensures room { length digits.now / 2 ≤ vec_capacity out.old → MatchResult (decode_of digits.now)
         (λ bytes. (result ≡ Ok tt) × (out.new.items ≡ bytes))
         (λ e. result ≡ Err e) }
@@ -138,11 +137,11 @@ pub fn decode_into<A: Allocator>(out: &mut Vec<u8, A>, digits: &[u8]) -> Result<
     decoded
 }
 
-/// The `N` bytes that the digits spell, as a signature, a point or a hash.
+/// Decodes `2 * N` digits, as of a signature, a point or a hash.
 ///
-/// It answers as `from_hex` of `hex::FromHex` does: `OddLength` where the number of digits is odd,
-/// else `InvalidStringLength` where there aren't `2 * N`, else `InvalidHexCharacter` with the first
-/// byte that is no digit, and its index. No memory is taken.
+/// The errors are those of `from_hex` of `hex::FromHex`: `OddLength` if the number of digits is odd, else
+/// `InvalidStringLength` if it isn't `2 * N`, else `InvalidHexCharacter` with the first byte that isn't a digit, and
+/// its index. Nothing is allocated.
 pub fn decode_array<const N: usize>(digits: &[u8]) -> Result<[u8; N], FromHexError>
     ensures { result ≡ decode_sized digits.now N }
 {

@@ -41,7 +41,7 @@ fn digits_of(values: u8x16) -> u8x16
     u8x16::from_slice(b"0123456789abcdef").swizzle_dyn(values)
 }
 
-/// The digits of sixteen bytes, two for each.
+/// The digits of sixteen bytes, two per byte.
 #[inline(always)]
 fn pairs_of(bytes: u8x16) -> u8x32
     ensures len { length result ≡ 32 }
@@ -69,7 +69,7 @@ fn encode_block(bytes: &[u8], out: &mut [u8], at: usize)
     pairs_of(block).copy_to_slice(&mut out[2 * at..]);
 }
 
-/// Writes two digits for each byte.
+/// Writes two digits for each byte, in blocks of sixteen bytes if there are that many.
 fn encode_into(bytes: &[u8], out: &mut [u8])
     requires { length out.old ≡ 2 * length bytes.now }
     ensures { out.new ≡ encode_lower bytes.now }
@@ -83,10 +83,10 @@ fn encode_into(bytes: &[u8], out: &mut [u8])
     encode_block(bytes, out, bytes.len() - 16);
 }
 
-/// Writes the digits that spell the bytes, in lower case, into a slice twice as long.
+/// Encodes the bytes in lower case into a slice twice as long.
 ///
-/// Where `out` has another length the error is `InvalidStringLength`, as that of
-/// `hex::encode_to_slice`, and `out` stays as it was. No memory is taken.
+/// If `out` has another length the error is `InvalidStringLength`, as in `hex::encode_to_slice`,
+/// and `out` is unchanged. Nothing is allocated.
 pub fn encode_to_slice(bytes: &[u8], out: &mut [u8]) -> Result<(), FromHexError>
     ensures fits { IsOk result ↔ (length out.old ≡ 2 * length bytes.now) }
     ensures written { OnOk result (out.new ≡ encode_lower bytes.now) }
@@ -100,8 +100,7 @@ pub fn encode_to_slice(bytes: &[u8], out: &mut [u8]) -> Result<(), FromHexError>
     Ok(())
 }
 
-/// Appends the digits that spell the bytes, in lower case. Where memory runs out the text stays as
-/// it was.
+/// Appends the bytes in lower-case digits. If memory runs out the text is unchanged.
 pub fn append(text: &mut Vec<u8>, bytes: &[u8]) -> Result<(), AllocError>
     ensures ok { OnOk result (text.new.items ≡ text.old.items ++ encode_lower bytes.now) }
     ensures err { OnErr result (text.new.items ≡ text.old.items) }

@@ -1,12 +1,11 @@
-//! Hexadecimal text in bulk: what the crate `hex` does, under its contracts, at the speed of the
-//! lines of a script.
+//! Hexadecimal encoding and decoding in bulk, under the contracts of the crate `hex`, fast enough for the lines of a
+//! script.
 //!
-//! A digit is one of `0` to `9`, `a` to `f` and `A` to `F`; two of them spell a byte, the higher
-//! half first. Bytes are always written in lower case.
+//! A digit is one of `0` to `9`, `a` to `f` and `A` to `F`; two of them encode a byte, high nibble first. Output is
+//! always lower case.
 //!
-//! Thirty-two digits at a time are decoded, with no branch on their values, and sixteen bytes at a
-//! time encoded. Digits that are fewer, and those that are refused, go to `hex`, so each error is the
-//! one that it gives.
+//! Thirty-two digits are decoded at a time, without a branch on their values, and sixteen bytes encoded. Shorter input,
+//! and input with an error, is passed to `hex`, so the errors are those of `hex`.
 #![tactic(auto)]
 
 mod decoding;

@@ -1,4 +1,4 @@
--- What a script asks of a map that grows: items in batches, and payments that are dealt out to workers.
+-- What a script requests of a map that grows: items in batches, and payments that are dealt to workers.
 use Rattle.std.specs.Prelude.{ℕ, ◌+◌, ◌%◌, ◌==◌, List, [], ◌∷◌, ◌++◌, map, Option, Some, None, if◌then◌else◌}
 use Rattle.std.specs.List.{filter_map, range_with_len}
 use Rattle.lgm_route.specs.declared.request.Request.{Request as RouteRequest}
@@ -8,7 +8,7 @@ use Rattle.lgm_script.specs.declared.request.Request.{Request}
 use Rattle.lgm_script.specs.declared.request.Request.TheVariants as requests
 use Rattle.lgm_server.specs.Routing.{asked_route}
 
--- the batches, of which the first begins with these items
+-- the batches, the first of which begins with these items
 abbrev pub batches_behind : List Item → List Request → List (List Item)
 batches_behind items [] = items ∷ []
 batches_behind items (requests.Offer item ∷ asked) = batches_behind (items ++ item ∷ []) asked
@@ -19,7 +19,7 @@ batches_behind items (_ ∷ asked) = batches_behind items asked
 abbrev pub batches_of : List Request → List (List Item)
 batches_of asked = batches_behind [] asked
 
--- the payment that is asked for
+-- the payment that is requested
 abbrev pub payment_in : Request → Option Payment
 payment_in (requests.Route payment) = Some payment
 payment_in _ = None
@@ -27,17 +27,17 @@ payment_in _ = None
 abbrev pub payments_of : List Request → List Payment
 payments_of asked = filter_map payment_in asked
 
--- what one of so many workers gets of payments that are dealt out in turn, the first of which has this place
+-- what one of this many workers gets of payments that are dealt round-robin, the first of which has this index
 abbrev pub dealt_from : ℕ → ℕ → ℕ → List Payment → List Payment
 dealt_from workers worker place [] = []
 dealt_from workers worker place (payment ∷ payments) =
     if place % workers == worker then payment ∷ dealt_from workers worker (place + 1) payments
     else dealt_from workers worker (place + 1) payments
 
--- the list of one of so many workers
+-- the list of one of this many workers
 abbrev pub list_for : ℕ → List Payment → ℕ → List RouteRequest
 list_for workers payments worker = map asked_route (dealt_from workers worker 0 payments)
 
--- the payments of a script, dealt out to so many workers: one after the other in turn, from worker 0 on
+-- the payments of a script, dealt to this many workers round-robin, from worker 0 on
 abbrev pub lists_of : ℕ → List Request → List (List RouteRequest)
 lists_of workers asked = map (list_for workers (payments_of asked)) (range_with_len 0 workers)

@@ -1,4 +1,4 @@
--- What is answered while a map grows.
+-- Answers while a map grows.
 use Rattle.std.specs.Prelude.{◌≡◌, ◌⊎◌, ℕ, ◌≤◌, List, length, take, Contains, Option}
 use Rattle.std.specs.List.{AllZip}
 use Rattle.std.specs.List.Sorted.{IsNonDecreasingBy}
@@ -9,7 +9,7 @@ use Rattle.lgm_route.specs.declared.request.Request.{Request}
 use Rattle.lgm_route.specs.Choice.{answer_of}
 use Rattle.lgm_live.specs.declared.report.LiveAnswer.{LiveAnswer}
 
--- the answer over the map of as many operations, the first ones, as its version says
+-- the answer is that on the map of the first operations, as many as its version says
 abbrev pub IsAnsweredBy : Option (List ℕ) → List Op → Request → LiveAnswer → Type 0
 IsAnsweredBy known ops request answer =
     (answer.version ≤ length ops) × (answer.result ≡ answer_of (edges_of known (fold (take answer.version ops))) request)
@@ -22,6 +22,6 @@ AreAnsweredBy known ops requests answers = AllZip (IsAnsweredBy known ops) reque
 abbrev pub NeverFall : List LiveAnswer → Type 0
 NeverFall answers = IsNonDecreasingBy (λ (answer : LiveAnswer). answer.version) answers
 
--- the answer is over the empty map, or over that of the end of a batch
+-- the answer is on the empty map, or on that of the end of a batch
 abbrev pub IsAtEnd : List ℕ → LiveAnswer → Type 0
 IsAtEnd ends answer = (answer.version ≡ 0) ⊎ Contains ends answer.version

@@ -8,7 +8,7 @@ use Rattle.lgm_server.specs.Outcomes.{history_of}
 abbrev pub items_of : List (List Item) → List Item
 items_of batches = flat_map (λ (batch : List Item). batch) batches
 
--- the length of the history after each batch, behind items that came before
+-- the length of the history after each batch, after items that came before
 abbrev pub ends_behind : ChainHash → List Item → List (List Item) → List ℕ
 ends_behind chain before [] = []
 ends_behind chain before (batch ∷ batches) = length (history_of chain (before ++ batch)) ∷ ends_behind chain (before ++ batch) batches

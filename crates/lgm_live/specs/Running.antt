@@ -1,4 +1,4 @@
--- What a run beside workers writes.
+-- What a run with workers writes.
 use Rattle.std.specs.Prelude.{◌≡◌, ℕ, ◌<◌, ◌≤◌, List, [], length, map, take, All, Option, slice_index_or}
 use Rattle.std.specs.List.{AllZip, AllByRecursion}
 use Rattle.std.specs.Result.{result_err}
@@ -51,34 +51,34 @@ pub record IsWithin (script : List ℕ) : Type 0 where
   pub few : length (lines_of script) ≤ 10000000
   pub short : AllByRecursion (λ line. length line ≤ 140000) (lines_of script)
 
--- a report of what the requests ask
+-- a report on what these requests ask
 abbrev pub IsReportOn : ChainHash → Option (List ℕ) → ℕ → List Request → LiveReport → Type 0
 IsReportOn chain known workers asked report = IsReport chain known (batches_of asked) (lists_of workers asked) report
 
--- the report is one on the whole script, and the whole text of both was told
+-- the report is one on the whole script, and the whole text of both was written
 pub record IsToldWhole (chain : ChainHash) (known : Option (List ℕ)) (workers : ℕ) (told : List ℕ → Type 0) (report : LiveReport) (script : List ℕ) : Type 0 where
   pub limits : IsWithin script
   pub is_report : IsReportOn chain known workers (requests_of script) report
   pub text : told (told_all workers known report (requests_of script))
   pub same : AreSame workers known report (payments_of (requests_of script))
 
--- a first part of the text of the whole script and of some report on it was told
+-- a prefix of the text of the whole script and of some report on it was written
 pub record IsToldInPart (chain : ChainHash) (known : Option (List ℕ)) (workers : ℕ) (told_part : List ℕ → Type 0) (script : List ℕ) : Type 0 where
   pub limits : IsWithin script
   pub report : LiveReport
   pub is_report : IsReportOn chain known workers (requests_of script) report
   pub text : told_part (told_all workers known report (requests_of script))
 
--- the first n lines are short
+-- none of the first n lines is too long
 abbrev pub AreShort : List ℕ → ℕ → Type 0
 AreShort script n = AllByRecursion (λ line. length line ≤ 140000) (take n (lines_of script))
 
--- one more line than the limit begins, and the lines before it are short
+-- one more line than the limit begins, and none of the lines before it is too long
 pub record HasMoreLines (script : List ℕ) : Type 0 where
   pub more : 10000000 < length (lines_of script)
   pub short : AreShort script 10000000
 
--- a line within the limit is too long, and the lines before it are short
+-- a line within the limit is too long, and none of the lines before it is
 pub record HasLongLine (script : List ℕ) : Type 0 where
   pub place : ℕ
   pub limit : place < 10000000

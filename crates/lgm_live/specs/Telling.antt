@@ -21,11 +21,11 @@ abbrev pub is_payment : Slot → Bool
 is_payment (slots.Payment secret) = true
 is_payment _ = false
 
--- where the next outcome, end and answer of a report stand behind these slots
+-- the indices of the next outcome, end and answer of a report after these slots
 abbrev pub place_behind : List Slot → Place
 place_behind before = record { items = count_by is_item before; ends = count_by is_end before; payments = count_by is_payment before }
 
--- the place behind one more slot
+-- the indices after one more slot
 abbrev pub place_passed : Place → Slot → Place
 place_passed place slots.Item = record place { items = place.items + 1 }
 place_passed place slots.Commit = record place { ends = place.ends + 1 }
@@ -45,14 +45,14 @@ slot_text workers report number place slots.Commit = commit_line number (slice_i
 slot_text workers report number place slots.NotLive = word_line number (codes "not-live")
 slot_text workers report number place (slots.Payment secret) = same_text number secret (answer_at workers report.answers.items place.payments)
 
--- the report has what a slot is told
+-- the report has what a slot refers to
 abbrev pub IsThere : ℕ → LiveReport → Place → Slot → Type 0
 IsThere workers report place slots.Item = place.items < length report.outcomes.items
 IsThere workers report place slots.Commit = place.ends < length report.ends.items
 IsThere workers report place (slots.Payment secret) = IsSome (answer_at workers report.answers.items place.payments)
 IsThere workers report place _ = Unit {0}
 
--- and what each of them is told
+-- and what each of them refers to
 abbrev pub AreThere : ℕ → LiveReport → List Slot → Type 0
 AreThere workers report all = (k : ℕ) → k < length all → IsThere workers report (place_behind (take k all)) (slice_index_or all k slots.Quiet)
 

@@ -30,14 +30,14 @@ same_answer (Ok hops) (Ok others) = pointwise same_hop hops others
 same_answer (Err fault) (Err other) = pointwise nat_eq (route_word fault) (route_word other)
 same_answer _ _ = false
 
--- whether the map of as many operations as the answer's version says gives the same answer
+-- whether the map of the first operations, as many as the answer's version says, gives the same answer
 abbrev pub replay_word : Option (List ℕ) → List Op → Payment → LiveAnswer → List ℕ
 replay_word known ops payment answer =
     if same_answer answer.result (route_answer known (fold (take answer.version ops)) payment) then codes "same" else codes "other"
 
--- ---- what requests are told
+-- ---- the text for requests
 
--- the answer to a payment, by its place among all that were dealt out to so many workers in turn
+-- the answer to a payment, by its index among all that were dealt to this many workers round-robin
 abbrev pub answer_at : ℕ → List (Vec LiveAnswer) → ℕ → Option LiveAnswer
 answer_at workers answers place =
     option_and_then (λ (list : Vec LiveAnswer). slice_get list.items (place / workers)) (slice_get answers (place % workers))
@@ -46,13 +46,13 @@ answer_at workers answers place =
 abbrev pub at_line : ℕ → ℕ → List ℕ → List ℕ
 at_line number version word = word_line number (codes "at " ++ decimal version ++ codes " " ++ word)
 
--- a payment is told the version of the map that it was answered on, whether the replay gives the same, and the answer
+-- the answer to a payment: the version of its map, whether the replay gives the same, and the answer itself
 abbrev pub payment_text : Option (List ℕ) → List Op → ℕ → Payment → Option LiveAnswer → List ℕ
 payment_text known ops number payment None = []
 payment_text known ops number payment (Some answer) =
     at_line number answer.version (replay_word known ops payment answer) ++ route_text number payment.secret answer.result
 
--- the text for a request behind these, that of the line of that number
+-- the text for a request after these, for the line with this number
 abbrev pub told_for : ℕ → Option (List ℕ) → LiveReport → ℕ → List Request → Request → List ℕ
 told_for workers known report number before requests.Quiet = []
 told_for workers known report number before requests.Bad = word_line number (codes "bad")
@@ -75,7 +75,7 @@ told_before workers known report asked (suc k) =
 abbrev pub told_all : ℕ → Option (List ℕ) → LiveReport → List Request → List ℕ
 told_all workers known report asked = told_before workers known report asked (length asked)
 
--- each payment has an answer, which the replay gives too
+-- each payment has an answer, and the replay gives the same
 abbrev pub AreSame : ℕ → Option (List ℕ) → LiveReport → List Payment → Type 0
 AreSame workers known report payments = (place : ℕ) (payment : Payment) → slice_get payments place ≡ Some payment
     → (answer : LiveAnswer) × (answer_at workers report.answers.items place ≡ Some answer) × (replay_word known report.ops.items payment answer ≡ codes "same")

@@ -1,4 +1,4 @@
--- What a writer has done with items.
+-- What the writer has done with items.
 use Rattle.std.specs.Prelude.{◌≡◌, List, map}
 use Rattle.std.specs.Result.{result_err}
 use Rattle.lgm_wire.specs.declared.chain_hash.ChainHash.{ChainHash}

@@ -1,4 +1,4 @@
-//! An item, offered to the writer's map.
+//! Offering an item to the writer's map.
 
 ghost use Rattle.std.specs.Prelude.{◌≡◌, IfOk, OnErr};
 ghost use Rattle.lgm_wire.specs.Reading.{Gives};
@@ -11,7 +11,7 @@ use lgm_script::Item;
 use lgm_store::{Map, Op};
 use std::alloc::Global;
 
-/// Admits an item and does its operation, which it gives. A refusal or want of memory leaves the map as it was.
+/// Admits an item and applies its operation, which is returned. A refusal or out of memory leaves the map unchanged.
 #[tactic(auto, unfolding(lgm_server::specs::Outcomes::outcome_of))]
 pub(crate) fn admit(
     alloc: Global,

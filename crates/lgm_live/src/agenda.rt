@@ -1,4 +1,4 @@
-//! What the lines of a script ask, gathered before any of it is answered.
+//! What the lines of a script request, collected before any of it is answered.
 
 ghost use Rattle.std.specs.Prelude.{◌≡◌, ◌+◌, ◌%◌, ◌<◌, ◌^◌, [], ◌∷◌, ◌++◌, length, replicate, IfOk, OnOk};
 ghost use Rattle.lgm_live.specs.Gathered.{slot_of, given, with_request, with_line};
@@ -13,20 +13,20 @@ use std::alloc::{AllocError, Global};
 use std::marker::Model;
 use std::mem;
 
-/// What the lines of a script ask, gathered line by line. Contracts see its parts.
+/// What the lines of a script request, collected line by line. Contracts see its parts.
 #[derive(Drop)]
 pub(crate) struct Agenda {
-    /// The batches that are whole.
+    /// The complete batches.
     batches: Batches,
-    /// The items behind the last commit.
+    /// The items since the last commit.
     batch: Vec<Item>,
     /// The payments of each worker.
     lists: RequestLists,
-    /// How many payments there are.
+    /// The number of payments.
     payments: usize,
-    /// How many whole batches stand above each payment. No contract speaks of it.
+    /// For each payment, the number of complete batches before it. No contract is about it.
     above: Vec<usize>,
-    /// What each line is told by.
+    /// For each line, where its answer is found.
     slots: Vec<Slot>,
 }
 
@@ -39,7 +39,7 @@ impl Model for Agenda {
 }
 
 impl Agenda {
-    /// Nothing was asked of so many workers.
+    /// No requests, for this many workers.
     pub(crate) fn new(alloc: Global, workers: usize) -> Result<Agenda, AllocError>
         ensures { IfOk result (λ agenda. agenda ≡ record { batches = []; batch = []; lists = replicate workers []; payments = 0; slots = [] }) }
     {
@@ -53,7 +53,7 @@ impl Agenda {
         })
     }
 
-    /// Ends the batch of the items behind the last commit.
+    /// Ends the batch of the items since the last commit.
     pub(crate) fn end_batch(&mut self, alloc: Global) -> Result<(), AllocError>
         ensures { OnOk result (self.new ≡ record self.old { batches = self.old.batches ++ self.old.batch ∷ []; batch = [] }) }
     {
@@ -61,7 +61,7 @@ impl Agenda {
         self.batches.push(batch)
     }
 
-    /// Gives a payment to the worker whose turn it is.
+    /// Assigns a payment to the next worker in round-robin order.
     fn give(&mut self, request: RouteRequest) -> Result<(), AllocError>
         requires some { 0 < length self.old.lists }
         requires few { self.old.payments + 1 < 2 ^ 64 }
@@ -77,7 +77,7 @@ impl Agenda {
         Ok(())
     }
 
-    /// Keeps what a line asks, and gives what the line is told by.
+    /// Stores the request of a line, and returns its slot.
     fn keep(&mut self, alloc: Global, request: Request) -> Result<Slot, AllocError>
         requires some { 0 < length self.old.lists }
         requires few { self.old.payments + 1 < 2 ^ 64 }
@@ -103,7 +103,7 @@ impl Agenda {
         }
     }
 
-    /// Notes what a line asks.
+    /// Adds the request of a line.
     pub(crate) fn note(&mut self, alloc: Global, request: Request) -> Result<(), AllocError>
         requires some { 0 < length self.old.lists }
         requires few { self.old.payments + 1 < 2 ^ 64 }
@@ -114,7 +114,7 @@ impl Agenda {
         Ok(())
     }
 
-    /// The batches that are whole.
+    /// The complete batches.
     pub(crate) fn batches(&self) -> &Batches
         ensures { result.now ≡ self.now.batches }
     {
@@ -128,12 +128,12 @@ impl Agenda {
         &self.lists
     }
 
-    /// How many whole batches stand above each payment, in order.
+    /// For each payment, the number of complete batches before it, in order.
     pub(crate) fn above(&self) -> &[usize] {
         self.above.as_slice()
     }
 
-    /// What each line is told by, in order.
+    /// For each line, where its answer is found, in order.
     pub(crate) fn slots(&self) -> &[Slot]
         ensures { result.now ≡ self.now.slots }
     {

@@ -8,10 +8,10 @@ use lgm_script::Item;
 use std::alloc::{AllocError, Global};
 use std::marker::Model;
 
-/// How many items there may be in all batches: as many as a board takes operations.
+/// The maximum number of items in all batches: as many as a board takes operations.
 const MAX_ITEMS: u64 = 2_000_000_000;
 
-/// Items that are published at once. Contracts see the list.
+/// Items that are published together. Contracts see the list.
 #[derive(Debug, Drop)]
 pub(crate) struct Batch {
     items: Vec<Item>,
@@ -46,7 +46,7 @@ impl Model for Batches {
 }
 
 impl Batches {
-    /// No batch. It takes no memory.
+    /// No batch. Nothing is allocated.
     pub fn new(alloc: Global) -> Batches
         ensures { result ≡ [] }
     {
@@ -55,7 +55,7 @@ impl Batches {
         }
     }
 
-    /// One more batch, behind the others. The only error is want of memory, and then the batch is let go.
+    /// Appends a batch. The only error is out of memory, and then the batch is dropped.
     pub fn push(&mut self, items: Vec<Item>) -> Result<(), AllocError>
         ensures ok { OnOk result (self.new ≡ self.old ++ items.items ∷ []) }
         ensures err { OnErr result (self.new ≡ self.old) }
@@ -64,7 +64,7 @@ impl Batches {
         Ok(())
     }
 
-    /// Whether there are at most 2,000,000,000 items in all.
+    /// Whether there are at most 2,000,000,000 items in total.
     pub fn are_few(&self) -> bool
         ensures { IsTrue result ↔ (length (items_of self.now) ≤ 2000000000) }
     {

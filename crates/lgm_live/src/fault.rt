@@ -9,13 +9,13 @@ use thiserror::Error;
 /// Why there is no report.
 #[derive(Clone, Copy, Debug, PartialEq, Eq, Error)]
 pub enum LiveFault {
-    /// Memory was refused, to the writer, to a worker or to the search for a route.
+    /// Out of memory, in the writer, a worker or the search for a route.
     #[error("out of memory")]
     NoMemory,
-    /// A worker found nothing published, or the board had no place for it.
+    /// A worker found nothing published, or got no place at the board.
     #[error("board closed")]
     Closed,
-    /// A worker answered over a map that isn't that of a batch's end.
+    /// A worker answered on a map that isn't that of the end of a batch.
     #[error("versions disagree")]
     Versions,
 }

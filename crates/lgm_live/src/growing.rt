@@ -1,4 +1,4 @@
-//! A map that grows while it is asked.
+//! A map that is queried while it grows.
 
 ghost use Rattle.std.specs.Prelude.{◌≡◌, ◌≤◌, ◌<◌, [], length, map, All, IfSome, IfOk, MatchResult};
 ghost use Rattle.std.specs.List.{AllZip};
@@ -27,7 +27,7 @@ use std::random::RandomSource;
 use std::sync::Wait;
 use std::thread::{Threads, join_mut};
 
-/// Lets the workers answer by eyes that are handed over.
+/// Runs the workers with the given eyes.
 fn work_given<R: Threads + Sync, G: Gate>(
     pool: &Pool<'_, R, G>,
     given: &mut Option<Vec<Eye>>,
@@ -44,7 +44,7 @@ fn work_given<R: Threads + Sync, G: Gate>(
     work_all(pool.rt, pool.alloc, pool.gate, 0, eyes, lists)
 }
 
-/// The writer on one side, the workers on the other. Where no thread can be started, the writer comes first: workers may
+/// Runs the writer and the workers in parallel. If no thread can be started the writer comes first, since workers may
 /// wait for what it publishes.
 fn run_both<R: Threads + Wait + Sync + RandomSource, G: Gate>(
     pool: &Pool<'_, R, G>,
@@ -89,7 +89,7 @@ fn run_both<R: Threads + Wait + Sync + RandomSource, G: Gate>(
     (written, works)
 }
 
-/// The report of what both sides did.
+/// The report on the work of both sides.
 fn gather(
     alloc: Global,
     pen: &mut Pen,
@@ -116,20 +116,19 @@ fn gather(
     })
 }
 
-/// Lets one writer admit the items of each batch, in order, on a map of its own, and publish what was accepted once a
-/// batch, while workers answer payments: one worker for each of the 1 to 64 lists. A worker answers its list in order,
-/// each payment over the map that was published last when it came to it.
+/// Runs one writer, which admits the items of each batch, in order, on a map of its own, and publishes what was
+/// accepted once per batch, while workers answer payments: one worker for each of the 1 to 64 lists. A worker answers
+/// its list in order, each payment on the map published last at that time.
 ///
-/// The gate holds up what a test wants held, and no answer depends on it. Worker `i`, counted from 0, passes it with `i`
-/// before each payment, and the writer with the number of workers before each publication. Nobody has a map then. Behind
-/// each publication the writer tells the gate how many batches are published.
+/// The gate is for tests, and no answer depends on it. Worker `i`, counted from 0, passes it with `i` before each
+/// payment, and the writer with the number of workers before each publication. Nobody has a map then. After each
+/// publication the writer reports the number of published batches to the gate.
 ///
-/// The report has one outcome for each item, all accepted operations, and one answer for each payment, with the version
-/// of the map that it is over: how many operations made it. Where a thread can't be started, its work is done on one
-/// that is there.
+/// The report has one outcome per item, all accepted operations, and one answer per payment, with the version of its
+/// map: the number of operations that made it. If a thread can't be started, its work is done on an existing one.
 ///
-/// A fault comes when all are done. `NoMemory` says that memory was refused, to the search for a route too. `Closed` and
-/// `Versions` don't come as far as tests tell: a board has as many places as workers, and shows what was published last.
+/// A fault is returned when all are done. `NoMemory` includes the search for a route. `Closed` and `Versions` don't
+/// occur, which is tested and not proved: a board has as many places as workers, and shows what was published last.
 pub fn live<R: Threads + Wait + Sync + RandomSource, G: Gate>(
     rt: &R,
     alloc: Global,
@@ -148,10 +147,10 @@ pub fn live<R: Threads + Wait + Sync + RandomSource, G: Gate>(
     ensures ops { IfOk result (λ report. report.ops.items ≡ history_of chain.now (items_of batches.now)) }
     ensures ends { IfOk result (λ report. report.ends.items ≡ ends_of chain.now batches.now) }
 
-    // Each worker gives one answer for each payment of its list, in order, over the map of the answer's version.
+    // Each worker returns one answer for each payment of its list, in order, on the map of the answer's version.
     ensures answers { IfOk result (λ report. AllZip (λ requests answers. AreAnsweredBy known.now report.ops.items requests answers.items) lists.now report.answers.items) }
 
-    // That map is empty or that of a batch's end, and it never shrinks.
+    // That map is empty or that of the end of a batch, and never shrinks.
     ensures at_ends { IfOk result (λ report. All (λ answers. All (IsAtEnd report.ends.items) answers.items) report.answers.items) }
     ensures rising { IfOk result (λ report. All (λ answers. NeverFall answers.items) report.answers.items) }
 {

@@ -1,8 +1,8 @@
-//! A map that grows while it is asked: one writer admits items batch by batch, and workers answer payments meanwhile.
+//! A map that is queried while it grows: one writer admits items batch by batch, and workers answer payments meanwhile.
 //!
-//! [`live`] takes the items in [`Batches`] and the payments in [`RequestLists`], one list for each worker. Its contract
-//! says what becomes of each item, and that each answer is the one over the map of its version. [`run_live`] does it with
-//! the items and payments of a script, and writes what becomes of them.
+//! [`live`] takes the items in [`Batches`] and the payments in [`RequestLists`], one list per worker. Its contract
+//! specifies the outcome of each item, and that each answer is the definition's on the map of its version. [`run_live`]
+//! does this with the items and payments of a script, and writes the results.
 #![tactic(auto)]
 
 mod admitting;

@@ -1,4 +1,4 @@
-//! Payments that wait for the items above them.
+//! Payments that wait for the items before them.
 
 use lgm_par::Gate;
 use std::alloc::{AllocError, Global};
@@ -6,19 +6,19 @@ use std::marker::Sync;
 use std::sync::atomic::{AtomicU64, Ordering};
 use std::sync::{Condvar, Mutex, Wait};
 
-/// Holds each payment until the batches above its line are published. What it holds up, and each publication, passes the
+/// Holds each payment until the batches before its line are published. What it holds, and each publication, passes the
 /// caller's gate first. A worker that waits has no map.
 #[derive(Drop)]
 pub(crate) struct Paced<'a, R: Wait, G: Gate> {
     rt: &'a R,
     gate: &'a G,
-    /// How many batches stand above each payment, in the script's order. Payments are dealt out to the workers in turn.
+    /// For each payment, in the script's order, the number of batches before it. Payments are dealt round-robin.
     above: &'a [usize],
-    /// How many payments each worker has come to.
+    /// The number of payments that each worker has started.
     begun: Vec<AtomicU64>,
-    /// How many batches were published.
+    /// The number of published batches.
     published: Mutex<usize>,
-    /// Wakes those that wait for more.
+    /// Notifies those that wait for more.
     more: Condvar,
 }
 
@@ -46,7 +46,7 @@ impl<'a, R: Wait, G: Gate> Paced<'a, R, G> {
     }
 }
 
-/// How many batches are to be published before a worker's next payment, which is begun: none before what isn't a payment.
+/// The number of batches to be published before a worker's next payment, which counts as started; 0 if there is none.
 fn due(begun: &[AtomicU64], above: &[usize], worker: usize) -> usize {
     let Some(count) = begun.get(worker) else {
         return 0;

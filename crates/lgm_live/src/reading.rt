@@ -1,4 +1,4 @@
-//! A whole script, read before any of it is answered.
+//! Reading a whole script before any of it is answered.
 
 ghost use Rattle.std.specs.Prelude.{◌≡◌, ◌≢◌, ◌≤◌, ◌+◌, ◌<◌, ◌^◌, [], length, take, drop, IfSome, IfOk, IfErr, OnOk};
 ghost use Rattle.lgm_script.specs.Request.{request_of};
@@ -12,7 +12,7 @@ use lgm_script::{LineReader, Output, Sink, Source, more_begins, next_line, parse
 use lgm_server::MAX_LINES;
 use std::alloc::{AllocError, Global};
 
-/// Notes what the first line asks, which has so many bytes, and drops it.
+/// Adds the request of the first line, which has this many bytes, and drops the line.
 fn note_line(
     alloc: Global,
     count: usize,
@@ -32,8 +32,8 @@ fn note_line(
     agenda.note(alloc, request)
 }
 
-/// Reads the lines of a script, of which nothing was read yet, and notes what they ask. Nothing is gathered, so nothing is
-/// written meanwhile.
+/// Reads the lines of a script, of which nothing was read yet, and adds their requests. The output buffer is empty, so
+/// nothing is written meanwhile.
 fn read_lines<R: Source, W: Sink>(
     alloc: Global,
     lines: &mut LineReader,
@@ -71,8 +71,8 @@ fn read_lines<R: Source, W: Sink>(
     Ok(())
 }
 
-/// Reads a whole script, and gives what it asks of so many workers. Nothing is gathered, so nothing is written
-/// meanwhile.
+/// Reads a whole script, and returns its requests for this many workers. The output buffer is empty, so nothing is
+/// written meanwhile.
 pub(crate) fn read_script<R: Source, W: Sink>(
     alloc: Global,
     workers: usize,

@@ -1,4 +1,4 @@
-//! Payments, in a list for each worker.
+//! Payments, in one list per worker.
 
 ghost use Rattle.std.specs.Prelude.{◌≡◌, ◌<◌, List, [], ◌∷◌, ◌++◌, length, replicate, IfOk, OnOk, OnErr};
 ghost use Rattle.lgm_route.specs.declared.request.Request.{Request};
@@ -8,7 +8,7 @@ use lgm_route::Request;
 use std::alloc::{AllocError, Global};
 use std::marker::Model;
 
-/// What one worker is asked, in order. Contracts see the list.
+/// The payments of one worker, in order. Contracts see the list.
 #[derive(Debug, Drop)]
 pub(crate) struct RequestList {
     requests: Vec<Request>,
@@ -29,7 +29,7 @@ impl RequestList {
     }
 }
 
-/// A list of payments for each worker. A list may be empty. Contracts see a list of lists.
+/// One list of payments per worker. A list may be empty. Contracts see a list of lists.
 #[derive(Debug, Drop)]
 pub struct RequestLists {
     lists: Vec<RequestList>,
@@ -42,7 +42,7 @@ impl Model for RequestLists {
 }
 
 impl RequestLists {
-    /// No worker. It takes no memory.
+    /// No workers. Nothing is allocated.
     pub fn new(alloc: Global) -> RequestLists
         ensures { result ≡ [] }
     {
@@ -51,7 +51,7 @@ impl RequestLists {
         }
     }
 
-    /// So many workers, each with an empty list.
+    /// This many workers, each with an empty list.
     pub(crate) fn empty(alloc: Global, workers: usize) -> Result<RequestLists, AllocError>
         ensures { IfOk result (λ lists. lists ≡ replicate workers []) }
     {
@@ -62,7 +62,7 @@ impl RequestLists {
         Ok(lists)
     }
 
-    /// One more payment for a worker, behind the others of its list.
+    /// Appends a payment to the list of a worker.
     pub(crate) fn give(&mut self, worker: usize, request: Request) -> Result<(), AllocError>
         requires { worker < length self.old }
         ensures { OnOk result (self.new ≡ given self.old worker request) }
@@ -71,7 +71,7 @@ impl RequestLists {
         Ok(())
     }
 
-    /// The list of one more worker. The only error is want of memory, and then the list is let go.
+    /// Adds a worker with its list. The only error is out of memory, and then the list is dropped.
     pub fn push(&mut self, requests: Vec<Request>) -> Result<(), AllocError>
         ensures ok { OnOk result (self.new ≡ self.old ++ requests.items ∷ []) }
         ensures err { OnErr result (self.new ≡ self.old) }
@@ -80,7 +80,7 @@ impl RequestLists {
         Ok(())
     }
 
-    /// How many workers there are. It takes no memory.
+    /// The number of workers. Nothing is allocated.
     pub fn len(&self) -> usize
         ensures { result ≡ length self.now }
     {

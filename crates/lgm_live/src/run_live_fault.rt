@@ -1,4 +1,4 @@
-//! Why a run beside workers ends early.
+//! Faults of a run with workers.
 
 ghost use Rattle.std.specs.Prelude.{◌≡◌};
 ghost use Rattle.lgm_live.specs.Running.{line_fault, send_fault, live_fault};
@@ -9,17 +9,17 @@ use lgm_script::{LineFault, SendFault};
 use std::alloc::AllocError;
 use thiserror::Error;
 
-/// Why a script wasn't told. At `Write` and at `NoMemory` a beginning of its text may have been written, at the others
+/// Why a script wasn't answered. At `Write` and `NoMemory` a prefix of its text may have been written, at the others
 /// nothing was.
 #[derive(Clone, Copy, Debug, PartialEq, Eq, Error)]
 pub enum RunLiveFault {
     /// The source failed.
     #[error("read failed")]
     Read,
-    /// The sink failed, or took no byte.
+    /// The sink failed, or accepted no byte.
     #[error("write failed")]
     Write,
-    /// Memory was refused.
+    /// Out of memory.
     #[error("out of memory")]
     NoMemory,
     /// Line 10,000,001 begins.
@@ -28,10 +28,10 @@ pub enum RunLiveFault {
     /// A line has more than 140,000 bytes.
     #[error("line too long")]
     LineTooLong,
-    /// A worker found nothing published, or the board had no place for it.
+    /// A worker found nothing published, or got no place at the board.
     #[error("board closed")]
     Closed,
-    /// A worker answered over a map that isn't that of a batch's end.
+    /// A worker answered on a map that isn't that of the end of a batch.
     #[error("versions disagree")]
     Versions,
 }

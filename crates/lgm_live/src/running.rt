@@ -1,4 +1,4 @@
-//! A script whose payments are answered while its items are admitted.
+//! Running a script whose payments are answered while its items are admitted.
 
 ghost use Rattle.std.specs.Prelude.{◌≡◌, ◌⊎◌, ◌+◌, ◌<◌, ◌≤◌, ◌^◌, [], length, IfSome, IfOk, IfErr, OnErr};
 ghost use Rattle.lgm_script.specs.Device.{Appends, AppendsSome};
@@ -22,7 +22,7 @@ use std::random::RandomSource;
 use std::sync::Wait;
 use std::thread::Threads;
 
-/// Runs a whole script to an output where nothing is gathered.
+/// Runs a whole script to an output with an empty buffer.
 fn run_all<Rt: Threads + Wait + Sync + RandomSource, G: Gate, R: Source, W: Sink>(
     pool: &Pool<'_, Rt, G>,
     source: &mut R,
@@ -61,18 +61,17 @@ fn run_all<Rt: Threads + Wait + Sync + RandomSource, G: Gate, R: Source, W: Sink
     Ok(report)
 }
 
-/// Runs a whole script (see `lgm live` in `docs/script.md`): reads it, lets [`live`] admit its items and answer its
-/// payments side by side, and then writes the text of its lines, in order. Batches of items end at `commit` lines and at
-/// the end. Payments are dealt out to 1 to 64 workers in turn, from worker 0 on. A payment waits until the batches whose
-/// `commit` stands above it are published, so it is answered on them, or on later ones.
+/// Runs a whole script (see `lgm live` in `docs/script.md`): reads it, has [`live`] admit its items and answer its
+/// payments in parallel, and then writes the text of its lines, in order. Batches of items end at `commit` lines and at
+/// the end. Payments are dealt to 1 to 64 workers round-robin, from worker 0 on. A payment waits until the batches
+/// whose `commit` is before it are published, so it is answered on these or on later ones.
 ///
-/// Items and commits are told as by `lgm_server::run`, where no peer has a filter. A payment is told the version of the
-/// map that it was answered on, `same`, and the answer; `same` says that the map of as many operations gives this answer.
-/// Queries and filters are `not-live`. The gate is that of [`live`].
+/// Items and commits are answered as by `lgm_server::run` if no peer has a filter. The answer to a payment has the
+/// version of its map, `same`, and the answer itself; `same` says that the map of that many operations gives this
+/// answer. Queries and filters are `not-live`. The gate is that of [`live`].
 ///
-/// All of the script and of the report is held in memory. At each fault other than `Write` and `NoMemory` nothing was
-/// written; at these nothing, or a beginning of the text. `Read` and `Write` come only where the device failed in this
-/// call.
+/// The whole script and report are kept in memory. At each fault other than `Write` and `NoMemory` nothing was written;
+/// at these nothing, or a prefix of the text. `Read` and `Write` come only if the device failed in this call.
 pub fn run_live<Rt: Threads + Wait + Sync + RandomSource, G: Gate, R: Source, W: Sink>(
     rt: &Rt,
     alloc: Global,
@@ -87,18 +86,18 @@ pub fn run_live<Rt: Threads + Wait + Sync + RandomSource, G: Gate, R: Source, W:
     requires reader { R.failures reader.old + 1 < 2 ^ 64 }
     requires writer { W.failures writer.old + 1 < 2 ^ 64 }
 
-    // The report is one that `live` promises for the whole script, and exactly its text was written.
+    // The report is one as `live` promises for the whole script, and exactly its text was written.
     ensures ok { IfOk result (λ report. IfSome (R.left reader.old)
         (IsToldWhole chain.now known.now workers (Appends (W.taken writer.old) (W.taken writer.new)) report)) }
 
-    // The script is past a limit.
+    // The script exceeds a limit.
     ensures too_many { result ≡ Err RunLiveFault.TooManyLines → IfSome (R.left reader.old) HasMoreLines }
     ensures too_long { result ≡ Err RunLiveFault.LineTooLong → IfSome (R.left reader.old) HasLongLine }
 
-    // Before all is answered nothing is written.
+    // Nothing is written before everything is answered.
     ensures silent { IfErr result (λ fault. ComesFirst fault → W.taken writer.new ≡ W.taken writer.old) }
 
-    // At any fault nothing was written, or a beginning of the text of the whole script and a report on it.
+    // At any fault nothing was written, or a prefix of the text of the whole script and a report on it.
     ensures fault { OnErr result ((W.taken writer.new ≡ W.taken writer.old) ⊎ IfSome (R.left reader.old)
         (IsToldInPart chain.now known.now workers (AppendsSome (W.taken writer.old) (W.taken writer.new)))) }
 

@@ -1,18 +1,18 @@
-//! What a line of a script is told by.
+//! Slots: where the answer to a line is found.
 
-/// What a line of a script is told by, once all is answered.
+/// Where the answer to a line of a script is found, once everything is answered.
 #[derive(Clone, Copy, Debug, PartialEq, Eq)]
 pub(crate) enum Slot {
-    /// It is told nothing.
+    /// There is none.
     Quiet,
-    /// It is no form of the grammar.
+    /// The line isn't a form of the grammar.
     Bad,
-    /// By the next outcome of an item.
+    /// The next outcome of an item.
     Item,
-    /// By the next end of a batch.
+    /// The next end of a batch.
     Commit,
-    /// It asks what isn't answered here.
+    /// The line requests what isn't answered here.
     NotLive,
-    /// By the next answer to a payment, which has this secret.
+    /// The next answer to a payment, which has this secret.
     Payment([u8; 32]),
 }

@@ -1,4 +1,4 @@
-//! The text of a script and of the report on it.
+//! Writing the text of a script and of the report on it.
 
 ghost use Rattle.std.specs.Prelude.{◌≡◌, ◌≤◌, ◌+◌, ◌<◌, ◌^◌, [], length, IsSome, IfErr, OnOk, OnErr};
 ghost use Rattle.std.specs.Option.{option_map};
@@ -17,7 +17,7 @@ use lgm_script::{Output, SendFault, Sink};
 use lgm_server::{outcome_word, send_route};
 use std::alloc::Global;
 
-/// Where the next outcome, end and answer of a report stand.
+/// The indices of the next outcome, end and answer of a report.
 #[derive(Clone, Copy)]
 pub(crate) struct Place {
     items: usize,
@@ -26,7 +26,7 @@ pub(crate) struct Place {
 }
 
 impl Place {
-    /// The place behind a slot.
+    /// The indices after a slot.
     fn pass(self, slot: Slot) -> Place
         requires items { self.items + 1 < 2 ^ 64 }
         requires ends { self.ends + 1 < 2 ^ 64 }
@@ -52,7 +52,7 @@ impl Place {
     }
 }
 
-/// The answer to a payment, by its place among all that were dealt out to so many workers in turn.
+/// The answer to a payment, by its index among all that were dealt to this many workers round-robin.
 fn answer_at(answers: &[Vec<LiveAnswer>], workers: usize, place: usize) -> Option<&LiveAnswer>
     requires { 0 < workers }
     ensures { option_map (λ answer. answer.now) result ≡ answer_at workers answers.now place }
@@ -60,7 +60,7 @@ fn answer_at(answers: &[Vec<LiveAnswer>], workers: usize, place: usize) -> Optio
     answers.get(place % workers)?.get(place / workers)
 }
 
-/// Tells a route with the payloads of its hops, or why there is none.
+/// Writes a route with the payloads of its hops, or why there is none.
 fn tell_result<W: Sink>(
     alloc: Global,
     number: u64,
@@ -82,8 +82,8 @@ fn tell_result<W: Sink>(
     }
 }
 
-/// Tells an answer to a payment: the version of the map that it was found on, and the answer. That the map of as many
-/// operations gives the same is proved of each report of `live`, so it isn't looked for again.
+/// Writes the answer to a payment, with the version of its map. That the map of that many operations gives the same
+/// answer is proved of each report of `live`, so it isn't computed again.
 fn tell_answer<W: Sink>(
     alloc: Global,
     number: u64,
@@ -102,7 +102,7 @@ fn tell_answer<W: Sink>(
     tell_result(alloc, number, secret, &answer.result, output)
 }
 
-/// Tells the line of that number what its slot says.
+/// Writes the answer to the line with this number, by its slot.
 fn tell_slot<W: Sink>(
     alloc: Global,
     workers: usize,
@@ -134,7 +134,7 @@ fn tell_slot<W: Sink>(
     }
 }
 
-/// Tells each line what its slot says. Some of the text may still be gathered.
+/// Writes the answer to each line, by its slot. Some of the text may still be buffered.
 fn tell_slots<W: Sink>(
     alloc: Global,
     workers: usize,
@@ -164,8 +164,8 @@ fn tell_slots<W: Sink>(
     Ok(())
 }
 
-/// Writes the text of a script and of the report on it, to an output where nothing is gathered. Where memory is refused,
-/// the lines before are written.
+/// Writes the text of a script and of the report on it, to an output with an empty buffer. If memory runs out, the
+/// lines before are written.
 pub(crate) fn tell<W: Sink>(
     alloc: Global,
     workers: usize,

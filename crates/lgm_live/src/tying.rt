@@ -1,4 +1,4 @@
-//! The workers' answers, beside what the writer published.
+//! Relating the workers' answers to what the writer published.
 
 ghost use Rattle.std.specs.Prelude.{◌≡◌, ◌≤◌, length, All, IsTrue, IfOk};
 ghost use Rattle.std.specs.List.{AllZip};
@@ -11,14 +11,14 @@ use crate::working::Worked;
 use lgm_publish::Pen;
 use std::alloc::Global;
 
-/// Whether an answer is over the empty map or over that of a batch's end.
+/// Whether an answer is on the empty map or on that of the end of a batch.
 fn is_at_end(ends: &[u64], answer: &LiveAnswer) -> bool
     ensures { IsTrue result → IsAtEnd ends.now answer.now }
 {
     answer.version == 0 || ends.binary_search(&answer.version).is_ok()
 }
 
-/// Whether each answer is over the empty map or over that of a batch's end.
+/// Whether each answer is on the empty map or on that of the end of a batch.
 fn are_at_ends(ends: &[u64], answers: &[LiveAnswer]) -> bool
     ensures { IsTrue result → All (IsAtEnd ends.now) answers.now }
 {
@@ -30,7 +30,7 @@ fn are_at_ends(ends: &[u64], answers: &[LiveAnswer]) -> bool
     true
 }
 
-/// A worker's answers, once its eye has learned what is published.
+/// A worker's answers, after its eye has learned what is published.
 fn tie(pen: &mut Pen, ends: &[u64], worked: Worked) -> Result<Vec<LiveAnswer>, LiveFault>
     requires board { worked.eye.board ≡ pen.old.board }
     requires within { All (λ end. end ≤ length pen.old.published) ends.now }
@@ -45,7 +45,7 @@ fn tie(pen: &mut Pen, ends: &[u64], worked: Worked) -> Result<Vec<LiveAnswer>, L
     Ok(answers)
 }
 
-/// The answers of all workers, once their eyes have learned what is published.
+/// The answers of all workers, after their eyes have learned what is published.
 pub(crate) fn tie_all(
     alloc: Global,
     pen: &mut Pen,

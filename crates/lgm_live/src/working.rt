@@ -18,14 +18,14 @@ use std::alloc::Global;
 use std::marker::Sync;
 use std::thread::{Threads, join};
 
-/// What a worker has done: its answers, and the eye that it answered by.
+/// What a worker has done: its answers, and its eye.
 #[derive(Drop)]
 pub(crate) struct Worked {
     pub(crate) eye: Eye,
     pub(crate) answers: Vec<LiveAnswer>,
 }
 
-/// The least route of a payment over the edges of the map that a guard shows.
+/// The best route of a payment over the edges of the map that a guard shows.
 fn find(alloc: Global, guard: &Guard, request: &Request) -> Result<Route, RouteFault>
     ensures { (result ≡ Err RouteFault.NoMemory) ⊎
         (result ≡ answer_of (edges_of guard.now.known (fold guard.now.ops)) request.now) }
@@ -33,7 +33,7 @@ fn find(alloc: Global, guard: &Guard, request: &Request) -> Result<Route, RouteF
     lgm_route::answer(alloc, guard.map(), guard.view(), request)
 }
 
-/// Answers a payment over the map that a guard shows.
+/// Answers a payment on the map that a guard shows.
 fn answer(alloc: Global, guard: &Guard, request: &Request) -> Result<LiveAnswer, LiveFault>
     ensures version { IfOk result (λ answer. answer.version ≡ length guard.now.ops) }
     ensures result { IfOk result (λ answer. answer.result ≡ answer_of (edges_of guard.now.known (fold guard.now.ops)) request.now) }
@@ -47,7 +47,7 @@ fn answer(alloc: Global, guard: &Guard, request: &Request) -> Result<LiveAnswer,
     }
 }
 
-/// Answers the payments of a list, one after the other, each over the map that was published last.
+/// Answers the payments of a list, one after the other, each on the map published last.
 fn work<G: Gate>(
     alloc: Global,
     gate: &G,
@@ -74,7 +74,7 @@ fn work<G: Gate>(
     Ok(Worked { eye: own, answers })
 }
 
-/// Answers each list by its eye, side by side with the others. The workers are counted from `first` on.
+/// Answers each list with its eye, in parallel with the others. The workers are numbered from `first` on.
 pub(crate) fn work_all<R: Threads + Sync, G: Gate>(
     rt: &R,
     alloc: Global,
@@ -116,7 +116,7 @@ pub(crate) fn work_all<R: Threads + Sync, G: Gate>(
     Ok(works)
 }
 
-/// Answers the only list by the only eye.
+/// Answers a single list with a single eye.
 fn work_alone<G: Gate>(
     alloc: Global,
     gate: &G,

@@ -21,18 +21,18 @@ use std::sync::Wait;
 /// What the writer has done so far.
 #[derive(Drop)]
 pub(crate) struct Written {
-    /// The map of what was accepted.
+    /// The map of all accepted items.
     pub(crate) map: Map,
-    /// Why each item was refused, or none.
+    /// For each item, why it was refused, or none.
     pub(crate) outcomes: Vec<Option<Refusal>>,
     /// The operations of the accepted items.
     pub(crate) ops: Vec<Op>,
-    /// How many operations there were after each batch.
+    /// The number of operations after each batch.
     pub(crate) ends: Vec<u64>,
 }
 
 impl Written {
-    /// Nothing yet. The map's points will be hashed by the seed.
+    /// Nothing yet. Points of the map will be hashed with the seed.
     fn new(alloc: Global, seed: Seed) -> Result<Written, AllocError>
         ensures written { (chain : _) → IfOk result (IsWritten chain []) }
         ensures ends { IfOk result (λ written. written.ends.items ≡ []) }
@@ -46,7 +46,7 @@ impl Written {
         })
     }
 
-    /// Appends the operation of an accepted item, and keeps a copy.
+    /// Appends the operation of an accepted item, and stores a copy.
     fn keep(&mut self, alloc: Global, pen: &mut Pen, op: Op) -> Result<(), LiveFault>
         requires few { length (pen.old.published ++ pen.old.pending) < 2000000000 }
         ensures map { self.new.map ≡ self.old.map }
@@ -97,7 +97,7 @@ impl Written {
         Ok(())
     }
 
-    /// Publishes what was appended, and notes how much there is.
+    /// Publishes what was appended, and stores the number of operations.
     fn publish<R: Wait>(&mut self, rt: &R, pen: &mut Pen) -> Result<(), LiveFault>
         requires appended { pen.old.published ++ pen.old.pending ≡ self.old.ops.items }
         ensures map { self.new.map ≡ self.old.map }

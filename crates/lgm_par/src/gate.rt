@@ -1,21 +1,19 @@
-//! What each piece of work passes before it begins, and what is told behind each publication.
+//! Gates, which each chunk passes before it starts, and which are notified of each publication.
 
 use std::marker::Sync;
 
-/// What each piece of work passes once before it begins, as a test that holds one piece up until
-/// another has begun. Who publishes tells it what is published, so that a piece can be held until then.
-/// No answer depends on it.
+/// Each chunk of work passes the gate once before it starts; a test can thus hold one chunk until another has started.
+/// The publisher notifies the gate, so that a chunk can be held until something is published. No result depends on it.
 pub trait Gate: Sync {
-    /// Called before piece `piece` begins, counted from 0, on the thread that does it. It may
-    /// wait.
+    /// Called before chunk `piece`, counted from 0, starts, on the thread that runs it. It may wait.
     fn pass(&self, piece: usize);
 
-    /// Called when so many batches were published, on the thread that publishes; in the end, whether
-    /// all were or not, with `usize::MAX`: no more will be.
+    /// Called with the number of batches published so far, on the thread that publishes; at the end, whether all were
+    /// published or not, with `usize::MAX`: no more will be.
     fn published(&self, _batches: usize) {}
 }
 
-/// The gate that holds nothing up.
+/// The gate that holds nothing.
 #[derive(Clone, Copy, Debug)]
 pub struct Open;
 

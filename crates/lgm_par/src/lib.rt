@@ -1,5 +1,5 @@
-//! Work over a slice, cut into pieces that threads do side by side: the answers are those of one
-//! thread, in the slice's order.
+//! Data parallelism over a slice: it is split into chunks for several threads, and the results are
+//! those of one thread, in the order of the slice.
 #![tactic(auto)]
 
 mod gate;

@@ -1,4 +1,4 @@
-//! The answers of a function at each item of a slice.
+//! Mapping a function over a slice.
 
 ghost use Rattle.std.specs.Prelude.{◌≡◌, ℕ, ◌+◌, ◌<◌, ◌≤◌, length, IfOk};
 ghost use Rattle.std.specs.Fn.{FnReturnsAt};
@@ -9,7 +9,7 @@ use std::alloc::{AllocError, Global};
 use std::thread;
 use std::thread::Threads;
 
-/// Where a piece begins.
+/// The start of a chunk.
 #[tactic(auto, unfolding(crate::specs::Pieces::piece_start))]
 fn start_of(len: usize, pieces: usize, piece: usize) -> usize
     requires some { 0 < pieces }
@@ -20,7 +20,7 @@ fn start_of(len: usize, pieces: usize, piece: usize) -> usize
     piece * (len / pieces) + piece.min(len % pieces)
 }
 
-/// The items of a piece.
+/// The items of a chunk.
 #[tactic(auto, using(crate::proofs::Cutting::starts_rise))]
 pub(crate) fn piece_at<T>(items: &[T], pieces: usize, piece: usize) -> &[T]
     requires { piece < pieces }
@@ -33,7 +33,7 @@ pub(crate) fn piece_at<T>(items: &[T], pieces: usize, piece: usize) -> &[T]
     part
 }
 
-/// The answer of one item.
+/// The result for one item.
 fn answer_at<T, A, F: Fn(&T) -> A>(f: &F, item: &T) -> A
     requires { AcceptsItem F.Fn f.now item.now }
     ensures { FnReturnsAt F.Fn f.now item.now result }
@@ -41,7 +41,7 @@ fn answer_at<T, A, F: Fn(&T) -> A>(f: &F, item: &T) -> A
     f(item)
 }
 
-/// The answers of one piece.
+/// The results for one chunk.
 fn map_piece<T, A: Drop, F: Fn(&T) -> A>(
     alloc: Global,
     items: &[T],
@@ -57,18 +57,17 @@ fn map_piece<T, A: Drop, F: Fn(&T) -> A>(
     Ok(answers)
 }
 
-/// The answers of `f` at each item, in the slice's order, whatever the number of workers and
-/// whatever the gate does.
+/// The results of `f` for each item, in the order of the slice, whatever the number of workers and whatever the gate
+/// does.
 ///
-/// The slice of n items is cut into p pieces that lie one after the other, p the lesser of
-/// `workers` and n; the first `n mod p` of them are one item longer than the others. Each piece
-/// passes the gate with its number, from 0, and is then done, side by side with the others: on a
-/// thread of its own, or on one that is there where no more can be started. One piece alone is done
-/// on the caller's thread. An empty slice starts no thread and passes no gate. The call waits for all
-/// pieces.
+/// The slice of n items is split into p consecutive chunks, where p is the lesser of `workers` and n; the first `n mod
+/// p` of them have one more item than the others. Each chunk passes the gate with its number, from 0, and is then
+/// processed in parallel with the others: on a thread of its own, or on an existing one if no more can be started. A
+/// single chunk is processed on the caller's thread. An empty slice starts no thread and passes no gate. The call waits
+/// for all chunks.
 ///
-/// `f` must be callable on each item. `AllocError` comes where memory for a list of answers was
-/// refused; what `f` answered until then is dropped.
+/// `f` must be callable on each item. The error is out of memory for a list of results; the results computed so far are
+/// dropped.
 pub fn map_chunks<Rt: Threads + Sync, G: Gate, T: Sync, A: Send + Drop, F: Fn(&T) -> A + Sync>(
     rt: &Rt,
     alloc: Global,

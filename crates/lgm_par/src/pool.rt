@@ -1,4 +1,4 @@
-//! Workers that share a piece of work.
+//! Workers that share work.
 
 ghost use Rattle.std.specs.Prelude.{◌≤◌, ℕ, IfOk};
 ghost use Rattle.lgm_par.specs.Pieces.{AcceptsAll, GivesAll};
@@ -9,23 +9,23 @@ use std::alloc::{AllocError, Global};
 use std::marker::Sync;
 use std::thread::Threads;
 
-/// From 1 to 64 workers, with what they need. No answer depends on any of it.
+/// From 1 to 64 workers, with what they need. No result depends on any of it.
 #[derive(Drop)]
 pub struct Pool<'a, Rt, G> {
-    /// Who starts their threads.
+    /// The runtime that starts threads.
     pub rt: &'a Rt,
-    /// The memory that they take.
+    /// The allocator.
     pub alloc: Global,
-    /// How many they are, from 1 to 64.
+    /// The number of workers, from 1 to 64.
     pub workers: usize,
-    /// What each piece of work passes before it begins.
+    /// What each chunk of work passes before it starts.
     pub gate: &'a G,
     ghost some: { 1 ≤ workers },
     ghost few: { workers ≤ 64 },
 }
 
 impl<'a, Rt: Threads + Sync, G: Gate> Pool<'a, Rt, G> {
-    /// The same, with at most so many workers.
+    /// The same with at most `most` workers.
     pub fn at_most(&self, most: usize) -> Pool<'a, Rt, G>
         requires { 1 ≤ most }
     {
@@ -37,7 +37,7 @@ impl<'a, Rt: Threads + Sync, G: Gate> Pool<'a, Rt, G> {
         }
     }
 
-    /// The answers of `f` at each item, in the slice's order: see [`map_chunks`].
+    /// The results of `f` for each item, in the order of the slice: see [`map_chunks`].
     pub fn map<T: Sync, A: Send + Drop, F: Fn(&T) -> A + Sync>(
         &self,
         items: &[T],

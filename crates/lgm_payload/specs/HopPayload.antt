@@ -1,4 +1,5 @@
--- Which bytes spell which payload. This is what `read` promises; the module Reading is how it is told.
+-- Which bytes encode which payload. This is what `read` promises; the module Reading defines in which order they are
+-- parsed.
 use Rattle.std.specs.Prelude.{◌≡◌, ◌⊎◌, ℕ, ◌<◌, ◌^◌, ◌%◌, List, [], ◌∷◌, ◌++◌, length, Option, Some, None, ◌==◌, if◌then◌else◌}
 use Rattle.std.specs.Int.{w64, to_be_bytes}
 use Rattle.std.specs.List.{flat_map, AllByRecursion}
@@ -9,17 +10,17 @@ use Rattle.lgm_wire.specs.Tlv.{TlvRecord, IsTlvStream, record_bytes}
 use Rattle.lgm_payload.specs.declared.hop_payload.HopPayload.{HopPayload}
 use Rattle.lgm_payload.specs.declared.hop_payload.Payment.{Payment}
 
--- the value of a record of this type, unless one behind it is of this type
+-- the value of a record of this type, unless a later one is of this type
 abbrev pub value_before : ℕ → TlvRecord → Option (List ℕ) → Option (List ℕ)
 value_before kind r (Some value) = Some value
 value_before kind r None = if r.kind == kind then Some r.value else None
 
--- the value of the record of this type, of which a stream has one at most
+-- the value of the record of this type, of which a stream has at most one
 abbrev pub value_of : ℕ → List TlvRecord → Option (List ℕ)
 value_of kind [] = None
 value_of kind (r ∷ rs) = value_before kind r (value_of kind rs)
 
--- the secret, and behind it the total
+-- the secret, and then the total
 abbrev pub payment_bytes : Payment → List ℕ
 payment_bytes payment = payment.secret ++ truncated_bytes payment.total
 
@@ -35,17 +36,17 @@ pub record Fits (payload : HopPayload) : Type 0 where
   pub secret : ForSome payload.payment (λ payment. length payment.secret ≡ 32)
   pub total : ForSome payload.payment (λ payment. payment.total < 2 ^ 64)
 
--- it isn't both to be passed on and for the payee
+-- it isn't both to be forwarded and for the payee
 abbrev pub IsOneWay : HopPayload → Type 0
 IsOneWay payload = (payload.next ≡ None) ⊎ (payload.payment ≡ None)
 
--- the length of a text, and the text
+-- the length of a text, and then the text
 pub record IsFramed (text bytes : List ℕ) : Type 0 where
   pub whole : bytes ≡ bigsize_bytes (length text) ++ text
   pub len : length text < 2 ^ 64
 
--- the bytes are a length and a stream of records of known and of odd types, and the records of known
--- types have the payload's fields as their values
+-- the bytes are a length and a stream of records of known or odd types, and the values of the known records are the
+-- payload's fields
 pub record IsPayload (payload : HopPayload) (bytes : List ℕ) : Type 0 where
   pub text : List ℕ
   pub framed : IsFramed text bytes
@@ -80,6 +81,6 @@ records_of payload =
 abbrev pub text_of : HopPayload → List ℕ
 text_of payload = flat_map record_bytes (records_of payload)
 
--- the spelling of a payload that has no other records
+-- the encoding of a payload without other records
 abbrev pub payload_bytes : HopPayload → List ℕ
 payload_bytes payload = bigsize_bytes (length (text_of payload)) ++ text_of payload

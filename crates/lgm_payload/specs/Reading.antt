@@ -22,7 +22,7 @@ abbrev pub unless : {A : Type 0} → Option PayloadFault → A → Result A Payl
 unless None x = Ok x
 unless (Some fault) x = Err fault
 
--- behind the length, which is that of all that follows
+-- the bytes after the length, if that is their number
 abbrev pub behind_len : Result (ℕ × List ℕ) WireFault → Result (List ℕ) PayloadFault
 behind_len (Ok x) = if x.0 == length x.1 then Ok x.1 else Err Length
 behind_len (Err e) = Err Length
@@ -38,7 +38,7 @@ or_tlv (Err fault) = Err (Tlv fault)
 abbrev pub stream_at : List ℕ → Result (List TlvRecord) PayloadFault
 stream_at text = or_tlv (tlvs_of text)
 
--- a number that has too many bytes, or a zero in front
+-- a number with too many bytes, or a leading zero
 abbrev pub number_fault : ℕ → ℕ → List ℕ → Option PayloadFault
 number_fault kind most value =
     if nat_lt most (length value) then Some (Kind kind)
@@ -55,7 +55,7 @@ scid_fault value = if length value == 8 then None else Some (Kind 6)
 abbrev pub scid_at : List ℕ → Result ℕ PayloadFault
 scid_at value = unless (scid_fault value) (from_be_bytes w64 value)
 
--- a payment with no whole secret, or a total at fault
+-- a payment without a complete secret, or with a faulty total
 abbrev pub payment_fault : List ℕ → Option PayloadFault
 payment_fault value = if nat_lt (length value) 32 then Some (Kind 8) else number_fault 8 8 (drop 32 value)
 
@@ -68,7 +68,7 @@ payment_at value = unless (payment_fault value) (payment_of value)
 abbrev pub is_blinded : ℕ → Bool
 is_blinded kind = (kind == 10) || ((kind == 12) || (kind == 18))
 
--- the fault of a type that isn't known
+-- the fault of an unknown type
 abbrev pub unknown_fault : ℕ → Option PayloadFault
 unknown_fault kind =
     if is_blinded kind then Some Blinded
@@ -85,17 +85,17 @@ record_fault r =
     else if r.kind == 16 then None
     else unknown_fault r.kind
 
--- a fault, or the first of those behind it
+-- a fault, or the first later one
 abbrev pub or_later : Option PayloadFault → Option PayloadFault → Option PayloadFault
 or_later None later = later
 or_later (Some fault) later = Some fault
 
--- the first record at fault decides
+-- the first faulty record decides
 abbrev pub first_fault : List TlvRecord → Option PayloadFault
 first_fault [] = None
 first_fault (r ∷ rs) = or_later (record_fault r) (first_fault rs)
 
--- what is known behind one more record
+-- the values with one more record
 abbrev pub with_record : Known → TlvRecord → Known
 with_record known r = record {
   amount = if r.kind == 2 then Some (number_of r.value) else known.amount;
@@ -110,7 +110,7 @@ abbrev pub IsTaken : Known → TlvRecord → Result (Unit {0}) PayloadFault → 
 IsTaken known r (Ok _) after = (record_fault r ≡ None) × (after ≡ with_record known r)
 IsTaken known r (Err fault) after = (fault ≡ NoMemory) ⊎ (record_fault r ≡ Some fault)
 
--- what all of the records tell
+-- the values in all records
 abbrev pub known_in : List TlvRecord → Known
 known_in records = record {
   amount = option_map number_of (value_of 2 records);
@@ -123,7 +123,7 @@ known_in records = record {
 abbrev pub known_at : List TlvRecord → Result Known PayloadFault
 known_at records = unless (first_fault records) (known_in records)
 
--- an amount and an expiry are there, and not both a next channel and a payment
+-- there are an amount and an expiry, and not both a next channel and a payment
 abbrev pub whole_of : Option ℕ → Option ℕ → Option ℕ → Option Payment → Option (List ℕ) → Result HopPayload PayloadFault
 whole_of (Some amount) (Some expiry) next payment metadata =
     if is_some next && is_some payment then Err Extra

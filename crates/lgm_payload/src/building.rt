@@ -1,4 +1,4 @@
-//! The payloads of a route.
+//! Building the payloads of a route.
 
 ghost use Rattle.std.specs.Prelude.{◌≡◌, ◌≤◌, ◌+◌, IfOk, length};
 ghost use Rattle.std.specs.List.{sum_by};
@@ -10,7 +10,7 @@ use crate::writing::write;
 use lgm_route::{Hop, Route};
 use std::alloc::{AllocError, Global};
 
-/// What the node before a hop is told: to pass the payment on over it.
+/// The payload of the node before a hop: to forward the payment over it.
 fn forward(next: &Hop) -> HopPayload
     ensures { result ≡ forward next.now }
 {
@@ -23,7 +23,7 @@ fn forward(next: &Hop) -> HopPayload
     }
 }
 
-/// What the node at the end of the last hop is told.
+/// The payload of the node at the end of the last hop.
 fn arrival(last: &Hop, secret: &[u8; 32]) -> HopPayload
     ensures { result ≡ arrival secret.now last.now }
 {
@@ -39,15 +39,15 @@ fn arrival(last: &Hop, secret: &[u8; 32]) -> HopPayload
     }
 }
 
-/// The payloads of a route's hops, each with its length in front: hop by hop what the node at its
-/// end is told. That is what to offer over the next hop, or at the last one what the payee gets,
-/// with the payment secret and the amount as the total. (BOLT 4, "Payload Format".)
+/// The payloads of a route's hops, each preceded by its length; each is for the node at the end of
+/// the hop. It says what to offer over the next hop; that of the last hop says what the payee
+/// receives, with the payment secret and the amount as the total. (BOLT 4, "Payload Format".)
 ///
-/// The only error is want of memory.
+/// The only error is out of memory.
 pub fn build(alloc: Global, route: &Route, secret: &[u8; 32]) -> Result<Payloads, AllocError>
     ensures payloads { IfOk result (λ payloads. payloads ≡ payloads_of secret.now route.now) }
 
-    // Each with its HMAC, they fit the 1,300 bytes of an onion packet.
+    // With an HMAC each, they fit the 1,300 bytes of an onion packet.
     ensures fits { IfOk result (λ payloads. onion_len payloads ≤ 1300) }
 {
     let hops = route.as_slice();
@@ -60,9 +60,9 @@ pub fn build(alloc: Global, route: &Route, secret: &[u8; 32]) -> Result<Payloads
     Ok(Payloads::from_vec(payloads))
 }
 
-/// A law of payloads, of which the contract is the statement; the call does nothing.
+/// A law of payloads, stated by the contract; the call does nothing.
 ///
-/// Each payload that `build` gives spells what it was built from, so that `read` gives that back.
+/// Each payload that `build` returns encodes what it was built from, so `read` returns that.
 pub fn built_is_read()
     ensures { BuiltIsSpelled }
 {}

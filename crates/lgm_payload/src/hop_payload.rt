@@ -1,28 +1,28 @@
-//! What a node on the way of a payment is told.
+//! Payloads as values.
 
 use lgm_gossip::{Bytes, Scid};
 
-/// What one node on the way of a payment is told (BOLT 4, "Payload Format"). A node that passes the
-/// payment on finds `next`, and the one that is paid `payment`.
+/// The payload of one hop (BOLT 4, "Payload Format"). A forwarding node finds `next`, and the payee
+/// `payment`.
 #[derive(Debug, Drop)]
 pub struct HopPayload {
-    /// `amt_to_forward`: what the node is to pass on, or to get, in msat.
+    /// `amt_to_forward`: what the node forwards, or receives, in msat.
     pub amount: u64,
-    /// `outgoing_cltv_value`: the block height at which what it passes on, or gets, expires.
+    /// `outgoing_cltv_value`: the block height at which what it forwards, or receives, expires.
     pub expiry: u32,
-    /// `short_channel_id`: the channel to pass it on over.
+    /// `short_channel_id`: the channel to forward over.
     pub next: Option<Scid>,
-    /// `payment_data`: what the payee knows the payment by.
+    /// `payment_data`: by which the payee recognizes the payment.
     pub payment: Option<Payment>,
-    /// `payment_metadata`: bytes that the payee asked to be given back.
+    /// `payment_metadata`: bytes that the payee asked the payer to return.
     pub metadata: Option<Bytes>,
 }
 
-/// What a payee knows a payment by (BOLT 4, "Payload Format", type 8).
+/// By which a payee recognizes a payment (BOLT 4, "Payload Format", type 8).
 #[derive(Clone, Copy, Debug, PartialEq, Eq)]
 pub struct Payment {
     /// The payment secret, from the invoice.
     pub secret: [u8; 32],
-    /// What the whole payment comes to, in msat.
+    /// The total of the payment, in msat.
     pub total: u64,
 }

@@ -1,7 +1,7 @@
-//! The payloads of a payment's hops: what each node on the way is told, as BOLT 4 spells it.
+//! The onion payloads of a payment's hops (BOLT 4).
 //!
-//! [`build`] gives the payloads of a route, one for each hop; [`read`] takes the bytes of one, and
-//! gives what they tell or their first fault. Contracts say which bytes spell which payload.
+//! [`build`] makes the payloads of a route, one per hop; [`read`] parses one, or reports its first
+//! fault. Contracts say which bytes encode which payload.
 #![tactic(auto)]
 
 mod building;

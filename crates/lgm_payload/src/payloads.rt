@@ -1,12 +1,12 @@
-//! The payloads of a route.
+//! Lists of payloads.
 
 ghost use Rattle.std.specs.Prelude.{◌≡◌, ℕ, List};
 
 use lgm_gossip::Bytes;
 use std::marker::Model;
 
-/// The payloads of a route's hops, in their order, each as its bytes. Contracts see the list of
-/// lists of bytes.
+/// The payloads of a route's hops, in order, each as its bytes. Contracts see the list of lists of
+/// bytes.
 #[derive(Debug, Drop)]
 pub struct Payloads {
     items: Vec<Bytes>,
@@ -19,7 +19,7 @@ impl Model for Payloads {
 }
 
 impl Payloads {
-    /// The payloads of a vector, without a copy.
+    /// Wraps a vector, without a copy.
     pub fn from_vec(items: Vec<Bytes>) -> Payloads
         ensures { result ≡ items.items }
     {

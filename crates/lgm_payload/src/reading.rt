@@ -1,4 +1,4 @@
-//! Payloads from bytes.
+//! Parsing of payloads.
 
 ghost use Rattle.std.specs.Prelude.{◌≡◌, ◌⊎◌, ℕ, List, IfOk, IfErr, MatchResult, Some, None, ◌<◌, ◌≤◌, ◌^◌, slice_index};
 ghost use Rattle.lgm_wire.specs.Reading.{Sees, Gives};
@@ -13,7 +13,7 @@ use lgm_gossip::{Bytes, Scid};
 use lgm_wire::{Tlv, Tlvs, WireFault, read_bigsize, read_tlvs, read_tu};
 use std::alloc::Global;
 
-/// What the records so far tell.
+/// The values found in the records so far.
 #[derive(Drop)]
 struct Known {
     amount: Option<u64>,
@@ -23,7 +23,7 @@ struct Known {
     metadata: Option<Bytes>,
 }
 
-/// The bytes behind the length, which are as many as it says.
+/// The bytes after the length, if that is their number.
 fn text(bytes: &[u8]) -> Result<&[u8], PayloadFault>
     ensures { Sees (λ text. text.now) result (text_at bytes.now) }
 {
@@ -36,7 +36,7 @@ fn text(bytes: &[u8]) -> Result<&[u8], PayloadFault>
     }
 }
 
-/// The records of a stream, which is all of the bytes.
+/// The records of a stream that is all of the bytes.
 fn records<'a>(alloc: Global, bytes: &'a [u8]) -> Result<Tlvs<'a>, PayloadFault>
     ensures { Gives PayloadFault.NoMemory (λ records. records) result (stream_at bytes.now) }
 {
@@ -47,7 +47,7 @@ fn records<'a>(alloc: Global, bytes: &'a [u8]) -> Result<Tlvs<'a>, PayloadFault>
     }
 }
 
-/// The number that the value of a record of this type is, of up to so many bytes.
+/// The value of a record of this type as a truncated integer of up to `max` bytes.
 fn number(kind: u64, max: usize, value: &[u8]) -> Result<u64, PayloadFault>
     requires some { 1 ≤ max }
     requires fits { max ≤ 8 }
@@ -60,7 +60,7 @@ fn number(kind: u64, max: usize, value: &[u8]) -> Result<u64, PayloadFault>
     }
 }
 
-/// The channel that the value of a record of type 6 is.
+/// The value of a record of type 6.
 fn scid(value: &[u8]) -> Result<Scid, PayloadFault>
     ensures { Sees (λ scid. scid) result (scid_at value.now) }
 {
@@ -72,7 +72,7 @@ fn scid(value: &[u8]) -> Result<Scid, PayloadFault>
     }
 }
 
-/// What the value of a record of type 8 tells.
+/// The value of a record of type 8.
 fn payment(value: &[u8]) -> Result<Payment, PayloadFault>
     ensures { Sees (λ payment. payment) result (payment_at value.now) }
 {
@@ -85,7 +85,7 @@ fn payment(value: &[u8]) -> Result<Payment, PayloadFault>
     })
 }
 
-/// Takes note of one more record. At a fault what is known may be let go.
+/// Adds the value of one more record. After a fault the values found before may be lost.
 fn take(alloc: Global, known: &mut Known, tlv: &Tlv) -> Result<(), PayloadFault>
     ensures { IsTaken known.old (record_of tlv.now) result known.new }
 {
@@ -102,7 +102,7 @@ fn take(alloc: Global, known: &mut Known, tlv: &Tlv) -> Result<(), PayloadFault>
     Ok(())
 }
 
-/// What the records tell.
+/// The values found in all records.
 fn told(alloc: Global, records: &[Tlv]) -> Result<Known, PayloadFault>
     ensures { Gives PayloadFault.NoMemory (λ known. known) result (known_at (records_of records.now)) }
 {
@@ -119,7 +119,7 @@ fn told(alloc: Global, records: &[Tlv]) -> Result<Known, PayloadFault>
     Ok(known)
 }
 
-/// The payload of what is known.
+/// The payload with these values.
 fn payload(known: Known) -> Result<HopPayload, PayloadFault>
     ensures { Sees (λ payload. payload) result (whole known) }
 {
@@ -138,7 +138,7 @@ fn payload(known: Known) -> Result<HopPayload, PayloadFault>
     })
 }
 
-/// The payload that the bytes are, its length in front.
+/// Parses a payload, which begins with its length.
 #[tactic(auto, unfolding(crate::specs::Reading::payload_at))]
 fn parse(alloc: Global, bytes: &[u8]) -> Result<HopPayload, PayloadFault>
     ensures { Gives PayloadFault.NoMemory (λ payload. payload) result (payload_at bytes.now) }
@@ -148,28 +148,29 @@ fn parse(alloc: Global, bytes: &[u8]) -> Result<HopPayload, PayloadFault>
     payload(told(alloc, records.as_slice())?)
 }
 
-/// Reads the payload that all of the bytes are, its length in front (BOLT 4, "Payload Format").
+/// Parses a payload, which is all of the bytes and begins with its length (BOLT 4, "Payload
+/// Format").
 ///
-/// Any bytes of any length may be given. The faults come in the order of [`PayloadFault`]'s
-/// variants: the length; the first fault of the stream of records; the first record that is at
-/// fault, `Blinded` or `Kind`; `Missing`; `Extra`. Records of unknown odd types are skipped.
-/// `NoMemory` says nothing of the bytes.
+/// Any bytes of any length are allowed. Faults are checked in the order of [`PayloadFault`]'s
+/// variants: the length; the first fault of the TLV stream; the first faulty record, `Blinded` or
+/// `Kind`; `Missing`; `Extra`. Unknown odd types are skipped. `NoMemory` says nothing about the
+/// bytes.
 pub fn read(alloc: Global, bytes: &[u8]) -> Result<HopPayload, PayloadFault>
-    // What is found is spelled by the bytes, and nothing else is.
+    // A payload is returned if and only if the bytes encode it.
     ensures found { IfOk result (λ payload. IsPayload payload bytes.now) }
     ensures only { (payload : HopPayload) → IsPayload payload bytes.now →
         MatchResult result (λ found. found ≡ payload) (λ e. e ≡ PayloadFault.NoMemory) }
 
-    // Another fault than want of memory is the first one of the order.
+    // Any fault but out of memory is the first one in the order above.
     ensures fault { IfErr result (λ e. (e ≡ PayloadFault.NoMemory) ⊎ (fault bytes.now ≡ Some e)) }
 
-    // The same in one: what reading the bytes gives.
+    // The same in one clause: the result of reading the bytes.
     ensures exact { Gives PayloadFault.NoMemory (λ payload. payload) result (payload_at bytes.now) }
 {
     parse(alloc, bytes)
 }
 
-/// Laws of the payloads: bytes spell at most one, and spell one exactly where they have no fault.
+/// Laws of payloads: bytes encode at most one, and exactly one if and only if they have no fault.
 pub fn one_payload()
     ensures once { (p q : HopPayload) (b : List ℕ) → IsPayload p b → IsPayload q b → p ≡ q }
     ensures spelled { (b : List ℕ) → ((i : ℕ) → slice_index b i < 256)

@@ -1,4 +1,4 @@
-//! The bytes of a payload.
+//! Encoding of payloads.
 
 ghost use Rattle.std.specs.Prelude.{◌≡◌, ◌++◌, OnOk, IfOk};
 ghost use Rattle.std.specs.Int.{w64, to_be_bytes};
@@ -71,7 +71,7 @@ fn append_metadata(text: &mut Vec<u8>, metadata: &Option<Bytes>) -> Result<(), N
     }
 }
 
-/// The records of a payload, one after the other.
+/// The TLV stream of a payload.
 fn text(alloc: Global, payload: &HopPayload) -> Result<Vec<u8>, NoMemory>
     ensures { IfOk result (λ text. text.items ≡ text_of payload.now) }
 {
@@ -84,7 +84,7 @@ fn text(alloc: Global, payload: &HopPayload) -> Result<Vec<u8>, NoMemory>
     Ok(text)
 }
 
-/// The bytes of a payload, their length in front.
+/// The encoding of a payload, beginning with its length.
 pub(crate) fn write(alloc: Global, payload: &HopPayload) -> Result<Bytes, NoMemory>
     ensures { IfOk result (λ bytes. bytes ≡ payload_bytes payload.now) }
 {

@@ -1,4 +1,4 @@
--- What a published edition holds.
+-- The contents of a published edition.
 use Rattle.std.specs.Prelude.{ℕ, List, Option, Some, None}
 use Rattle.lgm_store.specs.Rows.{Rows}
 use Rattle.lgm_publish.specs.Handles.{History, Sight}
@@ -6,18 +6,18 @@ use Rattle.lgm_publish.specs.Handles.{History, Sight}
 -- the rows of a map, and what made them
 pub record Contents : Type 0 where
   pub rows : Rows
-  -- the features of nodes that are known to its view
+  -- the known feature bits of its view
   pub known : Option (List ℕ)
-  -- how many operations it has absorbed
+  -- the number of operations applied
   pub absorbed : ℕ
-  -- the list of operations that it has come to
+  -- the list of operations reached
   pub told : History
 
--- a list that was seen under these known features
+-- a list that was observed with these known bits
 abbrev pub sight : Option (List ℕ) → History → Sight
 sight known told = record { board = told.board; known = known; ops = told.ops }
 
--- the known features of an edition that was seen
+-- the known bits of an edition that was observed
 abbrev pub known_in : Option Contents → Option (List ℕ)
 known_in (Some contents) = contents.known
 known_in None = None

@@ -1,4 +1,4 @@
--- What entries make of an edition.
+-- The effect of entries on an edition.
 use Rattle.std.specs.Prelude.{◌+◌, ◌==◌, if◌then◌else◌}
 use Rattle.lgm_store.specs.declared.op.Op.{Op}
 use Rattle.lgm_store.specs.History.{absorbed}
@@ -6,7 +6,7 @@ use Rattle.lgm_publish.specs.declared.edition.Entry.{Entry}
 use Rattle.lgm_publish.specs.declared.edition.Entry.TheVariants.{Absorb, Reach}
 use Rattle.lgm_publish.specs.Contents.{Contents}
 
--- with an operation more, below the limit
+-- after an operation, below the limit
 abbrev pub after_op : Contents → Op → Contents
 after_op contents op =
     if contents.absorbed == 2000000000 then contents

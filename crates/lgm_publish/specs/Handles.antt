@@ -1,4 +1,4 @@
--- What contracts see of a told list, of an eye and a guard, and of a pen.
+-- What contracts see of a told list, of an eye or a guard, and of a pen.
 use Rattle.std.specs.Prelude.{ℕ, List, Option, refl}
 use Rattle.std.specs.Coded.{Coded, code_by, coded×, coded_list, coded_option, coded_ℕ}
 use Rattle.logbook.specs.Pages.{Book, book_coded}
@@ -17,11 +17,11 @@ history_code = code_by (Book × List Op) (coded× book_coded (coded_list the_row
 abbrev pub history : Book → List Op → History
 history board ops = record { board = board; ops = ops }
 
--- what a reader of a board has seen or sees
+-- what a reader of a board has observed or sees
 pub record Sight : Type 0 where
   -- the board's name
   pub board : Book
-  -- the features of nodes that are known, or none where all are
+  -- the known feature bits of nodes, or none if all are known
   pub known : Option (List ℕ)
   pub ops : List Op
 
@@ -35,7 +35,7 @@ pub record Writing : Type 0 where
   -- the board's name
   pub board : Book
   pub published : List Op
-  -- behind the published ones, in the order in which they were appended
+  -- after the published ones, in the order in which they were appended
   pub pending : List Op
 
 abbrev pub writing_code : Coded Writing

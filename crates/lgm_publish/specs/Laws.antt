@@ -1,4 +1,4 @@
--- What holds of a world after any events.
+-- Laws of a world after any events.
 use Rattle.std.specs.Prelude.{◌≡◌, ◌⊎◌, ℕ, ◌<◌, List, [], ◌∷◌, ◌++◌, take, Contains, Option, Ok}
 use mathlib.Core.List.{IsPrefix}
 use Rattle.lgm_store.specs.declared.op.Op.{Op}
@@ -11,7 +11,7 @@ use Rattle.lgm_publish.specs.declared.event.Event.TheVariants.{Append, Publish, 
 use Rattle.lgm_publish.specs.declared.event.Reply.TheVariants.{Routed}
 use Rattle.lgm_publish.specs.World.{Standing, opening, published_in, entered_by, outcome, world_after, IsOrdered}
 
--- a world that opened with so many eyes, after these events
+-- a world with this many eyes, after these events
 abbrev pub world_of : Option (List ℕ) → ℕ → List Event → Standing
 world_of known eyes events = world_after (opening known eyes) events
 
@@ -24,18 +24,18 @@ brought_by (Enter eye ∷ events) = brought_by events
 brought_by (Learn eye ∷ events) = brought_by events
 brought_by (Answer eye request ∷ events) = brought_by events
 
--- all that are brought are appended, up to the limit
+-- all that events bring are appended, up to the limit
 abbrev pub AreAppended : Type 0
 AreAppended = (known : Option (List ℕ)) (eyes : ℕ) (events : List Event) → (world_of known eyes events).appended ≡ take 2000000000 (brought_by events)
 
--- an eye that is there answers over the map of what it took last, under the features that are known
+-- an existing eye answers on the map of what it took last, with the known feature bits
 abbrev pub AreAnswered : Type 0
 AreAnswered =
     (known : Option (List ℕ)) (eyes : ℕ) (events : List Event) (eye : ℕ) (request : Request) → eye < eyes
     → outcome (world_of known eyes events) (Answer eye request)
     ≡ Ok (Routed (answer_of (edges_of known (fold (entered_by (world_of known eyes events) eye))) request))
 
--- what an eye took last is nothing, or all that was appended at some publication before
+-- what an eye took last is nothing, or all that was appended at some earlier publication
 abbrev pub WerePublished : Type 0
 WerePublished =
     (known : Option (List ℕ)) (eyes : ℕ) (events : List Event) (eye : ℕ)
@@ -54,12 +54,12 @@ pub record AreEntered : Type 0 where
       → entered_by (world_of known eyes (before ++ Enter eye ∷ later)) eye ≡ published_in (world_of known eyes before)
   pub first : (known : Option (List ℕ)) (eyes : ℕ) (events : List Event) (eye : ℕ) → ¬ Contains events (Enter eye) → entered_by (world_of known eyes events) eye ≡ []
 
--- what an eye took begins all that it takes later
+-- what an eye took is a prefix of all that it takes later
 abbrev pub NeverShrink : Type 0
 NeverShrink =
     (known : Option (List ℕ)) (eyes : ℕ) (events more : List Event) (eye : ℕ)
     → IsPrefix (entered_by (world_of known eyes events) eye) (entered_by (world_of known eyes (events ++ more)) eye)
 
--- each eye took no more than it has seen, which is no more than is published, of what is appended
+-- each eye took no more than it has observed, which is no more than is published, of what is appended
 abbrev pub StayInOrder : Type 0
 StayInOrder = (known : Option (List ℕ)) (eyes : ℕ) (events : List Event) → IsOrdered (world_of known eyes events)

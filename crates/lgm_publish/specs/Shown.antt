@@ -1,4 +1,4 @@
--- What is published, and what the threads of a board know of it.
+-- What is published, and what the threads of a board know about it.
 use Rattle.std.specs.Prelude.{◌≡◌, ◌≤◌, ℕ, List, [], ◌∷◌, ◌++◌, length, Option, Some, Result, MatchResult}
 use mathlib.Core.Option.{some}
 use mathlib.Core.List.{IsPrefix}
@@ -18,7 +18,7 @@ ops_of [] = []
 ops_of (Absorb op ∷ entries) = op ∷ ops_of entries
 ops_of (Reach told ∷ entries) = ops_of entries
 
--- the list that an edition has come to after these entries
+-- the list that an edition has reached after these entries
 abbrev pub reached : History → List Entry → History
 reached told [] = told
 reached told (Absorb op ∷ entries) = reached told entries
@@ -28,39 +28,39 @@ reached told (Reach other ∷ entries) = reached other entries
 abbrev pub whole : History → List Entry → History
 whole told entries = history told.board (told.ops ++ ops_of entries)
 
--- the entries come to just that list
+-- the entries reach exactly that list
 abbrev pub IsComplete : History → List Entry → Type 0
 IsComplete told entries = reached told entries ≡ whole told entries
 
--- the rows are those that the list makes, and it has absorbed as many operations
+-- the rows are the fold of the list, whose length is the number of operations applied
 abbrev pub IsFold : Contents → Type 0
 IsFold contents = (contents.rows ≡ fold contents.told.ops) × (contents.absorbed ≡ length contents.told.ops)
 
--- the first list goes on to the second one of the same board
+-- the second list extends the first one, of the same board
 abbrev pub GoesOn : History → History → Type 0
 GoesOn told other = (other.board ≡ told.board) × IsPrefix told.ops other.ops
 
--- an edition of the same board, under the same known features, whose list goes on from that of the first
+-- an edition of the same board, with the same known bits, whose list extends that of the first
 abbrev pub Follows : Contents → Contents → Type 0
 Follows first next = (next.known ≡ first.known) × GoesOn first.told next.told
 
--- what is published is a fold, and follows each edition that a thread saw
+-- what is published is a fold, and follows each edition that a thread observed
 abbrev pub Holds : Contents → List (Option Contents) → Type 0
 Holds shown views = IsFold shown × ((seat : ℕ) (last : Contents) → get_elem? views seat ≡ some (Some last) → Follows last shown)
 
--- a step that sees what is shown, on a thread that saw `before` last
+-- a step that observes what is shown, on a thread that observed `before` last
 abbrev pub Sees : Option Contents → Contents → Option Contents → Type 0
 Sees before shown after = (after ≡ Some shown) × IsFold shown × ((last : Contents) → before ≡ Some last → Follows last shown)
 
--- what is told is taken as it is
+-- what is told is taken over unchanged
 abbrev pub taken : Option Contents → Option Contents → Option Contents
 taken own told = told
 
--- what a publication does to the published list and to the entries that are pending
+-- the effect of a publication on the published list and on the pending entries
 abbrev pub Publishes : {A B : Type 0} → Result A B → History → History → List Entry → List Entry → Type 0
 Publishes done old new pending left =
     MatchResult done (λ _. (new ≡ whole old pending) × (left ≡ [])) (λ _. (new ≡ old) × (left ≡ pending))
 
--- the word and the token of a pen's book, which has a beginning of the whole, and how many operations were appended
+-- the word and the token of a pen's book, whose list is a prefix of the whole, and the number of operations appended
 abbrev pub IsNoted : Named → History → ℕ → History → Type 0
 IsNoted head noted appended all = (head ≡ head_of noted.board) × GoesOn noted all × (appended ≡ length all.ops) × (appended ≤ 2000000000)

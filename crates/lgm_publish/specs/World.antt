@@ -1,4 +1,4 @@
--- One writer and its readers: what each event does, and what is answered.
+-- One writer and its readers: the effect of each event, and the replies.
 use Rattle.std.specs.Prelude.{◌≡◌, ◌≢◌, ◌⊎◌, ℕ, ◌≤◌, ◌==◌, List, [], ◌∷◌, ◌++◌, length, take, replicate, All, slice_index_or, slice_set, nat_lt, is_some, Option, Some, None, Result, Ok, Err, OnOk, OnErr, if◌then◌else◌}
 use Rattle.lgm_store.specs.declared.op.Op.{Op}
 use Rattle.lgm_store.specs.History.{fold}
@@ -15,27 +15,27 @@ use Rattle.lgm_publish.specs.declared.event.WorldFault.TheVariants.{NoEye, Full,
 
 -- a writer and its readers between two events
 pub record Standing : Type 0 where
-  -- the features of nodes that are known, or none where all are
+  -- the known feature bits of nodes, or none if all are known
   pub known : Option (List ℕ)
   -- all operations, in order
   pub appended : List Op
-  -- how many of them are published
+  -- the number of published operations
   pub published : ℕ
-  -- what each eye has seen
+  -- what each eye has observed
   pub eyes : List Marks
 
 abbrev pub standing : Option (List ℕ) → List Op → ℕ → List Marks → Standing
 standing known appended published eyes = record { known = known; appended = appended; published = published; eyes = eyes }
 
--- an eye that has seen so many operations, and took the map of so many last
+-- an eye that has observed this many operations, and took the map of that many last
 abbrev pub marks : ℕ → ℕ → Marks
 marks seen entered = record { seen = seen; entered = entered }
 
--- nothing is appended, and so many eyes have seen nothing
+-- nothing is appended, and this many eyes have observed nothing
 abbrev pub opening : Option (List ℕ) → ℕ → Standing
 opening known eyes = standing known [] 0 (replicate eyes (marks 0 0))
 
--- what the eye of a number has seen
+-- what the eye of a number has observed
 abbrev pub marks_of : Standing → ℕ → Marks
 marks_of world eye = slice_index_or world.eyes eye (marks 0 0)
 
@@ -43,17 +43,17 @@ marks_of world eye = slice_index_or world.eyes eye (marks 0 0)
 abbrev pub published_in : Standing → List Op
 published_in world = take world.published world.appended
 
--- those that made the map that an eye took last
+-- the operations of the map that an eye took last
 abbrev pub entered_by : Standing → ℕ → List Op
 entered_by world eye = take (marks_of world eye).entered world.appended
 
 -- ---- an event
 
--- an eye is refused where it isn't there
+-- an eye is refused if it doesn't exist
 abbrev pub no_eye : Standing → ℕ → Option WorldFault
 no_eye world eye = if nat_lt eye (length world.eyes) then None else Some NoEye
 
--- the reason to refuse an event
+-- why an event is refused
 abbrev pub refusal : Standing → Event → Option WorldFault
 refusal world (Append op) = if length world.appended == 2000000000 then Some Full else None
 refusal world Publish = None
@@ -82,17 +82,17 @@ abbrev pub refused_or : Option WorldFault → Reply → Result Reply WorldFault
 refused_or (Some fault) answer = Err fault
 refused_or None answer = Ok answer
 
--- what an event is answered
+-- the refusal, or the reply
 abbrev pub outcome : Standing → Event → Result Reply WorldFault
 outcome world event = refused_or (refusal world event) (reply world event)
 
--- what a step answers, and leaves: a refusal that needs no memory comes first
+-- the result of a step and the state after it: a refusal that allocates nothing comes first
 pub record IsStep (world : Standing) (event : Event) (result : Result Reply WorldFault) (next : Standing) : Type 0 where
   pub refused : (fault : WorldFault) → refusal world event ≡ Some fault → result ≡ Err fault
   pub reply : (result ≡ Err NoMemory) ⊎ (result ≡ outcome world event)
   pub done : OnOk result (next ≡ after world event)
   pub stays : OnErr result (next ≡ world)
-  -- want of memory is no reply
+  -- out of memory is never a reply
   pub memory : result ≢ Ok (Routed (Err want.NoMemory))
 
 -- ---- a list of events
@@ -106,7 +106,7 @@ abbrev pub world_after : Standing → List Event → Standing
 world_after world [] = world
 world_after world (event ∷ events) = world_after (stepped world event) events
 
--- an eye took no more than it has seen, which is no more than is published, of what is appended
+-- an eye took no more than it has observed, which is no more than is published, of what is appended
 pub record IsOrdered (world : Standing) : Type 0 where
   pub entered : All (λ eye. eye.entered ≤ eye.seen) world.eyes
   pub seen : All (λ eye. eye.seen ≤ world.published) world.eyes

@@ -1,4 +1,4 @@
-//! What is published: a map with its view, and the list of the operations that made it.
+//! What is published: a map with its view, and the list of operations that made it.
 
 ghost use Rattle.std.specs.Prelude.{◌≡◌, ◌≤◌, IfOk, OnOk, OnErr};
 ghost use Rattle.lgm_store.specs.Rows.{empty};
@@ -12,23 +12,23 @@ use lgm_store::{Map, Op, Seed};
 use std::alloc::{AllocError, Global};
 use std::marker::Model;
 
-/// How many operations there may be.
+/// The maximum number of operations.
 pub(crate) const LIMIT: u64 = 2_000_000_000;
 
-/// What the two copies take in, one after the other.
+/// What the two copies apply, one after the other.
 #[derive(Drop)]
 pub(crate) enum Entry {
     /// An operation.
     Absorb(Op),
-    /// The list of operations that a copy has come to with the entries before.
+    /// The list of operations that a copy has reached with the entries before.
     Reach(Told),
 }
 
-/// A map with its view, and the list of the operations that made it. Of the list there is only the number at run time.
+/// A map with its view, and the list of operations that made it. At run time only the length of the list exists.
 #[derive(Drop)]
 pub(crate) struct Edition {
     network: Network,
-    /// How many operations it has absorbed. It bounds the points that the view may number.
+    /// The number of operations applied. It bounds the points that the view may number.
     absorbed: u64,
     told: Told,
 }
@@ -45,7 +45,7 @@ impl Model for Edition {
 }
 
 impl Edition {
-    /// An empty map with its view, whose points are hashed by the seed.
+    /// An empty map with its view, whose points are hashed with the seed.
     pub(crate) fn new(
         alloc: Global,
         seed: Seed,
@@ -83,7 +83,7 @@ impl Edition {
         &self.told
     }
 
-    /// Does an operation to the map and its view. Past the limit, where none gets, it does nothing.
+    /// Applies an operation to the map and its view. Beyond the limit, which is never reached, it does nothing.
     fn absorb(&mut self, op: &Op) -> Result<(), AllocError>
         ensures ok { OnOk result (self.new ≡ after_op self.old op.now) }
         ensures err { OnErr result (self.new ≡ self.old) }

@@ -1,4 +1,4 @@
-//! What happens to a world, and what it answers.
+//! Events of a world, and its replies.
 
 ghost use Rattle.std.specs.Prelude.{◌≡◌};
 ghost use Rattle.lgm_publish.specs.declared.event.WorldFault.TheVariants.{NoMemory};
@@ -7,38 +7,38 @@ use lgm_route::{Request, Route, RouteFault};
 use lgm_store::Op;
 use std::alloc::{AllocError, AllocFailed};
 
-/// What happens. Eyes have the numbers from 0 on.
+/// An event. Eyes are numbered from 0.
 #[derive(Debug, Drop)]
 pub enum Event {
     /// The writer appends an operation.
     Append(Op),
-    /// All that is appended is published.
+    /// The writer publishes all pending operations.
     Publish,
-    /// An eye takes what is published.
+    /// An eye takes the published map.
     Enter(usize),
-    /// An eye is told what is published.
+    /// An eye learns what is published.
     Learn(usize),
-    /// An eye is asked for a route in the map that it took last.
+    /// An eye answers a request for a route on the map that it took last.
     Answer(usize, Request),
 }
 
-/// What a world answers.
+/// The reply to an event.
 #[derive(Debug, Drop)]
 pub enum Reply {
-    /// To all but a request.
+    /// To any event but a request.
     Done,
-    /// To a request: its route, or why there is none. It is never for want of memory.
+    /// To a request: its route, or why there is none, which is never out of memory.
     Routed(Result<Route, RouteFault>),
 }
 
-/// Why a world refuses an event: the first reason, in the order of the variants, or want of memory.
+/// Why a world refuses an event: the first reason, in the order of the variants, or out of memory.
 #[derive(Clone, Copy, Debug, PartialEq, Eq)]
 pub enum WorldFault {
-    /// No eye has this number. No memory was taken.
+    /// No eye has this number. Nothing was allocated.
     NoEye,
-    /// 2,000,000,000 operations were appended before. No memory was taken.
+    /// 2,000,000,000 operations have been appended. Nothing was allocated.
     Full,
-    /// Memory was refused.
+    /// Out of memory.
     NoMemory,
 }
 

@@ -1,4 +1,4 @@
-//! Those who read.
+//! Readers.
 
 ghost use Rattle.std.specs.Prelude.{◌≡◌, ◌≤◌, Some, length, IfOk, IfErr};
 ghost use mathlib.Core.List.{IsPrefix};
@@ -16,8 +16,8 @@ use lgm_graph::View;
 use lgm_store::Map;
 use std::marker::Model;
 
-/// A reader that isn't reading. Contracts see its board, the features of nodes that are known there, and the longest
-/// list of operations that it has seen or was told. It may be dropped at any time.
+/// A reader without a guard. Contracts see its board, the known feature bits of nodes, and the longest list of
+/// operations that it has observed or learned. It may be dropped at any time.
 #[derive(Drop)]
 pub struct Eye {
     reader: Reader<Edition, Last, Published>,
@@ -40,7 +40,7 @@ impl Model for Eye {
 }
 
 impl Eye {
-    /// An eye that has seen what its place at the table says.
+    /// An eye that has observed what its place at the table says.
     pub(crate) fn new(reader: Reader<Edition, Last, Published>, told: Told) -> Eye
         requires { (last : Contents) × (last_of reader.place ≡ Some last) × (last.told.board ≡ told.board) }
         ensures { result ≡ sight (known_in (last_of reader.place)) told }
@@ -48,8 +48,8 @@ impl Eye {
         Eye { reader, told }
     }
 
-    /// Takes in what the pen of the same board told. What the eye has seen becomes the longer of its list and the told
-    /// one, of which one begins with the other. It waits for nobody.
+    /// Learns a token told by a pen of the same board. What the eye has observed becomes the longer of its list and the
+    /// told one, one of which is a prefix of the other. Never waits.
     pub fn learn(&mut self, told: Told)
         requires { told.board ≡ self.old.board }
         ensures board { self.new.board ≡ self.old.board }
@@ -61,11 +61,10 @@ impl Eye {
         }
     }
 
-    /// Takes the map that was published last. The guard's list begins with all that the eye has seen. It waits for
-    /// nobody.
+    /// Takes the map published last. The guard's list extends all that the eye has observed. Never waits.
     ///
-    /// The eye comes back as it was where there is nothing to see, as after the pen has ended. It would also come back
-    /// where less is published than it was told, which doesn't happen: what is told was published before.
+    /// The eye is returned unchanged if there is nothing to show, as after the pen has ended. It would also be returned
+    /// if less is published than it was told, which doesn't happen: what is told was published before.
     pub fn enter(self) -> Result<Guard, Eye>
         ensures board { IfOk result (λ guard. guard.board ≡ self.board) }
         ensures known { IfOk result (λ guard. guard.known ≡ self.known) }
@@ -90,8 +89,8 @@ impl Eye {
     }
 }
 
-/// An eye that reads. Contracts see its board, the features of nodes that are known there, and the list of operations
-/// whose map it shows. It ends by `leave`; until then the writer may have to wait for it.
+/// A reader that is reading. Contracts see its board, the known feature bits of nodes, and the list of operations whose
+/// map it shows. It ends with `leave`; until then the writer may have to wait for it.
 pub struct Guard {
     reading: Reading<Edition, Last, Published>,
 }
@@ -113,21 +112,21 @@ impl Model for Guard {
 }
 
 impl Guard {
-    /// The map: the fold of the guard's list. It takes no memory.
+    /// The map: the fold of the guard's list. Nothing is allocated.
     pub fn map(&self) -> &Map
         ensures { result.now ≡ fold self.now.ops }
     {
         self.reading.get().map()
     }
 
-    /// The length of the guard's list. It takes no memory.
+    /// The length of the guard's list. Nothing is allocated.
     pub fn version(&self) -> u64
         ensures { result ≡ length self.now.ops }
     {
         self.reading.get().told().count()
     }
 
-    /// The view of the map. It takes no memory.
+    /// The view of the map. Nothing is allocated.
     pub fn view(&self) -> &View
         ensures known { result.now.known ≡ self.now.known }
         ensures beside { IsGraphOf (fold self.now.ops) result.now }
@@ -135,7 +134,7 @@ impl Guard {
         self.reading.get().view()
     }
 
-    /// Ends the reading. The eye has seen the guard's list. It waits for nobody.
+    /// Ends the reading. The eye has observed the guard's list. Never waits.
     pub fn leave(self) -> Eye
         ensures { result ≡ self }
     {

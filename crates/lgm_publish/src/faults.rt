@@ -1,4 +1,4 @@
-//! What may go wrong.
+//! Faults.
 
 ghost use Rattle.std.specs.Prelude.{◌≡◌};
 ghost use Rattle.lgm_publish.specs.declared.faults.PublishFault.TheVariants.{NoMemory};
@@ -6,14 +6,14 @@ ghost use Rattle.lgm_publish.specs.declared.faults.PublishFault.TheVariants.{NoM
 use lgm_store::Op;
 use std::alloc::AllocError;
 
-/// Memory was refused.
+/// Out of memory.
 #[derive(Clone, Copy, Debug, PartialEq, Eq)]
 pub struct NoMemory;
 
-/// Why there is no board.
+/// Why a board couldn't be made.
 #[derive(Clone, Copy, Debug, PartialEq, Eq)]
 pub enum PublishFault {
-    /// Memory was refused.
+    /// Out of memory.
     NoMemory,
     /// An eye got no place at the table of the two copies.
     Places,
@@ -22,18 +22,18 @@ pub enum PublishFault {
 /// Why an operation wasn't appended.
 #[derive(Clone, Copy, Debug, PartialEq, Eq)]
 pub enum AppendCause {
-    /// 2,000,000,000 operations were appended before.
+    /// 2,000,000,000 operations have been appended.
     Full,
-    /// Memory was refused.
+    /// Out of memory.
     NoMemory,
 }
 
-/// An operation that wasn't appended, and why.
+/// An operation that wasn't appended, with the reason.
 #[derive(Debug, Drop)]
 pub struct AppendFault {
-    /// The operation, as it was handed in.
+    /// The operation, as passed in.
     pub op: Op,
-    /// Why.
+    /// The reason.
     pub cause: AppendCause,
 }
 

@@ -1,4 +1,4 @@
-//! Routes in the map of a history.
+//! Routes on the map of a history.
 
 ghost use Rattle.std.specs.Prelude.{◌≡◌, ◌⊎◌, ◌≤◌, length, Err, IfOk};
 ghost use Rattle.lgm_store.specs.History.{fold};
@@ -10,7 +10,7 @@ use lgm_route::{Request, Route, RouteFault, answer};
 use lgm_store::{Map, Op};
 use std::alloc::{AllocError, Global};
 
-/// The map that a history leaves, with its view.
+/// The map of a history, with its view.
 fn replay(alloc: Global, known: &Known, history: &[Op]) -> Result<Network, AllocError>
     requires { length history.now ≤ 2000000000 }
     ensures rows { IfOk result (λ network. network.rows ≡ fold history.now) }
@@ -23,7 +23,7 @@ fn replay(alloc: Global, known: &Known, history: &[Op]) -> Result<Network, Alloc
     Ok(network)
 }
 
-/// The least route of a payment over the edges of a map.
+/// The best route of a payment over the edges of a map.
 fn find_in(alloc: Global, network: &Network, request: &Request) -> Result<Route, RouteFault>
     ensures { (result ≡ Err RouteFault.NoMemory) ⊎
         (result ≡ answer_of (edges_of network.now.graph.known network.now.rows) request.now) }
@@ -31,7 +31,7 @@ fn find_in(alloc: Global, network: &Network, request: &Request) -> Result<Route,
     answer(alloc, network.map(), network.view(), request)
 }
 
-/// The least route of a payment over the edges of the map that a history leaves.
+/// The best route of a payment over the edges of the map of a history.
 pub(crate) fn find_route(
     alloc: Global,
     known: &Known,

@@ -1,10 +1,10 @@
-//! What holds of worlds.
+//! Laws of worlds.
 
 ghost use Rattle.lgm_publish.specs.Laws.{AreAppended, AreAnswered, WerePublished, ArePublished, AreEntered, NeverShrink, StayInOrder};
 
-/// After any list of events an eye answers over the map of a first part of the operations that were appended: of none,
-/// or of all that were appended at some publication before. It is the part that was published when the eye entered
-/// last, and it begins those of its later entries. A call does nothing: its contract is the law.
+/// After any list of events an eye answers on the map of a prefix of the appended operations: of none, or of all that
+/// had been appended at some earlier publication. It is the prefix that was published when the eye last entered, and a
+/// prefix of those of its later entries. The call does nothing: its contract is the law.
 pub fn eyes_answer_on_published_maps()
     ensures appended { AreAppended }
     ensures answered { AreAnswered }

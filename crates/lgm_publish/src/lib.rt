@@ -1,12 +1,12 @@
-//! A map with its view, which one writer publishes to readers on other threads.
+//! A map with its view, published by one writer to readers on other threads.
 //!
-//! A [`Pen`] appends operations and publishes them, all that are pending in one step. An [`Eye`] enters, and gets a
-//! [`Guard`] with the map that was published last, and its view. No reader waits for the writer or for another reader;
-//! the writer waits, when it publishes, for the guards that still show what was published before the last time. A guard
-//! shows the map of a first part of the operations that were appended, which never shrinks from one guard of an eye to
-//! the next, and is no less than what the eye was told.
+//! A [`Pen`] appends operations and publishes all pending ones atomically. An [`Eye`] enters, and gets a [`Guard`] with
+//! the map published last, and its view. No reader waits for the writer or for another reader; when the writer
+//! publishes, it waits for the guards that still show the edition before the last publication. A guard shows the map of
+//! a prefix of the appended operations, which never shrinks from one guard of an eye to the next, and contains what the
+//! eye was told.
 //!
-//! [`World`] is the same as a plain machine on one thread, with a law on its answers.
+//! [`World`] is the same as a plain single-threaded state machine, with a law on its answers.
 #![tactic(auto)]
 
 mod edition;

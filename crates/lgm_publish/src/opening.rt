@@ -18,7 +18,7 @@ use std::alloc::Global;
 use std::random::RandomSource;
 use std::sync::Wait;
 
-/// So many eyes, each of which has seen what is published.
+/// This many eyes, each of which has observed what is published.
 fn seat_all(
     writer: &mut Sides,
     told: &Told,
@@ -44,11 +44,11 @@ fn seat_all(
     Ok(())
 }
 
-/// A new board: an empty map with its view is published, and so many eyes, 1 to 64, may read it. The features of nodes
-/// that are known are kept as a copy.
+/// A new board: an empty map with its view is published, and this many eyes, 1 to 64, may read it. The known feature
+/// bits are copied.
 ///
-/// The errors are want of memory, and `Places`, where an eye got no place at the table. There are as many places as
-/// eyes, so a test shows that it doesn't come; no clause says so.
+/// The errors are out of memory, and `Places` if an eye got no place at the table. There are as many places as eyes, so
+/// `Places` doesn't occur, which is tested and not proved.
 pub fn board<R: Wait + RandomSource>(
     rt: &R,
     alloc: Global,

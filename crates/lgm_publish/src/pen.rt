@@ -1,4 +1,4 @@
-//! The one who writes.
+//! The writer.
 
 ghost use Rattle.std.specs.Prelude.{◌≡◌, ◌≤◌, [], ◌∷◌, ◌++◌, length, drop, IfErr, MatchResult};
 ghost use Rattle.lgm_publish.specs.Appended.{AppendIs};
@@ -15,7 +15,7 @@ use logbook::Plain;
 use std::marker::Model;
 use std::sync::Wait;
 
-/// What the book goes on to: all that is published and pending.
+/// What the book is extended to: all published and pending operations.
 pub(crate) struct Whole;
 
 impl Plain<Sides, [Op; 0], u64> for Whole {
@@ -27,15 +27,15 @@ impl Plain<Sides, [Op; 0], u64> for Whole {
     ghost state = { λ w. None };
 }
 
-/// The writer of a board. Contracts see its board, and two lists of operations: the published ones, and those that are
-/// pending behind them. It ends by `end`.
+/// The writer of a board. Contracts see its board, and two lists of operations: the published ones, and the pending
+/// ones after them. It ends with `end`.
 pub struct Pen {
     writer: Sides,
-    /// The word of the book, which nobody else writes. It is for the proofs.
+    /// The word of the book, which nobody else writes. Used by the proofs.
     head: Head,
-    /// What the book has: all that is published, and what a publication that failed would have published.
+    /// The book's list: all published operations, and those that a failed publication would have published.
     noted: Told,
-    /// How many operations were appended.
+    /// The number of operations appended.
     appended: u64,
 }
 
@@ -54,7 +54,7 @@ impl Model for Pen {
 }
 
 impl Pen {
-    /// The pen of a writer whose book is as the copies are, with nothing appended.
+    /// The pen of a writer whose book agrees with the copies, with nothing appended.
     pub(crate) fn new(writer: Sides, head: Head, noted: Told) -> Pen
         requires head { head ≡ head_of noted.board }
         requires noted { noted ≡ whole writer.desk.shown.value.told (drop writer.behind writer.log.items) }
@@ -71,10 +71,10 @@ impl Pen {
         }
     }
 
-    /// Appends an operation to the pending ones. It waits for nobody, and readers see nothing of it yet.
+    /// Appends an operation to the pending ones, which readers don't see yet. Never waits.
     ///
-    /// At an error the operation comes back, and all is as it was. It is `Full` exactly where 2,000,000,000 operations
-    /// were appended before, and then no memory is taken.
+    /// On an error the operation is returned, and nothing has changed. The error is `Full` if and only if 2,000,000,000
+    /// operations have been appended, and then nothing is allocated.
     pub fn append(&mut self, op: Op) -> Result<(), AppendFault>
         ensures board { self.new.board ≡ self.old.board }
         ensures published { self.new.published ≡ self.old.published }
@@ -100,10 +100,10 @@ impl Pen {
         }
     }
 
-    /// Shows readers each pending operation, all in one step. It waits for the guards that still show the edition from
-    /// before the last publication.
+    /// Publishes all pending operations atomically. Waits for the guards that still show the edition before the last
+    /// publication.
     ///
-    /// At an error what is published and what is pending are as they were, and the next call publishes all of it.
+    /// On an error the published and the pending operations are unchanged; the next call publishes them.
     pub fn publish<R: Wait>(&mut self, rt: &R) -> Result<(), NoMemory>
         ensures board { self.new.board ≡ self.old.board }
         ensures published { MatchResult result (λ _. self.new.published ≡ self.old.published ++ self.old.pending) (λ _. self.new.published ≡ self.old.published) }
@@ -127,7 +127,7 @@ impl Pen {
         )
     }
 
-    /// What is published now, for an eye to learn. It waits for nobody.
+    /// A token of what is published now, for an eye to learn. Never waits.
     pub fn tell(&mut self) -> Told
         ensures same { self.new ≡ self.old }
         ensures board { result.board ≡ self.old.board }
@@ -136,14 +136,14 @@ impl Pen {
         self.writer.published().told().again()
     }
 
-    /// How many operations are published. It takes no memory.
+    /// The number of published operations. Nothing is allocated.
     pub fn published(&self) -> u64
         ensures { result ≡ length self.now.published }
     {
         self.writer.published().told().count()
     }
 
-    /// Ends the board: eyes get nothing any more. What is pending is dropped. It waits for the guards.
+    /// Ends the board: eyes can't enter any more. Pending operations are dropped. Waits for the guards.
     pub fn end<R: Wait>(self, rt: &R) {
         let Pen {
             writer,

@@ -1,4 +1,4 @@
-//! The rule of a board: what is published is a fold, and goes on from all that its threads have seen.
+//! The invariant of a board: what is published is a fold, and extends all that its threads have observed.
 
 ghost use Rattle.std.specs.Prelude.{None};
 ghost use Rattle.lgm_publish.specs.Shown.{Holds, Sees, taken};
@@ -7,10 +7,10 @@ use crate::edition::Edition;
 use atomic_table::{Join, Split};
 use crossbeam_utils::rule::{Outcome, Protocol};
 
-/// The edition that a thread saw last, if it saw one. No value of it is made.
+/// The edition that a thread observed last, if any. No value of this type is made.
 pub(crate) type Last = Option<Edition>;
 
-/// The rule.
+/// The invariant.
 pub(crate) struct Published;
 
 impl Protocol<Edition, Last> for Published {
@@ -19,14 +19,14 @@ impl Protocol<Edition, Last> for Published {
     ghost first = { None };
 }
 
-/// A publication, and an entry.
+/// The steps of publishing and entering.
 pub(crate) struct Seeing;
 
 impl Outcome<Edition, Last> for Seeing {
     ghost then = { λ v _ y w. Sees v y w };
 }
 
-/// A new eye takes in what the pen saw.
+/// The step by which a new eye takes over what the pen observed.
 pub(crate) struct Telling;
 
 impl Split<Last> for Telling {

@@ -15,7 +15,7 @@ use std::sync::Wait;
 /// The two copies, and the entries that one of them lacks.
 pub(crate) type Sides = Writer<Edition, Entry, Last, Published>;
 
-/// One more operation is pending.
+/// Adds a pending operation.
 pub(crate) fn absorb(writer: &mut Sides, op: Op) -> Result<(), Op>
     ensures desk { writer.new.desk ≡ writer.old.desk }
     ensures appended { OnOk result (ops_of (drop writer.new.behind writer.new.log.items) ≡ ops_of (drop writer.old.behind writer.old.log.items) ++ op ∷ []) }
@@ -29,7 +29,7 @@ pub(crate) fn absorb(writer: &mut Sides, op: Op) -> Result<(), Op>
     }
 }
 
-/// Tells the copies which list they will have come to.
+/// Adds the entry with the list that the copies will have reached.
 pub(crate) fn reach(writer: &mut Sides, told: Told) -> Result<(), NoMemory>
     requires { told ≡ whole writer.old.desk.shown.value.told (drop writer.old.behind writer.old.log.items) }
     ensures desk { writer.new.desk ≡ writer.old.desk }
@@ -42,7 +42,7 @@ pub(crate) fn reach(writer: &mut Sides, told: Told) -> Result<(), NoMemory>
     }
 }
 
-/// Shows readers each pending operation.
+/// Publishes all pending operations.
 pub(crate) fn publish_all<R: Wait>(rt: &R, writer: Sides) -> (Sides, Result<(), NoMemory>)
     requires complete { IsComplete writer.desk.shown.value.told (drop writer.behind writer.log.items) }
     requires few { length (whole writer.desk.shown.value.told (drop writer.behind writer.log.items)).ops ≤ 2000000000 }

@@ -1,4 +1,4 @@
-//! Lists of operations that the book of a board has reached. The book is for the proofs: at run time it is one number.
+//! Lists of operations that the book of a board has reached. It is for the proofs: at run time it is one number.
 
 ghost use Rattle.std.specs.Prelude.{◌≡◌, ◌≤◌, [], length, None, MatchBool};
 ghost use mathlib.Core.List.{IsPrefix};
@@ -8,7 +8,7 @@ use lgm_store::Op;
 use logbook::{Gain, Offer, Plain, Play, Rule, Seen, Start, Word};
 use std::marker::Model;
 
-/// The rule of the book, whose entries are lists of operations: a clause reads an array as a list of any length.
+/// The rule of the book, whose entries are lists of operations: clauses read an array as a list of any length.
 pub(crate) struct Law;
 
 impl Rule<[Op; 0], u64> for Law {
@@ -29,7 +29,7 @@ impl Rule<[Op; 0], u64> for Law {
     ghost moves = { λ ask before after answer. Unit {0} };
 }
 
-/// A step trades nothing.
+/// A step that exchanges nothing.
 pub(crate) struct Nothing;
 
 impl Gain<[Op; 0], u64> for Nothing {
@@ -38,7 +38,7 @@ impl Gain<[Op; 0], u64> for Nothing {
     ghost after = { λ names about answer. ftrue };
 }
 
-/// A step that goes on with the book.
+/// A step that extends the book.
 pub(crate) struct Extend;
 
 impl Play<[Op; 0], u64> for Extend {
@@ -47,10 +47,10 @@ impl Play<[Op; 0], u64> for Extend {
     ghost then = { Extends };
 }
 
-/// The word of the book: how many operations it has.
+/// The word of the book: the number of its operations.
 pub(crate) type Head = Word<[Op; 0], u64, Law>;
 
-/// What a pen tells: a list of operations of its board, of which only the number is there at run time. Contracts see
+/// A token told by a pen: a list of operations of its board, of which only the length exists at run time. Contracts see
 /// the board and the list. It may be dropped at any time.
 #[derive(Drop)]
 pub struct Told {
@@ -82,7 +82,7 @@ impl Told {
         (Word::tracked(0, &mut first), Told { count: 0, seen })
     }
 
-    /// How many operations it has.
+    /// The length of the list.
     pub(crate) fn count(&self) -> u64
         ensures count { result ≡ length self.now.ops }
         ensures small { length self.now.ops ≤ 2000000000 }
@@ -100,7 +100,7 @@ impl Told {
         }
     }
 
-    /// Whether the other list begins with this one. If not, this one begins with the other.
+    /// Whether this list is a prefix of the other. If not, the other is a prefix of this one.
     pub(crate) fn begins(&self, other: &Told) -> bool
         requires { other.now.board ≡ self.now.board }
         ensures { MatchBool result (IsPrefix self.now.ops other.now.ops) (IsPrefix other.now.ops self.now.ops) }
@@ -110,8 +110,8 @@ impl Told {
         self.count <= other.count
     }
 
-    /// Takes the book, which has got so far, on to the `count` operations that M reads of `about`.
-    /// It is false where the book has got further, which it has not, since one pen writes it.
+    /// Extends the book, which has reached this list, to the `count` operations that M reads from `about`. Returns
+    /// false if the book has reached more, which doesn't happen, since one pen writes it.
     pub(crate) fn extend<X, M: Plain<X, [Op; 0], u64>>(
         &mut self,
         head: &Head,

@@ -1,4 +1,4 @@
-//! One writer and its readers, as a plain machine.
+//! One writer and its readers as a plain state machine.
 
 ghost use Rattle.std.specs.Prelude.{◌≡◌, ◌≢◌, ◌⊎◌, Some, Err, Ok, IfOk, OnOk, OnErr};
 ghost use Rattle.lgm_publish.specs.World.{opening, refusal, outcome, after, IsStep};
@@ -12,23 +12,23 @@ use lgm_store::Op;
 use std::alloc::{AllocError, Global};
 use std::marker::Model;
 
-/// What an eye has seen.
+/// What an eye has observed.
 #[derive(Drop)]
 pub(crate) struct Marks {
-    /// How many operations it took or was told.
+    /// The number of operations that it took or was told.
     seen: usize,
-    /// How many operations made the map that it took last.
+    /// The number of operations of the map that it took last.
     entered: usize,
 }
 
-/// One writer and its readers on one thread: what the pen and the eyes of a board are to do, as a machine that takes
-/// one event after the other. Contracts see it as a record.
+/// One writer and its readers on one thread: what the pen and the eyes of a board are to do, as a state machine that
+/// processes one event after the other. Contracts see it as a record.
 #[derive(Drop)]
 pub struct World {
     alloc: Global,
     known: Known,
     appended: Vec<Op>,
-    /// How many of the operations are published.
+    /// The number of published operations.
     published: usize,
     eyes: Vec<Marks>,
 }
@@ -45,8 +45,8 @@ impl Model for World {
 }
 
 impl World {
-    /// Nothing is appended, and so many eyes have seen nothing. The features of nodes that are known are kept as a
-    /// copy. The only error is want of memory.
+    /// Nothing is appended, and this many eyes have observed nothing. The known feature bits are copied. The only error
+    /// is out of memory.
     pub fn new(alloc: Global, eyes: usize, known: &Known) -> Result<World, AllocError>
         ensures { IfOk result (λ world. world ≡ opening known.now eyes) }
     {
@@ -66,23 +66,24 @@ impl World {
         })
     }
 
-    /// Takes an event, and answers it.
+    /// Processes an event, and replies to it.
     ///
-    /// `Append` adds a copy of the operation, `Publish` publishes all that is appended. `Enter` sets what the eye has
-    /// seen, and what it took last, to what is published; `Learn` sets what it has seen. `Answer` makes the map of the
-    /// operations that the eye took last, of none before it took any, and finds the least route in its view.
+    /// `Append` adds a copy of the operation, `Publish` publishes all pending ones. `Enter` sets what the eye has
+    /// observed, and what it took last, to what is published; `Learn` sets only what it has observed. `Answer` makes
+    /// the map of the operations that the eye took last, of none if it took none yet, and finds the best route in its
+    /// view.
     ///
     /// An event that is refused changes nothing.
     pub fn step(&mut self, event: &Event) -> Result<Reply, WorldFault>
-        // A number that no eye has, and an operation too many, are refused before any memory is taken.
+        // A number of no eye, and an operation beyond the limit, are refused before anything is allocated.
         ensures refused { (fault : WorldFault) → refusal self.old event.now ≡ Some fault → result ≡ Err fault }
 
-        // Else the reply is that of the definition, unless memory runs out.
+        // Otherwise the reply is that of the definition, unless memory runs out.
         ensures reply { (result ≡ Err WorldFault.NoMemory) ⊎ (result ≡ outcome self.old event.now) }
         ensures done { OnOk result (self.new ≡ after self.old event.now) }
         ensures stays { OnErr result (self.new ≡ self.old) }
 
-        // Want of memory is no reply.
+        // Out of memory is never a reply.
         ensures memory { result ≢ Ok (Reply.Routed (Err RouteFault.NoMemory)) }
     {
         match event {

@@ -1,4 +1,4 @@
--- What filters pass: the messages that a map holds, and those that are new in a later map.
+-- What filters pass: the messages of a map, and those that are new in a later map.
 use Rattle.std.specs.Prelude.{ℕ, ◌+◌, Bool, ◌&&◌, not, nat_eq, nat_le, nat_lt, List, [], ◌∷◌, ◌++◌, filter, map, Option, Some, None, if◌then◌else◌}
 use Rattle.std.specs.Cmp.Lexicographic.{pointwise}
 use Rattle.std.specs.List.{flat_map, list_any}
@@ -11,16 +11,16 @@ use Rattle.lgm_store.specs.HeldAt.{held_at}
 use Rattle.lgm_store.specs.Rows.{Rows}
 use Rattle.lgm_query.specs.declared.filter.Filter.{Filter}
 
--- whether a timestamp lies in the range of a filter
+-- whether a timestamp is in the range of a filter
 abbrev pub passes : Filter → ℕ → Bool
 passes filter timestamp = nat_le filter.first timestamp && nat_lt timestamp (filter.first + filter.range)
 
--- the message of an update, if it is held and passes
+-- the message of an update, if there is one and it passes
 abbrev pub passing_update : Filter → Option UpdateRow → Option (List ℕ)
 passing_update f None = None
 passing_update f (Some row) = if passes f row.message.timestamp then Some row.raw else None
 
--- a channel's announcement before its updates, if there is one
+-- a channel's announcement before its updates, if any
 abbrev pub behind_announcement : ChannelRow → List (List ℕ) → List (List ℕ)
 behind_announcement row [] = []
 behind_announcement row (update ∷ updates) = row.raw ∷ update ∷ updates
@@ -31,7 +31,7 @@ passing_channel f held =
     behind_announcement held.channel
     (option_to_list (passing_update f held.first) ++ option_to_list (passing_update f held.second))
 
--- what passes of a node
+-- what passes of a node announcement
 abbrev pub passing_node : Filter → NodeRow → List (List ℕ)
 passing_node f row = if passes f row.message.timestamp then row.raw ∷ [] else []
 
@@ -39,7 +39,7 @@ passing_node f row = if passes f row.message.timestamp then row.raw ∷ [] else 
 abbrev pub passing_rows : Filter → List Held → List NodeRow → List (List ℕ)
 passing_rows f channels nodes = flat_map (passing_channel f) channels ++ flat_map (passing_node f) nodes
 
--- what passes of a map: channels by their ids, and then nodes
+-- what passes of a map: channels by id, and then nodes
 abbrev pub backlog : Rows → Filter → List (List ℕ)
 backlog rows f = passing_rows f (map (held_at rows) rows.channels) rows.nodes
 

@@ -1,4 +1,4 @@
--- A map that came of an earlier one by operations.
+-- A map that was made from an earlier one by operations.
 use Rattle.std.specs.Prelude.{◌≡◌, List}
 use Rattle.std.specs.List.{AllByRecursion}
 use Rattle.lgm_store.specs.declared.op.Op.{Op}
@@ -7,7 +7,7 @@ use Rattle.lgm_store.specs.History.{fold_from}
 use Rattle.lgm_query.specs.KeyNews.{TellKeys}
 use Rattle.lgm_query.specs.Touched.{Touched, HasTouched, TellsKey}
 
--- the later rows are the earlier ones with operations done, which touch these keys; bytes tell the keys of their rows
+-- the later rows are the earlier ones after operations that touch these keys; bytes are about the keys of their rows
 pub record ComesOf (before after : Rows) (touched : Touched) : Type 0 where
   pub history : List Op
   pub folds : after ≡ fold_from before history

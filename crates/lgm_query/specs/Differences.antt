@@ -1,4 +1,4 @@
--- What two maps have of channels and nodes, and what is new of them.
+-- The rows of two maps for channels and nodes, and their news.
 use Rattle.std.specs.Prelude.{ℕ, List, [], ◌++◌}
 use Rattle.std.specs.List.{flat_map}
 use Rattle.std.specs.Option.{option_copied, option_map_or}

@@ -1,4 +1,4 @@
--- The reply to a query of some channels: what is held of each, and then the end.
+-- The reply to a query by ids: the messages of each channel, and then the end.
 use Rattle.std.specs.Prelude.{ℕ, nat_eq, ◌==◌, List, [], ◌∷◌, ◌++◌, map, Option, Some, unwrap_or, if◌then◌else◌}
 use Rattle.std.specs.Cmp.Lexicographic.{pointwise}
 use Rattle.std.specs.Int.{bit_at}
@@ -14,11 +14,11 @@ use Rattle.lgm_store.specs.HeldAt.{held_at}
 use Rattle.lgm_store.specs.Rows.{Rows, channel_of, node_of}
 use Rattle.lgm_query.specs.Piece.{Piece, channel, update, node, bytes_of, with_nodes_once}
 
--- a piece that is held, if the bit of the flags is set
+-- a piece, if it exists and the bit of the flags is set
 abbrev pub if_set : ℕ → ℕ → Option Piece → List Piece
 if_set flags bit piece = if bit_at flags bit == 1 then option_to_list piece else []
 
--- what the flags choose of a held channel, in the order of the bits; higher bits choose nothing
+-- what the flags select of a channel, in the order of the bits; higher bits select nothing
 abbrev pub chosen_of : List NodeRow → ℕ → Held → List Piece
 chosen_of nodes flags held =
     if_set flags 0 (Some (channel held.channel))
@@ -27,19 +27,19 @@ chosen_of nodes flags held =
     ++ if_set flags 3 (option_map node (node_of nodes held.channel.message.node_id_1))
     ++ if_set flags 4 (option_map node (node_of nodes held.channel.message.node_id_2))
 
--- what the flags choose of a channel: nothing if it isn't held
+-- what the flags select of an id: nothing if the channel isn't in the map
 abbrev pub chosen : Rows → ℕ × ℕ → List Piece
 chosen rows place = option_map_or (λ row. chosen_of rows.nodes place.1 (held_at rows row)) (channel_of rows.channels place.0) []
 
--- the flags for each id: all five where the query has none
+-- the flags for each id: all five if the query has none
 abbrev pub flags_of : Query → List ℕ
 flags_of query = unwrap_or query.flags (map (λ id. 31) query.ids)
 
--- what a query asks for, id by id
+-- what a query requests, id by id
 abbrev pub asked_for : Rows → Query → List Piece
 asked_for rows query = flat_map (chosen rows) (zip query.ids (flags_of query))
 
--- the messages of these
+-- the messages of these pieces
 abbrev pub messages_asked_for : Rows → Query → List (List ℕ)
 messages_asked_for rows query = map bytes_of (with_nodes_once (asked_for rows query))
 
@@ -48,7 +48,7 @@ abbrev pub end_bytes : Query → ℕ → List ℕ
 end_bytes query full_information =
     spelling (messages.IdsEnd (record { chain_hash = query.chain_hash; full_information = full_information }))
 
--- all messages of the reply; of another chain the end alone
+-- all messages of the reply; for another chain the end alone
 abbrev pub ids_reply : ChainHash → Rows → Query → List (List ℕ)
 ids_reply chain rows query =
     if pointwise nat_eq query.chain_hash.0 chain.0

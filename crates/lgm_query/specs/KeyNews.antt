@@ -1,4 +1,4 @@
--- News, key by key: what is new of a channel and of a node.
+-- News by key: what is new of a channel and of a node.
 use Rattle.std.specs.Prelude.{◌≡◌, ℕ, not, List, [], filter, Result, Ok}
 use Rattle.std.specs.List.{AllByRecursion}
 use Rattle.std.specs.Option.{option_map_or}
@@ -33,14 +33,14 @@ pub record TellKeys (rows : Rows) : Type 0 where
   pub updates : AllByRecursion (λ row. subject_of row.raw ≡ of_channel row.message.short_channel_id) rows.updates
   pub nodes : AllByRecursion (λ row. subject_of row.raw ≡ of_node row.message.node_id) rows.nodes
 
--- what passes of a channel, and of a node: nothing if it isn't held
+-- what passes of a channel, and of a node: nothing if it isn't in the map
 abbrev pub passing_of_channel : Filter → Rows → ℕ → List (List ℕ)
 passing_of_channel f rows id = option_map_or (λ row. passing_channel f (held_at rows row)) (channel_of rows.channels id) []
 
 abbrev pub passing_of_node : Filter → Rows → Point → List (List ℕ)
 passing_of_node f rows node = option_map_or (passing_node f) (node_of rows.nodes node) []
 
--- messages without those that were among others
+-- messages that aren't among others
 abbrev pub without_known : List (List ℕ) → List (List ℕ) → List (List ℕ)
 without_known known messages = filter (λ message. not (is_among known message)) messages
 

@@ -1,4 +1,4 @@
--- Messages in an ordered set, as slices.
+-- A set of messages as slices.
 use Rattle.std.specs.Prelude.{ℕ, Bool, List}
 use Rattle.std.specs.Cmp.Lexicographic.{slice_cmp}
 use Rattle.std.specs.Ordering.{is_eq, nat_cmp}

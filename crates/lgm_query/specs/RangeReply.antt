@@ -1,4 +1,4 @@
--- The replies to a query of a range of blocks: the ids of its channels, in pieces of at most 4,000.
+-- The replies to a query of a block range: the ids of its channels, in pieces of at most 4,000.
 use Rattle.std.specs.Prelude.{◌≡◌, ℕ, zero, suc, ◌+◌, ◌-◌, ◌*◌, max, nat_eq, ◌==◌, Bool, true, false, List, [], length, map, take, drop, Option, Some, None, slice_index, unwrap_or, All, if◌then◌else◌}
 use Rattle.std.specs.Cmp.Lexicographic.{pointwise}
 use Rattle.std.specs.Int.{bit_at, div_ceil}
@@ -15,22 +15,22 @@ use Rattle.lgm_store.specs.declared.held.Held.{Held}
 use Rattle.lgm_store.specs.Rows.{Rows, update_of}
 use Rattle.lgm_store.specs.Reading.{block_of, is_between, ids_between_of}
 
--- the block that the range of a query ends before; a range of no blocks counts as one block
+-- the end of a query's range, exclusive; a range of no blocks counts as one block
 abbrev pub range_end : RangeQuery → ℕ
 range_end query = query.first_blocknum + max query.number_of_blocks 1
 
--- the ids in the range, ascending; none of another chain
+-- the ids in the range, ascending; none for another chain
 abbrev pub ids_asked_for : ChainHash → Rows → RangeQuery → List ℕ
 ids_asked_for chain rows query =
     if pointwise nat_eq query.chain_hash.0 chain.0
     then ids_between_of rows.channels query.first_blocknum (range_end query)
     else []
 
--- each id lies in the range
+-- each id is in the range
 abbrev pub AreInRange : RangeQuery → List ℕ → Type 0
 AreInRange query ids = All (λ id. is_between id query.first_blocknum (range_end query) ≡ true) ids
 
--- how many replies there are: one for each 4,000 ids that are begun, and one if there are none
+-- the number of replies: the number of ids by 4,000, rounded up, and at least one
 abbrev pub reply_count : List ℕ → ℕ
 reply_count ids = max 1 (div_ceil (length ids) 4000)
 
@@ -52,18 +52,18 @@ first_block ids i = block_of (slice_index ids (4000 * i))
 abbrev pub last_block : List ℕ → ℕ → ℕ
 last_block ids i = block_of (slice_index ids (4000 * i + 3999))
 
--- the block that reply i ends before: just past its last id, or where the range ends
+-- the end of reply i, exclusive: just after the block of its last id, or where the range ends
 abbrev pub reply_end : RangeQuery → List ℕ → ℕ → ℕ
 reply_end query ids i = if is_last ids i then range_end query else last_block ids i + 1
 
--- the block that reply i starts with: where the one before ends, or one earlier if its first id stands in that block
+-- the first block of reply i: where the previous one ends, or one earlier if its first id is in that block
 abbrev pub reply_start : RangeQuery → List ℕ → ℕ → ℕ
 reply_start query ids zero = query.first_blocknum
 reply_start query ids (suc i) =
     let end = reply_end query ids i in
     if first_block ids (suc i) + 1 == end then end - 1 else end
 
--- the timestamp of an update, or 0 where none is held
+-- the timestamp of an update, or 0 if there is none
 abbrev pub timestamp_of : Option UpdateRow → ℕ
 timestamp_of row = option_map_or (λ row. row.message.timestamp) row 0
 
@@ -78,15 +78,15 @@ timestamps_in held = record { node_1 = timestamp_of held.first; node_2 = timesta
 abbrev pub all_timestamps_of : Rows → List ℕ → List Timestamps
 all_timestamps_of rows ids = map (timestamps_of rows) ids
 
--- whether the query asks for timestamps: bit 0 of its options
+-- whether the query requests timestamps: bit 0 of its options
 abbrev pub asks_for_timestamps : RangeQuery → Bool
 asks_for_timestamps query = bit_at (unwrap_or query.options 0) 0 == 1
 
--- those of all ids, if the query asks for them
+-- those of all ids, if the query requests them
 abbrev pub timestamps_beside : Rows → RangeQuery → List ℕ → List Timestamps
 timestamps_beside rows query ids = if asks_for_timestamps query then all_timestamps_of rows ids else []
 
--- the timestamps of these channels, if the query asks for them
+-- the timestamps of these channels, if the query requests them
 abbrev pub timestamps_asked_for : Rows → RangeQuery → List ℕ → Option (List Timestamps)
 timestamps_asked_for rows query ids = if asks_for_timestamps query then Some (all_timestamps_of rows ids) else None
 

@@ -1,4 +1,4 @@
--- What was gathered to be sent, as a prefix of the pieces that a query asks for.
+-- The collected messages, as a prefix of the pieces that a query requests.
 use Rattle.std.specs.Prelude.{◌≡◌, ℕ, Bool, false, List, ◌++◌, map}
 use Rattle.std.specs.List.{list_any}
 use Rattle.std.specs.BTreeMap.{is_at}
@@ -22,6 +22,6 @@ pub record AreSent (pieces : List Piece) (sent : Sent) : Type 0 where
   pub messages : sent.messages ≡ map bytes_of (with_nodes_once pieces)
   pub nodes : (point : Point) → list_any (is_at (point_cmp point)) sent.nodes ≡ list_any (is_of_node point) pieces
 
--- these pieces were sent behind those before
+-- these pieces were sent after those before
 abbrev pub Sends : List Piece → Sent → Sent → Type 0
 Sends added old new = (pieces : List Piece) → AreSent pieces old → AreSent (pieces ++ added) new

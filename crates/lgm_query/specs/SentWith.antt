@@ -1,4 +1,4 @@
--- What was sent before: with which updates of an earlier channel a message was, and the message of a node.
+-- What was sent earlier: with which updates of an earlier channel a message was, and the message of a node.
 use Rattle.std.specs.Prelude.{ℕ, Bool, false, ◌&&◌, ◌||◌, List, [], ◌∷◌, Option, Some, None, if◌then◌else◌}
 use Rattle.std.specs.Option.{option_map, option_map_or}
 use Rattle.lgm_check.specs.declared.row.ChannelRow.{ChannelRow}
@@ -9,12 +9,12 @@ use Rattle.lgm_query.specs.declared.filter.Filter.{Filter}
 use Rattle.lgm_query.specs.declared.sent_with.SentWith.{SentWith}
 use Rattle.lgm_query.specs.Backlog.{passes, is_among}
 
--- a message is this update's, or the announcement of its channel
+-- a message is the update, or the announcement of its channel
 abbrev pub is_sent_with : ChannelRow → Option UpdateRow → List ℕ → Bool
 is_sent_with channel None message = false
 is_sent_with channel (Some update) message = is_among (channel.raw ∷ update.raw ∷ []) message
 
--- with which updates of a channel a message was sent, where there are both
+-- the updates of a channel with which a message was sent, if there are both
 abbrev pub sent_with : Option Held → Option (List ℕ) → SentWith
 sent_with (Some held) (Some message) = record {
   first = is_sent_with held.channel held.first message;
@@ -22,11 +22,11 @@ sent_with (Some held) (Some message) = record {
 }
 sent_with before message = record { first = false; second = false }
 
--- the message of an update, if it is held
+-- the message of an update, if there is one
 abbrev pub update_message : Option UpdateRow → Option (List ℕ)
 update_message update = option_map (λ row. row.raw) update
 
--- whether an update is held and passes
+-- whether there is an update and it passes
 abbrev pub passes_update : Filter → Option UpdateRow → Bool
 passes_update f None = false
 passes_update f (Some update) = passes f update.message.timestamp
@@ -40,6 +40,6 @@ abbrev pub unless_passed : Filter → Option Held → SentWith → Option (List 
 unless_passed f (Some held) sent (Some message) = if passed_with f held sent then None else Some message
 unless_passed f before sent message = message
 
--- whether an earlier row of a node is held, and has this message
+-- whether there is an earlier row of a node with this message
 abbrev pub is_node_message : Option NodeRow → List ℕ → Bool
 is_node_message before message = option_map_or (λ row. is_among (row.raw ∷ []) message) before false

@@ -13,18 +13,18 @@ use Rattle.lgm_store.specs.Rows.{is_point}
 use Rattle.lgm_store.specs.Ends.{point_cmp}
 use Rattle.lgm_query.specs.KeyNews.{of_channel, of_node, subject_of}
 
--- whether the operation may give a channel an announcement or an update
+-- whether the operation may add an announcement or an update to a channel
 abbrev pub touches_channel : ℕ → Op → Bool
 touches_channel id (ops.Channel row) = row.message.short_channel_id == id
 touches_channel id (ops.Update row) = row.message.short_channel_id == id
 touches_channel id _ = false
 
--- whether it may give a node an announcement
+-- whether it may add an announcement to a node
 abbrev pub touches_node : Point → Op → Bool
 touches_node node (ops.Node row) = is_point row.message.node_id node
 touches_node node _ = false
 
--- the bytes that it brings are about the key of its row
+-- the bytes of its row are about the key of the row
 abbrev pub TellsKey : Op → Type 0
 TellsKey (ops.Channel row) = subject_of row.raw ≡ of_channel row.message.short_channel_id
 TellsKey (ops.Update row) = subject_of row.raw ≡ of_channel row.message.short_channel_id
@@ -41,7 +41,7 @@ pub record Touched : Type 0 where
   pub channels : List ℕ
   pub nodes : List Point
 
--- these are what operations touch, ascending
+-- these are the keys that operations touch, ascending
 pub record HasTouched (history : List Op) (touched : Touched) : Type 0 where
   pub channels_ascend : IsStrictlySortedBy nat_cmp touched.channels
   pub nodes_ascend : IsStrictlySortedBy point_cmp touched.nodes

@@ -1,4 +1,4 @@
-//! Answers to queries of channels by their ids.
+//! Replies to queries by ids.
 
 ghost use Rattle.std.specs.Prelude.{◌≡◌, ◌<◌, ◌∷◌, [], length, slice_index, IfOk};
 ghost use Rattle.lgm_query.specs.IdsReply.{flags_of, messages_asked_for, end_bytes, ids_reply};
@@ -11,20 +11,20 @@ use lgm_gossip::{Bytes, ChainHash, IdsEnd, IdsQuery, Message};
 use lgm_store::Map;
 use std::alloc::{AllocError, Global};
 
-/// The flags that ask for all that is held of a channel.
+/// The flags that select all messages of a channel.
 const ALL: u64 = 0b11111;
 
-/// The reply to a `query_short_channel_ids` on a map of `chain`: what is held of the channels, in the query's order,
-/// and then `reply_short_channel_ids_end` (BOLT 7, "The query_short_channel_ids/reply_short_channel_ids_end
+/// The reply to a `query_short_channel_ids` on a map of `chain`: the messages about the channels, in the order of the
+/// query, and then `reply_short_channel_ids_end` (BOLT 7, "The query_short_channel_ids/reply_short_channel_ids_end
 /// Messages").
 ///
-/// The flags of an id choose among its messages: bit 0 the announcement, bits 1 and 2 the updates by node 1 and node 2,
-/// bits 3 and 4 the announcements of node 1 and node 2. Other bits choose nothing. A query without flags asks for all
-/// five of each. An id that comes again is answered again, but the announcement of a node is sent at its first place
-/// only. A query of another chain gets the end alone, whose `full_information` is then 0.
+/// The flags of an id select among its messages: bit 0 the channel announcement, bits 1 and 2 the updates by node 1 and
+/// node 2, bits 3 and 4 the announcements of node 1 and node 2. Other bits select nothing. Without flags all five are
+/// selected. A repeated id is answered again, but a node announcement is sent only at its first place. A query of
+/// another chain gets the end message alone, with `full_information` 0.
 ///
-/// It costs a logarithm of the map for each id. It takes memory for a reference to each message and for the point of
-/// each node that is sent, whatever the messages' lengths. The only error is want of memory.
+/// Each id takes time logarithmic in the map. A reference to each message and the point of each node sent are
+/// allocated, whatever the messages' lengths. The only error is out of memory.
 pub fn answer_ids<'a>(
     alloc: Global,
     chain: &ChainHash,
@@ -43,7 +43,7 @@ pub fn answer_ids<'a>(
     Ok(Replies::from_vec(messages))
 }
 
-/// What is held of the channels that are asked for.
+/// The messages about the channels of the query.
 fn held<'a>(alloc: Global, map: &'a Map, query: &IdsQuery) -> Result<Vec<Reply<'a>>, AllocError>
     ensures { IfOk result (λ held. held.items ≡ messages_asked_for map.now query.now) }
 {
@@ -54,7 +54,7 @@ fn held<'a>(alloc: Global, map: &'a Map, query: &IdsQuery) -> Result<Vec<Reply<'
     Ok(sending.into_messages())
 }
 
-/// What is asked for of the channel at a place of the query.
+/// The flags of the id at an index of the query.
 fn flags_at(query: &IdsQuery, place: usize) -> u64
     requires { place < length query.now.ids }
     ensures { result ≡ slice_index (flags_of query.now) place }
@@ -65,11 +65,11 @@ fn flags_at(query: &IdsQuery, place: usize) -> u64
     }
 }
 
-/// The message behind all others.
+/// The last message of the reply.
 fn end(alloc: Global, query: &IdsQuery, full_information: u8) -> Result<Bytes, AllocError>
     ensures { IfOk result (λ bytes. bytes ≡ end_bytes query.now full_information) }
 {
-    // So the message isn't too long.
+    // With this the message isn't too long.
     let chain: &[u8] = &query.chain_hash.0;
     prove!(chain.len() == 32);
     let end = IdsEnd {

@@ -1,4 +1,4 @@
-//! Answers to queries of ranges of blocks.
+//! Replies to queries of block ranges.
 
 ghost use Rattle.std.specs.Prelude.{◌≡◌, ◌*◌, ◌<◌, ◌≤◌, true, length, IfOk, if◌then◌else◌};
 ghost use Rattle.lgm_store.specs.Rows.{Rows};
@@ -19,15 +19,15 @@ use std::alloc::{AllocError, Global};
 /// The replies to a `query_channel_range` on a map of `chain`, each a `reply_channel_range` (BOLT 7, "The
 /// query_channel_range and reply_channel_range Messages").
 ///
-/// They give the ids of the channels whose funding lies in the range, ascending, 4,000 in each reply but the last. A
-/// range of no blocks counts as one block, and may end past the greatest height that a block can have. The first reply
-/// starts where the range does, and each other where the one before ends, or one block earlier if its first id stands
-/// in that block: so no block is skipped. A reply ends just past the block of its last id; the last one ends where the
-/// range ends, and has `sync_complete` 1. Bit 0 of the options asks for the timestamps of the updates; checksums are
-/// never sent. A query of another chain gets one reply over the range, with no ids.
+/// They have the ids of the channels funded in the range, ascending, 4,000 in each reply but the last. A range of no
+/// blocks counts as one block, and may end beyond the greatest block height. The first reply starts where the range
+/// does, and each later one where the previous one ends, or one block earlier if its first id is in that block: so no
+/// block is skipped. A reply ends just after the block of its last id; the last one ends where the range ends, with
+/// `sync_complete` 1. Bit 0 of the options requests the timestamps of the updates; checksums are never sent. A query of
+/// another chain gets one reply over the range, without ids.
 ///
-/// It costs a logarithm of the map, and a step for each channel of the range, as does the memory that it takes. The
-/// only error is want of memory.
+/// Time is logarithmic in the map and linear in the channels of the range; memory is linear in these. The only error is
+/// out of memory.
 pub fn answer_range<'a>(
     alloc: Global,
     chain: &ChainHash,
@@ -62,7 +62,7 @@ fn ids_asked_for(
     map.ids_between(alloc, u64::from(query.first_blocknum), range_end(query))
 }
 
-/// The reply at a place.
+/// The reply at an index.
 fn reply(
     alloc: Global,
     query: &RangeQuery,
@@ -76,7 +76,7 @@ fn reply(
     ensures { (rows : Rows) → times.now ≡ timestamps_beside rows query.now ids.now
         → IfOk result (λ bytes. bytes ≡ reply_bytes rows query.now ids.now place) }
 {
-    // So the reply isn't too long.
+    // With this the reply isn't too long.
     let chain: &[u8] = &query.chain_hash.0;
     prove!(chain.len() == 32);
     let own = ids_at(ids, place);
@@ -91,7 +91,7 @@ fn reply(
     encoded(alloc, &Message::RangeReply(message))
 }
 
-/// The timestamps of all ids that are asked for, if the query asks for them.
+/// The timestamps of all ids in the range, if the query requests them.
 fn timestamps_beside(
     alloc: Global,
     chain: &ChainHash,
@@ -110,7 +110,7 @@ fn timestamps_beside(
     Ok(times)
 }
 
-/// The timestamps in the reply at a place, if the query asks for them.
+/// The timestamps in the reply at an index, if the query requests them.
 fn timestamps_at(
     alloc: Global,
     query: &RangeQuery,
@@ -134,7 +134,7 @@ fn asks_for_timestamps(query: &RangeQuery) -> bool
     query.options.unwrap_or(0) % 2 == 1
 }
 
-/// The timestamps of a channel's updates, 0 where none is held.
+/// The timestamps of a channel's updates, 0 where there is none.
 fn timestamps_of(held: &Held) -> Timestamps
     ensures { result ≡ timestamps_in held.now }
 {

@@ -1,4 +1,4 @@
-//! What a map holds that passes a filter.
+//! The messages of a map that pass a filter.
 
 ghost use Rattle.std.specs.Prelude.{◌≡◌, List, ℕ, ◌++◌};
 ghost use Rattle.std.specs.Iterator.{YieldsFirstRef, item_count};
@@ -10,18 +10,18 @@ use lgm_store::{Channels, Map, Nodes};
 use std::marker::Model;
 
 /// The messages of a map that pass a filter, as they are sent to a peer that sets it (BOLT 7, "The
-/// gossip_timestamp_filter Message"). Contracts see the list of those that are still to come.
+/// gossip_timestamp_filter Message"). An iterator; contracts see the list of the messages still to come.
 ///
-/// Channels come first, by their ids: for each its announcement, if an update of it passes, and then the updates by
-/// node 1 and by node 2 that pass. Behind them come the announcements of nodes that pass, by their points. An update
-/// and a node's announcement pass by their own timestamps.
+/// Channels come first, by id: for each its announcement, if an update of it passes, and then the updates by node 1 and
+/// by node 2 that pass. Then come the node announcements that pass, by point. Updates and node announcements pass by
+/// their own timestamps.
 ///
-/// It takes no memory, and searches for nothing: the whole walk costs what the map holds. Through a filter of no seconds
-/// nothing passes, and the walk costs nothing.
+/// Nothing is allocated or searched for: the whole iteration is linear in the map. An empty range passes nothing, and
+/// costs nothing.
 #[derive(Drop)]
 pub struct Backlog<'a> {
     filter: Filter,
-    /// What is left of the last row.
+    /// The remaining messages of the last row.
     passing: Passing<'a>,
     channels: Channels<'a>,
     nodes: Nodes<'a>,
@@ -34,7 +34,7 @@ impl<'a> Model for Backlog<'a> {
 }
 
 impl<'a> Backlog<'a> {
-    /// What passes of a map, from its first message on.
+    /// The messages of a map that pass, from the first on.
     pub fn of(map: &'a Map, filter: &Filter) -> Backlog<'a>
         ensures { result ≡ backlog map.now filter.now }
     {

@@ -1,4 +1,4 @@
-//! What operations touch.
+//! Keys that operations touch.
 
 ghost use Rattle.std.specs.Prelude.{◌≡◌, ◌++◌, ◌∷◌, [], List, OnOk, OnErr};
 ghost use Rattle.lgm_store.specs.declared.op.Op.{Op};
@@ -10,8 +10,8 @@ use std::alloc::{AllocError, Global};
 use std::collections::BTreeSet;
 use std::marker::Model;
 
-/// The channels that operations may give an announcement or an update, and the nodes that they may give an announcement:
-/// of others there are no news.
+/// The channels to which operations may add an announcement or an update, and the nodes to which they may add an
+/// announcement: about others there are no news.
 #[derive(Drop)]
 pub struct Changes {
     pub(crate) channels: BTreeSet<Scid>,
@@ -27,7 +27,7 @@ impl Model for Changes {
 }
 
 impl Changes {
-    /// What no operations touch.
+    /// The keys of no operations.
     pub fn new(alloc: Global) -> Changes
         ensures { HasTouched [] result }
     {
@@ -37,7 +37,7 @@ impl Changes {
         }
     }
 
-    /// With what a further operation touches. The only error is want of memory, which leaves them as they were.
+    /// Adds the keys of another operation. The only error is out of memory, which leaves them unchanged.
     pub fn touch(&mut self, op: &Op) -> Result<(), AllocError>
         ensures ok { OnOk result ((history : List Op) → HasTouched history self.old → HasTouched (history ++ op.now ∷ []) self.new) }
         ensures err { OnErr result (self.new ≡ self.old) }
@@ -46,7 +46,7 @@ impl Changes {
             Op::Channel(row) => self.channels.insert(row.get().scid())?,
             Op::Update(row) => self.channels.insert(row.get().scid())?,
             Op::Node(row) => self.nodes.insert(row.get().node())?,
-            // They only take rows away.
+            // These only remove rows.
             Op::Close(_) | Op::Ban(_) => false,
         };
         Ok(())

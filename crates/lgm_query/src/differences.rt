@@ -1,4 +1,4 @@
-//! What changed between two maps.
+//! The differences between two maps.
 
 ghost use Rattle.std.specs.Prelude.{◌≡◌, IfOk};
 ghost use Rattle.std.specs.List.{flat_map};
@@ -18,10 +18,10 @@ use std::alloc::{AllocError, Global};
 use std::collections::BTreeSet;
 use std::marker::Model;
 
-/// What changed between an earlier map and a later one: of each channel and node that operations touched, the rows of
-/// both. Contracts see the rows of the two maps.
+/// The differences between an earlier map and a later one: the rows of both for each channel and node that operations
+/// touched. Contracts see the rows of the two maps.
 ///
-/// It is made once, and then the messages of the two maps are compared. It tells each peer its news by timestamps alone.
+/// Computed once, by comparing the messages of the two maps; then the news of each peer depend on timestamps alone.
 #[derive(Drop)]
 pub struct Differences<'a> {
     before: &'a Map,
@@ -39,11 +39,10 @@ impl<'a> Model for Differences<'a> {
 }
 
 impl<'a> Differences<'a> {
-    /// Those of a map that came of an earlier one by operations, which touched these. The messages of both maps, and of
-    /// the operations, are about the channel or node of their row, as those of each message that was checked are.
+    /// The differences from an earlier map to one made from it by operations that touched these keys. The messages of
+    /// both maps and of the operations must be about the key of their row, as all checked messages are.
     ///
-    /// It costs a logarithm of the maps for each touched channel and node, and reads their messages. The only error is
-    /// want of memory.
+    /// Time is logarithmic in the maps for each touched key, whose messages are read. The only error is out of memory.
     pub fn between(
         alloc: Global,
         before: &'a Map,
@@ -63,8 +62,8 @@ impl<'a> Differences<'a> {
         })
     }
 
-    /// The news of [`news`](crate::news) from the earlier map to the later one, as they are walked. It takes no memory,
-    /// looks at no more than the timestamps of what was touched, and at nothing through a filter of no seconds.
+    /// Iterates over the [`news`](crate::news) from the earlier map to the later one. Nothing is allocated, and only
+    /// the timestamps of what was touched are looked at, or nothing if the filter's range is empty.
     pub fn news<'b>(&'b self, filter: &Filter) -> News<'b, 'a>
         ensures { result ≡ news self.now.before self.now.after filter.now }
     {
@@ -72,7 +71,7 @@ impl<'a> Differences<'a> {
     }
 }
 
-/// What the maps have of channels, of which the later map has each.
+/// The rows of both maps for the channels that the later map has.
 #[tactic(auto, using(crate::proofs::PairLaws::one_more_pair))]
 fn channel_pairs<'a>(
     alloc: Global,
@@ -92,7 +91,7 @@ fn channel_pairs<'a>(
     Ok(pairs)
 }
 
-/// What the maps have of nodes, of which the later map has each.
+/// The rows of both maps for the nodes that the later map has.
 fn node_pairs<'a>(
     alloc: Global,
     before: &'a Map,

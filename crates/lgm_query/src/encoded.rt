@@ -1,4 +1,4 @@
-//! The bytes of replies.
+//! Encoding of replies.
 
 ghost use Rattle.std.specs.Prelude.{◌≡◌, ◌≤◌, length, IfOk};
 ghost use Rattle.lgm_gossip.specs.Spelling.{spelling};
@@ -6,7 +6,7 @@ ghost use Rattle.lgm_gossip.specs.Spelling.{spelling};
 use lgm_gossip::{Bytes, EncodeFault, Message, encode};
 use std::alloc::{AllocError, Global};
 
-/// The bytes of a message that isn't too long. The only error is want of memory.
+/// Encodes a message that isn't too long. The only error is out of memory.
 pub(crate) fn encoded(alloc: Global, message: &Message) -> Result<Bytes, AllocError>
     requires { length (spelling message.now) ≤ 65535 }
     ensures { IfOk result (λ bytes. bytes ≡ spelling message.now) }

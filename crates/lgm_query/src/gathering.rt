@@ -1,4 +1,4 @@
-//! What passes a filter, gathered.
+//! A backlog as a list.
 
 ghost use Rattle.std.specs.Prelude.{◌≡◌, IfOk};
 ghost use Rattle.lgm_query.specs.Backlog.{backlog};
@@ -10,7 +10,7 @@ use crate::reply::Reply;
 use lgm_store::Map;
 use std::alloc::{AllocError, Global};
 
-/// The messages of a [`Backlog`], lent by the map. The only error is want of memory.
+/// The messages of a [`Backlog`], borrowed from the map. The only error is out of memory.
 pub fn backlog<'a>(alloc: Global, map: &'a Map, filter: &Filter) -> Result<Replies<'a>, AllocError>
     ensures { IfOk result (λ replies. replies ≡ backlog map.now filter.now) }
 {

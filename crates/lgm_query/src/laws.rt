@@ -1,4 +1,4 @@
-//! What holds of replies, and of messages that are news.
+//! Laws of replies and news.
 
 ghost use Rattle.std.specs.Prelude.{◌≡◌, ℕ, List, Ok};
 ghost use Rattle.std.specs.List.{AllByRecursion};
@@ -16,23 +16,23 @@ ghost use Rattle.lgm_query.specs.Touched.{TellsKey};
 ghost use Rattle.lgm_query.specs.RangeReply.{ids_asked_for};
 ghost use Rattle.lgm_query.specs.Cover.{CoverRange};
 
-/// The replies to a range of blocks cover it, where rows ascend, as those of each map do: they start and end where the
-/// range does, skip no block, hold the blocks of their ids, and have all ids together. A call does nothing: its
-/// contract is the law.
+/// The replies to a range cover it, if rows ascend, as those of every map do: they start and end where the range does,
+/// skip no block, cover the blocks of their ids, and together have all ids. The call does nothing: its contract is the
+/// law.
 pub fn replies_cover_range()
     ensures { (chain : ChainHash) (rows : Rows) (query : RangeQuery) → IsAscending rows
         → CoverRange query (ids_asked_for chain rows query) }
 {}
 
-/// The bytes that an operation brings, which a checked message gave, are about the channel or node of its row. A call
-/// does nothing: its contract is the law.
+/// The bytes of an operation made from a checked message are about the channel or node of its row. The call does
+/// nothing: its contract is the law.
 pub fn operations_tell_keys()
     ensures { (chain : ChainHash) (bytes : List ℕ) (evidence : Evidence) (checked : Checked) (rows : Rows) (op : Op)
         → checked_of chain bytes evidence ≡ Ok checked → admitted rows checked ≡ Ok op → TellsKey op }
 {}
 
-/// Where the bytes of all rows and of operations are about the channels and nodes of their rows, so are those of the
-/// rows that the operations leave. A call does nothing: its contract is the law.
+/// If the bytes of all rows and of operations are about the channels and nodes of their rows, so are those of the rows
+/// after the operations. The call does nothing: its contract is the law.
 pub fn operations_keep_keys()
     ensures { (rows : Rows) (history : List Op) → TellKeys rows → AllByRecursion TellsKey history
         → TellKeys (fold_from rows history) }

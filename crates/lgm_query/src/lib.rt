@@ -1,9 +1,9 @@
-//! What a node answers to queries of its map (BOLT 7, "Query Messages").
+//! Replies to queries about a map (BOLT 7, "Query Messages").
 //!
-//! [`answer_ids`] gives the messages that are held of some channels, and [`answer_range`] the ids of the channels in a
-//! range of blocks. A [`Backlog`] walks what passes a [`Filter`] of a map, [`backlog`] gathers it, and [`news`] gives what
-//! is new of it in a later map; where operations made that map of the earlier one, [`Differences`] walk it with no look
-//! at the rest. All of them give whole messages as bytes, ready to be sent.
+//! [`answer_ids`] returns the messages in the map about given channels, and [`answer_range`] the ids of the channels in
+//! a range of blocks. A [`Backlog`] iterates over what passes a [`Filter`], [`backlog`] collects it, and [`news`]
+//! returns what is new of it in a later map; if operations led from the earlier map to the later one, [`Differences`]
+//! iterate over it without looking at the rest. All return whole messages as bytes, ready to be sent.
 #![tactic(auto)]
 
 mod answering_ids;

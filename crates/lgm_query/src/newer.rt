@@ -1,4 +1,4 @@
-//! What is new in a later map.
+//! News of a later map.
 
 ghost use Rattle.std.specs.Prelude.{◌≡◌, ℕ, List, true, IfOk};
 ghost use Rattle.std.specs.List.{list_any};
@@ -15,11 +15,11 @@ use std::collections::BTreeSet;
 
 /// The messages that pass a filter in a later map and didn't in an earlier one, in the order of [`backlog`].
 ///
-/// Messages are told apart by their bytes. So the announcement of a channel is news once an update of it begins to
-/// pass, and a message that was taken away and came back between the two maps is none.
+/// Messages are compared by their bytes. So a channel announcement is news once an update of the channel begins to
+/// pass, and a message that was removed and added again between the two maps isn't.
 ///
-/// It walks both maps, and costs a logarithm of them for each message. Its memory is a few references to each message,
-/// whatever its length. The only error is want of memory.
+/// Both maps are traversed, with a logarithmic search per message. A few references per message are allocated, whatever
+/// its length. The only error is out of memory.
 pub fn news<'a>(
     alloc: Global,
     before: &Map,
@@ -35,7 +35,7 @@ pub fn news<'a>(
     Ok(Replies::from_vec(news))
 }
 
-/// These messages, to be looked up.
+/// The set of these messages.
 fn known<'a>(alloc: Global, messages: &'a [Reply<'_>]) -> Result<BTreeSet<&'a [u8]>, AllocError>
     ensures { IfOk result (λ known. (message : List ℕ)
         → is_known known.keys message ≡ is_among messages.now message) }

@@ -1,4 +1,4 @@
-//! What is new, as it is walked.
+//! Iteration over news.
 
 ghost use Rattle.std.specs.Prelude.{◌≡◌, List, ℕ, ◌++◌};
 ghost use Rattle.std.specs.Iterator.{YieldsFirstRef, item_count};
@@ -12,11 +12,11 @@ use std::marker::Model;
 use std::slice;
 
 /// The messages that pass a filter in a later map and didn't in an earlier one, in the order of a
-/// [`Backlog`](crate::Backlog). Contracts see the list of those that are still to come.
+/// [`Backlog`](crate::Backlog). Contracts see the list of the messages still to come.
 #[derive(Drop)]
 pub struct News<'b, 'a> {
     filter: Filter,
-    /// What is left of the last row.
+    /// The remaining messages of the last row.
     passing: Passing<'a>,
     channels: slice::Iter<'b, ChannelPair<'a>>,
     nodes: slice::Iter<'b, NodePair<'a>>,
@@ -29,7 +29,7 @@ impl<'b, 'a> Model for News<'b, 'a> {
 }
 
 impl<'b, 'a> News<'b, 'a> {
-    /// Those of channels, and then those of nodes.
+    /// The news of channels, and then of nodes.
     pub(crate) fn of(
         filter: &Filter,
         channels: &'b [ChannelPair<'a>],

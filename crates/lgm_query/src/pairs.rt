@@ -1,4 +1,4 @@
-//! What two maps have of a channel or a node.
+//! The rows that two maps have of a channel or a node.
 
 ghost use Rattle.std.specs.Prelude.{◌≡◌, Some, []};
 ghost use Rattle.std.specs.Option.{option_copied, option_map_or};
@@ -12,8 +12,8 @@ use lgm_gossip::{Point, Scid};
 use lgm_rows::KeptNode;
 use lgm_store::{Held, Map};
 
-/// A channel that a later map has, what an earlier one has of it, and with which of the earlier updates each of its
-/// messages was sent.
+/// A channel of a later map, its row in an earlier one, and for each message the earlier updates with which it was
+/// sent.
 #[derive(Drop)]
 pub(crate) struct ChannelPair<'a> {
     pub(crate) before: Option<&'a Held>,
@@ -26,7 +26,7 @@ pub(crate) struct ChannelPair<'a> {
     ghost of_second: { second ≡ sent_with (option_copied before) (update_message after.now.second) },
 }
 
-/// A node that a later map has, what an earlier one has of it, and whether both have the same message.
+/// A node of a later map, its row in an earlier one, and whether both have the same message.
 #[derive(Drop)]
 pub(crate) struct NodePair<'a> {
     pub(crate) before: Option<&'a KeptNode>,
@@ -38,7 +38,7 @@ pub(crate) struct NodePair<'a> {
 impl<'a> ChannelPair<'a> {
     ghost use Rattle.lgm_query.specs.Differences.{news_of_channel_pair};
 
-    /// That of an id, if the later map has it. The messages are compared here, once for all filters.
+    /// The pair of an id, if the later map has it. The messages are compared here, once for all filters.
     pub(crate) fn at(before: &'a Map, after: &'a Map, scid: Scid) -> Option<ChannelPair<'a>>
         ensures { (f : Filter) → option_map_or (news_of_channel_pair f) result [] ≡ news_of_channel f before.now after.now scid }
     {
@@ -57,7 +57,7 @@ impl<'a> ChannelPair<'a> {
 impl<'a> NodePair<'a> {
     ghost use Rattle.lgm_query.specs.Differences.{news_of_node_pair};
 
-    /// That of a node, if the later map has it. The messages are compared here, once for all filters.
+    /// The pair of a node, if the later map has it. The messages are compared here, once for all filters.
     pub(crate) fn at(before: &'a Map, after: &'a Map, node: &Point) -> Option<NodePair<'a>>
         ensures { (f : Filter) → option_map_or (news_of_node_pair f) result [] ≡ news_of_node f before.now after.now node.now }
     {

@@ -1,4 +1,4 @@
-//! What passes of one channel, or of one node.
+//! The messages that pass of one row.
 
 ghost use Rattle.std.specs.Prelude.{◌≡◌, ◌||◌, List, ℕ, [], ◌++◌};
 ghost use Rattle.std.specs.Bool.{then_some};
@@ -16,7 +16,7 @@ use lgm_rows::KeptNode;
 use lgm_store::Held;
 use std::marker::Model;
 
-/// The messages that pass of one channel, or of one node. Contracts see the list of those that are still to come.
+/// The messages that pass of one channel or node. Contracts see the list of the messages still to come.
 #[derive(Drop)]
 pub(crate) struct Passing<'a> {
     announcement: Option<&'a [u8]>,
@@ -43,7 +43,7 @@ impl<'a> Passing<'a> {
         }
     }
 
-    /// Those of a channel: its announcement, if an update of it passes, and then the updates that pass.
+    /// The messages of a channel: its announcement, if an update of it passes, and then the updates that pass.
     pub(crate) fn of_channel(filter: &Filter, held: &'a Held) -> Passing<'a>
         ensures { result ≡ passing_channel filter.now held.now }
     {
@@ -56,7 +56,7 @@ impl<'a> Passing<'a> {
         }
     }
 
-    /// That of a node's row, if it passes.
+    /// The message of a node's row, if it passes.
     pub(crate) fn of_node(filter: &Filter, row: &'a KeptNode) -> Passing<'a>
         ensures { result ≡ passing_node filter.now row.now }
     {
@@ -70,7 +70,7 @@ impl<'a> Passing<'a> {
         }
     }
 
-    /// Those of a channel that didn't pass before. No message is read.
+    /// The messages of a channel that pass and didn't before. No message is read.
     pub(crate) fn news_of_channel(filter: &Filter, pair: &ChannelPair<'a>) -> Passing<'a>
         ensures { result ≡ news_of_channel_pair filter.now pair.now }
     {
@@ -84,7 +84,7 @@ impl<'a> Passing<'a> {
         }
     }
 
-    /// That of a node, unless it passed before. No message is read.
+    /// The message of a node, if it passes and didn't before. It isn't read.
     pub(crate) fn news_of_node(filter: &Filter, pair: &NodePair<'a>) -> Passing<'a>
         ensures { result ≡ news_of_node_pair filter.now pair.now }
     {
@@ -113,7 +113,7 @@ impl<'a> Iterator for Passing<'a> {
     }
 }
 
-/// The announcement of a channel, if there is an update to be sent behind it.
+/// The announcement of a channel, if an update is to be sent after it.
 fn announcement_before<'a>(
     held: &'a Held,
     first: Option<&[u8]>,
@@ -143,7 +143,7 @@ fn unless_passed<'a>(
     }
 }
 
-/// The message of a channel's update, if it is held and passes. Of one that doesn't, only the timestamp is looked at.
+/// The message of a channel's update, if there is one and it passes. Of one that doesn't, only the timestamp is read.
 fn passing_update<'a>(filter: &Filter, held: &'a Held, second: bool) -> Option<&'a [u8]>
     ensures { option_copied result ≡ passing_update filter.now (update_in second held.now) }
 {

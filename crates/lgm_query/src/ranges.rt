@@ -1,4 +1,4 @@
-//! The ranges of blocks that replies are about.
+//! The block ranges of replies.
 
 ghost use Rattle.std.specs.Prelude.{◌≡◌, ◌+◌, ◌-◌, ◌*◌, ◌^◌, ◌<◌, ◌≤◌, length};
 ghost use Rattle.lgm_store.specs.Reading.{block_of};
@@ -6,10 +6,10 @@ ghost use Rattle.lgm_query.specs.RangeReply.{range_end, AreInRange, reply_count,
 
 use lgm_gossip::{RangeQuery, Scid};
 
-/// The most ids in a reply.
+/// The maximum number of ids in a reply.
 const MOST_IDS: usize = 4_000;
 
-/// The block that the range of a query ends before.
+/// The end of a query's range, exclusive.
 pub(crate) fn range_end(query: &RangeQuery) -> u64
     ensures value { result ≡ range_end query.now }
     ensures most { result < query.now.first_blocknum + 2 ^ 32 }
@@ -17,7 +17,7 @@ pub(crate) fn range_end(query: &RangeQuery) -> u64
     u64::from(query.first_blocknum) + u64::from(query.number_of_blocks.max(1))
 }
 
-/// How many replies these ids make.
+/// The number of replies for these ids.
 pub(crate) fn reply_count(ids: &[Scid]) -> usize
     ensures { result ≡ reply_count ids.now }
 {
@@ -31,7 +31,7 @@ pub(crate) fn is_last(ids: &[Scid], place: usize) -> bool
     place + 1 == reply_count(ids)
 }
 
-/// The ids of the reply at a place.
+/// The ids of the reply at an index.
 pub(crate) fn ids_at(ids: &[Scid], place: usize) -> &[Scid]
     requires { place < reply_count ids.now }
     ensures { result.now ≡ ids_at ids.now place }
@@ -39,7 +39,7 @@ pub(crate) fn ids_at(ids: &[Scid], place: usize) -> &[Scid]
     piece_at(ids, place)
 }
 
-/// What belongs to the ids of the reply at a place, of what all ids have.
+/// The part of a list over all ids that belongs to the reply at an index.
 pub(crate) fn piece_at<T>(items: &[T], place: usize) -> &[T]
     requires { 4000 * place ≤ length items.now }
     ensures { result.now ≡ piece_at items.now place }
@@ -48,7 +48,7 @@ pub(crate) fn piece_at<T>(items: &[T], place: usize) -> &[T]
     &rest[..rest.len().min(MOST_IDS)]
 }
 
-/// The block that the reply at a place ends before.
+/// The end of the reply at an index, a block height, exclusive.
 fn reply_end(query: &RangeQuery, ids: &[Scid], place: usize) -> u64
     requires place { place < reply_count ids.now }
     requires between { AreInRange query.now ids.now }
@@ -62,7 +62,7 @@ fn reply_end(query: &RangeQuery, ids: &[Scid], place: usize) -> u64
     u64::from(next_block(ids[place * MOST_IDS + MOST_IDS - 1]))
 }
 
-/// The block that the reply at a place starts with.
+/// The first block of the reply at an index.
 pub(crate) fn reply_start(query: &RangeQuery, ids: &[Scid], place: usize) -> u32
     requires { place < reply_count ids.now }
     ensures { result ≡ reply_start query.now ids.now place }
@@ -79,18 +79,18 @@ pub(crate) fn reply_start(query: &RangeQuery, ids: &[Scid], place: usize) -> u32
     }
 }
 
-/// How many blocks the reply at a place is about.
+/// The number of blocks of the reply at an index.
 pub(crate) fn number_of_blocks(query: &RangeQuery, ids: &[Scid], place: usize) -> u32
     requires place { place < reply_count ids.now }
     requires between { AreInRange query.now ids.now }
     ensures { result ≡ reply_end query.now ids.now place - reply_start query.now ids.now place }
 {
     let start = u64::from(reply_start(query, ids, place));
-    // Where rows ascend, as those of each map do, no reply ends before it starts.
+    // If rows ascend, as those of every map do, no reply ends before it starts.
     reply_end(query, ids, place).saturating_sub(start) as u32
 }
 
-/// The block behind that of a channel.
+/// The block after that of a channel.
 fn next_block(scid: Scid) -> u32
     ensures { result ≡ block_of scid + 1 }
 {

@@ -7,7 +7,7 @@ use std::marker::Model;
 
 /// Messages to be sent one after the other, each as its bytes. Contracts see the list of lists of bytes.
 ///
-/// A held message is lent by the map that was asked: it costs a reference, whatever its length.
+/// A message of the map is borrowed from it: it costs a reference, whatever its length.
 #[derive(Debug, Drop)]
 pub struct Replies<'a> {
     items: Vec<Reply<'a>>,
@@ -20,7 +20,7 @@ impl<'a> Model for Replies<'a> {
 }
 
 impl<'a> Replies<'a> {
-    /// The messages of a vector, without a copy.
+    /// Wraps a vector, without a copy.
     pub fn from_vec(items: Vec<Reply<'a>>) -> Replies<'a>
         ensures { result ≡ items.entry.items }
     {

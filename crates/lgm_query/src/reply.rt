@@ -3,7 +3,7 @@
 use lgm_gossip::Bytes;
 use std::marker::Model;
 
-/// A message to be sent: one that a map holds, lent by it, or one that was made for the reply. Contracts see its bytes.
+/// A message to be sent: one of a map, borrowed from it, or one made for the reply. Contracts see its bytes.
 #[derive(Debug, Drop)]
 pub struct Reply<'a> {
     source: Source<'a>,
@@ -28,7 +28,7 @@ impl<'a> Model for Reply<'a> {
 impl<'a> Reply<'a> {
     ghost use Rattle.std.specs.Prelude.{◌≡◌};
 
-    /// A held message, borrowed.
+    /// A message of a map, borrowed.
     pub fn held(message: &'a [u8]) -> Reply<'a>
         ensures { result ≡ message.now }
     {
@@ -37,7 +37,7 @@ impl<'a> Reply<'a> {
         }
     }
 
-    /// A message that was made to be sent.
+    /// A message made for the reply.
     pub fn made(message: Bytes) -> Reply<'a>
         ensures { result ≡ message }
     {

@@ -1,4 +1,4 @@
-//! Held messages, gathered to be sent.
+//! Messages collected for sending.
 
 ghost use Rattle.std.specs.Prelude.{◌≡◌, ◌/◌, ◌%◌, ◌^◌, ◌<◌, ◌++◌, ◌==◌, ◌∷◌, [], IfOk, OnOk, Some};
 ghost use Rattle.std.specs.Int.{bit_at};
@@ -32,7 +32,7 @@ impl<'a> Model for Sending<'a> {
 }
 
 impl<'a> Sending<'a> {
-    /// No messages. It takes no memory yet.
+    /// No messages. Nothing is allocated yet.
     pub(crate) fn new(alloc: Global) -> Sending<'a>
         ensures { AreSent [] result }
     {
@@ -50,7 +50,7 @@ impl<'a> Sending<'a> {
         messages
     }
 
-    /// Sends what the flags choose of a channel, if it is held. The only error is want of memory.
+    /// Adds the messages of a channel that the flags select, if it is in the map. The only error is out of memory.
     pub(crate) fn send_chosen(
         &mut self,
         map: &'a Map,
@@ -101,7 +101,7 @@ impl<'a> Sending<'a> {
         }
     }
 
-    /// Sends the announcement of a node, if it is held and wasn't sent. One that was sent isn't looked up again.
+    /// Adds the announcement of a node, if there is one and it wasn't sent. One that was sent isn't looked up again.
     fn send_node(&mut self, map: &'a Map, point: &Point) -> Result<(), AllocError>
         ensures { OnOk result (Sends
             (option_to_list (option_map node (node_of map.now.nodes point.now)))
@@ -117,7 +117,7 @@ impl<'a> Sending<'a> {
         self.push(row.raw())
     }
 
-    /// Puts a message at the end.
+    /// Appends a message.
     fn push(&mut self, message: &'a [u8]) -> Result<(), AllocError>
         ensures messages { OnOk result (self.new.messages ≡ self.old.messages ++ message.now ∷ []) }
         ensures nodes { OnOk result (self.new.nodes ≡ self.old.nodes) }
@@ -127,7 +127,7 @@ impl<'a> Sending<'a> {
     }
 }
 
-/// Whether a bit is set, numbered from the least.
+/// Whether a bit is set, numbered from the least significant.
 fn is_set(flags: u64, bit: u32) -> bool
     requires { bit < 64 }
     ensures { result ≡ (bit_at flags bit == 1) }

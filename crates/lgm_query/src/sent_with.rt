@@ -1,4 +1,4 @@
-//! How a message was sent before.
+//! How a message was sent earlier.
 
 ghost use Rattle.std.specs.Prelude.{◌≡◌};
 ghost use Rattle.std.specs.Option.{option_copied};
@@ -8,18 +8,18 @@ ghost use Rattle.lgm_query.specs.SentWith.{is_sent_with, sent_with, passes_updat
 use crate::filter::Filter;
 use lgm_store::Held;
 
-/// With which updates of an earlier channel a message was sent: it has the bytes of the update, or of the channel's
+/// The updates of an earlier channel with which a message was sent: it has the bytes of the update, or of the channel's
 /// announcement, which is sent with either.
 #[derive(Clone, Copy)]
 pub(crate) struct SentWith {
-    /// With that from node 1.
+    /// With the update from node 1.
     first: bool,
-    /// With that from node 2.
+    /// With the update from node 2.
     second: bool,
 }
 
 impl SentWith {
-    /// Of a message and an earlier channel, where there are both. Their bytes are compared.
+    /// Compares the bytes of a message with those of an earlier channel, if there are both.
     pub(crate) fn of(message: Option<&[u8]>, before: Option<&Held>) -> SentWith
         ensures { result ≡ sent_with (option_copied before.entry) (option_copied message.entry) }
     {
@@ -35,7 +35,7 @@ impl SentWith {
         }
     }
 
-    /// Whether one of these updates passes, and so the message passed. Only timestamps are looked at.
+    /// Whether one of these updates passes, so that the message passed. Only timestamps are read.
     pub(crate) fn passed(&self, filter: &Filter, before: &Held) -> bool
         ensures { result ≡ passed_with filter.now before.now self.now }
     {
@@ -44,7 +44,7 @@ impl SentWith {
     }
 }
 
-/// Whether a message is that of a channel's update, or the channel's announcement, if there is an update.
+/// Whether a message is a channel's update, or the channel's announcement if there is an update.
 fn is_sent_with(held: &Held, second: bool, message: &[u8]) -> bool
     ensures { result ≡ is_sent_with held.now.channel (update_in second held.now) message.now }
 {
@@ -54,7 +54,7 @@ fn is_sent_with(held: &Held, second: bool, message: &[u8]) -> bool
     message == held.raw() || message == update
 }
 
-/// Whether a channel's update is held and passes.
+/// Whether a channel has an update that passes.
 fn passes(filter: &Filter, held: &Held, second: bool) -> bool
     ensures { result ≡ passes_update filter.now (update_in second held.now) }
 {

@@ -8,7 +8,7 @@ use Rattle.lgm_route.specs.declared.fault.RouteFault.{RouteFault}
 use Rattle.lgm_route.specs.declared.fault.RouteFault.TheVariants.{AmountZero, AmountTooLarge, ExpiryTooLarge, SelfPayment, NoRoute}
 use Rattle.lgm_route.specs.Routes.{IsUsable, IsLeast, hops_of}
 
--- the first reason to refuse a request whatever the edges are
+-- the first reason to refuse a request, whatever the edges are
 abbrev pub refusal : Request → Option RouteFault
 refusal request =
     if nat_eq request.amount 0 then Some AmountZero
@@ -17,7 +17,7 @@ refusal request =
     else if is_point request.payer request.payee then Some SelfPayment
     else None
 
--- the hops of the least walk, or no route where no walk is usable
+-- the hops of the best walk, or no route if no walk is usable
 abbrev pub IsFoundOver : List Edge → Request → Result (List Hop) RouteFault → Type 0
 IsFoundOver edges request (Ok hops) = (walk : List Edge) × IsLeast edges request walk × (hops ≡ hops_of request walk)
 IsFoundOver edges request (Err fault) = (fault ≡ NoRoute) × ((walk : List Edge) → IsUsable edges request walk → ⊥)

@@ -1,4 +1,4 @@
--- What the search gives: the least walk over numbered links, which sends what fits 64 bits.
+-- The result of the search: the best walk over numbered links, whose amount fits 64 bits.
 use Rattle.std.specs.Prelude.{◌≡◌, ℕ, ◌<◌, ◌^◌, List, Option, Some, None, map, length, slice_index_or}
 use Rattle.std.specs.List.{AllByRecursion, position}
 use Rattle.lgm_wire.specs.declared.point.Point.{Point}
@@ -16,7 +16,7 @@ abbrev pub IsBestWalk : List Link → NumberedRequest → Option (List Link) →
 IsBestWalk edges request None = (walk : List Link) → IsUsable edges request walk → ⊥
 IsBestWalk edges request (Some walk) = IsLeast edges request walk × (sent request.amount walk < 2 ^ 64)
 
--- a walk over links as one between points
+-- a walk over links as one over edges between points
 abbrev pub edges_in : Graph → List Link → List Edge
 edges_in graph walk = map (edge_at graph.points) walk
 
@@ -34,11 +34,11 @@ hop_over graph link amount expiry = record {
   expiry = expiry;
 }
 
--- both ends of each link are numbered
+-- both nodes of each link are numbered
 abbrev pub AreNumbered : Graph → List Link → Type 0
 AreNumbered graph walk = AllByRecursion (λ link. (link.from < length graph.points) × (link.to < length graph.points)) walk
 
--- a request between the numbers of its nodes, or, where one has none, no usable walk
+-- a request between numbered nodes, or none, if a node has no number and so no walk is usable
 abbrev pub IsNumberingOf : Graph → Request → Option NumberedRequest → Type 0
 IsNumberingOf graph request None = (walk : List Edge) → routes.IsUsable (edges graph) request walk → ⊥
 IsNumberingOf graph request (Some numbered) =

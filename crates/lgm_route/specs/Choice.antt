@@ -1,4 +1,4 @@
--- The least walk by trial: of all walks the first one.
+-- The best walk by exhaustive search: the first of all usable walks.
 use Rattle.std.specs.Prelude.{◌≡◌, ℕ, zero, suc, Bool, ◌&&◌, List, [], ◌∷◌, length, map, filter, nat_le, Option, Some, None, Result, Ok, Err, if◌then◌else◌}
 use Rattle.std.specs.List.{flat_map, fold}
 use Rattle.std.specs.Ordering.{nat_cmp, is_lt}
@@ -14,22 +14,22 @@ use Rattle.lgm_route.specs.declared.fault.RouteFault.TheVariants.{NoRoute}
 use Rattle.lgm_route.specs.Routes.{owed, walk_key, hops_of}
 use Rattle.lgm_route.specs.Answers.{refusal, IsAnswer}
 
--- all lists of at most so many of the edges
+-- all lists of at most the given number of edges
 abbrev pub lists_of : List Edge → ℕ → List (List Edge)
 lists_of edges zero = [] ∷ []
 lists_of edges (suc more) = [] ∷ flat_map (λ edge. map (λ rest. edge ∷ rest) (lists_of edges more)) edges
 
--- whether edges join, from the node to the payee, and each may carry what the edges behind it need
+-- whether edges are consecutive, from the node to the payee, and each can carry what the edges after it need
 abbrev pub leads : Request → Point → List Edge → Bool
 leads request node [] = is_point node request.payee
 leads request node (edge ∷ rest) =
     is_point edge.from node && nat_le edge.min request.amount && nat_le (owed request.amount rest) edge.max && leads request edge.to rest
 
--- the walks of 1 to 20 of the edges that are usable
+-- the usable walks of 1 to 20 of the edges
 abbrev pub usable_walks : List Edge → Request → List (List Edge)
 usable_walks edges request = filter (λ walk. nat_le 1 (length walk) && leads request request.payer walk) (lists_of edges 20)
 
--- the second walk where it precedes the first
+-- the second walk if it precedes the first
 abbrev pub lesser : Request → List Edge → List Edge → List Edge
 lesser request walk other = if is_lt (slice_cmp nat_cmp (walk_key request other) (walk_key request walk)) then other else walk
 
@@ -37,7 +37,7 @@ abbrev pub least_of : Request → List (List Edge) → Option (List Edge)
 least_of request [] = None
 least_of request (walk ∷ walks) = Some (fold (lesser request) walk walks)
 
--- the least of the usable walks
+-- the best of the usable walks
 unfoldable pub least_walk : List Edge → Request → Option (List Edge)
 least_walk edges request = least_of request (usable_walks edges request)
 
@@ -49,11 +49,12 @@ abbrev pub answer_by : Option RouteFault → Request → Option (List Edge) → 
 answer_by (Some fault) request walk = Err fault
 answer_by None request walk = found_by request walk
 
--- the first refusal, or the hops of the least walk, or that no walk is usable
+-- the first refusal, or the hops of the best walk, or that no walk is usable
 unfoldable pub answer_of : List Edge → Request → Result (List Hop) RouteFault
 answer_of edges request = answer_by (refusal request) request (least_walk edges request)
 
--- trial gives an answer; where two edges of one id are the same one or go opposite ways, each answer is that of trial
+-- exhaustive search returns an answer; if two edges of one id are the same or have opposite directions, each answer is
+-- that one
 pub record AnswerIsOne : Type 0 where
   pub found : (edges : List Edge) (request : Request) → IsAnswer edges request (answer_of edges request)
   pub one : (edges : List Edge) (request : Request) (answer : Result (List Hop) RouteFault) → AreDirections edges →

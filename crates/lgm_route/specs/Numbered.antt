@@ -7,9 +7,8 @@ use Rattle.lgm_graph.specs.Fee.{fee_of}
 use Rattle.lgm_graph.specs.declared.link.Link.{Link}
 use Rattle.lgm_route.specs.declared.numbered_request.NumberedRequest.{NumberedRequest}
 
--- what has to reach the first node of these edges so that the amount reaches their end, each node
--- on the way taking its fee. Over edge i goes what is owed at the edges after it: the amount itself
--- over the last one
+-- what has to reach the first node of these edges so that the amount reaches their end, with the fee of each node on
+-- the way. Edge i carries what is owed at the edges after it: the last one the amount itself
 abbrev pub owed : ℕ → List Link → ℕ
 owed amount [] = amount
 owed amount (edge ∷ rest) = let passed = owed amount rest in passed + fee_of passed edge.base edge.millionths
@@ -19,14 +18,14 @@ abbrev pub sent : ℕ → List Link → ℕ
 sent amount [] = amount
 sent amount (edge ∷ rest) = owed amount rest
 
--- an edge of the list that leaves the node, and may carry what the edges after it need
+-- an edge of the list from the node that can carry what the edges after it need
 pub record IsStep (edges : List Link) (request : NumberedRequest) (node : ℕ) (edge : Link) (rest : List Link) : Type 0 where
   pub there : Contains edges edge
   pub leaves : edge.from ≡ node
   pub above_min : edge.min ≤ request.amount
   pub below_max : owed request.amount rest ≤ edge.max
 
--- edges that join, from the node to the payee
+-- consecutive edges, from the node to the payee
 abbrev pub IsRest : List Link → NumberedRequest → ℕ → List Link → Type 0
 IsRest edges request node [] = node ≡ request.payee
 IsRest edges request node (edge ∷ rest) = IsStep edges request node edge rest × IsRest edges request edge.to rest
@@ -40,7 +39,7 @@ pub record IsUsable (edges : List Link) (request : NumberedRequest) (walk : List
 abbrev pub ids : List Link → List ℕ
 ids walk = map (λ edge. edge.scid) walk
 
--- the first number in which two lists differ decides: what is sent, then how many edges, then the ids
+-- lexicographic order of what is sent, then the number of edges, then the ids
 abbrev pub Precedes : NumberedRequest → List Link → List Link → Type 0
 Precedes request walk other =
     slice_cmp nat_cmp

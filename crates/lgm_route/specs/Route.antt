@@ -1,4 +1,4 @@
--- What the payer of a route sends, and when it expires: that of the first hop.
+-- What the payer of a route sends, and when it expires: amount and expiry of the first hop.
 use Rattle.std.specs.Prelude.{ℕ, List, [], ◌∷◌}
 use Rattle.lgm_route.specs.declared.route.Hop.{Hop}
 

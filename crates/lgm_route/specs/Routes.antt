@@ -1,4 +1,4 @@
--- Walks over edges between points, what they cost, and the least one.
+-- Walks over edges between points, what they cost, and the best one.
 use Rattle.std.specs.Prelude.{◌≡◌, ◌≢◌, ◌⊎◌, ℕ, ◌+◌, ◌≤◌, List, [], ◌∷◌, length, map, Contains, Option, Some, None}
 use Rattle.std.specs.declared.cmp.Ordering.TheVariants.{Less}
 use Rattle.std.specs.Ordering.{nat_cmp}
@@ -10,8 +10,8 @@ use Rattle.lgm_graph.specs.declared.edge.Edge.{Edge}
 use Rattle.lgm_route.specs.declared.request.Request.{Request}
 use Rattle.lgm_route.specs.declared.route.Hop.{Hop}
 
--- what has to reach the first node of these edges so that the amount reaches their end, each node on
--- the way taking its fee: over each edge goes what is owed at the edges behind it
+-- what has to reach the first node of these edges so that the amount reaches their end, with the fee of each node on
+-- the way: each edge carries what is owed at the edges after it
 abbrev pub owed : ℕ → List Edge → ℕ
 owed amount [] = amount
 owed amount (edge ∷ rest) = let passed = owed amount rest in passed + fee_of passed edge.base edge.millionths
@@ -26,15 +26,15 @@ abbrev pub due : ℕ → List Edge → ℕ
 due expiry [] = expiry
 due expiry (edge ∷ rest) = due expiry rest + edge.delta
 
--- an edge of the list that leaves the node: the amount is no less than its minimum, and what goes over
--- it, as the edges behind it need it, no more than its maximum
+-- an edge of the list from the node: the amount is at least its minimum, and what it carries, as the edges after it
+-- need it, at most its maximum
 pub record IsStep (edges : List Edge) (request : Request) (node : Point) (edge : Edge) (rest : List Edge) : Type 0 where
   pub there : Contains edges edge
   pub leaves : edge.from ≡ node
   pub above_min : edge.min ≤ request.amount
   pub below_max : owed request.amount rest ≤ edge.max
 
--- edges that join, from the node to the payee
+-- consecutive edges, from the node to the payee
 abbrev pub IsRest : List Edge → Request → Point → List Edge → Type 0
 IsRest edges request node [] = node ≡ request.payee
 IsRest edges request node (edge ∷ rest) = IsStep edges request node edge rest × IsRest edges request edge.to rest
@@ -49,11 +49,11 @@ pub record IsUsable (edges : List Edge) (request : Request) (walk : List Edge) :
 abbrev pub ids : List Edge → List ℕ
 ids walk = map (λ edge. edge.scid) walk
 
--- what is sent, then how many edges, then the ids
+-- what is sent, then the number of edges, then the ids
 abbrev pub walk_key : Request → List Edge → List ℕ
 walk_key request walk = sent request.amount walk ∷ length walk ∷ ids walk
 
--- the first number in which the keys differ decides
+-- lexicographic order of the keys
 abbrev pub Precedes : Request → List Edge → List Edge → Type 0
 Precedes request walk other = slice_cmp nat_cmp (walk_key request walk) (walk_key request other) ≡ Less
 
@@ -62,14 +62,14 @@ pub record IsLeast (edges : List Edge) (request : Request) (walk : List Edge) : 
   pub usable : IsUsable edges request walk
   pub first : (other : List Edge) → IsUsable edges request other → Precedes request other walk → ⊥
 
--- the walk as hops: over each edge what is owed and due at the edges behind it
+-- the walk as hops: each edge carries what is owed and due at the edges after it
 abbrev pub hops_of : Request → List Edge → List Hop
 hops_of request [] = []
 hops_of request (edge ∷ rest) =
     record { scid = edge.scid; from = edge.from; to = edge.to; amount = owed request.amount rest; expiry = due request.expiry rest }
     ∷ hops_of request rest
 
--- the hops of the least walk, or none where no walk is usable
+-- the hops of the best walk, or none if no walk is usable
 abbrev pub IsBest : List Edge → Request → Option (List Hop) → Type 0
 IsBest edges request None = (walk : List Edge) → IsUsable edges request walk → ⊥
 IsBest edges request (Some hops) = (walk : List Edge) × IsLeast edges request walk × (hops ≡ hops_of request walk)
@@ -79,12 +79,13 @@ abbrev pub Visits : Point → List Edge → Type 0
 Visits node [] = ⊥
 Visits node (edge ∷ rest) = (edge.to ≡ node) ⊎ Visits node rest
 
--- a walk from the node comes back to no node
+-- a walk from the node visits no node twice
 abbrev pub IsSimple : Point → List Edge → Type 0
 IsSimple node [] = Unit {0}
 IsSimple node (edge ∷ rest) = (Visits node (edge ∷ rest) → ⊥) × IsSimple edge.to rest
 
--- where two edges of one id are the same one or go opposite ways, a request has one least walk, which comes back to no node
+-- if two edges of one id are the same or have opposite directions, a request between different nodes has at most one
+-- best walk, which visits no node twice
 abbrev pub LeastIsOne : Type 0
 LeastIsOne =
     (edges : List Edge) (request : Request) (walk other : List Edge) → AreDirections edges → request.payer ≢ request.payee →

@@ -3,7 +3,7 @@ use Rattle.std.specs.Prelude.{ℕ, List, [], codes}
 use Rattle.lgm_route.specs.declared.fault.RouteFault.{RouteFault}
 use Rattle.lgm_route.specs.declared.fault.RouteFault.TheVariants as faults
 
--- the word; want of memory has none
+-- the word, empty for out of memory
 abbrev pub route_word : RouteFault → List ℕ
 route_word faults.AmountZero = codes "amount-zero"
 route_word faults.AmountTooLarge = codes "amount-too-large"

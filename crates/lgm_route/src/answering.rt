@@ -1,4 +1,4 @@
-//! The one answer to a payment over the edges of a map.
+//! The unique answer to a payment over the edges of a map.
 
 ghost use Rattle.std.specs.Prelude.{◌≡◌, ◌⊎◌, Err};
 ghost use Rattle.lgm_graph.specs.Edges.{edges_of};
@@ -16,10 +16,10 @@ use lgm_store::Map;
 use std::alloc::Global;
 use std::thread::Threads;
 
-/// The answer to a payment over the edges of a map, which the view is of: what [`least`] gives is
-/// the only answer that the rows leave, however the view has them in order.
+/// The answer to a payment over the edges of a map with its view: the answer of [`least`], which is
+/// unique given the rows, whatever the order of the view's edges.
 ///
-/// `NoMemory` says nothing of the payment.
+/// `NoMemory` says nothing about the payment.
 pub fn answer(alloc: Global, map: &Map, view: &View, request: &Request) -> Result<Route, RouteFault>
     requires beside { IsGraphOf map.now view.now }
     ensures { (result ≡ Err RouteFault.NoMemory) ⊎
@@ -30,7 +30,7 @@ pub fn answer(alloc: Global, map: &Map, view: &View, request: &Request) -> Resul
     least(alloc, view, request)
 }
 
-/// The same answer, found by a pool of workers as [`least_chunked`] does.
+/// The same answer, found by a pool of workers as in [`least_chunked`].
 pub fn answer_chunked<Rt: Threads + Sync, G: Gate>(
     pool: &Pool<'_, Rt, G>,
     map: &Map,

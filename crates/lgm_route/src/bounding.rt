@@ -1,4 +1,4 @@
-//! The pass that begins at the payer, and tells what is charged at least up to each node.
+//! The pass from the payer, which computes lower bounds on the fees to each node.
 
 ghost use Rattle.std.specs.Prelude.{◌≡◌, ◌⊎◌, ◌++◌, ◌∷◌, [], ◌^◌, ◌-◌, ◌<◌, ◌≤◌, ℕ, length, IfOk, false, slice_index_or};
 ghost use Rattle.lgm_graph.specs.Fee.{fee_of};
@@ -14,17 +14,17 @@ use lgm_graph::{Link, View, fee};
 use std::alloc::{AllocError, Global};
 use std::collections::BinaryHeap;
 
-/// How many edges a pass looks at for each of its steps, on average, at most.
+/// The maximum average number of edges that a pass looks at per step.
 const EDGES: usize = 40;
 
-/// The way of a pass over nodes.
+/// The state of a pass.
 #[derive(Drop)]
 struct Trail {
-    /// The channel over which each node was reached for the least charge: a hint.
+    /// The channel over which each node was reached for the least fees: a hint.
     over: Vec<Scid>,
     /// The nodes that were reached.
     reached: Vec<u32>,
-    /// The nodes that may be taken up next: a hint.
+    /// The nodes to expand next: a hint.
     queue: BinaryHeap<Entry>,
 }
 
@@ -40,7 +40,7 @@ impl Trail {
         })
     }
 
-    /// Notes that a node is reached, if it wasn't yet.
+    /// Adds a node to those that were reached, if it wasn't reached before.
     fn reach(&mut self, node: u32, charged: u64) -> Result<(), AllocError>
         ensures { IfOk result (λ _. (self.new.reached.items ≡ self.old.reached.items ++ node ∷ [])
             ⊎ ((charged < 2 ^ 64 - 1) × (self.new.reached.items ≡ self.old.reached.items))) }
@@ -64,7 +64,7 @@ impl Trail {
     }
 }
 
-/// Lowers what is charged up to a node, which is then open again.
+/// Lowers the fees to a node, which is then open again.
 fn lower(dist: &mut [u64], closed: &mut [bool], node: usize, amount: u128) -> bool
     requires within { node < length dist.old }
     requires long { length closed.old ≡ length dist.old }
@@ -78,7 +78,7 @@ fn lower(dist: &mut [u64], closed: &mut [bool], node: usize, amount: u128) -> bo
     true
 }
 
-/// What an edge charges for the request's amount, if it isn't the payer's own.
+/// The fee of an edge for the request's amount, or 0 if the edge is the payer's own.
 fn charge(request: &NumberedRequest, edge: &Link) -> u128
     ensures first { edge.now.from ≡ request.now.payer → result ≡ 0 }
     ensures most { result ≤ fee_of request.now.amount edge.now.base edge.now.millionths }
@@ -91,7 +91,7 @@ fn charge(request: &NumberedRequest, edge: &Link) -> u128
     }
 }
 
-/// Takes what is charged up to an edge's first node on to its end.
+/// Relaxes an edge: updates the fees to its end.
 fn look(
     request: &NumberedRequest,
     edge: &Link,
@@ -115,7 +115,7 @@ fn look(
     Ok(())
 }
 
-/// Takes what is charged up to a node on over its edges.
+/// Relaxes the edges out of a node.
 fn spread(
     view: &View,
     request: &NumberedRequest,
@@ -140,7 +140,7 @@ fn spread(
     Ok(())
 }
 
-/// A number, or what is charged up to a node, if the node is open and that is less.
+/// The lesser of a number and the fees to a node, if the node is open.
 fn lesser(dist: &[u64], closed: &[bool], node: usize, most: u64) -> u64
     requires { length closed.now ≡ length dist.now }
     ensures low { result ≤ most }
@@ -153,7 +153,7 @@ fn lesser(dist: &[u64], closed: &[bool], node: usize, most: u64) -> u64
     }
 }
 
-/// The least that is charged up to an open node.
+/// The least fees to an open node.
 fn radius(dist: &[u64], closed: &[bool], reached: &[u32]) -> u64
     requires long { length closed.now ≡ length dist.now }
     requires reached { AreReached dist.now reached.now }
@@ -166,7 +166,7 @@ fn radius(dist: &[u64], closed: &[bool], reached: &[u32]) -> u64
     most
 }
 
-/// Nothing is charged up to the payer.
+/// Sets the fees to the payer to 0.
 fn begin(dist: &mut [u64], node: usize)
     ensures payer { number_at dist.new node ≡ 0 }
     ensures others { (other : ℕ) → (other ≡ node) ⊎ (number_at dist.new other ≡ number_at dist.old other) }
@@ -176,7 +176,7 @@ fn begin(dist: &mut [u64], node: usize)
     }
 }
 
-/// Takes up a node, if it is open.
+/// Expands a node, if it is open.
 fn spread_open(
     view: &View,
     request: &NumberedRequest,
@@ -199,7 +199,7 @@ fn spread_open(
     Ok(())
 }
 
-/// So many steps of the pass, or fewer where nodes have many edges.
+/// Expands up to `steps` nodes, fewer if nodes have many edges.
 fn take_up(
     view: &View,
     request: &NumberedRequest,
@@ -236,7 +236,7 @@ fn take_up(
     Ok(())
 }
 
-/// A pass of so many steps: the least that is charged up to a node that is still open.
+/// A pass of up to `steps` steps. Returns the least fees to a node that is still open.
 fn pass(
     view: &View,
     request: &NumberedRequest,
@@ -259,7 +259,7 @@ fn pass(
     Ok(radius(dist, closed, &trail.reached))
 }
 
-/// How many nodes a pass takes up: the square root of how many there are, within limits. It is a hint.
+/// The number of nodes that a pass expands: the square root of their number, from 64 to 1,024. A hint.
 fn steps_for(nodes: usize) -> usize {
     for steps in 64..1_024 {
         if nodes <= steps * steps {
@@ -269,7 +269,7 @@ fn steps_for(nodes: usize) -> usize {
     1_024
 }
 
-/// Bounds from below on what is charged between the payer and each node of a view.
+/// Lower bounds on the fees from the payer to each node of a view.
 pub(crate) fn bounds(
     alloc: Global,
     view: &View,

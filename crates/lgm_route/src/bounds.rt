@@ -1,4 +1,4 @@
-//! Bounds from below on what is charged between the payer and each node.
+//! Lower bounds on the fees from the payer to each node.
 
 ghost use Rattle.std.specs.Prelude.{◌≡◌, length};
 ghost use Rattle.lgm_route.specs.Searching.{number_at};
@@ -7,17 +7,17 @@ ghost use Rattle.lgm_route.specs.Bounding.{bounds_in};
 use lgm_gossip::Scid;
 use std::marker::Model;
 
-/// What is charged at least between the payer and each node, in msat. Contracts see the bounds by number of the node.
+/// Lower bounds on the fees from the payer to each node, in msat. Contracts see the bounds by number of the node.
 ///
-/// They come of a pass that begins at the payer. What it found beside them, over which channel each node is reached for
-/// what is charged up to it, is a hint: no proof rests on it.
+/// They are computed by a pass from the payer. It also finds over which channel each node is reached for these fees,
+/// which is a hint: no proof depends on it.
 #[derive(Drop)]
 pub(crate) struct Bounds {
-    /// What is charged up to each node that the pass reached.
+    /// The fees to each node that the pass reached.
     charged: Vec<u64>,
-    /// The channel over which it reached the node for that.
+    /// The channel over which the pass reached each node for these fees.
     over: Vec<Scid>,
-    /// The least that is charged up to a node that was reached and not taken up: no bound is above it.
+    /// The least fees to a node that was reached and not expanded: no bound exceeds it.
     radius: u64,
 }
 
@@ -41,14 +41,14 @@ impl Bounds {
         }
     }
 
-    /// How many nodes have a bound.
+    /// The number of nodes.
     pub(crate) fn len(&self) -> usize
         ensures { result ≡ length self.now }
     {
         self.charged.len()
     }
 
-    /// The bound of a node, and 0 of a number that is none.
+    /// The bound of a node, and 0 for an unknown number.
     #[inline(always)]
     pub(crate) fn at(&self, node: u32) -> u64
         ensures { result ≡ number_at self.now node }
@@ -61,7 +61,7 @@ impl Bounds {
         }
     }
 
-    /// The channel that leads to a node on the way that the pass found from the payer, if the node is within the radius.
+    /// The channel over which the pass reached a node, if the node is within the radius.
     pub(crate) fn channel_to(&self, node: u32) -> Option<Scid> {
         let charged = self.charged.get(node as usize)?;
         if *charged == u64::MAX || self.radius < *charged {

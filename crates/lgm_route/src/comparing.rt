@@ -1,4 +1,4 @@
-//! Which rest and which walk is the better one.
+//! Comparison of labels and walks.
 
 ghost use Rattle.std.specs.Prelude.{◌≡◌, ◌^◌, ◌≤◌, true, false, if◌then◌else◌};
 ghost use Rattle.lgm_route.specs.Searching.{IsSpelled, IdsFirst, bound_of, IsFound, DoesServe, SomeWalk, IsBetter};
@@ -7,7 +7,7 @@ use crate::label::{Label, first_of};
 use crate::numbered_request::NumberedRequest;
 use lgm_graph::View;
 
-/// Whether the ids of the one label's edges aren't after those of the other's.
+/// Whether the ids of a label's edges precede or equal those of another's.
 pub(crate) fn ids_first(view: &View, labels: &[Label], label: &Label, other: &Label) -> bool
     requires spelled { IsSpelled view.now labels.now label.now }
     requires also { IsSpelled view.now labels.now other.now }
@@ -35,7 +35,7 @@ pub(crate) fn ids_first(view: &View, labels: &[Label], label: &Label, other: &La
     true
 }
 
-/// Whether the one label's rest serves in place of the other's.
+/// Whether a label's rest dominates another's.
 pub(crate) fn serves(view: &View, labels: &[Label], label: &Label, other: &Label) -> bool
     requires spelled { IsSpelled view.now labels.now label.now }
     requires also { IsSpelled view.now labels.now other.now }
@@ -50,7 +50,7 @@ pub(crate) fn serves(view: &View, labels: &[Label], label: &Label, other: &Label
     }
 }
 
-/// What a better walk comes below.
+/// The bound that a better walk is below.
 #[inline(always)]
 pub(crate) fn bound_of(start: u128, best: &Option<Label>) -> u128
     requires { start ≤ 2 ^ 64 }

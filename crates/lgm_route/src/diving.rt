@@ -1,4 +1,4 @@
-//! Walks found early, along the way from the payer that charges the least.
+//! Finding walks early, along the cheapest way that the pass from the payer took.
 
 ghost use Rattle.std.specs.Prelude.{◌<◌, length, IfOk};
 ghost use Rattle.lgm_route.specs.State.{Extends};
@@ -6,13 +6,13 @@ ghost use Rattle.lgm_route.specs.State.{Extends};
 use crate::search::Search;
 use std::alloc::AllocError;
 
-/// How many dives a search makes at most.
+/// The maximum number of dives of a search.
 const MOST_DIVES: u32 = 64;
 
-/// The dives of a search: each begins at a label that promises less than those before.
+/// The dives of a search: each starts at a label with a smaller lower bound than those before.
 #[derive(Drop)]
 pub(crate) struct Dives {
-    /// The least promise so far, in msat above the request's amount.
+    /// The smallest lower bound so far, in msat above the request's amount.
     least: u64,
     left: u32,
 }
@@ -25,7 +25,7 @@ impl Dives {
         }
     }
 
-    /// Dives from a label that promises so much, if that is less than before and the label's node is near the payer.
+    /// Dives from a label with this bound, if it is smaller than those before and the label's node is near the payer.
     #[inline(always)]
     pub(crate) fn dive(
         &mut self,

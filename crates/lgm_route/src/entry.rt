@@ -1,19 +1,19 @@
-//! Entries of a queue.
+//! Entries of a priority queue.
 
 ghost use Rattle.std.specs.Prelude.{◌≡◌, ◌^◌, ◌-◌, ◌%◌, ◌/◌, ◌<◌, min};
 
-/// The greatest amount that an entry tells from others, in msat: 2^33 - 1.
+/// The greatest amount that an entry distinguishes, in msat: 2^33 - 1.
 const MOST_AMOUNT: u64 = 8_589_934_591;
 
-/// How many places entries tell from one another: 2^26.
+/// The number of indices that entries distinguish: 2^26.
 const PLACES: u64 = 67_108_864;
 
-/// How many numbers of edges: 2^5.
+/// The same for numbers of edges: 2^5.
 const COUNTS: u64 = 32;
 
-/// A place in a queue of a [`BinaryHeap`](std::collections::BinaryHeap): the one of the least amount comes out first,
-/// of equal amounts that of the fewest edges. Amounts from 2^33 - 1 msat on count as equal. What comes out of a queue
-/// is a hint: whoever takes an entry looks at its place.
+/// An index in a [`BinaryHeap`](std::collections::BinaryHeap): the least amount comes first, then the fewest edges.
+/// Amounts from 2^33 - 1 msat on count as equal. What the queue returns is a hint: whoever pops an entry checks its
+/// index.
 #[derive(Clone, Copy, PartialEq, Eq, PartialOrd, Ord)]
 pub(crate) struct Entry {
     key: u64,
@@ -31,7 +31,7 @@ impl Entry {
         }
     }
 
-    /// The place, of fewer than 2^26.
+    /// The index, below 2^26.
     pub(crate) fn place(&self) -> usize
         ensures { result ≡ (2 ^ 64 - 1 - self.now.key) % 2 ^ 26 }
     {
@@ -45,7 +45,7 @@ impl Entry {
         (u64::MAX - self.key) / (COUNTS * PLACES)
     }
 
-    /// Whether the amount is the one that was put in, or at least this much.
+    /// Whether the amount is the original one; if not, that may be greater.
     pub(crate) fn is_exact(&self) -> bool {
         self.amount() < MOST_AMOUNT
     }

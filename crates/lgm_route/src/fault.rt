@@ -1,4 +1,4 @@
-//! Why a payment has no route.
+//! Faults of routes.
 
 ghost use Rattle.std.specs.Prelude.{◌≡◌};
 ghost use Rattle.lgm_route.specs.Words.{route_word};
@@ -7,31 +7,31 @@ ghost use Rattle.lgm_route.specs.declared.fault.RouteFault.TheVariants.{NoMemory
 use std::alloc::{AllocError, AllocFailed};
 use thiserror::Error;
 
-/// Why a payment has no route: the first reason, in the order of the variants, or want of memory.
+/// Why a payment has no route: the first reason, in the order of the variants, or out of memory.
 #[derive(Clone, Copy, Debug, PartialEq, Eq, Error)]
 pub enum RouteFault {
     /// The amount is 0 msat.
     #[error("amount-zero")]
     AmountZero,
-    /// The amount is above 2,100,000,000,000,000,000 msat, all the bitcoin that there will be.
+    /// The amount is above 2,100,000,000,000,000,000 msat, all bitcoin that will ever exist.
     #[error("amount-too-large")]
     AmountTooLarge,
-    /// The expiry is above the block height 498,000,000.
+    /// The expiry is above block height 498,000,000.
     #[error("expiry-too-large")]
     ExpiryTooLarge,
     /// The payer is the payee.
     #[error("self-payment")]
     SelfPayment,
-    /// No channels lead from the payer to the payee that may carry the amount.
+    /// No usable walk leads from the payer to the payee.
     #[error("no-route")]
     NoRoute,
-    /// Memory was refused. It says nothing of the payment.
+    /// Out of memory; says nothing about the payment.
     #[error("out of memory")]
     NoMemory,
 }
 
 impl RouteFault {
-    /// Its word, as answers are written. Want of memory has none, and gives no text.
+    /// Its word, as answers are written; empty for out of memory.
     pub fn word(self) -> &'static str
         ensures { result.now ≡ route_word self }
     {

@@ -1,4 +1,4 @@
-//! The labels of each node that no other of the node serves in place of.
+//! The undominated labels of each node.
 
 ghost use Rattle.std.specs.Prelude.{IfSome};
 ghost use Rattle.lgm_route.specs.Searching.{IsSpelled, AreSpelled, IsServer};
@@ -8,21 +8,20 @@ use crate::label::Label;
 use lgm_graph::View;
 use std::alloc::{AllocError, Global};
 
-/// How many labels a front holds at most: no two of one number of edges.
+/// The maximum number of labels in a front: no two have the same number of edges.
 const MOST: usize = 20;
 
-/// For each node the places of its labels that no other one serves in place of, the latest first. A
-/// place that is no label of the node ends the list. They are hints: whoever takes a place looks
-/// whether its label serves.
+/// For each node the indices of its undominated labels, the latest first. An index that is no label of the node ends
+/// the list. These are hints: whoever takes an index checks that its label dominates.
 #[derive(Drop)]
 pub(crate) struct Fronts {
-    /// The first place for each node; at first that of the label at the payee.
+    /// The first index for each node; initially that of the label at the payee.
     first: Vec<u32>,
-    /// The place behind each place.
+    /// The index after each index.
     next: Vec<u32>,
 }
 
-/// A place as fronts keep it. Labels beyond are in no front.
+/// An index as fronts store it. Labels beyond the maximum are in no front.
 fn kept(place: usize) -> u32 {
     if place < u32::MAX as usize {
         place as u32
@@ -32,14 +31,14 @@ fn kept(place: usize) -> u32 {
 }
 
 impl Fronts {
-    /// The fronts of so many nodes, and one label, at the payee.
+    /// The fronts of this many nodes, with one label, at the payee.
     pub(crate) fn new(alloc: Global, nodes: usize) -> Result<Fronts, AllocError> {
         let first = vec![in alloc; 0; nodes]?;
         let next = vec![in alloc; u32::MAX; 1]?;
         Ok(Fronts { first, next })
     }
 
-    /// The first place of a node.
+    /// The first index of a node.
     fn first_of(&self, node: usize) -> usize {
         if node < self.first.len() {
             self.first[node] as usize
@@ -48,7 +47,7 @@ impl Fronts {
         }
     }
 
-    /// The place behind a place.
+    /// The index after an index.
     fn behind(&self, place: usize) -> usize {
         if place < self.next.len() {
             self.next[place] as usize
@@ -57,14 +56,14 @@ impl Fronts {
         }
     }
 
-    /// Sets the place behind a place.
+    /// Sets the index after an index.
     fn link(&mut self, place: usize, behind: usize) {
         if place < self.next.len() {
             self.next[place] = kept(behind);
         }
     }
 
-    /// The place of a label of the same node that serves in this one's place, if the front has one.
+    /// The index of a label of the same node that dominates this one, if the front has one.
     pub(crate) fn server(&self, view: &View, labels: &[Label], label: &Label) -> Option<usize>
         requires spelled { AreSpelled view.now labels.now }
         requires label { IsSpelled view.now labels.now label.now }
@@ -83,8 +82,7 @@ impl Fronts {
         None
     }
 
-    /// Puts the label that is made next into its node's front, and takes out those that it serves in
-    /// place of.
+    /// Adds the label that is created next to its node's front, and removes those that it dominates.
     pub(crate) fn add(
         &mut self,
         view: &View,

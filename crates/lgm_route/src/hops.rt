@@ -11,7 +11,7 @@ use lgm_gossip::Point;
 use lgm_graph::{Link, View, fee};
 use std::alloc::{AllocError, Global};
 
-/// The point of a number that is one.
+/// The point of a node's number.
 fn point_at(view: &View, number: u32) -> Point
     requires { number < length view.now.points }
     ensures { result ≡ point_at view.now number }
@@ -37,7 +37,7 @@ fn hop_over(view: &View, link: &Link, amount: u64, expiry: u32) -> Hop
     }
 }
 
-/// The hops of a walk, with what goes over each edge.
+/// The hops of a walk, with the amount and the expiry on each edge.
 pub(crate) fn hops(
     alloc: Global,
     view: &View,

@@ -1,24 +1,24 @@
-//! What a search keeps of a rest of a walk.
+//! Labels: the search's representation of the rest of a walk.
 
 ghost use Rattle.std.specs.Prelude.{◌≡◌};
 ghost use Rattle.lgm_route.specs.Searching.{Begins, first_of};
 
 use lgm_graph::{Link, View};
 
-/// A rest of a walk from a node to the payee: its first edge, and behind it the rest of another
-/// label. A label of no edges stands at the payee. A whole walk is kept as a label too, which owes
+/// The rest of a walk from a node to the payee: its first edge, followed by the rest of another
+/// label. A label without edges is at the payee. A whole walk is stored as a label too, which owes
 /// what the payer sends.
 #[derive(Clone, Copy)]
 pub(crate) struct Label {
-    /// What the node before must send over it, in msat.
+    /// What has to reach the node, in msat.
     pub owed: u64,
-    /// The place of the label of the edges behind the first one.
+    /// The index of the label of the edges after the first one.
     pub next: usize,
-    /// The place of the first edge among those into the node of that label.
+    /// The index of the first edge among those into the node of that label.
     pub at: usize,
-    /// The node that it leads from.
+    /// The node at which the rest begins.
     pub node: u32,
-    /// How many edges it has.
+    /// The number of edges.
     pub count: u32,
 }
 

@@ -3,18 +3,18 @@
 ghost use Rattle.lgm_route.specs.Choice.{AnswerIsOne};
 ghost use Rattle.lgm_route.specs.Routes.{LeastIsOne};
 
-/// A law of routes, of which the contract is the statement; the call does nothing.
+/// A law of routes, stated by the contract; the call does nothing.
 ///
-/// Where two edges of one id are the same one or go opposite ways, a request has one least walk, and
-/// that walk comes back to no node.
+/// If two edges of one id are the same or have opposite directions, a request between different nodes has at most one
+/// best walk, and that walk visits no node twice.
 pub fn least_is_one()
     ensures { LeastIsOne }
 {}
 
-/// A law of routes, of which the contract is the statement; the call does nothing.
+/// A law of routes, stated by the contract; the call does nothing.
 ///
-/// A request has one answer over edges of which two of one id are the same one or go opposite ways: the one that is
-/// found by trying each walk of them.
+/// If two edges of one id are the same or have opposite directions, a request has exactly one answer: that of
+/// exhaustive search.
 pub fn answer_is_one()
     ensures { AnswerIsOne }
 {}

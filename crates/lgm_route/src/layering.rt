@@ -1,4 +1,4 @@
-//! Labels settled by their number of edges, led on in pieces.
+//! Settling labels layer by layer, by their number of edges, in parallel.
 
 ghost use Rattle.std.specs.Prelude.{◌≡◌, ◌<◌, ◌≤◌, ◌++◌, length, All, IfOk};
 ghost use Rattle.std.specs.List.{AllZip};
@@ -11,21 +11,21 @@ use lgm_par::{Gate, Pool};
 use std::alloc::{AllocError, Global};
 use std::thread::Threads;
 
-/// The most edges of a walk.
+/// The maximum number of edges of a walk.
 const LAYERS: u32 = 20;
 
-/// How many labels are settled before layers are worth while.
+/// The number of labels that are settled before layers are worthwhile.
 const ALONE: usize = 2_048;
 
-/// How many labels are worth a worker: what leads them on takes longer than a thread's start.
+/// The number of labels that are worth a worker: relaxing them takes longer than starting a thread.
 const SHARE: usize = 512;
 
-/// Labels by their number of edges: chains of places. They are hints.
+/// Labels by their number of edges, as linked lists of indices. They are hints.
 #[derive(Drop)]
 struct Layers {
-    /// The last label of each number of edges.
+    /// The last label with each number of edges.
     last: Vec<usize>,
-    /// The one before each label.
+    /// The label before each label.
     before: Vec<usize>,
 }
 
@@ -38,7 +38,7 @@ impl Layers {
         })
     }
 
-    /// Puts the new labels into their layers.
+    /// Adds the new labels to their layers.
     fn fill(&mut self, search: &Search) -> Result<(), AllocError> {
         for i in self.before.len()..search.len() {
             let count = search.label(i).count as usize;
@@ -52,7 +52,7 @@ impl Layers {
         Ok(())
     }
 
-    /// The labels of so many edges that are still hopeful, where no other stands in.
+    /// The labels with this many edges that are neither settled, pruned nor dominated.
     fn frontier(&self, alloc: Global, search: &Search, count: u32) -> Result<Vec<usize>, AllocError>
         ensures { IfOk result (λ frontier. All (λ i. i < length search.now.labels) frontier.items) }
     {
@@ -74,7 +74,7 @@ impl Layers {
     }
 }
 
-/// Adds a label, if there is one.
+/// Appends a label, if there is one.
 #[inline(always)]
 fn push(labels: &mut Vec<Label>, label: Option<Label>) -> Result<(), AllocError>
     ensures { IfOk result (λ _. labels.new.items ≡ labels.old.items ++ in_list label) }
@@ -85,7 +85,7 @@ fn push(labels: &mut Vec<Label>, label: Option<Label>) -> Result<(), AllocError>
     Ok(())
 }
 
-/// All that each label of the frontier leads on to, found in pieces.
+/// The relaxations of each label of the frontier, computed in chunks.
 fn all_leads<Rt: Threads + Sync, G: Gate>(
     pool: &Pool<'_, Rt, G>,
     search: &Search,
@@ -99,7 +99,7 @@ fn all_leads<Rt: Threads + Sync, G: Gate>(
 }
 
 impl<'a> Search<'a> {
-    /// Whether a label is hopeful, not settled, and no other stands in.
+    /// Whether a label is neither settled, pruned nor dominated.
     fn is_open(&self, i: usize) -> bool
         requires { i < length self.now.labels }
     {
@@ -107,7 +107,7 @@ impl<'a> Search<'a> {
         !self.is_done(i) && self.hope(&label) < self.bound() && self.stand_in(i) == i
     }
 
-    /// All that a label leads on to.
+    /// The relaxations of a label.
     fn leads(&self, alloc: Global, i: usize) -> Result<Vec<Label>, AllocError>
         requires { i < length self.now.labels }
         ensures { IfOk result (λ leads. AreLeadsAt self.now i leads.items) }
@@ -121,13 +121,13 @@ impl<'a> Search<'a> {
         Ok(leads)
     }
 
-    /// Takes all that a label was led on to, and marks the label.
+    /// Applies the relaxations of a label, and marks the label.
     fn merge(&mut self, i: usize, leads: &[Label]) -> Result<(), AllocError>
         requires label { i < length self.old.labels }
         requires leads { AreLeadsAt self.old i leads.now }
         ensures { IfOk result (λ _. Extends self.old self.new) }
     {
-        // It says that labels stand for rests.
+        // The contract of `len` says that labels represent rests.
         let _len = self.len();
         for new in leads {
             self.take(*new)?;
@@ -136,7 +136,7 @@ impl<'a> Search<'a> {
         Ok(())
     }
 
-    /// Leads the labels of a frontier on, in pieces.
+    /// Relaxes the labels of a frontier, in chunks.
     fn share_layer<Rt: Threads + Sync, G: Gate>(
         &mut self,
         pool: &Pool<'_, Rt, G>,
@@ -166,7 +166,7 @@ impl<'a> Search<'a> {
         Ok(())
     }
 
-    /// Leads the labels of a frontier on, by as many of the workers as they are worth.
+    /// Relaxes the labels of a frontier, by as many of the workers as are worthwhile.
     fn lead_layer<Rt: Threads + Sync, G: Gate>(
         &mut self,
         pool: &Pool<'_, Rt, G>,
@@ -199,7 +199,7 @@ impl<'a> Search<'a> {
         Ok(())
     }
 
-    /// Settles labels best first, and then, if many are left, by their number of edges.
+    /// Settles labels best-first, and then, if many remain, by their number of edges.
     pub(crate) fn settle_chunked<Rt: Threads + Sync, G: Gate>(
         &mut self,
         pool: &Pool<'_, Rt, G>,

@@ -1,4 +1,4 @@
-//! Rests led on over one more edge.
+//! Relaxation of labels over edges.
 
 ghost use Rattle.std.specs.Prelude.{◌≡◌, ◌<◌, length, IfOk, IfSome};
 ghost use Rattle.lgm_route.specs.Searching.{label_at, first_of};
@@ -10,13 +10,12 @@ use crate::search::Search;
 use lgm_graph::{Link, fee};
 use std::alloc::AllocError;
 
-/// The most edges of a rest that is led on to a longer one.
+/// The maximum number of edges of a rest that is extended to a longer one.
 const MOST_EDGES: u32 = 19;
 
 impl<'a> Search<'a> {
-    /// What a label's rest leads on to over one edge into its node: a whole walk where the edge is the
-    /// payer's, else a longer rest. Nothing where the edge can't carry it, and where a longer rest would
-    /// be too long, or hopeless.
+    /// The relaxation of a label over one edge into its node: a whole walk if the edge is the payer's, else a longer
+    /// rest. None if the edge can't carry it, or if a longer rest would be too long or is pruned.
     #[inline(always)]
     pub(crate) fn lead(&self, i: usize, label: &Label, at: usize, edge: &Link) -> Option<Label>
         requires label { label.now ≡ label_at self.now.labels i }
@@ -24,7 +23,7 @@ impl<'a> Search<'a> {
         ensures { IsLeadAt self.now i edge.now result }
     {
         let request = self.request();
-        // It says that the label stands for a rest, and the edge is one of the graph.
+        // The contract of `len` says that the label represents a rest, and the edge is one of the graph.
         let _len = self.len();
         if request.amount < edge.min || edge.max < label.owed {
             return None;
@@ -55,14 +54,14 @@ impl<'a> Search<'a> {
         })
     }
 
-    /// Takes what a label was led on to: a walk, or a rest as a new label.
+    /// Applies a relaxation: a walk, or a rest as a new label.
     #[inline(always)]
     pub(crate) fn take(&mut self, new: Label) -> Result<(), AllocError>
         requires { IsLed self.old.ground.graph self.old.ground.request self.old.labels new.next (first_of self.old.ground.graph self.old.labels new) new }
         ensures extends { IfOk result (λ _. Extends self.old self.new) }
         ensures passed { IfOk result (λ _. IsPassedOn self.old new.next (first_of self.old.ground.graph self.old.labels new) self.new) }
     {
-        // It says that labels stand for rests.
+        // The contract of `len` says that labels represent rests.
         let _len = self.len();
         if new.node == self.request().payer {
             self.improve(new);
@@ -72,7 +71,7 @@ impl<'a> Search<'a> {
         Ok(())
     }
 
-    /// Leads a label's rest on over one edge into its node.
+    /// Relaxes a label over one edge into its node.
     #[inline(always)]
     pub(crate) fn pass(
         &mut self,
@@ -95,7 +94,7 @@ impl<'a> Search<'a> {
         }
     }
 
-    /// Leads a label's rest on over the edges into its node.
+    /// Relaxes a label over all edges into its node.
     pub(crate) fn relax(&mut self, i: usize) -> Result<(), AllocError>
         requires { i < length self.old.labels }
         ensures extends { IfOk result (λ _. Extends self.old self.new) }
@@ -109,8 +108,8 @@ impl<'a> Search<'a> {
         Ok(())
     }
 
-    /// Leads a label's rest on along the way from the payer that charges the least, as far as that is known, so that some
-    /// walk is found early.
+    /// Extends a label's rest along the cheapest way from the payer, as far as it is known, so that some walk is found
+    /// early.
     pub(crate) fn dive(&mut self, i: usize) -> Result<(), AllocError>
         requires { i < length self.old.labels }
         ensures { IfOk result (λ _. Extends self.old self.new) }
@@ -132,7 +131,7 @@ impl<'a> Search<'a> {
         Ok(())
     }
 
-    /// The place of the edge that leads to a node on the way from the payer, among those into the node.
+    /// The index of the edge that leads to a node on the way from the payer, among those into the node.
     fn next_edge(&self, node: u32, edges: &[Link]) -> Option<usize>
         ensures { IfSome result (λ at. at < length edges.now) }
     {

@@ -1,7 +1,7 @@
-//! Routes of a payment: what a payer sends over which channels so that an amount arrives.
+//! Routes of payments: what a payer sends over which channels so that an amount arrives.
 //!
-//! A [`Request`] names the payment, a [`Route`] the 1 to 20 channels that carry it, with what goes
-//! over each, and a [`RouteFault`] why there is none.
+//! A [`Request`] names the payment, a [`Route`] the 1 to 20 channels that carry it, with the amount
+//! and the expiry on each, and a [`RouteFault`] why there is none.
 #![tactic(auto)]
 
 mod answering;

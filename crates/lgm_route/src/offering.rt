@@ -1,4 +1,4 @@
-//! New labels, and marks of those that are settled.
+//! Adding labels, and marking those that are settled.
 
 ghost use Rattle.std.specs.Prelude.{◌≡◌, ◌≤◌, ℕ, IfOk, OnErr, false, slice_index_or};
 ghost use Rattle.lgm_route.specs.Searching.{AreLabels, SomeRest, IsOffered, IsMarked};
@@ -9,7 +9,7 @@ use crate::numbered_request::NumberedRequest;
 use lgm_graph::View;
 use std::alloc::AllocError;
 
-/// A new label, unless one that serves in its place is there.
+/// Adds a label, unless it is dominated.
 pub(crate) fn offer(
     view: &View,
     request: &NumberedRequest,
@@ -33,7 +33,7 @@ pub(crate) fn offer(
     }
 }
 
-/// Marks a place.
+/// Marks an index.
 pub(crate) fn mark(done: &mut Vec<bool>, i: usize) -> Result<(), AllocError>
     ensures marked { IfOk result (λ _. IsMarked done.old.items i done.new.items) }
     ensures stays { OnErr result ((j : ℕ) → slice_index_or done.new.items j false ≡ slice_index_or done.old.items j false) }

@@ -1,4 +1,4 @@
-//! Labels settled best first (A*).
+//! Settling labels best-first (A\*).
 
 ghost use Rattle.std.specs.Prelude.{◌<◌, length, IfOk, IfSome};
 ghost use Rattle.lgm_route.specs.State.{Extends};
@@ -9,11 +9,11 @@ use crate::search::Search;
 use std::alloc::{AllocError, Global};
 use std::collections::BinaryHeap;
 
-/// Labels that wait to be settled, by what walks over them come to at least.
+/// Labels that wait to be settled, by the lower bound of their walks.
 #[derive(Drop)]
 struct Queue {
     heap: BinaryHeap<Entry>,
-    /// How many labels were queued.
+    /// The number of labels queued so far.
     queued: usize,
     dives: Dives,
 }
@@ -27,7 +27,7 @@ impl Queue {
         }
     }
 
-    /// Queues the new labels, and those that dives from them make.
+    /// Queues the new labels, and those that dives from them add.
     fn fill(&mut self, search: &mut Search) -> Result<(), AllocError>
         ensures { IfOk result (λ _. Extends search.old search.new) }
     {
@@ -44,7 +44,7 @@ impl Queue {
         Ok(())
     }
 
-    /// The place of the most hopeful label, if there is one that is hopeful.
+    /// The index of the label with the smallest lower bound, unless all are pruned.
     fn next(&mut self, search: &Search) -> Option<usize>
         ensures { IfSome result (λ i. i < length search.now.labels) }
     {
@@ -63,7 +63,7 @@ impl Queue {
 }
 
 impl<'a> Search<'a> {
-    /// What the walks over a label's rest send at least above the request's amount, in msat.
+    /// A lower bound on what walks over a label send above the request's amount, in msat.
     #[inline(always)]
     pub(crate) fn promise(&self, i: usize) -> u64
         requires { i < length self.now.labels }
@@ -73,8 +73,8 @@ impl<'a> Search<'a> {
         above.saturating_add(self.low(label.node))
     }
 
-    /// Settles labels, the most hopeful one first, until none is hopeful; or, behind so many of them, until some walk is
-    /// found. Gives whether none is hopeful any more.
+    /// Settles labels best-first until the remaining ones can be pruned; or, once `most` are settled, until some walk
+    /// is found. Returns whether the remaining ones can be pruned.
     pub(crate) fn settle_best_first(
         &mut self,
         alloc: Global,

@@ -7,7 +7,7 @@ use crate::label::{Label, first_of};
 use lgm_graph::{Link, View};
 use std::alloc::{AllocError, Global};
 
-/// The walk that a label spells.
+/// The walk that a label represents.
 pub(crate) fn rebuild(
     alloc: Global,
     view: &View,

@@ -1,16 +1,16 @@
-//! Payments to be made.
+//! Payment requests.
 
 use lgm_gossip::Point;
 
-/// A payment to be made.
+/// A payment for which a route is requested.
 #[derive(Clone, Copy, Debug, PartialEq, Eq)]
 pub struct Request {
     /// The node that pays.
     pub payer: Point,
     /// The node that is paid.
     pub payee: Point,
-    /// What the payee is to get, in msat.
+    /// What the payee receives, in msat.
     pub amount: u64,
-    /// The block height at which what the payee is offered expires.
+    /// The block height at which the HTLC offered to the payee expires.
     pub expiry: u32,
 }

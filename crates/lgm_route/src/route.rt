@@ -8,22 +8,22 @@ use lgm_gossip::{Point, Scid};
 use std::alloc::{AllocError, Global};
 use std::marker::Model;
 
-/// One channel of a route, with the HTLC that is offered over it (BOLT 7, "HTLC Fees").
+/// One channel of a route, with the HTLC offered over it (BOLT 7, "HTLC Fees").
 #[derive(Clone, Copy, Debug, PartialEq, Eq)]
 pub struct Hop {
     /// The channel.
     pub scid: Scid,
     /// The node that offers the HTLC.
     pub from: Point,
-    /// The node that it is offered to.
+    /// The node to which it is offered.
     pub to: Point,
-    /// What goes over the channel, in msat.
+    /// The amount of the HTLC, in msat.
     pub amount: u64,
     /// The block height at which the HTLC expires.
     pub expiry: u32,
 }
 
-/// The channels of a payment from the payer to the payee, 1 to 20 of them. Contracts see the list.
+/// The 1 to 20 channels of a payment, from the payer to the payee. Contracts see the list.
 #[derive(Debug, Drop)]
 pub struct Route {
     hops: Vec<Hop>,
@@ -38,8 +38,8 @@ impl Model for Route {
 }
 
 impl Route {
-    /// The route of these hops, of which there must be 1 to 20. That they join, and that each node
-    /// gets its fee, isn't looked at. The only error is want of memory.
+    /// The route of 1 to 20 hops. That they are consecutive, and that each node gets its fee, isn't
+    /// checked. The only error is out of memory.
     pub fn of(alloc: Global, hops: &[Hop]) -> Result<Route, AllocError>
         requires some { 1 ≤ length hops.now }
         requires few { length hops.now ≤ 20 }
@@ -68,7 +68,7 @@ impl Route {
         self.hops.as_slice()
     }
 
-    /// What the payer sends, in msat: what goes over the first channel.
+    /// What the payer sends, in msat: the amount over the first channel.
     pub fn sent(&self) -> u64
         ensures { result ≡ sent self.now }
     {

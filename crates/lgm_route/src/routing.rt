@@ -1,4 +1,4 @@
-//! The least route of a payment.
+//! The best route of a payment.
 
 ghost use Rattle.std.specs.Prelude.{◌≡◌, ◌⊎◌, ◌^◌, ◌≤◌, List, Some, Err, IfOk};
 ghost use Rattle.std.specs.Option.{option_map};
@@ -28,7 +28,7 @@ const MOST_AMOUNT: u64 = 2_100_000_000_000_000_000;
 /// The greatest expiry of a payment, a block height.
 const MOST_EXPIRY: u32 = 498_000_000;
 
-/// A search that begins.
+/// A new search.
 fn begin<'a>(
     alloc: Global,
     view: &'a View,
@@ -43,7 +43,7 @@ fn begin<'a>(
     Ok(search)
 }
 
-/// The least walk between numbered nodes, if one is usable.
+/// The best walk between numbered nodes, if one is usable.
 fn best_walk(
     alloc: Global,
     view: &View,
@@ -57,7 +57,7 @@ fn best_walk(
     search.best_walk(alloc)
 }
 
-/// The same, found in pieces.
+/// The same, found by several workers.
 fn best_walk_chunked<Rt: Threads + Sync, G: Gate>(
     pool: &Pool<'_, Rt, G>,
     view: &View,
@@ -71,11 +71,11 @@ fn best_walk_chunked<Rt: Threads + Sync, G: Gate>(
     search.best_walk(pool.alloc)
 }
 
-/// The request between numbered nodes, where both ends have a number.
+/// The request between numbered nodes, if both have a number.
 fn numbering_of(view: &View, request: &Request) -> Option<NumberedRequest>
     ensures { IsNumberingOf view.now request.now result }
 {
-    // It says that the ends of links are numbered.
+    // The contract of `nodes` says that the nodes of links are numbered.
     let _nodes = view.nodes();
     let Some(payer) = view.node_number(&request.payer) else {
         return None;
@@ -90,7 +90,7 @@ fn numbering_of(view: &View, request: &Request) -> Option<NumberedRequest>
     })
 }
 
-/// The hops of the least walk, if there is one.
+/// The hops of the best walk, if there is one.
 fn hops_of(
     alloc: Global,
     view: &View,
@@ -103,7 +103,7 @@ fn hops_of(
     requires walk { IsBestWalk (links view.now) numbered.now (option_map (λ walk. walk.items) walk) }
     ensures { IfOk result (λ best. IsBest (edges view.now) request.now (option_map (λ hops. hops.items) best)) }
 {
-    // It says that the ends of links are numbered.
+    // The contract of `nodes` says that the nodes of links are numbered.
     let _nodes = view.nodes();
     match walk {
         None => Ok(None),
@@ -114,7 +114,7 @@ fn hops_of(
     }
 }
 
-/// The route over the least walk, or that there is none.
+/// The route over the best walk, or that there is none.
 fn route_over(
     alloc: Global,
     view: &View,
@@ -150,22 +150,21 @@ fn refusal(request: &Request) -> Option<RouteFault>
     }
 }
 
-/// The route of a payment over the edges of a view that sends the least, of all that lead from the
-/// payer to the payee over 1 to 20 channels (BOLT 7, "HTLC Fees").
+/// The best route of a payment over the edges of a view: the one that sends least among all usable walks of 1 to 20
+/// edges from the payer to the payee (BOLT 7, "HTLC Fees").
 ///
-/// Over the last channel goes the request's amount, with its expiry; over each other one what goes
-/// over the next, and the fee that its node takes for that, with the expiry raised by its
-/// `cltv_expiry_delta`. The payer's own channel charges nothing. Each channel's maximum holds for
-/// what goes over it, and its minimum for the request's amount. Of routes that send the same that of
-/// fewer channels is taken, and of those the one whose ids come first, from the payer on.
+/// The last channel carries the request's amount, with its expiry; each other one carries the amount of the next plus
+/// the next one's fee for it, and the expiry of the next plus the next one's `cltv_expiry_delta`. The payer's own
+/// channel charges nothing. A channel's maximum applies to the amount that it carries, its minimum to the request's
+/// amount. Ties are broken by fewer channels, then by the lexicographically smaller list of ids from the payer on.
 ///
-/// The refusals come in the order of [`RouteFault`]'s variants; the first four take no memory.
-/// `NoRoute` comes only where no such route is there. `NoMemory` says nothing of the payment.
+/// Refusals come in the order of the variants of [`RouteFault`]; the first four allocate nothing. `NoRoute` comes only
+/// if no walk is usable. `NoMemory` says nothing about the payment.
 pub fn least(alloc: Global, view: &View, request: &Request) -> Result<Route, RouteFault>
     // A request that is refused whatever the edges are is refused for its first reason.
     ensures refused { (fault : RouteFault) → refusal request.now ≡ Some fault → result ≡ Err fault }
 
-    // Else the answer is the least route, or that there is none, unless memory runs out.
+    // Otherwise the answer is the best route, or that there is none, unless memory runs out.
     ensures answer { (result ≡ Err RouteFault.NoMemory) ⊎ IsAnswer (edges view.now) request.now result }
 {
     if let Some(fault) = refusal(request) {
@@ -178,15 +177,14 @@ pub fn least(alloc: Global, view: &View, request: &Request) -> Result<Route, Rou
     route_over(alloc, view, request, &numbered, walk)
 }
 
-/// The same route as [`least`] gives, found by several workers: it is the same for every number of
-/// workers, from 1 to 64, and whatever the gate does.
+/// The same route as [`least`], found by several workers, for any number of them from 1 to 64, and whatever the gate
+/// does.
 ///
-/// The search goes best first, on one thread, for some thousands of labels and until some walk is found:
-/// that is most searches whole. Then it goes layer by layer: in each one the nodes that were reached over
-/// one channel more than in the layer before are led on over theirs, and one thread merges what comes of
-/// it. There are at most 20 layers. A layer of a thousand nodes or more is cut into as many pieces as it is
-/// worth threads, and each piece passes the gate with its number, from 0; what is done on one thread passes
-/// no gate.
+/// The search is best-first, on one thread, for some thousands of labels and until some walk is found: most searches
+/// finish there. Then it goes on by layers: the labels with one number of edges are relaxed by several threads, and one
+/// thread merges the results. There are at most 20 layers. A layer of a thousand labels or more is split into as many
+/// chunks as it is worth threads, and each chunk passes the gate with its number, from 0; what runs on one thread
+/// passes no gate.
 ///
 /// The refusals are those of [`least`].
 pub fn least_chunked<Rt: Threads + Sync, G: Gate>(
@@ -202,7 +200,7 @@ pub fn least_chunked<Rt: Threads + Sync, G: Gate>(
     // A request that is refused whatever the edges are is refused for its first reason.
     ensures refused { (fault : RouteFault) → refusal request.now ≡ Some fault → result ≡ Err fault }
 
-    // Else the answer is the least route, or that there is none, unless memory runs out.
+    // Otherwise the answer is the best route, or that there is none, unless memory runs out.
     ensures answer { (result ≡ Err RouteFault.NoMemory) ⊎ IsAnswer (edges view.now) request.now result }
 {
     if workers == 1 {

@@ -1,4 +1,4 @@
-//! A search for the best walk as one value.
+//! The search for the best walk as one value.
 
 ghost use Rattle.std.specs.Prelude.{◌≡◌, ◌^◌, ◌<◌, ◌≤◌, length, IfOk, false, slice_index_or};
 ghost use Rattle.lgm_graph.specs.Graph.{links, links_into, AreLinked};
@@ -22,13 +22,13 @@ use std::marker::Model;
 
 /// A search for the best walk of a request over the edges of a view.
 ///
-/// Each label that is marked as settled was led on over the edges into its node, or one that serves in its place was, or
-/// no walk over it is better than the best so far. Labels may be settled in any order: once all are, no usable walk is
-/// better than the best.
+/// Each label marked as settled was relaxed over the edges into its node, or a label that dominates it was, or it was
+/// pruned: no walk over it is better than the best so far. Labels may be settled in any order: once all are, no usable
+/// walk is better than the best.
 ///
-/// A label is made only where no label of its node serves in its place, and led on only where none does then. So at most
-/// some twenty labels of a node are led on, one for each number of edges, if labels come best first or by their number
-/// of edges.
+/// A label is added only if no label of its node dominates it, and relaxed only if none does then. So at most some
+/// twenty labels per node are relaxed, one for each number of edges, if labels come best-first or by their number of
+/// edges.
 #[derive(Drop)]
 pub(crate) struct Search<'a> {
     view: &'a View,
@@ -54,7 +54,7 @@ impl<'a> Model for Search<'a> {
     ghost invariant = { λ s. IsSearch (state_of s.view.now s.request s.low s.start s.labels.items s.best s.done.items) };
 }
 
-/// The label of no edges.
+/// The label without edges.
 fn at_payee(request: &NumberedRequest) -> Label
     ensures { result ≡ record { owed = request.now.amount; next = 0; at = 0; node = request.now.payee; count = 0 } }
 {
@@ -68,7 +68,7 @@ fn at_payee(request: &NumberedRequest) -> Label
 }
 
 impl<'a> Search<'a> {
-    /// A search that begins, with the label at the payee.
+    /// A new search, with the label at the payee.
     pub(crate) fn new(
         alloc: Global,
         view: &'a View,
@@ -97,7 +97,7 @@ impl<'a> Search<'a> {
         })
     }
 
-    /// How many labels there are.
+    /// The number of labels.
     #[inline(always)]
     pub(crate) fn len(&self) -> usize
         ensures count { result ≡ length self.now.labels }
@@ -106,7 +106,7 @@ impl<'a> Search<'a> {
         self.labels.len()
     }
 
-    /// The label at a place.
+    /// The label at an index.
     #[inline(always)]
     pub(crate) fn label(&self, i: usize) -> Label
         requires { i < length self.now.labels }
@@ -132,7 +132,7 @@ impl<'a> Search<'a> {
         self.view.links_into(node)
     }
 
-    /// What is charged at least between the payer and a node, in msat.
+    /// A lower bound on the fees from the payer to a node, in msat.
     #[inline(always)]
     pub(crate) fn low(&self, node: u32) -> u64
         ensures { result ≡ number_at self.now.ground.low node }
@@ -140,18 +140,17 @@ impl<'a> Search<'a> {
         self.low.at(node)
     }
 
-    /// The channel that leads to a node on a way from the payer that charges the least, if the node is near the payer.
+    /// The channel to a node on the cheapest way from the payer, if the node is near the payer.
     pub(crate) fn channel_to(&self, node: u32) -> Option<Scid> {
         self.low.channel_to(node)
     }
 
-    /// Whether a node is near the payer: then some way from the payer to it is known.
+    /// Whether a node is near the payer: then the pass found a way from the payer to it.
     pub(crate) fn is_near(&self, node: u32) -> bool {
         self.low.channel_to(node).is_some()
     }
 
-    /// What a walk has to come below to be better than the best so far: what is sent, in msat, times 32, and then its
-    /// number of edges.
+    /// The bound that a better walk is below: what is sent, in msat, times 32, plus the number of edges.
     #[inline(always)]
     pub(crate) fn bound(&self) -> u128
         ensures exact { result ≡ bound_in self.now }
@@ -174,7 +173,7 @@ impl<'a> Search<'a> {
         i < self.done.len() && self.done[i]
     }
 
-    /// The place of a label at the same node that serves in this one's place, perhaps this one.
+    /// The index of a label of the same node that dominates this one, possibly this one itself.
     pub(crate) fn stand_in(&self, i: usize) -> usize
         requires { i < length self.now.labels }
         ensures { StandsIn self.now.ground.graph self.now.labels i result }
@@ -187,7 +186,7 @@ impl<'a> Search<'a> {
 }
 
 impl<'a> Search<'a> {
-    /// Adds a label, unless one that serves in its place is there.
+    /// Adds a label, unless it is dominated.
     #[inline(always)]
     pub(crate) fn offer(&mut self, new: Label) -> Result<(), AllocError>
         requires new { SomeRest self.old.ground.graph self.old.ground.request self.old.labels new }
@@ -206,7 +205,7 @@ impl<'a> Search<'a> {
         Ok(())
     }
 
-    /// Takes a walk for the best so far, if it is better.
+    /// Makes a walk the best so far, if it is better.
     pub(crate) fn improve(&mut self, new: Label)
         requires { SomeWalk self.old.ground.graph self.old.ground.request self.old.labels new }
         ensures extends { Extends self.old self.new }
@@ -239,7 +238,7 @@ impl<'a> Search<'a> {
 }
 
 impl<'a> Search<'a> {
-    /// The best walk, once the search is finished: the least of the usable ones, if one is usable.
+    /// The best walk, once the search is finished, if one is usable.
     pub(crate) fn best_walk(&self, alloc: Global) -> Result<Option<Vec<Link>>, AllocError>
         requires finished { IsFinished self.now }
         requires start { IsStart (links self.now.ground.graph) self.now.ground.request self.now.ground.start }

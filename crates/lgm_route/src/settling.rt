@@ -1,4 +1,4 @@
-//! Labels settled: led on, or found not to be worth it.
+//! Settling labels: they are relaxed or pruned.
 
 ghost use Rattle.std.specs.Prelude.{◌≡◌, ◌+◌, ◌*◌, ◌<◌, length, IfOk};
 ghost use Rattle.lgm_route.specs.Searching.{number_at};
@@ -9,7 +9,7 @@ use crate::search::Search;
 use std::alloc::AllocError;
 
 impl<'a> Search<'a> {
-    /// What a walk over the label's rest comes to at least: what is sent, in msat, times 32, and its number of edges.
+    /// A lower bound of walks over the label: what is sent, in msat, times 32, plus the number of edges.
     #[inline(always)]
     pub(crate) fn hope(&self, label: &Label) -> u128
         ensures { result ≡ (label.now.owed + number_at self.now.ground.low label.now.node) * 32 + label.now.count }
@@ -17,7 +17,7 @@ impl<'a> Search<'a> {
         (label.owed as u128 + self.low(label.node) as u128) * 32 + label.count as u128
     }
 
-    /// Leads a label's rest on, unless that was done.
+    /// Relaxes a label, unless that was done.
     fn close(&mut self, i: usize) -> Result<(), AllocError>
         requires { i < length self.old.labels }
         ensures extends { IfOk result (λ _. Extends self.old self.new) }
@@ -31,7 +31,7 @@ impl<'a> Search<'a> {
         Ok(())
     }
 
-    /// Sees to it that a label's rest is hopeless, or led on, or one that serves in its place.
+    /// Settles a label: prunes it, or relaxes it or one that dominates it.
     pub(crate) fn settle(&mut self, i: usize) -> Result<(), AllocError>
         requires { i < length self.old.labels }
         ensures extends { IfOk result (λ _. Extends self.old self.new) }
@@ -54,7 +54,7 @@ impl<'a> Search<'a> {
         Ok(())
     }
 
-    /// Settles each label that isn't: then no usable walk is better than the best one.
+    /// Settles all remaining labels: then no usable walk is better than the best one.
     pub(crate) fn sweep(&mut self) -> Result<(), AllocError>
         ensures { IfOk result (λ _. (self.new.ground ≡ self.old.ground) × IsFinished self.new) }
     {

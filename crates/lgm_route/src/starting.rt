@@ -1,4 +1,4 @@
-//! What a search begins with.
+//! The start of a search.
 
 ghost use Rattle.std.specs.Prelude.{◌^◌, ◌≤◌};
 ghost use Rattle.lgm_route.specs.Searching.{IsStart};
@@ -7,8 +7,8 @@ ghost use Rattle.lgm_graph.specs.Graph.{links, AreLinked};
 use crate::numbered_request::NumberedRequest;
 use lgm_graph::View;
 
-/// More than any walk sends: over its first edge goes no more than the most of those out of the
-/// payer.
+/// More than any walk sends: its first edge carries at most the greatest maximum of the edges out
+/// of the payer.
 pub(crate) fn most_sent(view: &View, request: &NumberedRequest) -> u128
     requires { AreLinked view.now }
     ensures low { result ≤ 2 ^ 64 }

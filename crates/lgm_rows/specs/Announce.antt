@@ -1,4 +1,4 @@
--- A channel_announcement by its places in the bytes: those behind the features are as far off as the features are long.
+-- A channel_announcement by the offsets of its fields: those after the features are shifted by their length.
 use Rattle.std.specs.Prelude.{ℕ, ◌+◌, ◌≤◌, List, length, drop}
 use Rattle.std.specs.Int.{w16, w64}
 use Rattle.lgm_gossip.specs.declared.announce.Announce.{Announce}
@@ -7,11 +7,11 @@ use Rattle.lgm_gossip.specs.Message.{Wire}
 use Rattle.lgm_check.specs.declared.row.ChannelRow.{ChannelRow}
 use Rattle.lgm_rows.specs.Places.{part, number_in}
 
--- the bytes of the features
+-- the length of the features
 abbrev pub features_len : List ℕ → ℕ
 features_len raw = number_in w16 258 raw
 
--- the same message with its features known to have n bytes
+-- the same message, with n bytes of features
 abbrev pub announce_with : ℕ → List ℕ → Announce
 announce_with n raw = record {
   node_signature_1 = part 2 64 raw;
@@ -31,11 +31,11 @@ announce_with n raw = record {
 abbrev pub announce_in : List ℕ → Announce
 announce_in raw = announce_with (features_len raw) raw
 
--- the row that bytes spell, with a capacity
+-- the row that bytes encode, with a capacity
 abbrev pub channel_row : ℕ → List ℕ → ChannelRow
 channel_row sat raw = record { message = announce_in raw; sat = sat; raw = raw }
 
--- the bytes spell a channel_announcement, so they have all of its places
+-- the bytes encode a channel_announcement, so they have all of its fields
 pub record IsAnnounce (raw : List ℕ) : Type 0 where
   pub long : 432 + features_len raw ≤ length raw
   pub spelled : Wire (messages.Announce (announce_in raw)) raw

@@ -1,4 +1,4 @@
--- A node_announcement by its places in the bytes: features and addresses shift what is behind them.
+-- A node_announcement by the offsets of its fields: features and addresses shift what follows.
 use Rattle.std.specs.Prelude.{ℕ, ◌+◌, ◌≤◌, List, length, drop}
 use Rattle.std.specs.Int.{w16, w32}
 use Rattle.lgm_gossip.specs.declared.node_announce.NodeAnnounce.{NodeAnnounce}
@@ -7,7 +7,7 @@ use Rattle.lgm_gossip.specs.Message.{Wire}
 use Rattle.lgm_check.specs.declared.row.NodeRow.{NodeRow}
 use Rattle.lgm_rows.specs.Places.{part, number_in}
 
--- the bytes of the features, and those of the addresses behind n bytes of features
+-- the length of the features, and that of the addresses after n bytes of features
 abbrev pub features_len : List ℕ → ℕ
 features_len raw = number_in w16 66 raw
 
@@ -30,11 +30,11 @@ node_with n k raw = record {
 abbrev pub node_in : List ℕ → NodeAnnounce
 node_in raw = node_with (features_len raw) (addresses_len (features_len raw) raw) raw
 
--- the row that bytes spell
+-- the row that bytes encode
 abbrev pub node_row : List ℕ → NodeRow
 node_row raw = record { message = node_in raw; raw = raw }
 
--- the bytes spell a node_announcement, so they have all of its places
+-- the bytes encode a node_announcement, so they have all of its fields
 pub record IsNodeAnnounce (raw : List ℕ) : Type 0 where
   pub long : 142 + features_len raw + addresses_len (features_len raw) raw ≤ length raw
   pub spelled : Wire (messages.NodeAnnounce (node_in raw)) raw

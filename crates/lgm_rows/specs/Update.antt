@@ -1,4 +1,4 @@
--- A channel_update by its places in the bytes, which are fixed.
+-- A channel_update by the offsets of its fields, which are fixed.
 use Rattle.std.specs.Prelude.{ℕ, ◌≤◌, List, length, drop}
 use Rattle.std.specs.Int.{w8, w16, w32, w64}
 use Rattle.lgm_gossip.specs.declared.channel_update.ChannelUpdate.{ChannelUpdate}
@@ -23,11 +23,11 @@ update_in raw = record {
   rest = drop 138 raw;
 }
 
--- the row that bytes spell
+-- the row that bytes encode
 abbrev pub update_row : List ℕ → UpdateRow
 update_row raw = record { message = update_in raw; raw = raw }
 
--- the bytes spell a channel_update, so they have all of its places
+-- the bytes encode a channel_update, so they have all of its fields
 pub record IsUpdate (raw : List ℕ) : Type 0 where
   pub long : 138 ≤ length raw
   pub spelled : Wire (messages.ChannelUpdate (update_in raw)) raw

@@ -1,4 +1,4 @@
-//! Channels as they are kept.
+//! Stored channels.
 
 ghost use Rattle.std.specs.Prelude.{◌≡◌, ◌+◌, ◌≤◌, length, IfOk, if◌then◌else◌};
 ghost use Rattle.lgm_gossip.specs.Message.{Wire};
@@ -11,7 +11,7 @@ use lgm_gossip::{Announce, Bytes, ChainHash, Lent, Point, Scid};
 use std::alloc::{AllocError, Global};
 use std::marker::Model;
 
-/// A channel, as the bytes of its announcement and its capacity. Contracts see the row that they spell.
+/// A channel, as the bytes of its announcement and its capacity. Contracts see the row that they encode.
 #[derive(Debug, Drop)]
 pub struct KeptChannel {
     sat: u64,
@@ -30,7 +30,7 @@ impl Model for KeptChannel {
     ghost invariant = { λ kept. IsAnnounce kept.raw };
 }
 
-/// How far the fields behind the features are off.
+/// The length of the features, by which the later fields are shifted.
 fn shift(raw: &[u8]) -> usize
     requires { 260 ≤ length raw.now }
     ensures { result ≡ features_len raw.now }
@@ -38,7 +38,7 @@ fn shift(raw: &[u8]) -> usize
     usize::from(number16(raw, 258))
 }
 
-/// The announcement that bytes spell, field by field.
+/// The announcement that the bytes encode, field by field.
 fn announce(raw: &[u8]) -> Announce<'_>
     requires { 432 + features_len raw.now ≤ length raw.now }
     ensures { result ≡ announce_in raw.now }
@@ -61,7 +61,7 @@ fn announce(raw: &[u8]) -> Announce<'_>
 }
 
 impl KeptChannel {
-    /// A row whose bytes spell its message, kept as a copy of them.
+    /// Stores a row whose bytes encode its message, by a copy of them.
     pub fn of(alloc: Global, row: &ChannelRow) -> Result<KeptChannel, AllocError>
         requires { Wire (messages.Announce row.now.message) row.now.raw }
         ensures { IfOk result (λ kept. kept ≡ row.now) }
@@ -72,7 +72,7 @@ impl KeptChannel {
         })
     }
 
-    /// The row that these bytes spell, kept as they are.
+    /// Stores the row that these bytes encode, without a copy.
     pub fn of_owned(raw: Bytes, sat: u64) -> KeptChannel
         requires { IsAnnounce raw }
         ensures { result ≡ channel_row sat raw }
@@ -93,14 +93,14 @@ impl KeptChannel {
         }
     }
 
-    /// The whole message as it came.
+    /// The whole message as received.
     pub fn raw(&self) -> &[u8]
         ensures { result.now ≡ self.now.raw }
     {
         self.raw.as_slice()
     }
 
-    /// The channel's name.
+    /// The channel id.
     pub fn scid(&self) -> Scid
         ensures { result ≡ self.now.message.short_channel_id }
     {

@@ -1,4 +1,4 @@
-//! Nodes as they are kept.
+//! Stored node announcements.
 
 ghost use Rattle.std.specs.Prelude.{◌≡◌, ◌+◌, ◌≤◌, length, IfOk};
 ghost use Rattle.lgm_gossip.specs.Message.{Wire};
@@ -11,7 +11,7 @@ use lgm_gossip::{Bytes, Lent, NodeAnnounce, Point};
 use std::alloc::{AllocError, Global};
 use std::marker::Model;
 
-/// A node, as the bytes of its announcement. Contracts see the row that they spell.
+/// A node, as the bytes of its announcement. Contracts see the row that they encode.
 #[derive(Debug, Drop)]
 pub struct KeptNode {
     raw: Bytes,
@@ -29,7 +29,7 @@ impl Model for KeptNode {
     ghost invariant = { λ kept. IsNodeAnnounce kept.raw };
 }
 
-/// How far the fields behind the features are off.
+/// The length of the features, by which the later fields are shifted.
 fn shift(raw: &[u8]) -> usize
     requires { 68 ≤ length raw.now }
     ensures { result ≡ features_len raw.now }
@@ -37,7 +37,7 @@ fn shift(raw: &[u8]) -> usize
     usize::from(number16(raw, 66))
 }
 
-/// The announcement that bytes spell, field by field.
+/// The announcement that the bytes encode, field by field.
 fn announce(raw: &[u8]) -> NodeAnnounce<'_>
     requires { 142 + features_len raw.now + addresses_len (features_len raw.now) raw.now ≤ length raw.now }
     ensures { result ≡ node_in raw.now }
@@ -57,7 +57,7 @@ fn announce(raw: &[u8]) -> NodeAnnounce<'_>
 }
 
 impl KeptNode {
-    /// A row whose bytes spell its message, kept as a copy of them.
+    /// Stores a row whose bytes encode its message, by a copy of them.
     pub fn of(alloc: Global, row: &NodeRow) -> Result<KeptNode, AllocError>
         requires { Wire (messages.NodeAnnounce row.now.message) row.now.raw }
         ensures { IfOk result (λ kept. kept ≡ row.now) }
@@ -67,7 +67,7 @@ impl KeptNode {
         })
     }
 
-    /// The row that these bytes spell, kept as they are.
+    /// Stores the row that these bytes encode, without a copy.
     pub fn of_owned(raw: Bytes) -> KeptNode
         requires { IsNodeAnnounce raw }
         ensures { result ≡ node_row raw }
@@ -87,7 +87,7 @@ impl KeptNode {
         }
     }
 
-    /// The whole message as it came.
+    /// The whole message as received.
     pub fn raw(&self) -> &[u8]
         ensures { result.now ≡ self.now.raw }
     {

@@ -1,4 +1,4 @@
-//! Updates as they are kept.
+//! Stored updates.
 
 ghost use Rattle.std.specs.Prelude.{◌≡◌, ◌%◌, ◌==◌, ◌≤◌, length, IfOk};
 ghost use Rattle.lgm_gossip.specs.Message.{Wire};
@@ -11,7 +11,7 @@ use lgm_gossip::{Bytes, ChainHash, ChannelUpdate, Lent, Scid};
 use std::alloc::{AllocError, Global};
 use std::marker::Model;
 
-/// An update of a direction, as its bytes. Contracts see the row that they spell.
+/// An update of a direction, as its bytes. Contracts see the row that they encode.
 #[derive(Debug, Drop)]
 pub struct KeptUpdate {
     raw: Bytes,
@@ -29,7 +29,7 @@ impl Model for KeptUpdate {
     ghost invariant = { λ kept. IsUpdate kept.raw };
 }
 
-/// The update that bytes spell, field by field.
+/// The update that the bytes encode, field by field.
 fn update(raw: &[u8]) -> ChannelUpdate<'_>
     requires { 138 ≤ length raw.now }
     ensures { result ≡ update_in raw.now }
@@ -51,7 +51,7 @@ fn update(raw: &[u8]) -> ChannelUpdate<'_>
 }
 
 impl KeptUpdate {
-    /// A row whose bytes spell its message, kept as a copy of them.
+    /// Stores a row whose bytes encode its message, by a copy of them.
     pub fn of(alloc: Global, row: &UpdateRow) -> Result<KeptUpdate, AllocError>
         requires { Wire (messages.ChannelUpdate row.now.message) row.now.raw }
         ensures { IfOk result (λ kept. kept ≡ row.now) }
@@ -61,7 +61,7 @@ impl KeptUpdate {
         })
     }
 
-    /// The row that these bytes spell, kept as they are.
+    /// Stores the row that these bytes encode, without a copy.
     pub fn of_owned(raw: Bytes) -> KeptUpdate
         requires { IsUpdate raw }
         ensures { result ≡ update_row raw }
@@ -81,14 +81,14 @@ impl KeptUpdate {
         }
     }
 
-    /// The whole message as it came.
+    /// The whole message as received.
     pub fn raw(&self) -> &[u8]
         ensures { result.now ≡ self.now.raw }
     {
         self.raw.as_slice()
     }
 
-    /// The channel's name.
+    /// The channel id.
     pub fn scid(&self) -> Scid
         ensures { result ≡ self.now.message.short_channel_id }
     {
@@ -102,7 +102,7 @@ impl KeptUpdate {
         number32(self.raw.as_slice(), 106)
     }
 
-    /// Whether the direction is that from node 2: bit 0 of `channel_flags`.
+    /// Whether the direction is from node 2: bit 0 of `channel_flags`.
     pub fn is_second(&self) -> bool
         ensures { result ≡ (self.now.message.channel_flags % 2 == 1) }
     {

@@ -1,7 +1,6 @@
-//! Rows that keep the bytes of their messages alone.
+//! Rows, stored as the bytes of their messages.
 //!
-//! Contracts see the same rows as where the fields are kept: each field is read from its place in the bytes when it is
-//! asked for.
+//! Contracts see the same rows as if the fields were stored: each field is read from the bytes on access.
 #![tactic(auto)]
 
 mod kept_channel;

@@ -1,4 +1,4 @@
-//! Parts of bytes at places that are known.
+//! Fields at given offsets.
 
 ghost use Rattle.std.specs.Prelude.{◌≡◌, ◌+◌, ◌≤◌, length, drop};
 ghost use Rattle.std.specs.Int.{w8, w16, w32, w64};
@@ -6,7 +6,7 @@ ghost use Rattle.lgm_rows.specs.Places.{part, number_in};
 
 use lgm_gossip::{Lent, Point, Signature};
 
-/// The number of one byte at a place.
+/// The one-byte number at an offset.
 pub(crate) fn number8(bytes: &[u8], at: usize) -> u8
     requires { at + 1 ≤ length bytes.now }
     ensures { result ≡ number_in w8 at bytes.now }
@@ -17,7 +17,7 @@ pub(crate) fn number8(bytes: &[u8], at: usize) -> u8
     u8::from_be_bytes(*digits)
 }
 
-/// The number of two bytes at a place.
+/// The two-byte number at an offset, big-endian.
 pub(crate) fn number16(bytes: &[u8], at: usize) -> u16
     requires { at + 2 ≤ length bytes.now }
     ensures { result ≡ number_in w16 at bytes.now }
@@ -28,7 +28,7 @@ pub(crate) fn number16(bytes: &[u8], at: usize) -> u16
     u16::from_be_bytes(*digits)
 }
 
-/// The number of four bytes at a place.
+/// The four-byte number at an offset, big-endian.
 pub(crate) fn number32(bytes: &[u8], at: usize) -> u32
     requires { at + 4 ≤ length bytes.now }
     ensures { result ≡ number_in w32 at bytes.now }
@@ -39,7 +39,7 @@ pub(crate) fn number32(bytes: &[u8], at: usize) -> u32
     u32::from_be_bytes(*digits)
 }
 
-/// The number of eight bytes at a place.
+/// The eight-byte number at an offset, big-endian.
 pub(crate) fn number64(bytes: &[u8], at: usize) -> u64
     requires { at + 8 ≤ length bytes.now }
     ensures { result ≡ number_in w64 at bytes.now }
@@ -50,7 +50,7 @@ pub(crate) fn number64(bytes: &[u8], at: usize) -> u64
     u64::from_be_bytes(*digits)
 }
 
-/// The bytes of an array at a place.
+/// The array of bytes at an offset.
 pub(crate) fn array<const N: usize>(bytes: &[u8], at: usize) -> [u8; N]
     requires { at + N ≤ length bytes.now }
     ensures { result ≡ part at N bytes.now }
@@ -61,7 +61,7 @@ pub(crate) fn array<const N: usize>(bytes: &[u8], at: usize) -> [u8; N]
     *array
 }
 
-/// The point at a place.
+/// The point at an offset.
 pub(crate) fn point(bytes: &[u8], at: usize) -> Point
     requires { at + 33 ≤ length bytes.now }
     ensures { result.0 ≡ part at 33 bytes.now }
@@ -69,7 +69,7 @@ pub(crate) fn point(bytes: &[u8], at: usize) -> Point
     Point(array(bytes, at))
 }
 
-/// The 64 bytes at a place, where they lie.
+/// The 64 bytes at an offset, borrowed.
 fn lent_array(bytes: &[u8], at: usize) -> &[u8; 64]
     requires { at + 64 ≤ length bytes.now }
     ensures { result.now ≡ part at 64 bytes.now }
@@ -80,7 +80,7 @@ fn lent_array(bytes: &[u8], at: usize) -> &[u8; 64]
     array
 }
 
-/// The signature at a place.
+/// The signature at an offset.
 pub(crate) fn signature(bytes: &[u8], at: usize) -> Signature<'_>
     requires { at + 64 ≤ length bytes.now }
     ensures { result ≡ part at 64 bytes.now }
@@ -88,7 +88,7 @@ pub(crate) fn signature(bytes: &[u8], at: usize) -> Signature<'_>
     Signature::new(lent_array(bytes, at))
 }
 
-/// So many bytes from a place on.
+/// The given number of bytes from an offset on.
 pub(crate) fn lent(bytes: &[u8], at: usize, len: usize) -> Lent<'_>
     requires { at + len ≤ length bytes.now }
     ensures { result ≡ part at len bytes.now }
@@ -96,7 +96,7 @@ pub(crate) fn lent(bytes: &[u8], at: usize, len: usize) -> Lent<'_>
     Lent::new(&bytes[at..at + len])
 }
 
-/// All bytes from a place on.
+/// All bytes from an offset on.
 pub(crate) fn rest(bytes: &[u8], at: usize) -> Lent<'_>
     requires { at ≤ length bytes.now }
     ensures { result ≡ drop at bytes.now }

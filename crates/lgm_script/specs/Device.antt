@@ -1,36 +1,36 @@
--- What a read or a write does to the bytes that a device tells, and to its count of failures.
+-- The effect of a read or a write on the bytes that a device specifies, and on its count of failures.
 use Rattle.std.specs.Prelude.{◌≡◌, ℕ, ◌≤◌, List, [], ◌∷◌, ◌++◌, length, take, drop, Option, Result, Ok, Err, IfSome, ◌==◌, if◌then◌else◌}
 use Rattle.std.specs.Option.{option_map}
 use Rattle.lgm_script.specs.declared.device.Failed.{Failed}
 
--- the first n of the bytes that were left now stand at the front of the buffer; an Err moves nothing
+-- the first n of the remaining bytes were moved to the start of the buffer; an Err moves nothing
 abbrev pub Reads : Option (List ℕ) → Option (List ℕ) → Result ℕ Failed → List ℕ → Type 0
 Reads old new (Ok n) buffer = (new ≡ option_map (drop n) old) × IfSome old (λ left. (n ≤ length left) × (take n buffer ≡ take n left))
 Reads old new (Err e) buffer = new ≡ old
 
--- no byte is left, where that is told
+-- no byte is left, if the device specifies that
 abbrev pub IsAtEnd : Option (List ℕ) → Type 0
 IsAtEnd left = IfSome left (λ bytes. bytes ≡ [])
 
--- these bytes were taken after the ones before
+-- these bytes were accepted after the ones before
 abbrev pub Appends : Option (List ℕ) → Option (List ℕ) → List ℕ → Type 0
 Appends old new bytes = new ≡ option_map (λ taken. taken ++ bytes) old
 
--- the first of these bytes were
+-- a prefix of these bytes was
 abbrev pub AppendsSome : Option (List ℕ) → Option (List ℕ) → List ℕ → Type 0
 AppendsSome old new bytes = (n : ℕ) × Appends old new (take n bytes)
 
--- the first n of the bytes were taken; an Err takes none
+-- the first n of the bytes were accepted; an Err accepts none
 abbrev pub Writes : Option (List ℕ) → Option (List ℕ) → Result ℕ Failed → List ℕ → Type 0
 Writes old new (Ok n) bytes = Appends old new (take n bytes)
 Writes old new (Err e) bytes = new ≡ old
 
--- by how much a read raises the count of failures
+-- how many failures a read adds to the count
 abbrev pub read_failures : Result ℕ Failed → ℕ
 read_failures (Ok n) = 0
 read_failures (Err e) = 1
 
--- by how much a write does: a write of some bytes that takes none is a failure too
+-- how many a write adds: a non-empty write that accepts no byte is a failure, too
 abbrev pub write_failures : Result ℕ Failed → List ℕ → ℕ
 write_failures (Ok n) [] = 0
 write_failures (Ok n) (b ∷ bs) = if n == 0 then 1 else 0

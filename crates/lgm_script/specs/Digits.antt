@@ -1,4 +1,4 @@
--- Digits, read one after the other.
+-- Decimal digits, read one after the other.
 use Rattle.std.specs.Prelude.{ℕ, ◌+◌, ◌-◌, ◌*◌, ◌^◌, List, [], ◌∷◌, Option, Some, None, Bool, ◌&&◌, nat_le, nat_lt, if◌then◌else◌}
 use Rattle.std.specs.List.{list_all}
 
@@ -10,12 +10,12 @@ is_digit byte = nat_le 48 byte && nat_le byte 57
 abbrev pub with_digit : ℕ → ℕ → ℕ
 with_digit number digit = number * 10 + (digit - 48)
 
--- the number with further digits, the highest one first
+-- the number with further digits, most significant first
 abbrev pub with_digits : ℕ → List ℕ → ℕ
 with_digits number [] = number
 with_digits number (digit ∷ digits) = with_digits (with_digit number digit) digits
 
--- the number with one more digit, if it is one and the number is below 2^64
+-- the number with one more digit, if the byte is a digit and the number is below 2^64
 abbrev pub further : ℕ → ℕ → Option ℕ
 further number digit = if is_digit digit && nat_lt (with_digit number digit) (2 ^ 64) then Some (with_digit number digit) else None
 

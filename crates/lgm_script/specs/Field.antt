@@ -1,4 +1,4 @@
--- The fields of a line, which stand between single separators.
+-- The fields of a line, separated by single separators.
 use Rattle.std.specs.Prelude.{ℕ, ◌^◌, List, [], Option, Some, None, ◌==◌, ◌&&◌, nat_eq, nat_lt, if◌then◌else◌}
 use Rattle.std.specs.Option.{option_map}
 use Rattle.std.specs.Result.{result_ok}
@@ -9,7 +9,7 @@ use Rattle.std.specs.Str.Parse.{digits_value}
 use Rattle.hex.specs.Hex.{decode_sized}
 use Rattle.lgm_wire.specs.declared.point.Point.{Point}
 
--- the ? of the grammar: the second reading, if the first gave a value
+-- the ? of the grammar: the second parser, if the first returned a value
 infixl 10 ◌>>=◌
 abbrev pub ◌>>=◌ : {A B : Type 0} → Option A → (A → Option B) → Option B
 None >>= f = None
@@ -19,12 +19,12 @@ Some x >>= f = f x
 abbrev pub fields_of : ℕ → List ℕ → List (List ℕ)
 fields_of separator text = slice_split (λ byte. byte == separator) text
 
--- those of a text that is left, if one is
+-- the fields of the remaining text, if there is one
 abbrev pub fields_left : ℕ → Option (List ℕ) → List (List ℕ)
 fields_left separator None = []
 fields_left separator (Some text) = fields_of separator text
 
--- the number below 2^64 that is written with these digits
+-- the number below 2^64 that has these digits
 abbrev pub number_of : List ℕ → Option ℕ
 number_of digits =
     let number = digits_value 10 digits in
@@ -36,7 +36,7 @@ number_below limit digits = do
   number ← number_of digits
   if nat_lt number limit then Some number else None
 
--- so many bytes, each as two hexadecimal digits
+-- the given number of bytes, each as two hexadecimal digits
 abbrev pub array_of : ℕ → List ℕ → Option (List ℕ)
 array_of count digits = result_ok (decode_sized digits count)
 

@@ -9,7 +9,7 @@ use Rattle.lgm_script.specs.declared.request.Request.TheVariants as requests
 use Rattle.lgm_script.specs.Request.{request_of}
 use Rattle.lgm_script.specs.Lines.{IsFirstLine}
 
--- a line that may ask for a route
+-- a line that may request a route
 abbrev pub has_route_word : List ℕ → Bool
 has_route_word line = pointwise nat_eq (take 6 line) (codes "route ")
 
@@ -20,13 +20,13 @@ kind_of line =
     else if pointwise nat_eq (take 2 line) (codes "q ") || pointwise nat_eq (take 7 line) (codes "filter ") || has_route_word line then Question
     else Other
 
--- these lines stand whole at the front of what was read ahead, and behind them these bytes
+-- these lines are complete at the start of what was read ahead, and these bytes follow them
 abbrev pub AreFirstLines : List ℕ → Option (List ℕ) → List (List ℕ) → List ℕ → Type 0
 AreFirstLines buffered left [] rest = rest ≡ buffered
 AreFirstLines buffered left (line ∷ lines) rest =
     (line ≡ take (length line) buffered) × IsFirstLine buffered left (length line) × AreFirstLines (drop (length line + 1) buffered) left lines rest
 
--- what a line of that kind can ask; it may be no form of the grammar whatever its first word is
+-- what a line of that kind can request; whatever its first word is, it may be malformed
 abbrev pub IsOfKind : Kind → Request → Type 0
 IsOfKind kind requests.Bad = Unit {0}
 IsOfKind Item (requests.Offer item) = Unit {0}
@@ -37,7 +37,7 @@ IsOfKind Other requests.Quiet = Unit {0}
 IsOfKind Other requests.Commit = Unit {0}
 IsOfKind kind _ = ⊥
 
--- some lines that ask for what lines of a kind can ask, or one line of no kind
+-- one or more lines that request what lines of a kind can request, or one line of another kind
 pub record AreAlike (kind : Kind) (lines : List (List ℕ)) : Type 0 where
   pub some : 0 < length lines
   pub each : AllByRecursion (λ line. IsOfKind kind (request_of line)) lines

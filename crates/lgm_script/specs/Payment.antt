@@ -1,4 +1,4 @@
--- Payments, as lines spell them.
+-- Payments, as lines encode them.
 use Rattle.std.specs.Prelude.{ℕ, ◌^◌, List, [], ◌∷◌, Option, Some, None}
 use Rattle.lgm_script.specs.declared.payment.Payment.{Payment}
 use Rattle.lgm_script.specs.Field.{◌>>=◌, number_of, number_below, array_of, point_of}

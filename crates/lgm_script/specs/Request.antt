@@ -1,4 +1,4 @@
--- What a line asks.
+-- What a line requests.
 use Rattle.std.specs.Prelude.{ℕ, ◌<◌, List, [], ◌∷◌, length, take, drop, Option, Some, None, unwrap_or, codes, nat_eq, ◌==◌, ◌||◌, if◌then◌else◌}
 use Rattle.std.specs.List.{starts_with}
 use Rattle.std.specs.Option.{option_map}
@@ -22,7 +22,7 @@ abbrev pub HasLawfulPeer : Request → Type 0
 HasLawfulPeer (requests.Filter peer bytes) = peer < 1000
 HasLawfulPeer _ = Unit {0}
 
--- the forms of the grammar: a word, and the fields behind it
+-- the forms of the grammar: a word, and the fields after it
 abbrev pub form_of : List ℕ → Option Request
 form_of line =
     if pointwise nat_eq (take 2 line) (codes "m ") then option_map (λ item. requests.Offer item) (gossip_of (fields_of 32 (drop 2 line)))
@@ -33,7 +33,7 @@ form_of line =
     else if pointwise nat_eq line (codes "commit") then Some requests.Commit
     else None
 
--- what a line asks
+-- what a line requests
 abbrev pub request_of : List ℕ → Request
 request_of line =
     if (length line == 0) || starts_with nat_eq line (codes "#") then requests.Quiet

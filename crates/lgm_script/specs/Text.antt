@@ -1,4 +1,4 @@
--- The lines of the answers.
+-- The lines of answers.
 use Rattle.std.specs.Prelude.{ℕ, ◌/◌, ◌%◌, ◌^◌, List, ◌++◌, Option, Some, None, codes}
 use Rattle.std.specs.Fmt.{decimal}
 use Rattle.hex.specs.Hex.{encode_lower}
@@ -11,7 +11,7 @@ word_line number word = decimal number ++ codes " " ++ word ++ codes "\n"
 abbrev pub commit_line : ℕ → ℕ → List ℕ
 commit_line number count = decimal number ++ codes " commit " ++ decimal count ++ codes "\n"
 
--- what stands in front of a message: N, and the peer that it is for, if it is for one
+-- what precedes a message: N, and the peer, if it is for one
 abbrev pub lead : ℕ → Option ℕ → List ℕ
 lead number None = decimal number ++ codes " "
 lead number (Some peer) = decimal number ++ codes " to " ++ decimal peer ++ codes " "
@@ -25,7 +25,7 @@ abbrev pub route_line : ℕ → ℕ → ℕ → ℕ → List ℕ
 route_line number sent expiry count =
     decimal number ++ codes " route " ++ decimal sent ++ codes " " ++ decimal expiry ++ codes " " ++ decimal count ++ codes "\n"
 
--- a channel's name, from its number: BLOCKxINDEXxOUTPUT
+-- a channel id, from its number: BLOCKxINDEXxOUTPUT
 abbrev pub scid_text : ℕ → List ℕ
 scid_text id = decimal (id / 2 ^ 40) ++ codes "x" ++ decimal (id / 2 ^ 16 % 2 ^ 24) ++ codes "x" ++ decimal (id % 2 ^ 16)
 

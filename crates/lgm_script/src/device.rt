@@ -1,29 +1,29 @@
-//! Where a script comes from, and where its answers go.
+//! Devices: where a script is read from, and where answers are written to.
 
 ghost use Rattle.std.specs.Prelude.{◌≡◌, ℕ, ◌+◌, ◌≤◌, ◌<◌, ◌^◌, List, Option, length, IfOk, OnOk, OnErr};
 ghost use Rattle.lgm_script.specs.Device.{Reads, IsAtEnd, Writes, Appends, AppendsSome, read_failures, write_failures};
 
 use thiserror::Error;
 
-/// A device failed to read or to write.
+/// A device failed to read or write.
 #[derive(Clone, Copy, Debug, PartialEq, Eq, Error)]
 #[error("a device failed")]
 pub struct Failed;
 
-/// Where bytes come from.
+/// A source of bytes.
 ///
-/// A device counts its failures. Each call asks that the count is below the greatest `u64`.
+/// A device counts its failures. Each call requires a count below the greatest `u64`.
 pub trait Source {
-    /// The bytes that are left, where the device tells them.
+    /// The remaining bytes, if the device specifies them.
     ghost left: { Self → Option (List ℕ) };
 
-    /// How often it has failed.
+    /// The number of failures so far.
     ghost failures: { Self → ℕ };
 
-    /// Moves the first bytes that are left into the front of the buffer, and gives their number.
+    /// Moves the next bytes to the start of the buffer, and returns their number.
     ///
-    /// It gives 0 for a buffer that has room only where no byte is left. `Failed` moves nothing, and
-    /// adds one to the count of failures; what the buffer then holds is left open.
+    /// It returns 0 for a non-empty buffer only at the end of the source. `Failed` moves nothing, and adds one to the
+    /// count of failures; the contents of the buffer are then unspecified.
     fn read(&mut self, buffer: &mut [u8]) -> Result<usize, Failed>
         requires { failures self.old + 1 < 2 ^ 64 }
         ensures bound { IfOk result (λ n. n ≤ length buffer.old) }
@@ -32,20 +32,20 @@ pub trait Source {
         ensures failures { failures self.new ≡ failures self.old + read_failures result };
 }
 
-/// Where bytes go.
+/// A sink of bytes.
 ///
-/// A device counts its failures. Each call asks that the count is below the greatest `u64`.
+/// A device counts its failures. Each call requires a count below the greatest `u64`.
 pub trait Sink {
-    /// The bytes that were taken so far, where the device tells them.
+    /// The bytes accepted so far, if the device specifies them.
     ghost taken: { Self → Option (List ℕ) };
 
-    /// How often it has failed.
+    /// The number of failures so far.
     ghost failures: { Self → ℕ };
 
-    /// Takes the first of the bytes, and gives their number.
+    /// Accepts a prefix of the bytes, and returns its length.
     ///
-    /// `Failed` takes nothing, and adds one to the count of failures. So does a write of some bytes
-    /// that takes none of them.
+    /// `Failed` accepts nothing, and adds one to the count of failures. So does a non-empty write of which no byte is
+    /// accepted.
     fn write(&mut self, bytes: &[u8]) -> Result<usize, Failed>
         requires { failures self.old + 1 < 2 ^ 64 }
         ensures bound { IfOk result (λ n. n ≤ length bytes.now) }
@@ -55,8 +55,8 @@ pub trait Sink {
 
 /// Writes all of the bytes.
 ///
-/// `Failed` comes only where the device failed or took none of the bytes that were left. The first
-/// of the bytes were then taken, perhaps none.
+/// `Failed` comes only if the device failed or accepted none of the remaining bytes. A prefix of the bytes, possibly
+/// empty, was accepted then.
 pub fn write_all<W: Sink>(sink: &mut W, bytes: &[u8]) -> Result<(), Failed>
     requires { W.failures sink.old + 1 < 2 ^ 64 }
     ensures ok { OnOk result (Appends (W.taken sink.old) (W.taken sink.new) bytes.now) }

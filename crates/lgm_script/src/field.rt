@@ -1,4 +1,4 @@
-//! What a field spells.
+//! Values of fields.
 
 ghost use Rattle.std.specs.Prelude.{◌≡◌, ◌<◌, IfSome};
 ghost use Rattle.lgm_script.specs.Digits.{further, value_at};
@@ -6,7 +6,7 @@ ghost use Rattle.lgm_script.specs.Field.{number_of, number_below, point_of};
 
 use lgm_gossip::Point;
 
-/// The number behind one more digit, if it is below 2^64.
+/// The number with one more digit, if it is below 2^64.
 fn further(value: u64, byte: u8) -> Option<u64>
     ensures { result ≡ further value byte }
 {

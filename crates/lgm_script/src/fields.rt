@@ -1,4 +1,4 @@
-//! The fields of a text, one after the other.
+//! Iteration over the fields of a text.
 
 ghost use Rattle.std.specs.Prelude.{◌≡◌, ◌∷◌, ◌++◌, [], IfSome, IfNone, IsSome, ◌↔◌};
 ghost use Rattle.lgm_script.specs.Field.{fields_of};
@@ -6,7 +6,7 @@ ghost use Rattle.lgm_script.specs.Field.{fields_of};
 use memchr::{memchr, memrchr};
 use std::marker::Model;
 
-/// The fields of a text that are left. Contracts see the list of them.
+/// The remaining fields of a text. Contracts see the list of them.
 #[derive(Drop)]
 pub struct Fields<'a> {
     separator: u8,
@@ -24,7 +24,7 @@ impl<'a> Model for Fields<'a> {
 }
 
 impl<'a> Fields<'a> {
-    /// The fields of a text, which stand between single separators.
+    /// The fields of a text, separated by single separators.
     pub fn new(separator: u8, text: &'a [u8]) -> Fields<'a>
         ensures { result ≡ fields_of separator text.now }
     {
@@ -48,7 +48,7 @@ impl<'a> Fields<'a> {
         Some(&text[..end])
     }
 
-    /// That no field is left, or none.
+    /// `Some` if no field is left, else `None`.
     pub fn end(&self) -> Option<()>
         ensures { IsSome result ↔ (self.now ≡ []) }
     {
@@ -59,7 +59,7 @@ impl<'a> Fields<'a> {
     }
 }
 
-/// The text in front of the last separator, and the field behind it.
+/// The text before the last separator, and the field after it.
 pub fn cut_last(separator: u8, text: &[u8]) -> Option<(&[u8], &[u8])>
     ensures some { IfSome result (λ parts. fields_of separator text.now ≡ fields_of separator parts.0.now ++ parts.1.now ∷ []) }
     ensures none { IfNone result (fields_of separator text.now ≡ text.now ∷ []) }

@@ -9,19 +9,19 @@ ghost use Rattle.lgm_script.specs.Groups.{has_route_word, kind_of, IsOfKind, IsN
 use crate::line_reader::{MAX_LINE, find_line};
 use std::alloc::{AllocError, Global};
 
-/// What kind of answer a line wants, as its first word tells. The rest of the line may still be wrong.
+/// What kind of answer a line requests, by its first word. The rest of the line may still be malformed.
 #[derive(Clone, Copy, Debug, PartialEq, Eq)]
 pub enum Kind {
     /// The outcome of an item: `m` or `close`.
     Item,
-    /// An answer from the committed map: `q`, `filter` or `route`.
+    /// An answer on the committed map: `q`, `filter` or `route`.
     Question,
-    /// Another one or none: a commit, a comment, an empty line, or a word that is none of the grammar's.
+    /// Anything else: a commit, a comment, an empty line, or an unknown word.
     Other,
 }
 
-/// The most lines of a kind that are answered together. What items and questions want side by side is kept until their
-/// turn comes, which for replies to queries can be much.
+/// The maximum number of lines of a kind that are answered together. What is prepared for items and questions is kept
+/// until their turn, which for replies to queries can be much.
 fn most_of(kind: Kind) -> usize
     ensures some { 0 < result }
     ensures alone { kind ≡ Kind.Other → result ≡ 1 }
@@ -33,7 +33,7 @@ fn most_of(kind: Kind) -> usize
     }
 }
 
-/// Whether a line may ask for a route.
+/// Whether a line may request a route.
 fn has_route_word(line: &[u8]) -> bool
     ensures { result ≡ has_route_word line.now }
 {
@@ -58,18 +58,18 @@ fn kind_of(line: &[u8]) -> Kind
     Kind::Other
 }
 
-/// Lines that stand one behind the other in what was read ahead.
+/// Consecutive lines within what was read ahead.
 #[derive(Drop)]
 pub struct Group<'a> {
     /// The kind of all of them.
     pub kind: Kind,
     /// The lines, without their line feeds.
     pub lines: Vec<&'a [u8]>,
-    /// How many bytes they take up, with their line feeds.
+    /// Their length in bytes, with their line feeds.
     pub len: usize,
 }
 
-/// The first bytes, so many, and those behind the next one.
+/// The first `count` bytes, and those after the next one.
 fn cut(bytes: &[u8], count: usize) -> (&[u8], &[u8])
     requires { count ≤ length bytes.now }
     ensures line { result.0.now ≡ take count bytes.now }
@@ -78,7 +78,7 @@ fn cut(bytes: &[u8], count: usize) -> (&[u8], &[u8])
     (&bytes[..count], &bytes[(count + 1).min(bytes.len())..])
 }
 
-/// The next line and what stands behind it, if it is whole, within the limit, and of this kind.
+/// The next line and the bytes after it, if it is complete, within the limit, and of this kind.
 fn next_of_kind(bytes: &[u8], kind: Kind) -> Option<(&[u8], &[u8])>
     ensures line { IfSome result (λ next. (left : Option (List ℕ)) → IsFirstLine bytes.now left (length next.0.now)) }
     ensures front { IfSome result (λ next. next.0.now ≡ take (length next.0.now) bytes.now) }
@@ -94,8 +94,8 @@ fn next_of_kind(bytes: &[u8], kind: Kind) -> Option<(&[u8], &[u8])>
     Some((line, rest))
 }
 
-/// The first line of what was read ahead, which has so many bytes, and with it those behind it that are of its kind and
-/// whole: at most so many lines, 1,024 for items and 64 for questions; others stand alone.
+/// The first line of what was read ahead, which has `first` bytes, with the complete lines of its kind that follow it:
+/// at most `most` lines, 1,024 for items and 64 for questions; others are answered alone.
 pub fn next_group(
     alloc: Global,
     buffered: &[u8],
@@ -128,14 +128,14 @@ pub fn next_group(
     Ok(Group { kind, lines, len })
 }
 
-/// Whether one of these lines has the word for a route.
+/// Whether one of these lines has the word of a route.
 fn has_routes(lines: &[&[u8]]) -> bool
     ensures { result ≡ list_any (λ line. has_route_word line.now) lines.now }
 {
     lines.iter().any(|line| has_route_word(line))
 }
 
-/// Whether some of these lines may ask for a route.
+/// Whether some of these lines may request a route.
 #[tactic(auto, using(crate::proofs::FirstWords::no_routes))]
 pub fn may_ask_routes(lines: &[&[u8]]) -> bool
     ensures { result ≡ false → AllByRecursion (λ line. IsNoRoute (request_of line.now)) lines.now }

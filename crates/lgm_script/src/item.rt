@@ -14,16 +14,16 @@ use lgm_check::{Evidence, Funding, Sig};
 use lgm_gossip::{Bytes, Scid};
 use std::alloc::{AllocError, Global};
 
-/// What is offered to the map, with what the caller found out about it.
+/// What is offered to the map, with the caller's verdicts on it.
 #[derive(Debug, Drop)]
 pub enum Item {
-    /// A gossip message, as its bytes, and the verdicts on it.
+    /// The bytes of a gossip message, and the verdicts on it.
     Gossip(Bytes, Evidence),
-    /// The close of a channel, whose funding output is spent.
+    /// The close of a channel whose funding output is spent.
     Close(Scid),
 }
 
-/// The bytes that hexadecimal digits spell, at least one byte.
+/// Decodes hexadecimal digits, at least two.
 pub fn bytes(alloc: Global, digits: &[u8]) -> Result<Option<Bytes>, AllocError>
     ensures { IfOk result (λ bytes. bytes ≡ bytes_of digits.now) }
 {
@@ -79,7 +79,7 @@ fn evidence(signer: &[u8], output: &[u8]) -> Option<Evidence>
     })
 }
 
-/// A message that is offered: `HEX SIG FUNDING`. The digits are many, so the text is cut from its end.
+/// An offered message: `HEX SIG FUNDING`. Since there are many digits, the text is split from its end.
 pub fn gossip(alloc: Global, text: &[u8]) -> Result<Option<Item>, AllocError>
     ensures { IfOk result (λ item. item ≡ gossip_of (fields_of 32 text.now)) }
 {
@@ -98,7 +98,7 @@ pub fn gossip(alloc: Global, text: &[u8]) -> Result<Option<Item>, AllocError>
     }
 }
 
-/// A channel, from its block, index and output.
+/// A channel id, from its block, index and output.
 fn scid(mut fields: Fields<'_>) -> Option<Scid>
     ensures { result ≡ scid_of fields.entry }
 {
@@ -121,10 +121,10 @@ pub fn close(mut fields: Fields<'_>) -> Option<Item>
     Some(Item::Close(scid(Fields::new(b'x', name))?))
 }
 
-/// The item that a line offers, which is that of its request (see [`parse`](crate::parse)); none where the request is
+/// The item that a line offers, which is that of its request (see [`parse`](crate::parse)); none if the request is
 /// another one.
 ///
-/// The error is that there is no memory for a message's bytes, the only memory that is taken.
+/// The only error is out of memory for the bytes of a message, the only allocation.
 #[tactic(auto, using(crate::proofs::Items::offers_what_its_word_tells))]
 pub fn parse_item(alloc: Global, line: &[u8]) -> Result<Option<Item>, AllocError>
     ensures { IfOk result (λ offered. (item : Item) → (offered ≡ Some item) ↔ (request_of line.now ≡ Offer item)) }

@@ -1,8 +1,8 @@
-//! Scripts: their lines and what a line asks, and the lines of the answers, from a [`Source`] and to a [`Sink`].
+//! What scripts are made of: devices, lines, the grammar and output, from a [`Source`] to a [`Sink`].
 //!
-//! What is read ahead of a source is a [`LineReader`]; text on its way to a sink is an [`Output`]. [`next_line`] finds
-//! one line after the other, and [`next_group`] those that are answered together. [`parse`] tells what a line asks, and
-//! [`parse_item`] the item that a line offers.
+//! A [`LineReader`] holds what was read ahead of a source; an [`Output`] buffers text for a sink. [`next_line`] finds
+//! the next line, and [`next_group`] the lines that are answered together. [`parse`] turns a line into a request, and
+//! [`parse_item`] into an item.
 #![tactic(auto)]
 
 mod device;

@@ -1,4 +1,4 @@
-//! The lines of a script, whatever pieces its source gives.
+//! The lines of a script, however its bytes arrive.
 
 ghost use Rattle.std.specs.Prelude.{◌≡◌, ◌+◌, ◌≤◌, ◌<◌, ◌^◌, ◌-◌, [], true, false, List, ℕ, Option, length, take, drop, IfOk, IfSome, IfNone, OnOk, OnErr};
 ghost use Rattle.lgm_script.specs.Device.{IsAtEnd};
@@ -10,16 +10,16 @@ use memchr::memchr;
 use std::alloc::{AllocError, Global};
 use std::marker::Model;
 
-/// The most bytes that a line has, without its line feed.
+/// The maximum length of a line in bytes, without its line feed.
 pub const MAX_LINE: usize = 140_000;
 
-/// How many bytes are read ahead at most: more than three of the longest lines.
+/// The maximum number of bytes that are read ahead: more than three of the longest lines.
 const ROOM: usize = 524_288;
 
-/// What was read ahead of a source. It takes all its memory when it is made.
+/// What was read ahead of a source. All memory is allocated when it is made.
 ///
-/// Contracts see the list of the bytes that were read ahead. It is meant for one source: these bytes come before those
-/// that the source has left. Lines are found and lent where they lie.
+/// Contracts see the list of these bytes. It belongs to one source: they come before the bytes that the source has
+/// left. Lines are found and lent in place.
 #[derive(Drop)]
 pub struct LineReader {
     buffer: Vec<u8>,
@@ -57,7 +57,7 @@ impl LineReader {
         &self.buffer[self.start..self.end]
     }
 
-    /// Drops the first bytes, so many: lines that are done with.
+    /// Drops the first `count` bytes: lines that have been answered.
     pub fn drop_front(&mut self, count: usize)
         requires { count ≤ length self.old }
         ensures { self.new ≡ drop count self.old }
@@ -65,7 +65,7 @@ impl LineReader {
         self.start += count;
     }
 
-    /// Reads further bytes ahead, and gives whether there was one. Where it reads, nothing is gathered: so no answer
+    /// Reads more bytes ahead, and returns whether there was one. It requires an empty output buffer, so no answer
     /// waits for input.
     pub fn read_more<R: Source, W: Sink>(
         &mut self,
@@ -104,7 +104,7 @@ pub(crate) fn find_line(bytes: &[u8], searched: usize) -> Option<usize>
     Some(searched + place)
 }
 
-/// Moves the bytes between these places to the front if there is no room behind them. Gives their places.
+/// Moves the bytes from `start` to `end` to the front if there is no room after them. Returns their new offsets.
 fn make_room(buffer: &mut Vec<u8>, start: usize, end: usize) -> (usize, usize)
     requires order { start ≤ end }
     requires within { end ≤ ROOM }

@@ -1,4 +1,4 @@
-//! Devices in memory, for tests and for programs that hold their script themselves.
+//! Devices in memory, for tests and for programs that have their script in memory.
 
 ghost use Rattle.std.specs.Prelude.{◌≡◌, ◌<◌, Some, []};
 
@@ -14,7 +14,7 @@ pub struct MemorySource<'a> {
 }
 
 impl<'a> MemorySource<'a> {
-    /// A source of these bytes, which gives at most `most` of them at each read, and at least one.
+    /// A source of these bytes, which returns at most `most` of them per read, and at least one.
     pub fn new(bytes: &'a [u8], most: usize) -> MemorySource<'a>
         ensures bytes { ⟦<MemorySource<'a> as Source>⟧.left result ≡ Some bytes.now }
         ensures failures { ⟦<MemorySource<'a> as Source>⟧.failures result ≡ 0 }
@@ -42,7 +42,7 @@ impl Source for MemorySource<'_> {
     }
 }
 
-/// A sink that keeps what it takes in memory. It fails only where memory is refused.
+/// A sink that keeps what it accepts in memory. It fails only if memory runs out.
 #[derive(Drop)]
 pub struct MemorySink {
     taken: Vec<u8>,
@@ -50,7 +50,7 @@ pub struct MemorySink {
 }
 
 impl MemorySink {
-    /// A sink that has taken nothing. It takes no memory before its first write.
+    /// An empty sink. Nothing is allocated before its first write.
     pub fn new(alloc: Global) -> MemorySink
         ensures bytes { ⟦<MemorySink as Sink>⟧.taken result ≡ Some [] }
         ensures failures { ⟦<MemorySink as Sink>⟧.failures result ≡ 0 }
@@ -61,7 +61,7 @@ impl MemorySink {
         }
     }
 
-    /// The bytes that were taken, in order.
+    /// The bytes that were accepted, in order.
     pub fn taken(&self) -> &[u8]
         ensures { ⟦<MemorySink as Sink>⟧.taken self.now ≡ Some result.now }
     {

@@ -1,4 +1,4 @@
-//! Text on its way to a sink.
+//! Buffered text for a sink.
 
 ghost use Rattle.std.specs.Prelude.{◌≡◌, ◌+◌, ◌<◌, ◌^◌, ◌++◌, [], length, List, ℕ, IfErr, OnOk, OnErr};
 ghost use Rattle.lgm_script.specs.Output.{Sends, SendsPart};
@@ -11,16 +11,16 @@ use lgm_gossip::Scid;
 use std::alloc::AllocError;
 use thiserror::Error;
 
-/// How many bytes are gathered before they are written.
+/// The number of bytes that are buffered before they are written.
 pub const BLOCK: usize = 65_536;
 
-/// Why a text wasn't told to its end.
+/// Why a text wasn't written to its end.
 #[derive(Clone, Copy, Debug, PartialEq, Eq, Error)]
 pub enum SendFault {
-    /// The sink failed, or took no byte.
+    /// The sink failed, or accepted no byte.
     #[error("write failed")]
     Write,
-    /// Memory was refused.
+    /// Out of memory.
     #[error("out of memory")]
     NoMemory,
 }
@@ -33,12 +33,12 @@ impl From<AllocError> for SendFault {
     }
 }
 
-/// Text on its way to a sink: it is gathered, and written once it fills a block.
+/// Text for a sink: it is buffered, and written once it fills a block.
 ///
-/// Contracts see what the sink took, what is gathered behind it, and how often the sink has failed. Each call tells its
-/// whole text, or at a fault a first part of it. At `NoMemory` each line is gathered whole or not at all, and the sink
-/// is as well as before. At `Write` the first bytes of what was gathered may have been taken, and nothing is gathered
-/// any more, so that nothing is written twice.
+/// Contracts see what the sink accepted, what is buffered behind it, and how often the sink failed. Each call writes
+/// its whole text, or at a fault a prefix of it. At `NoMemory` each line is buffered completely or not at all, and the
+/// sink hasn't failed. At `Write` a prefix of what was buffered may have been accepted, and the buffer is empty, so
+/// nothing is written twice.
 #[derive(Drop)]
 pub struct Output<'a, W> {
     writer: &'a mut W,
@@ -46,7 +46,7 @@ pub struct Output<'a, W> {
 }
 
 impl<'a, W: Sink> Output<'a, W> {
-    /// An output to a sink, whose text is gathered behind what a block of bytes has already.
+    /// An output to a sink, which buffers text after what the block already contains.
     pub fn new(gathered: &'a mut Vec<u8>, writer: &'a mut W) -> Output<'a, W>
         ensures writer { result.writer.ghost_name ≡ writer.entry.ghost_name }
         ensures same { result.writer.now ≡ writer.entry.now }
@@ -55,7 +55,7 @@ impl<'a, W: Sink> Output<'a, W> {
         Output { writer, gathered }
     }
 
-    /// Writes what is gathered. After `Failed` the first bytes of it may have been taken.
+    /// Writes what is buffered. After `Failed` a prefix of it may have been accepted.
     pub fn flush(&mut self) -> Result<(), Failed>
         requires { W.failures self.old.writer.now + 1 < 2 ^ 64 }
         ensures writer { self.new.writer.ghost_name ≡ self.old.writer.ghost_name }
@@ -71,7 +71,7 @@ impl<'a, W: Sink> Output<'a, W> {
         }
     }
 
-    /// Writes what is gathered, if it fills a block.
+    /// Writes what is buffered, if it fills a block.
     fn flush_block(&mut self) -> Result<(), SendFault>
         requires { W.failures self.old.writer.now + 1 < 2 ^ 64 }
         ensures writer { self.new.writer.ghost_name ≡ self.old.writer.ghost_name }
@@ -88,7 +88,7 @@ impl<'a, W: Sink> Output<'a, W> {
         }
     }
 
-    /// Tells a word: `N WORD`.
+    /// Writes a word: `N WORD`.
     pub fn send_word(&mut self, number: u64, word: &str) -> Result<(), SendFault>
         requires { W.failures self.old.writer.now + 1 < 2 ^ 64 }
         ensures writer { self.new.writer.ghost_name ≡ self.old.writer.ghost_name }
@@ -99,7 +99,7 @@ impl<'a, W: Sink> Output<'a, W> {
         self.flush_block()
     }
 
-    /// Tells the number of accepted items at a commit: `N commit V`.
+    /// Writes the number of accepted items at a commit: `N commit V`.
     pub fn send_count(&mut self, number: u64, count: u64) -> Result<(), SendFault>
         requires { W.failures self.old.writer.now + 1 < 2 ^ 64 }
         ensures writer { self.new.writer.ghost_name ≡ self.old.writer.ghost_name }
@@ -110,7 +110,7 @@ impl<'a, W: Sink> Output<'a, W> {
         self.flush_block()
     }
 
-    /// Tells a message, in hexadecimal digits: `N HEX`, or `N to PEER HEX` where it is for a peer.
+    /// Writes a message in hexadecimal digits: `N HEX`, or for a peer `N to PEER HEX`.
     pub fn send_message(
         &mut self,
         number: u64,
@@ -126,8 +126,8 @@ impl<'a, W: Sink> Output<'a, W> {
         self.flush_block()
     }
 
-    /// Tells a route: `N route SENT EXPIRY K`, what the payer sends, in msat, the block height at which that expires, and
-    /// the number of hops, each of which is told next.
+    /// Writes a route: `N route SENT EXPIRY K`: what the payer sends, in msat, the block height at which that expires,
+    /// and the number of hops, which are written next.
     pub fn send_route(
         &mut self,
         number: u64,
@@ -144,7 +144,7 @@ impl<'a, W: Sink> Output<'a, W> {
         self.flush_block()
     }
 
-    /// Tells a hop of a route, its channel and its payload in hexadecimal digits: `N hop SCID HEX`.
+    /// Writes a hop of a route, its channel and its payload in hexadecimal digits: `N hop SCID HEX`.
     pub fn send_hop(&mut self, number: u64, scid: Scid, payload: &[u8]) -> Result<(), SendFault>
         requires { W.failures self.old.writer.now + 1 < 2 ^ 64 }
         ensures writer { self.new.writer.ghost_name ≡ self.old.writer.ghost_name }

@@ -1,4 +1,4 @@
-//! Payments: what a line asks a route for.
+//! Payments: what a line requests a route for.
 
 ghost use Rattle.std.specs.Prelude.{◌≡◌};
 ghost use Rattle.lgm_script.specs.Field.{array_of};
@@ -8,7 +8,7 @@ use crate::field::{number, number_below, point};
 use crate::fields::Fields;
 use lgm_gossip::Point;
 
-/// A payment that a route is asked for. The points are any 33 bytes: that they are nodes of the map is not looked at
+/// A payment for which a route is requested. The points are any 33 bytes: that they are nodes of the map isn't checked
 /// here.
 #[derive(Clone, Copy, Debug, PartialEq, Eq)]
 pub struct Payment {
@@ -16,11 +16,11 @@ pub struct Payment {
     pub payer: Point,
     /// The node that is paid.
     pub payee: Point,
-    /// What the payee is to get, in msat.
+    /// What the payee receives, in msat.
     pub amount: u64,
-    /// The block height at which what the payee is offered expires (BOLT 2, "`cltv_expiry_delta` Selection").
+    /// The block height at which the HTLC offered to the payee expires (BOLT 2, "`cltv_expiry_delta` Selection").
     pub expiry: u32,
-    /// The secret by which the payee knows the payment (BOLT 4, "`payment_data`").
+    /// The payment secret, by which the payee recognizes the payment (BOLT 4, "`payment_data`").
     pub secret: [u8; 32],
 }
 

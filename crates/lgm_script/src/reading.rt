@@ -1,4 +1,4 @@
-//! The next line of a script, before which all answers are written where it has to be read.
+//! The next line of a script. All answers are written before the source is read.
 
 ghost use Rattle.std.specs.Prelude.{◌≡◌, ◌≢◌, ◌+◌, ◌≤◌, ◌<◌, ◌^◌, [], true, false, length, take, IfOk, IfErr, IfSome, IsErrOf, OnOk};
 ghost use Rattle.lgm_script.specs.Device.{IsAtEnd};
@@ -20,7 +20,7 @@ pub enum LineFault {
     TooLong,
 }
 
-/// Writes what is gathered, and then reads further bytes ahead. Gives whether there was one.
+/// Writes what is buffered, and then reads more bytes ahead. Returns whether there was one.
 fn read_on<R: Source, W: Sink>(
     lines: &mut LineReader,
     source: &mut R,
@@ -50,10 +50,10 @@ fn read_on<R: Source, W: Sink>(
     }
 }
 
-/// The length of the next line, which then stands at the front of what was read ahead; `None` where no line is left.
+/// The length of the next line, which is then at the start of what was read ahead; `None` at the end.
 ///
-/// Where the line isn't whole in what was read ahead, what is gathered is written before the source is read: so no
-/// answer waits for input. `TooLong` comes at a last line without a line feed, too. No byte is taken.
+/// If the line isn't completely read ahead, what is buffered is written before the source is read: so no answer waits
+/// for input. `TooLong` applies to a last line without a line feed, too. No byte is consumed.
 pub fn next_line<R: Source, W: Sink>(
     lines: &mut LineReader,
     source: &mut R,
@@ -91,8 +91,8 @@ pub fn next_line<R: Source, W: Sink>(
     }
 }
 
-/// Whether a further byte is there. It reads the source if nothing was read ahead, and then writes what is gathered
-/// first, as [`next_line`] does.
+/// Whether another byte is there. If nothing was read ahead it reads the source, after writing what is buffered, as
+/// [`next_line`] does.
 pub fn more_begins<R: Source, W: Sink>(
     lines: &mut LineReader,
     source: &mut R,

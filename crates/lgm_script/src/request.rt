@@ -1,4 +1,4 @@
-//! What a line asks.
+//! Requests: what a line asks for.
 
 ghost use Rattle.std.specs.Prelude.{◌≡◌, IfOk, IfSome};
 ghost use Rattle.lgm_script.specs.Request.{filter_of, form_of, request_of, HasLawfulPeer};
@@ -10,20 +10,20 @@ use crate::payment::{Payment, payment_in};
 use lgm_gossip::Bytes;
 use std::alloc::{AllocError, Global};
 
-/// What a line of a script asks.
+/// What a line of a script requests.
 #[derive(Debug, Drop)]
 pub enum Request {
     /// Nothing: the line is empty, or a comment.
     Quiet,
-    /// It is no form of the grammar.
+    /// Not a form of the grammar.
     Bad,
-    /// To accept an item.
+    /// To offer an item to the map.
     Offer(Item),
-    /// To make the accepted items the map that requests are answered on.
+    /// To answer later requests on the map of all items accepted so far.
     Commit,
-    /// The replies to a query, which is these bytes.
+    /// The replies to a query of these bytes.
     Query(Bytes),
-    /// A filter for a peer, which is these bytes, and what passes it.
+    /// To set a peer's filter from these bytes, and what passes it.
     Filter(u16, Bytes),
     /// The route for a payment.
     Route(Payment),
@@ -46,7 +46,7 @@ fn filter(alloc: Global, mut fields: Fields<'_>) -> Result<Option<Request>, Allo
     }
 }
 
-/// What a line asks that is a form of the grammar.
+/// The request of a line that is a form of the grammar.
 fn form(alloc: Global, line: &[u8]) -> Result<Option<Request>, AllocError>
     ensures value { IfOk result (λ request. request ≡ form_of line.now) }
     ensures peer { IfOk result (λ request. IfSome request HasLawfulPeer) }
@@ -72,7 +72,7 @@ fn form(alloc: Global, line: &[u8]) -> Result<Option<Request>, AllocError>
     Ok(None)
 }
 
-/// What a line asks.
+/// The request of a line. The only error is out of memory.
 pub fn parse(alloc: Global, line: &[u8]) -> Result<Request, AllocError>
     ensures value { IfOk result (λ request. request ≡ request_of line.now) }
     ensures peer { IfOk result HasLawfulPeer }

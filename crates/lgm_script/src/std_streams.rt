@@ -1,4 +1,4 @@
-//! Devices over std's readers and writers, which tell nothing of their bytes.
+//! Devices over std's readers and writers, which don't specify their bytes.
 
 ghost use Rattle.std.specs.Prelude.{◌≡◌};
 
@@ -7,8 +7,8 @@ use std::io::{ErrorKind, Read, Write};
 
 /// A source over a reader, such as standard input.
 ///
-/// A read that a signal interrupts is tried again, up to 2^64 - 1 times. Every other error of the
-/// reader is a failure.
+/// An interrupted read is retried, up to 2^64 - 1 times. Any other error of the reader is a
+/// failure.
 #[derive(Drop)]
 pub struct FromRead<R> {
     reader: R,
@@ -16,7 +16,7 @@ pub struct FromRead<R> {
 }
 
 impl<R: Read> FromRead<R> {
-    /// A source that has not failed yet.
+    /// A source that hasn't failed yet.
     pub fn new(reader: R) -> FromRead<R>
         ensures { ⟦<FromRead<R> as Source>⟧.failures result ≡ 0 }
     {
@@ -52,9 +52,9 @@ impl<R: Read> Source for FromRead<R> {
 
 /// A sink over a writer, such as standard output.
 ///
-/// A write that a signal interrupts is tried again, up to 2^64 - 1 times. Every other error of the
-/// writer is a failure, and so is a write of some bytes that takes none of them. Nothing is held
-/// back here; what the writer itself holds back is its own to flush.
+/// An interrupted write is retried, up to 2^64 - 1 times. Any other error of the writer is a
+/// failure, and so is a non-empty write of which no byte is accepted. Nothing is buffered here;
+/// flushing the writer's own buffer is up to the writer.
 #[derive(Drop)]
 pub struct ToWrite<W> {
     writer: W,
@@ -62,7 +62,7 @@ pub struct ToWrite<W> {
 }
 
 impl<W: Write> ToWrite<W> {
-    /// A sink that has not failed yet.
+    /// A sink that hasn't failed yet.
     pub fn new(writer: W) -> ToWrite<W>
         ensures { ⟦<ToWrite<W> as Sink>⟧.failures result ≡ 0 }
     {

@@ -1,4 +1,4 @@
-//! The lines of the answers, each put behind a text whole or not at all.
+//! The lines of answers, each appended to a text completely or not at all.
 
 ghost use Rattle.std.specs.Prelude.{◌≡◌, ◌++◌, List, ℕ, codes, OnOk, OnErr};
 ghost use Rattle.std.specs.Fmt.{decimal};
@@ -9,7 +9,7 @@ ghost use Rattle.lgm_script.specs.Front.{IsFront};
 use lgm_gossip::Scid;
 use std::alloc::AllocError;
 
-/// Puts a number behind the text, in decimal digits.
+/// Appends a number in decimal digits.
 fn push_number(text: &mut Vec<u8>, number: u64) -> Result<(), AllocError>
     ensures ok { OnOk result (text.new.items ≡ text.old.items ++ decimal number) }
     ensures err { OnErr result (IsFront text.old.items text.new.items) }
@@ -41,7 +41,7 @@ fn push_count(text: &mut Vec<u8>, number: u64, count: u64) -> Result<(), AllocEr
     Ok(())
 }
 
-/// What stands in front of a message, which may be for a peer.
+/// Appends what precedes a message, which may be for a peer.
 fn push_lead(text: &mut Vec<u8>, number: u64, peer: Option<u16>) -> Result<(), AllocError>
     ensures ok { OnOk result (text.new.items ≡ text.old.items ++ lead number peer) }
     ensures err { OnErr result (IsFront text.old.items text.new.items) }
@@ -93,7 +93,7 @@ fn push_route(
     Ok(())
 }
 
-/// Puts a channel's name behind the text: `BLOCKxINDEXxOUTPUT`.
+/// Appends a channel id: `BLOCKxINDEXxOUTPUT`.
 fn push_scid(text: &mut Vec<u8>, scid: Scid) -> Result<(), AllocError>
     ensures ok { OnOk result (text.new.items ≡ text.old.items ++ scid_text scid) }
     ensures err { OnErr result (IsFront text.old.items text.new.items) }
@@ -119,7 +119,7 @@ fn push_hop(text: &mut Vec<u8>, number: u64, scid: Scid, payload: &[u8]) -> Resu
     Ok(())
 }
 
-/// Puts the line of a word behind the text. Want of memory leaves it as it was.
+/// Appends the line of a word to the text. If memory runs out the text is unchanged.
 pub(crate) fn append_word(text: &mut Vec<u8>, number: u64, word: &str) -> Result<(), AllocError>
     ensures ok { OnOk result (text.new.items ≡ text.old.items ++ word_line number word.now) }
     ensures err { OnErr result (text.new.items ≡ text.old.items) }
@@ -132,7 +132,7 @@ pub(crate) fn append_word(text: &mut Vec<u8>, number: u64, word: &str) -> Result
     pushed
 }
 
-/// Puts the line of a commit behind the text. Want of memory leaves it as it was.
+/// Appends the line of a commit to the text. If memory runs out the text is unchanged.
 pub(crate) fn append_count(text: &mut Vec<u8>, number: u64, count: u64) -> Result<(), AllocError>
     ensures ok { OnOk result (text.new.items ≡ text.old.items ++ commit_line number count) }
     ensures err { OnErr result (text.new.items ≡ text.old.items) }
@@ -145,7 +145,7 @@ pub(crate) fn append_count(text: &mut Vec<u8>, number: u64, count: u64) -> Resul
     pushed
 }
 
-/// Puts the line of a message behind the text. Want of memory leaves it as it was.
+/// Appends the line of a message to the text. If memory runs out the text is unchanged.
 pub(crate) fn append_message(
     text: &mut Vec<u8>,
     number: u64,
@@ -163,7 +163,7 @@ pub(crate) fn append_message(
     pushed
 }
 
-/// Puts the line of a route behind the text. Want of memory leaves it as it was.
+/// Appends the line of a route to the text. If memory runs out the text is unchanged.
 pub(crate) fn append_route(
     text: &mut Vec<u8>,
     number: u64,
@@ -182,7 +182,7 @@ pub(crate) fn append_route(
     pushed
 }
 
-/// Puts the line of a hop behind the text. Want of memory leaves it as it was.
+/// Appends the line of a hop to the text. If memory runs out the text is unchanged.
 pub(crate) fn append_hop(
     text: &mut Vec<u8>,
     number: u64,

@@ -34,26 +34,26 @@ outcome_word (Some refusal) = word_of refusal
 abbrev pub outcome_text : ℕ → Option Refusal → List ℕ
 outcome_text number refusal = word_line number (outcome_word refusal)
 
--- a query is told its messages, or why there are none
+-- a query is answered with messages, or why there are none
 abbrev pub query_text : ℕ → Result (List (List ℕ)) Objection → List ℕ
 query_text number (Ok messages) = flat_map (message_line number None) messages
 query_text number (Err objection) = word_line number (objection_word objection)
 
--- a query of a range is told its replies
+-- a query of a range is answered with its replies
 abbrev pub range_text : ℕ → RangeAsked → List ℕ
 range_text number asked = query_text number (Ok (range_reply asked.chain asked.map.now asked.query))
 
--- a filter is told its word, and then what passes it of these rows, or why it is none
+-- a filter is answered with its word, and then what passes it of these rows, or why it is none
 abbrev pub filter_text : ℕ → ℕ → Rows → Result Filter Objection → List ℕ
 filter_text number peer rows (Ok filter) =
     word_line number (codes "filter") ++ flat_map (message_line number (Some peer)) (backlog rows filter)
 filter_text number peer rows (Err objection) = word_line number (objection_word objection)
 
--- what is new to a peer in later rows
+-- the news of a peer in later rows
 abbrev pub news_text : ℕ → Rows → Rows → PeerFilter → List ℕ
 news_text number before after own = flat_map (message_line number (Some own.peer)) (news before after own.filter)
 
--- a commit is told the number of accepted items, and then what is new to each peer in later rows
+-- a commit is answered with the number of accepted items, and then the news of each peer
 abbrev pub commit_text : ℕ → ℕ → Rows → Rows → List PeerFilter → List ℕ
 commit_text number accepted before after filters = commit_line number accepted ++ flat_map (news_text number before after) filters
 
@@ -61,16 +61,16 @@ commit_text number accepted before after filters = commit_line number accepted +
 abbrev pub hops_text : ℕ → List Hop → List (List ℕ) → List ℕ
 hops_text number hops payloads = flat_map (λ told. hop_line number told.0.scid told.1) (zip hops payloads)
 
--- what the payer sends, when it expires and how many hops there are, and then each hop
+-- what the payer sends, when it expires and the number of hops, and then each hop
 abbrev pub routed_text : ℕ → List Hop → List (List ℕ) → List ℕ
 routed_text number hops payloads = route_line number (sent hops) (expiry hops) (length hops) ++ hops_text number hops payloads
 
--- a payment is told its route, or why there is none
+-- a payment is answered with its route, or why there is none
 abbrev pub route_text : ℕ → List ℕ → Result (List Hop) RouteFault → List ℕ
 route_text number secret (Ok hops) = routed_text number hops (payloads_of secret hops)
 route_text number secret (Err fault) = word_line number (route_word fault)
 
--- the text of an answer, for the line of that number
+-- the text of an answer, for the line with this number
 abbrev pub answer_text : ℕ → Answer → List ℕ
 answer_text number answers.Bad = word_line number (codes "bad")
 answer_text number (answers.Outcome refusal) = outcome_text number refusal

@@ -8,13 +8,13 @@ use Rattle.lgm_store.specs.History.{absorbed, fold_from}
 use Rattle.lgm_query.specs.KeyNews.{TellKeys}
 use Rattle.lgm_query.specs.Touched.{TellsKey}
 
--- the rows are the committed ones behind which the pending operations were done, and messages tell the keys of their rows
+-- the rows are the committed ones after the pending operations, and messages are about the keys of their rows
 pub record IsBehind (rows committed : Rows) (pending : List Op) : Type 0 where
   pub behind : rows ≡ fold_from committed pending
   pub committed_tells : TellKeys committed
   pub pending_tells : AllByRecursion TellsKey pending
 
--- the operation of an item that was accepted was done and is pending; of one that was refused nothing was done
+-- the operation of an accepted item was applied and is pending; for a refused one nothing was applied
 abbrev pub Keeps : Result Op Refusal → Rows → Rows → List Op → List Op → Type 0
 Keeps (Ok op) rows rows' pending pending' = (rows' ≡ absorbed rows op) × (pending' ≡ pending ++ op ∷ [])
 Keeps (Err refusal) rows rows' pending pending' = (rows' ≡ rows) × (pending' ≡ pending)

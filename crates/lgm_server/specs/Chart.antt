@@ -1,4 +1,4 @@
--- The view that is kept of a map while another one grows.
+-- The view that is maintained of a map while another one grows.
 use Rattle.std.specs.Prelude.{◌≡◌, ◌≢◌, ℕ, List, [], Option}
 use Rattle.lgm_store.specs.declared.op.Op.{Op}
 use Rattle.lgm_store.specs.Rows.{Rows}
@@ -12,7 +12,7 @@ pub record IsViewOf (known : Option (List ℕ)) (rows : Rows) (view : Graph) : T
   pub known_is : view.known ≡ known
   pub graph : IsGraphOf rows view
 
--- ---- beside a map that is behind
+-- ---- a map that is behind
 
 -- a view that follows the map is that of its rows
 abbrev pub FollowsAs : Option (List ℕ) → Rows → Kept → Type 0
@@ -22,15 +22,15 @@ FollowsAs known rows _ = Unit {0}
 abbrev pub Follows : Rows → Chart → Type 0
 Follows rows chart = FollowsAs chart.known rows chart.kept
 
--- a view that follows goes on following, or is dropped; else nothing changes
+-- a view that follows keeps following, or is dropped; otherwise nothing changes
 abbrev pub GoesOn : Kept → Kept → Type 0
 GoesOn (views.Behind view) (views.Beside other) = ⊥
 GoesOn (views.Behind view) _ = Unit {0}
 GoesOn kept kept' = kept' ≡ kept
 
--- ---- beside both maps
+-- ---- both maps
 
--- the view that is kept is that of the committed rows, or that of rows which are behind them by what is due
+-- the view is that of the committed rows, or of rows that are behind them by what is due
 abbrev pub ShowsAs : Option (List ℕ) → Rows → List Op → Rows → Kept → Type 0
 ShowsAs known rows due committed views.Blank = Unit {0}
 ShowsAs known rows due committed (views.Behind view) = IsViewOf known rows view × (due ≢ [])
@@ -39,21 +39,21 @@ ShowsAs known rows due committed (views.Beside view) = IsViewOf known committed 
 abbrev pub Shows : Rows → List Op → Rows → Chart → Type 0
 Shows rows due committed chart = ShowsAs chart.known rows due committed chart.kept
 
--- the view that is kept is that of the committed rows
+-- the view is that of the committed rows
 abbrev pub ShowsCommitted : Rows → Chart → Type 0
 ShowsCommitted committed chart = Shows committed [] committed chart
 
--- there is one, beside the committed map
+-- there is one, of the committed map
 abbrev pub IsBeside : Kept → Type 0
 IsBeside (views.Beside view) = Unit {0}
 IsBeside _ = ⊥
 
--- the maps changed places: a view of the committed rows is one of the map that is behind
+-- the maps are swapped: a view of the committed rows is then that of the map that is behind
 abbrev pub turned_behind : Kept → Kept
 turned_behind (views.Beside view) = views.Behind view
 turned_behind kept = kept
 
--- the map that was behind is no more
+-- the map that was behind has the committed rows
 abbrev pub turned_beside : Kept → Kept
 turned_beside (views.Behind view) = views.Beside view
 turned_beside kept = kept

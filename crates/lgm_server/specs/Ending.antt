@@ -7,13 +7,13 @@ use Rattle.lgm_server.specs.declared.run_fault.RunFault.{RunFault}
 use Rattle.lgm_server.specs.declared.run_fault.RunFault.TheVariants.{Write}
 use Rattle.lgm_server.specs.declared.running.Counts.{Counts}
 
--- all that was gathered was written
+-- all that was buffered was written
 pub record IsFlushed (old new : Told) (answered result : Result Counts RunFault) : Type 0 where
   pub same : result ≡ answered
   pub told : Tells old new []
   pub clear : new.gathered ≡ []
 
--- the sink failed then
+-- the sink failed while it was written
 pub record FailsThen (old new : Told) (result : Result Counts RunFault) : Type 0 where
   pub write : result ≡ Err Write
   pub part : TellsPart old new [] sending.Write

@@ -1,4 +1,4 @@
--- How much an engine holds.
+-- Bounds of an engine.
 use Rattle.std.specs.Prelude.{ℕ, ◌≤◌, length}
 use Rattle.lgm_server.specs.Maps.{Growth}
 

@@ -12,7 +12,7 @@ use Rattle.lgm_query.specs.declared.filter.Filter.{Filter}
 use Rattle.lgm_server.specs.declared.objection.Objection.{Objection}
 use Rattle.lgm_server.specs.declared.objection.Objection.TheVariants as objections
 
--- the filter of a message, if it is one of this chain, or why it sets none
+-- the filter of a message of this chain, or why it sets none
 abbrev pub filter_in : ChainHash → Result Message DecodeFault → Result Filter Objection
 filter_in chain (Ok (messages.FilterMsg filter)) =
     if pointwise nat_eq filter.chain_hash.0 chain.0

@@ -10,7 +10,7 @@ use Rattle.lgm_server.specs.declared.filters.PeerFilter.{PeerFilter}
 abbrev pub peer_of : PeerFilter → ℕ
 peer_of own = own.peer
 
--- peers ascend by their numbers
+-- ascending by number of the peer
 abbrev pub by_peer : PeerFilter → PeerFilter → Ordering
 by_peer a b = nat_cmp (peer_of a) (peer_of b)
 
@@ -18,6 +18,6 @@ by_peer a b = nat_cmp (peer_of a) (peer_of b)
 abbrev pub peer_filter : (ℕ → Option Filter) → ℕ → Option PeerFilter
 peer_filter filter_at peer = option_map (λ filter. record { peer = peer; filter = filter }) (filter_at peer)
 
--- the filters of the peers from a number on, so many, ascending
+-- the filters of this many peers from a number on, ascending
 abbrev pub filters_from : (ℕ → Option Filter) → ℕ → ℕ → List PeerFilter
 filters_from filter_at first count = filter_map (peer_filter filter_at) (range_with_len first count)

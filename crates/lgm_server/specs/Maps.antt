@@ -1,4 +1,4 @@
--- The map of all accepted items beside that of the committed ones.
+-- The map of all accepted items, and that of the committed ones.
 use Rattle.std.specs.Prelude.{◌≡◌, ◌⊎◌, ℕ, List, [], Option, Result, Ok, Err}
 use Rattle.lgm_store.specs.declared.op.Op.{Op}
 use Rattle.lgm_store.specs.Rows.{Rows}
@@ -8,20 +8,20 @@ use Rattle.lgm_server.specs.declared.chart.Chart.{Chart}
 use Rattle.lgm_server.specs.Behind.{IsBehind}
 use Rattle.lgm_server.specs.Chart.{Shows}
 
--- the rows of all accepted items, those of the committed ones, and the known bits of nodes' features
+-- the rows of all accepted items, those of the committed ones, and the known feature bits
 pub record Growth : Type 0 where
   pub known : Option (List ℕ)
   pub rows : Rows
   pub committed : Rows
 
--- a map with what is due, the committed map with what is pending, and the view that is kept
+-- a map with what is due, the committed map with what is pending, and the view
 pub record AreKept (map : Rows) (due : List Op) (committed : Rows) (pending : List Op) (chart : Chart) : Type 0 where
   pub behind : IsBehind (fold_from map due) committed pending
-  -- a map that is behind is behind the committed one
+  -- only one of the maps is behind the other
   pub one : (due ≡ []) ⊎ (pending ≡ [])
   pub shows : Shows map due committed chart
 
--- with an item more, if it was accepted
+-- with one more item, if it was accepted
 abbrev pub grown : Growth → Result Op Refusal → Growth
 grown growth (Ok op) = record growth { rows = absorbed growth.rows op }
 grown growth (Err refusal) = growth

@@ -33,22 +33,22 @@ abbrev pub offered_in : ChainHash → Request → Option Offered
 offered_in chain (requests.Offer item) = Some (offered_of chain item)
 offered_in chain _ = None
 
--- what becomes of it in its turn, on these rows
+-- its outcome in its turn, on these rows
 unfoldable pub outcome_on : Rows → Offered → Result Op Refusal
 outcome_on rows (Message checked) = admitted rows checked
 outcome_on rows (Close id) = admitted_close rows id
 outcome_on rows (Refused refusal) = Err refusal
 
--- it comes of the check of an item
+-- it results from the check of an item
 abbrev pub WasChecked : Offered → Type 0
 WasChecked offered = (chain : ChainHash) × (item : Item) × (offered ≡ offered_of chain item)
 
--- the state behind a line's item, if it offers one
+-- the state after a line's item, if it offers one
 abbrev pub state_by : State → Option Offered → State
 state_by state None = state
 state_by state (Some item) = state_behind state (outcome_on state.rows item)
 
--- what it is told
+-- the text for its outcome
 abbrev pub offered_text : ℕ → Rows → Option Offered → List ℕ
 offered_text number rows None = word_line number (codes "bad")
 offered_text number rows (Some item) = outcome_text number (result_err (outcome_on rows item))

@@ -1,4 +1,4 @@
--- What becomes of items: each is judged by those that were accepted before it.
+-- Outcomes of items: each is judged on those that were accepted before it.
 use Rattle.std.specs.Prelude.{List, [], ◌∷◌, ◌++◌, Result, Ok, Err}
 use Rattle.std.specs.List.{filter_map}
 use Rattle.std.specs.Result.{result_ok}
@@ -23,7 +23,7 @@ abbrev pub with_outcome : List Op → Result Op Refusal → List Op
 with_outcome history (Ok op) = history ++ op ∷ []
 with_outcome history (Err refusal) = history
 
--- the outcomes of items, each on the rows that the history and the accepted items before it leave
+-- the outcomes of items, each on the rows after the history and the accepted items before it
 abbrev pub outcomes_behind : ChainHash → List Op → List Item → List (Result Op Refusal)
 outcomes_behind chain history [] = []
 outcomes_behind chain history (item ∷ items) =

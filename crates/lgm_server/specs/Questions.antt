@@ -1,4 +1,4 @@
--- Questions: they are answered on the committed rows, and leave all but the filters of peers.
+-- Questions: they are answered on the committed rows, and change only the filters of peers.
 use Rattle.std.specs.Prelude.{◌≡◌, ℕ, List, map, Option, Ok, codes}
 use Rattle.std.specs.Borrow.{Bor}
 use Rattle.lgm_wire.specs.declared.chain_hash.ChainHash.{ChainHash}
@@ -29,7 +29,7 @@ question_text chain known committed number (requests.Filter peer bytes) = filter
 question_text chain known committed number (requests.Route payment) = route_text number payment.secret (route_answer known committed payment)
 question_text chain known committed number _ = word_line number (codes "bad")
 
--- the filters behind a question
+-- the filters after a question
 abbrev pub filters_after : ChainHash → List PeerFilter → Request → List PeerFilter
 filters_after chain filters (requests.Filter peer bytes) = filters_with filters peer (filter_read chain bytes)
 filters_after chain filters _ = filters
@@ -39,24 +39,24 @@ abbrev pub filters_by : List PeerFilter → Answer → List PeerFilter
 filters_by filters (answers.Backlog own map) = filters_with filters own.peer (Ok own.filter)
 filters_by filters _ = filters
 
--- the answer to a question: what it is told, and what filters it leaves
+-- the answer to a question: its text, and the filters after it
 pub record IsAnswerTo (chain : ChainHash) (known : Option (List ℕ)) (committed : Rows) (request : Request) (answer : Answer) : Type 0 where
   pub text : (n : ℕ) → answer_text n answer ≡ question_text chain known committed n request
   pub filters : (filters : List PeerFilter) → filters_by filters answer ≡ filters_after chain filters request
 
--- the filters behind several
+-- the filters after several
 abbrev pub filters_behind : ChainHash → List PeerFilter → List Request → List PeerFilter
 filters_behind chain = behind_all (filters_after chain)
 
--- their text, the lines from that number on
+-- their text, for the lines from this number on
 abbrev pub questions_text : ChainHash → Option (List ℕ) → Rows → ℕ → List PeerFilter → List Request → List ℕ
 questions_text chain known committed = texts_of (filters_after chain) (λ number filters request. question_text chain known committed number request)
 
--- what lines ask
+-- what lines request
 abbrev pub asked_in : List (Bor (List ℕ)) → List Request
 asked_in lines = map (λ line. request_of line.now) lines
 
--- the view that is kept is that of the committed rows, or no route is asked for
+-- the view is that of the committed rows, or no route is requested
 abbrev pub IsReadyAs : Option (List ℕ) → Rows → Kept → Request → Type 0
 IsReadyAs known committed (views.Beside view) request = IsViewOf known committed view
 IsReadyAs known committed _ request = IsNoRoute request

@@ -1,4 +1,4 @@
--- What a payment is answered with.
+-- Answers to payments.
 use Rattle.std.specs.Prelude.{ℕ, List, Option, Result}
 use Rattle.lgm_store.specs.Rows.{Rows}
 use Rattle.lgm_graph.specs.Edges.{edges_of}
@@ -8,10 +8,10 @@ use Rattle.lgm_route.specs.declared.fault.RouteFault.{RouteFault}
 use Rattle.lgm_route.specs.Choice.{answer_of}
 use Rattle.lgm_script.specs.declared.payment.Payment.{Payment}
 
--- the route that is asked for
+-- the route that is requested
 abbrev pub asked_route : Payment → RouteRequest
 asked_route payment = record { payer = payment.payer; payee = payment.payee; amount = payment.amount; expiry = payment.expiry }
 
--- the hops of the least walk over the edges of the rows, or why there is none
+-- the hops of the best walk over the edges of the rows, or why there is none
 abbrev pub route_answer : Option (List ℕ) → Rows → Payment → Result (List Hop) RouteFault
 route_answer known rows payment = answer_of (edges_of known rows) (asked_route payment)

@@ -20,7 +20,7 @@ module _ (chain : ChainHash) (known script taken taken' : Option (List ℕ)) (re
   abbrev pub StopsAtLongLine : Type 0
   StopsAtLongLine = result ≡ Err faults.LineTooLong → IfSome script (IsTooLong chain known (Appends taken taken'))
 
-  -- at any fault a beginning of the text of lines that were read was written, and nothing else; this is left of the script
+  -- at any fault a prefix of the text of lines that were read was written, and nothing else; this is left of the script
   abbrev pub StopsShort : Option (List ℕ) → Type 0
   StopsShort left = IfErr result (λ _. IfSome script (IsCutShort chain known (AppendsSome taken taken') left))
 

@@ -1,4 +1,4 @@
--- What a script's requests are told: each by its place, from the requests before it.
+-- The text for the requests of a script, each depending on the requests before it.
 use Rattle.std.specs.Prelude.{ℕ, zero, suc, ◌+◌, ◌==◌, Bool, true, false, List, [], ◌∷◌, ◌++◌, length, take, map, Option, Some, None, slice_index_or, codes, if◌then◌else◌}
 use Rattle.std.specs.List.{filter_map, last_or, list_any}
 use Rattle.std.specs.Result.{result_ok, result_err}
@@ -20,11 +20,11 @@ use Rattle.lgm_server.specs.Query.{query_answer}
 use Rattle.lgm_server.specs.Answer.{outcome_text, query_text, filter_text, commit_text, route_text}
 use Rattle.lgm_server.specs.Routing.{route_answer}
 
--- what the lines of a script ask
+-- what the lines of a script request
 abbrev pub requests_of : List ℕ → List Request
 requests_of script = map request_of (lines_of script)
 
--- ---- what requests leave
+-- ---- the effect of requests
 
 -- the item that is offered
 abbrev pub item_in : Request → Option Item
@@ -43,12 +43,12 @@ abbrev pub before_commit : List Request → List Request
 before_commit [] = []
 before_commit (request ∷ others) = if list_any is_commit others then request ∷ before_commit others else []
 
--- the filter that a request gives a peer, if it is a lawful one for it
+-- the filter that a request sets for a peer, if it sets one
 abbrev pub filter_given : ChainHash → ℕ → Request → Option Filter
 filter_given chain peer (requests.Filter other bytes) = if other == peer then result_ok (filter_read chain bytes) else None
 filter_given chain peer _ = None
 
--- the filter of a peer: the last that it was given
+-- the filter of a peer: the last one that was set
 abbrev pub filter_of : ChainHash → List Request → ℕ → Option Filter
 filter_of chain asked peer = last_or None (filter_map (filter_given chain peer) asked)
 
@@ -56,20 +56,20 @@ filter_of chain asked peer = last_or None (filter_map (filter_given chain peer) 
 unfoldable pub filters_of : ChainHash → List Request → List PeerFilter
 filters_of chain asked = filters_from (filter_of chain asked) 0 1000
 
--- what a request is answered on
+-- the state on which a request is answered
 pub record State : Type 0 where
-  -- the known bits of nodes' features, or none where all are known
+  -- the known feature bits of nodes, or none if all are known
   pub known : Option (List ℕ)
-  -- the rows that all accepted items have left
+  -- the rows of all accepted items
   pub rows : Rows
-  -- the rows that those before the last commit have left
+  -- the rows of those before the last commit
   pub committed : Rows
-  -- how many items were accepted
+  -- the number of accepted items
   pub accepted : ℕ
-  -- the filters of peers, peers ascending
+  -- the filters of peers, by ascending peer
   pub filters : List PeerFilter
 
--- what a request behind these is answered on
+-- the state after these requests
 abbrev pub state_of : ChainHash → Option (List ℕ) → List Request → State
 state_of chain known asked = record {
   known = known;
@@ -79,9 +79,9 @@ state_of chain known asked = record {
   filters = filters_of chain asked;
 }
 
--- ---- what they are told
+-- ---- the text for them
 
--- the text for a request, that of the line of that number
+-- the text for a request, for the line with this number
 abbrev pub text_for : ChainHash → ℕ → State → Request → List ℕ
 text_for chain number state requests.Quiet = []
 text_for chain number state requests.Bad = word_line number (codes "bad")
@@ -91,7 +91,7 @@ text_for chain number state (requests.Query bytes) = query_text number (query_an
 text_for chain number state (requests.Filter peer bytes) = filter_text number peer state.committed (filter_read chain bytes)
 text_for chain number state (requests.Route payment) = route_text number payment.secret (route_answer state.known state.committed payment)
 
--- the text for the request at a place, from 0
+-- the text for the request at an index, from 0
 unfoldable pub text_at : ChainHash → Option (List ℕ) → List Request → ℕ → List ℕ
 text_at chain known asked k = text_for chain (k + 1) (state_of chain known (take k asked)) (slice_index_or asked k requests.Quiet)
 

@@ -1,4 +1,4 @@
--- The same state, request by request, as the engine keeps it.
+-- The same state, request by request, as the engine maintains it.
 use Rattle.std.specs.Prelude.{ℕ, ◌+◌, List, [], Option, Result, Ok, Err, codes}
 use Rattle.lgm_wire.specs.declared.chain_hash.ChainHash.{ChainHash}
 use Rattle.lgm_check.specs.declared.refusal.Refusal.{Refusal}
@@ -22,21 +22,21 @@ use Rattle.lgm_server.specs.Turns.{behind_all, texts_of}
 abbrev pub opening : Option (List ℕ) → State
 opening known = record { known = known; rows = empty; committed = empty; accepted = 0; filters = [] }
 
--- behind an item that was accepted or refused
+-- after an item that was accepted or refused
 abbrev pub state_behind : State → Result Op Refusal → State
 state_behind state (Ok op) = record state { rows = absorbed state.rows op; accepted = state.accepted + 1 }
 state_behind state (Err refusal) = state
 
--- behind a commit
+-- after a commit
 abbrev pub state_committed : State → State
 state_committed state = record state { committed = state.rows }
 
--- filters with that of a peer, if it is one
+-- filters with that of a peer, if it is valid
 abbrev pub filters_with : List PeerFilter → ℕ → Result Filter Objection → List PeerFilter
 filters_with filters peer (Ok filter) = put by_peer filters (record { peer = peer; filter = filter })
 filters_with filters peer (Err objection) = filters
 
--- behind a filter of a peer
+-- after a filter of a peer
 abbrev pub with_filter : State → ℕ → Result Filter Objection → State
 with_filter state peer filter = record state { filters = filters_with state.filters peer filter }
 
@@ -46,7 +46,7 @@ state_after chain state (requests.Offer item) = state_behind state (outcome_of c
 state_after chain state (requests.Filter peer bytes) = with_filter state peer (filter_read chain bytes)
 state_after chain state _ = state
 
--- ---- a request that is none of an item or of the committed rows
+-- ---- a request that is neither an item nor a question
 
 abbrev pub state_alone : State → Request → State
 state_alone state requests.Commit = state_committed state
@@ -62,6 +62,6 @@ text_alone number state _ = word_line number (codes "bad")
 abbrev pub state_from : ChainHash → State → List Request → State
 state_from chain = behind_all (state_after chain)
 
--- their text, the lines from that number on
+-- their text, for the lines from this number on
 abbrev pub text_from : ChainHash → ℕ → State → List Request → List ℕ
 text_from chain = texts_of (state_after chain) (text_for chain)

@@ -1,4 +1,4 @@
-//! What lines are told.
+//! Answers to lines.
 
 ghost use Rattle.std.specs.Prelude.{◌≡◌, ◌+◌, ◌<◌, ◌^◌, IfErr, OnOk};
 ghost use Rattle.lgm_script.specs.Output.{Sends, SendsPart};
@@ -17,44 +17,44 @@ use lgm_script::{Output, SendFault, Sink};
 use lgm_store::Map;
 use std::alloc::Global;
 
-/// A query of a range of blocks of a map, which is of that chain.
+/// A query of a block range, on a map of a chain.
 #[derive(Drop)]
 pub struct RangeAsked<'a> {
     /// The chain of the map.
     pub chain: ChainHash,
-    /// What is asked.
+    /// The query.
     pub query: RangeQuery,
-    /// The map that is asked.
+    /// The map that is queried.
     pub map: &'a Map,
 }
 
-/// What a line of a script is told. It is decided before it is written, and lends what it tells.
+/// The answer to a line of a script. It is computed before it is written, and borrows its text.
 #[derive(Drop)]
 pub enum Answer<'a> {
-    /// It is no form of the grammar.
+    /// The line isn't a form of the grammar.
     Bad,
-    /// Its item was accepted, or else refused.
+    /// The item was accepted, or refused for this reason.
     Outcome(Option<Refusal>),
-    /// The messages that its query is answered with.
+    /// The messages of the reply to a query.
     Messages(Replies<'a>),
-    /// Its query of a range, whose replies are made when they are told.
+    /// A query of a range, whose replies are made when they are written.
     Range(RangeAsked<'a>),
-    /// Its message isn't taken.
+    /// The message isn't taken.
     Objected(Objection),
-    /// A peer has this filter now, and gets what passes it of this map.
+    /// A peer now has this filter, and gets what passes it of this map.
     Backlog(PeerFilter, &'a Map),
-    /// So many items were accepted, and no peer has a filter.
+    /// This many items were accepted, and no peer has a filter.
     Committed(u64),
-    /// So many items were accepted, and each peer gets what is new to it.
+    /// This many items were accepted, and each peer gets its news.
     News(u64, &'a Filters, Differences<'a>),
-    /// The route of its payment, with the payloads of the hops.
+    /// The route of a payment, with the payloads of its hops.
     Routed(Route, Payloads),
-    /// Its payment has no route.
+    /// The payment has no route.
     Unrouted(RouteFault),
 }
 
 impl Answer<'_> {
-    /// Tells the answer to the line of that number, from 1.
+    /// Writes the answer to the line with this number, from 1.
     pub fn send<W: Sink>(
         &self,
         alloc: Global,
@@ -83,7 +83,7 @@ impl Answer<'_> {
     }
 }
 
-/// The word of an item's outcome: why it was refused, or that it wasn't.
+/// The word of an item's outcome: that it was accepted, or why it was refused.
 pub fn outcome_word(refusal: Option<Refusal>) -> &'static str
     ensures { result.now ≡ outcome_word refusal }
 {

@@ -1,4 +1,4 @@
-//! Lines, answered in groups.
+//! Answering lines in groups.
 
 ghost use Rattle.std.specs.Prelude.{◌≡◌, ◌≤◌, ◌+◌, ◌<◌, ◌^◌, [], ◌∷◌, length, map, IfOk, IfErr, IfSome, OnOk};
 ghost use Rattle.std.specs.List.{AllByRecursion};
@@ -19,7 +19,7 @@ use lgm_script::{Group, Kind, Output, Payment, Request, SendFault, Sink, may_ask
 use std::alloc::{AllocError, Global};
 use std::thread::Threads;
 
-/// Offers the checked item of a line in its turn, if it offers one, and tells what became of it.
+/// Offers the checked item of a line in its turn, if there is one, and writes its outcome.
 fn offer<W: Sink>(
     alloc: Global,
     number: u64,
@@ -42,7 +42,7 @@ fn offer<W: Sink>(
     Answer::Outcome(refusal).send(alloc, number, output)
 }
 
-/// Answers lines of items, the first of that number: they are checked side by side, and offered in their order.
+/// Answers lines of items, the first of which has this number: they are checked in parallel, and offered in order.
 fn answer_items<Rt: Threads + Sync, G: Gate, W: Sink>(
     context: &Context<'_, Rt, G>,
     first: u64,
@@ -68,7 +68,7 @@ fn answer_items<Rt: Threads + Sync, G: Gate, W: Sink>(
     Ok(())
 }
 
-/// The payment of a line that stands alone and asks for a route.
+/// The payment of a group of one line, if that requests a route.
 fn lone_payment(alloc: Global, lines: &[&[u8]]) -> Result<Option<Payment>, AllocError>
     ensures { IfOk result (λ payment. IfSome payment (λ own. asked_in lines.now ≡ AsksRoute own ∷ [])) }
 {
@@ -81,7 +81,7 @@ fn lone_payment(alloc: Global, lines: &[&[u8]]) -> Result<Option<Payment>, Alloc
     }
 }
 
-/// Answers lines that ask of the committed items, the first of that number.
+/// Answers lines that request something of the committed map, the first of which has this number.
 fn answer_questions<Rt: Threads + Sync, G: Gate, W: Sink>(
     context: &Context<'_, Rt, G>,
     first: u64,
@@ -105,7 +105,7 @@ fn answer_questions<Rt: Threads + Sync, G: Gate, W: Sink>(
     engine.answer_questions(context, first, lines, output)
 }
 
-/// Answers a line that stands alone: a commit, nothing, or no form of the grammar.
+/// Answers a line that is alone in its group: a commit, an empty line, a comment, or a malformed line.
 fn answer_alone<W: Sink>(
     alloc: Global,
     number: u64,
@@ -127,8 +127,8 @@ fn answer_alone<W: Sink>(
     }
 }
 
-/// Answers the lines of a group, the first of that number. Behind it their items are held if they are accepted, their
-/// peers have their filters, and what was accepted is committed if they ask for that.
+/// Answers the lines of a group, the first of which has this number. Afterwards their accepted items are in the map,
+/// their filters are set, and what was accepted is committed if they request that.
 pub fn answer<Rt: Threads + Sync, G: Gate, W: Sink>(
     context: &Context<'_, Rt, G>,
     first: u64,

@@ -1,4 +1,4 @@
-//! The view of the committed map, while it is kept.
+//! The view of the committed map, while one is maintained.
 
 ghost use Rattle.std.specs.Prelude.{◌≡◌, OnOk, OnErr};
 ghost use Rattle.lgm_store.specs.History.{absorbed};
@@ -9,29 +9,29 @@ use lgm_store::{Map, Op};
 use std::alloc::AllocError;
 use std::mem::replace;
 
-/// The view that routes are searched in, with the features of nodes that are known.
+/// The view in which routes are searched, with the known feature bits of nodes.
 #[derive(Drop)]
 pub struct Chart {
     pub known: Known,
     pub kept: Kept,
 }
 
-/// What is kept of the view of the committed map.
+/// The state of the view of the committed map.
 #[derive(Drop)]
 pub enum Kept {
-    /// Nothing: it is made when a route is asked for.
+    /// None: it is built when a route is requested.
     Blank,
-    /// The view of the map that is behind the committed one. It follows what is done to that map.
+    /// The view of the map that is behind the committed one. It follows the operations applied to that map.
     Behind(View),
     /// The view of the committed map.
     Beside(View),
 }
 
-/// With more points than these a view is made anew, since their numbers have 32 bits and are never taken back.
+/// A view with more points than this is rebuilt, since numbers of points have 32 bits and are never reused.
 const MOST_POINTS: usize = 4_000_000_000;
 
 impl Chart {
-    /// The maps changed places.
+    /// The maps are swapped.
     pub fn turn_behind(&mut self)
         ensures known { self.new.known ≡ self.old.known }
         ensures kept { self.new.kept ≡ turned_behind self.old.kept }
@@ -42,7 +42,7 @@ impl Chart {
         };
     }
 
-    /// The map that was behind the committed one has its rows.
+    /// The map that was behind has the rows of the committed one.
     pub fn turn_beside(&mut self)
         ensures known { self.new.known ≡ self.old.known }
         ensures kept { self.new.kept ≡ turned_beside self.old.kept }
@@ -53,7 +53,7 @@ impl Chart {
         };
     }
 
-    /// The map that was behind is no more.
+    /// The map that was behind is dropped.
     pub fn drop_behind(&mut self)
         ensures known { self.new.known ≡ self.old.known }
         ensures kept { self.new.kept ≡ without_behind self.old.kept }
@@ -64,7 +64,7 @@ impl Chart {
     }
 }
 
-/// Does an operation to the map that is behind, and to a view that follows it. Want of memory leaves the map as it was.
+/// Applies an operation to the map that is behind, and to a view that follows it. The error leaves the map unchanged.
 pub fn absorb(map: &mut Map, chart: &mut Chart, op: &Op) -> Result<(), AllocError>
     requires { Follows map.old chart.old }
     ensures map { OnOk result (map.new ≡ absorbed map.old op.now) }

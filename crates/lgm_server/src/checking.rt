@@ -1,4 +1,4 @@
-//! Items, checked side by side.
+//! Checking items in parallel.
 
 ghost use Rattle.std.specs.Prelude.{◌≡◌, ◌≤◌, IfOk};
 ghost use Rattle.std.specs.List.{AllZip};
@@ -18,7 +18,7 @@ use std::thread::Threads;
 /// An item after its check, which needs no map.
 #[derive(Drop)]
 pub enum Offered {
-    /// A message that is lawful by itself, ready for the map.
+    /// A message that is valid by itself, ready for the map.
     Message(Candidate),
     /// The close of a channel.
     Close(Scid),
@@ -42,7 +42,7 @@ fn check(alloc: Global, chain: &ChainHash, item: Item) -> Result<Offered, AllocE
     }
 }
 
-/// Reads a line and checks the item that it offers, if it offers one.
+/// Parses a line and checks the item that it offers, if any.
 fn check_line(alloc: Global, chain: &ChainHash, line: &[u8]) -> Result<Option<Offered>, AllocError>
     ensures { IfOk result (λ offered. offered ≡ offered_in chain.now (request_of line.now)) }
 {
@@ -52,7 +52,7 @@ fn check_line(alloc: Global, chain: &ChainHash, line: &[u8]) -> Result<Option<Of
     }
 }
 
-/// Checks the items of lines in pieces, side by side. Each has its own want of memory.
+/// Checks the items of lines in chunks, in parallel. Each may run out of memory on its own.
 pub fn check_lines<Rt: Threads + Sync, G: Gate>(
     context: &Context<'_, Rt, G>,
     lines: &[&[u8]],

@@ -1,4 +1,4 @@
-//! What lines are answered with.
+//! The context in which lines are answered.
 
 use lgm_gossip::ChainHash;
 use lgm_par::Pool;
@@ -8,6 +8,6 @@ use lgm_par::Pool;
 pub struct Context<'a, Rt, G> {
     /// The workers that share the work.
     pub pool: Pool<'a, Rt, G>,
-    /// The chain that the map is of.
+    /// The chain of the map.
     pub chain: ChainHash,
 }

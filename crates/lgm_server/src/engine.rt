@@ -24,8 +24,8 @@ use std::alloc::{AllocError, Global};
 use std::marker::Model;
 use std::thread::Threads;
 
-/// The state between two lines. Contracts see the features of nodes that are known, the rows of all accepted items,
-/// those of the items before the last commit, the number of accepted items, and the filters of peers.
+/// The state between two lines. Contracts see the known feature bits, the rows of all accepted items, those of the
+/// items before the last commit, the number of accepted items, and the filters of peers.
 #[derive(Drop)]
 pub struct Engine {
     maps: Maps,
@@ -45,7 +45,7 @@ impl Model for Engine {
 }
 
 impl Engine {
-    /// No item was accepted. Points will be hashed by the seed, and the features that are known are kept as a copy.
+    /// No item was accepted. Points will be hashed with the seed, and the known feature bits are copied.
     pub fn new(alloc: Global, seed: Seed, known: &Known) -> Result<Engine, AllocError>
         ensures { IfOk result (λ engine. engine ≡ opening known.now) }
     {
@@ -56,14 +56,14 @@ impl Engine {
         })
     }
 
-    /// How many items were accepted.
+    /// The number of accepted items.
     pub fn accepted(&self) -> u64
         ensures { result ≡ self.now.accepted }
     {
         self.accepted
     }
 
-    /// Offers a checked item, and gives its refusal, if it is refused.
+    /// Offers a checked item, and returns its refusal, if it is refused.
     pub fn offer(&mut self, alloc: Global, item: Offered) -> Result<Option<Refusal>, AllocError>
         requires checked { WasChecked item }
         requires few { self.old.accepted + 1 < 2 ^ 64 }
@@ -77,7 +77,7 @@ impl Engine {
         Ok(refusal)
     }
 
-    /// The answer to a payment, on the committed items, found by several workers.
+    /// The answer to a payment on the committed map, found by several workers.
     pub fn answer_route<Rt: Threads + Sync, G: Gate>(
         &mut self,
         pool: &Pool<'_, Rt, G>,
@@ -91,7 +91,7 @@ impl Engine {
         answer_found(pool.alloc, &payment.secret, found)
     }
 
-    /// Answers lines that ask of the committed items, the first of that number, and sets the filters among them.
+    /// Answers lines that request something of the committed map, the first with this number, and sets their filters.
     pub fn answer_questions<Rt: Threads + Sync, G: Gate, W: Sink>(
         &mut self,
         context: &Context<'_, Rt, G>,
@@ -114,8 +114,8 @@ impl Engine {
             .answer_questions(context, number, lines, &mut self.filters, output)
     }
 
-    /// Makes the accepted items those that requests are answered on, and tells what is new to the peers. It costs what
-    /// was accepted since the last time.
+    /// Makes all accepted items committed ones, and writes the news of peers. The cost is that of what was accepted
+    /// since the last commit.
     pub fn commit<W: Sink>(
         &mut self,
         alloc: Global,
@@ -158,7 +158,7 @@ fn committed<'a>(
     Ok(Answer::News(accepted, filters, maps.differences(alloc)?))
 }
 
-/// Tells a commit.
+/// Writes the answer to a commit.
 fn tell_commit<W: Sink>(
     alloc: Global,
     number: u64,

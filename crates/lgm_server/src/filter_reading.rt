@@ -1,4 +1,4 @@
-//! Filters, from their messages.
+//! Filters from their messages.
 
 ghost use Rattle.std.specs.Prelude.{◌≡◌, IfOk, Ok};
 ghost use Rattle.lgm_server.specs.Filtering.{filter_in, filter_read};
@@ -24,7 +24,7 @@ fn filter_in(chain: &ChainHash, message: &Message) -> Result<Filter, Objection>
     })
 }
 
-/// The filter that these bytes are, or why they set none.
+/// The filter of these bytes, or why they set none.
 pub fn read_filter(
     alloc: Global,
     chain: &ChainHash,

@@ -15,11 +15,11 @@ use std::marker::Model;
 pub struct PeerFilter {
     /// The peer's number, below 1,000.
     pub peer: u16,
-    /// Which gossip it wants.
+    /// The gossip that it requests.
     pub filter: Filter,
 }
 
-/// The filter that each peer has. Contracts see them in a list, peers ascending.
+/// The filters of peers. Contracts see a list, by ascending peer.
 #[derive(Drop)]
 pub struct Filters {
     filters: BTreeMap<u16, PeerFilter>,
@@ -56,7 +56,7 @@ impl Filters {
         &self.filters
     }
 
-    /// Gives a peer a filter, in place of the one that it had. Want of memory leaves all as they were.
+    /// Sets the filter of a peer, replacing its earlier one. Out of memory leaves all unchanged.
     pub fn set(&mut self, own: PeerFilter) -> Result<(), AllocError>
         ensures ok { OnOk result (self.new ≡ put by_peer self.old own) }
         ensures err { OnErr result (self.new ≡ self.old) }

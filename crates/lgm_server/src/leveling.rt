@@ -9,14 +9,14 @@ use lgm_store::{Map, Op};
 use std::alloc::{AllocError, Global};
 use std::collections::VecDeque;
 
-/// Takes the first operation out.
+/// Removes the first operation.
 fn forget_first(due: &mut VecDeque<Op>)
     ensures { due.new.items ≡ drop 1 due.old.items }
 {
     due.pop_front();
 }
 
-/// Does what is due, from the first on. Each operation is due until it is done.
+/// Applies the operations that are due, in order. Each is due until it is applied.
 fn catch_up(map: &mut Map, due: &mut VecDeque<Op>, chart: &mut Chart) -> Result<(), AllocError>
     requires { Follows map.old chart.old }
     ensures rows { fold_from map.new due.new.items ≡ fold_from map.old due.old.items }
@@ -54,8 +54,8 @@ fn renew(
     Ok(())
 }
 
-/// Does all that is due, so that no map is behind. Where more is due than the committed map has channels, a copy is the
-/// shorter way.
+/// Applies all operations that are due, so that no map is behind. If more are due than the committed map has channels,
+/// the map is copied instead.
 pub fn level(
     alloc: Global,
     committed: &Map,

@@ -1,7 +1,7 @@
 //! The route server: scripts of gossip, answered line by line.
 //!
 //! [`run`] takes a whole script from a [`Source`](lgm_script::Source) and writes its text to a
-//! [`Sink`](lgm_script::Sink). Its contract says which text that is, line by line, however the source cuts the script.
+//! [`Sink`](lgm_script::Sink). Its contract defines that text, line by line, however the bytes of the script arrive.
 #![tactic(auto)]
 
 mod answer;

@@ -1,4 +1,4 @@
-//! The map that grows, and the committed one.
+//! The map of all accepted items, and the committed one.
 
 ghost use Rattle.std.specs.Prelude.{◌≡◌, ◌⊎◌, ◌+◌, ◌≤◌, ◌<◌, ◌^◌, [], true, length, Err, IfOk, IfErr, OnOk, OnErr};
 ghost use Rattle.std.specs.Result.{result_err};
@@ -33,19 +33,19 @@ use std::marker::Model;
 use std::mem::swap;
 use std::thread::Threads;
 
-/// The map of all accepted items, and that of the committed ones, with the view that routes are searched in. At a commit
-/// the maps change places, and the one that grows does what it is behind by when it is needed. Contracts see the rows of
-/// both, and the features of nodes that are known. Fields are dropped in their order, the maps first: what operations alone
-/// have then is freed in the order in which it came, which is the quicker one.
+/// The map of all accepted items, and that of the committed ones, with the view in which routes are searched. At a
+/// commit the maps are swapped, and the one that is then behind applies what is due when it is needed. Contracts see
+/// the rows of both, and the known feature bits. Fields are dropped in order, the maps first: rows that are then left
+/// to operations alone are freed in the order in which they arrived, which is faster.
 #[derive(Drop)]
 pub struct Maps {
-    /// The map of all accepted items, but for what is due.
+    /// The map of all accepted items, without the operations that are due.
     map: Map,
     /// The map of the items before the last commit.
     committed: Map,
-    /// What the map has yet to do, in order.
+    /// The operations that the map has yet to apply, in order.
     due: VecDeque<Op>,
-    /// What was accepted since the last commit.
+    /// The operations accepted since the last commit.
     pending: VecDeque<Op>,
     chart: Chart,
 }
@@ -61,7 +61,7 @@ impl Model for Maps {
     ghost invariant = { λ m. AreKept m.map m.due.items m.committed m.pending.items m.chart };
 }
 
-/// What operations touch.
+/// The keys that operations touch.
 fn changes_of(alloc: Global, pending: &VecDeque<Op>) -> Result<Changes, AllocError>
     ensures { IfOk result (λ changes. HasTouched pending.now.items changes) }
 {
@@ -72,7 +72,7 @@ fn changes_of(alloc: Global, pending: &VecDeque<Op>) -> Result<Changes, AllocErr
     Ok(changes)
 }
 
-/// Makes the view of the committed map, if there is none.
+/// Builds the view of the committed map, if there is none.
 fn make_view(alloc: Global, committed: &Map, chart: &mut Chart) -> Result<(), AllocError>
     requires few { length committed.now.channels ≤ 2000000000 }
     requires shows { ShowsCommitted committed.now chart.old }
@@ -86,8 +86,8 @@ fn make_view(alloc: Global, committed: &Map, chart: &mut Chart) -> Result<(), Al
     Ok(())
 }
 
-/// Makes sure of a view of the committed map where routes are asked for. What is due is done first if a view follows the
-/// map that is behind.
+/// Ensures that there is a view of the committed map if routes are requested. If a view follows the map that is behind,
+/// what is due is applied first.
 fn chart_routes(
     alloc: Global,
     routes: bool,
@@ -115,8 +115,8 @@ fn chart_routes(
 }
 
 impl Maps {
-    /// Maps with no rows, whose points are hashed by the seed. The features that are known are kept as a copy. The only
-    /// error is want of memory.
+    /// Maps without rows, whose points are hashed with the seed. The known feature bits are copied. The only error is
+    /// out of memory.
     pub fn new(alloc: Global, seed: Seed, known: &Known) -> Result<Maps, AllocError>
         ensures { IfOk result (λ maps. maps ≡ record { known = known.now; rows = empty; committed = empty }) }
     {
@@ -132,7 +132,7 @@ impl Maps {
         })
     }
 
-    /// Offers a checked item, and gives its refusal, if it is refused. Want of memory leaves all as it was.
+    /// Offers a checked item, and returns its refusal, if it is refused. Out of memory leaves all unchanged.
     pub fn offer(&mut self, alloc: Global, item: Offered) -> Result<Option<Refusal>, AllocError>
         requires { WasChecked item }
         ensures refusal { IfOk result (λ refusal. refusal ≡ result_err (outcome_on self.old.rows item)) }
@@ -149,7 +149,7 @@ impl Maps {
         offer(alloc, &mut self.map, &mut self.pending, item)
     }
 
-    /// What is new since the last commit. It costs what was accepted since then.
+    /// The differences since the last commit. The cost is that of what was accepted since then.
     pub fn differences(&self, alloc: Global) -> Result<Differences<'_>, AllocError>
         ensures { IfOk result (λ differences. differences ≡ record { before = self.now.committed; after = self.now.rows }) }
     {
@@ -162,7 +162,7 @@ impl Maps {
         Differences::between(alloc, &self.committed, grown, &changes)
     }
 
-    /// Makes all accepted items committed ones. It costs nothing.
+    /// Makes all accepted items committed ones, at no cost.
     pub fn commit(&mut self)
         ensures { self.new ≡ record self.old { committed = self.old.rows } }
     {
@@ -174,7 +174,7 @@ impl Maps {
         self.chart.turn_behind();
     }
 
-    /// The least route of a payment over the edges of the committed map, found by several workers.
+    /// The best route of a payment over the edges of the committed map, found by several workers.
     pub fn find_route<Rt: Threads + Sync, G: Gate>(
         &mut self,
         pool: &Pool<'_, Rt, G>,
@@ -196,8 +196,8 @@ impl Maps {
         find_chunked(pool, &self.committed, &self.chart, request)
     }
 
-    /// Answers lines that ask of the committed map, the first of that number: they are decided side by side, and told in
-    /// their order.
+    /// Answers lines that request something of the committed map, the first of which has this number: the answers are
+    /// computed in parallel, and written in order.
     pub fn answer_questions<Rt: Threads + Sync, G: Gate, W: Sink>(
         &mut self,
         context: &Context<'_, Rt, G>,

@@ -8,16 +8,16 @@ use lgm_check::Refusal;
 /// Why a `q` or a `filter` line doesn't take its message.
 #[derive(Clone, Copy, Debug, PartialEq, Eq)]
 pub enum Objection {
-    /// The bytes are no message of those that are known, or it is one of another chain.
+    /// The bytes aren't a message, or it is one of another chain.
     Refused(Refusal),
-    /// It is none of the two queries.
+    /// It is neither of the two queries.
     NotQuery,
-    /// It is no filter.
+    /// It isn't a filter.
     NotFilter,
 }
 
 impl Objection {
-    /// The word that the line is told.
+    /// The word of the line's answer.
     pub fn word(&self) -> &'static str
         ensures { result.now ≡ objection_word self.now }
     {

@@ -1,4 +1,4 @@
-//! Checked items, offered to a map.
+//! Offering checked items to a map.
 
 ghost use Rattle.std.specs.Prelude.{◌≡◌, IfOk, OnOk, OnErr};
 ghost use Rattle.std.specs.Result.{result_err};
@@ -13,7 +13,7 @@ use lgm_store::{Map, Op};
 use std::alloc::{AllocError, Global};
 use std::collections::VecDeque;
 
-/// Admits an item and does its operation, which it gives. A refusal or want of memory leaves the map as it was.
+/// Admits an item and applies its operation, which is returned. A refusal or out of memory leaves the map unchanged.
 #[tactic(auto, unfolding(crate::specs::Offered::outcome_on))]
 fn admit(alloc: Global, map: &mut Map, item: Offered) -> Result<Op, Refusal>
     ensures outcome { Gives Refusal.NoMemory (λ op. op) result (outcome_on map.old item) }
@@ -31,8 +31,8 @@ fn admit(alloc: Global, map: &mut Map, item: Offered) -> Result<Op, Refusal>
     }
 }
 
-/// Offers a checked item to a map, and gives its refusal, if it is refused. The operation of one that is accepted is pending
-/// from then on. Want of memory leaves all as it was.
+/// Offers a checked item to a map, and returns its refusal, if it is refused. The operation of an accepted one is
+/// pending from then on. Out of memory leaves all unchanged.
 pub fn offer(
     alloc: Global,
     map: &mut Map,

@@ -34,8 +34,8 @@ fn answer_message<'a>(
     }
 }
 
-/// The answer to a query, which is these bytes, on a map of the chain. It lends the messages that the map holds; the
-/// replies to a query of a range are made when they are told.
+/// The answer to a query of these bytes, on a map of the chain. It borrows messages from the map; the replies to a
+/// query of a range are made when they are written.
 pub fn answer_query<'a>(
     alloc: Global,
     chain: &ChainHash,

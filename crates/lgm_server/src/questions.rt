@@ -1,4 +1,4 @@
-//! Questions to the committed map, decided side by side.
+//! Questions about the committed map, answered in parallel.
 
 ghost use Rattle.std.specs.Prelude.{◌≡◌, ◌⊎◌, ◌+◌, ◌≤◌, ◌<◌, ◌^◌, ℕ, List, Err, IfOk, IfErr, OnOk, All, length};
 ghost use Rattle.std.specs.List.{AllZip};
@@ -30,7 +30,7 @@ use lgm_store::Map;
 use std::alloc::{AllocError, Global};
 use std::thread::Threads;
 
-/// The least route in the view of the committed map.
+/// The best route in the view of the committed map.
 fn find(
     alloc: Global,
     committed: &Map,
@@ -81,7 +81,7 @@ fn answer_route(
     answer_found(alloc, &payment.secret, found)
 }
 
-/// The answer to a filter of a peer, which sets it.
+/// The answer to a peer's filter, which sets it.
 fn answer_filter<'a>(
     alloc: Global,
     chain: &ChainHash,
@@ -98,7 +98,7 @@ fn answer_filter<'a>(
     }
 }
 
-/// Reads a line and decides the answer to what it asks of the committed map.
+/// Parses a line and computes the answer to its request about the committed map.
 fn decide<'a>(
     alloc: Global,
     chain: &ChainHash,
@@ -119,7 +119,7 @@ fn decide<'a>(
     }
 }
 
-/// Decides the answers to lines in pieces, side by side. Each has its own want of memory.
+/// Computes the answers to lines in chunks, in parallel. Each may run out of memory on its own.
 fn decide_all<'a, Rt: Threads + Sync, G: Gate>(
     context: &Context<'_, Rt, G>,
     committed: &'a Map,
@@ -135,7 +135,7 @@ fn decide_all<'a, Rt: Threads + Sync, G: Gate>(
     context.pool.map(lines, &|line| decide(alloc, chain, committed, chart, line))
 }
 
-/// Tells an answer in its turn, and sets the filter that it is about, if it is about one.
+/// Writes an answer in its turn, and sets its filter, if it has one.
 fn tell<W: Sink>(
     alloc: Global,
     number: u64,
@@ -155,7 +155,7 @@ fn tell<W: Sink>(
     answer.send(alloc, number, output)
 }
 
-/// Answers lines that ask of the committed map, the first of that number.
+/// Answers lines that request something of the committed map, the first of which has this number.
 pub fn answer_questions<Rt: Threads + Sync, G: Gate, W: Sink>(
     context: &Context<'_, Rt, G>,
     committed: &Map,

@@ -1,4 +1,4 @@
-//! Routes on their way to who asked for them.
+//! Writing routes.
 
 ghost use Rattle.std.specs.Prelude.{◌≡◌, ◌+◌, ◌<◌, ◌^◌, IfErr, OnOk};
 ghost use Rattle.lgm_script.specs.Output.{Sends, SendsPart};
@@ -8,7 +8,7 @@ use lgm_payload::Payloads;
 use lgm_route::Route;
 use lgm_script::{Output, SendFault, Sink};
 
-/// Sends a line for each hop, with its payload.
+/// Writes a line for each hop, with its payload.
 fn send_hops<W: Sink>(
     number: u64,
     route: &Route,
@@ -28,7 +28,7 @@ fn send_hops<W: Sink>(
     Ok(())
 }
 
-/// Sends what the payer of a route sends, when it expires and how many hops there are, and then each hop.
+/// Writes what the payer of a route sends, when it expires and the number of hops, and then each hop.
 pub fn send_route<W: Sink>(
     number: u64,
     route: &Route,

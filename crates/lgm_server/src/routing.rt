@@ -12,7 +12,7 @@ use lgm_route::{Request, Route, RouteFault};
 use lgm_script::Payment;
 use std::alloc::{AllocError, Global};
 
-/// The route that a payment asks for.
+/// The route that a payment requests.
 pub fn asked_route(payment: &Payment) -> Request
     ensures { result ≡ asked_route payment.now }
 {

@@ -8,16 +8,16 @@ use lgm_script::{LineFault, SendFault};
 use std::alloc::AllocError;
 use thiserror::Error;
 
-/// Why a script wasn't run to its end. What was written is a beginning of its text.
+/// Why a script wasn't run to its end. What was written is a prefix of its text.
 #[derive(Clone, Copy, Debug, PartialEq, Eq, Error)]
 pub enum RunFault {
     /// The source failed.
     #[error("read failed")]
     Read,
-    /// The sink failed, or took no byte.
+    /// The sink failed, or accepted no byte.
     #[error("write failed")]
     Write,
-    /// Memory was refused.
+    /// Out of memory.
     #[error("out of memory")]
     NoMemory,
     /// Line 10,000,001 begins. The lines before it were answered.

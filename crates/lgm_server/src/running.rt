@@ -1,4 +1,4 @@
-//! A whole script.
+//! Running a whole script.
 
 ghost use Rattle.std.specs.Prelude.{◌≡◌, ◌≢◌, ◌+◌, ◌<◌, ◌≤◌, ◌^◌, [], length, IfSome, IfOk, IfErr};
 ghost use Rattle.lgm_script.specs.Output.{Sends, SendsPart, SendsSome};
@@ -25,28 +25,28 @@ use std::alloc::Global;
 use std::random::RandomSource;
 use std::thread::Threads;
 
-/// The most lines that a script has.
+/// The maximum number of lines of a script.
 pub const MAX_LINES: u64 = 10_000_000;
 
-/// What a whole script had.
+/// What a whole script contained.
 #[derive(Clone, Copy, Debug, PartialEq, Eq)]
 pub struct Counts {
-    /// How many lines, empty ones and comments included.
+    /// The number of lines, including empty ones and comments.
     pub lines: u64,
-    /// How many accepted items.
+    /// The number of accepted items.
     pub accepted: u64,
 }
 
-/// The most lines that so many workers take together. What one worker finds by itself should still lie close at hand when
-/// its turn comes.
+/// The maximum number of lines that this many workers process together. What a single worker prepares should still be
+/// in its cache when its turn comes.
 fn most_for(workers: usize) -> usize
     ensures { 0 < result }
 {
     if workers == 1 { 32 } else { 1_024 }
 }
 
-/// Answers the next lines, the first of that number and of so many bytes. Gives how many they are, at most so many, and
-/// how many bytes they take up.
+/// Answers the next lines, the first of which has this number and `first` bytes. Returns the number of lines, at most
+/// `most`, and of their bytes.
 fn answer_next<Rt: Threads + Sync, G: Gate, W: Sink>(
     context: &Context<'_, Rt, G>,
     number: u64,
@@ -74,7 +74,7 @@ fn answer_next<Rt: Threads + Sync, G: Gate, W: Sink>(
     Ok((group.lines.len() as u64, group.len))
 }
 
-/// Answers the lines of a script, where nothing was read or answered yet. Some of the answers may still be gathered.
+/// Answers the lines of a script of which nothing was read or answered yet. Some of the answers may still be buffered.
 fn answer_lines<Rt: Threads + Sync, G: Gate, R: Source, W: Sink>(
     context: &Context<'_, Rt, G>,
     lines: &mut LineReader,
@@ -121,7 +121,7 @@ fn answer_lines<Rt: Threads + Sync, G: Gate, R: Source, W: Sink>(
     })
 }
 
-/// Answers a whole script to an output where nothing is gathered, and writes all answers. What was made for it remains.
+/// Answers a whole script to an output with an empty buffer, and writes all answers. The maps stay with the caller.
 fn answer_all<Rt: Threads + Sync + RandomSource, G: Gate, R: Source, W: Sink>(
     context: &Context<'_, Rt, G>,
     known: &Known,
@@ -144,7 +144,7 @@ fn answer_all<Rt: Threads + Sync + RandomSource, G: Gate, R: Source, W: Sink>(
     write_answers(answered, output)
 }
 
-/// Writes what is gathered of the answers, unless the writer has failed. Gives how the run ended.
+/// Writes the buffered answers, unless the sink has failed. Returns how the run ended.
 fn write_answers<W: Sink>(
     answered: Result<Counts, RunFault>,
     output: &mut Output<'_, W>,
@@ -162,19 +162,18 @@ fn write_answers<W: Sink>(
     }
 }
 
-/// Answers a whole script: its lines, in order, each by the lines before it (see the grammar in `docs/script.md`).
-/// Payments go to no node that wants features which aren't known.
+/// Answers a whole script: its lines, in order, each depending on the lines before it (see the grammar in
+/// `docs/script.md`). Payments use no node that requires unknown features.
 ///
-/// The work is shared by 1 to 64 workers. Lines that stand side by side and were read whole are taken together, at most
-/// 1,024 of items or 64 of questions, and 32 by one worker: they are read, checked and decided in pieces, each of which
-/// passes the gate, and told in their order. Neither the number of workers nor the gate changes what is written, nor do
-/// the random bytes that are asked of the system, with which points are hashed.
+/// The work is shared by 1 to 64 workers. Consecutive lines that are completely read ahead are processed together, at
+/// most 1,024 of items or 64 of questions, and 32 by a single worker: they are parsed, checked and answered in chunks,
+/// each of which passes the gate, and written in order. Neither the number of workers nor the gate affects what is
+/// written, nor do the random bytes from the system, with which points are hashed.
 ///
-/// What is answered is written before the source is read again, and in blocks otherwise. At `TooManyLines` and
-/// `LineTooLong` the lines before were answered. After each other fault what was written is a beginning of the text of
-/// lines that were read, each to its line feed or to the end; answers that were found before memory was refused are
-/// written. `Read` and `Write` come only where the device failed in this call; at any fault the reader and the writer
-/// have moved on.
+/// Answers are written before the source is read again, and in blocks otherwise. At `TooManyLines` and `LineTooLong`
+/// the lines before were answered. At any other fault a prefix of the text of lines that were read, each to its line
+/// feed or to the end, was written; answers found before memory ran out are written. `Read` and `Write` come only if
+/// the device failed in this call; at any fault the reader and the writer have advanced.
 pub fn run<Rt: Threads + Sync + RandomSource, G: Gate, R: Source, W: Sink>(
     rt: &Rt,
     alloc: Global,
@@ -196,7 +195,7 @@ pub fn run<Rt: Threads + Sync + RandomSource, G: Gate, R: Source, W: Sink>(
     ensures too_many { StopsAtLimit chain.now known.now (R.left reader.old) (W.taken writer.old) (W.taken writer.new) result }
     ensures too_long { StopsAtLongLine chain.now known.now (R.left reader.old) (W.taken writer.old) (W.taken writer.new) result }
 
-    // At any fault a beginning of the text of lines that were read, all within the limits, was written, and nothing else.
+    // At any fault a prefix of the text of lines that were read, all within the limits, was written, and nothing else.
     ensures fault { StopsShort chain.now known.now (R.left reader.old) (W.taken writer.old) (W.taken writer.new) result (R.left reader.new) }
 
     // A device failed in this call.
@@ -216,8 +215,8 @@ pub fn run<Rt: Threads + Sync + RandomSource, G: Gate, R: Source, W: Sink>(
     run_keeping(&context, known, reader, writer, &mut remains)
 }
 
-/// As [`run`], by the context's workers over its chain, and what was made for the script is kept: the caller drops it,
-/// or forgets it where the program ends.
+/// Like [`run`], with the workers and the chain of the context, but the maps stay with the caller, who drops them, or
+/// forgets them if the program ends.
 pub fn run_keeping<Rt: Threads + Sync + RandomSource, G: Gate, R: Source, W: Sink>(
     context: &Context<'_, Rt, G>,
     known: &Known,

@@ -1,4 +1,4 @@
-//! Messages on their way to peers, each in a line of its own.
+//! Writing messages, one per line.
 
 ghost use Rattle.std.specs.Prelude.{◌≡◌, ◌+◌, ◌<◌, ◌^◌, Ok, Some, IfErr, OnOk};
 ghost use Rattle.std.specs.List.{flat_map};
@@ -14,7 +14,7 @@ use lgm_script::{Output, SendFault, Sink};
 use lgm_store::Map;
 use std::alloc::Global;
 
-/// Sends the messages that a query is answered with.
+/// Writes the messages of the reply to a query.
 pub(crate) fn send_messages<W: Sink>(
     number: u64,
     messages: &[Reply<'_>],
@@ -31,7 +31,7 @@ pub(crate) fn send_messages<W: Sink>(
     Ok(())
 }
 
-/// Makes the replies to a query of a range, and sends them.
+/// Makes the replies to a query of a range, and writes them.
 pub(crate) fn send_range<W: Sink>(
     alloc: Global,
     number: u64,
@@ -47,7 +47,7 @@ pub(crate) fn send_range<W: Sink>(
     send_messages(number, replies.as_slice(), output)
 }
 
-/// Sends a peer what passes its filter of a map, as it is walked.
+/// Writes for a peer what passes its filter, message by message.
 fn send_backlog<W: Sink>(
     number: u64,
     own: &PeerFilter,
@@ -67,7 +67,7 @@ fn send_backlog<W: Sink>(
     Ok(())
 }
 
-/// Tells that a peer has a filter, and sends it what passes it of a map.
+/// Writes that a peer has a filter, and then what passes it of a map.
 pub(crate) fn send_filtered<W: Sink>(
     number: u64,
     own: &PeerFilter,
@@ -83,7 +83,7 @@ pub(crate) fn send_filtered<W: Sink>(
     send_backlog(number, own, map, output)
 }
 
-/// Sends a peer what is new to it, as it is walked.
+/// Writes the news of a peer, message by message.
 fn send_news_to<W: Sink>(
     number: u64,
     own: &PeerFilter,
@@ -101,7 +101,7 @@ fn send_news_to<W: Sink>(
     Ok(())
 }
 
-/// Sends each peer with a filter what is new to it, peers ascending.
+/// Writes the news of each peer with a filter, by ascending peer.
 fn send_all_news<W: Sink>(
     number: u64,
     filters: &Filters,
@@ -119,7 +119,7 @@ fn send_all_news<W: Sink>(
     Ok(())
 }
 
-/// Tells the number of accepted items, and sends each peer what is new to it.
+/// Writes the number of accepted items, and then the news of each peer.
 pub(crate) fn send_news<W: Sink>(
     number: u64,
     accepted: u64,

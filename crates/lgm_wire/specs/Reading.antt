@@ -1,8 +1,8 @@
--- Words for the modules named Reading: a reader takes bytes from left to right, and gives a value,
--- mostly with the bytes after it, or the first fault that it meets.
+-- Common to the modules named Reading: a reader takes bytes from left to right, and returns a
+-- value, mostly with the bytes after it, or the first fault.
 use Rattle.std.specs.Prelude.{◌≡◌, ◌⊎◌, Result, Ok, Err}
 
--- what a function returned, seen by view, is what reading gives
+-- a function returned what the reading gives, seen through view
 abbrev pub Sees : {X Y E : Type 0} → (X → Y) → Result X E → Result Y E → Type 0
 Sees view (Ok x) read = read ≡ Ok (view x)
 Sees view (Err e) read = read ≡ Err e

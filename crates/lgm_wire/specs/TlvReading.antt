@@ -26,7 +26,7 @@ abbrev pub last_kind : Option ℕ → List TlvRecord → Option ℕ
 last_kind last [] = last
 last_kind last (r ∷ rs) = last_kind (Some r.kind) rs
 
--- the bytes begin with whole records, and the one behind them has this fault
+-- the bytes begin with complete records, and the record after them has this fault
 pub record IsFirstFault (bytes : List ℕ) (fault : WireFault) : Type 0 where
   pub before : List TlvRecord
   pub rest : List ℕ
@@ -36,7 +36,7 @@ pub record IsFirstFault (bytes : List ℕ) (fault : WireFault) : Type 0 where
   pub more : 0 < length rest
   pub is : record_at (last_kind None before) rest ≡ Err fault
 
--- the records of a stream, of which there are at most so many, behind a record of the last type
+-- the records of a stream, at most the given number, after a record of the last type
 unfoldable pub tlvs_at : ℕ → Option ℕ → List ℕ → Result (List TlvRecord) WireFault
 tlvs_at n last [] = Ok []
 tlvs_at zero last (b ∷ bs) = Ok []

@@ -1,4 +1,4 @@
--- What contracts see of the records that were read: not where their values lie.
+-- The records as contracts see them, without where their values are stored.
 use Rattle.std.specs.Prelude.{List, map}
 use Rattle.lgm_wire.specs.declared.tlv.Tlv.{Tlv}
 use Rattle.lgm_wire.specs.Tlv.{TlvRecord}

@@ -8,7 +8,7 @@ abbrev pub starts_with_zero : List ℕ → Bool
 starts_with_zero [] = false
 starts_with_zero (digit ∷ digits) = digit == 0
 
--- the number that all of the bytes are, of which there may be up to so many
+-- the number that all of the bytes encode, at most the given number of bytes
 abbrev pub truncated_of : ℕ → List ℕ → Result ℕ WireFault
 truncated_of most bytes =
     if nat_lt most (length bytes) then Err TooLong

@@ -1,4 +1,4 @@
-//! BigSize: a number of up to 64 bits in one, three, five or nine bytes, whichever is the fewest
+//! BigSize: a number of up to 64 bits in one, three, five or nine bytes, whichever is shortest
 //! (BOLT 1, Fundamental Types and Appendix A).
 
 ghost use Rattle.std.specs.Prelude.{◌≡◌, ℕ, ◌≤◌, ◌<◌, ◌↔◌, ◌⊎◌, ◌++◌, ◌+◌, length, take, vec_len, vec_capacity, OnOk, OnErr, IfErr, List};
@@ -9,7 +9,7 @@ ghost use Rattle.lgm_wire.specs.BigSizeReading.{bigsize_at, bigsize_with_len, lo
 
 use crate::fault::{NoMemory, WireFault};
 
-/// The number behind `0xfd`, and the bytes after it.
+/// The number after `0xfd`, and the bytes after it.
 fn split_u16(bytes: &[u8]) -> Result<(u64, &[u8]), WireFault>
     ensures { Sees (λ x. (x.0, x.1.now)) result (long_form_at w16 0xfd bytes.now) }
 {
@@ -21,7 +21,7 @@ fn split_u16(bytes: &[u8]) -> Result<(u64, &[u8]), WireFault>
     Ok((u64::from(number), rest))
 }
 
-/// The number behind `0xfe`, and the bytes after it.
+/// The number after `0xfe`, and the bytes after it.
 fn split_u32(bytes: &[u8]) -> Result<(u64, &[u8]), WireFault>
     ensures { Sees (λ x. (x.0, x.1.now)) result (long_form_at w32 0x10000 bytes.now) }
 {
@@ -33,7 +33,7 @@ fn split_u32(bytes: &[u8]) -> Result<(u64, &[u8]), WireFault>
     Ok((u64::from(number), rest))
 }
 
-/// The number behind `0xff`, and the bytes after it.
+/// The number after `0xff`, and the bytes after it.
 fn split_u64(bytes: &[u8]) -> Result<(u64, &[u8]), WireFault>
     ensures { Sees (λ x. (x.0, x.1.now)) result (long_form_at w64 0x100000000 bytes.now) }
 {
@@ -45,7 +45,7 @@ fn split_u64(bytes: &[u8]) -> Result<(u64, &[u8]), WireFault>
     Ok((number, rest))
 }
 
-/// The number at the front, and the bytes after it.
+/// The leading number, and the bytes after it.
 #[tactic(auto, unfolding(crate::specs::BigSizeReading::bigsize_at))]
 pub(crate) fn split_bigsize(bytes: &[u8]) -> Result<(u64, &[u8]), WireFault>
     ensures { Sees (λ x. (x.0, x.1.now)) result (bigsize_at bytes.now) }
@@ -59,21 +59,21 @@ pub(crate) fn split_bigsize(bytes: &[u8]) -> Result<(u64, &[u8]), WireFault>
     }
 }
 
-/// Reads the BigSize at the front of the bytes: the number, and how many bytes it takes, which is
-/// 1, 3, 5 or 9. What follows it isn't looked at. (BOLT 1, Fundamental Types.)
+/// Reads the BigSize at the start of the bytes: the number, and its length of 1, 3, 5 or 9 bytes.
+/// The bytes after it are ignored. (BOLT 1, Fundamental Types.)
 ///
-/// The fault is `Cut` where the bytes end before the form that the first byte calls for, also
-/// where there are none, and `NotMinimal` where that form is whole and its number has a shorter
-/// one. There is no other fault, and no memory is taken.
+/// `Cut` if the bytes end before the length that the first byte calls for, or are empty;
+/// `NotMinimal` if the encoding is complete but not the shortest. There is no other fault, and
+/// nothing is allocated.
 pub fn read_bigsize(bytes: &[u8]) -> Result<(u64, usize), WireFault>
-    // It gives v and n exactly where the first n bytes spell v.
+    // It returns v and n if and only if the first n bytes encode v.
     ensures value { (v n : ℕ) →
         (result ≡ Ok (v, n)) ↔ ((n ≤ length bytes.now) × IsBigSize v (take n bytes.now)) }
 
-    // The bytes end before the form that the first byte calls for.
+    // The bytes end before the length that the first byte calls for.
     ensures cut { (result ≡ Err WireFault.Cut) ↔ (length bytes.now < form_len bytes.now) }
 
-    // The form is whole, and the number in it has a shorter one.
+    // The encoding is complete, and its number has a shorter one.
     ensures not_minimal { (result ≡ Err WireFault.NotMinimal) ↔
         ((form_len bytes.now ≤ length bytes.now)
         × (length (bigsize_bytes (form_value bytes.now)) < form_len bytes.now)) }
@@ -81,20 +81,20 @@ pub fn read_bigsize(bytes: &[u8]) -> Result<(u64, usize), WireFault>
     // There is no other fault.
     ensures faults { IfErr result (λ e. (e ≡ WireFault.Cut) ⊎ (e ≡ WireFault.NotMinimal)) }
 
-    // The same in one, for readers built on this one.
+    // The same in one clause, for readers built on this one.
     ensures exact { result ≡ bigsize_with_len bytes.now }
 {
     let (value, rest) = split_bigsize(bytes)?;
     Ok((value, bytes.len() - rest.len()))
 }
 
-/// Appends the BigSize of a number: 1, 3, 5 or 9 bytes. Memory is asked for only where the vector
-/// has no room for them. On `NoMemory` the bytes are as before. (BOLT 1, Fundamental Types.)
+/// Appends the BigSize encoding of a number, 1, 3, 5 or 9 bytes. Allocates only if the vector lacks
+/// room. On `NoMemory` the vector is unchanged. (BOLT 1, Fundamental Types.)
 pub fn write_bigsize(out: &mut Vec<u8>, value: u64) -> Result<(), NoMemory>
     ensures ok { OnOk result (out.new.items ≡ out.old.items ++ bigsize_bytes value) }
     ensures err { OnErr result (out.new.items ≡ out.old.items) }
 
-    // It fails only where room was missing, and room never shrinks.
+    // It fails only if the vector lacked room; capacity never shrinks.
     ensures full { OnErr result (vec_capacity out.old < vec_len out.old + length (bigsize_bytes value)) }
     ensures room { vec_capacity out.old ≤ vec_capacity out.new }
 {
@@ -115,9 +115,9 @@ pub fn write_bigsize(out: &mut Vec<u8>, value: u64) -> Result<(), NoMemory>
     }
 }
 
-/// A law of BigSize, of which the contract is the statement; the call does nothing.
+/// A law of BigSize, stated by the contract; the call does nothing.
 ///
-/// No spelling begins another one, so a number that was written is read back, whatever follows.
+/// The encoding is prefix-free, so a number that was written is read back, whatever follows.
 pub fn one_spelling()
     ensures { (m n : ℕ) (a b x y : List ℕ) → IsBigSize m a → IsBigSize n b →
         a ++ x ≡ b ++ y → (m ≡ n) × (a ≡ b) × (x ≡ y) }

@@ -1,4 +1,4 @@
-//! What can be wrong with bytes of the wire.
+//! Faults of wire primitives.
 
 ghost use Rattle.std.specs.Prelude.{◌≡◌};
 ghost use Rattle.lgm_wire.specs.declared.fault.WireFault.TheVariants.{NoMemory};
@@ -6,25 +6,25 @@ ghost use Rattle.lgm_wire.specs.declared.fault.WireFault.TheVariants.{NoMemory};
 use std::alloc::{AllocError, AllocFailed};
 use thiserror::Error;
 
-/// Memory ran out. A write call that answers it leaves its `Vec` as it was.
+/// Out of memory. A writer that returns it leaves its `Vec` unchanged.
 pub type NoMemory = AllocError;
 
-/// The first fault of the bytes, read from left to right, or want of memory.
+/// The first fault of the bytes, read from left to right, or out of memory.
 #[derive(Clone, Copy, Debug, PartialEq, Eq, Error)]
 pub enum WireFault {
     /// The bytes end inside a number or a value.
     #[error("the bytes end inside a field")]
     Cut,
-    /// A number has a shorter spelling, which is the only lawful one.
+    /// A number isn't in its shortest encoding, the only valid one.
     #[error("a number isn't in its shortest form")]
     NotMinimal,
     /// A truncated integer has more bytes than its field allows.
     #[error("a number has too many bytes")]
     TooLong,
-    /// A record's type is equal to the one before it, or below.
+    /// A record's type isn't above that of the record before it.
     #[error("a record's type isn't above the one before")]
     Order,
-    /// Memory ran out while the records were listed. It says nothing of the bytes.
+    /// Out of memory while listing records; says nothing about the bytes.
     #[error("out of memory")]
     NoMemory,
 }

@@ -1,4 +1,4 @@
-//! Points of the curve, as nodes and bitcoin keys are named.
+//! Points: node ids and bitcoin keys.
 
 ghost use Rattle.std.specs.Prelude.{◌≡◌, [], ◌∷◌};
 ghost use Rattle.std.specs.Cmp.Lexicographic.{bytes_decides};
@@ -7,13 +7,13 @@ ghost use Rattle.lgm_wire.specs.Point.{is_lawful};
 
 use std::hash::{Hash, Hasher};
 
-/// A point in its compressed form: 33 bytes, which order byte by byte (BOLT 1, "Fundamental Types").
+/// A compressed point: 33 bytes, ordered bytewise (BOLT 1, "Fundamental Types").
 #[derive(Clone, Copy, Debug, PartialEq, Eq, PartialOrd, Ord)]
 pub struct Point(pub [u8; 33]);
 
 impl Point {
-    /// Whether the first byte is 2 or 3, as it is in each compressed point. Whether the point lies on the curve isn't
-    /// looked at: that is part of a verdict on signatures.
+    /// Whether the first byte is 2 or 3, as in every compressed point. Whether the point is on the curve isn't checked:
+    /// that is part of the caller's verdict on signatures.
     pub fn lawful(&self) -> bool
         ensures { result ≡ is_lawful self.now }
     {
@@ -21,7 +21,7 @@ impl Point {
     }
 }
 
-/// A point's bytes are hashed in one go: an array would be hashed byte by byte.
+/// The bytes of a point are hashed in one call; an array would be hashed byte by byte.
 impl Hash for Point {
     ghost hash_input = { λ p. p.0 ∷ [] };
 

@@ -1,5 +1,5 @@
-//! TLV streams: records of a type, a length and a value, their types rising strictly
-//! (BOLT 1, Type-Length-Value Format and Appendix B).
+//! TLV streams: records of type, length and value, with strictly increasing types (BOLT 1,
+//! Type-Length-Value Format and Appendix B).
 
 ghost use Rattle.std.specs.Prelude.{◌≡◌, ℕ, ◌+◌, ◌<◌, ◌≤◌, List, ◌++◌, ◌⊎◌, length, slice_index, Ok, vec_len, vec_capacity, OnOk, OnErr, IfOk, IfErr, MatchResult};
 ghost use Rattle.lgm_wire.specs.Reading.{Sees, Gives};
@@ -17,11 +17,11 @@ use std::marker::Model;
 pub struct Tlv<'a> {
     /// The type, a number of up to 64 bits.
     pub kind: u64,
-    /// The value, where it lies in the bytes that were read.
+    /// The value, borrowed from the input.
     pub value: &'a [u8],
 }
 
-/// The records of a stream, with rising types. Contracts see a list of types and values.
+/// The records of a stream. Contracts see a list of types and values, with increasing types.
 #[derive(Debug, Drop)]
 pub struct Tlvs<'a> {
     items: Vec<Tlv<'a>>,
@@ -38,7 +38,7 @@ impl<'a> Model for Tlvs<'a> {
 }
 
 impl<'a> Tlvs<'a> {
-    /// The records, in the order of the bytes.
+    /// The records, in the order of the stream.
     pub fn as_slice(&self) -> &[Tlv<'a>]
         ensures { records_of result.now ≡ self.now }
     {
@@ -46,7 +46,7 @@ impl<'a> Tlvs<'a> {
     }
 }
 
-/// The record at the front, whose type is above the last one, and the bytes after it.
+/// The leading record, whose type is above the last one, and the bytes after it.
 #[tactic(auto, unfolding(crate::specs::TlvReading::record_at))]
 fn split_tlv<'a>(last: Option<u64>, bytes: &'a [u8]) -> Result<(Tlv<'a>, &'a [u8]), WireFault>
     ensures { Sees (λ x. (record_of x.0, x.1.now)) result (record_at last bytes.now) }
@@ -65,25 +65,25 @@ fn split_tlv<'a>(last: Option<u64>, bytes: &'a [u8]) -> Result<(Tlv<'a>, &'a [u8
     Ok((Tlv { kind, value }, rest))
 }
 
-/// Reads the TLV stream that all of the bytes are. No bytes are the empty stream. Values aren't
-/// copied: memory is taken for the list alone. (BOLT 1, Type-Length-Value Format.)
+/// Reads bytes that are a TLV stream as a whole; empty bytes are the empty stream. Values are
+/// borrowed from the input: only the list is allocated. (BOLT 1, Type-Length-Value Format.)
 ///
-/// The fault is that of the first record that has one, and of that record the first in the order:
-/// its type (`Cut`, `NotMinimal`), `Order` where the type isn't above the one before, its length
-/// (`Cut`, `NotMinimal`), its value (`Cut`). `NoMemory` says nothing of the bytes. Which types are
-/// known is left to the caller, also that an unknown even one must be refused.
+/// The fault is that of the first faulty record, and of that record the first of: its type (`Cut`,
+/// `NotMinimal`), `Order` if the type isn't above the one before, its length (`Cut`, `NotMinimal`),
+/// its value (`Cut`). `NoMemory` says nothing about the bytes. Which types are known, and that
+/// unknown even ones are rejected, is up to the caller.
 pub fn read_tlvs<'a>(alloc: Global, bytes: &'a [u8]) -> Result<Tlvs<'a>, WireFault>
-    // It gives the records exactly where the bytes are their stream, unless memory runs out.
+    // It returns records if and only if the bytes are a stream of them, unless memory runs out.
     ensures found { IfOk result (λ tlvs. IsTlvStream tlvs bytes.now) }
     ensures only { (records : List TlvRecord) → IsTlvStream records bytes.now →
         MatchResult result (λ tlvs. tlvs ≡ records) (λ e. e ≡ WireFault.NoMemory) }
 
     ensures fault { IfErr result (λ e. (e ≡ WireFault.NoMemory) ⊎ IsFirstFault bytes.now e) }
 
-    // Fewer than two bytes hold no record, and take no memory.
+    // Fewer than two bytes contain no record, and allocate nothing.
     ensures memory { length bytes.now < 2 → Sees (λ tlvs. tlvs) result (tlvs_of bytes.now) }
 
-    // The same in one, for readers built on this one.
+    // The same in one clause, for readers built on this one.
     ensures exact { Gives WireFault.NoMemory (λ tlvs. tlvs) result (tlvs_of bytes.now) }
 {
     let mut items = Vec::new(alloc);
@@ -98,15 +98,15 @@ pub fn read_tlvs<'a>(alloc: Global, bytes: &'a [u8]) -> Result<Tlvs<'a>, WireFau
     Ok(Tlvs { items })
 }
 
-/// Appends a record: the BigSize of its type, the BigSize of its length, and its value. That the
-/// types of a stream rise is left to the caller. Memory is asked for only where the vector has no
-/// room for the record. On `NoMemory` the bytes are as before. (BOLT 1, Type-Length-Value Format.)
+/// Appends a record: type and length as BigSize, then the value. That types increase is up to the
+/// caller. Allocates only if the vector lacks room. On `NoMemory` the vector is unchanged. (BOLT 1,
+/// Type-Length-Value Format.)
 pub fn write_tlv(out: &mut Vec<u8>, kind: u64, value: &[u8]) -> Result<(), NoMemory>
     ensures ok { OnOk result (out.new.items ≡
         out.old.items ++ record_bytes (record { kind = kind; value = value.now })) }
     ensures err { OnErr result (out.new.items ≡ out.old.items) }
 
-    // It fails only where room was missing, and room never shrinks.
+    // It fails only if the vector lacked room; capacity never shrinks.
     ensures full { OnErr result (vec_capacity out.old <
         vec_len out.old + length (record_bytes (record { kind = kind; value = value.now }))) }
     ensures room { vec_capacity out.old ≤ vec_capacity out.new }
@@ -119,7 +119,7 @@ pub fn write_tlv(out: &mut Vec<u8>, kind: u64, value: &[u8]) -> Result<(), NoMem
     written
 }
 
-/// Appends the three parts of a record, or some of them where memory runs out.
+/// Appends the three parts of a record, or some of them if memory runs out.
 fn append_parts(out: &mut Vec<u8>, kind: u64, value: &[u8]) -> Result<(), NoMemory>
     ensures ok { OnOk result (out.new.items ≡
         out.old.items ++ record_bytes (record { kind = kind; value = value.now })) }
@@ -133,10 +133,10 @@ fn append_parts(out: &mut Vec<u8>, kind: u64, value: &[u8]) -> Result<(), NoMemo
     out.extend_from_slice(value)
 }
 
-/// The laws of TLV streams, of which the contract is the statement; the call does nothing.
+/// The laws of TLV streams, stated by the contract; the call does nothing.
 ///
-/// Reading the bytes from left to right gives records exactly where the bytes are their stream, so
-/// bytes are the stream of one list of records at most.
+/// Reading bytes from left to right returns records if and only if the bytes are a stream of them,
+/// so bytes are the stream of at most one list of records.
 pub fn one_stream()
     ensures read { (records : List TlvRecord) (b : List ℕ) → ((i : ℕ) → slice_index b i < 256) →
         tlvs_of b ≡ Ok records → IsTlvStream records b }

@@ -1,4 +1,4 @@
-//! What operations do to a map and its view.
+//! Applying operations to a map and its view.
 
 ghost use Rattle.std.specs.Prelude.{◌≡◌, ◌<◌, ◌^◌, length};
 ghost use Rattle.lgm_store.specs.declared.op.Op.TheVariants as ops;
@@ -17,7 +17,7 @@ use lgm_rows::{KeptChannel, KeptNode, KeptUpdate};
 use lgm_store::{Map, Op};
 use std::alloc::{AllocError, Global};
 
-/// Does an update, of a held channel or another one, to a map and the nodes that show it.
+/// Applies an update, whether or not its channel is in the map, to a map and its numbered nodes.
 pub(super) fn apply_update(
     known: &Known,
     nodes: &mut Nodes,
@@ -31,7 +31,7 @@ pub(super) fn apply_update(
     ensures { IsDoneToBoth known.now op.now map.old map.new nodes.old nodes.new result }
 {
     map.rows_are_lawful();
-    // It says that points are distinct.
+    // The contract of `len` says that points are distinct.
     let _ = nodes.points.len();
     let (scid, second) = (row.scid(), row.is_second());
     let Some(channel) = map.channel(scid) else {
@@ -48,7 +48,7 @@ pub(super) fn apply_update(
     Ok(())
 }
 
-/// Does a node's announcement to a map and the nodes that show it.
+/// Applies a node announcement to a map and its numbered nodes.
 pub(super) fn apply_node(
     known: &Known,
     nodes: &mut Nodes,
@@ -65,7 +65,7 @@ pub(super) fn apply_node(
     Ok(())
 }
 
-/// Does a close to a map and the nodes that show it.
+/// Applies a close to a map and its numbered nodes.
 pub(super) fn apply_close(
     known: &Known,
     nodes: &mut Nodes,
@@ -88,7 +88,7 @@ pub(super) fn apply_close(
     Ok(())
 }
 
-/// Does an announcement of a channel to a map and the nodes that show it, and numbers the channel's ends.
+/// Applies a channel announcement to a map and its numbered nodes, and numbers the channel's nodes.
 pub(super) fn apply_channel(
     alloc: Global,
     known: &Known,
@@ -109,7 +109,7 @@ pub(super) fn apply_channel(
     Ok(())
 }
 
-/// Does a ban to a map and the nodes that show it.
+/// Applies a ban to a map and its numbered nodes.
 pub(super) fn apply_ban(
     alloc: Global,
     known: &Known,
@@ -131,7 +131,7 @@ pub(super) fn apply_ban(
     Ok(())
 }
 
-/// Does an operation to a map and the nodes that show it.
+/// Applies an operation to a map and its numbered nodes.
 pub(super) fn apply(
     alloc: Global,
     known: &Known,

@@ -1,4 +1,4 @@
-//! Links put in their lists, all at once.
+//! Building the lists of links.
 
 ghost use Rattle.std.specs.Prelude.{◌≡◌, [], List, OnOk};
 ghost use Rattle.lgm_graph.specs.declared.edge.Edge.{Edge as AnEdge};
@@ -9,7 +9,7 @@ use crate::link::Link;
 use crate::nodes::Nodes;
 use std::alloc::{AllocError, Global};
 
-/// Puts links in the lists of the nodes that they join, which have none yet.
+/// Adds links to the lists of their nodes, which have none yet.
 pub(super) fn put_links(alloc: Global, nodes: &mut Nodes, links: &[Link]) -> Result<(), AllocError>
     requires bare { ShowsIn [] nodes.old }
     requires links { (edges : List AnEdge) × AreLinksOf edges nodes.old.points.keys links.now }
@@ -20,7 +20,7 @@ pub(super) fn put_links(alloc: Global, nodes: &mut Nodes, links: &[Link]) -> Res
 {
     nodes.reserve_for(alloc, links)?;
     for link in links {
-        // It says that points are distinct.
+        // The contract of `len` says that points are distinct.
         let _ = nodes.points.len();
         let (from, to) = (link.from as usize, link.to as usize);
         nodes.reserve_links(from, to)?;

@@ -1,7 +1,7 @@
-//! The view of a map, from nothing.
+//! Building the view of a map.
 //!
-//! A first walk of the channels numbers their ends and writes the links down one behind the other. Only then the lists
-//! are made, each as long as it has to be.
+//! A first traversal of the channels numbers their nodes and lists the links one after the other. Only then are the
+//! lists per node made, each of its final length.
 
 ghost use Rattle.std.specs.Prelude.{◌≡◌, ℕ, ◌+◌, ◌*◌, ◌<◌, ◌≤◌, ◌^◌, ◌++◌, [], List, length, IfOk, OnOk, option_to_list, Option};
 ghost use Rattle.std.specs.Option.{option_and_then, option_map};
@@ -25,8 +25,7 @@ use lgm_store::{Held, Map};
 use std::alloc::{AllocError, Global};
 
 impl View {
-    /// The view of a map, with the features of nodes that are known, which it keeps a copy of. The only error is want
-    /// of memory.
+    /// The view of a map, with the known feature bits, which are copied. The only error is out of memory.
     pub fn of(alloc: Global, map: &Map, known: &Known) -> Result<View, AllocError>
         requires { length map.now.channels ≤ 2000000000 }
         ensures beside { IfOk result (IsGraphOf map.now) }
@@ -50,7 +49,7 @@ impl View {
     }
 }
 
-/// Numbers the ends of a channel, and writes its links behind the others.
+/// Numbers the nodes of a channel, and appends its links.
 fn add_channel(
     alloc: Global,
     nodes: &mut Nodes,
@@ -78,7 +77,7 @@ fn add_channel(
     Ok(())
 }
 
-/// The number of a channel's end, which it gets unless it has one. Where a hint tells it, the point isn't hashed.
+/// The number of a node of a channel, which is numbered if it isn't yet. If a hint is right, the point isn't hashed.
 fn number_end(
     alloc: Global,
     nodes: &mut Nodes,
@@ -103,7 +102,7 @@ fn number_end(
     Ok(number)
 }
 
-/// The number of a point, which it gets unless it has one.
+/// The number of a point, which is numbered if it isn't yet.
 fn number(
     alloc: Global,
     nodes: &mut Nodes,
@@ -129,7 +128,7 @@ fn number(
     Ok(number)
 }
 
-/// Writes the link of a channel's direction, if there is one, behind the others.
+/// Appends the link of a direction of a channel, if there is one.
 fn add_direction(
     links: &mut Vec<Link>,
     held: &Held,

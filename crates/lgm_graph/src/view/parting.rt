@@ -1,4 +1,4 @@
-//! Where channels go at a ban.
+//! The nodes that lose channels by a ban.
 
 ghost use Rattle.std.specs.Prelude.{◌≡◌, true, OnOk, IfOk};
 ghost use Rattle.std.specs.List.{AllByRecursion};
@@ -13,7 +13,7 @@ use lgm_gossip::Point;
 use lgm_store::{Map, Seed};
 use std::alloc::{AllocError, Global};
 
-/// Puts the ends of the channels that end at a node among some points. The only error is want of memory.
+/// Adds the nodes of the channels of a node to some points. The only error is out of memory.
 fn add_ends(
     alloc: Global,
     map: &Map,
@@ -34,7 +34,7 @@ fn add_ends(
     Ok(())
 }
 
-/// The nodes at which channels go by a ban: the ends of those that end at one of its points.
+/// The nodes that lose channels by a ban: the nodes of the channels of its points.
 pub(super) fn parted(
     alloc: Global,
     map: &Map,
