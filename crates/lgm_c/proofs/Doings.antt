@@ -1,5 +1,5 @@
 -- What comes of what is offered.
-use Rattle.std.proofs.Common.{◌≡◌, ◌⊎◌, ℕ, List, Bool, true, false, Option, Some, None, Result, Ok, Err, refl, inl, inr, sym, ap, subst, ◌∙◌}
+use Rattle.std.proofs.Common.{◌≡◌, ℕ, List, Bool, true, false, Option, Result, Ok, Err, refl, inl, inr, sym, ap, subst}
 use Rattle.std.specs.Prelude.{is_some, IfSome}
 use Rattle.lgm_wire.specs.Reading.{◌>>=◌, Gives}
 use Rattle.lgm_wire.proofs.ReadingLaws.{bind_ok}
@@ -12,7 +12,6 @@ use Rattle.lgm_check.specs.declared.row.Checked.{Checked}
 use Rattle.lgm_store.specs.declared.op.Op.{Op}
 use Rattle.lgm_store.specs.declared.op.Op.TheVariants as ops
 use Rattle.lgm_store.specs.Rows.{Rows, channel_of}
-use Rattle.lgm_store.specs.History.{absorbed}
 use Rattle.lgm_store.specs.Admission.{Offers, admitted, admitted_close}
 use Rattle.lgm_query.specs.KeyNews.{TellKeys}
 use Rattle.lgm_query.specs.Touched.{TellsKey}
