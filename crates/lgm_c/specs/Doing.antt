@@ -23,7 +23,8 @@ outcome_number (Err refusal) = number_of (refused refusal)
 -- a call answers by an outcome, or memory was refused and nothing was done
 abbrev pub Does : Result Op Refusal → Held → ℕ → Option Held → Type 0
 Does outcome old status new =
-    ((status ≡ outcome_number outcome) × (new ≡ Some (held_behind old outcome))) ⊎ ((status ≡ no_memory) × (new ≡ Some old))
+    ((status ≡ outcome_number outcome) × (new ≡ Some (held_behind old outcome)))
+    ⊎ ((status ≡ no_memory) × (new ≡ Some old))
 
 -- ---- by a handle
 
@@ -40,12 +41,13 @@ Closes id status (Some old) new = Does (admitted_close old.rows id) old status n
 
 -- ---- on the way
 
--- the rows after an outcome, of which the operation's message is about its keys; or nothing was done
+-- the rows after an accepted operation
 pub record Advances (outcome : Result Op Refusal) (old new : Charted) : Type 0 where
   pub op : Op
   pub accepts : outcome ≡ Ok op
   pub rows : new ≡ record old { rows = absorbed old.rows op }
 
+-- a call did an accepted operation, or gave the refusal and did nothing; or memory was refused
 abbrev pub Follows : {T : Type 0} → Result Op Refusal → Result T Refusal → Charted → Charted → Type 0
 Follows outcome (Ok t) old new = Advances outcome old new
 Follows outcome (Err refusal) old new = ((refusal ≡ refusals.NoMemory) ⊎ (outcome ≡ Err refusal)) × (new ≡ old)

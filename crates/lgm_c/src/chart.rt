@@ -115,7 +115,8 @@ impl Chart {
 
     /// Closes a channel, and gives the operation. A refusal or want of memory leaves the map as it was.
     pub(crate) fn close(&mut self, scid: Scid) -> Result<Op, Refusal>
-        ensures outcome { Gives Refusal.NoMemory (λ op. op) result (admitted_close self.old.rows scid) }
+        ensures outcome { Gives Refusal.NoMemory (λ op. op) result
+            (admitted_close self.old.rows scid) }
         ensures accepted { IfOk result (λ op.
             self.new ≡ record self.old { rows = absorbed self.old.rows op }) }
         ensures refused { OnErr result (self.new ≡ self.old) }
