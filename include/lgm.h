@@ -81,7 +81,7 @@ enum {
     LGM_ARGUMENT = 103,
     /* A buffer is too short. The lengths that are needed were told. */
     LGM_ROOM = 104,
-    /* The map has given the numbers of points, 4,294,967,291 of them: no operation is done any more. */
+    /* The map has more than 2,000,000,000 channels: no route is searched for. */
     LGM_FULL = 105
 };
 
@@ -141,7 +141,7 @@ enum {
  * Offers a gossip message, two bytes of type first, with the verdicts on it (BOLT 7). `signer` is looked at only with
  * LGM_SIG_BY, `sat` only with LGM_FUNDING_UNSPENT.
  *
- * LGM_CLOSED; LGM_ARGUMENT; 1 to 16; LGM_NO_MEMORY; LGM_FULL.
+ * LGM_CLOSED; LGM_ARGUMENT; 1 to 16; LGM_NO_MEMORY.
  */
 uint32_t lgm_offer(lgm_map *map, const uint8_t *message, size_t message_len, uint32_t sig,
                    const uint8_t signer[33], uint32_t funding, uint64_t sat);
@@ -150,7 +150,7 @@ uint32_t lgm_offer(lgm_map *map, const uint8_t *message, size_t message_len, uin
  * Closes a channel, since its funding output is spent: it goes with its updates, and then each node at which no channel
  * ends any more.
  *
- * LGM_CLOSED; LGM_UNKNOWN_CHANNEL; LGM_NO_MEMORY; LGM_FULL.
+ * LGM_CLOSED; LGM_UNKNOWN_CHANNEL; LGM_NO_MEMORY.
  */
 uint32_t lgm_close_channel(lgm_map *map, uint64_t scid);
 
@@ -189,9 +189,10 @@ typedef struct {
 /*
  * The route by which the payer sends the least, of all over 1 to 20 channels of the map as it is (BOLT 7, "HTLC Fees";
  * docs/protocol.md). `hops` gets its hops, from the payer on; `payloads` the payload for the node at the end of each,
- * one behind the other, each with its length in front (BOLT 4, "Payload Format"); `lengths` how many of both.
+ * one behind the other, each with its length in front (BOLT 4, "Payload Format"); `lengths` how many of both. The first
+ * call makes the view of the map that routes are searched in, which is kept from then on.
  *
- * LGM_CLOSED; 21 to 25; LGM_ROOM; LGM_NO_MEMORY.
+ * LGM_CLOSED; LGM_FULL; 21 to 25; LGM_ROOM; LGM_NO_MEMORY.
  */
 uint32_t lgm_route(lgm_map *map, const lgm_payment *payment, lgm_hop *hops, size_t hops_len,
                    uint8_t *payloads, size_t payloads_len, lgm_lengths *lengths);

@@ -1,13 +1,13 @@
 -- What an open handle holds.
-use Rattle.std.specs.Prelude.{◌≡◌, ℕ, List, length, Option, Some, None, IfSome}
+use Rattle.std.specs.Prelude.{◌≡◌, ℕ, List, Option, Some, None, IfSome}
 use Rattle.std.specs.List.{AllByRecursion}
 use Rattle.lgm_wire.specs.declared.chain_hash.ChainHash.{ChainHash}
 use Rattle.lgm_store.specs.declared.op.Op.{Op}
 use Rattle.lgm_store.specs.Rows.{Rows, empty}
 use Rattle.lgm_store.specs.History.{fold_from}
-use Rattle.lgm_graph.specs.Network.{Charted}
 use Rattle.lgm_query.specs.KeyNews.{TellKeys}
 use Rattle.lgm_query.specs.Touched.{TellsKey}
+use Rattle.lgm_c.specs.Charted.{Charted}
 
 pub record Held : Type 0 where
   pub chain : ChainHash
@@ -16,8 +16,6 @@ pub record Held : Type 0 where
   pub rows : Rows
   -- the rows at the mark: none before the first
   pub marked : Rows
-  -- how many points have a number
-  pub points : ℕ
 
 -- a map with no rows
 abbrev pub opened : List ℕ → Option (List ℕ) → Held
@@ -26,7 +24,6 @@ opened chain known = record {
   known = known;
   rows = empty;
   marked = empty;
-  points = 0;
 }
 
 -- ---- how it is kept
@@ -51,15 +48,9 @@ rows_at None = empty
 rows_at (Some mark) = mark.marked
 
 abbrev pub held_in : ChainHash → Charted → Option Marked → Held
-held_in chain network mark = record {
-  chain = chain;
-  known = network.graph.known;
-  rows = network.rows;
-  marked = rows_at mark;
-  points = length network.graph.points;
-}
+held_in chain chart mark = record { chain = chain; known = chart.known; rows = chart.rows; marked = rows_at mark }
 
 -- the messages of the rows tell the keys of their rows, and a mark follows the rows
-pub record IsFollowed (network : Charted) (mark : Option Marked) : Type 0 where
-  pub tells : TellKeys network.rows
-  pub follows : IfSome mark (λ m. m.rows ≡ network.rows)
+pub record IsFollowed (chart : Charted) (mark : Option Marked) : Type 0 where
+  pub tells : TellKeys chart.rows
+  pub follows : IfSome mark (λ m. m.rows ≡ chart.rows)

@@ -1,4 +1,5 @@
 pub mod Handle
+pub mod Charted
 pub mod Held
 pub mod Status
 pub mod Telling

@@ -1,5 +1,5 @@
 -- What C is told of a payment.
-use Rattle.std.specs.Prelude.{◌≡◌, ◌⊎◌, ℕ, ◌<◌, List, map, length, Result, Ok, Err}
+use Rattle.std.specs.Prelude.{◌≡◌, ◌⊎◌, ℕ, ◌<◌, nat_lt, List, map, length, Result, Ok, Err, if◌then◌else◌}
 use Rattle.std.specs.List.{flat_map, zip}
 use Rattle.lgm_graph.specs.Edges.{edges_of}
 use Rattle.lgm_route.specs.Choice.{answer_of}
@@ -28,9 +28,14 @@ abbrev pub found_or_unrouted : Result (List Hop) RouteFault → Result (List Hop
 found_or_unrouted (Ok hops) = Ok hops
 found_or_unrouted (Err reason) = Err (unrouted reason)
 
--- the hops of the least walk over the edges of the rows, or why there is none
+-- the hops of the least walk over the edges of the rows, or why there is none; among too many channels none is searched
+abbrev pub route_for : Request → Held → Result (List Hop) Fault
+route_for request held =
+    if nat_lt 2000000000 (length held.rows.channels) then Err faults.Full
+    else found_or_unrouted (answer_of (edges_of held.known held.rows) request)
+
 abbrev pub route_asked : LgmPayment → Held → Result (List Hop) Fault
-route_asked payment held = found_or_unrouted (answer_of (edges_of held.known held.rows) (request_of payment))
+route_asked payment held = route_for (request_of payment) held
 
 -- a hop, with the payload for the node at its end
 abbrev pub told_hop : Hop → List ℕ → LgmHop

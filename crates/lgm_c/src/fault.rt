@@ -31,7 +31,7 @@ pub(crate) enum Fault {
     Argument,
     /// 104: the answer is longer than the room for it.
     Room,
-    /// 105: the map has given all its numbers to points.
+    /// 105: the map has more channels than a route is searched over.
     Full,
 }
 

@@ -1,37 +1,37 @@
 //! What stands behind a handle.
 
-ghost use Rattle.std.specs.Prelude.{◌≡◌, ◌⊎◌, Some, Err, IfOk, IfErr, OnOk, OnErr};
+ghost use Rattle.std.specs.Prelude.{◌≡◌, Some, IfOk, OnOk, OnErr};
 ghost use Rattle.lgm_wire.specs.Reading.{Gives};
-ghost use Rattle.lgm_query.specs.Touched.{TellsKey};
-ghost use Rattle.lgm_query.specs.Backlog.{backlog, news};
-ghost use Rattle.lgm_graph.specs.Edges.{edges_of};
-ghost use Rattle.lgm_route.specs.Choice.{answer_of};
-ghost use Rattle.lgm_route.specs.declared.fault.RouteFault.TheVariants as unrouted;
-ghost use Rattle.lgm_c.specs.Doing.{outcome_of_message, judged, HasDone, IsHindered, Offers, Closes};
+ghost use Rattle.lgm_store.specs.Admission.{admitted_close};
+ghost use Rattle.lgm_query.specs.Backlog.{news};
+ghost use Rattle.lgm_c.specs.Charted.{offered_to};
+ghost use Rattle.lgm_c.specs.Doing.{Follows, Leads, Offers, Closes};
 ghost use Rattle.lgm_c.specs.Held.{opened};
+ghost use Rattle.lgm_c.specs.Routing.{route_for};
 ghost use Rattle.lgm_c.specs.Status.{status_of};
 ghost use Rattle.lgm_c.specs.Telling.{all_framed};
 
+use crate::chart::Chart;
 use crate::fault::Fault;
 use crate::framing::frame_backlog;
 use crate::mark::Mark;
-use lgm_check::{Evidence, precheck};
+use lgm_check::{Evidence, Refusal};
 use lgm_gossip::{ChainHash, Scid};
-use lgm_graph::{Known, Network};
+use lgm_graph::Known;
 use lgm_query::{Backlog, Filter};
-use lgm_route::{Request, Route, RouteFault, answer};
-use lgm_store::{Map, Op, Seed};
+use lgm_route::{Request, Route};
+use lgm_store::{Map, Seed};
 use std::alloc::{AllocError, Global};
 use std::marker::Model;
 
-/// The most points that may have numbers before an operation: one gives two more at most, and they have 32 bits.
-const MOST_POINTS: usize = 4_294_967_290;
+/// With more channels than these no route is searched for: the points of a view have numbers of 32 bits.
+const MOST_CHANNELS: usize = 2_000_000_000;
 
 /// A map of a chain with its view, and a mark where there is one.
 #[derive(Drop)]
 pub struct Inner {
     chain: ChainHash,
-    network: Network,
+    chart: Chart,
     mark: Option<Mark>,
 }
 
@@ -40,9 +40,32 @@ impl Model for Inner {
 
     ghost Value = { Held };
 
-    ghost view = { λ i. held_in i.chain i.network i.mark };
+    ghost view = { λ i. held_in i.chain i.chart i.mark };
 
-    ghost invariant = { λ i. IsFollowed i.network i.mark };
+    ghost invariant = { λ i. IsFollowed i.chart i.mark };
+}
+
+/// Offers a message, and drops its operation.
+fn offer_unmarked(
+    alloc: Global,
+    chart: &mut Chart,
+    chain: &ChainHash,
+    bytes: &[u8],
+    evidence: &Evidence,
+) -> Result<(), Refusal>
+    ensures { Follows (offered_to chain.now chart.old.rows bytes.now evidence.now) result
+        chart.old chart.new }
+{
+    chart.offer(alloc, chain, bytes, evidence)?;
+    Ok(())
+}
+
+/// Closes a channel, and drops the operation.
+fn close_unmarked(chart: &mut Chart, scid: Scid) -> Result<(), Refusal>
+    ensures { Follows (admitted_close chart.old.rows scid) result chart.old chart.new }
+{
+    chart.close(scid)?;
+    Ok(())
 }
 
 impl Inner {
@@ -50,43 +73,42 @@ impl Inner {
     pub(crate) fn new(
         alloc: Global,
         chain: ChainHash,
-        known: &Known,
+        known: Known,
         seed: Seed,
     ) -> Result<Inner, AllocError>
-        ensures { IfOk result (λ inner. inner ≡ opened chain.0 known.now) }
+        ensures { IfOk result (λ inner. inner ≡ opened chain.0 known) }
     {
-        let map = Map::with_seed(alloc, seed)?;
         Ok(Inner {
             chain,
-            network: Network::of(alloc, map, known)?,
+            chart: Chart::new(alloc, known, seed)?,
             mark: None,
         })
     }
 
-    /// Does an operation. A fault leaves all as it was.
-    fn absorb(&mut self, alloc: Global, op: &Op) -> Result<(), Fault>
-        requires { TellsKey op.now }
-        ensures done { OnOk result (HasDone op.now self.old self.new) }
-        ensures hindered { IfErr result (IsHindered self.old) }
-        ensures stays { OnErr result (self.new ≡ self.old) }
+    /// Offers a message, with the verdicts on it. A refusal or want of memory leaves all as it was.
+    fn offer_judged(
+        &mut self,
+        alloc: Global,
+        bytes: &[u8],
+        evidence: &Evidence,
+    ) -> Result<(), Refusal>
+        ensures { Leads (offered_to self.old.chain self.old.rows bytes.now evidence.now) result
+            self.old self.new }
     {
-        if MOST_POINTS < self.network.view().nodes() {
-            return Err(Fault::Full);
-        }
         match &mut self.mark {
-            Some(mark) => Ok(mark.absorb(alloc, &mut self.network, op)?),
-            None => Ok(self.network.absorb(op)?),
+            Some(mark) => mark.offer(alloc, &mut self.chart, &self.chain, bytes, evidence),
+            None => offer_unmarked(alloc, &mut self.chart, &self.chain, bytes, evidence),
         }
     }
 
-    /// The operation that a message gives, with the verdicts on it.
-    fn judge(&self, alloc: Global, bytes: &[u8], evidence: &Evidence) -> Result<Op, Fault>
-        ensures outcome { Gives Fault.NoMemory (λ op. op) result
-            (judged (outcome_of_message self.now bytes.now evidence.now)) }
-        ensures tells { IfOk result TellsKey }
+    /// Closes a channel. A refusal or want of memory leaves all as it was.
+    fn close_held(&mut self, scid: Scid) -> Result<(), Refusal>
+        ensures { Leads (admitted_close self.old.rows scid) result self.old self.new }
     {
-        let checked = precheck(alloc, &self.chain, bytes, evidence)?;
-        Ok(self.network.map().admit(alloc, &checked)?)
+        match &mut self.mark {
+            Some(mark) => mark.close(&mut self.chart, scid),
+            None => close_unmarked(&mut self.chart, scid),
+        }
     }
 
     /// Offers a message, with the verdicts on it, if there are some.
@@ -101,16 +123,14 @@ impl Inner {
         let Some(evidence) = evidence else {
             return Err(Fault::Argument);
         };
-        let op = self.judge(alloc, bytes, &evidence)?;
-        self.absorb(alloc, &op)
+        Ok(self.offer_judged(alloc, bytes, &evidence)?)
     }
 
     /// Closes a channel.
-    pub(crate) fn close(&mut self, alloc: Global, scid: Scid) -> Result<(), Fault>
+    pub(crate) fn close(&mut self, scid: Scid) -> Result<(), Fault>
         ensures { Closes scid (status_of result) (Some self.old) (Some self.new) }
     {
-        let op = self.network.map().admit_close(scid)?;
-        self.absorb(alloc, &op)
+        Ok(self.close_held(scid)?)
     }
 
     /// Moves the mark to the map as it is, or sets the first. The only error is want of memory, which leaves it.
@@ -121,7 +141,7 @@ impl Inner {
         match &mut self.mark {
             Some(mark) => mark.renew(),
             None => {
-                let map = self.network.map().copy(alloc)?;
+                let map = self.chart.map().copy(alloc)?;
                 self.mark = Some(Mark::of(alloc, map));
                 Ok(())
             }
@@ -135,17 +155,20 @@ impl Inner {
             told.items ≡ all_framed (news self.old.marked self.old.rows filter.now)) }
     {
         let Some(mark) = &mut self.mark else {
-            return frame_backlog(alloc, Backlog::of(self.network.map(), filter));
+            return frame_backlog(alloc, Backlog::of(self.chart.map(), filter));
         };
-        mark.news(alloc, self.network.map(), filter)
+        mark.news(alloc, self.chart.map(), filter)
     }
 
-    /// The least route of a payment.
-    pub(crate) fn route(&self, alloc: Global, request: &Request) -> Result<Route, RouteFault>
-        ensures { (result ≡ Err unrouted.NoMemory)
-            ⊎ (result ≡ answer_of (edges_of self.now.known self.now.rows) request.now) }
+    /// The least route of a payment. The first call makes the view.
+    pub(crate) fn route(&mut self, alloc: Global, request: &Request) -> Result<Route, Fault>
+        ensures same { self.new ≡ self.old }
+        ensures route { Gives Fault.NoMemory (λ route. route) result (route_for request.now self.old) }
     {
-        answer(alloc, self.network.map(), self.network.view(), request)
+        if MOST_CHANNELS < self.chart.map().count() {
+            return Err(Fault::Full);
+        }
+        Ok(self.chart.route(alloc, request)?)
     }
 
     /// The chain.
@@ -159,6 +182,6 @@ impl Inner {
     pub(crate) fn map(&self) -> &Map
         ensures { result.now ≡ self.now.rows }
     {
-        self.network.map()
+        self.chart.map()
     }
 }

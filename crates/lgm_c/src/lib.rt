@@ -7,6 +7,7 @@
 #![tactic(auto)]
 
 mod asking;
+mod chart;
 mod evidence;
 mod fault;
 mod framing;

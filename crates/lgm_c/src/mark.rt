@@ -1,15 +1,20 @@
 //! Marks: what is new is what came since.
 
-ghost use Rattle.std.specs.Prelude.{◌≡◌, ◌+◌, ◌≤◌, [], length, drop, IfOk, OnOk, OnErr};
+ghost use Rattle.std.specs.Prelude.{◌≡◌, [], drop, IfOk, OnOk, OnErr};
 ghost use Rattle.std.specs.List.{AllByRecursion};
-ghost use Rattle.lgm_store.specs.History.{absorbed, fold_from};
+ghost use Rattle.lgm_store.specs.Admission.{admitted_close};
+ghost use Rattle.lgm_store.specs.History.{fold_from};
 ghost use Rattle.lgm_query.specs.KeyNews.{TellKeys};
 ghost use Rattle.lgm_query.specs.Touched.{HasTouched, TellsKey};
 ghost use Rattle.lgm_query.specs.Backlog.{news};
+ghost use Rattle.lgm_c.specs.Charted.{offered_to};
+ghost use Rattle.lgm_c.specs.Doing.{Follows};
 ghost use Rattle.lgm_c.specs.Telling.{all_framed};
 
+use crate::chart::Chart;
 use crate::framing::frame;
-use lgm_graph::Network;
+use lgm_check::{Evidence, Refusal};
+use lgm_gossip::{ChainHash, Scid};
 use lgm_query::{Changes, Differences, Filter};
 use lgm_store::{Map, Op};
 use std::alloc::{AllocError, Global};
@@ -85,27 +90,40 @@ impl Mark {
         }
     }
 
-    /// Does an operation to the map beside it, and keeps it. Want of memory leaves both as they were.
-    pub(crate) fn absorb(
+    /// Offers a message to the map beside it, and keeps its operation. A refusal or want of memory leaves both as they
+    /// were.
+    pub(crate) fn offer(
         &mut self,
         alloc: Global,
-        network: &mut Network,
-        op: &Op,
-    ) -> Result<(), AllocError>
-        requires few { length network.old.graph.points ≤ 4294967290 }
-        requires beside { self.old.rows ≡ network.old.rows }
-        requires tells { TellsKey op.now }
+        chart: &mut Chart,
+        chain: &ChainHash,
+        bytes: &[u8],
+        evidence: &Evidence,
+    ) -> Result<(), Refusal>
+        requires { self.old.rows ≡ chart.old.rows }
         ensures marked { self.new.marked ≡ self.old.marked }
-        ensures beside { self.new.rows ≡ network.new.rows }
-        ensures rows { OnOk result (network.new.rows ≡ absorbed network.old.rows op.now) }
-        ensures known { network.new.graph.known ≡ network.old.graph.known }
-        ensures few { length network.new.graph.points ≤ length network.old.graph.points + 2 }
-        ensures stays { OnErr result (network.new ≡ network.old) }
+        ensures beside { self.new.rows ≡ chart.new.rows }
+        ensures follows { Follows (offered_to chain.now chart.old.rows bytes.now evidence.now) result
+            chart.old chart.new }
     {
-        let kept = op.copy(alloc)?;
         self.since.reserve(1)?;
-        network.absorb(op)?;
-        match self.since.push_back(kept) {
+        let op = chart.offer(alloc, chain, bytes, evidence)?;
+        match self.since.push_back(op) {
+            Ok(()) => Ok(()),
+            Err(_) => unreachable!(),
+        }
+    }
+
+    /// Closes a channel of the map beside it, and keeps the operation.
+    pub(crate) fn close(&mut self, chart: &mut Chart, scid: Scid) -> Result<(), Refusal>
+        requires { self.old.rows ≡ chart.old.rows }
+        ensures marked { self.new.marked ≡ self.old.marked }
+        ensures beside { self.new.rows ≡ chart.new.rows }
+        ensures follows { Follows (admitted_close chart.old.rows scid) result chart.old chart.new }
+    {
+        self.since.reserve(1)?;
+        let op = chart.close(scid)?;
+        match self.since.push_back(op) {
             Ok(()) => Ok(()),
             Err(_) => unreachable!(),
         }

@@ -37,7 +37,7 @@ fn new_map(
         inner.value ≡ opened chain.now (known_of all_known known.now)) }
 {
     let known = known_bits(alloc, all_known, known)?;
-    let inner = Inner::new(alloc, ChainHash(*chain), &known, Seed::new(*seed))?;
+    let inner = Inner::new(alloc, ChainHash(*chain), known, Seed::new(*seed))?;
     Ok(Box::new(alloc, inner)?)
 }
 
@@ -97,7 +97,7 @@ pub extern "C" fn lgm_close_channel(alloc: Global, map: &mut LgmMap, scid: u64) 
     let Some(mut inner) = map.take(alloc) else {
         return Fault::Closed.number();
     };
-    let outcome = inner.close(alloc, Scid::from_u64(scid));
+    let outcome = inner.close(Scid::from_u64(scid));
     *map = LgmMap::open(inner);
     status(&outcome)
 }

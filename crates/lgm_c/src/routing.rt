@@ -150,13 +150,14 @@ fn tell_route(
 /// Finds and tells the route of a payment.
 fn find(
     alloc: Global,
-    inner: &Inner,
+    inner: &mut Inner,
     payment: &LgmPayment,
     hops: &mut [LgmHop],
     payloads: &mut [u8],
     lengths: &mut LgmLengths,
 ) -> Result<(), Fault>
-    ensures { TellsRoute (route_asked payment.now inner.now) payment.now.secret (status_of result)
+    ensures same { inner.new ≡ inner.old }
+    ensures route { TellsRoute (route_asked payment.now inner.old) payment.now.secret (status_of result)
         (buffers hops.old payloads.old lengths.old)
         (buffers hops.new payloads.new lengths.new) }
 {
@@ -181,10 +182,10 @@ pub extern "C" fn lgm_route(
         (buffers hops.old payloads.old lengths.old)
         (buffers hops.new payloads.new lengths.new) }
 {
-    let Some(inner) = map.take(alloc) else {
+    let Some(mut inner) = map.take(alloc) else {
         return Fault::Closed.number();
     };
-    let outcome = find(alloc, &inner, payment, hops, payloads, lengths);
+    let outcome = find(alloc, &mut inner, payment, hops, payloads, lengths);
     *map = LgmMap::open(inner);
     status(&outcome)
 }
