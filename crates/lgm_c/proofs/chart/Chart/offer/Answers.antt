@@ -1,4 +1,7 @@
-use Rattle.std.proofs.Common.{◌≡◌, List, ℕ, Ok, ap, subst}
+use Rattle.std.proofs.Common.{◌≡◌, List, ℕ, Ok, ap, subst, ◌∙◌, Bool, true, not, true≢false}
+use Rattle.std.specs.Prelude.{Option, Some, None, is_some}
+use Rattle.lgm_graph.specs.Graph.{Graph}
+use Rattle.lgm_c.specs.Charted.{IsViewed}
 use Rattle.lgm_check.specs.Precheck.{checked_of}
 use Rattle.lgm_store.specs.Rows.{Rows}
 use Rattle.lgm_store.specs.Admission.{Offers, admitted}
@@ -20,3 +23,11 @@ returns-clause-outcome c =
     let checked = c.in_ok-checked.checked in
     checked_given c.args.chain.now c.args.self.now.rows c.args.bytes.now c.args.evidence.now checked op c.in_ok-checked.ensures.exact
     (subst (λ (rows : Rows). Offers (Ok op) (admitted rows checked)) (ap (λ chart. chart.rows) c.self.view_is) c.in_ok-op.ensures)
+
+-- where there is no view there is nothing to be viewed
+viewless : (known : Option (List ℕ)) (rows : Rows) (view : Option Graph) (is_none : Bool) → is_some view ≡ not is_none → is_none ≡ true → IsViewed known rows view
+viewless known rows None is_none is so = tt
+viewless known rows (Some view) is_none is so = absurd (true≢false (is ∙ ap not so))
+
+pub invariant_of-self : goal.invariant_of-self
+invariant_of-self c = viewless c.self.inside.known c.offer_candidate.new.self c.self.inside.view c.is_none.result c.is_none.ensures c.if-is_none.true
