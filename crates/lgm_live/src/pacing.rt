@@ -1,7 +1,7 @@
 //! Payments that wait for the items above them.
 
-use lgm_par::{Gate, Pool};
-use std::alloc::AllocError;
+use lgm_par::Gate;
+use std::alloc::{AllocError, Global};
 use std::marker::Sync;
 use std::sync::atomic::{AtomicU64, Ordering};
 use std::sync::{Condvar, Mutex, Wait};
@@ -23,18 +23,21 @@ pub(crate) struct Paced<'a, R: Wait, G: Gate> {
 }
 
 impl<'a, R: Wait, G: Gate> Paced<'a, R, G> {
-    /// A gate for the workers of a pool, none of which has come to a payment yet.
+    /// A gate for so many workers, none of which has come to a payment yet.
     pub(crate) fn new(
-        pool: &Pool<'a, R, G>,
+        rt: &'a R,
+        alloc: Global,
+        gate: &'a G,
+        workers: usize,
         above: &'a [usize],
     ) -> Result<Paced<'a, R, G>, AllocError> {
-        let mut begun = Vec::new(pool.alloc);
-        for _worker in 0..pool.workers {
+        let mut begun = Vec::new(alloc);
+        for _worker in 0..workers {
             begun.push(AtomicU64::new(0))?;
         }
         Ok(Paced {
-            rt: pool.rt,
-            gate: pool.gate,
+            rt,
+            gate,
             above,
             begun,
             published: Mutex::new(0),

@@ -47,7 +47,7 @@ fn run_all<Rt: Threads + Wait + Sync + RandomSource, G: Gate, R: Source, W: Sink
     ensures write { result ≡ Err RunLiveFault.Write → W.failures output.old.writer.now < W.failures output.new.writer.now }
 {
     let agenda = read_script(pool.alloc, pool.workers, source, output)?;
-    let paced = Paced::new(pool, agenda.above())?;
+    let paced = Paced::new(pool.rt, pool.alloc, pool.gate, pool.workers, agenda.above())?;
     let report = live(
         pool.rt,
         pool.alloc,
