@@ -1,7 +1,7 @@
 -- What comes of what is offered.
 use Rattle.std.proofs.Common.{◌≡◌, ℕ, List, Bool, true, false, Option, Result, Ok, Err, refl, inl, inr, sym, ap, subst}
 use Rattle.std.specs.Prelude.{is_some, IfSome}
-use Rattle.lgm_wire.specs.Reading.{◌>>=◌, Gives}
+use Rattle.lgm_wire.specs.reading.Reading.{◌>>=◌, Gives}
 use Rattle.lgm_wire.proofs.ReadingLaws.{bind_ok}
 use Rattle.lgm_wire.specs.declared.chain_hash.ChainHash.{ChainHash}
 use Rattle.lgm_check.specs.Precheck.{require, checked_of}
@@ -17,7 +17,7 @@ use Rattle.lgm_query.specs.KeyNews.{TellKeys}
 use Rattle.lgm_query.specs.Touched.{TellsKey}
 use Rattle.lgm_query.proofs.Telling.{operation_tells}
 use Rattle.lgm_query.proofs.Untouched.{TellKeys-step}
-use Rattle.lgm_c.specs.Charted.{Charted, offered_to}
+use Rattle.lgm_c.specs.inner.Charted.{Charted, offered_to}
 use Rattle.lgm_c.specs.Held.{Marked, IsFollowed}
 use Rattle.lgm_c.specs.Doing.{Follows}
 

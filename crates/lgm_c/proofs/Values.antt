@@ -30,7 +30,7 @@ use Rattle.std.proofs.ResultValues.{and_tt}
 use Rattle.lgm_c.specs.contracts.loose.Loose as loose
 use Rattle.lgm_c.specs.contracts.handle.Handle as handle
 use Rattle.lgm_c.specs.contracts.inner.Inner as inner
-use Rattle.lgm_c.specs.Handle.{owns_box}
+use Rattle.lgm_c.specs.inner.Handle.{owns_box}
 use Rattle.std.specs.contracts.alloc.Global as heap
 use Rattle.std.proofs.alloc.Global.TheLaws as heap_laws
 use Rattle.std.specs.contracts.impls.GlobalAllocator.TheImpl.{ghosts}

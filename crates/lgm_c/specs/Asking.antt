@@ -1,12 +1,12 @@
 -- What a peer's messages are answered with.
 use Rattle.std.specs.Prelude.{ℕ, nat_eq, List, Result, Ok, Err, if◌then◌else◌}
 use Rattle.std.specs.Cmp.Lexicographic.{pointwise}
-use Rattle.lgm_wire.specs.Reading.{◌>>=◌}
+use Rattle.lgm_wire.specs.reading.Reading.{◌>>=◌}
 use Rattle.lgm_wire.specs.declared.chain_hash.ChainHash.{ChainHash}
 use Rattle.lgm_gossip.specs.declared.message.Message.{Message}
 use Rattle.lgm_gossip.specs.declared.message.Message.TheVariants as messages
 use Rattle.lgm_gossip.specs.declared.fault.DecodeFault.{DecodeFault}
-use Rattle.lgm_gossip.specs.MessageReading.{message_at}
+use Rattle.lgm_gossip.specs.reading.MessageReading.{message_at}
 use Rattle.lgm_check.specs.Refusal.{refusal_of}
 use Rattle.lgm_check.specs.declared.refusal.Refusal.TheVariants as refusals
 use Rattle.lgm_query.specs.declared.filter.Filter.{Filter}

@@ -7,7 +7,7 @@ use Rattle.lgm_store.specs.declared.op.Op.{Op}
 use Rattle.lgm_store.specs.Admission.{admitted_close}
 use Rattle.lgm_store.specs.History.{absorbed}
 use Rattle.lgm_c.specs.declared.fault.Fault.TheVariants as faults
-use Rattle.lgm_c.specs.Charted.{Charted, offered_to}
+use Rattle.lgm_c.specs.inner.Charted.{Charted, offered_to}
 use Rattle.lgm_c.specs.Held.{Held}
 use Rattle.lgm_c.specs.Status.{number_of, no_memory, refused}
 

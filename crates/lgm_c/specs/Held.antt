@@ -7,7 +7,7 @@ use Rattle.lgm_store.specs.Rows.{Rows, empty}
 use Rattle.lgm_store.specs.History.{fold_from}
 use Rattle.lgm_query.specs.KeyNews.{TellKeys}
 use Rattle.lgm_query.specs.Touched.{TellsKey}
-use Rattle.lgm_c.specs.Charted.{Charted}
+use Rattle.lgm_c.specs.inner.Charted.{Charted}
 
 pub record Held : Type 0 where
   pub chain : ChainHash

@@ -1,5 +1,3 @@
-pub mod Handle
-pub mod Charted
 pub mod Held
 pub mod Status
 pub mod Telling
@@ -10,3 +8,4 @@ pub mod Asking
 pub mod Routing
 pub mod Looking
 pub mod Words
+pub mod inner

@@ -1,7 +1,7 @@
 //! A map with the view that routes are searched in.
 
 ghost use Rattle.std.specs.Prelude.{◌≡◌, ◌⊎◌, ◌≤◌, Err, length, IfOk, OnOk, OnErr};
-ghost use Rattle.lgm_wire.specs.Reading.{Gives};
+ghost use Rattle.lgm_wire.specs.reading.Reading.{Gives};
 ghost use Rattle.lgm_store.specs.Rows.{empty};
 ghost use Rattle.lgm_store.specs.Admission.{admitted_close};
 ghost use Rattle.lgm_store.specs.History.{absorbed};
@@ -9,7 +9,7 @@ ghost use Rattle.lgm_query.specs.Touched.{TellsKey};
 ghost use Rattle.lgm_graph.specs.Edges.{edges_of};
 ghost use Rattle.lgm_graph.specs.Graph.{IsGraphOf};
 ghost use Rattle.lgm_route.specs.Choice.{answer_of};
-ghost use Rattle.lgm_c.specs.Charted.{IsViewed, offered_to};
+ghost use Rattle.lgm_c.specs.inner.Charted.{IsViewed, offered_to};
 
 use lgm_check::{Evidence, Refusal, precheck};
 use lgm_gossip::{Bytes, ChainHash, Scid};
@@ -31,7 +31,7 @@ pub struct Chart {
 }
 
 impl Model for Chart {
-    ghost use Rattle.lgm_c.specs.Charted.{Charted, IsViewed};
+    ghost use Rattle.lgm_c.specs.inner.Charted.{Charted, IsViewed};
 
     ghost Value = { Charted };
 

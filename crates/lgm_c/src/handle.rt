@@ -17,7 +17,7 @@ pub struct Handle {
 }
 
 impl Model for Handle {
-    ghost use Rattle.lgm_c.specs.Handle.{owns_box};
+    ghost use Rattle.lgm_c.specs.inner.Handle.{owns_box};
 
     ghost also_owns = { λ h. owns_box h.at h.value };
 }

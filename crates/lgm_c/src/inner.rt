@@ -1,10 +1,10 @@
 //! What stands behind a handle.
 
 ghost use Rattle.std.specs.Prelude.{◌≡◌, Some, IfOk, OnOk, OnErr};
-ghost use Rattle.lgm_wire.specs.Reading.{Gives};
+ghost use Rattle.lgm_wire.specs.reading.Reading.{Gives};
 ghost use Rattle.lgm_store.specs.Admission.{admitted_close};
 ghost use Rattle.lgm_query.specs.Backlog.{news};
-ghost use Rattle.lgm_c.specs.Charted.{offered_to};
+ghost use Rattle.lgm_c.specs.inner.Charted.{offered_to};
 ghost use Rattle.lgm_c.specs.Doing.{Follows, Leads, Offers, Closes};
 ghost use Rattle.lgm_c.specs.Held.{opened};
 ghost use Rattle.lgm_c.specs.Routing.{route_for};

@@ -7,7 +7,7 @@ ghost use Rattle.lgm_store.specs.History.{fold_from};
 ghost use Rattle.lgm_query.specs.KeyNews.{TellKeys};
 ghost use Rattle.lgm_query.specs.Touched.{HasTouched, TellsKey};
 ghost use Rattle.lgm_query.specs.Backlog.{news};
-ghost use Rattle.lgm_c.specs.Charted.{offered_to};
+ghost use Rattle.lgm_c.specs.inner.Charted.{offered_to};
 ghost use Rattle.lgm_c.specs.Doing.{Follows};
 ghost use Rattle.lgm_c.specs.Telling.{all_framed};
 

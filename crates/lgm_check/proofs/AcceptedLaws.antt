@@ -2,7 +2,7 @@
 use Rattle.std.proofs.Common.{◌≡◌, ℕ, ◌/◌, ◌%◌, ◌≤◌, Bool, true, false, List, Result, Ok, Err, not, refl, sym, ap, subst, ◌∙◌, arith, inl, inr}
 use Rattle.std.specs.Prelude.{nat_eq, nat_le, if◌then◌else◌, IfOk, MatchResult, IsTrue}
 use Rattle.std.specs.Cmp.Lexicographic.{pointwise, bytes_decides}
-use Rattle.lgm_wire.specs.Reading.{◌>>=◌, Sees}
+use Rattle.lgm_wire.specs.reading.Reading.{◌>>=◌, Sees}
 use Rattle.lgm_gossip.specs.Memory.{GivesIf}
 use Rattle.lgm_wire.proofs.ReadingLaws.{ok_is}
 use Rattle.lgm_wire.proofs.Bytes.{IsBytes}
@@ -16,7 +16,7 @@ use Rattle.lgm_wire.specs.declared.point.Point.{Point}
 use Rattle.lgm_wire.specs.declared.chain_hash.ChainHash.{ChainHash}
 use Rattle.lgm_wire.specs.Point.{is_lawful}
 use Rattle.lgm_gossip.specs.Message.{Wire}
-use Rattle.lgm_gossip.specs.MessageReading.{message_at}
+use Rattle.lgm_gossip.specs.reading.MessageReading.{message_at}
 use Rattle.lgm_gossip.proofs.MessageLaws.{message_takes, message_again}
 use Rattle.lgm_check.specs.declared.evidence.Evidence.{Evidence}
 use Rattle.lgm_check.specs.declared.evidence.Sig.{Sig}

@@ -1,7 +1,7 @@
 //! Validation of a message without a map.
 
 ghost use Rattle.std.specs.Prelude.{◌≡◌, ℕ, ◌<◌, ◌⊎◌, List, Ok, IfOk, MatchResult, slice_index};
-ghost use Rattle.lgm_wire.specs.Reading.{Sees, Gives};
+ghost use Rattle.lgm_wire.specs.reading.Reading.{Sees, Gives};
 ghost use Rattle.lgm_gossip.specs.Memory.{GivesIf, TakesMemory};
 ghost use Rattle.lgm_wire.specs.declared.chain_hash.ChainHash.{ChainHash};
 ghost use Rattle.lgm_check.specs.declared.evidence.Evidence.{Evidence};

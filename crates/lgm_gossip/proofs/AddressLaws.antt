@@ -5,14 +5,14 @@ use Rattle.std.specs.Int.{w8, w16, to_be_bytes}
 use Rattle.std.proofs.lemmas.Bool.{eqb-true}
 use Rattle.std.proofs.lemmas.List.{length-append, append-nil}
 use Rattle.std.proofs.lemmas.List.Concat.{flat_map-cons, flat_map-append}
-use Rattle.lgm_wire.specs.Reading.{◌>>=◌}
+use Rattle.lgm_wire.specs.reading.Reading.{◌>>=◌}
 use Rattle.lgm_gossip.specs.declared.fault.DecodeFault.{DecodeFault}
 use Rattle.lgm_gossip.specs.declared.fault.DecodeFault.TheVariants.{Cut}
 use Rattle.lgm_gossip.specs.declared.address.Address.{Address}
 use Rattle.lgm_gossip.specs.declared.address.Address.TheVariants as addresses
-use Rattle.lgm_gossip.specs.FieldReading.{fixed_at, number_at}
+use Rattle.lgm_gossip.specs.reading.FieldReading.{fixed_at, number_at}
 use Rattle.lgm_gossip.specs.Addresses.{descriptor, AddressFits, IsLongest}
-use Rattle.lgm_gossip.specs.AddressesReading.{address_at, descriptor_at}
+use Rattle.lgm_gossip.specs.inner.AddressesReading.{address_at, descriptor_at}
 use Rattle.lgm_gossip.proofs.WireLaws.{chosen, bind_ok, ok_is, IsBytes, IsBytes-rest, IsBytes-back, wide16}
 use Rattle.lgm_gossip.proofs.FieldLaws.{Takes, fixed_field, number_field, wide8}
 

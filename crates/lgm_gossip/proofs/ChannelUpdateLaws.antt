@@ -2,7 +2,7 @@
 use Rattle.std.proofs.Common.{refl}
 use Rattle.std.specs.Int.{w8, w16, w32, w64}
 use Rattle.lgm_gossip.specs.ChannelUpdate.{fields}
-use Rattle.lgm_gossip.specs.ChannelUpdateReading.{channel_update_at}
+use Rattle.lgm_gossip.specs.reading.ChannelUpdateReading.{channel_update_at}
 use Rattle.lgm_gossip.proofs.WireLaws.{wide16, wide32, wide64}
 use Rattle.lgm_gossip.proofs.FieldLaws.{IsText, fixed_field, number_field, rest_field, wide8}
 use Rattle.lgm_gossip.proofs.OrderLaws.{all_reads, then_reads, last_reads}

@@ -12,14 +12,14 @@ use Rattle.lgm_gossip.specs.declared.encode_fault.EncodeFault.TheVariants.{TooLo
 use Rattle.lgm_gossip.specs.Streams.{TlvRecord, record_bytes, bigsize_bytes, IsBigSize}
 use Rattle.lgm_gossip.specs.Fields.{Field, ◌⌢◌, Encloses, counted_text, fixed, number, counted, rest, dropped}
 use Rattle.lgm_gossip.specs.Optional.{optional}
-use Rattle.lgm_gossip.specs.Part.{text, texts, PartFits}
+use Rattle.lgm_gossip.specs.inner.Part.{text, texts, PartFits}
 use Rattle.lgm_gossip.specs.declared.message.Message.{Message}
 use Rattle.lgm_gossip.specs.declared.timestamps.Timestamps.{Timestamps}
 use Rattle.lgm_gossip.specs.EncodedIds.{ids_text, encoded_ids}
 use Rattle.lgm_gossip.specs.QueryFlags.{flags_text, IsQueryFlags}
 use Rattle.lgm_gossip.specs.TimestampList.{pair_bytes, pairs_text, PairFits, IsTimestampList}
 use Rattle.lgm_gossip.specs.Message.{Wire}
-use Rattle.lgm_gossip.specs.MessageReading.{message_at}
+use Rattle.lgm_gossip.specs.reading.MessageReading.{message_at}
 use Rattle.lgm_gossip.specs.Spelling.{typed, Encodes}
 use Rattle.lgm_gossip.proofs.MessageLaws.{message_again}
 

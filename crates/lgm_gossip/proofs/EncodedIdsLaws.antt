@@ -6,7 +6,7 @@ use Rattle.std.specs.Simd.{first_chunks}
 use Rattle.std.proofs.lemmas.Bool.{eqb-true, eq-eqb, not-false}
 use Rattle.lgm_gossip.specs.declared.fault.DecodeFault.TheVariants.{Encoding, Ids}
 use Rattle.lgm_gossip.specs.EncodedIds.{IsEncodedIds}
-use Rattle.lgm_gossip.specs.EncodedIdsReading.{ids_of}
+use Rattle.lgm_gossip.specs.reading.EncodedIdsReading.{ids_of}
 use Rattle.lgm_gossip.proofs.WireLaws.{chosen, ok_is, IsBytes, IsBytes-rest, wide64}
 use Rattle.lgm_gossip.proofs.FieldLaws.{IsText}
 use Rattle.lgm_gossip.proofs.CellLaws.{IsCell, cells_take, cells_again, cells_len}

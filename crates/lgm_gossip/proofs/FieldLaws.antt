@@ -3,12 +3,12 @@ use Rattle.std.proofs.Common.{◌≡◌, ℕ, ◌%◌, ◌^◌, ◌<◌, ◌≤�
 use Rattle.std.specs.Int.{Width, w8, w16, byte_len, from_be_bytes, to_be_bytes}
 use Rattle.std.proofs.lemmas.Bool.{ltb-false, le-ltb}
 use Rattle.std.proofs.lemmas.List.{take_at, drop_at, take-append-drop, length-append, length-take}
-use Rattle.lgm_wire.specs.Reading.{◌>>=◌}
+use Rattle.lgm_wire.specs.reading.Reading.{◌>>=◌}
 use Rattle.lgm_gossip.proofs.WireLaws.{bind_ok, ok_is, IsBytes, IsBytes-take, IsBytes-drop, IsBytes-front, IsBytes-back, IsWide, wide16}
 use Rattle.lgm_gossip.specs.declared.fault.DecodeFault.{DecodeFault}
 use Rattle.lgm_gossip.specs.declared.fault.DecodeFault.TheVariants.{Cut}
 use Rattle.lgm_gossip.specs.Fields.{fixed, number, counted, rest, Encloses}
-use Rattle.lgm_gossip.specs.FieldReading.{fixed_at, number_at, counted_at, enclosed_at, rest_at}
+use Rattle.lgm_gossip.specs.reading.FieldReading.{fixed_at, number_at, counted_at, enclosed_at, rest_at}
 
 -- a text of F was taken from the front
 pub record Takes (F : List ℕ → Type 0) (bytes left : List ℕ) : Type 0 where

@@ -2,7 +2,7 @@
 use Rattle.std.proofs.Common.{refl}
 use Rattle.std.specs.Int.{w8}
 use Rattle.lgm_gossip.specs.IdsEnd.{fields}
-use Rattle.lgm_gossip.specs.IdsEndReading.{ids_end_at}
+use Rattle.lgm_gossip.specs.reading.IdsEndReading.{ids_end_at}
 use Rattle.lgm_gossip.proofs.FieldLaws.{IsText, fixed_field, number_field, wide8}
 use Rattle.lgm_gossip.proofs.OrderLaws.{all_reads, then_reads, none_reads}
 

@@ -2,10 +2,10 @@
 use Rattle.std.proofs.Common.{◌≡◌, ℕ, List, length, Option, Result, subst, refl}
 use Rattle.std.specs.Option.{ForSome}
 use Rattle.lgm_gossip.specs.declared.fault.DecodeFault.{DecodeFault}
-use Rattle.lgm_gossip.specs.OptionalReading.{optional_of}
-use Rattle.lgm_gossip.specs.QueryFlagsReading.{query_flags_at}
+use Rattle.lgm_gossip.specs.reading.OptionalReading.{optional_of}
+use Rattle.lgm_gossip.specs.reading.QueryFlagsReading.{query_flags_at}
 use Rattle.lgm_gossip.specs.IdsQuery.{Query, fields}
-use Rattle.lgm_gossip.specs.IdsQueryReading.{ids_query_at}
+use Rattle.lgm_gossip.specs.reading.IdsQueryReading.{ids_query_at}
 use Rattle.lgm_gossip.proofs.FieldLaws.{IsText, fixed_field, enclosed_field}
 use Rattle.lgm_gossip.proofs.OrderLaws.{all_reads, then_reads, last_reads}
 use Rattle.lgm_gossip.proofs.OptionalLaws.{optional_field, optional_for}

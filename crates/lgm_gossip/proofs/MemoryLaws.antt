@@ -6,13 +6,13 @@ use Rattle.std.proofs.lemmas.Bool.{ltb-false}
 use Rattle.std.proofs.lemmas.List.{length-drop}
 use Rattle.std.proofs.lemmas.List.Concat.{flat_map-cons}
 use Rattle.lgm_wire.specs.declared.fault.WireFault.TheVariants as wire_faults
-use Rattle.lgm_wire.specs.Reading.{◌>>=◌, Sees, Gives}
+use Rattle.lgm_wire.specs.reading.Reading.{◌>>=◌, Sees, Gives}
 use Rattle.lgm_wire.specs.Tlv.{TlvRecord, record_bytes, IsTlvStream}
-use Rattle.lgm_wire.specs.BigSizeReading.{bigsize_at}
-use Rattle.lgm_wire.specs.TlvReading.{record_at, tlvs_at, tlvs_of}
+use Rattle.lgm_wire.specs.reading.BigSizeReading.{bigsize_at}
+use Rattle.lgm_wire.specs.reading.TlvReading.{record_at, tlvs_at, tlvs_of}
 use Rattle.lgm_gossip.specs.declared.fault.DecodeFault.{DecodeFault}
 use Rattle.lgm_gossip.specs.declared.fault.DecodeFault.TheVariants.{Cut}
-use Rattle.lgm_gossip.specs.FieldReading.{fixed_at, number_at, counted_at, enclosed_at}
+use Rattle.lgm_gossip.specs.reading.FieldReading.{fixed_at, number_at, counted_at, enclosed_at}
 use Rattle.lgm_gossip.specs.Memory.{GivesIf}
 use Rattle.lgm_gossip.proofs.WireLaws.{chosen, bind_ok, ok_is, two_bytes}
 

@@ -4,14 +4,14 @@ use Rattle.std.specs.Prelude.{IfOk, MatchResult}
 use Rattle.std.specs.Int.{w16, to_be_bytes}
 use Rattle.std.specs.Result.{result_err}
 use Rattle.std.proofs.lemmas.Bool.{eqb-true, ltb-false, le-ltb}
-use Rattle.lgm_wire.specs.Reading.{◌>>=◌, Gives}
+use Rattle.lgm_wire.specs.reading.Reading.{◌>>=◌, Gives}
 use Rattle.lgm_gossip.specs.declared.fault.DecodeFault.{DecodeFault}
 use Rattle.lgm_gossip.specs.declared.fault.DecodeFault.TheVariants.{Long, UnknownEven, UnknownOdd, NoMemory}
 use Rattle.lgm_gossip.specs.declared.message.Message.{Message}
 use Rattle.lgm_gossip.specs.declared.message.Message.TheVariants as messages
 use Rattle.lgm_gossip.specs.Fields.{Field}
 use Rattle.lgm_gossip.specs.Message.{Wire, Spells}
-use Rattle.lgm_gossip.specs.MessageReading.{fault, body_at, typed_at, message_at}
+use Rattle.lgm_gossip.specs.reading.MessageReading.{fault, body_at, typed_at, message_at}
 use Rattle.lgm_gossip.proofs.WireLaws.{chosen, bind_ok, ok_is, IsBytes, IsBytes-rest}
 use Rattle.lgm_gossip.proofs.FieldLaws.{IsText}
 use Rattle.lgm_gossip.proofs.AnnounceLaws.{announce_text}

@@ -2,7 +2,7 @@
 use Rattle.std.proofs.Common.{refl}
 use Rattle.std.specs.Int.{w32}
 use Rattle.lgm_gossip.specs.NodeAnnounce.{fields}
-use Rattle.lgm_gossip.specs.NodeAnnounceReading.{node_announce_at}
+use Rattle.lgm_gossip.specs.reading.NodeAnnounceReading.{node_announce_at}
 use Rattle.lgm_gossip.proofs.WireLaws.{wide32}
 use Rattle.lgm_gossip.proofs.FieldLaws.{IsText, fixed_field, number_field, counted_field, rest_field}
 use Rattle.lgm_gossip.proofs.OrderLaws.{all_reads, then_reads, last_reads}

@@ -7,13 +7,13 @@ use Rattle.std.proofs.lemmas.List.{drop_more, drop_all}
 use Rattle.lgm_wire.specs.declared.tlv.Tlv.{Tlv}
 use Rattle.lgm_wire.specs.TlvView.{record_of, records_of}
 use Rattle.lgm_wire.specs.declared.fault.WireFault.{WireFault}
-use Rattle.lgm_wire.specs.Reading.{◌>>=◌}
+use Rattle.lgm_wire.specs.reading.Reading.{◌>>=◌}
 use Rattle.lgm_wire.specs.Tlv.{RisesFrom}
 use Rattle.lgm_gossip.specs.declared.fault.DecodeFault.{DecodeFault}
 use Rattle.lgm_gossip.specs.declared.fault.DecodeFault.TheVariants.{TlvKind}
 use Rattle.lgm_gossip.specs.Streams.{TlvRecord, tlvs_of}
 use Rattle.lgm_gossip.specs.Optional.{value_of, SameOption, IsOptional}
-use Rattle.lgm_gossip.specs.OptionalReading.{or_tlv, stream_at, after_record, after_records, optional_of, optional_at}
+use Rattle.lgm_gossip.specs.reading.OptionalReading.{or_tlv, stream_at, after_record, after_records, optional_of, optional_at}
 use Rattle.lgm_gossip.proofs.WireLaws.{chosen, bind_ok, ok_is, IsBytes, stream_takes, values_fit, whole_read}
 use Rattle.lgm_gossip.proofs.FieldLaws.{IsText, IsLast}
 

@@ -2,7 +2,7 @@
 use Rattle.std.proofs.Common.{◌≡◌, ℕ, List, Result, Ok, sym, ap, subst, ◌∙◌}
 use Rattle.lgm_gossip.specs.declared.fault.DecodeFault.{DecodeFault}
 use Rattle.lgm_gossip.specs.Fields.{Joined}
-use Rattle.lgm_gossip.specs.FieldReading.{read_on, made}
+use Rattle.lgm_gossip.specs.reading.FieldReading.{read_on, made}
 use Rattle.lgm_gossip.proofs.WireLaws.{bind_ok, ok_is, IsBytes}
 use Rattle.lgm_gossip.proofs.FieldLaws.{IsField, IsLast, IsText}
 

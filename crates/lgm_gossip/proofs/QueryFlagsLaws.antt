@@ -5,12 +5,12 @@ use Rattle.std.proofs.lemmas.Bool.{eqb-true, not-false}
 use Rattle.std.proofs.lemmas.List.{append-nil}
 use Rattle.std.proofs.lemmas.List.Concat.{flat_map-cons}
 use Rattle.lgm_wire.specs.declared.fault.WireFault.{WireFault}
-use Rattle.lgm_wire.specs.Reading.{◌>>=◌}
+use Rattle.lgm_wire.specs.reading.Reading.{◌>>=◌}
 use Rattle.lgm_gossip.specs.declared.fault.DecodeFault.{DecodeFault}
 use Rattle.lgm_gossip.specs.declared.fault.DecodeFault.TheVariants.{Encoding, Flags}
 use Rattle.lgm_gossip.specs.Streams.{bigsize_bytes, bigsize_at}
 use Rattle.lgm_gossip.specs.QueryFlags.{IsQueryFlags}
-use Rattle.lgm_gossip.specs.QueryFlagsReading.{or_flags, flag_at, all_flags_at, query_flags_at}
+use Rattle.lgm_gossip.specs.reading.QueryFlagsReading.{or_flags, flag_at, all_flags_at, query_flags_at}
 use Rattle.lgm_gossip.proofs.WireLaws.{chosen, bind_ok, ok_is, IsBytes, IsBytes-rest, bigsize_spelled, bigsize_at-bigsize_bytes, ReadsBig, big_found, big_not_found}
 use Rattle.lgm_gossip.proofs.FieldLaws.{IsText}
 

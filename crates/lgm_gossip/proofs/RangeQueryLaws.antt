@@ -5,7 +5,7 @@ use Rattle.std.proofs.lemmas.List.{append-nil}
 use Rattle.lgm_wire.specs.declared.fault.WireFault.{WireFault}
 use Rattle.lgm_gossip.specs.Streams.{bigsize_bytes, IsBigSize, bigsize_at}
 use Rattle.lgm_gossip.specs.RangeQuery.{fields}
-use Rattle.lgm_gossip.specs.RangeQueryReading.{alone, options_at, range_query_at}
+use Rattle.lgm_gossip.specs.reading.RangeQueryReading.{alone, options_at, range_query_at}
 use Rattle.lgm_gossip.proofs.WireLaws.{wide32, bigsize_spelled, bigsize_at-bigsize_bytes, ok_is}
 use Rattle.lgm_gossip.proofs.FieldLaws.{IsText, fixed_field, number_field}
 use Rattle.lgm_gossip.proofs.OrderLaws.{all_reads, then_reads, last_reads}

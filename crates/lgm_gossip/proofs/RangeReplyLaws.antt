@@ -4,10 +4,10 @@ use Rattle.std.specs.Int.{w8, w32}
 use Rattle.std.specs.Option.{ForSome}
 use Rattle.lgm_gossip.specs.declared.fault.DecodeFault.{DecodeFault}
 use Rattle.lgm_gossip.specs.declared.timestamps.Timestamps.{Timestamps}
-use Rattle.lgm_gossip.specs.OptionalReading.{optional_of}
-use Rattle.lgm_gossip.specs.TimestampListReading.{timestamps_at}
+use Rattle.lgm_gossip.specs.reading.OptionalReading.{optional_of}
+use Rattle.lgm_gossip.specs.reading.TimestampListReading.{timestamps_at}
 use Rattle.lgm_gossip.specs.RangeReply.{Reply, fields}
-use Rattle.lgm_gossip.specs.RangeReplyReading.{range_reply_at}
+use Rattle.lgm_gossip.specs.reading.RangeReplyReading.{range_reply_at}
 use Rattle.lgm_gossip.proofs.WireLaws.{wide32}
 use Rattle.lgm_gossip.proofs.FieldLaws.{IsText, fixed_field, number_field, enclosed_field, wide8}
 use Rattle.lgm_gossip.proofs.OrderLaws.{all_reads, then_reads, last_reads}

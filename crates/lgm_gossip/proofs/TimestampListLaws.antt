@@ -8,7 +8,7 @@ use Rattle.std.proofs.lemmas.List.{take-append-drop, length-take, length-drop}
 use Rattle.lgm_gossip.specs.declared.fault.DecodeFault.TheVariants.{Encoding, TlvKind}
 use Rattle.lgm_gossip.specs.declared.timestamps.Timestamps.{Timestamps}
 use Rattle.lgm_gossip.specs.TimestampList.{pair_bytes, PairFits, IsTimestampList}
-use Rattle.lgm_gossip.specs.TimestampListReading.{pair_of, timestamps_at}
+use Rattle.lgm_gossip.specs.reading.TimestampListReading.{pair_of, timestamps_at}
 use Rattle.lgm_gossip.proofs.WireLaws.{chosen, ok_is, IsBytes, IsBytes-rest, IsBytes-take, IsBytes-drop, wide32}
 use Rattle.lgm_gossip.proofs.FieldLaws.{IsText}
 use Rattle.lgm_gossip.proofs.CellLaws.{IsCell, cells_take, cells_again, cells_len}

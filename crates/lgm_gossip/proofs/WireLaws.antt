@@ -7,7 +7,7 @@ use Rattle.std.proofs.lemmas.List.Concat.{flat_map-cons}
 use Rattle.lgm_wire.specs.declared.fault.WireFault.{WireFault}
 use Rattle.lgm_wire.specs.BigSize.{bigsize_bytes, IsBigSize}
 use Rattle.lgm_wire.specs.Tlv.{TlvRecord, record_bytes}
-use Rattle.lgm_wire.specs.BigSizeReading.{bigsize_at}
+use Rattle.lgm_wire.specs.reading.BigSizeReading.{bigsize_at}
 pub use Rattle.lgm_wire.proofs.ReadingLaws.{chosen, bind_ok, ok_is}
 pub use Rattle.lgm_wire.proofs.Bytes.{IsBytes, IsBytes-take, IsBytes-drop, IsBytes-rest, IsBytes-back, IsWide, wide16, wide32, wide64}
 pub use Rattle.lgm_wire.proofs.BigSizeLaws.{bigsize_spelled, bigsize_at-bigsize_bytes, length-bigsize_bytes}

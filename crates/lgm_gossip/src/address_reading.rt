@@ -1,9 +1,9 @@
 //! Parsing of address descriptors.
 
 ghost use Rattle.std.specs.Prelude.{IfOk};
-ghost use Rattle.lgm_wire.specs.Reading.{Gives};
+ghost use Rattle.lgm_wire.specs.reading.Reading.{Gives};
 ghost use Rattle.lgm_gossip.specs.Addresses.{IsLongest};
-ghost use Rattle.lgm_gossip.specs.AddressesReading.{descriptor_at};
+ghost use Rattle.lgm_gossip.specs.inner.AddressesReading.{descriptor_at};
 
 use crate::address::{Address, AddressList};
 use crate::bytes::Bytes;

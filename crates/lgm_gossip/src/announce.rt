@@ -1,7 +1,7 @@
 //! `channel_announcement`.
 
 ghost use Rattle.std.specs.Prelude.{◌≡◌};
-ghost use Rattle.lgm_wire.specs.Reading.{Sees};
+ghost use Rattle.lgm_wire.specs.reading.Reading.{Sees};
 
 use crate::bytes::Bytes;
 use crate::encode_fault::EncodeFault;
@@ -46,7 +46,7 @@ pub struct Announce<'a> {
 
 impl<'a> Announce<'a> {
     ghost use Rattle.lgm_gossip.specs.Announce.{fields};
-    ghost use Rattle.lgm_gossip.specs.AnnounceReading.{announce_at};
+    ghost use Rattle.lgm_gossip.specs.reading.AnnounceReading.{announce_at};
     ghost use Rattle.lgm_gossip.specs.Spelling.{Encodes};
 
     /// The same message, borrowed again.

@@ -1,7 +1,7 @@
 //! `channel_update`.
 
 ghost use Rattle.std.specs.Prelude.{◌≡◌};
-ghost use Rattle.lgm_wire.specs.Reading.{Sees};
+ghost use Rattle.lgm_wire.specs.reading.Reading.{Sees};
 
 use crate::bytes::Bytes;
 use crate::encode_fault::EncodeFault;
@@ -46,7 +46,7 @@ pub struct ChannelUpdate<'a> {
 
 impl<'a> ChannelUpdate<'a> {
     ghost use Rattle.lgm_gossip.specs.ChannelUpdate.{fields};
-    ghost use Rattle.lgm_gossip.specs.ChannelUpdateReading.{channel_update_at};
+    ghost use Rattle.lgm_gossip.specs.reading.ChannelUpdateReading.{channel_update_at};
     ghost use Rattle.lgm_gossip.specs.Spelling.{Encodes};
 
     /// The same message, borrowed again.

@@ -1,10 +1,10 @@
 //! Decoding of messages.
 
 ghost use Rattle.std.specs.Prelude.{◌≡◌, Ok, IfOk, IfErr, MatchResult, ◌⊎◌, ◌<◌, ℕ, List, None, slice_index};
-ghost use Rattle.lgm_wire.specs.Reading.{Sees, Gives};
+ghost use Rattle.lgm_wire.specs.reading.Reading.{Sees, Gives};
 ghost use Rattle.lgm_gossip.specs.Message.{Wire};
 ghost use Rattle.lgm_gossip.specs.Memory.{GivesIf, BodyTakesMemory, TakesMemory};
-ghost use Rattle.lgm_gossip.specs.MessageReading.{body_at, message_at, fault};
+ghost use Rattle.lgm_gossip.specs.reading.MessageReading.{body_at, message_at, fault};
 ghost use Rattle.lgm_gossip.specs.declared.message.Message.{Message};
 
 use crate::announce::Announce;

@@ -2,7 +2,7 @@
 
 ghost use Rattle.std.specs.Prelude.{◌<◌, length};
 ghost use Rattle.std.specs.Int.{w64, from_be_bytes};
-ghost use Rattle.lgm_gossip.specs.EncodedIdsReading.{ids_of, encoded_ids_at};
+ghost use Rattle.lgm_gossip.specs.reading.EncodedIdsReading.{ids_of, encoded_ids_at};
 ghost use Rattle.lgm_gossip.specs.Memory.{GivesIf};
 
 use crate::cells::{Cell, cells};

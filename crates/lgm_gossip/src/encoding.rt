@@ -2,7 +2,7 @@
 
 ghost use Rattle.std.specs.Prelude.{◌≡◌, ◌<◌, ◌↔◌, length, IfOk, Ok, Err};
 ghost use Rattle.lgm_gossip.specs.Message.{Wire};
-ghost use Rattle.lgm_gossip.specs.MessageReading.{message_at};
+ghost use Rattle.lgm_gossip.specs.reading.MessageReading.{message_at};
 ghost use Rattle.lgm_gossip.specs.Spelling.{spelling, MessageEncodes};
 
 use crate::bytes::Bytes;

@@ -2,8 +2,8 @@
 
 ghost use Rattle.std.specs.Prelude.{◌≡◌};
 ghost use Rattle.std.specs.Int.{w8, w16, w32, w64};
-ghost use Rattle.lgm_wire.specs.Reading.{Sees};
-ghost use Rattle.lgm_gossip.specs.FieldReading.{fixed_at, number_at, counted_at};
+ghost use Rattle.lgm_wire.specs.reading.Reading.{Sees};
+ghost use Rattle.lgm_gossip.specs.reading.FieldReading.{fixed_at, number_at, counted_at};
 
 use crate::fault::DecodeFault;
 use crate::lent::Signature;

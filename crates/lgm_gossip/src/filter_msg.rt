@@ -1,6 +1,6 @@
 //! `gossip_timestamp_filter`.
 
-ghost use Rattle.lgm_wire.specs.Reading.{Sees};
+ghost use Rattle.lgm_wire.specs.reading.Reading.{Sees};
 
 use crate::bytes::Bytes;
 use crate::encode_fault::EncodeFault;
@@ -25,7 +25,7 @@ pub struct FilterMsg {
 
 impl FilterMsg {
     ghost use Rattle.lgm_gossip.specs.FilterMsg.{fields};
-    ghost use Rattle.lgm_gossip.specs.FilterMsgReading.{filter_msg_at};
+    ghost use Rattle.lgm_gossip.specs.reading.FilterMsgReading.{filter_msg_at};
     ghost use Rattle.lgm_gossip.specs.Spelling.{Encodes};
 
     /// Reads the fields, from left to right, from the bytes after the type. Trailing bytes are dropped.

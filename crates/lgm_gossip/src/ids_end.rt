@@ -1,6 +1,6 @@
 //! `reply_short_channel_ids_end`.
 
-ghost use Rattle.lgm_wire.specs.Reading.{Sees};
+ghost use Rattle.lgm_wire.specs.reading.Reading.{Sees};
 
 use crate::bytes::Bytes;
 use crate::encode_fault::EncodeFault;
@@ -23,7 +23,7 @@ pub struct IdsEnd {
 
 impl IdsEnd {
     ghost use Rattle.lgm_gossip.specs.IdsEnd.{fields};
-    ghost use Rattle.lgm_gossip.specs.IdsEndReading.{ids_end_at};
+    ghost use Rattle.lgm_gossip.specs.reading.IdsEndReading.{ids_end_at};
     ghost use Rattle.lgm_gossip.specs.Spelling.{Encodes};
 
     /// Reads the fields, from left to right, from the bytes after the type. Trailing bytes are dropped.

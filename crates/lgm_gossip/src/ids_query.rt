@@ -43,7 +43,7 @@ impl Model for IdsQuery {
 
 impl IdsQuery {
     ghost use Rattle.lgm_gossip.specs.IdsQuery.{fields};
-    ghost use Rattle.lgm_gossip.specs.IdsQueryReading.{ids_query_at};
+    ghost use Rattle.lgm_gossip.specs.reading.IdsQueryReading.{ids_query_at};
     ghost use Rattle.lgm_gossip.specs.Spelling.{Encodes};
 
     /// Reads the fields, from left to right, from the bytes after the type.

@@ -6,7 +6,7 @@ ghost use Rattle.std.specs.Int.{w64, to_be_bytes};
 ghost use Rattle.lgm_gossip.specs.Streams.{bigsize_bytes};
 ghost use Rattle.lgm_gossip.specs.Fields.{fixed};
 ghost use Rattle.lgm_gossip.specs.TimestampList.{pair_bytes, PairFits};
-ghost use Rattle.lgm_gossip.specs.Part.{text, texts, PartFits};
+ghost use Rattle.lgm_gossip.specs.inner.Part.{text, texts, PartFits};
 
 use crate::bytes::Bytes;
 use crate::encode_fault::EncodeFault;

@@ -2,7 +2,7 @@
 
 ghost use Rattle.std.specs.Prelude.{◌≡◌};
 ghost use Rattle.lgm_gossip.specs.Fields.{fixed};
-ghost use Rattle.lgm_gossip.specs.Part.{text};
+ghost use Rattle.lgm_gossip.specs.inner.Part.{text};
 
 use crate::joining::whole;
 use crate::part::Part;

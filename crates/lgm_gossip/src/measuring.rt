@@ -3,7 +3,7 @@
 ghost use Rattle.std.specs.Prelude.{◌≡◌, ◌+◌, ◌<◌, length, MatchOption, MatchResult};
 ghost use Rattle.std.specs.List.{flat_map};
 ghost use Rattle.lgm_gossip.specs.Streams.{bigsize_bytes};
-ghost use Rattle.lgm_gossip.specs.Part.{text, texts};
+ghost use Rattle.lgm_gossip.specs.inner.Part.{text, texts};
 
 use crate::encode_fault::EncodeFault;
 use crate::message::MAX_LEN;

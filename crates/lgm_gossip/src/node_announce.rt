@@ -1,7 +1,7 @@
 //! `node_announcement`.
 
 ghost use Rattle.std.specs.Prelude.{◌≡◌};
-ghost use Rattle.lgm_wire.specs.Reading.{Sees};
+ghost use Rattle.lgm_wire.specs.reading.Reading.{Sees};
 
 use crate::bytes::Bytes;
 use crate::encode_fault::EncodeFault;
@@ -37,7 +37,7 @@ pub struct NodeAnnounce<'a> {
 
 impl<'a> NodeAnnounce<'a> {
     ghost use Rattle.lgm_gossip.specs.NodeAnnounce.{fields};
-    ghost use Rattle.lgm_gossip.specs.NodeAnnounceReading.{node_announce_at};
+    ghost use Rattle.lgm_gossip.specs.reading.NodeAnnounceReading.{node_announce_at};
     ghost use Rattle.lgm_gossip.specs.Spelling.{Encodes};
 
     /// The same message, borrowed again.

@@ -1,8 +1,8 @@
 //! Query flags.
 
 ghost use Rattle.std.specs.Prelude.{◌≡◌, ℕ, List, IfOk, length};
-ghost use Rattle.lgm_wire.specs.Reading.{Sees, Gives};
-ghost use Rattle.lgm_gossip.specs.QueryFlagsReading.{flag_at, all_flags_at, query_flags_at};
+ghost use Rattle.lgm_wire.specs.reading.Reading.{Sees, Gives};
+ghost use Rattle.lgm_gossip.specs.reading.QueryFlagsReading.{flag_at, all_flags_at, query_flags_at};
 
 use crate::fault::DecodeFault;
 use crate::items::Items;

@@ -2,7 +2,7 @@
 
 ghost use Rattle.std.specs.Prelude.{◌<◌, length};
 ghost use Rattle.lgm_gossip.specs.Memory.{GivesIf};
-ghost use Rattle.lgm_gossip.specs.RangeQueryReading.{options_at};
+ghost use Rattle.lgm_gossip.specs.reading.RangeQueryReading.{options_at};
 
 use crate::bytes::Bytes;
 use crate::encode_fault::EncodeFault;
@@ -43,7 +43,7 @@ impl RecordValue for u64 {
 
 impl RangeQuery {
     ghost use Rattle.lgm_gossip.specs.RangeQuery.{fields};
-    ghost use Rattle.lgm_gossip.specs.RangeQueryReading.{range_query_at};
+    ghost use Rattle.lgm_gossip.specs.reading.RangeQueryReading.{range_query_at};
     ghost use Rattle.lgm_gossip.specs.Spelling.{Encodes};
 
     /// Reads the fields, from left to right, from the bytes after the type.

@@ -56,7 +56,7 @@ impl Model for RangeReply {
 
 impl RangeReply {
     ghost use Rattle.lgm_gossip.specs.RangeReply.{fields};
-    ghost use Rattle.lgm_gossip.specs.RangeReplyReading.{range_reply_at};
+    ghost use Rattle.lgm_gossip.specs.reading.RangeReplyReading.{range_reply_at};
     ghost use Rattle.lgm_gossip.specs.Spelling.{Encodes};
 
     /// Reads the fields, from left to right, from the bytes after the type.

@@ -1,6 +1,6 @@
 //! Lists of timestamps.
 
-ghost use Rattle.lgm_gossip.specs.TimestampListReading.{pair_of, timestamps_at};
+ghost use Rattle.lgm_gossip.specs.reading.TimestampListReading.{pair_of, timestamps_at};
 
 use crate::cells::{Cell, cells};
 use crate::fault::DecodeFault;

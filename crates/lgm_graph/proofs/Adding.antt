@@ -14,8 +14,8 @@ use Rattle.lgm_store.proofs.Lists.{same_id}
 use Rattle.lgm_graph.specs.declared.nodes.Nodes.{Nodes}
 use Rattle.lgm_graph.specs.Edges.{edge_on, edge_in, carrying}
 use Rattle.lgm_graph.specs.Graph.{IsGraphOf, IsNumbered}
-use Rattle.lgm_graph.specs.Sound.{graph_in, ShowsIn, AreLookedAt}
-use Rattle.lgm_graph.specs.Walk.{KeepsNumbers}
+use Rattle.lgm_graph.specs.inner.Sound.{graph_in, ShowsIn, AreLookedAt}
+use Rattle.lgm_graph.specs.inner.Walk.{KeepsNumbers}
 use Rattle.lgm_graph.proofs.Carrying.{All_to}
 use Rattle.lgm_graph.proofs.NodePut.{find_kept, find_gone, find_front, find_back}
 use Rattle.lgm_graph.proofs.Keeping.{filter_map-agree, eqb_same, eqb_self}

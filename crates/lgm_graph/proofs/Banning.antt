@@ -12,7 +12,7 @@ use Rattle.lgm_graph.specs.declared.edge.Edge.{Edge}
 use Rattle.lgm_graph.specs.declared.nodes.Nodes.{Nodes}
 use Rattle.lgm_graph.specs.Edges.{edge_of, edge_on, edge_in, end_of, carrying}
 use Rattle.lgm_graph.specs.Graph.{IsGraphOf, IsNumbered, IsJoined, number_of, link_of, links_by}
-use Rattle.lgm_graph.specs.Sound.{graph_in, links_in, AreLookedAt, banned_at, is_allowed}
+use Rattle.lgm_graph.specs.inner.Sound.{graph_in, links_in, AreLookedAt, banned_at, is_allowed}
 use Rattle.lgm_graph.proofs.Numbers.{get_number}
 use Rattle.lgm_graph.proofs.Carrying.{All_to, filter_map-filter, edge_in-some}
 use Rattle.lgm_graph.proofs.Keeping.{filter_map-agree, filter_passes, found_filter, none_filter, links_keep}

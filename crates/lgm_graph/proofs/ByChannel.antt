@@ -14,7 +14,7 @@ use Rattle.lgm_store.specs.Rows.{is_second, by_id, by_direction, channel_of, upd
 use Rattle.lgm_store.proofs.Lists.{same_id}
 use Rattle.lgm_graph.specs.declared.edge.Edge.{Edge}
 use Rattle.lgm_graph.specs.Edges.{edge_on, edge_in}
-use Rattle.lgm_graph.specs.Walk.{edges_of_channel}
+use Rattle.lgm_graph.specs.inner.Walk.{edges_of_channel}
 use Rattle.lgm_graph.proofs.Carrying.{All_to}
 
 abbrev id_of : UpdateRow → ℕ

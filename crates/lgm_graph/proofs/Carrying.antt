@@ -12,13 +12,13 @@ use Rattle.std.proofs.lemmas.Cmp.{on_total}
 use Rattle.lgm_check.specs.declared.row.ChannelRow.{ChannelRow}
 use Rattle.lgm_check.specs.declared.row.UpdateRow.{UpdateRow}
 use Rattle.lgm_store.specs.Rows.{is_second, put, by_direction, channel_of}
-use Rattle.lgm_store.specs.Sound.{direction_of}
+use Rattle.lgm_store.specs.inner.Sound.{direction_of}
 use Rattle.lgm_store.proofs.Lists.{direction_total}
 use Rattle.lgm_store.proofs.Ordered.{filter-same, filter-filter}
 use Rattle.lgm_graph.specs.declared.edge.Edge.{Edge}
 use Rattle.lgm_graph.specs.Edges.{can_carry, edge_of, edge_on, edge_in, end_of}
 use Rattle.lgm_graph.proofs.Cuts.{none_below, all_above}
-use Rattle.lgm_graph.specs.Lists.{to_key, IsCut, put_at}
+use Rattle.lgm_graph.specs.inner.Lists.{to_key, IsCut, put_at}
 
 -- ---- lists
 

@@ -17,7 +17,7 @@ use Rattle.lgm_graph.specs.declared.link.Link.{Link}
 use Rattle.lgm_graph.specs.declared.nodes.Nodes.{Nodes}
 use Rattle.lgm_graph.specs.Edges.{edge_of, edge_on, edge_in, end_of, carrying, takes_payments}
 use Rattle.lgm_graph.specs.Graph.{IsGraphOf, IsJoined, link_of}
-use Rattle.lgm_graph.specs.Sound.{graph_in, AreInto, AreOut, AreFlags, is_not_of, closed_at}
+use Rattle.lgm_graph.specs.inner.Sound.{graph_in, AreInto, AreOut, AreFlags, is_not_of, closed_at}
 use Rattle.lgm_graph.proofs.Carrying.{All_to, filter_map-filter, IsOfChannel, carrying_of, edge_in-some}
 use Rattle.lgm_graph.proofs.Showing.{All-test, passing, links_at}
 use Rattle.lgm_graph.proofs.Keeping.{filter_all, filter_passes, filter_twice, filter_swap, find_stays, any_stays, filter_map-agree, All_of, one_channel, links_keep, eqb_same}

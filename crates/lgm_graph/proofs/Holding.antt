@@ -4,7 +4,7 @@ use Rattle.std.specs.List.{IsDistinct, Contains, filter_map, cons_option}
 use Rattle.std.specs.declared.cmp.Ordering.{Ordering}
 use Rattle.std.specs.declared.cmp.Ordering.TheVariants.{Less, Equal, Greater}
 use Rattle.std.specs.Ordering.{ordering_reverse}
-use Rattle.lgm_store.specs.Sound.{direction_cmp}
+use Rattle.lgm_store.specs.inner.Sound.{direction_cmp}
 use Rattle.lgm_wire.specs.declared.point.Point.{Point}
 use Rattle.lgm_check.specs.declared.row.ChannelRow.{ChannelRow}
 use Rattle.lgm_check.specs.declared.row.UpdateRow.{UpdateRow}
@@ -14,7 +14,7 @@ use Rattle.lgm_graph.specs.declared.edge.Edge.{Edge}
 use Rattle.lgm_graph.specs.declared.link.Link.{Link}
 use Rattle.lgm_graph.specs.Edges.{edge_of, edge_in, end_of, carrying, edges_of, takes_payments, AreDirections}
 use Rattle.lgm_graph.specs.Graph.{Graph, IsGraphOf, IsJoined, IsNumbered, number_of, link_of, edge_at, links, edges}
-use Rattle.lgm_graph.specs.Lists.{to_key, IsCut}
+use Rattle.lgm_graph.specs.inner.Lists.{to_key, IsCut}
 use Rattle.lgm_graph.proofs.Numbers.{get_number}
 use Rattle.lgm_graph.proofs.Places.{get_map}
 use Rattle.lgm_graph.proofs.Carrying.{IsOfChannel, carrying_of, carrying_cut, edge_in-some}

@@ -10,7 +10,7 @@ use Rattle.lgm_store.proofs.Points.{same_point, is_point-self}
 use Rattle.lgm_graph.specs.declared.edge.Edge.{Edge}
 use Rattle.lgm_graph.specs.declared.link.Link.{Link}
 use Rattle.lgm_graph.specs.Graph.{Graph, IsLinked, AreLinked, IsJoined, IsNumbered, number_of, no_point, link_of, edge_at, links, links_into, links_leaving, links_by}
-use Rattle.lgm_graph.specs.Sound.{IsSound}
+use Rattle.lgm_graph.specs.inner.Sound.{IsSound}
 use Rattle.lgm_graph.proofs.Members.{Among, Contains-Among, Among-Contains, Among-left, Among-right, Among-either, Among-passes, Among-passed, All_among, Among-mapped, Among-map}
 use Rattle.lgm_graph.proofs.Numbers.{get_number}
 use Rattle.lgm_graph.proofs.Showing.{links_at, get_links, turned}

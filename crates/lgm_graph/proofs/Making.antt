@@ -13,8 +13,8 @@ use Rattle.lgm_graph.specs.declared.link.Link.{Link}
 use Rattle.lgm_graph.specs.declared.nodes.Nodes.{Nodes}
 use Rattle.lgm_graph.specs.Edges.{edge_of, edge_on, end_of}
 use Rattle.lgm_graph.specs.Graph.{Graph, number_of, IsNumbered, IsJoined, linked, Shows}
-use Rattle.lgm_graph.specs.Sound.{graph_in, links_in, ShowsIn}
-use Rattle.lgm_graph.specs.Walk.{edge_of_direction}
+use Rattle.lgm_graph.specs.inner.Sound.{graph_in, links_in, ShowsIn}
+use Rattle.lgm_graph.specs.inner.Walk.{edge_of_direction}
 use Rattle.lgm_graph.proofs.Carrying.{edge_on-is}
 use Rattle.lgm_graph.proofs.Showing.{links_at, shows_push}
 

@@ -7,7 +7,7 @@ use Rattle.std.specs.Ordering.{is_lt, is_gt}
 use Rattle.lgm_wire.specs.declared.point.Point.{Point}
 use Rattle.lgm_check.specs.declared.row.NodeRow.{NodeRow}
 use Rattle.lgm_store.specs.Rows.{is_point, by_node, put, node_of}
-use Rattle.lgm_store.specs.Ends.{point_cmp}
+use Rattle.lgm_store.specs.inner.Ends.{point_cmp}
 use Rattle.lgm_store.proofs.Lists.{node_total}
 use Rattle.lgm_store.proofs.Points.{is_at-point, same_point}
 

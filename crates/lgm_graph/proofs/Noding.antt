@@ -9,7 +9,7 @@ use Rattle.lgm_graph.specs.declared.link.Link.{Link}
 use Rattle.lgm_graph.specs.Edges.{carrying, takes_payments}
 use Rattle.lgm_graph.specs.declared.nodes.Nodes.{Nodes}
 use Rattle.lgm_graph.specs.Graph.{IsGraphOf}
-use Rattle.lgm_graph.specs.Sound.{graph_in, links_in, AreFlags}
+use Rattle.lgm_graph.specs.inner.Sound.{graph_in, links_in, AreFlags}
 use Rattle.lgm_graph.proofs.NodePut.{node_put}
 
 -- the same flags at each point

@@ -12,8 +12,8 @@ use Rattle.lgm_graph.specs.declared.edge.Edge.{Edge}
 use Rattle.lgm_graph.specs.declared.nodes.Nodes.{Nodes}
 use Rattle.lgm_graph.specs.Edges.{takes_payments}
 use Rattle.lgm_graph.specs.Graph.{number_of, IsNumbered}
-use Rattle.lgm_graph.specs.Sound.{graph_in, links_in, ShowsIn, AreLookedAt}
-use Rattle.lgm_graph.specs.Walk.{KeepsNumbers}
+use Rattle.lgm_graph.specs.inner.Sound.{graph_in, links_in, ShowsIn, AreLookedAt}
+use Rattle.lgm_graph.specs.inner.Walk.{KeepsNumbers}
 use Rattle.lgm_graph.proofs.Showing.{shows_more, numbered_append, numbered_last, turned}
 use Rattle.lgm_graph.proofs.Making.{same_points, same_takes, same_into, same_out}
 

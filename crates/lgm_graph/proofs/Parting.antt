@@ -18,7 +18,7 @@ use Rattle.lgm_store.specs.Rows.{Rows, by_id, by_point, put, is_point, channel_o
 use Rattle.lgm_store.specs.Reading.{ids_at}
 use Rattle.lgm_store.specs.History.{banning, allowed_channels, with_banned}
 use Rattle.lgm_store.specs.Laws.{IsLawful}
-use Rattle.lgm_store.specs.Sound.{id_of, AreAllowed}
+use Rattle.lgm_store.specs.inner.Sound.{id_of, AreAllowed}
 use Rattle.lgm_store.proofs.Points.{same_point, is_point-self}
 use Rattle.lgm_store.proofs.Bans.{ends_banned-put}
 use Rattle.lgm_graph.specs.declared.edge.Edge.{Edge}
@@ -27,7 +27,7 @@ use Rattle.lgm_graph.specs.declared.nodes.Nodes.{Nodes}
 use Rattle.lgm_graph.specs.Known.{allows}
 use Rattle.lgm_graph.specs.Edges.{end_of, carrying, takes_payments}
 use Rattle.lgm_graph.specs.Graph.{IsGraphOf, IsJoined, link_of}
-use Rattle.lgm_graph.specs.Sound.{graph_in, AreInto, AreOut, AreFlags, is_allowed, is_among, HasEnds}
+use Rattle.lgm_graph.specs.inner.Sound.{graph_in, AreInto, AreOut, AreFlags, is_allowed, is_among, HasEnds}
 use Rattle.lgm_graph.proofs.Numbers.{found_holds}
 use Rattle.lgm_graph.proofs.Carrying.{All_to, IsOfChannel, carrying_of}
 use Rattle.lgm_graph.proofs.Showing.{All-test, All_append, passing, links_at}

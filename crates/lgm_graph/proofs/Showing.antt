@@ -14,8 +14,8 @@ use Rattle.lgm_store.proofs.Points.{same_point, is_point-self}
 use Rattle.lgm_graph.specs.declared.edge.Edge.{Edge}
 use Rattle.lgm_graph.specs.declared.link.Link.{Link}
 use Rattle.lgm_graph.specs.Graph.{number_of, IsNumbered, IsJoined, link_of, links_by, Shows}
-use Rattle.lgm_graph.specs.Lists.{to_key, link_key, IsCut, put_at}
-use Rattle.lgm_graph.specs.Walk.{KeepsNumbers}
+use Rattle.lgm_graph.specs.inner.Lists.{to_key, link_key, IsCut, put_at}
+use Rattle.lgm_graph.specs.inner.Walk.{KeepsNumbers}
 use Rattle.lgm_graph.proofs.Carrying.{All_to, IsCut-filter, put_at-none, option_filter, filter-put}
 use Rattle.lgm_graph.proofs.Numbers.{get_number}
 use Rattle.lgm_graph.proofs.Places.{get_map}

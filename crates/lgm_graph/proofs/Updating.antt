@@ -16,8 +16,8 @@ use Rattle.lgm_graph.specs.declared.link.Link.{Link}
 use Rattle.lgm_graph.specs.declared.nodes.Nodes.{Nodes}
 use Rattle.lgm_graph.specs.Edges.{edge_of, edge_on, edge_in, end_of, carrying}
 use Rattle.lgm_graph.specs.Graph.{number_of, IsGraphOf, IsNumbered, IsJoined, link_of, linked}
-use Rattle.lgm_graph.specs.Lists.{to_key, link_key, IsCut, put_at}
-use Rattle.lgm_graph.specs.Sound.{graph_in, links_in}
+use Rattle.lgm_graph.specs.inner.Lists.{to_key, link_key, IsCut, put_at}
+use Rattle.lgm_graph.specs.inner.Sound.{graph_in, links_in}
 use Rattle.lgm_graph.proofs.Numbers.{ends_numbered}
 use Rattle.lgm_graph.proofs.Making.{same_points, same_takes, same_into, same_out}
 use Rattle.lgm_graph.proofs.Carrying.{All_to, IsOfChannel, carrying_of, carrying_cut, carrying_put, edge_in-some}

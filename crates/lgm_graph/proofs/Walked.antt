@@ -12,8 +12,8 @@ use Rattle.lgm_graph.specs.declared.link.Link.{Link}
 use Rattle.lgm_graph.specs.declared.nodes.Nodes.{Nodes}
 use Rattle.lgm_graph.specs.Edges.{carrying}
 use Rattle.lgm_graph.specs.Graph.{Graph, IsGraphOf, IsNumbered}
-use Rattle.lgm_graph.specs.Sound.{graph_in, ShowsIn, AreLookedAt}
-use Rattle.lgm_graph.specs.Walk.{AreLinksOf, KeepsNumbers, HasWalked, edges_of_channel}
+use Rattle.lgm_graph.specs.inner.Sound.{graph_in, ShowsIn, AreLookedAt}
+use Rattle.lgm_graph.specs.inner.Walk.{AreLinksOf, KeepsNumbers, HasWalked, edges_of_channel}
 use Rattle.lgm_graph.proofs.Carrying.{All_to}
 use Rattle.lgm_graph.proofs.Showing.{All_append, append-none}
 use Rattle.lgm_graph.proofs.ByChannel.{by_channel}

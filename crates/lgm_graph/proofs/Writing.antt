@@ -15,8 +15,8 @@ use Rattle.lgm_graph.specs.declared.link.Link.{Link}
 use Rattle.lgm_graph.specs.declared.nodes.Nodes.{Nodes}
 use Rattle.lgm_graph.specs.Edges.{edge_on, end_of}
 use Rattle.lgm_graph.specs.Graph.{IsJoined, IsNumbered, link_of, linked, number_of}
-use Rattle.lgm_graph.specs.Sound.{graph_in, links_in, ShowsIn}
-use Rattle.lgm_graph.specs.Walk.{AreLinksOf, KeepsNumbers, edge_of_direction, edges_of_channel}
+use Rattle.lgm_graph.specs.inner.Sound.{graph_in, links_in, ShowsIn}
+use Rattle.lgm_graph.specs.inner.Walk.{AreLinksOf, KeepsNumbers, edge_of_direction, edges_of_channel}
 use Rattle.lgm_graph.proofs.Carrying.{All_to}
 use Rattle.lgm_graph.proofs.Making.{edge_from, edge_to, end_numbered, into_long, out_long, pushed, update_second}
 use Rattle.lgm_graph.proofs.Places.{get_map}

@@ -4,8 +4,8 @@ ghost use Rattle.std.specs.Prelude.{◌≡◌, ◌++◌, ◌∷◌, [], ◌<◌,
 ghost use Rattle.std.specs.List.{HoldsAt};
 ghost use Rattle.std.specs.Vec.{vec_capacity};
 ghost use Rattle.std.specs.Ordering.{is_lt, is_gt};
-ghost use Rattle.lgm_graph.specs.Lists.{link_key, IsCut, put_at};
-ghost use Rattle.lgm_graph.specs.Sound.{links_in, HasRoom, is_not_of, is_allowed, banned_at};
+ghost use Rattle.lgm_graph.specs.inner.Lists.{link_key, IsCut, put_at};
+ghost use Rattle.lgm_graph.specs.inner.Sound.{links_in, HasRoom, is_not_of, is_allowed, banned_at};
 
 use crate::link::Link;
 use crate::nodes::Links;

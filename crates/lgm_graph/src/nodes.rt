@@ -6,12 +6,12 @@ ghost use Rattle.indexmap.specs.IndexSet.{spare};
 ghost use Rattle.lgm_wire.specs.declared.point.Point.{Point as APoint};
 ghost use Rattle.lgm_graph.specs.declared.edge.Edge.{Edge as AnEdge};
 ghost use Rattle.lgm_graph.specs.declared.link.Link.{Link as ALink};
-ghost use Rattle.lgm_graph.specs.Walk.{KeepsNumbers};
+ghost use Rattle.lgm_graph.specs.inner.Walk.{KeepsNumbers};
 ghost use Rattle.lgm_store.specs.Rows.{is_point};
 ghost use Rattle.lgm_graph.specs.Edges.{takes_payments};
-ghost use Rattle.lgm_graph.specs.Lists.{link_key, IsCut, put_at};
+ghost use Rattle.lgm_graph.specs.inner.Lists.{link_key, IsCut, put_at};
 ghost use Rattle.lgm_graph.specs.Graph.{number_of, IsNumbered};
-ghost use Rattle.lgm_graph.specs.Sound.{graph_in, links_in, HasRoom, HasPlaces, AreFlags, AreInto, AreOut, AreLookedAt, ShowsIn, closed_at, allowed_at};
+ghost use Rattle.lgm_graph.specs.inner.Sound.{graph_in, links_in, HasRoom, HasPlaces, AreFlags, AreInto, AreOut, AreLookedAt, ShowsIn, closed_at, allowed_at};
 
 use crate::known::Known;
 use crate::link::Link;

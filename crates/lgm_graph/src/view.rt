@@ -39,7 +39,7 @@ impl Model for View {
 
     ghost Value = { Graph };
 
-    ghost use Rattle.lgm_graph.specs.Sound.{graph_in, IsSound};
+    ghost use Rattle.lgm_graph.specs.inner.Sound.{graph_in, IsSound};
 
     ghost view = { λ v. graph_in v.known v.nodes };
 

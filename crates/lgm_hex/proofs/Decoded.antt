@@ -9,7 +9,7 @@ use Rattle.std.proofs.lemmas.Simd.{bitmask_splat, bit_mask_l, below_from_Fits, E
 use lib.Lanes.{zip2, sel_l, mask_l, top, Each1, chunk, put_chunk, number_l, digits_l}
 use Rattle.hex.specs.Hex.{◌>>=◌, hex_digit_value, digit_or_error, pair_value, decode_pairs, decode_sized}
 use Rattle.hex.proofs.Pairs.{prepend, decode_start, decode_step, decode_done, decode_sized-pairs}
-use Rattle.lgm_hex.specs.Digits.{IsValue, AreValid, IsDecoded}
+use Rattle.lgm_hex.specs.inner.Digits.{IsValue, AreValid, IsDecoded}
 
 -- ---- values, lane by lane
 

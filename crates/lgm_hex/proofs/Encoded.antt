@@ -8,7 +8,7 @@ use Rattle.std.proofs.lemmas.Simd.{SwzOk, swz_l, SwzOk-from_below, get_or-swz_l_
 use lib.Lanes.{zip2, pick_l, chunk, put_chunk}
 use Rattle.hex.specs.Hex.{lower_digits, encode_with, encode_lower}
 use Rattle.hex.proofs.Pairs.{encode_step, encode_done}
-use Rattle.lgm_hex.specs.Digits.{IsEncoded}
+use Rattle.lgm_hex.specs.inner.Digits.{IsEncoded}
 
 -- ---- digits, lane by lane
 

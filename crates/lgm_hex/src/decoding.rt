@@ -3,7 +3,7 @@
 ghost use Rattle.std.specs.Prelude.{◌≡◌, ◌≢◌, ℕ, ◌+◌, ◌*◌, ◌/◌, ◌%◌, ◌<◌, ◌≤◌, ◌⊎◌, [], length, map, slice_index, vec_capacity, IsTrue, IfOk, IfErr, OnOk, OnErr, MatchResult};
 ghost use Rattle.hex.specs.Hex.{decode_of, decode_sized};
 ghost use Rattle.hex.specs.declared.error.FromHexError.TheVariants.{OddLength, OutOfMemory};
-ghost use Rattle.lgm_hex.specs.Digits.{IsValue, AreValid, IsDecoded};
+ghost use Rattle.lgm_hex.specs.inner.Digits.{IsValue, AreValid, IsDecoded};
 
 use hex::FromHexError;
 use std::alloc::Allocator;

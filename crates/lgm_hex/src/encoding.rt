@@ -2,7 +2,7 @@
 
 ghost use Rattle.std.specs.Prelude.{◌≡◌, ℕ, ◌+◌, ◌*◌, ◌<◌, ◌≤◌, ◌↔◌, ◌++◌, length, slice_index, IsOk, IfErr, OnOk, OnErr};
 ghost use Rattle.hex.specs.Hex.{encode_lower, lower_digits};
-ghost use Rattle.lgm_hex.specs.Digits.{IsEncoded};
+ghost use Rattle.lgm_hex.specs.inner.Digits.{IsEncoded};
 ghost use Rattle.hex.specs.declared.error.FromHexError.TheVariants.{InvalidStringLength};
 
 use hex::FromHexError;

@@ -20,7 +20,7 @@ use Rattle.lgm_publish.specs.Lists.{IsLonger}
 use Rattle.lgm_live.specs.declared.report.LiveAnswer.{LiveAnswer}
 use Rattle.lgm_live.specs.declared.working.Worked.{Worked}
 use Rattle.lgm_live.specs.Answers.{IsAnsweredBy, AreAnsweredBy, NeverFall, IsAtEnd}
-use Rattle.lgm_live.specs.Worked.{HasWorked, AreOf, HaveWorked}
+use Rattle.lgm_live.specs.inner.Worked.{HasWorked, AreOf, HaveWorked}
 
 -- the first ones of a list are those of a list that goes on from it
 take_begun : (ops more : List Op) (n : ℕ) → IsPrefix ops more → n ≤ length ops → take n ops ≡ take n more

@@ -16,7 +16,7 @@ use Rattle.lgm_server.specs.Outcomes.{outcome_of, with_outcome, outcomes_behind,
 use Rattle.lgm_server.proofs.Stepping.{outcome_joins}
 use Rattle.lgm_live.specs.declared.writing.Written.{Written}
 use Rattle.lgm_live.specs.Batches.{items_of, ends_behind, ends_of}
-use Rattle.lgm_live.specs.Written.{IsWritten}
+use Rattle.lgm_live.specs.inner.Written.{IsWritten}
 
 outcomes_behind-push : (chain : ChainHash) (history : List Op) (items : List Item) (item : Item)
     → outcomes_behind chain history (items ++ item ∷ []) ≡ outcomes_behind chain history items ++ outcome_of chain (fold (history ++ filter_map result_ok (outcomes_behind chain history items))) item ∷ []

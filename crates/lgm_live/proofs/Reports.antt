@@ -14,7 +14,7 @@ use Rattle.lgm_live.specs.declared.report.LiveReport.{LiveReport}
 use Rattle.lgm_live.specs.declared.working.Worked.{Worked}
 use Rattle.lgm_live.specs.declared.writing.Written.{Written}
 use Rattle.lgm_live.specs.Answers.{AreAnsweredBy, NeverFall, IsAtEnd}
-use Rattle.lgm_live.specs.Worked.{HasWorked, AreOf, HaveWorked, IsTied, IsOfWriter}
+use Rattle.lgm_live.specs.inner.Worked.{HasWorked, AreOf, HaveWorked, IsTied, IsOfWriter}
 use Rattle.lgm_live.proofs.Answers.{zip_second}
 
 -- eyes of one board with the same known features

@@ -9,10 +9,10 @@ use Rattle.lgm_script.specs.Device.{Appends, AppendsSome}
 use Rattle.lgm_live.specs.declared.report.LiveReport.{LiveReport}
 use Rattle.lgm_live.specs.declared.slot.Slot.{Slot}
 use Rattle.lgm_live.specs.Agenda.{batches_of, payments_of}
-use Rattle.lgm_live.specs.Gathered.{Gathered, slot_of, IsAgenda}
-use Rattle.lgm_live.specs.Reading.{IsAsked}
+use Rattle.lgm_live.specs.inner.Gathered.{Gathered, slot_of, IsAgenda}
+use Rattle.lgm_live.specs.inner.Reading.{IsAsked}
 use Rattle.lgm_live.specs.Running.{IsReport, IsReportOn, IsToldWhole, IsToldInPart}
-use Rattle.lgm_live.specs.Telling.{slots_before, AreThere}
+use Rattle.lgm_live.specs.inner.Telling.{slots_before, AreThere}
 use Rattle.lgm_live.specs.Told.{told_all, AreSame}
 use Rattle.lgm_live.proofs.Slots.{text_is, all_there}
 use Rattle.lgm_live.proofs.Scripts.{are_same, is_full}

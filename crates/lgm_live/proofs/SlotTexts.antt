@@ -13,7 +13,7 @@ use Rattle.lgm_live.specs.declared.slot.Slot.{Slot}
 use Rattle.lgm_live.specs.declared.slot.Slot.TheVariants as slots
 use Rattle.lgm_live.specs.declared.telling.Place.{Place}
 use Rattle.lgm_live.specs.Told.{at_line}
-use Rattle.lgm_live.specs.Telling.{is_item, is_end, is_payment, place_behind, place_passed, slot_text, slots_before}
+use Rattle.lgm_live.specs.inner.Telling.{is_item, is_end, is_payment, place_behind, place_passed, slot_text, slots_before}
 
 -- ---- the line of a version
 

@@ -17,9 +17,9 @@ use Rattle.lgm_live.specs.declared.report.LiveReport.{LiveReport}
 use Rattle.lgm_live.specs.declared.slot.Slot.{Slot}
 use Rattle.lgm_live.specs.declared.slot.Slot.TheVariants as slots
 use Rattle.lgm_live.specs.Agenda.{payment_in, payments_of}
-use Rattle.lgm_live.specs.Gathered.{slot_of}
+use Rattle.lgm_live.specs.inner.Gathered.{slot_of}
 use Rattle.lgm_live.specs.Told.{answer_at, at_line, replay_word, payment_text, told_for, told_before, told_all, AreSame}
-use Rattle.lgm_live.specs.Telling.{is_item, is_end, is_payment, place_behind, same_text, slot_text, slots_before, IsThere, AreThere}
+use Rattle.lgm_live.specs.inner.Telling.{is_item, is_end, is_payment, place_behind, same_text, slot_text, slots_before, IsThere, AreThere}
 
 pub count_by-cons : {X : Type 0} (p : X → Bool) (x : X) (xs : List X) → count_by p (x ∷ xs) ≡ cond (p x) 1 0 + count_by p xs
 count_by-cons p x xs = sum_by-cons (λ y. cond (p y) 1 0) x xs

@@ -16,7 +16,7 @@ use Rattle.lgm_script.proofs.Splitting.{next_of}
 use Rattle.lgm_live.specs.declared.run_live_fault.RunLiveFault.{RunLiveFault}
 use Rattle.lgm_live.specs.declared.run_live_fault.RunLiveFault.TheVariants.{LineTooLong}
 use Rattle.lgm_live.specs.Running.{line_fault, AreShort, HasMoreLines, HasLongLine}
-use Rattle.lgm_live.specs.Reading.{IsAsked}
+use Rattle.lgm_live.specs.inner.Reading.{IsAsked}
 
 -- so many lines were read, and this is left
 pub record IsAt (script : List ℕ) (asked : List Request) (input : Option (List ℕ)) : Type 0 where

@@ -1,10 +1,6 @@
 pub mod Answers
 pub mod Batches
-pub mod Written
-pub mod Worked
 pub mod Agenda
-pub mod Gathered
 pub mod Told
-pub mod Telling
 pub mod Running
-pub mod Reading
+pub mod inner

@@ -1,7 +1,7 @@
 //! Offering an item to the writer's map.
 
 ghost use Rattle.std.specs.Prelude.{◌≡◌, IfOk, OnErr};
-ghost use Rattle.lgm_wire.specs.Reading.{Gives};
+ghost use Rattle.lgm_wire.specs.reading.Reading.{Gives};
 ghost use Rattle.lgm_store.specs.History.{absorbed};
 ghost use Rattle.lgm_server.specs.Outcomes.{outcome_of};
 

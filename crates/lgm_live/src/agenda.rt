@@ -1,7 +1,7 @@
 //! What the lines of a script request, collected before any of it is answered.
 
 ghost use Rattle.std.specs.Prelude.{◌≡◌, ◌+◌, ◌%◌, ◌<◌, ◌^◌, [], ◌∷◌, ◌++◌, length, replicate, IfOk, OnOk};
-ghost use Rattle.lgm_live.specs.Gathered.{slot_of, given, with_request, with_line};
+ghost use Rattle.lgm_live.specs.inner.Gathered.{slot_of, given, with_request, with_line};
 
 use crate::batches::Batches;
 use crate::requests::RequestLists;
@@ -31,7 +31,7 @@ pub(crate) struct Agenda {
 }
 
 impl Model for Agenda {
-    ghost use Rattle.lgm_live.specs.Gathered.{Gathered};
+    ghost use Rattle.lgm_live.specs.inner.Gathered.{Gathered};
 
     ghost Value = { Gathered };
 

@@ -7,8 +7,8 @@ ghost use Rattle.std.specs.Thread.{IsSync};
 ghost use Rattle.lgm_server.specs.Outcomes.{outcomes, history_of};
 ghost use Rattle.lgm_live.specs.Answers.{AreAnsweredBy, NeverFall, IsAtEnd};
 ghost use Rattle.lgm_live.specs.Batches.{items_of, ends_of};
-ghost use Rattle.lgm_live.specs.Worked.{HaveWorked, IsTied, IsOfWriter};
-ghost use Rattle.lgm_live.specs.Written.{IsWritten};
+ghost use Rattle.lgm_live.specs.inner.Worked.{HaveWorked, IsTied, IsOfWriter};
+ghost use Rattle.lgm_live.specs.inner.Written.{IsWritten};
 
 use crate::batches::{Batch, Batches};
 use crate::fault::LiveFault;

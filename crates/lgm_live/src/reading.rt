@@ -2,8 +2,8 @@
 
 ghost use Rattle.std.specs.Prelude.{◌≡◌, ◌≢◌, ◌≤◌, ◌+◌, ◌<◌, ◌^◌, [], length, take, drop, IfSome, IfOk, IfErr, OnOk};
 ghost use Rattle.lgm_script.specs.Request.{request_of};
-ghost use Rattle.lgm_live.specs.Gathered.{with_line};
-ghost use Rattle.lgm_live.specs.Reading.{IsNoted, IsRead};
+ghost use Rattle.lgm_live.specs.inner.Gathered.{with_line};
+ghost use Rattle.lgm_live.specs.inner.Reading.{IsNoted, IsRead};
 ghost use Rattle.lgm_live.specs.Running.{HasMoreLines, HasLongLine};
 
 use crate::agenda::Agenda;

@@ -2,7 +2,7 @@
 
 ghost use Rattle.std.specs.Prelude.{◌≡◌, ◌<◌, List, [], ◌∷◌, ◌++◌, length, replicate, IfOk, OnOk, OnErr};
 ghost use Rattle.lgm_route.specs.declared.request.Request.{Request};
-ghost use Rattle.lgm_live.specs.Gathered.{given};
+ghost use Rattle.lgm_live.specs.inner.Gathered.{given};
 
 use lgm_route::Request;
 use std::alloc::{AllocError, Global};

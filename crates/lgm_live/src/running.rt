@@ -2,8 +2,8 @@
 
 ghost use Rattle.std.specs.Prelude.{◌≡◌, ◌⊎◌, ◌+◌, ◌<◌, ◌≤◌, ◌^◌, [], length, IfSome, IfOk, IfErr, OnErr};
 ghost use Rattle.lgm_script.specs.Device.{Appends, AppendsSome};
-ghost use Rattle.lgm_live.specs.Gathered.{IsAgenda};
-ghost use Rattle.lgm_live.specs.Reading.{IsRead};
+ghost use Rattle.lgm_live.specs.inner.Gathered.{IsAgenda};
+ghost use Rattle.lgm_live.specs.inner.Reading.{IsRead};
 ghost use Rattle.lgm_live.specs.Running.{IsToldWhole, IsToldInPart, HasMoreLines, HasLongLine, ComesFirst};
 
 use crate::growing::live;

@@ -6,7 +6,7 @@ ghost use Rattle.lgm_script.specs.Device.{Appends, AppendsSome};
 ghost use Rattle.lgm_script.specs.Output.{Sends, SendsPart};
 ghost use Rattle.lgm_server.specs.Answer.{route_text};
 ghost use Rattle.lgm_live.specs.Told.{answer_at};
-ghost use Rattle.lgm_live.specs.Telling.{place_passed, same_text, slot_text, slots_before, IsThere, AreThere};
+ghost use Rattle.lgm_live.specs.inner.Telling.{place_passed, same_text, slot_text, slots_before, IsThere, AreThere};
 ghost use Rattle.lgm_live.specs.declared.report.LiveAnswer.{LiveAnswer};
 
 use crate::report::{LiveAnswer, LiveReport};

@@ -3,7 +3,7 @@
 ghost use Rattle.std.specs.Prelude.{◌≡◌, ◌≤◌, length, All, IsTrue, IfOk};
 ghost use Rattle.std.specs.List.{AllZip};
 ghost use Rattle.lgm_live.specs.Answers.{IsAtEnd};
-ghost use Rattle.lgm_live.specs.Worked.{IsTied};
+ghost use Rattle.lgm_live.specs.inner.Worked.{IsTied};
 
 use crate::fault::LiveFault;
 use crate::report::LiveAnswer;

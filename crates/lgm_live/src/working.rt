@@ -6,7 +6,7 @@ ghost use Rattle.lgm_store.specs.History.{fold};
 ghost use Rattle.lgm_graph.specs.Edges.{edges_of};
 ghost use Rattle.lgm_route.specs.Choice.{answer_of};
 ghost use Rattle.lgm_live.specs.Answers.{AreAnsweredBy, NeverFall};
-ghost use Rattle.lgm_live.specs.Worked.{HaveWorked};
+ghost use Rattle.lgm_live.specs.inner.Worked.{HaveWorked};
 
 use crate::fault::LiveFault;
 use crate::report::LiveAnswer;

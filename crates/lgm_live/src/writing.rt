@@ -3,7 +3,7 @@
 ghost use Rattle.std.specs.Prelude.{◌≡◌, ◌+◌, ◌<◌, ◌≤◌, List, [], ◌∷◌, ◌++◌, length, All, IfOk, OnOk};
 ghost use Rattle.lgm_script.specs.declared.item.Item.{Item};
 ghost use Rattle.lgm_live.specs.Batches.{items_of, ends_of};
-ghost use Rattle.lgm_live.specs.Written.{IsWritten};
+ghost use Rattle.lgm_live.specs.inner.Written.{IsWritten};
 
 use crate::admitting::admit;
 use crate::batches::Batch;

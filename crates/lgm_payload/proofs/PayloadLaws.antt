@@ -10,12 +10,12 @@ use Rattle.std.proofs.lemmas.List.{take-append-drop, take_at, drop_at, length-ap
 use Rattle.std.proofs.lemmas.List.Elements.{All-from_recursion}
 use Rattle.std.proofs.Math.Nat.{pow-le-pow_right}
 use Rattle.lgm_wire.specs.declared.fault.WireFault.{WireFault}
-use Rattle.lgm_wire.specs.Reading.{◌>>=◌, Gives}
-use Rattle.lgm_wire.specs.BigSizeReading.{bigsize_at}
+use Rattle.lgm_wire.specs.reading.Reading.{◌>>=◌, Gives}
+use Rattle.lgm_wire.specs.reading.BigSizeReading.{bigsize_at}
 use Rattle.lgm_wire.specs.TruncatedInteger.{number_of, IsTruncatedInteger, StartsWithZero, truncated_bytes}
-use Rattle.lgm_wire.specs.TruncatedIntegerReading.{starts_with_zero}
+use Rattle.lgm_wire.specs.reading.TruncatedIntegerReading.{starts_with_zero}
 use Rattle.lgm_wire.specs.Tlv.{TlvRecord}
-use Rattle.lgm_wire.specs.TlvReading.{tlvs_of}
+use Rattle.lgm_wire.specs.reading.TlvReading.{tlvs_of}
 use Rattle.lgm_wire.specs.declared.tlv.Tlv.{Tlv}
 use Rattle.lgm_wire.specs.TlvView.{record_of, records_of}
 use Rattle.lgm_wire.proofs.TruncatedIntegerLaws.{number_of-below, short_bytes, same_bytes, IsTruncatedInteger-truncated_bytes}
@@ -26,7 +26,7 @@ use Rattle.lgm_payload.specs.declared.hop_payload.HopPayload.{HopPayload}
 use Rattle.lgm_payload.specs.declared.hop_payload.Payment.{Payment}
 use Rattle.lgm_payload.specs.declared.reading.Known.{Known}
 use Rattle.lgm_payload.specs.HopPayload.{value_of, payment_bytes, IsKnown, Fits, IsOneWay, IsPayload}
-use Rattle.lgm_payload.specs.Reading.{unless, behind_len, or_tlv, number_fault, scid_fault, payment_fault, payment_of, is_blinded, unknown_fault, record_fault, first_fault, known_in, known_at, whole_of, whole, payload_at, fault, text_at, stream_at}
+use Rattle.lgm_payload.specs.reading.Reading.{unless, behind_len, or_tlv, number_fault, scid_fault, payment_fault, payment_of, is_blinded, unknown_fault, record_fault, first_fault, known_in, known_at, whole_of, whole, payload_at, fault, text_at, stream_at}
 use Rattle.lgm_payload.proofs.Records.{both_none, lawful_value, each_value, AreTold, fault_at}
 
 -- ---- numbers

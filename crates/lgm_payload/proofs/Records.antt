@@ -13,7 +13,7 @@ use Rattle.lgm_gossip.proofs.WireLaws.{chosen, IsBytes}
 use Rattle.lgm_payload.specs.declared.fault.PayloadFault.{PayloadFault}
 use Rattle.lgm_payload.specs.declared.reading.Known.{Known}
 use Rattle.lgm_payload.specs.HopPayload.{value_of, value_before}
-use Rattle.lgm_payload.specs.Reading.{record_fault, or_later, first_fault, payment_of, with_record, known_in}
+use Rattle.lgm_payload.specs.reading.Reading.{record_fault, or_later, first_fault, payment_of, with_record, known_in}
 
 -- ---- one more record
 

@@ -1,3 +1,3 @@
 pub mod HopPayload
 pub mod Building
-pub mod Reading
+pub mod reading

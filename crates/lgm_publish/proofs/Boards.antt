@@ -13,9 +13,9 @@ use Rattle.lgm_store.specs.History as store
 use Rattle.lgm_publish.specs.declared.edition.Entry.{Entry}
 use Rattle.lgm_publish.specs.declared.edition.Entry.TheVariants.{Absorb, Reach}
 use Rattle.lgm_publish.specs.Handles.{History, history}
-use Rattle.lgm_publish.specs.Contents.{Contents}
-use Rattle.lgm_publish.specs.Editions.{after_op, after_entry}
-use Rattle.lgm_publish.specs.Shown.{ops_of, reached, whole, IsComplete, Publishes, IsFold, GoesOn, Follows, Holds, Sees}
+use Rattle.lgm_publish.specs.inner.Contents.{Contents}
+use Rattle.lgm_publish.specs.inner.Editions.{after_op, after_entry}
+use Rattle.lgm_publish.specs.inner.Shown.{ops_of, reached, whole, IsComplete, Publishes, IsFold, GoesOn, Follows, Holds, Sees}
 use Rattle.lgm_publish.proofs.Beginnings.{prefix_self, prefix_trans}
 
 -- ---- what a thread saw last

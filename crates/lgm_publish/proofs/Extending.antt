@@ -7,7 +7,7 @@ use prog.Atomic.{either}
 use Rattle.logbook.specs.Pages.{Cell, cell, keeps, no_nib, step, Moves, Goes}
 use Rattle.lgm_store.specs.declared.op.Op.{Op}
 use Rattle.lgm_publish.specs.Lists.{joined}
-use Rattle.lgm_publish.specs.Book.{IsKept, Extends}
+use Rattle.lgm_publish.specs.inner.Book.{IsKept, Extends}
 use Rattle.lgm_publish.proofs.Beginnings.{prefix_whole, joined_prefix, joined_append}
 
 abbrev pub shown : List (List Op) → List (List Op)

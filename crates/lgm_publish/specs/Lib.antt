@@ -1,9 +1,6 @@
 pub mod Lists
-pub mod Book
 pub mod Handles
-pub mod Contents
-pub mod Editions
-pub mod Shown
 pub mod Appended
 pub mod World
 pub mod Laws
+pub mod inner

@@ -3,7 +3,7 @@
 ghost use Rattle.std.specs.Prelude.{◌≡◌, ◌≤◌, IfOk, OnOk, OnErr};
 ghost use Rattle.lgm_store.specs.Rows.{empty};
 ghost use Rattle.lgm_graph.specs.Graph.{IsGraphOf};
-ghost use Rattle.lgm_publish.specs.Editions.{after_op, after_entry};
+ghost use Rattle.lgm_publish.specs.inner.Editions.{after_op, after_entry};
 
 use crate::told::Told;
 use left_right::Absorb;
@@ -35,7 +35,7 @@ pub(crate) struct Edition {
 
 impl Model for Edition {
     ghost use Rattle.std.specs.Prelude.{◌≤◌, ◌*◌, length};
-    ghost use Rattle.lgm_publish.specs.Contents.{Contents};
+    ghost use Rattle.lgm_publish.specs.inner.Contents.{Contents};
 
     ghost Value = { Contents };
 

@@ -5,7 +5,7 @@ ghost use mathlib.Core.List.{IsPrefix};
 ghost use Rattle.left_right.specs.Sides.{view as last_of};
 ghost use Rattle.lgm_store.specs.History.{fold};
 ghost use Rattle.lgm_graph.specs.Graph.{IsGraphOf};
-ghost use Rattle.lgm_publish.specs.Contents.{Contents, sight, known_in};
+ghost use Rattle.lgm_publish.specs.inner.Contents.{Contents, sight, known_in};
 ghost use Rattle.lgm_publish.specs.Lists.{IsLonger};
 
 use crate::edition::Edition;
@@ -28,7 +28,7 @@ impl Model for Eye {
     ghost use Rattle.std.specs.Prelude.{◌≡◌, Some};
     ghost use Rattle.left_right.specs.Sides.{view as last_of};
     ghost use Rattle.lgm_publish.specs.Handles.{Sight, sight_code};
-    ghost use Rattle.lgm_publish.specs.Contents.{Contents, sight, known_in};
+    ghost use Rattle.lgm_publish.specs.inner.Contents.{Contents, sight, known_in};
 
     ghost Value = { Sight };
 
@@ -99,8 +99,8 @@ impl Model for Guard {
     ghost use Rattle.std.specs.Prelude.{◌≡◌, Some};
     ghost use Rattle.left_right.specs.Sides.{view as last_of};
     ghost use Rattle.lgm_publish.specs.Handles.{Sight, sight_code};
-    ghost use Rattle.lgm_publish.specs.Contents.{sight};
-    ghost use Rattle.lgm_publish.specs.Shown.{IsFold};
+    ghost use Rattle.lgm_publish.specs.inner.Contents.{sight};
+    ghost use Rattle.lgm_publish.specs.inner.Shown.{IsFold};
 
     ghost Value = { Sight };
 

@@ -2,7 +2,7 @@
 
 ghost use Rattle.std.specs.Prelude.{◌≡◌, ◌≤◌, [], length, Some, All, IfOk};
 ghost use Rattle.left_right.specs.Sides.{view as last_of};
-ghost use Rattle.lgm_publish.specs.Contents.{sight};
+ghost use Rattle.lgm_publish.specs.inner.Contents.{sight};
 
 use crate::edition::Edition;
 use crate::eye::Eye;

@@ -2,8 +2,8 @@
 
 ghost use Rattle.std.specs.Prelude.{◌≡◌, ◌≤◌, [], ◌∷◌, ◌++◌, length, drop, IfErr, MatchResult};
 ghost use Rattle.lgm_publish.specs.Appended.{AppendIs};
-ghost use Rattle.lgm_publish.specs.Book.{head_of};
-ghost use Rattle.lgm_publish.specs.Shown.{IsComplete, Publishes, whole};
+ghost use Rattle.lgm_publish.specs.inner.Book.{head_of};
+ghost use Rattle.lgm_publish.specs.inner.Shown.{IsComplete, Publishes, whole};
 
 use crate::edition::LIMIT;
 use crate::faults::{AppendCause, AppendFault, NoMemory};
@@ -20,7 +20,7 @@ pub(crate) struct Whole;
 
 impl Plain<Sides, [Op; 0], u64> for Whole {
     ghost use Rattle.std.specs.Prelude.{None, drop};
-    ghost use Rattle.lgm_publish.specs.Shown.{whole};
+    ghost use Rattle.lgm_publish.specs.inner.Shown.{whole};
 
     ghost ask = { λ w. (whole w.desk.shown.value.told (drop w.behind w.log.items)).ops };
 
@@ -42,7 +42,7 @@ pub struct Pen {
 impl Model for Pen {
     ghost use Rattle.std.specs.Prelude.{drop};
     ghost use Rattle.lgm_publish.specs.Handles.{Writing, writing_code};
-    ghost use Rattle.lgm_publish.specs.Shown.{IsNoted, ops_of, whole};
+    ghost use Rattle.lgm_publish.specs.inner.Shown.{IsNoted, ops_of, whole};
 
     ghost Value = { Writing };
 

@@ -1,7 +1,7 @@
 //! The invariant of a board: what is published is a fold, and extends all that its threads have observed.
 
 ghost use Rattle.std.specs.Prelude.{None};
-ghost use Rattle.lgm_publish.specs.Shown.{Holds, Sees, taken};
+ghost use Rattle.lgm_publish.specs.inner.Shown.{Holds, Sees, taken};
 
 use crate::edition::Edition;
 use atomic_table::{Join, Split};

@@ -2,7 +2,7 @@
 
 ghost use Rattle.std.specs.Prelude.{◌≡◌, ◌≤◌, ◌∷◌, [], ◌++◌, length, drop, Some, IfOk, IfErr, OnOk, OnErr};
 ghost use Rattle.left_right.specs.Sides.{view as last_of};
-ghost use Rattle.lgm_publish.specs.Shown.{ops_of, whole, IsComplete, Publishes};
+ghost use Rattle.lgm_publish.specs.inner.Shown.{ops_of, whole, IsComplete, Publishes};
 
 use crate::edition::{Edition, Entry};
 use crate::faults::NoMemory;

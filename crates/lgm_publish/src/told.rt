@@ -2,7 +2,7 @@
 
 ghost use Rattle.std.specs.Prelude.{◌≡◌, ◌≤◌, [], length, None, MatchBool};
 ghost use mathlib.Core.List.{IsPrefix};
-ghost use Rattle.lgm_publish.specs.Book.{head_of};
+ghost use Rattle.lgm_publish.specs.inner.Book.{head_of};
 
 use lgm_store::Op;
 use logbook::{Gain, Offer, Plain, Play, Rule, Seen, Start, Word};
@@ -14,7 +14,7 @@ pub(crate) struct Law;
 impl Rule<[Op; 0], u64> for Law {
     ghost use Rattle.std.specs.Prelude.{[]};
     ghost use base.Fml.{ftrue};
-    ghost use Rattle.lgm_publish.specs.Book.{IsKept};
+    ghost use Rattle.lgm_publish.specs.inner.Book.{IsKept};
 
     ghost holds = { λ cells log. IsKept cells log };
 
@@ -42,7 +42,7 @@ impl Gain<[Op; 0], u64> for Nothing {
 pub(crate) struct Extend;
 
 impl Play<[Op; 0], u64> for Extend {
-    ghost use Rattle.lgm_publish.specs.Book.{Extends};
+    ghost use Rattle.lgm_publish.specs.inner.Book.{Extends};
 
     ghost then = { Extends };
 }

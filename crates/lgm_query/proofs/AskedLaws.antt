@@ -8,7 +8,7 @@ use Rattle.std.proofs.lemmas.Slice.Zip.{length-zip, get_or-zip}
 use Rattle.lgm_gossip.specs.IdsQuery.{Query}
 use Rattle.lgm_store.specs.Rows.{Rows}
 use Rattle.lgm_query.specs.IdsReply.{chosen, flags_of, messages_asked_for}
-use Rattle.lgm_query.specs.Sent.{Sent, AreSent, Sends}
+use Rattle.lgm_query.specs.inner.Sent.{Sent, AreSent, Sends}
 
 -- there are as many flags as ids
 pub length-flags_of : (query : Query) → ForSome query.flags (λ flags. length flags ≡ length query.ids) → length (flags_of query) ≡ length query.ids

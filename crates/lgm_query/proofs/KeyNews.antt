@@ -21,8 +21,8 @@ use Rattle.lgm_check.specs.declared.row.UpdateRow.{UpdateRow}
 use Rattle.lgm_check.specs.declared.row.NodeRow.{NodeRow}
 use Rattle.lgm_store.specs.Rows.{Rows, IsAscending, update_of}
 use Rattle.lgm_store.specs.HeldAt.{held_at}
-use Rattle.lgm_store.specs.Ends.{point_cmp}
-use Rattle.lgm_store.specs.Sound.{id_of, point_of}
+use Rattle.lgm_store.specs.inner.Ends.{point_cmp}
+use Rattle.lgm_store.specs.inner.Sound.{id_of, point_of}
 use Rattle.lgm_store.proofs.Points.{same_point, is_at-point}
 use Rattle.lgm_store.proofs.Lists.{node_total}
 use Rattle.lgm_store.proofs.Ordered.{find-same, filter-alike}

@@ -10,7 +10,7 @@ use Rattle.std.specs.Ordering.{is_eq, nat_cmp, match_ordering}
 use Rattle.std.proofs.lemmas.List.{take_more}
 use Rattle.std.proofs.lemmas.List.Folds.{list_any-append}
 use Rattle.lgm_query.specs.Backlog.{is_among}
-use Rattle.lgm_query.specs.Known.{is_known}
+use Rattle.lgm_query.specs.inner.Known.{is_known}
 
 -- the order of messages
 abbrev pub message_cmp : Bor (List ℕ) → Bor (List ℕ) → Ordering

@@ -16,10 +16,10 @@ use Rattle.lgm_store.specs.declared.held.Held.{Held}
 use Rattle.lgm_store.specs.Rows.{is_point, node_of}
 use Rattle.lgm_store.proofs.Points.{same_point}
 use Rattle.std.proofs.Math.Bool.{or-false}
-use Rattle.lgm_store.specs.Ends.{point_cmp}
+use Rattle.lgm_store.specs.inner.Ends.{point_cmp}
 use Rattle.lgm_query.specs.Piece.{Piece, channel, update, node, bytes_of, are_of_one_node, with_nodes_once}
 use Rattle.lgm_query.specs.IdsReply.{if_set, chosen_of}
-use Rattle.lgm_query.specs.Sent.{Sent, is_of_node, Sends}
+use Rattle.lgm_query.specs.inner.Sent.{Sent, is_of_node, Sends}
 use Rattle.lgm_query.proofs.Pieces.{comes_again, with_nodes_once-push}
 
 -- nothing more

@@ -12,7 +12,7 @@ use Rattle.lgm_query.specs.declared.filter.Filter.{Filter}
 use Rattle.lgm_query.specs.declared.sent_with.SentWith.{SentWith}
 use Rattle.lgm_query.specs.Backlog.{passes, passing_update, behind_announcement, passing_channel, is_among}
 use Rattle.lgm_query.specs.KeyNews.{without_known}
-use Rattle.lgm_query.specs.SentWith.{is_sent_with, sent_with, update_message, passes_update, passed_with, unless_passed}
+use Rattle.lgm_query.specs.inner.SentWith.{is_sent_with, sent_with, update_message, passes_update, passed_with, unless_passed}
 
 first_alone : (a b : Bool) → (((a || (b || false)) && true) || false) ≡ (a || (b || false))
 first_alone true b = refl

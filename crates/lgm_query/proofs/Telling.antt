@@ -1,6 +1,6 @@
 -- What is checked is about its key.
 use Rattle.std.proofs.Common.{◌≡◌, ℕ, Bool, true, false, List, Option, Some, None, Result, Ok, Err, refl, ap}
-use Rattle.lgm_wire.specs.Reading.{◌>>=◌}
+use Rattle.lgm_wire.specs.reading.Reading.{◌>>=◌}
 use Rattle.lgm_gossip.specs.declared.fault.DecodeFault.{DecodeFault}
 use Rattle.lgm_gossip.specs.declared.message.Message.{Message}
 use Rattle.lgm_gossip.specs.declared.message.Message.TheVariants as messages
@@ -9,7 +9,7 @@ use Rattle.lgm_gossip.specs.declared.channel_update.ChannelUpdate.{ChannelUpdate
 use Rattle.lgm_gossip.specs.declared.node_announce.NodeAnnounce.{NodeAnnounce}
 use Rattle.lgm_wire.specs.declared.chain_hash.ChainHash.{ChainHash}
 use Rattle.lgm_wire.specs.declared.point.Point.{Point}
-use Rattle.lgm_gossip.specs.MessageReading.{message_at}
+use Rattle.lgm_gossip.specs.reading.MessageReading.{message_at}
 use Rattle.lgm_check.specs.declared.evidence.Evidence.{Evidence}
 use Rattle.lgm_check.specs.declared.refusal.Refusal.{Refusal}
 use Rattle.lgm_check.specs.declared.row.ChannelRow.{ChannelRow}

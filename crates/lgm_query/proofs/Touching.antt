@@ -10,7 +10,7 @@ use Rattle.std.proofs.lemmas.List.Folds.{list_any-append}
 use Rattle.lgm_wire.specs.declared.point.Point.{Point}
 use Rattle.lgm_store.specs.declared.op.Op.{Op}
 use Rattle.lgm_store.specs.Rows.{is_point}
-use Rattle.lgm_store.specs.Ends.{point_cmp}
+use Rattle.lgm_store.specs.inner.Ends.{point_cmp}
 use Rattle.lgm_store.proofs.Points.{is_at-point}
 use Rattle.lgm_query.proofs.Ids.{id_test}
 use Rattle.lgm_query.specs.Touched.{touches_channel, touches_node, Touched, HasTouched}

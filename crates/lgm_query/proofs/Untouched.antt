@@ -15,7 +15,7 @@ use Rattle.lgm_check.specs.declared.row.NodeRow.{NodeRow}
 use Rattle.lgm_store.specs.declared.op.Op.{Op}
 use Rattle.lgm_store.specs.declared.op.Op.TheVariants as ops
 use Rattle.lgm_store.specs.Rows.{Rows, IsAscending, put, by_id, by_direction, by_node, is_point, is_second, channel_of, update_of, node_of, ends_channel, ends_banned}
-use Rattle.lgm_store.specs.Ends.{point_cmp}
+use Rattle.lgm_store.specs.inner.Ends.{point_cmp}
 use Rattle.lgm_store.specs.History.{channels_without, updates_without, ended_nodes, with_banned, allowed_channels, banned_channels, banning, absorbed, fold_from}
 use Rattle.lgm_store.proofs.Ascending.{IsAscending-absorbed}
 use Rattle.lgm_store.proofs.Points.{same_point, is_at-point}

@@ -1,13 +1,10 @@
 pub mod Piece
-pub mod Reply
 pub mod IdsReply
 pub mod RangeReply
-pub mod Sent
 pub mod Backlog
-pub mod SentWith
-pub mod Known
 pub mod Cover
 pub mod KeyNews
 pub mod Touched
 pub mod Differences
 pub mod ComesOf
+pub mod inner

@@ -10,7 +10,7 @@ use Rattle.lgm_check.specs.declared.row.Checked.TheVariants as checked
 use Rattle.lgm_store.specs.declared.op.Op.{Op}
 use Rattle.lgm_store.specs.declared.op.Op.TheVariants as ops
 use Rattle.lgm_store.specs.Rows.{is_point}
-use Rattle.lgm_store.specs.Ends.{point_cmp}
+use Rattle.lgm_store.specs.inner.Ends.{point_cmp}
 use Rattle.lgm_query.specs.KeyNews.{of_channel, of_node, subject_of}
 
 -- whether the operation may add an announcement or an update to a channel

@@ -3,7 +3,7 @@
 ghost use Rattle.std.specs.Prelude.{◌≡◌, ℕ, List, true, IfOk};
 ghost use Rattle.std.specs.List.{list_any};
 ghost use Rattle.lgm_query.specs.Backlog.{is_among, news};
-ghost use Rattle.lgm_query.specs.Known.{is_known};
+ghost use Rattle.lgm_query.specs.inner.Known.{is_known};
 
 use crate::filter::Filter;
 use crate::gathering::backlog;

@@ -20,7 +20,7 @@ impl<'a> Model for Reply<'a> {
 
     ghost Value = { List ℕ };
 
-    ghost use Rattle.lgm_query.specs.Reply.{bytes_in};
+    ghost use Rattle.lgm_query.specs.inner.Reply.{bytes_in};
 
     ghost view = { λ r. bytes_in r.source };
 }

@@ -7,7 +7,7 @@ ghost use Rattle.lgm_store.specs.Held.{update_in};
 ghost use Rattle.lgm_store.specs.Rows.{node_of};
 ghost use Rattle.lgm_query.specs.Piece.{channel, update, node};
 ghost use Rattle.lgm_query.specs.IdsReply.{chosen_of, chosen};
-ghost use Rattle.lgm_query.specs.Sent.{AreSent, Sends};
+ghost use Rattle.lgm_query.specs.inner.Sent.{AreSent, Sends};
 
 use crate::reply::Reply;
 use lgm_gossip::{Point, Scid};
@@ -24,7 +24,7 @@ pub(crate) struct Sending<'a> {
 }
 
 impl<'a> Model for Sending<'a> {
-    ghost use Rattle.lgm_query.specs.Sent.{Sent};
+    ghost use Rattle.lgm_query.specs.inner.Sent.{Sent};
 
     ghost Value = { Sent };
 

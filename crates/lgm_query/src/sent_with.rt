@@ -3,7 +3,7 @@
 ghost use Rattle.std.specs.Prelude.{◌≡◌};
 ghost use Rattle.std.specs.Option.{option_copied};
 ghost use Rattle.lgm_store.specs.Held.{update_in};
-ghost use Rattle.lgm_query.specs.SentWith.{is_sent_with, sent_with, passes_update, passed_with};
+ghost use Rattle.lgm_query.specs.inner.SentWith.{is_sent_with, sent_with, passes_update, passed_with};
 
 use crate::filter::Filter;
 use lgm_store::Held;

@@ -6,8 +6,8 @@ use Rattle.lgm_graph.specs.Fee.{fee_of}
 use Rattle.lgm_graph.specs.Graph.{Graph, links, links_leaving, AreLinked}
 use Rattle.lgm_graph.specs.declared.link.Link.{Link}
 use Rattle.lgm_route.specs.declared.numbered_request.NumberedRequest.{NumberedRequest}
-use Rattle.lgm_route.specs.Searching.{number_at, no_link, link_at}
-use Rattle.lgm_route.specs.Bounding.{AreLow, IsLowered, IsSpread, IsRadius, AreCut, AreReached, bounds_in, is_closed, IsNear, IsLooked}
+use Rattle.lgm_route.specs.inner.Searching.{number_at, no_link, link_at}
+use Rattle.lgm_route.specs.inner.Bounding.{AreLow, IsLowered, IsSpread, IsRadius, AreCut, AreReached, bounds_in, is_closed, IsNear, IsLooked}
 use Rattle.lgm_route.proofs.Rests.{trichotomy}
 
 abbrev pub IsCut : ℕ → ℕ → ℕ → Type 0

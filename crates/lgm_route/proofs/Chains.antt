@@ -4,8 +4,8 @@ use Rattle.std.proofs.lemmas.List.{append_assoc}
 use Rattle.lgm_graph.specs.Graph.{Graph}
 use Rattle.lgm_graph.specs.declared.link.Link.{Link}
 use Rattle.lgm_route.specs.declared.label.Label.{Label}
-use Rattle.lgm_route.specs.Numbered.{ids}
-use Rattle.lgm_route.specs.Searching.{NotAfter, label_at, Spells, IsSpelled, IdsFirst, Begins, first_of}
+use Rattle.lgm_route.specs.inner.Numbered.{ids}
+use Rattle.lgm_route.specs.inner.Searching.{NotAfter, label_at, Spells, IsSpelled, IdsFirst, Begins, first_of}
 use Rattle.lgm_route.proofs.Orders.{NotAfter-refl, NotAfter-join}
 use Rattle.lgm_route.proofs.Labels.{Spells-unique}
 

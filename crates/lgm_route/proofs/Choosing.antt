@@ -19,7 +19,7 @@ use Rattle.lgm_route.specs.declared.fault.RouteFault.{RouteFault}
 use Rattle.lgm_route.specs.declared.fault.RouteFault.TheVariants.{AmountZero, AmountTooLarge, ExpiryTooLarge, SelfPayment}
 use Rattle.lgm_route.specs.Routes.{owed, walk_key, hops_of, IsRest, IsUsable, Precedes}
 use Rattle.lgm_route.specs.Answers.{refusal, IsFoundOver, IsAnswerBy, IsAnswer}
-use Rattle.lgm_route.specs.Searching.{NotAfter}
+use Rattle.lgm_route.specs.inner.Searching.{NotAfter}
 use Rattle.lgm_route.specs.Choice.{lists_of, leads, usable_walks, lesser, least_of, least_walk, found_by, answer_by, answer_of}
 use Rattle.lgm_route.proofs.Orders.{NotAfter-refl, NotAfter-trans, NotAfter-excludes}
 use Rattle.lgm_route.proofs.Visits.{least-unique, not_after}

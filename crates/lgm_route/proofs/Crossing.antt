@@ -15,7 +15,7 @@ use Rattle.lgm_graph.specs.Graph.{Graph, number_of, IsNumbered, no_point, edge_a
 use Rattle.lgm_route.specs.declared.request.Request.{Request}
 use Rattle.lgm_route.specs.declared.numbered_request.NumberedRequest.{NumberedRequest}
 use Rattle.lgm_route.specs.Routes as routes
-use Rattle.lgm_route.specs.Numbered as walks
+use Rattle.lgm_route.specs.inner.Numbered as walks
 
 -- ---- lists
 

@@ -9,9 +9,9 @@ use Rattle.lgm_route.specs.declared.request.Request.{Request}
 use Rattle.lgm_route.specs.declared.numbered_request.NumberedRequest.{NumberedRequest}
 use Rattle.lgm_route.specs.declared.route.Hop.{Hop}
 use Rattle.lgm_route.specs.Routes.{owed, due, hops_of}
-use Rattle.lgm_route.specs.Numbered as walks
-use Rattle.lgm_route.specs.Searching.{AreCarried}
-use Rattle.lgm_route.specs.Best.{edges_in, hop_over, AreNumbered}
+use Rattle.lgm_route.specs.inner.Numbered as walks
+use Rattle.lgm_route.specs.inner.Searching.{AreCarried}
+use Rattle.lgm_route.specs.inner.Best.{edges_in, hop_over, AreNumbered}
 use Rattle.lgm_route.proofs.Crossing.{over, owed_over}
 use Rattle.lgm_route.proofs.Rests.{carried_at}
 

@@ -6,9 +6,9 @@ use Rattle.lgm_graph.specs.Graph.{Graph, links, links_into}
 use Rattle.lgm_graph.specs.declared.link.Link.{Link}
 use Rattle.lgm_route.specs.declared.numbered_request.NumberedRequest.{NumberedRequest}
 use Rattle.lgm_route.specs.declared.label.Label.{Label}
-use Rattle.lgm_route.specs.Numbered.{owed, sent, IsRest, IsStep, IsUsable}
-use Rattle.lgm_route.specs.Searching.{walk_key, Serves, label_at, no_label, number_at, Spells, IsLabel, IsWalk, bound_of, IsNoBetter, Has, IsHopeless, Reaches, IsPassed, IsLeft, IsSettled, AreLabels, IsFound, Grows, Begins, first_of, link_at}
-use Rattle.lgm_route.specs.Bounding.{AreLow}
+use Rattle.lgm_route.specs.inner.Numbered.{owed, sent, IsRest, IsStep, IsUsable}
+use Rattle.lgm_route.specs.inner.Searching.{walk_key, Serves, label_at, no_label, number_at, Spells, IsLabel, IsWalk, bound_of, IsNoBetter, Has, IsHopeless, Reaches, IsPassed, IsLeft, IsSettled, AreLabels, IsFound, Grows, Begins, first_of, link_at}
+use Rattle.lgm_route.specs.inner.Bounding.{AreLow}
 use Rattle.lgm_route.proofs.Orders.{NotAfter-trans}
 use Rattle.lgm_route.proofs.Rests.{Serves-refl, Serves-trans, Serves-owed, Serves-prepend, Serves-walk, step-cheaper, walk_less, fee-monotone, owed-least}
 

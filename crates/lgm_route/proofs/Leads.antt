@@ -6,9 +6,9 @@ use Rattle.lgm_graph.specs.Graph.{Graph, links, links_into, AreLinked}
 use Rattle.lgm_graph.specs.declared.link.Link.{Link}
 use Rattle.lgm_route.specs.declared.numbered_request.NumberedRequest.{NumberedRequest}
 use Rattle.lgm_route.specs.declared.label.Label.{Label}
-use Rattle.lgm_route.specs.Numbered.{IsRest}
-use Rattle.lgm_route.specs.Searching.{link_at, first_of, label_at, no_label, number_at, Has, Spells, IsLabel, IsWalk, SomeRest, SomeWalk, AreLabels, bound_of, Grows, IsBetter, IsOffered, PassesOn, LeadsOn}
-use Rattle.lgm_route.specs.Leading.{IsNeedless, IsLed, IsLead, in_list, IsTaken, IsAmong, AreLeads}
+use Rattle.lgm_route.specs.inner.Numbered.{IsRest}
+use Rattle.lgm_route.specs.inner.Searching.{link_at, first_of, label_at, no_label, number_at, Has, Spells, IsLabel, IsWalk, SomeRest, SomeWalk, AreLabels, bound_of, Grows, IsBetter, IsOffered, PassesOn, LeadsOn}
+use Rattle.lgm_route.specs.inner.Leading.{IsNeedless, IsLed, IsLead, in_list, IsTaken, IsAmong, AreLeads}
 use Rattle.lgm_route.proofs.Rests.{trichotomy}
 use Rattle.lgm_route.proofs.Labels.{label_left, at-later, long-later}
 use Rattle.lgm_route.proofs.Steps.{all_passed}

@@ -6,7 +6,7 @@ use Rattle.std.specs.Cmp.{upto, tied_itself}
 use Rattle.std.specs.Cmp.Lexicographic.{slice_cmp}
 use Rattle.std.proofs.lemmas.Cmp.{ranked, nat_list_cmp_total}
 use Rattle.std.proofs.lemmas.Bool.{false≢true}
-use Rattle.lgm_route.specs.Searching.{NotAfter}
+use Rattle.lgm_route.specs.inner.Searching.{NotAfter}
 
 pub NotAfter-refl : (xs : List ℕ) → NotAfter xs xs
 NotAfter-refl xs = ap is_gt (tied_itself nat_list_cmp_total xs)

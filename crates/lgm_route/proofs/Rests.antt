@@ -4,8 +4,8 @@ use Rattle.std.proofs.Math.Nat.{mul-le-mul_right}
 use Rattle.lgm_graph.specs.Fee.{fee_of}
 use Rattle.lgm_graph.specs.declared.link.Link.{Link}
 use Rattle.lgm_route.specs.declared.numbered_request.NumberedRequest.{NumberedRequest}
-use Rattle.lgm_route.specs.Numbered.{owed, sent, ids, IsStep}
-use Rattle.lgm_route.specs.Searching.{NotAfter, rest_key, walk_key, Serves, AreCarried}
+use Rattle.lgm_route.specs.inner.Numbered.{owed, sent, ids, IsStep}
+use Rattle.lgm_route.specs.inner.Searching.{NotAfter, rest_key, walk_key, Serves, AreCarried}
 use Rattle.lgm_route.proofs.Orders.{NotAfter-refl, NotAfter-trans, NotAfter-split, NotAfter-join, NotAfter-heads}
 
 -- a larger amount is charged no less

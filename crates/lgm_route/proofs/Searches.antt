@@ -5,11 +5,11 @@ use Rattle.lgm_graph.specs.Graph.{Graph, links, links_into, AreLinked}
 use Rattle.lgm_graph.specs.declared.link.Link.{Link}
 use Rattle.lgm_route.specs.declared.numbered_request.NumberedRequest.{NumberedRequest}
 use Rattle.lgm_route.specs.declared.label.Label.{Label}
-use Rattle.lgm_route.specs.Bounding.{AreLow}
-use Rattle.lgm_route.specs.Numbered.{sent, IsLeast}
-use Rattle.lgm_route.specs.Searching.{label_at, link_at, no_link, Spells, first_of, bound_of, number_at, IsSettled, AreLabels, IsFound, Grows, IsMarked, IsOffered, IsBetter, PassesOn, AreSpelled, SomeRest, IsNoBetter, StandsIn}
-use Rattle.lgm_route.specs.Leading.{IsInto, IsLed, AreLeads}
-use Rattle.lgm_route.specs.State.{Ground, State, state_of, IsGround, IsSearch, Extends, IsSettledAt, IsMarkedAt, IsIntoAt, IsLeadAt, AreLeadsAt, IsPassedOn, IsLeftAt, IsFinished, bound_in}
+use Rattle.lgm_route.specs.inner.Bounding.{AreLow}
+use Rattle.lgm_route.specs.inner.Numbered.{sent, IsLeast}
+use Rattle.lgm_route.specs.inner.Searching.{label_at, link_at, no_link, Spells, first_of, bound_of, number_at, IsSettled, AreLabels, IsFound, Grows, IsMarked, IsOffered, IsBetter, PassesOn, AreSpelled, SomeRest, IsNoBetter, StandsIn}
+use Rattle.lgm_route.specs.inner.Leading.{IsInto, IsLed, AreLeads}
+use Rattle.lgm_route.specs.inner.State.{Ground, State, state_of, IsGround, IsSearch, Extends, IsSettledAt, IsMarkedAt, IsIntoAt, IsLeadAt, AreLeadsAt, IsPassedOn, IsLeftAt, IsFinished, bound_in}
 use Rattle.lgm_route.proofs.Rests.{trichotomy}
 use Rattle.lgm_route.proofs.Labels.{grows-refl, grows-trans, found-grows, no_better-grows, at-later, long-later, none_better}
 use Rattle.lgm_route.proofs.Steps.{least_of, sent_small, still_settled, settled_more, settled_left, settled_hopeless, settled_for, passes_from, passes_later, all_passed, spelled_labels}

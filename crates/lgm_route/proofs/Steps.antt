@@ -7,9 +7,9 @@ use Rattle.lgm_graph.specs.Graph.{Graph, links, links_into, links_leaving, AreLi
 use Rattle.lgm_graph.specs.declared.link.Link.{Link}
 use Rattle.lgm_route.specs.declared.numbered_request.NumberedRequest.{NumberedRequest}
 use Rattle.lgm_route.specs.declared.label.Label.{Label}
-use Rattle.lgm_route.specs.Numbered.{sent, ids, IsUsable, IsLeast, Precedes}
-use Rattle.lgm_route.specs.Searching.{NotAfter, walk_key, Serves, no_link, link_at, label_at, no_label, number_at, Spells, IdsFirst, IsLabel, IsWalk, DoesServe, SomeRest, SomeWalk, bound_of, IsNoBetter, IsHopeless, IsPassed, IsLeft, IsSettled, AreLabels, IsFound, Grows, IsBetter, IsOffered, PassesOn, LeadsOn, StandsIn, AreSpelled, AreSettled, IsMarked, IsStart}
-use Rattle.lgm_route.specs.Leading.{IsInto}
+use Rattle.lgm_route.specs.inner.Numbered.{sent, ids, IsUsable, IsLeast, Precedes}
+use Rattle.lgm_route.specs.inner.Searching.{NotAfter, walk_key, Serves, no_link, link_at, label_at, no_label, number_at, Spells, IdsFirst, IsLabel, IsWalk, DoesServe, SomeRest, SomeWalk, bound_of, IsNoBetter, IsHopeless, IsPassed, IsLeft, IsSettled, AreLabels, IsFound, Grows, IsBetter, IsOffered, PassesOn, LeadsOn, StandsIn, AreSpelled, AreSettled, IsMarked, IsStart}
+use Rattle.lgm_route.specs.inner.Leading.{IsInto}
 use Rattle.lgm_route.proofs.Orders.{NotAfter-refl, NotAfter-trans, NotAfter-join, NotAfter-excludes}
 use Rattle.lgm_route.proofs.Rests.{trichotomy, Serves-refl, Serves-trans}
 use Rattle.lgm_route.proofs.Labels.{Spells-unique, label-unique, label_left, label-grows, hopeless-serves, label-later, at-later, long-later, passed-later, settled-later}

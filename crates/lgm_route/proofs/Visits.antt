@@ -12,7 +12,7 @@ use Rattle.lgm_graph.specs.Edges.{AreDirections}
 use Rattle.lgm_graph.specs.declared.edge.Edge.{Edge}
 use Rattle.lgm_route.specs.declared.request.Request.{Request}
 use Rattle.lgm_route.specs.Routes.{owed, sent, ids, IsRest, IsStep, walk_key, Precedes, IsLeast, Visits, IsSimple}
-use Rattle.lgm_route.specs.Searching.{NotAfter}
+use Rattle.lgm_route.specs.inner.Searching.{NotAfter}
 use Rattle.lgm_route.proofs.Orders.{NotAfter-split, NotAfter-heads}
 use Rattle.lgm_route.proofs.Rests.{raised-le}
 

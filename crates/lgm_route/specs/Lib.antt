@@ -1,11 +1,6 @@
 pub mod Route
 pub mod Routes
 pub mod Answers
-pub mod Numbered
-pub mod Searching
-pub mod Bounding
-pub mod Leading
-pub mod State
-pub mod Best
 pub mod Choice
 pub mod Words
+pub mod inner

@@ -3,8 +3,8 @@
 ghost use Rattle.std.specs.Prelude.{◌≡◌, ◌⊎◌, ◌++◌, ◌∷◌, [], ◌^◌, ◌-◌, ◌<◌, ◌≤◌, ℕ, length, IfOk, false, slice_index_or};
 ghost use Rattle.lgm_graph.specs.Fee.{fee_of};
 ghost use Rattle.lgm_graph.specs.Graph.{links, AreLinked};
-ghost use Rattle.lgm_route.specs.Searching.{number_at};
-ghost use Rattle.lgm_route.specs.Bounding.{AreLow, AreReached, IsLowered, IsSpread, IsLooked, IsRadius, bounds_in, is_closed};
+ghost use Rattle.lgm_route.specs.inner.Searching.{number_at};
+ghost use Rattle.lgm_route.specs.inner.Bounding.{AreLow, AreReached, IsLowered, IsSpread, IsLooked, IsRadius, bounds_in, is_closed};
 
 use crate::bounds::Bounds;
 use crate::entry::Entry;

@@ -1,8 +1,8 @@
 //! Lower bounds on the fees from the payer to each node.
 
 ghost use Rattle.std.specs.Prelude.{◌≡◌, length};
-ghost use Rattle.lgm_route.specs.Searching.{number_at};
-ghost use Rattle.lgm_route.specs.Bounding.{bounds_in};
+ghost use Rattle.lgm_route.specs.inner.Searching.{number_at};
+ghost use Rattle.lgm_route.specs.inner.Bounding.{bounds_in};
 
 use lgm_gossip::Scid;
 use std::marker::Model;
@@ -23,7 +23,7 @@ pub(crate) struct Bounds {
 
 impl Model for Bounds {
     ghost use Rattle.std.specs.Prelude.{ℕ, List};
-    ghost use Rattle.lgm_route.specs.Bounding.{bounds_in};
+    ghost use Rattle.lgm_route.specs.inner.Bounding.{bounds_in};
 
     ghost Value = { List ℕ };
 

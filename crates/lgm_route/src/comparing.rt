@@ -1,7 +1,7 @@
 //! Comparison of labels and walks.
 
 ghost use Rattle.std.specs.Prelude.{◌≡◌, ◌^◌, ◌≤◌, true, false, if◌then◌else◌};
-ghost use Rattle.lgm_route.specs.Searching.{IsSpelled, IdsFirst, bound_of, IsFound, DoesServe, SomeWalk, IsBetter};
+ghost use Rattle.lgm_route.specs.inner.Searching.{IsSpelled, IdsFirst, bound_of, IsFound, DoesServe, SomeWalk, IsBetter};
 
 use crate::label::{Label, first_of};
 use crate::numbered_request::NumberedRequest;

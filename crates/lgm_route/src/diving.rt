@@ -1,7 +1,7 @@
 //! Finding walks early, along the cheapest way that the pass from the payer took.
 
 ghost use Rattle.std.specs.Prelude.{◌<◌, length, IfOk};
-ghost use Rattle.lgm_route.specs.State.{Extends};
+ghost use Rattle.lgm_route.specs.inner.State.{Extends};
 
 use crate::search::Search;
 use std::alloc::AllocError;

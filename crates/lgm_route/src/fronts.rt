@@ -1,7 +1,7 @@
 //! The undominated labels of each node.
 
 ghost use Rattle.std.specs.Prelude.{IfSome};
-ghost use Rattle.lgm_route.specs.Searching.{IsSpelled, AreSpelled, IsServer};
+ghost use Rattle.lgm_route.specs.inner.Searching.{IsSpelled, AreSpelled, IsServer};
 
 use crate::comparing::serves;
 use crate::label::Label;

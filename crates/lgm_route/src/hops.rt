@@ -1,9 +1,9 @@
 //! The hops of a walk.
 
 ghost use Rattle.std.specs.Prelude.{◌≡◌, ◌≤◌, ◌<◌, length, IfOk};
-ghost use Rattle.lgm_route.specs.Best.{edges_in, point_at, hop_over, AreNumbered};
+ghost use Rattle.lgm_route.specs.inner.Best.{edges_in, point_at, hop_over, AreNumbered};
 ghost use Rattle.lgm_route.specs.Routes.{hops_of};
-ghost use Rattle.lgm_route.specs.Searching.{AreCarried};
+ghost use Rattle.lgm_route.specs.inner.Searching.{AreCarried};
 
 use crate::request::Request;
 use crate::route::Hop;

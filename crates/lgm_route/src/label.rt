@@ -1,7 +1,7 @@
 //! Labels: the search's representation of the rest of a walk.
 
 ghost use Rattle.std.specs.Prelude.{◌≡◌};
-ghost use Rattle.lgm_route.specs.Searching.{Begins, first_of};
+ghost use Rattle.lgm_route.specs.inner.Searching.{Begins, first_of};
 
 use lgm_graph::{Link, View};
 

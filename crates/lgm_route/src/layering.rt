@@ -2,8 +2,8 @@
 
 ghost use Rattle.std.specs.Prelude.{◌≡◌, ◌<◌, ◌≤◌, ◌++◌, length, All, IfOk};
 ghost use Rattle.std.specs.List.{AllZip};
-ghost use Rattle.lgm_route.specs.Leading.{in_list};
-ghost use Rattle.lgm_route.specs.State.{AreLeadsAt, Extends};
+ghost use Rattle.lgm_route.specs.inner.Leading.{in_list};
+ghost use Rattle.lgm_route.specs.inner.State.{AreLeadsAt, Extends};
 
 use crate::label::Label;
 use crate::search::Search;

@@ -1,9 +1,9 @@
 //! Relaxation of labels over edges.
 
 ghost use Rattle.std.specs.Prelude.{◌≡◌, ◌<◌, length, IfOk, IfSome};
-ghost use Rattle.lgm_route.specs.Searching.{label_at, first_of};
-ghost use Rattle.lgm_route.specs.Leading.{IsLed};
-ghost use Rattle.lgm_route.specs.State.{Extends, IsIntoAt, IsLeadAt, IsPassedOn, IsLeftAt};
+ghost use Rattle.lgm_route.specs.inner.Searching.{label_at, first_of};
+ghost use Rattle.lgm_route.specs.inner.Leading.{IsLed};
+ghost use Rattle.lgm_route.specs.inner.State.{Extends, IsIntoAt, IsLeadAt, IsPassedOn, IsLeftAt};
 
 use crate::label::Label;
 use crate::search::Search;

@@ -1,7 +1,7 @@
 //! Adding labels, and marking those that are settled.
 
 ghost use Rattle.std.specs.Prelude.{◌≡◌, ◌≤◌, ℕ, IfOk, OnErr, false, slice_index_or};
-ghost use Rattle.lgm_route.specs.Searching.{AreLabels, SomeRest, IsOffered, IsMarked};
+ghost use Rattle.lgm_route.specs.inner.Searching.{AreLabels, SomeRest, IsOffered, IsMarked};
 
 use crate::fronts::Fronts;
 use crate::label::Label;

@@ -1,7 +1,7 @@
 //! Settling labels best-first (A\*).
 
 ghost use Rattle.std.specs.Prelude.{◌<◌, length, IfOk, IfSome};
-ghost use Rattle.lgm_route.specs.State.{Extends};
+ghost use Rattle.lgm_route.specs.inner.State.{Extends};
 
 use crate::diving::Dives;
 use crate::entry::Entry;

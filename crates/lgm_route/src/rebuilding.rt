@@ -1,7 +1,7 @@
 //! Walks from labels.
 
 ghost use Rattle.std.specs.Prelude.{◌≡◌, length, IfOk};
-ghost use Rattle.lgm_route.specs.Searching.{IsSpelled, Spells};
+ghost use Rattle.lgm_route.specs.inner.Searching.{IsSpelled, Spells};
 
 use crate::label::{Label, first_of};
 use lgm_graph::{Link, View};

@@ -4,9 +4,9 @@ ghost use Rattle.std.specs.Prelude.{◌≡◌, ◌⊎◌, ◌^◌, ◌≤◌, Li
 ghost use Rattle.std.specs.Option.{option_map};
 ghost use Rattle.lgm_graph.specs.Graph.{edges, links};
 ghost use Rattle.lgm_route.specs.Answers.{refusal, IsAnswer, IsFoundOver};
-ghost use Rattle.lgm_route.specs.Best.{IsBestWalk, IsNumberingOf};
+ghost use Rattle.lgm_route.specs.inner.Best.{IsBestWalk, IsNumberingOf};
 ghost use Rattle.lgm_route.specs.Routes.{IsBest};
-ghost use Rattle.lgm_route.specs.State.{IsBegun};
+ghost use Rattle.lgm_route.specs.inner.State.{IsBegun};
 ghost use Rattle.lgm_route.specs.declared.fault.RouteFault.{RouteFault};
 
 use crate::bounding::bounds;

@@ -2,10 +2,10 @@
 
 ghost use Rattle.std.specs.Prelude.{◌≡◌, ◌^◌, ◌<◌, ◌≤◌, length, IfOk, false, slice_index_or};
 ghost use Rattle.lgm_graph.specs.Graph.{links, links_into, AreLinked};
-ghost use Rattle.lgm_route.specs.Bounding.{AreLow};
-ghost use Rattle.lgm_route.specs.Searching.{label_at, number_at, SomeRest, SomeWalk, IsOffered, IsBetter, IsStart, StandsIn};
-ghost use Rattle.lgm_route.specs.State.{IsSearch, Extends, IsSettledAt, IsMarkedAt, IsFinished, bound_in};
-ghost use Rattle.lgm_route.specs.Best.{IsBestWalk};
+ghost use Rattle.lgm_route.specs.inner.Bounding.{AreLow};
+ghost use Rattle.lgm_route.specs.inner.Searching.{label_at, number_at, SomeRest, SomeWalk, IsOffered, IsBetter, IsStart, StandsIn};
+ghost use Rattle.lgm_route.specs.inner.State.{IsSearch, Extends, IsSettledAt, IsMarkedAt, IsFinished, bound_in};
+ghost use Rattle.lgm_route.specs.inner.Best.{IsBestWalk};
 ghost use Rattle.std.specs.Option.{option_map};
 
 use crate::bounds::Bounds;
@@ -45,7 +45,7 @@ pub(crate) struct Search<'a> {
 }
 
 impl<'a> Model for Search<'a> {
-    ghost use Rattle.lgm_route.specs.State.{State, state_of, IsSearch};
+    ghost use Rattle.lgm_route.specs.inner.State.{State, state_of, IsSearch};
 
     ghost Value = { State };
 

@@ -1,8 +1,8 @@
 //! Settling labels: they are relaxed or pruned.
 
 ghost use Rattle.std.specs.Prelude.{◌≡◌, ◌+◌, ◌*◌, ◌<◌, length, IfOk};
-ghost use Rattle.lgm_route.specs.Searching.{number_at};
-ghost use Rattle.lgm_route.specs.State.{Extends, IsMarkedAt, IsFinished};
+ghost use Rattle.lgm_route.specs.inner.Searching.{number_at};
+ghost use Rattle.lgm_route.specs.inner.State.{Extends, IsMarkedAt, IsFinished};
 
 use crate::label::Label;
 use crate::search::Search;

@@ -1,7 +1,7 @@
 //! The start of a search.
 
 ghost use Rattle.std.specs.Prelude.{◌^◌, ◌≤◌};
-ghost use Rattle.lgm_route.specs.Searching.{IsStart};
+ghost use Rattle.lgm_route.specs.inner.Searching.{IsStart};
 ghost use Rattle.lgm_graph.specs.Graph.{links, AreLinked};
 
 use crate::numbered_request::NumberedRequest;

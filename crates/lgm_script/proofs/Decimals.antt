@@ -6,7 +6,7 @@ use Rattle.std.specs.Str.Parse.{AllDigits, digits_value}
 use Rattle.std.proofs.lemmas.Bool.{ltb-true, lt-ltb, ltb-false, le-ltb}
 use Rattle.std.proofs.lemmas.Fmt.{digits_value-decimal, digits_decimal, decimal-digits_value, first_decimal, decimal_digit, decimal_nonempty}
 use Rattle.std.proofs.lemmas.Str.Parse.{IsNumeralModel, numerals_by_value, tells_digits, numerals_by_fold}
-use Rattle.lgm_script.specs.Digits.{is_digit, with_digit, with_digits, further, value_at}
+use Rattle.lgm_script.specs.inner.Digits.{is_digit, with_digit, with_digits, further, value_at}
 use Rattle.lgm_script.specs.Field.{number_of}
 use Rattle.std.specs.List.{list_all}
 use Rattle.std.specs.Prelude.{◌&&◌}

@@ -1,11 +1,10 @@
 pub mod Device
 pub mod Lines
 pub mod Groups
-pub mod Digits
 pub mod Field
 pub mod Item
 pub mod Payment
 pub mod Request
-pub mod Front
 pub mod Text
 pub mod Output
+pub mod inner

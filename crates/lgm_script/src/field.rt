@@ -1,7 +1,7 @@
 //! Values of fields.
 
 ghost use Rattle.std.specs.Prelude.{◌≡◌, ◌<◌, IfSome};
-ghost use Rattle.lgm_script.specs.Digits.{further, value_at};
+ghost use Rattle.lgm_script.specs.inner.Digits.{further, value_at};
 ghost use Rattle.lgm_script.specs.Field.{number_of, number_below, point_of};
 
 use lgm_gossip::Point;

@@ -5,9 +5,9 @@ use Rattle.lgm_store.specs.declared.op.Op.{Op}
 use Rattle.lgm_store.specs.Rows.{Rows}
 use Rattle.lgm_store.specs.History.{absorbed, fold_from}
 use Rattle.lgm_query.specs.Touched.{TellsKey}
-use Rattle.lgm_server.specs.Behind.{IsBehind, Keeps}
+use Rattle.lgm_server.specs.inner.Behind.{IsBehind, Keeps}
 use Rattle.lgm_server.specs.declared.checking.Offered.{Offered}
-use Rattle.lgm_server.specs.Offered.{outcome_on, WasChecked}
+use Rattle.lgm_server.specs.inner.Offered.{outcome_on, WasChecked}
 use Rattle.lgm_store.proofs.Histories.{fold_from-push}
 use Rattle.lgm_script.proofs.FirstLines.{each-push}
 use Rattle.lgm_server.proofs.Keeping.{turn_tells}

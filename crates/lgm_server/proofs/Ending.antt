@@ -12,7 +12,7 @@ use Rattle.lgm_server.specs.declared.run_fault.RunFault.TheVariants as faults
 use Rattle.lgm_server.specs.declared.running.Counts.{Counts}
 use Rattle.lgm_server.specs.Running.{IsTold, IsAnswered, IsTooMany, IsTooLong, IsCutShort}
 use Rattle.lgm_server.specs.Runs.{Runs}
-use Rattle.lgm_server.specs.Ending.{IsFlushed, FailsThen, HasFailed}
+use Rattle.lgm_server.specs.inner.Ending.{IsFlushed, FailsThen, HasFailed}
 
 -- how it ended: flushed, failed then, or failed before
 abbrev Ended : Told → Told → Result Counts RunFault → Result Counts RunFault → Type 0

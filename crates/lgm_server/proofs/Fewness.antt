@@ -10,8 +10,8 @@ use Rattle.lgm_store.specs.declared.op.Op.{Op}
 use Rattle.lgm_store.specs.declared.op.Op.TheVariants as ops
 use Rattle.lgm_store.specs.Rows.{Rows, put, by_id, by_direction, by_node, channel_of, ends_channel, ends_banned}
 use Rattle.lgm_store.specs.History.{absorbed, with_banned, channels_without, updates_without, ended_nodes}
-use Rattle.lgm_server.specs.Maps.{Growth, grown}
-use Rattle.lgm_server.specs.Engine.{IsFew}
+use Rattle.lgm_server.specs.inner.Maps.{Growth, grown}
+use Rattle.lgm_server.specs.inner.Engine.{IsFew}
 
 kept_few : {X : Type 0} (p : X → Bool) (xs : List X) → length (filter p xs) ≤ length xs
 kept_few p [] = omega arith

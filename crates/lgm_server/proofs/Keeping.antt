@@ -1,6 +1,6 @@
 -- What items give is about the keys of its rows.
 use Rattle.std.proofs.Common.{◌≡◌, Result, Ok, Err, inl, inr, refl, sym, ap, ◌∙◌}
-use Rattle.lgm_wire.specs.Reading.{◌>>=◌, Gives}
+use Rattle.lgm_wire.specs.reading.Reading.{◌>>=◌, Gives}
 use Rattle.lgm_wire.proofs.ReadingLaws.{bind_ok}
 use Rattle.lgm_wire.specs.declared.chain_hash.ChainHash.{ChainHash}
 use Rattle.lgm_check.specs.declared.row.Checked.{Checked}
@@ -18,7 +18,7 @@ use Rattle.lgm_script.specs.declared.item.Item.TheVariants.{Gossip, Close}
 use Rattle.lgm_server.specs.declared.checking.Offered.{Offered}
 use Rattle.lgm_server.specs.declared.checking.Offered.TheVariants.{Message}
 use Rattle.lgm_server.specs.Outcomes.{outcome_of}
-use Rattle.lgm_server.specs.Offered.{offered_by, offered_of, outcome_on, WasChecked}
+use Rattle.lgm_server.specs.inner.Offered.{offered_by, offered_of, outcome_on, WasChecked}
 
 close_tells : (held : Result (Unit {0}) Refusal) (close op : Op) → TellsKey close → (held >>= λ _. Ok close) ≡ Ok op → TellsKey op
 close_tells (Ok t) close op own is = let same : close ≡ op = cc in rw (← same) own

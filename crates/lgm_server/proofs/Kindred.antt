@@ -14,9 +14,9 @@ use Rattle.lgm_script.specs.Request.{request_of}
 use Rattle.lgm_server.specs.declared.checking.Offered.{Offered}
 use Rattle.lgm_server.specs.Answer.{outcome_text}
 use Rattle.lgm_server.specs.Script.{State, text_for}
-use Rattle.lgm_server.specs.Steps.{state_behind, state_after, state_from, text_from, state_alone, text_alone}
-use Rattle.lgm_server.specs.Offered.{offered_in, state_by, offered_text, WasChecked}
-use Rattle.lgm_server.specs.Questions.{asked_in, question_text, filters_after, filters_behind, questions_text}
+use Rattle.lgm_server.specs.inner.Steps.{state_behind, state_after, state_from, text_from, state_alone, text_alone}
+use Rattle.lgm_server.specs.inner.Offered.{offered_in, state_by, offered_text, WasChecked}
+use Rattle.lgm_server.specs.inner.Questions.{asked_in, question_text, filters_after, filters_behind, questions_text}
 use Rattle.lgm_server.proofs.Keeping.{outcome_checked}
 
 -- ---- items

@@ -9,14 +9,14 @@ use Rattle.lgm_query.proofs.Lying.{TellKeys-fold}
 use Rattle.lgm_server.specs.declared.chart.Chart.{Chart}
 use Rattle.lgm_server.specs.declared.chart.Kept.{Kept}
 use Rattle.lgm_server.specs.declared.chart.Kept.TheVariants as views
-use Rattle.lgm_server.specs.Behind.{IsBehind, Keeps}
+use Rattle.lgm_server.specs.inner.Behind.{IsBehind, Keeps}
 use Rattle.lgm_script.specs.declared.request.Request.{Request}
 use Rattle.lgm_script.specs.Groups.{IsNoRoute}
-use Rattle.lgm_server.specs.Chart.{IsBeside, GoesOn, ShowsAs, turned_behind}
-use Rattle.lgm_server.specs.Maps.{AreKept}
+use Rattle.lgm_server.specs.inner.Chart.{IsBeside, GoesOn, ShowsAs, turned_behind}
+use Rattle.lgm_server.specs.inner.Maps.{AreKept}
 use Rattle.lgm_server.specs.declared.checking.Offered.{Offered}
-use Rattle.lgm_server.specs.Offered.{outcome_on, WasChecked}
-use Rattle.lgm_server.specs.Questions.{IsReadyAs}
+use Rattle.lgm_server.specs.inner.Offered.{outcome_on, WasChecked}
+use Rattle.lgm_server.specs.inner.Questions.{IsReadyAs}
 use Rattle.lgm_server.proofs.Behind.{offered_behind}
 
 -- ---- a view that follows

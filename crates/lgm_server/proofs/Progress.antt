@@ -24,8 +24,8 @@ use Rattle.lgm_server.specs.declared.run_fault.RunFault.{RunFault}
 use Rattle.lgm_server.specs.declared.run_fault.RunFault.TheVariants.{LineTooLong}
 use Rattle.lgm_server.specs.Outcomes.{history_of}
 use Rattle.lgm_server.specs.Script.{requests_of, items_of, State, state_of, text_for, text_at, text_before}
-use Rattle.lgm_server.specs.Steps.{opening, state_after, state_from, text_from}
-use Rattle.lgm_server.specs.Progress.{AreNext, HaveAnswers, HaveBegun}
+use Rattle.lgm_server.specs.inner.Steps.{opening, state_after, state_from, text_from}
+use Rattle.lgm_server.specs.inner.Progress.{AreNext, HaveAnswers, HaveBegun}
 use Rattle.lgm_server.specs.Running.{line_fault, IsTold, IsAnswered, IsTooMany, IsTooLong, AreRead, IsCutShort}
 use Rattle.lgm_server.proofs.Stepping.{opening_is, state_after-request}
 

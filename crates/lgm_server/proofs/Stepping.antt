@@ -23,7 +23,7 @@ use Rattle.lgm_server.specs.Filters.{filters_from}
 use Rattle.lgm_server.specs.Filtering.{filter_read}
 use Rattle.lgm_server.specs.Outcomes.{outcome_of, with_outcome, outcomes_behind, history_of}
 use Rattle.lgm_server.specs.Script.{item_in, items_of, is_commit, before_commit, filter_given, filter_of, filters_of, State, state_of}
-use Rattle.lgm_server.specs.Steps.{opening, state_behind, filters_with, state_after, state_from}
+use Rattle.lgm_server.specs.inner.Steps.{opening, state_behind, filters_with, state_after, state_from}
 use Rattle.lgm_server.proofs.Tables.{filters_from-agree, no_filters, filters_from-put}
 
 -- ---- the accepted history

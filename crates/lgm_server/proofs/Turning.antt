@@ -4,7 +4,7 @@ use Rattle.std.proofs.lemmas.List.{append-nil, take_all, take_more, take-append-
 use Rattle.lgm_script.specs.declared.output.SendFault.{SendFault}
 use Rattle.lgm_script.specs.Output.{Told, Tells, TellsPart}
 use Rattle.lgm_script.proofs.Telling.{tells_nothing, tells_both, tells_part_behind, tells_part_more}
-use Rattle.lgm_server.specs.Turns.{behind_all, texts_of}
+use Rattle.lgm_server.specs.inner.Turns.{behind_all, texts_of}
 
 module _ {S Q : Type 0} (after : S → Q → S) where
   behind_all-append : (state : S) (asked others : List Q) → behind_all after state (asked ++ others) ≡ behind_all after (behind_all after state asked) others

@@ -4,7 +4,7 @@ use Rattle.lgm_wire.specs.declared.chain_hash.ChainHash.{ChainHash}
 use Rattle.lgm_gossip.specs.declared.message.Message.{Message}
 use Rattle.lgm_gossip.specs.declared.message.Message.TheVariants as messages
 use Rattle.lgm_gossip.specs.declared.fault.DecodeFault.{DecodeFault}
-use Rattle.lgm_gossip.specs.MessageReading.{message_at}
+use Rattle.lgm_gossip.specs.reading.MessageReading.{message_at}
 use Rattle.lgm_check.specs.Refusal.{refusal_of}
 use Rattle.lgm_store.specs.Rows.{Rows}
 use Rattle.lgm_query.specs.IdsReply.{ids_reply}

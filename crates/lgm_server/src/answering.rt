@@ -6,9 +6,9 @@ ghost use Rattle.lgm_script.specs.Groups.{IsOfKind, AreAlike};
 ghost use Rattle.lgm_script.specs.Output.{Sends, SendsPart};
 ghost use Rattle.lgm_script.specs.Request.{request_of};
 ghost use Rattle.lgm_script.specs.declared.request.Request.TheVariants.{Route as AsksRoute};
-ghost use Rattle.lgm_server.specs.Offered.{WasChecked, state_by, offered_text};
-ghost use Rattle.lgm_server.specs.Questions.{asked_in};
-ghost use Rattle.lgm_server.specs.Steps.{state_alone, text_alone, state_from, text_from};
+ghost use Rattle.lgm_server.specs.inner.Offered.{WasChecked, state_by, offered_text};
+ghost use Rattle.lgm_server.specs.inner.Questions.{asked_in};
+ghost use Rattle.lgm_server.specs.inner.Steps.{state_alone, text_alone, state_from, text_from};
 
 use crate::answer::Answer;
 use crate::checking::{Offered, check_lines};

@@ -2,7 +2,7 @@
 
 ghost use Rattle.std.specs.Prelude.{◌≡◌, OnOk, OnErr};
 ghost use Rattle.lgm_store.specs.History.{absorbed};
-ghost use Rattle.lgm_server.specs.Chart.{Follows, GoesOn, turned_behind, turned_beside, without_behind};
+ghost use Rattle.lgm_server.specs.inner.Chart.{Follows, GoesOn, turned_behind, turned_beside, without_behind};
 
 use lgm_graph::{Known, View};
 use lgm_store::{Map, Op};

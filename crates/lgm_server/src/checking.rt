@@ -3,8 +3,8 @@
 ghost use Rattle.std.specs.Prelude.{◌≡◌, ◌≤◌, IfOk};
 ghost use Rattle.std.specs.List.{AllZip};
 ghost use Rattle.lgm_script.specs.Request.{request_of};
-ghost use Rattle.lgm_server.specs.Offered.{offered_of, offered_in};
-ghost use Rattle.lgm_server.specs.Questions.{asked_in};
+ghost use Rattle.lgm_server.specs.inner.Offered.{offered_of, offered_in};
+ghost use Rattle.lgm_server.specs.inner.Questions.{asked_in};
 
 use crate::context::Context;
 use lgm_check::Refusal;

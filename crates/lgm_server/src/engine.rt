@@ -4,10 +4,10 @@ ghost use Rattle.std.specs.Prelude.{◌≡◌, ◌+◌, ◌≤◌, ◌<◌, ◌^
 ghost use Rattle.std.specs.Result.{result_err};
 ghost use Rattle.lgm_script.specs.Output.{Sends, SendsPart};
 ghost use Rattle.lgm_server.specs.Answer.{commit_text, route_text, answer_text};
-ghost use Rattle.lgm_server.specs.Offered.{outcome_on, WasChecked};
-ghost use Rattle.lgm_server.specs.Questions.{asked_in, filters_behind, questions_text};
+ghost use Rattle.lgm_server.specs.inner.Offered.{outcome_on, WasChecked};
+ghost use Rattle.lgm_server.specs.inner.Questions.{asked_in, filters_behind, questions_text};
 ghost use Rattle.lgm_server.specs.Routing.{route_answer};
-ghost use Rattle.lgm_server.specs.Steps.{opening, state_behind, state_committed};
+ghost use Rattle.lgm_server.specs.inner.Steps.{opening, state_behind, state_committed};
 
 use crate::answer::Answer;
 use crate::checking::Offered;
@@ -34,7 +34,7 @@ pub struct Engine {
 }
 
 impl Model for Engine {
-    ghost use Rattle.lgm_server.specs.Engine.{IsFew};
+    ghost use Rattle.lgm_server.specs.inner.Engine.{IsFew};
     ghost use Rattle.lgm_server.specs.Script.{State};
 
     ghost Value = { State };

@@ -2,7 +2,7 @@
 
 ghost use Rattle.std.specs.Prelude.{◌≡◌, ◌≢◌, ◌⊎◌, [], drop, OnOk, OnErr};
 ghost use Rattle.lgm_store.specs.History.{fold_from};
-ghost use Rattle.lgm_server.specs.Chart.{Follows, GoesOn, Shows};
+ghost use Rattle.lgm_server.specs.inner.Chart.{Follows, GoesOn, Shows};
 
 use crate::chart::{Chart, absorb};
 use lgm_store::{Map, Op};

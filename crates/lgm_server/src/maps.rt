@@ -8,10 +8,10 @@ ghost use Rattle.lgm_graph.specs.Edges.{edges_of};
 ghost use Rattle.lgm_query.specs.Touched.{HasTouched};
 ghost use Rattle.lgm_route.specs.Choice.{answer_of};
 ghost use Rattle.lgm_script.specs.Output.{Sends, SendsPart};
-ghost use Rattle.lgm_server.specs.Chart.{Shows, ShowsCommitted, IsBeside};
-ghost use Rattle.lgm_server.specs.Maps.{grown};
-ghost use Rattle.lgm_server.specs.Offered.{outcome_on, WasChecked};
-ghost use Rattle.lgm_server.specs.Questions.{asked_in, filters_behind, questions_text};
+ghost use Rattle.lgm_server.specs.inner.Chart.{Shows, ShowsCommitted, IsBeside};
+ghost use Rattle.lgm_server.specs.inner.Maps.{grown};
+ghost use Rattle.lgm_server.specs.inner.Offered.{outcome_on, WasChecked};
+ghost use Rattle.lgm_server.specs.inner.Questions.{asked_in, filters_behind, questions_text};
 
 use crate::chart::{Chart, Kept};
 use crate::checking::Offered;
@@ -52,7 +52,7 @@ pub struct Maps {
 
 impl Model for Maps {
     ghost use Rattle.lgm_store.specs.History.{fold_from};
-    ghost use Rattle.lgm_server.specs.Maps.{Growth, AreKept};
+    ghost use Rattle.lgm_server.specs.inner.Maps.{Growth, AreKept};
 
     ghost Value = { Growth };
 

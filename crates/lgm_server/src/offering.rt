@@ -2,10 +2,10 @@
 
 ghost use Rattle.std.specs.Prelude.{◌≡◌, IfOk, OnOk, OnErr};
 ghost use Rattle.std.specs.Result.{result_err};
-ghost use Rattle.lgm_wire.specs.Reading.{Gives};
+ghost use Rattle.lgm_wire.specs.reading.Reading.{Gives};
 ghost use Rattle.lgm_store.specs.History.{absorbed};
-ghost use Rattle.lgm_server.specs.Behind.{Keeps};
-ghost use Rattle.lgm_server.specs.Offered.{outcome_on};
+ghost use Rattle.lgm_server.specs.inner.Behind.{Keeps};
+ghost use Rattle.lgm_server.specs.inner.Offered.{outcome_on};
 
 use crate::checking::Offered;
 use lgm_check::Refusal;

@@ -3,7 +3,7 @@
 ghost use Rattle.std.specs.Prelude.{◌≡◌, ℕ, List, IfOk, Ok};
 ghost use Rattle.lgm_server.specs.Query.{answer_to, query_answer};
 ghost use Rattle.lgm_server.specs.Answer.{answer_text, query_text};
-ghost use Rattle.lgm_server.specs.Questions.{filters_by};
+ghost use Rattle.lgm_server.specs.inner.Questions.{filters_by};
 ghost use Rattle.lgm_server.specs.declared.filters.PeerFilter.{PeerFilter};
 
 use crate::answer::{Answer, RangeAsked};

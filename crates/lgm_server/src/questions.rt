@@ -8,12 +8,12 @@ ghost use Rattle.lgm_script.specs.Output.{Sends, SendsPart};
 ghost use Rattle.lgm_script.specs.Request.{request_of};
 ghost use Rattle.lgm_script.specs.declared.request.Request.TheVariants.{Route as AsksRoute};
 ghost use Rattle.lgm_server.specs.Answer.{answer_text, filter_text, route_text};
-ghost use Rattle.lgm_server.specs.Chart.{ShowsCommitted, IsBeside};
+ghost use Rattle.lgm_server.specs.inner.Chart.{ShowsCommitted, IsBeside};
 ghost use Rattle.lgm_server.specs.Filtering.{filter_read};
 ghost use Rattle.lgm_server.specs.Routing.{asked_route, route_answer};
-ghost use Rattle.lgm_server.specs.Steps.{filters_with};
+ghost use Rattle.lgm_server.specs.inner.Steps.{filters_with};
 ghost use Rattle.lgm_server.specs.declared.filters.PeerFilter.{PeerFilter};
-ghost use Rattle.lgm_server.specs.Questions.{asked_in, filters_by, filters_behind, questions_text, IsAnswerTo, IsReady};
+ghost use Rattle.lgm_server.specs.inner.Questions.{asked_in, filters_by, filters_behind, questions_text, IsAnswerTo, IsReady};
 
 use crate::answer::Answer;
 use crate::chart::{Chart, Kept};

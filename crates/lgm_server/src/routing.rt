@@ -3,7 +3,7 @@
 ghost use Rattle.std.specs.Prelude.{◌≡◌, ◌≢◌, ℕ, List, Err, IfOk};
 ghost use Rattle.lgm_server.specs.Answer.{answer_text, route_text};
 ghost use Rattle.lgm_server.specs.Routing.{asked_route};
-ghost use Rattle.lgm_server.specs.Questions.{filters_by};
+ghost use Rattle.lgm_server.specs.inner.Questions.{filters_by};
 ghost use Rattle.lgm_server.specs.declared.filters.PeerFilter.{PeerFilter};
 
 use crate::answer::Answer;

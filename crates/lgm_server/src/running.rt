@@ -2,11 +2,11 @@
 
 ghost use Rattle.std.specs.Prelude.{◌≡◌, ◌≢◌, ◌+◌, ◌<◌, ◌≤◌, ◌^◌, [], length, IfSome, IfOk, IfErr};
 ghost use Rattle.lgm_script.specs.Output.{Sends, SendsPart, SendsSome};
-ghost use Rattle.lgm_server.specs.Steps.{opening};
-ghost use Rattle.lgm_server.specs.Progress.{HaveAnswers, HaveBegun};
+ghost use Rattle.lgm_server.specs.inner.Steps.{opening};
+ghost use Rattle.lgm_server.specs.inner.Progress.{HaveAnswers, HaveBegun};
 ghost use Rattle.lgm_server.specs.Running.{IsAnswered, IsTooMany, IsTooLong, IsCutShort};
 ghost use Rattle.lgm_server.specs.Runs.{Runs, AnswersAll, StopsAtLimit, StopsAtLongLine, StopsShort};
-ghost use Rattle.lgm_server.specs.Ending.{IsEnded};
+ghost use Rattle.lgm_server.specs.inner.Ending.{IsEnded};
 
 use crate::answering::answer;
 use crate::context::Context;

@@ -16,12 +16,12 @@ use Rattle.lgm_wire.specs.declared.point.Point.{Point}
 use Rattle.lgm_check.specs.declared.row.ChannelRow.{ChannelRow}
 use Rattle.lgm_check.specs.declared.row.UpdateRow.{UpdateRow}
 use Rattle.lgm_check.specs.declared.row.NodeRow.{NodeRow}
-use Rattle.lgm_store.specs.Keyed.{IsKeyed}
-use Rattle.lgm_store.specs.Ends.{point_cmp}
+use Rattle.lgm_store.specs.inner.Keyed.{IsKeyed}
+use Rattle.lgm_store.specs.inner.Ends.{point_cmp}
 use Rattle.lgm_store.specs.Rows.{Rows, put, by_point, by_id, is_point, channel_of, ends_at, ends_channel, is_banned, ends_banned}
 use Rattle.lgm_store.specs.History.{without_channel, channels_without, updates_without, ended_nodes, allowed_channels, banned_channels, updates_beside, banning, with_banned, with_ban}
 use Rattle.lgm_store.specs.Reading.{ids_at}
-use Rattle.lgm_store.specs.Sound.{AreEnded, AreAllowed, id_of}
+use Rattle.lgm_store.specs.inner.Sound.{AreEnded, AreAllowed, id_of}
 use Rattle.lgm_check.specs.declared.row.BanRow.{BanRow}
 use Rattle.lgm_store.specs.Laws.{IsLawful, AreHeld}
 use Rattle.lgm_store.specs.Laws as Lawful

@@ -9,7 +9,7 @@ use Rattle.lgm_check.specs.declared.refusal.Refusal.TheVariants as refusals
 use Rattle.lgm_store.specs.declared.op.Op.TheVariants as ops
 use Rattle.lgm_store.specs.Rows.{is_point, is_second, ends_banned}
 use Rattle.lgm_store.specs.Admission.{have_same_nodes, ban_of, channel_admission, update_admission, node_admission, node_by}
-use Rattle.lgm_store.specs.Decided.{channel_op, update_op, node_op, channel_verdict, update_verdict, node_verdict}
+use Rattle.lgm_store.specs.inner.Decided.{channel_op, update_op, node_op, channel_verdict, update_verdict, node_verdict}
 
 pub channel-decided : (banned : List Point) (held : Option ChannelRow) (row : ChannelRow)
     → channel_op row (channel_verdict banned held row.message.node_id_1 row.message.node_id_2) ≡ channel_admission banned held row

@@ -7,7 +7,7 @@ use Rattle.lgm_store.specs.declared.held.Held.{Held}
 use Rattle.lgm_store.specs.Held.{channel_entries, update_entries}
 use Rattle.lgm_store.specs.Rows.{Rows}
 use Rattle.lgm_store.specs.Laws.{IsLawful}
-use Rattle.lgm_store.specs.Sound.{IsKept}
+use Rattle.lgm_store.specs.inner.Sound.{IsKept}
 use Rattle.lgm_store.proofs.Ascending.{IsAscending-sound}
 use Rattle.lgm_store.proofs.HeldRows.{updates_are_held}
 

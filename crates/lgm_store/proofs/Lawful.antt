@@ -15,7 +15,7 @@ use Rattle.lgm_store.specs.declared.op.Op.TheVariants as ops
 use Rattle.lgm_store.specs.Rows.{Rows, empty, put, by_id, by_direction, by_node, channel_of, ends_at, ends_channel, ends_banned}
 use Rattle.lgm_store.specs.History.{absorbed, fold_from, fold, with_banned, channels_without, updates_without, ended_nodes, allowed_channels, banned_channels}
 use Rattle.lgm_store.specs.Laws.{IsLawful, AreHeld, AreEnded, AreAllowed}
-use Rattle.lgm_store.specs.Sound.{id_of}
+use Rattle.lgm_store.specs.inner.Sound.{id_of}
 use Rattle.lgm_store.proofs.Ascending.{fold-ascends}
 use Rattle.lgm_store.proofs.Soundness.{AreEnded-ended_nodes}
 

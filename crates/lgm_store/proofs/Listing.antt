@@ -13,7 +13,7 @@ use Rattle.std.proofs.lemmas.Bool.Decides.{nat_tests}
 use Rattle.lgm_wire.specs.declared.point.Point.{Point}
 use Rattle.lgm_store.specs.Rows.{is_point}
 use Rattle.lgm_store.proofs.Points.{same_point, is_point-self}
-use Rattle.lgm_store.specs.Ends.{with_id, without_id, entry_of, list_at, kept, IsSame, Sets, Lists, Lacks, changed}
+use Rattle.lgm_store.specs.inner.Ends.{with_id, without_id, entry_of, list_at, kept, IsSame, Sets, Lists, Lacks, changed}
 
 -- ---- keys that are put in and taken out
 

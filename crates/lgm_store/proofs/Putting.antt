@@ -11,10 +11,10 @@ use Rattle.lgm_check.specs.declared.row.UpdateRow.{UpdateRow}
 use Rattle.lgm_check.specs.declared.row.NodeRow.{NodeRow}
 use Rattle.lgm_store.specs.declared.held.Held.{Held}
 use Rattle.lgm_store.specs.Held.{with_update_in, channel_entries, update_entries}
-use Rattle.lgm_store.specs.Slots.{with_update_for, with_update_at}
+use Rattle.lgm_store.specs.inner.Slots.{with_update_for, with_update_at}
 use Rattle.lgm_store.specs.Rows.{Rows, put, by_direction, channel_of, is_second}
 use Rattle.lgm_store.specs.History.{with_update}
-use Rattle.lgm_store.specs.Sound.{IsKept}
+use Rattle.lgm_store.specs.inner.Sound.{IsKept}
 use Rattle.lgm_store.proofs.Lists.{values-update}
 use Rattle.lgm_store.proofs.Holding.{ascend-held, channel-with, set-channels, set-updates}
 use Rattle.lgm_store.proofs.HeldRows.{channel_at}

@@ -17,7 +17,7 @@ use Rattle.lgm_store.specs.Held.{with_update_in}
 use Rattle.lgm_store.specs.Rows.{is_second}
 use Rattle.slab.specs.Slab.{Slab, with_value, Updates}
 use Rattle.slab.proofs.SlabLemmas.{Updates-with_value}
-use Rattle.lgm_store.specs.Slots.{id_in, slot_at, entry_in, entries_in, HaveOwn, IsNumbered, with_update_for, with_update_at}
+use Rattle.lgm_store.specs.inner.Slots.{id_in, slot_at, entry_in, entries_in, HaveOwn, IsNumbered, with_update_for, with_update_at}
 use Rattle.lgm_store.proofs.Lists.{same_id}
 
 -- ---- slots that keep what they had

@@ -15,13 +15,13 @@ use Rattle.lgm_check.specs.declared.row.ChannelRow.{ChannelRow}
 use Rattle.lgm_check.specs.declared.row.UpdateRow.{UpdateRow}
 use Rattle.lgm_check.specs.declared.row.NodeRow.{NodeRow}
 use Rattle.lgm_store.specs.declared.held.Held.{Held}
-use Rattle.lgm_store.specs.Keyed.{IsKeyed}
+use Rattle.lgm_store.specs.inner.Keyed.{IsKeyed}
 use Rattle.lgm_store.specs.Held.{alone, with_update_in, channel_entries, update_entries}
 use Rattle.lgm_store.specs.Rows.{is_point, ends_at, ends_channel}
 use Rattle.lgm_store.specs.History.{channels_without, updates_without, ended_nodes}
 use Rattle.lgm_store.specs.Reading.{ids_at}
-use Rattle.lgm_store.specs.Ends.{point_cmp, entry_of, kept, with_id, without_id, changed, Lists, Lacks, stays_beside}
-use Rattle.lgm_store.specs.Sound.{direction_cmp, IsSound, AreEnded, id_of, direction_of, point_of}
+use Rattle.lgm_store.specs.inner.Ends.{point_cmp, entry_of, kept, with_id, without_id, changed, Lists, Lacks, stays_beside}
+use Rattle.lgm_store.specs.inner.Sound.{direction_cmp, IsSound, AreEnded, id_of, direction_of, point_of}
 use Rattle.lgm_store.proofs.Points.{same_point}
 use Rattle.lgm_store.proofs.Listing.{kept-with, without-with}
 use Rattle.lgm_store.proofs.Lists.{IsKeyed-channel, IsKeyed-update, IsKeyed-node, values-node, values-no_channel}

@@ -12,11 +12,11 @@ use Rattle.std.proofs.lemmas.Bool.Decides.{nat_tests}
 use Rattle.lgm_wire.specs.declared.point.Point.{Point}
 use Rattle.lgm_check.specs.declared.row.ChannelRow.{ChannelRow}
 use Rattle.lgm_check.specs.declared.row.NodeRow.{NodeRow}
-use Rattle.lgm_store.specs.Keyed.{IsKeyed}
-use Rattle.lgm_store.specs.Ends.{point_cmp}
+use Rattle.lgm_store.specs.inner.Keyed.{IsKeyed}
+use Rattle.lgm_store.specs.inner.Ends.{point_cmp}
 use Rattle.lgm_store.specs.Reading.{next_channel_of, next_node_of, block_of, is_between}
-use Rattle.lgm_store.specs.Sound.{id_of, point_of}
-use Rattle.lgm_store.specs.Start.{start_after, IsEndBefore}
+use Rattle.lgm_store.specs.inner.Sound.{id_of, point_of}
+use Rattle.lgm_store.specs.inner.Start.{start_after, IsEndBefore}
 
 module _ {K R : Type 0} where
   -- the value of the first entry

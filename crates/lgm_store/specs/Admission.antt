@@ -1,6 +1,6 @@
 -- Whether an item is admitted to a map of these rows.
 use Rattle.std.specs.Prelude.{◌≡◌, ◌⊎◌, ℕ, Bool, true, not, ◌&&◌, nat_lt, List, is_some, Option, Some, None, Result, Ok, Err, if◌then◌else◌}
-use Rattle.lgm_wire.specs.Reading.{◌>>=◌}
+use Rattle.lgm_wire.specs.reading.Reading.{◌>>=◌}
 use Rattle.lgm_wire.specs.declared.point.Point.{Point}
 use Rattle.lgm_check.specs.declared.row.ChannelRow.{ChannelRow}
 use Rattle.lgm_check.specs.declared.row.UpdateRow.{UpdateRow}

@@ -1,16 +1,10 @@
 pub mod Rows
 pub mod Admission
-pub mod Decided
 pub mod Candidate
 pub mod History
 pub mod Reading
-pub mod Keyed
 pub mod HeldRows
-pub mod Side
 pub mod Held
 pub mod HeldAt
-pub mod Slots
 pub mod Laws
-pub mod Ends
-pub mod Sound
-pub mod Start
+pub mod inner

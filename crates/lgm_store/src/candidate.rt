@@ -1,7 +1,7 @@
 //! Messages that are ready to be offered to a map.
 
 ghost use Rattle.std.specs.Prelude.{◌≡◌, IfOk};
-ghost use Rattle.lgm_wire.specs.Reading.{Gives};
+ghost use Rattle.lgm_wire.specs.reading.Reading.{Gives};
 ghost use Rattle.lgm_check.specs.Precheck.{checked_of};
 ghost use Rattle.lgm_store.specs.Candidate.{Fits, checked_by, message_of, verdict_of};
 

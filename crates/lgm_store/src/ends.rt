@@ -2,7 +2,7 @@
 
 ghost use Rattle.std.specs.Prelude.{◌≡◌, ◌++◌, ℕ, [], List, is_some, IfOk, OnOk, OnErr};
 ghost use Rattle.lgm_wire.specs.declared.point.Point.{Point};
-ghost use Rattle.lgm_store.specs.Ends.{entry_of, list_at, with_id, without_id, changed, Lacks, Sets, IsSame, Lists};
+ghost use Rattle.lgm_store.specs.inner.Ends.{entry_of, list_at, with_id, without_id, changed, Lacks, Sets, IsSame, Lists};
 
 use crate::scid_set::ScidSet;
 use crate::seed::Seed;

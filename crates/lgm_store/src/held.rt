@@ -3,10 +3,10 @@
 ghost use Rattle.std.specs.Prelude.{◌≡◌, Some, None, IfOk, OnOk, OnErr, if◌then◌else◌};
 ghost use Rattle.std.specs.Option.{option_copied, option_map};
 ghost use Rattle.lgm_store.specs.Held.{alone, update_in, with_update_in};
-ghost use Rattle.lgm_store.specs.Side.{IsSideOf};
+ghost use Rattle.lgm_store.specs.inner.Side.{IsSideOf};
 ghost use Rattle.lgm_store.specs.Rows.{is_second};
 ghost use Rattle.lgm_store.specs.Admission.{update_admission, Offers};
-ghost use Rattle.lgm_store.specs.Decided.{update_op, update_verdict};
+ghost use Rattle.lgm_store.specs.inner.Decided.{update_op, update_verdict};
 
 use crate::shared::Shared;
 use lgm_check::{ChannelRow, Refusal, UpdateRow};
@@ -47,7 +47,7 @@ impl Model for Held {
 
     ghost view = { λ h. record { channel = h.row; first = h.first.row; second = h.second.row } };
 
-    ghost use Rattle.lgm_store.specs.Side.{IsSideOf};
+    ghost use Rattle.lgm_store.specs.inner.Side.{IsSideOf};
 
     ghost invariant = { λ h. record {
       scid_is : h.scid ≡ h.row.message.short_channel_id;

@@ -46,7 +46,7 @@ impl Model for Map {
     ghost use Rattle.std.specs.Map.{values_of};
     ghost use Rattle.std.specs.BTreeMap.{values};
     ghost use Rattle.lgm_store.specs.Held.{channel_entries, update_entries};
-    ghost use Rattle.lgm_store.specs.Sound.{IsKept};
+    ghost use Rattle.lgm_store.specs.inner.Sound.{IsKept};
 
     ghost view = { λ m. record {
       channels = values_of (channel_entries m.channels);

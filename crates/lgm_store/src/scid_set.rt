@@ -1,7 +1,7 @@
 //! The ids of some channels.
 
 ghost use Rattle.std.specs.Prelude.{◌≡◌, ◌++◌, [], OnOk, OnErr, true, length, ◌==◌};
-ghost use Rattle.lgm_store.specs.Ends.{with_id, without_id};
+ghost use Rattle.lgm_store.specs.inner.Ends.{with_id, without_id};
 
 use lgm_gossip::Scid;
 use std::alloc::{AllocError, Global};

@@ -11,8 +11,8 @@ ghost use Rattle.std.specs.Ordering.{nat_cmp};
 ghost use Rattle.lgm_store.specs.Held.{update_in};
 ghost use Rattle.lgm_store.specs.Rows.{is_second};
 ghost use Rattle.lgm_store.specs.Admission.{update_admission, Offers};
-ghost use Rattle.lgm_store.specs.Decided.{update_op};
-ghost use Rattle.lgm_store.specs.Slots.{id_in, IsNumbered, with_update_at};
+ghost use Rattle.lgm_store.specs.inner.Decided.{update_op};
+ghost use Rattle.lgm_store.specs.inner.Slots.{id_in, IsNumbered, with_update_at};
 
 use crate::guesses::Guesses;
 use crate::held::Held;
@@ -42,7 +42,7 @@ pub(crate) struct Slots {
 impl Model for Slots {
     ghost use Rattle.std.specs.Prelude.{ℕ, List};
     ghost use Rattle.lgm_store.specs.declared.held.Held.{Held};
-    ghost use Rattle.lgm_store.specs.Slots.{entries_in, IsNumbered};
+    ghost use Rattle.lgm_store.specs.inner.Slots.{entries_in, IsNumbered};
 
     ghost Value = { List (ℕ × Held) };
 

@@ -4,7 +4,7 @@ ghost use Rattle.std.specs.Prelude.{◌≡◌, filter};
 ghost use Rattle.std.specs.Map.{values_of};
 ghost use Rattle.std.specs.Iterator.{YieldsFirstRef, item_count};
 ghost use Rattle.lgm_store.specs.Reading.{is_between};
-ghost use Rattle.lgm_store.specs.Slots.{entries_in, id_in, HaveOwn};
+ghost use Rattle.lgm_store.specs.inner.Slots.{entries_in, id_in, HaveOwn};
 
 use crate::held::Held;
 use crate::shared::Shared;
@@ -27,7 +27,7 @@ impl<'a> Model for Channels<'a> {
     ghost use Rattle.std.specs.Prelude.{List};
     ghost use Rattle.std.specs.Map.{values_of};
     ghost use Rattle.lgm_store.specs.declared.held.Held.{Held};
-    ghost use Rattle.lgm_store.specs.Slots.{entries_in, HaveOwn};
+    ghost use Rattle.lgm_store.specs.inner.Slots.{entries_in, HaveOwn};
 
     ghost Value = { List Held };
 
@@ -74,7 +74,7 @@ impl<'a> Model for ChannelsBetween<'a> {
     ghost use Rattle.std.specs.Prelude.{List, filter};
     ghost use Rattle.lgm_store.specs.declared.held.Held.{Held};
     ghost use Rattle.lgm_store.specs.Reading.{is_between};
-    ghost use Rattle.lgm_store.specs.Slots.{id_in};
+    ghost use Rattle.lgm_store.specs.inner.Slots.{id_in};
 
     ghost Value = { List Held };
 

@@ -6,7 +6,7 @@ use Rattle.lgm_wire.proofs.ReadingLaws.{bind_ok, ok_is}
 use Rattle.lgm_wire.specs.declared.fault.WireFault.{WireFault}
 use Rattle.lgm_wire.specs.declared.fault.WireFault.TheVariants.{Cut, NotMinimal}
 use Rattle.lgm_wire.specs.BigSize.{bigsize_bytes, IsBigSize, form_len, form_value}
-use Rattle.lgm_wire.specs.BigSizeReading.{bigsize_at, bigsize_with_len}
+use Rattle.lgm_wire.specs.reading.BigSizeReading.{bigsize_at, bigsize_with_len}
 use Rattle.lgm_wire.proofs.Bytes.{IsBytes}
 use Rattle.lgm_wire.proofs.BigSizeLaws.{bigsize_spelled, bigsize_at-bigsize_bytes, cut, small, found, outcome}
 

@@ -6,7 +6,7 @@ use Rattle.std.proofs.lemmas.List.{take_at, drop_at, length-append}
 use Rattle.lgm_wire.proofs.ReadingLaws.{chosen, ok_is}
 use Rattle.lgm_wire.specs.declared.fault.WireFault.TheVariants.{Cut, NotMinimal}
 use Rattle.lgm_wire.specs.BigSize.{bigsize_bytes, form_len, form_value}
-use Rattle.lgm_wire.specs.BigSizeReading.{long_form_at, bigsize_at}
+use Rattle.lgm_wire.specs.reading.BigSizeReading.{long_form_at, bigsize_at}
 use Rattle.lgm_wire.proofs.Bytes.{IsBytes, IsBytes-rest, IsBytes-take, IsBytes-drop, IsWide, wide16, wide32, wide64, front_is}
 
 -- ---- behind the first byte of a long form

@@ -9,9 +9,9 @@ use Rattle.lgm_wire.specs.declared.fault.WireFault.{WireFault}
 use Rattle.lgm_wire.specs.declared.fault.WireFault.TheVariants.{Cut, Order}
 use Rattle.lgm_wire.specs.BigSize.{bigsize_bytes}
 use Rattle.lgm_wire.specs.Tlv.{TlvRecord, record_bytes, IsAbove, RisesFrom, Fits, IsTlvStream}
-use Rattle.lgm_wire.specs.Reading.{◌>>=◌}
-use Rattle.lgm_wire.specs.BigSizeReading.{bigsize_at}
-use Rattle.lgm_wire.specs.TlvReading.{last_kind, is_not_above, record_at, IsFirstFault, tlvs_at, tlvs_of}
+use Rattle.lgm_wire.specs.reading.Reading.{◌>>=◌}
+use Rattle.lgm_wire.specs.reading.BigSizeReading.{bigsize_at}
+use Rattle.lgm_wire.specs.reading.TlvReading.{last_kind, is_not_above, record_at, IsFirstFault, tlvs_at, tlvs_of}
 use Rattle.lgm_wire.proofs.Bytes.{IsBytes, IsBytes-drop, IsBytes-back}
 use Rattle.lgm_wire.proofs.BigSizeLaws.{bigsize_spelled, bigsize_at-bigsize_bytes, length-bigsize_bytes}
 

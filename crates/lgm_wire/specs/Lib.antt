@@ -1,9 +1,6 @@
-pub mod Reading
 pub mod BigSize
-pub mod BigSizeReading
 pub mod TruncatedInteger
-pub mod TruncatedIntegerReading
 pub mod Tlv
 pub mod TlvView
-pub mod TlvReading
 pub mod Point
+pub mod reading

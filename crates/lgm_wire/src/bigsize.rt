@@ -4,8 +4,8 @@
 ghost use Rattle.std.specs.Prelude.{◌≡◌, ℕ, ◌≤◌, ◌<◌, ◌↔◌, ◌⊎◌, ◌++◌, ◌+◌, length, take, vec_len, vec_capacity, OnOk, OnErr, IfErr, List};
 ghost use Rattle.std.specs.Int.{w16, w32, w64};
 ghost use Rattle.lgm_wire.specs.BigSize.{IsBigSize, bigsize_bytes, form_len, form_value};
-ghost use Rattle.lgm_wire.specs.Reading.{Sees};
-ghost use Rattle.lgm_wire.specs.BigSizeReading.{bigsize_at, bigsize_with_len, long_form_at};
+ghost use Rattle.lgm_wire.specs.reading.Reading.{Sees};
+ghost use Rattle.lgm_wire.specs.reading.BigSizeReading.{bigsize_at, bigsize_with_len, long_form_at};
 
 use crate::fault::{NoMemory, WireFault};
 

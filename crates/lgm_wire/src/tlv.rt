@@ -2,9 +2,9 @@
 //! Type-Length-Value Format and Appendix B).
 
 ghost use Rattle.std.specs.Prelude.{◌≡◌, ℕ, ◌+◌, ◌<◌, ◌≤◌, List, ◌++◌, ◌⊎◌, length, slice_index, Ok, vec_len, vec_capacity, OnOk, OnErr, IfOk, IfErr, MatchResult};
-ghost use Rattle.lgm_wire.specs.Reading.{Sees, Gives};
+ghost use Rattle.lgm_wire.specs.reading.Reading.{Sees, Gives};
 ghost use Rattle.lgm_wire.specs.Tlv.{TlvRecord, IsTlvStream, record_bytes};
-ghost use Rattle.lgm_wire.specs.TlvReading.{IsFirstFault, record_at, tlvs_of};
+ghost use Rattle.lgm_wire.specs.reading.TlvReading.{IsFirstFault, record_at, tlvs_of};
 ghost use Rattle.lgm_wire.specs.TlvView.{record_of, records_of};
 
 use crate::bigsize::{split_bigsize, write_bigsize};

@@ -3,7 +3,7 @@
 
 ghost use Rattle.std.specs.Prelude.{◌≡◌, ℕ, List, ◌++◌, ◌≤◌, ◌<◌, ◌^◌, ◌↔◌, ◌⊎◌, ◌==◌, ◌+◌, take_while, length, vec_len, vec_capacity, OnOk, OnErr, IfErr};
 ghost use Rattle.lgm_wire.specs.TruncatedInteger.{IsTruncatedInteger, StartsWithZero, number_of, truncated_bytes};
-ghost use Rattle.lgm_wire.specs.TruncatedIntegerReading.{truncated_of};
+ghost use Rattle.lgm_wire.specs.reading.TruncatedIntegerReading.{truncated_of};
 
 use crate::fault::{NoMemory, WireFault};
 

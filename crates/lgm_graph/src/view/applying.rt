@@ -3,8 +3,8 @@
 ghost use Rattle.std.specs.Prelude.{◌≡◌, ◌<◌, ◌^◌, length};
 ghost use Rattle.lgm_store.specs.declared.op.Op.TheVariants as ops;
 ghost use Rattle.lgm_graph.specs.Graph.{IsGraphOf};
-ghost use Rattle.lgm_graph.specs.Sound.{graph_in};
-ghost use Rattle.lgm_graph.specs.Applying.{IsDoneToBoth};
+ghost use Rattle.lgm_graph.specs.inner.Sound.{graph_in};
+ghost use Rattle.lgm_graph.specs.inner.Applying.{IsDoneToBoth};
 
 use crate::edge::edge_on;
 use crate::known::Known;

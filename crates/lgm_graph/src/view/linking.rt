@@ -2,8 +2,8 @@
 
 ghost use Rattle.std.specs.Prelude.{◌≡◌, [], List, OnOk};
 ghost use Rattle.lgm_graph.specs.declared.edge.Edge.{Edge as AnEdge};
-ghost use Rattle.lgm_graph.specs.Sound.{ShowsIn};
-ghost use Rattle.lgm_graph.specs.Walk.{AreLinksOf};
+ghost use Rattle.lgm_graph.specs.inner.Sound.{ShowsIn};
+ghost use Rattle.lgm_graph.specs.inner.Walk.{AreLinksOf};
 
 use crate::link::Link;
 use crate::nodes::Nodes;

@@ -10,8 +10,8 @@ ghost use Rattle.lgm_store.specs.HeldAt.{held_at};
 ghost use Rattle.lgm_graph.specs.declared.edge.Edge.{Edge as AnEdge};
 ghost use Rattle.lgm_graph.specs.Edges.{edge_on};
 ghost use Rattle.lgm_graph.specs.Graph.{IsGraphOf, IsNumbered, linked, number_of};
-ghost use Rattle.lgm_graph.specs.Sound.{AreLookedAt, ShowsIn};
-ghost use Rattle.lgm_graph.specs.Walk.{AreLinksOf, KeepsNumbers, edges_of_channel};
+ghost use Rattle.lgm_graph.specs.inner.Sound.{AreLookedAt, ShowsIn};
+ghost use Rattle.lgm_graph.specs.inner.Walk.{AreLinksOf, KeepsNumbers, edges_of_channel};
 
 use super::View;
 use super::hints::Hints;

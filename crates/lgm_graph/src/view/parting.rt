@@ -5,7 +5,7 @@ ghost use Rattle.std.specs.List.{AllByRecursion};
 ghost use Rattle.lgm_wire.specs.declared.point.Point.{Point as APoint};
 ghost use Rattle.lgm_store.specs.Rows.{ends_at, ends_banned};
 ghost use Rattle.lgm_store.specs.History.{with_banned};
-ghost use Rattle.lgm_graph.specs.Sound.{is_among, HasEnds};
+ghost use Rattle.lgm_graph.specs.inner.Sound.{is_among, HasEnds};
 
 use indexmap::IndexSet;
 use lgm_check::BanRow;

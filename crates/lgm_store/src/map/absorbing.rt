@@ -3,9 +3,9 @@
 ghost use Rattle.std.specs.Prelude.{◌≡◌, true, false, OnOk, OnErr, filter, is_some};
 ghost use Rattle.std.specs.BTreeMap.{values, IsOrdered};
 ghost use Rattle.lgm_store.specs.Rows.{channel_of, ends_channel, ends_banned};
-ghost use Rattle.lgm_store.specs.Keyed.{IsKeyed};
-ghost use Rattle.lgm_store.specs.Ends.{point_cmp, stays_beside};
-ghost use Rattle.lgm_store.specs.Sound.{point_of};
+ghost use Rattle.lgm_store.specs.inner.Keyed.{IsKeyed};
+ghost use Rattle.lgm_store.specs.inner.Ends.{point_cmp, stays_beside};
+ghost use Rattle.lgm_store.specs.inner.Sound.{point_of};
 ghost use Rattle.lgm_store.specs.History.{with_channel, with_update, with_node, without_channel, absorbed};
 
 use super::Map;

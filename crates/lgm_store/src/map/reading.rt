@@ -7,7 +7,7 @@ ghost use Rattle.lgm_store.specs.HeldAt.{held_at};
 ghost use Rattle.lgm_store.specs.Laws.{IsLawful};
 ghost use Rattle.lgm_store.specs.Rows.{IsAscending, channel_of, update_of, node_of, ends_channel, is_banned};
 ghost use Rattle.lgm_store.specs.Reading.{next_channel_of, next_node_of, ids_at, block_of, ids_between_of, channels_between_of};
-ghost use Rattle.lgm_store.specs.Start.{start_after, IsEndBefore};
+ghost use Rattle.lgm_store.specs.inner.Start.{start_after, IsEndBefore};
 
 use super::Map;
 use crate::held::Held;

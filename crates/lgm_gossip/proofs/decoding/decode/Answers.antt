@@ -1,5 +1,5 @@
 use Rattle.std.proofs.Common.{arith}
-use Rattle.lgm_gossip.specs.MessageReading.{message_at}
+use Rattle.lgm_gossip.specs.reading.MessageReading.{message_at}
 use Rattle.lgm_gossip.proofs.MemoryLaws.{gives, sees_or}
 use Rattle.lgm_gossip.proofs.MessageLaws.{is_found, is_only}
 use Rattle.lgm_gossip.proofs.decoding.decode.Goals as goal

@@ -1,6 +1,6 @@
 use Rattle.std.proofs.Common.{◌≡◌, take}
 use Rattle.std.specs.List.{AllByRecursion}
-use Rattle.lgm_gossip.specs.Part.{texts, PartFits}
+use Rattle.lgm_gossip.specs.inner.Part.{texts, PartFits}
 use Rattle.lgm_gossip.proofs.joining.join.Given as goal
 
 abbrev pub invariant-loop-part : goal.invariant-loop-part

@@ -1,5 +1,5 @@
 use Rattle.std.proofs.Common.{◌≡◌, length, get_or, refl, ap, arith}
-use Rattle.lgm_gossip.specs.Part.{text}
+use Rattle.lgm_gossip.specs.inner.Part.{text}
 use Rattle.lgm_gossip.proofs.PartLaws.{front_len}
 use Rattle.lgm_gossip.proofs.measuring.measure.Goals as goal
 

@@ -1,5 +1,5 @@
 use Rattle.std.proofs.Common.{◌≡◌, ◌+◌, length, take}
-use Rattle.lgm_gossip.specs.Part.{texts}
+use Rattle.lgm_gossip.specs.inner.Part.{texts}
 use Rattle.lgm_gossip.proofs.measuring.measure.Given as goal
 
 abbrev pub invariant-loop-part : goal.invariant-loop-part

@@ -1,5 +1,5 @@
 use Rattle.std.proofs.Common.{sym, ◌*◌, ap, ◌∙◌, length, rules}
-use Rattle.lgm_gossip.specs.Part.{text}
+use Rattle.lgm_gossip.specs.inner.Part.{text}
 use Rattle.lgm_gossip.proofs.PartLaws.{room_at}
 use Rattle.lgm_gossip.proofs.CellLaws.{cells_len}
 use Rattle.lgm_gossip.proofs.EncodedIdsLaws.{id_cell}

@@ -1,5 +1,5 @@
 use Rattle.std.proofs.Common.{◌≡◌, ◌-◌}
-use Rattle.lgm_gossip.specs.QueryFlagsReading.{all_flags_at}
+use Rattle.lgm_gossip.specs.reading.QueryFlagsReading.{all_flags_at}
 use Rattle.lgm_gossip.proofs.QueryFlagsLaws.{with_front}
 use Rattle.lgm_gossip.proofs.query_flags.all_flags.Given as goal
 

@@ -1,5 +1,5 @@
 use Rattle.std.proofs.Common.{◌≡◌, map, take}
-use Rattle.lgm_graph.specs.Sound.{links_in}
+use Rattle.lgm_graph.specs.inner.Sound.{links_in}
 use Rattle.lgm_graph.proofs.lists.copies.Given as goal
 
 abbrev pub invariant-loop-list : goal.invariant-loop-list

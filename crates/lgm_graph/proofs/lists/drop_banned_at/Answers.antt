@@ -1,5 +1,5 @@
 use Rattle.std.specs.List.{filter}
-use Rattle.lgm_graph.specs.Sound.{is_allowed}
+use Rattle.lgm_graph.specs.inner.Sound.{is_allowed}
 use Rattle.lgm_graph.proofs.Places.{links_edit}
 use Rattle.lgm_graph.proofs.lists.drop_banned_at.Goals as goal
 

@@ -1,7 +1,7 @@
 use Rattle.std.proofs.Common.{rules}
 use Rattle.std.proofs.lemmas.Fn.{always_returns_same}
 use Rattle.std.proofs.Common.{of_calls}
-use Rattle.lgm_graph.specs.Lists.{link_key}
+use Rattle.lgm_graph.specs.inner.Lists.{link_key}
 use Rattle.lgm_graph.proofs.Cuts.{place_found}
 use Rattle.lgm_graph.proofs.lists.place.Goals as goal
 

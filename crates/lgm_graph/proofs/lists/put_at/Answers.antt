@@ -1,4 +1,4 @@
-use Rattle.lgm_graph.specs.Lists.{link_key, put_at}
+use Rattle.lgm_graph.specs.inner.Lists.{link_key, put_at}
 use Rattle.lgm_graph.proofs.Places.{links_edit}
 use Rattle.lgm_graph.proofs.lists.put_at.Goals as goal
 

@@ -1,7 +1,7 @@
 use Rattle.std.proofs.Common.{◌≡◌, ◌∙◌, ◌<◌, List, arith, length, ap, map, sym}
 use Rattle.std.proofs.lemmas.List.{length-map}
 use Rattle.lgm_graph.specs.declared.nodes.Links.{Links}
-use Rattle.lgm_graph.specs.Sound.{links_in}
+use Rattle.lgm_graph.specs.inner.Sound.{links_in}
 use Rattle.lgm_graph.proofs.Places.{links_alike}
 use Rattle.lgm_graph.proofs.lists.reserve_all.Goals as goal
 use Rattle.lgm_graph.proofs.lists.reserve_all.Goals.{in-Some+in_ok-reserve_exact, in_default}

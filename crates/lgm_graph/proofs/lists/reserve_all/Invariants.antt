@@ -1,5 +1,5 @@
 use Rattle.std.proofs.Common.{◌≡◌, map}
-use Rattle.lgm_graph.specs.Sound.{links_in}
+use Rattle.lgm_graph.specs.inner.Sound.{links_in}
 use Rattle.lgm_graph.proofs.lists.reserve_all.Given as goal
 
 abbrev pub invariant-loop-i : goal.invariant-loop-i

@@ -1,5 +1,5 @@
 use Rattle.std.proofs.Common.{◌*◌}
-use Rattle.lgm_hex.specs.Digits.{AreValid, IsDecoded}
+use Rattle.lgm_hex.specs.inner.Digits.{AreValid, IsDecoded}
 use Rattle.lgm_hex.proofs.decoding.decode_blocks.Given as goal
 
 abbrev pub invariant-loop-i : goal.invariant-loop-i

@@ -1,5 +1,5 @@
 use Rattle.std.proofs.Common.{◌*◌}
-use Rattle.lgm_hex.specs.Digits.{IsEncoded}
+use Rattle.lgm_hex.specs.inner.Digits.{IsEncoded}
 use Rattle.lgm_hex.proofs.encoding.encode_into.Given as goal
 
 abbrev pub invariant-loop-i : goal.invariant-loop-i

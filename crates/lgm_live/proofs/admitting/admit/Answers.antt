@@ -1,5 +1,5 @@
 use Rattle.std.proofs.Common.{◌≡◌, ℕ, List, Result, Ok, ap, sym, ◌∙◌}
-use Rattle.lgm_wire.specs.Reading.{Gives}
+use Rattle.lgm_wire.specs.reading.Reading.{Gives}
 use Rattle.lgm_wire.specs.declared.chain_hash.ChainHash.{ChainHash}
 use Rattle.lgm_check.specs.declared.evidence.Evidence.{Evidence}
 use Rattle.lgm_check.specs.declared.row.Checked.{Checked}

@@ -4,7 +4,7 @@ use Rattle.std.proofs.lemmas.Result.{err_from_is_err_and}
 use Rattle.lgm_script.specs.Lines.{ahead}
 use Rattle.lgm_script.specs.Output.{seen, Tells}
 use Rattle.lgm_script.specs.Request.{request_of}
-use Rattle.lgm_live.specs.Gathered.{with_line}
+use Rattle.lgm_live.specs.inner.Gathered.{with_line}
 use Rattle.lgm_live.proofs.Noting.{with_lines-push, workers_are, payments_few}
 use Rattle.lgm_live.proofs.WholeLines.{SoFar, step, ends, many, long, silent, silent_fault, failed, too_long_only}
 use Rattle.lgm_live.proofs.reading.read_lines.Goals as goal

@@ -1,7 +1,7 @@
 use Rattle.std.proofs.Common.{◌≡◌, ◌≤◌, ◌-◌, List, [], length}
 use Rattle.lgm_script.specs.declared.request.Request.{Request}
 use Rattle.lgm_script.specs.Lines.{ahead}
-use Rattle.lgm_live.specs.Reading.{with_lines}
+use Rattle.lgm_live.specs.inner.Reading.{with_lines}
 use Rattle.lgm_live.proofs.WholeLines.{SoFar}
 use Rattle.lgm_live.proofs.reading.read_lines.Given as goal
 

@@ -1,6 +1,6 @@
 use Rattle.std.proofs.Common.{[], ◌∷◌, ◌++◌, ap, ◌∙◌}
-use Rattle.lgm_live.specs.Gathered.{Gathered}
-use Rattle.lgm_live.specs.Reading.{with_lines}
+use Rattle.lgm_live.specs.inner.Gathered.{Gathered}
+use Rattle.lgm_live.specs.inner.Reading.{with_lines}
 use Rattle.lgm_live.proofs.Noting.{agenda_is}
 use Rattle.lgm_live.proofs.reading.read_script.Goals as goal
 

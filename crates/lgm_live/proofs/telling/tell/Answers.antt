@@ -1,6 +1,6 @@
 use Rattle.std.proofs.Common.{length}
 use Rattle.lgm_script.specs.Output.{seen}
-use Rattle.lgm_live.specs.Telling.{slots_before}
+use Rattle.lgm_live.specs.inner.Telling.{slots_before}
 use Rattle.lgm_live.proofs.Parts.{part_written, part_flushed, part_fails}
 use Rattle.lgm_live.proofs.telling.tell.Goals as goal
 

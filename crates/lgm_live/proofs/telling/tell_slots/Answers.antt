@@ -3,7 +3,7 @@ use Rattle.std.proofs.lemmas.Result.{err_from_is_err_and}
 use Rattle.lgm_script.specs.Output.{seen, Tells, TellsPart}
 use Rattle.lgm_script.proofs.Telling.{tells_nothing}
 use Rattle.lgm_live.specs.declared.slot.Slot.TheVariants as slots
-use Rattle.lgm_live.specs.Telling.{place_passed}
+use Rattle.lgm_live.specs.inner.Telling.{place_passed}
 use Rattle.lgm_live.proofs.SlotTexts.{no_text, place_more, text_at, text_here, one_more, stops}
 use Rattle.lgm_live.proofs.telling.tell_slots.Goals as goal
 

@@ -1,6 +1,6 @@
 use Rattle.std.proofs.Common.{◌≡◌, take}
 use Rattle.lgm_script.specs.Output.{Sends}
-use Rattle.lgm_live.specs.Telling.{place_behind, slots_before}
+use Rattle.lgm_live.specs.inner.Telling.{place_behind, slots_before}
 use Rattle.lgm_live.proofs.telling.tell_slots.Given as goal
 
 abbrev pub invariant-loop-slot : goal.invariant-loop-slot

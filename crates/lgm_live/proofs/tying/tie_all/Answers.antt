@@ -1,7 +1,7 @@
 use Rattle.std.proofs.Common.{◌∙◌, subst}
 use Rattle.std.proofs.lemmas.Slice.Zip.{all_zipped_more}
 use Rattle.lgm_publish.specs.Handles.{Writing}
-use Rattle.lgm_live.specs.Worked.{IsTied}
+use Rattle.lgm_live.specs.inner.Worked.{IsTied}
 use Rattle.lgm_live.proofs.tying.tie_all.Goals as goal
 
 pub loop-worked-preserved : goal.loop-worked-preserved

@@ -1,6 +1,6 @@
 use Rattle.std.proofs.Common.{◌≡◌}
 use Rattle.std.specs.List.{AllZip}
-use Rattle.lgm_live.specs.Worked.{IsTied}
+use Rattle.lgm_live.specs.inner.Worked.{IsTied}
 use Rattle.lgm_live.proofs.tying.tie_all.Given as goal
 
 abbrev pub invariant-loop-worked : goal.invariant-loop-worked

@@ -5,7 +5,7 @@ use Rattle.std.proofs.lemmas.List.{take-append-drop}
 use Rattle.lgm_publish.specs.Handles.{Sight}
 use Rattle.lgm_live.specs.declared.fault.LiveFault.{LiveFault}
 use Rattle.lgm_live.specs.declared.working.Worked.{Worked}
-use Rattle.lgm_live.specs.Worked.{HaveWorked}
+use Rattle.lgm_live.specs.inner.Worked.{HaveWorked}
 use Rattle.lgm_live.proofs.Answers.{parts_worked}
 use Rattle.lgm_live.proofs.working.+fn-work_all-join+arg2+fn-work_all-join+arg3+work_all.Goals as goal
 

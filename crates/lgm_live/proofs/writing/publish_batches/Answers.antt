@@ -4,7 +4,7 @@ use Rattle.std.proofs.lemmas.List.Elements.{All-push, All-weaker}
 use Rattle.std.proofs.lemmas.List.Folds.{length-flat_map-take}
 use Rattle.lgm_script.specs.declared.item.Item.{Item}
 use Rattle.lgm_live.specs.Batches.{items_of, ends_of}
-use Rattle.lgm_live.specs.Written.{IsWritten}
+use Rattle.lgm_live.specs.inner.Written.{IsWritten}
 use Rattle.lgm_live.proofs.Items.{items_more, ends_more}
 use Rattle.lgm_live.proofs.writing.publish_batches.Goals as goal
 

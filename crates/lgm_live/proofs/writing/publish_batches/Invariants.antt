@@ -1,7 +1,7 @@
 use Rattle.std.proofs.Common.{◌≡◌, ◌≤◌, [], length, take}
 use Rattle.std.specs.Prelude.{All}
 use Rattle.lgm_live.specs.Batches.{items_of, ends_of}
-use Rattle.lgm_live.specs.Written.{IsWritten}
+use Rattle.lgm_live.specs.inner.Written.{IsWritten}
 use Rattle.lgm_live.proofs.writing.publish_batches.Given as goal
 
 abbrev pub invariant-loop-batch : goal.invariant-loop-batch

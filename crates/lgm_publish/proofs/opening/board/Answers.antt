@@ -1,6 +1,6 @@
 use Rattle.std.proofs.Common.{◌∙◌, ap}
 use Rattle.lgm_publish.specs.Handles.{History}
-use Rattle.lgm_publish.specs.Contents.{Contents}
+use Rattle.lgm_publish.specs.inner.Contents.{Contents}
 use Rattle.lgm_publish.proofs.Boards.{opens}
 use Rattle.lgm_publish.proofs.opening.board.Goals as goal
 

@@ -1,6 +1,6 @@
 use Rattle.std.proofs.Common.{◌≡◌, length, Some, All}
 use Rattle.left_right.specs.Sides.{view as last_of}
-use Rattle.lgm_publish.specs.Contents.{sight}
+use Rattle.lgm_publish.specs.inner.Contents.{sight}
 use Rattle.lgm_publish.proofs.opening.seat_all.Given as goal
 
 abbrev pub invariant-loop-eye : goal.invariant-loop-eye

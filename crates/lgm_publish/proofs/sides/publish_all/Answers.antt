@@ -1,5 +1,5 @@
 use Rattle.std.proofs.Common.{◌∙◌, ap, drop}
-use Rattle.lgm_publish.specs.Contents.{Contents}
+use Rattle.lgm_publish.specs.inner.Contents.{Contents}
 use Rattle.lgm_publish.proofs.Boards.{publishes, told_after, known_after}
 use Rattle.lgm_publish.proofs.sides.publish_all.Goals as goal
 

@@ -1,5 +1,5 @@
 use Rattle.std.proofs.Common.{◌∙◌, ap, drop}
-use Rattle.lgm_publish.specs.Shown.{ops_of}
+use Rattle.lgm_publish.specs.inner.Shown.{ops_of}
 use Rattle.lgm_publish.proofs.Boards.{ops_reach, completes}
 use Rattle.lgm_publish.proofs.sides.reach.Goals as goal
 use Rattle.lgm_publish.proofs.sides.reach.Goals.{in-Ok, in-Err}

@@ -1,7 +1,7 @@
 use Rattle.std.proofs.Common.{take}
 use Rattle.std.specs.List.{flat_map, zip}
 use Rattle.lgm_query.specs.IdsReply.{chosen, flags_of}
-use Rattle.lgm_query.specs.Sent.{AreSent}
+use Rattle.lgm_query.specs.inner.Sent.{AreSent}
 use Rattle.lgm_query.proofs.answering_ids.held.Given as goal
 
 abbrev pub invariant-loop-place : goal.invariant-loop-place

@@ -2,7 +2,7 @@ use Rattle.std.proofs.Common.{ℕ, Bool, ◌||◌, List, take, sym, ap, ◌∙�
 use Rattle.std.specs.Cmp.Lexicographic.{slice_cmp}
 use Rattle.std.specs.Ordering.{is_eq, nat_cmp}
 use Rattle.lgm_query.specs.Backlog.{is_among}
-use Rattle.lgm_query.specs.Known.{is_known}
+use Rattle.lgm_query.specs.inner.Known.{is_known}
 use Rattle.lgm_query.proofs.KnownLaws.{is_known-insert, is_among-more}
 use Rattle.lgm_query.proofs.newer.known.Goals as goal
 

@@ -1,6 +1,6 @@
 use Rattle.std.proofs.Common.{◌≡◌, ℕ, List, take}
 use Rattle.lgm_query.specs.Backlog.{is_among}
-use Rattle.lgm_query.specs.Known.{is_known}
+use Rattle.lgm_query.specs.inner.Known.{is_known}
 use Rattle.lgm_query.proofs.newer.known.Given as goal
 
 abbrev pub invariant-loop-message : goal.invariant-loop-message

@@ -2,7 +2,7 @@ use Rattle.std.proofs.Common.{◌≡◌, ℕ, Bool, List, not, filter, ap, ◌�
 use Rattle.std.proofs.lemmas.Fn.{filter_same}
 use Rattle.std.proofs.lemmas.List.Elements.{filter_agree}
 use Rattle.lgm_query.specs.Backlog.{is_among, backlog}
-use Rattle.lgm_query.specs.Known.{is_known}
+use Rattle.lgm_query.specs.inner.Known.{is_known}
 use Rattle.lgm_query.proofs.newer.news.Goals as goal
 
 pub returns : goal.returns

@@ -1,6 +1,6 @@
 use Rattle.std.proofs.Common.{arith}
 use Rattle.lgm_graph.specs.Graph.{links}
-use Rattle.lgm_route.specs.Bounding.{bounds_in}
+use Rattle.lgm_route.specs.inner.Bounding.{bounds_in}
 use Rattle.lgm_route.proofs.Bounded.{low_of, cut_bounds}
 use Rattle.lgm_route.proofs.bounding.pass.Goals as goal
 

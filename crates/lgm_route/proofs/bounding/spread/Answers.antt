@@ -1,8 +1,8 @@
 use Rattle.std.proofs.Common.{◌≡◌, ◌<◌, ◌∙◌, ℕ, ap, sym, subst, arith, length}
 use Rattle.std.proofs.lemmas.List.{get_or_default}
 use Rattle.lgm_graph.specs.Graph.{links}
-use Rattle.lgm_route.specs.Searching.{number_at, link_at, no_link}
-use Rattle.lgm_route.specs.Bounding.{IsNear}
+use Rattle.lgm_route.specs.inner.Searching.{number_at, link_at, no_link}
+use Rattle.lgm_route.specs.inner.Bounding.{IsNear}
 use Rattle.lgm_route.proofs.Bounded.{near_more, spread_closed}
 use Rattle.lgm_route.proofs.bounding.spread.Goals as goal
 

@@ -1,7 +1,7 @@
 use Rattle.std.proofs.Common.{◌≡◌, ◌≤◌, ◌<◌, ℕ, length}
 use Rattle.lgm_graph.specs.Graph.{links}
-use Rattle.lgm_route.specs.Searching.{number_at, link_at}
-use Rattle.lgm_route.specs.Bounding.{IsSpread, IsNear, AreReached}
+use Rattle.lgm_route.specs.inner.Searching.{number_at, link_at}
+use Rattle.lgm_route.specs.inner.Bounding.{IsSpread, IsNear, AreReached}
 use Rattle.lgm_route.proofs.bounding.spread.Given as goal
 
 abbrev pub invariant-loop-link : goal.invariant-loop-link

@@ -1,5 +1,5 @@
 use Rattle.lgm_graph.specs.Graph.{links}
-use Rattle.lgm_route.specs.Bounding.{IsSpread, AreReached}
+use Rattle.lgm_route.specs.inner.Bounding.{IsSpread, AreReached}
 use Rattle.lgm_route.proofs.bounding.take_up.Given as goal
 
 abbrev pub invariant-loop-step : goal.invariant-loop-step

@@ -1,6 +1,6 @@
 use Rattle.std.proofs.Common.{◌≡◌, ◌-◌, ◌+◌, ◌∙◌, ap, sym, subst, arith}
 use Rattle.std.proofs.Math.Nat.{sub-zero}
-use Rattle.lgm_route.specs.Searching.{label_at}
+use Rattle.lgm_route.specs.inner.Searching.{label_at}
 use Rattle.lgm_route.proofs.Chains.{AreBeside, beside_start, one, two, beside_less, beside_more, beside_next, beside_same, beside_end}
 use Rattle.lgm_route.proofs.comparing.ids_first.Goals as goal
 

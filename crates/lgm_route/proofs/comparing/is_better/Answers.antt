@@ -2,7 +2,7 @@ use Rattle.std.proofs.Common.{nat_lt, Some, None, Option, sym, subst, inl, inr, 
 use Rattle.std.specs.Prelude.{if◌then◌else◌}
 use Rattle.std.proofs.lemmas.Bool.Decides.{nat_tests}
 use Rattle.lgm_route.specs.declared.label.Label.{Label}
-use Rattle.lgm_route.specs.Searching.{IsBetter, IsFound}
+use Rattle.lgm_route.specs.inner.Searching.{IsBetter, IsFound}
 use Rattle.lgm_route.proofs.Steps.{better_first, better_none, better_takes, better_keeps, better_choice}
 use Rattle.lgm_route.proofs.comparing.is_better.Goals as goal
 

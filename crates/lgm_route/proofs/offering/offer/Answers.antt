@@ -1,5 +1,5 @@
 use Rattle.std.proofs.Common.{IfSome, sym, subst}
-use Rattle.lgm_route.specs.Searching.{AreSpelled, IsServer, IsOffered}
+use Rattle.lgm_route.specs.inner.Searching.{AreSpelled, IsServer, IsOffered}
 use Rattle.lgm_route.proofs.Steps.{offered_there, offered_new, spelled_labels}
 use Rattle.lgm_route.proofs.offering.offer.Goals as goal
 

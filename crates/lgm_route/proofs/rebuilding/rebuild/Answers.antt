@@ -1,5 +1,5 @@
 use Rattle.std.proofs.Common.{◌≡◌, ◌+◌, ◌-◌, ◌∙◌, ◌∷◌, ◌++◌, [], ap, sym, subst, arith}
-use Rattle.lgm_route.specs.Searching.{label_at}
+use Rattle.lgm_route.specs.inner.Searching.{label_at}
 use Rattle.lgm_route.proofs.Chains.{IsOnTheWay, way_more, way_step}
 use Rattle.lgm_route.proofs.rebuilding.rebuild.Goals as goal
 

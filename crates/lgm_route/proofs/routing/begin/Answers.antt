@@ -1,7 +1,7 @@
 use Rattle.std.proofs.Common.{ap, sym, subst}
 use Rattle.lgm_graph.specs.Graph.{links}
-use Rattle.lgm_route.specs.Searching.{IsStart}
-use Rattle.lgm_route.specs.State.{Ground}
+use Rattle.lgm_route.specs.inner.Searching.{IsStart}
+use Rattle.lgm_route.specs.inner.State.{Ground}
 use Rattle.lgm_route.proofs.routing.begin.Goals as goal
 
 pub returns : goal.returns

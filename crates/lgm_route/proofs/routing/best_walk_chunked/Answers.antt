@@ -1,7 +1,7 @@
 use Rattle.std.proofs.Common.{◌∙◌, sym, subst}
 use Rattle.lgm_graph.specs.Graph.{links}
-use Rattle.lgm_route.specs.Searching.{IsStart}
-use Rattle.lgm_route.specs.State.{Ground}
+use Rattle.lgm_route.specs.inner.Searching.{IsStart}
+use Rattle.lgm_route.specs.inner.State.{Ground}
 use Rattle.lgm_route.proofs.routing.best_walk_chunked.Goals as goal
 
 pub best_walk-requires-clause-start : goal.best_walk-requires-clause-start

@@ -2,8 +2,8 @@ use Rattle.std.proofs.Common.{◌∙◌, ap, sym, subst}
 use Rattle.std.specs.Option.{option_map}
 use Rattle.lgm_graph.specs.Graph.{links}
 use Rattle.lgm_route.specs.declared.numbered_request.NumberedRequest.{NumberedRequest}
-use Rattle.lgm_route.specs.Searching.{AreCarried}
-use Rattle.lgm_route.specs.Best.{IsBestWalk, AreNumbered, edges_in}
+use Rattle.lgm_route.specs.inner.Searching.{AreCarried}
+use Rattle.lgm_route.specs.inner.Best.{IsBestWalk, AreNumbered, edges_in}
 use Rattle.lgm_route.specs.Routes.{hops_of}
 use Rattle.lgm_route.proofs.Crossing.{over, none_over, least_over}
 use Rattle.lgm_route.proofs.Rests.{carried_under}

@@ -1,5 +1,5 @@
 use Rattle.std.proofs.Common.{◌<◌, ℕ, length, subst, arith}
-use Rattle.lgm_route.specs.Searching.{link_at}
+use Rattle.lgm_route.specs.inner.Searching.{link_at}
 use Rattle.lgm_route.proofs.Steps.{start_of}
 use Rattle.lgm_route.proofs.starting.most_sent.Goals as goal
 

@@ -1,5 +1,5 @@
 use Rattle.std.proofs.Common.{◌≤◌, ◌<◌, ◌^◌, ℕ}
-use Rattle.lgm_route.specs.Searching.{link_at}
+use Rattle.lgm_route.specs.inner.Searching.{link_at}
 use Rattle.lgm_route.proofs.starting.most_sent.Given as goal
 
 abbrev pub invariant-loop-link : goal.invariant-loop-link

@@ -1,5 +1,5 @@
 use Rattle.std.proofs.Common.{◌≡◌, ◌<◌, ◌^◌, drop}
-use Rattle.lgm_script.specs.Digits.{value_at}
+use Rattle.lgm_script.specs.inner.Digits.{value_at}
 use Rattle.lgm_script.proofs.field.value.Given as goal
 
 -- the digits that are left go on with the number so far

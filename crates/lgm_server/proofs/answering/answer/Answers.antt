@@ -6,7 +6,7 @@ use Rattle.lgm_script.specs.Groups.{IsOfKind}
 use Rattle.lgm_script.specs.Output.{Sends, SendsPart}
 use Rattle.lgm_script.specs.Request.{request_of}
 use Rattle.lgm_script.specs.declared.grouping.Kind.TheVariants.{Item, Question, Other}
-use Rattle.lgm_server.specs.Questions.{asked_in}
+use Rattle.lgm_server.specs.inner.Questions.{asked_in}
 use Rattle.lgm_server.proofs.Kindred.{kinds_of, asked_alone, other_leaves, other_is_told, other_begins}
 use Rattle.lgm_server.proofs.answering.answer.Goals as goal
 

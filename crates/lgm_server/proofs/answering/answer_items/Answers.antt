@@ -13,10 +13,10 @@ use Rattle.lgm_script.specs.declared.output.SendFault.TheVariants.{NoMemory}
 use Rattle.lgm_script.specs.declared.request.Request.TheVariants.{Quiet}
 use Rattle.lgm_script.proofs.FirstLines.{each_at}
 use Rattle.lgm_script.proofs.Telling.{tells_none}
-use Rattle.lgm_server.specs.Offered.{offered_in, offered_text, state_by}
-use Rattle.lgm_server.specs.Questions.{asked_in}
+use Rattle.lgm_server.specs.inner.Offered.{offered_in, offered_text, state_by}
+use Rattle.lgm_server.specs.inner.Questions.{asked_in}
 use Rattle.lgm_server.specs.Script.{text_for}
-use Rattle.lgm_server.specs.Steps.{state_after}
+use Rattle.lgm_server.specs.inner.Steps.{state_after}
 use Rattle.lgm_server.proofs.Kindred.{item_leaves, item_is_told, was_checked_if}
 use Rattle.lgm_server.proofs.Stepping.{accepted-le}
 use Rattle.lgm_server.proofs.Turning.{IsAt, at_next, at_last, at_fault}

@@ -1,8 +1,8 @@
 use Rattle.std.proofs.Common.{◌≡◌, ◌≤◌, ◌+◌, length}
 use Rattle.lgm_script.specs.Output.{seen}
-use Rattle.lgm_server.specs.Questions.{asked_in}
+use Rattle.lgm_server.specs.inner.Questions.{asked_in}
 use Rattle.lgm_server.specs.Script.{text_for}
-use Rattle.lgm_server.specs.Steps.{state_after}
+use Rattle.lgm_server.specs.inner.Steps.{state_after}
 use Rattle.lgm_server.proofs.Turning.{IsAt}
 use Rattle.lgm_server.proofs.answering.answer_items.Given as goal
 

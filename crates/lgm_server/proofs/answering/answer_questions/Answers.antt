@@ -3,7 +3,7 @@ use Rattle.std.specs.Prelude.{OnOk, IfErr}
 use Rattle.std.proofs.lemmas.Result.{err_from_is_err_and}
 use Rattle.lgm_script.specs.Output.{Sends, SendsPart}
 use Rattle.lgm_script.proofs.Telling.{tells_none}
-use Rattle.lgm_server.specs.Questions.{asked_in}
+use Rattle.lgm_server.specs.inner.Questions.{asked_in}
 use Rattle.lgm_server.proofs.Kindred.{questions_leave, questions_are_told}
 use Rattle.lgm_server.proofs.answering.answer_questions.Goals as goal
 

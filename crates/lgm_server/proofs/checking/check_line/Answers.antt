@@ -3,7 +3,7 @@ use Rattle.lgm_wire.specs.declared.chain_hash.ChainHash.{ChainHash}
 use Rattle.lgm_script.specs.declared.item.Item.{Item}
 use Rattle.lgm_script.specs.declared.request.Request.{Request}
 use Rattle.lgm_script.specs.declared.request.Request.TheVariants as requests
-use Rattle.lgm_server.specs.Offered.{offered_in}
+use Rattle.lgm_server.specs.inner.Offered.{offered_in}
 use Rattle.lgm_server.proofs.checking.check_line.Goals as goal
 
 -- a request that offers no item

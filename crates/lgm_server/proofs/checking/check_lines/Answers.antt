@@ -2,7 +2,7 @@ use Rattle.std.proofs.Common.{◌≡◌, rules}
 use Rattle.std.specs.Prelude.{IfOk}
 use Rattle.lgm_script.specs.Request.{request_of}
 use Rattle.lgm_par.proofs.Zipping.{zip_weaker_ok}
-use Rattle.lgm_server.specs.Offered.{offered_in}
+use Rattle.lgm_server.specs.inner.Offered.{offered_in}
 use Rattle.lgm_server.proofs.Zips.{zip_of_ok}
 use Rattle.lgm_server.proofs.checking.check_lines.Goals as goal
 

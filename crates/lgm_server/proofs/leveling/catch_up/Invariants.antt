@@ -1,6 +1,6 @@
 use Rattle.std.proofs.Common.{◌≡◌, length}
 use Rattle.lgm_store.specs.History.{fold_from}
-use Rattle.lgm_server.specs.Chart.{Follows, GoesOn}
+use Rattle.lgm_server.specs.inner.Chart.{Follows, GoesOn}
 use Rattle.lgm_server.proofs.leveling.catch_up.Given as goal
 
 -- what was done and what is due make what was due, and a view follows

@@ -9,7 +9,7 @@ use Rattle.lgm_script.specs.Output.{seen, Tells, TellsPart}
 use Rattle.lgm_script.specs.declared.output.SendFault.TheVariants.{NoMemory}
 use Rattle.lgm_script.specs.Request.{request_of}
 use Rattle.lgm_script.specs.declared.request.Request.TheVariants.{Quiet}
-use Rattle.lgm_server.specs.Questions.{asked_in, filters_after, question_text, IsAnswerTo}
+use Rattle.lgm_server.specs.inner.Questions.{asked_in, filters_after, question_text, IsAnswerTo}
 use Rattle.lgm_server.proofs.Turning.{at_first, at_next, at_last, at_fault}
 use Rattle.lgm_server.proofs.Zips.{stands}
 use Rattle.lgm_server.proofs.questions.answer_questions.Goals as goal

@@ -1,6 +1,6 @@
 use Rattle.std.proofs.Common.{◌≡◌}
 use Rattle.lgm_script.specs.Output.{seen}
-use Rattle.lgm_server.specs.Questions.{asked_in, filters_after, question_text}
+use Rattle.lgm_server.specs.inner.Questions.{asked_in, filters_after, question_text}
 use Rattle.lgm_server.proofs.Turning.{IsAt}
 use Rattle.lgm_server.proofs.questions.answer_questions.Given as goal
 

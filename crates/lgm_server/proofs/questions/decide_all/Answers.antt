@@ -2,7 +2,7 @@ use Rattle.std.proofs.Common.{rules}
 use Rattle.std.specs.Prelude.{IfOk}
 use Rattle.lgm_script.specs.Request.{request_of}
 use Rattle.lgm_par.proofs.Zipping.{zip_weaker_ok}
-use Rattle.lgm_server.specs.Questions.{IsAnswerTo}
+use Rattle.lgm_server.specs.inner.Questions.{IsAnswerTo}
 use Rattle.lgm_server.proofs.Zips.{zip_of_ok}
 use Rattle.lgm_server.proofs.questions.decide_all.Goals as goal
 

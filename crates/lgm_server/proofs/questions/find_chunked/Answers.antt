@@ -1,7 +1,7 @@
 use Rattle.std.proofs.Common.{inl, inr, subst, ap, [], ◌∙◌}
 use Rattle.lgm_graph.specs.Edges.{edges_of}
 use Rattle.lgm_route.specs.Choice.{answer_of}
-use Rattle.lgm_server.specs.Chart.{IsViewOf, ShowsAs}
+use Rattle.lgm_server.specs.inner.Chart.{IsViewOf, ShowsAs}
 use Rattle.lgm_server.proofs.questions.find_chunked.Goals as goal
 
 pub answer_chunked-requires-clause-beside : goal.answer_chunked-requires-clause-beside

@@ -4,7 +4,7 @@ use Rattle.std.proofs.lemmas.List.{length-map}
 use Rattle.std.proofs.lemmas.Result.{err_from_is_err_and}
 use Rattle.lgm_script.specs.Output.{Sends, SendsPart}
 use Rattle.lgm_script.proofs.Telling.{tells_none}
-use Rattle.lgm_server.specs.Steps.{state_from, text_from}
+use Rattle.lgm_server.specs.inner.Steps.{state_from, text_from}
 use Rattle.lgm_server.proofs.Kindred.{asked_texts}
 use Rattle.lgm_server.proofs.Progress.{first_alone}
 use Rattle.lgm_server.proofs.running.answer_next.Goals as goal

@@ -1,7 +1,7 @@
 use Rattle.std.proofs.Common.{◌≡◌, ℕ, true, eqb, Some, sym, ap, ◌∙◌, arith}
 use Rattle.std.proofs.lemmas.Bool.Decides.{nat_tests}
 use Rattle.std.specs.Option.{option_map}
-use Rattle.lgm_store.specs.Slots.{id_in, slot_at}
+use Rattle.lgm_store.specs.inner.Slots.{id_in, slot_at}
 use Rattle.lgm_store.proofs.slots.number_of.Goals as goal
 
 same : (a b : ℕ) → eqb a b ≡ true → a ≡ b

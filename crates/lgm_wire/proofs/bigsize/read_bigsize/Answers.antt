@@ -1,5 +1,5 @@
 use Rattle.std.proofs.Common.{◌≡◌, ◌-◌, length, Ok, arith, rules}
-use Rattle.lgm_wire.specs.BigSizeReading.{bigsize_with_len}
+use Rattle.lgm_wire.specs.reading.BigSizeReading.{bigsize_with_len}
 use Rattle.lgm_wire.proofs.BigSizeClauses.{shorter, meets}
 use Rattle.lgm_wire.proofs.bigsize.read_bigsize.Goals as goal
 

@@ -1,7 +1,7 @@
 use Rattle.std.proofs.Common.{◌≡◌, List, ℕ, Ok, ap, subst, ◌∙◌, Bool, true, not, true≢false}
 use Rattle.std.specs.Prelude.{Option, Some, None, is_some}
 use Rattle.lgm_graph.specs.Graph.{Graph}
-use Rattle.lgm_c.specs.Charted.{IsViewed}
+use Rattle.lgm_c.specs.inner.Charted.{IsViewed}
 use Rattle.lgm_check.specs.Precheck.{checked_of}
 use Rattle.lgm_store.specs.Rows.{Rows}
 use Rattle.lgm_store.specs.Admission.{Offers, admitted}

@@ -1,5 +1,5 @@
 use Rattle.std.proofs.Common.{Some}
-use Rattle.lgm_c.specs.Charted.{offered_to}
+use Rattle.lgm_c.specs.inner.Charted.{offered_to}
 use Rattle.lgm_c.proofs.Doings.{offered_tells, goes_on}
 use Rattle.lgm_c.proofs.inner.Inner.offer_judged.Goals as goal
 

@@ -1,7 +1,7 @@
 use Rattle.std.proofs.Common.{◌≡◌, Ok, arith, rules, inl, inr}
 use Rattle.std.proofs.lemmas.Result.{err_from_is_err_and}
-use Rattle.lgm_gossip.specs.EncodedIdsReading.{ids_of}
-use Rattle.lgm_gossip.specs.IdsQueryReading.{ids_query_at}
+use Rattle.lgm_gossip.specs.reading.EncodedIdsReading.{ids_of}
+use Rattle.lgm_gossip.specs.reading.IdsQueryReading.{ids_query_at}
 use Rattle.lgm_gossip.proofs.MemoryLaws.{fixed_len, enclosed_len}
 use Rattle.lgm_gossip.specs.IdsQuery.{Query}
 use Rattle.lgm_gossip.proofs.IdsQueryLaws.{ids_query_text, one_each, same_count}

@@ -1,7 +1,7 @@
 use Rattle.std.proofs.Common.{arith, rules, inl, inr}
 use Rattle.std.specs.Int.{w32}
 use Rattle.std.proofs.lemmas.Result.{err_from_is_err_and}
-use Rattle.lgm_gossip.specs.RangeQueryReading.{range_query_at}
+use Rattle.lgm_gossip.specs.reading.RangeQueryReading.{range_query_at}
 use Rattle.lgm_gossip.proofs.MemoryLaws.{fixed_len, number_len}
 use Rattle.lgm_gossip.proofs.range_query.RangeQuery.read.Goals as goal
 

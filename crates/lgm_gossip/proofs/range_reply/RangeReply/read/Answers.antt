@@ -1,8 +1,8 @@
 use Rattle.std.proofs.Common.{◌≡◌, Ok, arith, rules, inl, inr}
 use Rattle.std.specs.Int.{w8, w32}
 use Rattle.std.proofs.lemmas.Result.{err_from_is_err_and}
-use Rattle.lgm_gossip.specs.EncodedIdsReading.{ids_of}
-use Rattle.lgm_gossip.specs.RangeReplyReading.{range_reply_at}
+use Rattle.lgm_gossip.specs.reading.EncodedIdsReading.{ids_of}
+use Rattle.lgm_gossip.specs.reading.RangeReplyReading.{range_reply_at}
 use Rattle.lgm_gossip.proofs.MemoryLaws.{fixed_len, number_len, enclosed_len}
 use Rattle.lgm_gossip.specs.RangeReply.{Reply}
 use Rattle.lgm_gossip.proofs.RangeReplyLaws.{range_reply_text, one_each, same_count}

@@ -1,6 +1,6 @@
 use Rattle.std.proofs.Common.{rules}
 use Rattle.std.proofs.lemmas.Fn.{filter_same}
-use Rattle.lgm_graph.specs.Sound.{is_allowed}
+use Rattle.lgm_graph.specs.inner.Sound.{is_allowed}
 use Rattle.lgm_graph.proofs.nodes.Links.drop_banned.Goals as goal
 
 pub returns : goal.returns

@@ -1,6 +1,6 @@
 use Rattle.std.proofs.Common.{rules}
 use Rattle.std.proofs.lemmas.Fn.{filter_same}
-use Rattle.lgm_graph.specs.Sound.{is_not_of}
+use Rattle.lgm_graph.specs.inner.Sound.{is_not_of}
 use Rattle.lgm_graph.proofs.nodes.Links.drop_channel.Goals as goal
 
 pub returns : goal.returns

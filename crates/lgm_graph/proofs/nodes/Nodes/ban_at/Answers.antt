@@ -1,7 +1,7 @@
 use Rattle.std.proofs.Common.{◌∙◌, sym, [], false}
 use Rattle.std.specs.List.{filter}
 use Rattle.lgm_graph.specs.Edges.{takes_payments}
-use Rattle.lgm_graph.specs.Sound.{is_allowed}
+use Rattle.lgm_graph.specs.inner.Sound.{is_allowed}
 use Rattle.lgm_graph.proofs.Numbers.{number_some}
 use Rattle.lgm_graph.proofs.Numbering.{position_none}
 use Rattle.lgm_graph.proofs.Flags.{map_change, map_absent}

@@ -1,6 +1,6 @@
 use Rattle.std.proofs.Common.{[]}
 use Rattle.std.specs.List.{filter}
-use Rattle.lgm_graph.specs.Sound.{is_not_of}
+use Rattle.lgm_graph.specs.inner.Sound.{is_not_of}
 use Rattle.lgm_graph.proofs.Flags.{map_change}
 use Rattle.lgm_graph.proofs.nodes.Nodes.close_at.Goals as goal
 

@@ -1,5 +1,5 @@
 use Rattle.std.proofs.Common.{◌∙◌, sym, ap, subst}
-use Rattle.lgm_graph.specs.Sound.{graph_in, IsSound}
+use Rattle.lgm_graph.specs.inner.Sound.{graph_in, IsSound}
 use Rattle.lgm_graph.proofs.view.View.copy.Goals as goal
 
 pub invariant_of-result : goal.invariant_of-result

@@ -1,6 +1,6 @@
 use Rattle.std.proofs.Common.{subst}
 use Rattle.lgm_graph.specs.Graph.{AreLinked}
-use Rattle.lgm_graph.specs.Sound.{graph_in}
+use Rattle.lgm_graph.specs.inner.Sound.{graph_in}
 use Rattle.lgm_graph.proofs.Linking.{are_linked}
 use Rattle.lgm_graph.proofs.view.View.nodes.Goals as goal
 

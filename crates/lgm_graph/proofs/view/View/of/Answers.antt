@@ -2,8 +2,8 @@ use Rattle.std.proofs.Common.{◌∙◌, arith, length, length-append, ap, sym, 
 use Rattle.std.proofs.lemmas.List.{length-map}
 use Rattle.lgm_graph.specs.Edges.{carrying, takes_payments}
 use Rattle.lgm_graph.specs.Graph.{IsGraphOf}
-use Rattle.lgm_graph.specs.Sound.{graph_in}
-use Rattle.lgm_graph.specs.Walk.{AreLinksOf, HasWalked}
+use Rattle.lgm_graph.specs.inner.Sound.{graph_in}
+use Rattle.lgm_graph.specs.inner.Walk.{AreLinksOf, HasWalked}
 use Rattle.lgm_graph.proofs.Walked.{walked_own, walked_more, walked_all}
 use Rattle.lgm_graph.proofs.view.View.of.Goals as goal
 

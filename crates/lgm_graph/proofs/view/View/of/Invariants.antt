@@ -1,5 +1,5 @@
-use Rattle.lgm_graph.specs.Sound.{graph_in}
-use Rattle.lgm_graph.specs.Walk.{HasWalked}
+use Rattle.lgm_graph.specs.inner.Sound.{graph_in}
+use Rattle.lgm_graph.specs.inner.Walk.{HasWalked}
 use Rattle.lgm_graph.proofs.view.View.of.Given as goal
 
 abbrev pub invariant-loop-held : goal.invariant-loop-held

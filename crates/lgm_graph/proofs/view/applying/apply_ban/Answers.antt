@@ -5,7 +5,7 @@ use Rattle.lgm_store.specs.History.{absorbed, with_banned}
 use Rattle.lgm_graph.specs.declared.link.Link.{Link}
 use Rattle.lgm_graph.specs.Edges.{takes_payments, carrying}
 use Rattle.lgm_graph.specs.Graph.{no_point}
-use Rattle.lgm_graph.specs.Sound.{links_in, is_allowed}
+use Rattle.lgm_graph.specs.inner.Sound.{links_in, is_allowed}
 use Rattle.lgm_graph.proofs.Keeping.{filter_twice}
 use Rattle.lgm_graph.proofs.Showing.{links_at}
 use Rattle.lgm_graph.proofs.Parting.{changed_among, next_at, node_parted}

@@ -2,7 +2,7 @@ use Rattle.std.proofs.Common.{◌≡◌, Bool, List, filter, length, take}
 use Rattle.lgm_wire.specs.declared.point.Point.{Point}
 use Rattle.lgm_graph.specs.declared.link.Link.{Link}
 use Rattle.lgm_graph.specs.Edges.{takes_payments}
-use Rattle.lgm_graph.specs.Sound.{is_allowed, AreInto, AreOut, AreFlags}
+use Rattle.lgm_graph.specs.inner.Sound.{is_allowed, AreInto, AreOut, AreFlags}
 use Rattle.lgm_graph.proofs.Parting.{changed_among}
 use Rattle.lgm_graph.proofs.view.applying.apply_ban.Given as goal
 

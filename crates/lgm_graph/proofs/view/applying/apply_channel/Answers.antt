@@ -2,8 +2,8 @@ use Rattle.std.proofs.Common.{rules, ◌≡◌, ◌∙◌, ap, subst, arith, len
 use Rattle.lgm_store.specs.History.{absorbed}
 use Rattle.lgm_graph.specs.Edges.{carrying}
 use Rattle.lgm_graph.specs.Graph.{IsNumbered}
-use Rattle.lgm_graph.specs.Sound.{AreLookedAt}
-use Rattle.lgm_graph.specs.Walk.{KeepsNumbers}
+use Rattle.lgm_graph.specs.inner.Sound.{AreLookedAt}
+use Rattle.lgm_graph.specs.inner.Walk.{KeepsNumbers}
 use Rattle.lgm_store.specs.Rows.{Rows}
 use Rattle.lgm_graph.proofs.Numbers.{on_err}
 use Rattle.lgm_graph.proofs.Making.{same_points, same_takes, same_shows}

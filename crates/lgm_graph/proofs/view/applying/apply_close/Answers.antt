@@ -1,7 +1,7 @@
 use Rattle.std.proofs.Common.{rules, ◌∙◌, ap, sym, false, true}
 use Rattle.lgm_store.specs.History.{absorbed}
 use Rattle.lgm_graph.specs.Edges.{takes_payments, carrying}
-use Rattle.lgm_graph.specs.Sound.{closed_at}
+use Rattle.lgm_graph.specs.inner.Sound.{closed_at}
 use Rattle.lgm_graph.proofs.Numbers.{ends_numbered}
 use Rattle.lgm_graph.proofs.Showing.{links_at}
 use Rattle.lgm_graph.proofs.Closing.{node_closed}

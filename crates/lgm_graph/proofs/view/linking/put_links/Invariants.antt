@@ -1,7 +1,7 @@
 use Rattle.std.proofs.Common.{◌≡◌, List, take}
 use Rattle.lgm_graph.specs.declared.edge.Edge.{Edge}
-use Rattle.lgm_graph.specs.Sound.{ShowsIn}
-use Rattle.lgm_graph.specs.Walk.{AreLinksOf}
+use Rattle.lgm_graph.specs.inner.Sound.{ShowsIn}
+use Rattle.lgm_graph.specs.inner.Walk.{AreLinksOf}
 use Rattle.lgm_graph.proofs.view.linking.put_links.Given as goal
 
 abbrev pub invariant-loop-link : goal.invariant-loop-link

@@ -1,6 +1,6 @@
 use Rattle.std.proofs.Common.{◌∙◌, ap, sym}
 use Rattle.lgm_graph.specs.Graph.{IsNumbered, number_of}
-use Rattle.lgm_graph.specs.Walk.{KeepsNumbers}
+use Rattle.lgm_graph.specs.inner.Walk.{KeepsNumbers}
 use Rattle.lgm_graph.proofs.Writing.{links_of_more, channel_written}
 use Rattle.lgm_graph.proofs.view.making.add_channel.Goals as goal
 

@@ -2,7 +2,7 @@ use Rattle.std.proofs.Common.{◌≡◌, true, take}
 use Rattle.std.specs.List.{AllByRecursion, filter}
 use Rattle.lgm_wire.specs.declared.point.Point.{Point}
 use Rattle.lgm_store.specs.Rows.{ends_at}
-use Rattle.lgm_graph.specs.Sound.{is_among, HasEnds}
+use Rattle.lgm_graph.specs.inner.Sound.{is_among, HasEnds}
 use Rattle.lgm_graph.proofs.view.parting.add_ends.Given as goal
 
 -- the ends of so many channels are there, and the points that were

@@ -1,6 +1,6 @@
 use Rattle.std.proofs.Common.{◌≡◌, ◌+◌, ◌≤◌, List, ◌++◌, length, take}
 use Rattle.lgm_script.specs.declared.item.Item.{Item}
-use Rattle.lgm_live.specs.Written.{IsWritten}
+use Rattle.lgm_live.specs.inner.Written.{IsWritten}
 use Rattle.lgm_live.proofs.writing.Written.take_batch.Given as goal
 
 abbrev pub invariant-loop-item : goal.invariant-loop-item

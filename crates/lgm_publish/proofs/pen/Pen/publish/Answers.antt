@@ -1,7 +1,7 @@
 use Rattle.std.proofs.Common.{◌≡◌, ◌∙◌, ◌++◌, ap, sym, drop, length}
-use Rattle.lgm_publish.specs.Book.{head_of}
+use Rattle.lgm_publish.specs.inner.Book.{head_of}
 use Rattle.lgm_publish.specs.Handles.{History, history}
-use Rattle.lgm_publish.specs.Shown.{whole}
+use Rattle.lgm_publish.specs.inner.Shown.{whole}
 use Rattle.lgm_publish.proofs.Boards.{noted_whole, publishes_whole}
 use Rattle.lgm_publish.proofs.pen.Pen.publish.Goals as goal
 

@@ -2,7 +2,7 @@ use Rattle.std.proofs.Common.{◌≡◌, sym, ap, ◌∙◌, subst}
 use mathlib.Core.List.{IsPrefix}
 use Rattle.lgm_publish.specs.Lists.{joined}
 use Rattle.lgm_publish.specs.Handles.{History}
-use Rattle.lgm_publish.specs.Book.{head_of}
+use Rattle.lgm_publish.specs.inner.Book.{head_of}
 use Rattle.lgm_publish.proofs.Extending.{extends_moves}
 use Rattle.lgm_publish.proofs.told.Told.extend.Goals as goal
 

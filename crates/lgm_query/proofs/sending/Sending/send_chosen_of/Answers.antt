@@ -3,7 +3,7 @@ use Rattle.std.specs.Option.{option_map}
 use Rattle.lgm_store.specs.Rows.{node_of}
 use Rattle.lgm_query.specs.Piece.{channel, update, node}
 use Rattle.lgm_query.specs.IdsReply.{if_set}
-use Rattle.lgm_query.specs.Sent.{Sends}
+use Rattle.lgm_query.specs.inner.Sent.{Sends}
 use Rattle.lgm_query.proofs.Sendings.{Sends-set, Sends-unset, Sends-chosen}
 use Rattle.lgm_query.proofs.sending.Sending.send_chosen_of.Goals as goal
 use Rattle.lgm_query.proofs.sending.Sending.send_chosen_of.Goals.{then-is_set+in_ok-send_channel, else-is_set, then-is_set-2+in_ok-send_update, else-is_set-2, then-is_set-3+in_ok-send_update-2, else-is_set-3, then-is_set-4+in_ok-send_node, else-is_set-4}

@@ -1,8 +1,8 @@
 use Rattle.std.proofs.Common.{◌≡◌, ◌<◌, ◌^◌, length, sym, subst}
 use Rattle.lgm_graph.specs.Graph.{links}
-use Rattle.lgm_route.specs.Numbered.{sent, IsLeast}
-use Rattle.lgm_route.specs.Searching.{Spells}
-use Rattle.lgm_route.specs.State.{State, state_of, IsFinished}
+use Rattle.lgm_route.specs.inner.Numbered.{sent, IsLeast}
+use Rattle.lgm_route.specs.inner.Searching.{Spells}
+use Rattle.lgm_route.specs.inner.State.{State, state_of, IsFinished}
 use Rattle.lgm_route.proofs.Searches.{walk_least}
 use Rattle.lgm_route.proofs.search.Search.best_walk.Goals as goal
 

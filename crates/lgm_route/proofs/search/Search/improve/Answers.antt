@@ -1,7 +1,7 @@
 use Rattle.std.proofs.Common.{Some, subst}
 use Rattle.std.specs.Prelude.{if◌then◌else◌}
-use Rattle.lgm_route.specs.Searching.{IsBetter}
-use Rattle.lgm_route.specs.State.{State, state_of, Extends}
+use Rattle.lgm_route.specs.inner.Searching.{IsBetter}
+use Rattle.lgm_route.specs.inner.State.{State, state_of, Extends}
 use Rattle.lgm_route.proofs.Searches.{search_better, extends_better}
 use Rattle.lgm_route.proofs.search.Search.improve.Goals as goal
 

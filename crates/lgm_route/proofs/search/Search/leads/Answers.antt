@@ -1,8 +1,8 @@
 use Rattle.std.proofs.Common.{◌≡◌, ◌+◌, ◌∙◌, ap, sym, subst, arith}
 use Rattle.std.proofs.lemmas.List.{get_or_default}
 use Rattle.lgm_graph.specs.Graph.{links_into}
-use Rattle.lgm_route.specs.Searching.{link_at, no_link}
-use Rattle.lgm_route.specs.State.{bound_in, IsLeadAt}
+use Rattle.lgm_route.specs.inner.Searching.{link_at, no_link}
+use Rattle.lgm_route.specs.inner.State.{bound_in, IsLeadAt}
 use Rattle.lgm_route.proofs.Leads.{AreLeadsTo, leads_next, leads_all}
 use Rattle.lgm_route.proofs.search.Search.leads.Goals as goal
 

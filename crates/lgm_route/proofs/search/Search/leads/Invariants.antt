@@ -1,4 +1,4 @@
-use Rattle.lgm_route.specs.State.{bound_in}
+use Rattle.lgm_route.specs.inner.State.{bound_in}
 use Rattle.lgm_route.proofs.Leads.{AreLeadsTo}
 use Rattle.lgm_route.proofs.search.Search.leads.Given as goal
 

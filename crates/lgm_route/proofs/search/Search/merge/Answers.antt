@@ -1,6 +1,6 @@
 use Rattle.std.proofs.Common.{arith}
 use Rattle.lgm_route.specs.declared.label.Label.{Label}
-use Rattle.lgm_route.specs.Searching.{label_at, first_of}
+use Rattle.lgm_route.specs.inner.Searching.{label_at, first_of}
 use Rattle.lgm_route.proofs.Searches.{extends-trans, led_at_later, led_self, passed_self, passed_more, left_taken, settled_led}
 use Rattle.lgm_route.proofs.search.Search.merge.Goals as goal
 

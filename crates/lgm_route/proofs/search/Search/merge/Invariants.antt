@@ -1,6 +1,6 @@
 use Rattle.std.proofs.Common.{◌<◌, ℕ}
-use Rattle.lgm_route.specs.Searching.{label_at, first_of}
-use Rattle.lgm_route.specs.State.{Extends, IsPassedOn}
+use Rattle.lgm_route.specs.inner.Searching.{label_at, first_of}
+use Rattle.lgm_route.specs.inner.State.{Extends, IsPassedOn}
 use Rattle.lgm_route.proofs.search.Search.merge.Given as goal
 
 abbrev pub invariant-loop-new : goal.invariant-loop-new

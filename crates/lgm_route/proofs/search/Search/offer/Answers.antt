@@ -1,5 +1,5 @@
 use Rattle.std.proofs.Common.{subst}
-use Rattle.lgm_route.specs.State.{State, state_of, Extends}
+use Rattle.lgm_route.specs.inner.State.{State, state_of, Extends}
 use Rattle.lgm_route.proofs.Searches.{search_offered, extends_offered}
 use Rattle.lgm_route.proofs.search.Search.offer.Goals as goal
 

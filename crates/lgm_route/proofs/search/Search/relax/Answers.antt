@@ -1,8 +1,8 @@
 use Rattle.std.proofs.Common.{◌≡◌, ◌<◌, ◌∙◌, ℕ, length, ap, subst, arith}
 use Rattle.std.proofs.lemmas.List.{get_or_default}
 use Rattle.lgm_graph.specs.Graph.{links_into}
-use Rattle.lgm_route.specs.Searching.{label_at, link_at, no_link}
-use Rattle.lgm_route.specs.State.{IsPassedOn}
+use Rattle.lgm_route.specs.inner.Searching.{label_at, link_at, no_link}
+use Rattle.lgm_route.specs.inner.State.{IsPassedOn}
 use Rattle.lgm_route.proofs.Searches.{extends-trans, passed_more, left_all}
 use Rattle.lgm_route.proofs.search.Search.relax.Goals as goal
 

@@ -1,5 +1,5 @@
 use Rattle.std.proofs.Common.{◌+◌, ◌*◌, ◌∙◌, ap, arith}
-use Rattle.lgm_route.specs.Searching.{number_at}
+use Rattle.lgm_route.specs.inner.Searching.{number_at}
 use Rattle.lgm_route.proofs.Searches.{extends-trans, settled_vain, settled_by}
 use Rattle.lgm_route.proofs.search.Search.settle.Goals as goal
 

@@ -3,7 +3,7 @@ use Rattle.std.specs.declared.alloc.AllocError.{AllocError}
 use Rattle.std.proofs.lemmas.Slice.Zip.{AllZip-long}
 use Rattle.lgm_par.proofs.Zipping.{zip_at}
 use Rattle.lgm_route.specs.declared.label.Label.{Label}
-use Rattle.lgm_route.specs.State.{AreLeadsAt}
+use Rattle.lgm_route.specs.inner.State.{AreLeadsAt}
 use Rattle.lgm_route.proofs.Searches.{leads_at_later}
 use Rattle.lgm_route.proofs.search.Search.share_layer.Goals as goal
 

@@ -1,7 +1,7 @@
 use Rattle.std.proofs.Common.{◌≡◌, ◌<◌, ◌∙◌, length, refl, sym, subst}
 use Rattle.std.proofs.lemmas.List.{get_or_default}
-use Rattle.lgm_route.specs.Searching.{label_at, no_label, AreSpelled, IsSpelled}
-use Rattle.lgm_route.specs.State.{State, state_of}
+use Rattle.lgm_route.specs.inner.Searching.{label_at, no_label, AreSpelled, IsSpelled}
+use Rattle.lgm_route.specs.inner.State.{State, state_of}
 use Rattle.lgm_route.proofs.Steps.{serves_itself}
 use Rattle.lgm_route.proofs.Searches.{spelled}
 use Rattle.lgm_route.proofs.search.Search.stand_in.Goals as goal

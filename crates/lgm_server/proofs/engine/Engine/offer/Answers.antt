@@ -1,6 +1,6 @@
 use Rattle.std.proofs.Common.{subst, sym, ◌+◌}
-use Rattle.lgm_server.specs.Engine.{IsFew}
-use Rattle.lgm_server.specs.Offered.{outcome_on}
+use Rattle.lgm_server.specs.inner.Engine.{IsFew}
+use Rattle.lgm_server.specs.inner.Offered.{outcome_on}
 use Rattle.lgm_server.proofs.Fewness.{grown_few}
 use Rattle.lgm_server.proofs.engine.Engine.offer.Goals as goal
 

@@ -1,6 +1,6 @@
 use Rattle.std.proofs.Common.{sym}
 use Rattle.std.proofs.lemmas.Result.{on_ok_weaker, on_err_weaker}
-use Rattle.lgm_store.specs.Ends.{with_id}
+use Rattle.lgm_store.specs.inner.Ends.{with_id}
 use Rattle.lgm_store.proofs.Listing.{Lists-change_same, Lists-change, Lists-undo}
 use Rattle.lgm_store.proofs.ends.Ends.add.Goals as goal
 

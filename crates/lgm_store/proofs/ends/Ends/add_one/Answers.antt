@@ -1,6 +1,6 @@
 use Rattle.std.proofs.Common.{◌≡◌, [], unwrap_or, is_some, ap, sym, ◌∙◌}
 use Rattle.std.proofs.lemmas.Result.{on_ok_weaker, on_err_weaker}
-use Rattle.lgm_store.specs.Ends.{with_id, list_at}
+use Rattle.lgm_store.specs.inner.Ends.{with_id, list_at}
 use Rattle.lgm_store.proofs.Listing.{Sets-put, IsSame-put, kept-with}
 use Rattle.lgm_store.proofs.ends.Ends.add_one.Goals as goal
 

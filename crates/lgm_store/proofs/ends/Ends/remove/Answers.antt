@@ -1,5 +1,5 @@
 use Rattle.std.proofs.Common.{Bool, true, false, not, ◌≡◌}
-use Rattle.lgm_store.specs.Ends.{without_id}
+use Rattle.lgm_store.specs.inner.Ends.{without_id}
 use Rattle.lgm_store.proofs.Listing.{Lists-change_same, Lists-change}
 use Rattle.lgm_store.proofs.ends.Ends.remove.Goals as goal
 

@@ -1,7 +1,7 @@
 use Rattle.std.proofs.Common.{◌≡◌, ℕ, true, false, List, [], ◌∷◌, Some, length, unwrap_or, is_some, refl, ap, sym, ◌∙◌, arith}
 use Rattle.std.proofs.lemmas.Bool.Decides.{nat_tests}
 use Rattle.std.specs.Prelude.{◌==◌}
-use Rattle.lgm_store.specs.Ends.{list_at, without_id, kept, Sets}
+use Rattle.lgm_store.specs.inner.Ends.{list_at, without_id, kept, Sets}
 use Rattle.lgm_store.proofs.Listing.{Sets-put, Sets-out, Sets-none}
 use Rattle.lgm_store.proofs.ends.Ends.remove_one.Goals as goal
 use Rattle.lgm_store.proofs.ends.Ends.remove_one.Goals.{Joined-remove, in-Some-1, in-None-1}

@@ -1,7 +1,7 @@
 use Rattle.std.proofs.Common.{ap, ◌∙◌}
 use Rattle.lgm_store.specs.Held.{update_in}
 use Rattle.lgm_store.specs.Rows.{is_second}
-use Rattle.lgm_store.specs.Decided.{update_op}
+use Rattle.lgm_store.specs.inner.Decided.{update_op}
 use Rattle.lgm_store.proofs.Deciding.{update-decided}
 use Rattle.lgm_store.proofs.held.Held.admit_kept_update.Goals as goal
 

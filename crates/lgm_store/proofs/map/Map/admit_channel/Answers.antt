@@ -1,6 +1,6 @@
 use Rattle.std.proofs.Common.{ap, ◌∙◌}
 use Rattle.lgm_store.specs.Rows.{channel_of}
-use Rattle.lgm_store.specs.Decided.{channel_op}
+use Rattle.lgm_store.specs.inner.Decided.{channel_op}
 use Rattle.lgm_store.proofs.Deciding.{channel-decided}
 use Rattle.lgm_store.proofs.map.Map.admit_channel.Goals as goal
 

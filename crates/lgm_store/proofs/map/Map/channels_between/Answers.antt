@@ -4,7 +4,7 @@ use Rattle.std.specs.declared.ops.Bound.TheVariants.{Included}
 use Rattle.std.specs.BTreeMap.Range.{range_contains}
 use Rattle.std.specs.Ordering.{nat_cmp}
 use Rattle.lgm_store.specs.Reading.{is_between}
-use Rattle.lgm_store.specs.Slots.{id_in}
+use Rattle.lgm_store.specs.inner.Slots.{id_in}
 use Rattle.lgm_store.proofs.Holding.{ascend-held}
 use Rattle.lgm_store.proofs.HeldRows.{values-held_at, filter-past, filter-keyed}
 use Rattle.lgm_store.proofs.Walking.{forward, within, backward, never}

@@ -2,10 +2,10 @@ use Rattle.std.proofs.Common.{Option, Some, sym, ap, ◌∙◌}
 use Rattle.std.specs.Option.{option_copied}
 use Rattle.std.specs.declared.ops.Bound.TheVariants.{Unbounded}
 use Rattle.std.specs.BTreeMap.Range.{entries_between}
-use Rattle.lgm_store.specs.Ends.{point_cmp}
+use Rattle.lgm_store.specs.inner.Ends.{point_cmp}
 use Rattle.lgm_check.specs.declared.row.NodeRow.{NodeRow}
 use Rattle.lgm_store.specs.Reading.{next_node_of}
-use Rattle.lgm_store.specs.Start.{start_after}
+use Rattle.lgm_store.specs.inner.Start.{start_after}
 use Rattle.lgm_store.proofs.Walking.{first_value, next_node-between}
 use Rattle.lgm_store.proofs.map.Map.next_node.Goals as goal
 

@@ -3,7 +3,7 @@ use Rattle.std.specs.Map.{lookup}
 use Rattle.std.specs.BTreeMap.{is_at, insert_entry}
 use Rattle.std.specs.Ordering.{nat_cmp}
 use Rattle.lgm_store.specs.declared.held.Held.{Held}
-use Rattle.lgm_store.specs.Slots.{entries_in, IsNumbered}
+use Rattle.lgm_store.specs.inner.Slots.{entries_in, IsNumbered}
 use Rattle.lgm_store.proofs.Slotted.{inserted, numbered-insert, none-found, ascend-slots}
 use Rattle.lgm_store.proofs.slots.Slots.insert.Goals as goal
 use Rattle.lgm_store.proofs.slots.Slots.insert.Goals.{After-note}

@@ -5,8 +5,8 @@ use Rattle.std.specs.Ordering.{nat_cmp}
 use Rattle.lgm_store.specs.declared.held.Held.{Held}
 use Rattle.lgm_store.specs.Held.{with_update_in}
 use Rattle.lgm_store.specs.Rows.{is_second}
-use Rattle.lgm_store.specs.Slots.{id_in}
-use Rattle.lgm_store.specs.Sound.{id_of}
+use Rattle.lgm_store.specs.inner.Slots.{id_in}
+use Rattle.lgm_store.specs.inner.Sound.{id_of}
 use Rattle.lgm_store.proofs.Holding.{channel-with}
 use Rattle.lgm_store.proofs.Slotted.{found-held, found-none, has-slot, numbered-put, entries-put, put-is}
 use Rattle.lgm_store.proofs.slots.Slots.put_update.Goals as goal

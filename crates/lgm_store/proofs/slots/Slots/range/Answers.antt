@@ -3,7 +3,7 @@ use Rattle.std.specs.Map.{values_of}
 use Rattle.std.specs.BTreeMap.Range.{range_contains, entries_between}
 use Rattle.std.specs.Ordering.{nat_cmp}
 use Rattle.lgm_store.specs.declared.held.Held.{Held}
-use Rattle.lgm_store.specs.Slots.{entries_in}
+use Rattle.lgm_store.specs.inner.Slots.{entries_in}
 use Rattle.lgm_store.proofs.Slotted.{filter-slots, own-filter}
 use Rattle.lgm_store.proofs.slots.Slots.range.Goals as goal
 

@@ -2,7 +2,7 @@ use Rattle.std.proofs.Common.{◌≡◌, None, sym, ap, ◌∙◌}
 use Rattle.std.specs.Map.{lookup, remove_entry}
 use Rattle.std.specs.BTreeMap.{is_at}
 use Rattle.std.specs.Ordering.{nat_cmp}
-use Rattle.lgm_store.specs.Slots.{entries_in, IsNumbered}
+use Rattle.lgm_store.specs.inner.Slots.{entries_in, IsNumbered}
 use Rattle.lgm_store.proofs.Holding.{remove-none}
 use Rattle.lgm_store.proofs.Slotted.{removed, numbered-remove, found-held, found-none, has-slot, ascend-slots}
 use Rattle.lgm_store.proofs.slots.Slots.remove.Goals as goal

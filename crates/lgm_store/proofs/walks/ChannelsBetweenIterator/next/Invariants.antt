@@ -1,6 +1,6 @@
 use Rattle.std.proofs.Common.{◌≡◌, filter, length}
 use Rattle.lgm_store.specs.Reading.{is_between}
-use Rattle.lgm_store.specs.Slots.{id_in}
+use Rattle.lgm_store.specs.inner.Slots.{id_in}
 use Rattle.lgm_store.proofs.walks.ChannelsBetweenIterator.next.Given as goal
 
 -- what is still to come stays the same

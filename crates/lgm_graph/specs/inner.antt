@@ -1,0 +1,5 @@
+-- Definitions for contracts inside the crate.
+pub mod Lists
+pub mod Sound
+pub mod Walk
+pub mod Applying

@@ -1,0 +1,7 @@
+-- Definitions for contracts inside the crate.
+pub mod Numbered
+pub mod Searching
+pub mod Bounding
+pub mod Leading
+pub mod State
+pub mod Best

@@ -1,0 +1,11 @@
+-- Definitions for contracts inside the crate.
+pub mod Behind
+pub mod Chart
+pub mod Maps
+pub mod Engine
+pub mod Turns
+pub mod Steps
+pub mod Offered
+pub mod Questions
+pub mod Progress
+pub mod Ending

@@ -1,0 +1,8 @@
+-- Definitions for contracts inside the crate.
+pub mod Decided
+pub mod Keyed
+pub mod Side
+pub mod Slots
+pub mod Ends
+pub mod Sound
+pub mod Start

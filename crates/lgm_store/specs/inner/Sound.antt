@@ -1,0 +1,53 @@
+-- What holds of the ordered maps that keep rows.
+use Rattle.std.specs.Prelude.{◌≡◌, ℕ, Bool, true, false, List}
+use Rattle.std.specs.List.{AllByRecursion}
+use Rattle.std.specs.List.Sorted.{IsStrictlySortedBy}
+use Rattle.std.specs.Map.{keys_of, values_of}
+use Rattle.std.specs.declared.cmp.Ordering.{Ordering}
+use Rattle.std.specs.Ordering.{nat_cmp, bool_cmp, ordering_then}
+use Rattle.lgm_wire.specs.declared.point.Point.{Point}
+use Rattle.lgm_check.specs.declared.row.ChannelRow.{ChannelRow}
+use Rattle.lgm_check.specs.declared.row.UpdateRow.{UpdateRow}
+use Rattle.lgm_check.specs.declared.row.NodeRow.{NodeRow}
+use Rattle.lgm_store.specs.Rows.{is_second, ends_channel, ends_banned}
+use Rattle.lgm_store.specs.inner.Keyed.{IsKeyed}
+use Rattle.lgm_store.specs.Reading.{ids_at}
+use Rattle.lgm_store.specs.inner.Ends.{point_cmp, Lists}
+
+abbrev pub id_of : ChannelRow → ℕ
+id_of row = row.message.short_channel_id
+
+abbrev pub direction_of : UpdateRow → ℕ × Bool
+direction_of row = (row.message.short_channel_id, is_second row)
+
+abbrev pub point_of : NodeRow → Point
+point_of row = row.message.node_id
+
+-- the order of channels and directions
+abbrev pub direction_cmp : ℕ × Bool → ℕ × Bool → Ordering
+direction_cmp a b = ordering_then (nat_cmp a.0 b.0) (bool_cmp a.1 b.1)
+
+-- at each node a channel ends
+abbrev pub AreEnded : List ChannelRow → List NodeRow → Type 0
+AreEnded channels nodes = AllByRecursion (λ row. ends_channel channels row.message.node_id ≡ true) nodes
+
+-- the maps by id, by id and direction and by point, and the ids of the channels that end at each point
+pub record IsSound (channels : List (ℕ × ChannelRow)) (updates : List ((ℕ × Bool) × UpdateRow)) (nodes : List (Point × NodeRow)) (ends : List (Point × List ℕ)) : Type 0 where
+  pub channels_keyed : IsKeyed id_of channels
+  pub updates_keyed : IsKeyed direction_of updates
+  pub nodes_keyed : IsKeyed point_of nodes
+  pub channels_ascend : IsStrictlySortedBy nat_cmp (keys_of channels)
+  pub updates_ascend : IsStrictlySortedBy direction_cmp (keys_of updates)
+  pub nodes_ascend : IsStrictlySortedBy point_cmp (keys_of nodes)
+  pub nodes_ended : AreEnded (values_of channels) (values_of nodes)
+  pub listed : Lists ends (ids_at (values_of channels))
+
+-- no channel ends at a banned node
+abbrev pub AreAllowed : List Point → List ChannelRow → Type 0
+AreAllowed banned channels = AllByRecursion (λ row. ends_banned banned row ≡ false) channels
+
+-- and the banned points ascend, at none of which a channel ends
+pub record IsKept (channels : List (ℕ × ChannelRow)) (updates : List ((ℕ × Bool) × UpdateRow)) (nodes : List (Point × NodeRow)) (ends : List (Point × List ℕ)) (banned : List Point) : Type 0 where
+  pub rows : IsSound channels updates nodes ends
+  pub banned_ascend : IsStrictlySortedBy point_cmp banned
+  pub allowed : AreAllowed banned (values_of channels)

@@ -1,0 +1,5 @@
+-- Parsers, as functions from bytes to a value or the first fault.
+pub mod Reading
+pub mod BigSizeReading
+pub mod TruncatedIntegerReading
+pub mod TlvReading
