@@ -7,8 +7,7 @@ use Rattle.lgm_wire.specs.declared.point.Point.{Point}
 use Rattle.lgm_check.specs.declared.row.ChannelRow.{ChannelRow}
 use Rattle.lgm_check.specs.declared.row.UpdateRow.{UpdateRow}
 use Rattle.lgm_store.specs.declared.held.Held.{Held}
-use Rattle.lgm_store.specs.Held.{update_in}
-use Rattle.lgm_store.specs.HeldAt.{held_at}
+use Rattle.lgm_store.specs.Held.{update_in, held_at}
 use Rattle.lgm_store.specs.Rows.{Rows, is_point, update_of}
 use Rattle.lgm_graph.specs.declared.edge.Edge.{Edge}
 use Rattle.lgm_graph.specs.declared.link.Link.{Link}

@@ -2,7 +2,8 @@
 
 ghost use Rattle.std.specs.Prelude.{◌≡◌, ℕ, ◌+◌, ◌<◌, ◌≤◌, length, IfOk};
 ghost use Rattle.std.specs.Fn.{FnReturnsAt};
-ghost use Rattle.lgm_par.specs.Pieces.{piece_start, piece_of, AcceptsItem, AcceptsAll, GivesAll};
+ghost use Rattle.lgm_par.specs.inner.Chunks.{piece_start, piece_of};
+ghost use Rattle.lgm_par.specs.Pieces.{AcceptsItem, AcceptsAll, GivesAll};
 
 use crate::gate::Gate;
 use std::alloc::{AllocError, Global};

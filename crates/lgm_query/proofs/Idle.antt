@@ -8,7 +8,7 @@ use Rattle.lgm_query.specs.declared.filter.Filter.{Filter}
 use Rattle.lgm_query.specs.declared.pairs.ChannelPair.{ChannelPair}
 use Rattle.lgm_query.specs.declared.pairs.NodePair.{NodePair}
 use Rattle.lgm_query.specs.Backlog.{passes, passing_update, passing_channel, passing_node, passing_rows}
-use Rattle.lgm_query.specs.Differences.{news_of_channel_pair, news_of_node_pair, news_of_pairs}
+use Rattle.lgm_query.specs.inner.Pairs.{news_of_channel_pair, news_of_node_pair, news_of_pairs}
 
 nothing_passes : (f : Filter) (t : ℕ) → f.range ≡ 0 → passes f t ≡ false
 nothing_passes f t idle = rw idle (search rules)

@@ -6,7 +6,7 @@ use Rattle.lgm_store.specs.Rows.{Rows}
 use Rattle.lgm_query.specs.declared.filter.Filter.{Filter}
 use Rattle.lgm_query.specs.declared.pairs.ChannelPair.{ChannelPair}
 use Rattle.lgm_query.specs.KeyNews.{news_of_channel}
-use Rattle.lgm_query.specs.Differences.{news_of_channel_pair}
+use Rattle.lgm_query.specs.inner.Pairs.{news_of_channel_pair}
 
 -- one more pair tells what was left to its id
 pub one_more_pair : (f : Filter) (before after : Rows) (pairs : List ChannelPair) (pair : ChannelPair) (id : ℕ) (ids : List ℕ)

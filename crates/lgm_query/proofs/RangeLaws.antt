@@ -10,7 +10,7 @@ use Rattle.lgm_gossip.specs.declared.range_query.RangeQuery.{RangeQuery}
 use Rattle.lgm_gossip.specs.declared.timestamps.Timestamps.{Timestamps}
 use Rattle.lgm_gossip.specs.RangeReply.{Reply}
 use Rattle.lgm_check.specs.declared.row.ChannelRow.{ChannelRow}
-use Rattle.lgm_store.specs.HeldAt.{held_at}
+use Rattle.lgm_store.specs.Held.{held_at}
 use Rattle.lgm_store.specs.Rows.{Rows}
 use Rattle.lgm_store.specs.Reading.{is_between, ids_between_of, channels_between_of}
 use Rattle.lgm_query.specs.RangeReply.{range_end, ids_asked_for, AreInRange, is_last, piece_at, ids_at, reply_start, reply_end, timestamps_of, timestamps_in, all_timestamps_of, timestamps_beside, asks_for_timestamps, timestamps_asked_for, reply}

@@ -10,7 +10,7 @@ use Rattle.lgm_gossip.specs.IdsQuery.{Query}
 use Rattle.lgm_gossip.specs.Spelling.{spelling}
 use Rattle.lgm_check.specs.declared.row.NodeRow.{NodeRow}
 use Rattle.lgm_store.specs.declared.held.Held.{Held}
-use Rattle.lgm_store.specs.HeldAt.{held_at}
+use Rattle.lgm_store.specs.Held.{held_at}
 use Rattle.lgm_store.specs.Rows.{Rows, channel_of, node_of}
 use Rattle.lgm_query.specs.Piece.{Piece, channel, update, node, bytes_of, with_nodes_once}
 

@@ -7,7 +7,7 @@ use Rattle.lgm_gossip.specs.declared.message.Message.{Message}
 use Rattle.lgm_gossip.specs.declared.message.Message.TheVariants as messages
 use Rattle.lgm_wire.specs.declared.point.Point.{Point}
 use Rattle.lgm_gossip.specs.reading.MessageReading.{message_at}
-use Rattle.lgm_store.specs.HeldAt.{held_at}
+use Rattle.lgm_store.specs.Held.{held_at}
 use Rattle.lgm_store.specs.Rows.{Rows, channel_of, node_of}
 use Rattle.lgm_query.specs.declared.filter.Filter.{Filter}
 use Rattle.lgm_query.specs.Backlog.{passing_channel, passing_node, is_among}

@@ -3,3 +3,4 @@ pub mod Reply
 pub mod Sent
 pub mod SentWith
 pub mod Known
+pub mod Pairs

@@ -6,7 +6,8 @@ ghost use Rattle.lgm_query.specs.declared.filter.Filter.{Filter};
 ghost use Rattle.lgm_query.specs.Backlog.{news};
 ghost use Rattle.lgm_query.specs.KeyNews.{news_of_channel, news_of_node};
 ghost use Rattle.lgm_query.specs.ComesOf.{ComesOf};
-ghost use Rattle.lgm_query.specs.Differences.{TwoMaps, news_of_channel_pair, news_of_node_pair, news_of_pairs};
+ghost use Rattle.lgm_query.specs.Differences.{TwoMaps};
+ghost use Rattle.lgm_query.specs.inner.Pairs.{news_of_channel_pair, news_of_node_pair, news_of_pairs};
 
 use crate::changes::Changes;
 use crate::filter::Filter;

@@ -3,7 +3,7 @@
 ghost use Rattle.std.specs.Prelude.{◌≡◌, List, ℕ, ◌++◌};
 ghost use Rattle.std.specs.Iterator.{YieldsFirstRef, item_count};
 ghost use Rattle.std.specs.Slice.Iter.{iter_rest};
-ghost use Rattle.lgm_query.specs.Differences.{news_of_pairs};
+ghost use Rattle.lgm_query.specs.inner.Pairs.{news_of_pairs};
 
 use crate::filter::Filter;
 use crate::pairs::{ChannelPair, NodePair};

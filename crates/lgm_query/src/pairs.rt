@@ -36,7 +36,7 @@ pub(crate) struct NodePair<'a> {
 }
 
 impl<'a> ChannelPair<'a> {
-    ghost use Rattle.lgm_query.specs.Differences.{news_of_channel_pair};
+    ghost use Rattle.lgm_query.specs.inner.Pairs.{news_of_channel_pair};
 
     /// The pair of an id, if the later map has it. The messages are compared here, once for all filters.
     pub(crate) fn at(before: &'a Map, after: &'a Map, scid: Scid) -> Option<ChannelPair<'a>>
@@ -55,7 +55,7 @@ impl<'a> ChannelPair<'a> {
 }
 
 impl<'a> NodePair<'a> {
-    ghost use Rattle.lgm_query.specs.Differences.{news_of_node_pair};
+    ghost use Rattle.lgm_query.specs.inner.Pairs.{news_of_node_pair};
 
     /// The pair of a node, if the later map has it. The messages are compared here, once for all filters.
     pub(crate) fn at(before: &'a Map, after: &'a Map, node: &Point) -> Option<NodePair<'a>>

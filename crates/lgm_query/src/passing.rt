@@ -7,7 +7,7 @@ ghost use Rattle.std.specs.Option.{option_copied, option_to_list, is_some};
 ghost use Rattle.lgm_store.specs.Held.{update_in};
 ghost use Rattle.lgm_query.specs.Backlog.{passing_update, passing_channel, passing_node};
 ghost use Rattle.lgm_query.specs.inner.SentWith.{unless_passed};
-ghost use Rattle.lgm_query.specs.Differences.{news_of_channel_pair, news_of_node_pair};
+ghost use Rattle.lgm_query.specs.inner.Pairs.{news_of_channel_pair, news_of_node_pair};
 
 use crate::filter::Filter;
 use crate::pairs::{ChannelPair, NodePair};

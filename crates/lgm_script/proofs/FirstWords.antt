@@ -15,7 +15,8 @@ use Rattle.lgm_script.specs.Field.{◌>>=◌, fields_of, number_of, number_below
 use Rattle.lgm_script.specs.Item.{bytes_of, gossip_of, close_of}
 use Rattle.lgm_script.specs.Payment.{payment_of}
 use Rattle.lgm_script.specs.Request.{filter_of, form_of, request_of, HasLawfulPeer}
-use Rattle.lgm_script.specs.Groups.{has_route_word, kind_of, IsOfKind, IsNoRoute}
+use Rattle.lgm_script.specs.inner.Kinds.{has_route_word, kind_of}
+use Rattle.lgm_script.specs.Groups.{IsOfKind}
 
 -- whether a line is empty or a comment
 abbrev pub is_quiet : List ℕ → Bool

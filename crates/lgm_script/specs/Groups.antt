@@ -1,24 +1,12 @@
 -- Lines that are answered together.
-use Rattle.std.specs.Prelude.{◌≡◌, ℕ, ◌+◌, ◌<◌, Bool, ◌||◌, List, [], ◌∷◌, length, take, drop, Option, codes, nat_eq, if◌then◌else◌}
+use Rattle.std.specs.Prelude.{◌≡◌, ℕ, ◌+◌, ◌<◌, List, [], ◌∷◌, length, take, drop, Option}
 use Rattle.std.specs.List.{AllByRecursion}
-use Rattle.std.specs.Cmp.Lexicographic.{pointwise}
 use Rattle.lgm_script.specs.declared.grouping.Kind.{Kind}
 use Rattle.lgm_script.specs.declared.grouping.Kind.TheVariants.{Item, Question, Other}
 use Rattle.lgm_script.specs.declared.request.Request.{Request}
 use Rattle.lgm_script.specs.declared.request.Request.TheVariants as requests
 use Rattle.lgm_script.specs.Request.{request_of}
 use Rattle.lgm_script.specs.Lines.{IsFirstLine}
-
--- a line that may request a route
-abbrev pub has_route_word : List ℕ → Bool
-has_route_word line = pointwise nat_eq (take 6 line) (codes "route ")
-
--- the kind of a line, by its first word
-abbrev pub kind_of : List ℕ → Kind
-kind_of line =
-    if pointwise nat_eq (take 2 line) (codes "m ") || pointwise nat_eq (take 6 line) (codes "close ") then Item
-    else if pointwise nat_eq (take 2 line) (codes "q ") || pointwise nat_eq (take 7 line) (codes "filter ") || has_route_word line then Question
-    else Other
 
 -- these lines are complete at the start of what was read ahead, and these bytes follow them
 abbrev pub AreFirstLines : List ℕ → Option (List ℕ) → List (List ℕ) → List ℕ → Type 0
@@ -43,6 +31,7 @@ pub record AreAlike (kind : Kind) (lines : List (List ℕ)) : Type 0 where
   pub each : AllByRecursion (λ line. IsOfKind kind (request_of line)) lines
   pub alone : kind ≡ Other → length lines ≡ 1
 
+-- not a request for a route
 abbrev pub IsNoRoute : Request → Type 0
 IsNoRoute (requests.Route payment) = ⊥
 IsNoRoute _ = Unit {0}

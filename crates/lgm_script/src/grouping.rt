@@ -4,7 +4,8 @@ ghost use Rattle.std.specs.Prelude.{◌≡◌, ◌+◌, ◌≤◌, ◌<◌, ℕ,
 ghost use Rattle.std.specs.List.{AllByRecursion, list_any};
 ghost use Rattle.lgm_script.specs.Lines.{IsFirstLine};
 ghost use Rattle.lgm_script.specs.Request.{request_of};
-ghost use Rattle.lgm_script.specs.Groups.{has_route_word, kind_of, IsOfKind, IsNoRoute, AreFirstLines, AreAlike};
+ghost use Rattle.lgm_script.specs.inner.Kinds.{has_route_word, kind_of};
+ghost use Rattle.lgm_script.specs.Groups.{IsOfKind, IsNoRoute, AreFirstLines, AreAlike};
 
 use crate::line_reader::{MAX_LINE, find_line};
 use std::alloc::{AllocError, Global};

@@ -13,8 +13,8 @@ use Rattle.lgm_check.specs.declared.row.ChannelRow.{ChannelRow}
 use Rattle.lgm_check.specs.declared.row.UpdateRow.{UpdateRow}
 use Rattle.lgm_store.specs.declared.held.Held.{Held}
 use Rattle.lgm_store.specs.inner.Keyed.{IsKeyed}
-use Rattle.lgm_store.specs.Held.{update_in, channel_entries, update_entry, update_entries}
-use Rattle.lgm_store.specs.HeldAt.{held_at}
+use Rattle.lgm_store.specs.Held.{update_in, held_at}
+use Rattle.lgm_store.specs.inner.HeldEntries.{channel_entries, update_entry, update_entries}
 use Rattle.lgm_store.specs.inner.Slots.{id_in}
 use Rattle.lgm_store.specs.Reading.{is_between, ids_between_of, channels_between_of}
 use Rattle.lgm_store.specs.Rows.{Rows, channel_of, update_of}

@@ -4,7 +4,7 @@ use Rattle.std.specs.Map.{values_of}
 use Rattle.lgm_wire.specs.declared.point.Point.{Point}
 use Rattle.lgm_check.specs.declared.row.NodeRow.{NodeRow}
 use Rattle.lgm_store.specs.declared.held.Held.{Held}
-use Rattle.lgm_store.specs.Held.{channel_entries, update_entries}
+use Rattle.lgm_store.specs.inner.HeldEntries.{channel_entries, update_entries}
 use Rattle.lgm_store.specs.Rows.{Rows}
 use Rattle.lgm_store.specs.Laws.{IsLawful}
 use Rattle.lgm_store.specs.inner.Sound.{IsKept}

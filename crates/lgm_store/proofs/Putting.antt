@@ -10,7 +10,7 @@ use Rattle.lgm_wire.specs.declared.point.Point.{Point}
 use Rattle.lgm_check.specs.declared.row.UpdateRow.{UpdateRow}
 use Rattle.lgm_check.specs.declared.row.NodeRow.{NodeRow}
 use Rattle.lgm_store.specs.declared.held.Held.{Held}
-use Rattle.lgm_store.specs.Held.{with_update_in, channel_entries, update_entries}
+use Rattle.lgm_store.specs.inner.HeldEntries.{with_update_in, channel_entries, update_entries}
 use Rattle.lgm_store.specs.inner.Slots.{with_update_for, with_update_at}
 use Rattle.lgm_store.specs.Rows.{Rows, put, by_direction, channel_of, is_second}
 use Rattle.lgm_store.specs.History.{with_update}

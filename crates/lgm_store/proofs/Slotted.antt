@@ -13,7 +13,7 @@ use Rattle.std.proofs.lemmas.Bool.{cases_eq}
 use Rattle.std.proofs.lemmas.Bool.Decides.{nat_tests}
 use Rattle.lgm_check.specs.declared.row.UpdateRow.{UpdateRow}
 use Rattle.lgm_store.specs.declared.held.Held.{Held}
-use Rattle.lgm_store.specs.Held.{with_update_in}
+use Rattle.lgm_store.specs.inner.HeldEntries.{with_update_in}
 use Rattle.lgm_store.specs.Rows.{is_second}
 use Rattle.slab.specs.Slab.{Slab, with_value, Updates}
 use Rattle.slab.proofs.SlabLemmas.{Updates-with_value}

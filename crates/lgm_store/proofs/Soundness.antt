@@ -16,7 +16,7 @@ use Rattle.lgm_check.specs.declared.row.UpdateRow.{UpdateRow}
 use Rattle.lgm_check.specs.declared.row.NodeRow.{NodeRow}
 use Rattle.lgm_store.specs.declared.held.Held.{Held}
 use Rattle.lgm_store.specs.inner.Keyed.{IsKeyed}
-use Rattle.lgm_store.specs.Held.{alone, with_update_in, channel_entries, update_entries}
+use Rattle.lgm_store.specs.inner.HeldEntries.{alone, with_update_in, channel_entries, update_entries}
 use Rattle.lgm_store.specs.Rows.{is_point, ends_at, ends_channel}
 use Rattle.lgm_store.specs.History.{channels_without, updates_without, ended_nodes}
 use Rattle.lgm_store.specs.Reading.{ids_at}

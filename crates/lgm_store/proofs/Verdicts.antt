@@ -16,7 +16,8 @@ use Rattle.lgm_check.specs.Accepted.{IsAccepted}
 use Rattle.lgm_rows.proofs.AnnounceLaws as announces
 use Rattle.lgm_rows.proofs.UpdateLaws as updates
 use Rattle.lgm_rows.proofs.NodeLaws as nodes
-use Rattle.lgm_store.specs.Candidate.{IsSpelled, Fits, verdict_of, checked_by}
+use Rattle.lgm_store.specs.Spelled.{IsSpelled}
+use Rattle.lgm_store.specs.inner.Candidate.{Fits, verdict_of, checked_by}
 
 -- its bytes spell a message of its type
 pub accepted_fits : (chain : ChainHash) (bytes : List ℕ) (evidence : Evidence) (made : Checked) → IsAccepted chain bytes evidence made → Fits (verdict_of made) bytes

@@ -1,32 +1,18 @@
--- Channels with their updates, as an ordered map keeps them, read as two ordered maps.
-use Rattle.std.specs.Prelude.{ℕ, Bool, true, false, List, [], ◌∷◌, ◌++◌, map, Option, Some, None, if◌then◌else◌}
+-- Channels with their updates, as a map's rows have them.
+use Rattle.std.specs.Prelude.{Bool, true, false, Option, if◌then◌else◌}
 use Rattle.lgm_check.specs.declared.row.ChannelRow.{ChannelRow}
 use Rattle.lgm_check.specs.declared.row.UpdateRow.{UpdateRow}
 use Rattle.lgm_store.specs.declared.held.Held.{Held}
-
--- a channel without updates
-abbrev pub alone : ChannelRow → Held
-alone row = record { channel = row; first = None; second = None }
+use Rattle.lgm_store.specs.Rows.{Rows, update_of}
 
 -- its update of a direction
 abbrev pub update_in : Bool → Held → Option UpdateRow
 update_in second held = if second then held.second else held.first
 
--- with another update of a direction
-abbrev pub with_update_in : Bool → Held → UpdateRow → Held
-with_update_in second held row = if second then record held { second = Some row } else record held { first = Some row }
-
--- the channels, by id
-abbrev pub channel_entries : List (ℕ × Held) → List (ℕ × ChannelRow)
-channel_entries entries = map (λ entry. (entry.0, entry.1.channel)) entries
-
--- an update, by id and direction
-abbrev pub update_entry : ℕ → Bool → Option UpdateRow → List ((ℕ × Bool) × UpdateRow)
-update_entry id second None = []
-update_entry id second (Some row) = ((id, second), row) ∷ []
-
--- the updates, by id and direction
-abbrev pub update_entries : List (ℕ × Held) → List ((ℕ × Bool) × UpdateRow)
-update_entries [] = []
-update_entries (entry ∷ entries) =
-    update_entry entry.0 false entry.1.first ++ (update_entry entry.0 true entry.1.second ++ update_entries entries)
+-- a channel with the updates of its id
+abbrev pub held_at : Rows → ChannelRow → Held
+held_at rows row = record {
+  channel = row;
+  first = update_of rows.updates row.message.short_channel_id false;
+  second = update_of rows.updates row.message.short_channel_id true;
+}

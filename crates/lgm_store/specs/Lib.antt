@@ -1,10 +1,9 @@
 pub mod Rows
 pub mod Admission
-pub mod Candidate
 pub mod History
 pub mod Reading
 pub mod HeldRows
 pub mod Held
-pub mod HeldAt
 pub mod Laws
+pub mod Spelled
 pub mod inner

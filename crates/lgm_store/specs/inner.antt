@@ -6,3 +6,5 @@ pub mod Slots
 pub mod Ends
 pub mod Sound
 pub mod Start
+pub mod Candidate
+pub mod HeldEntries

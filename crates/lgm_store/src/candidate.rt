@@ -3,7 +3,7 @@
 ghost use Rattle.std.specs.Prelude.{◌≡◌, IfOk};
 ghost use Rattle.lgm_wire.specs.reading.Reading.{Gives};
 ghost use Rattle.lgm_check.specs.Precheck.{checked_of};
-ghost use Rattle.lgm_store.specs.Candidate.{Fits, checked_by, message_of, verdict_of};
+ghost use Rattle.lgm_store.specs.inner.Candidate.{Fits, checked_by, message_of, verdict_of};
 
 use crate::shared::Shared;
 use lgm_check::{Checked, Evidence, Refusal, precheck};
@@ -34,7 +34,7 @@ pub(crate) enum Kind {
 
 impl Model for Candidate {
     ghost use Rattle.lgm_check.specs.declared.row.Checked.{Checked};
-    ghost use Rattle.lgm_store.specs.Candidate.{message_of};
+    ghost use Rattle.lgm_store.specs.inner.Candidate.{message_of};
 
     ghost Value = { Checked };
 

@@ -45,7 +45,7 @@ impl Model for Map {
 
     ghost use Rattle.std.specs.Map.{values_of};
     ghost use Rattle.std.specs.BTreeMap.{values};
-    ghost use Rattle.lgm_store.specs.Held.{channel_entries, update_entries};
+    ghost use Rattle.lgm_store.specs.inner.HeldEntries.{channel_entries, update_entries};
     ghost use Rattle.lgm_store.specs.inner.Sound.{IsKept};
 
     ghost view = { λ m. record {

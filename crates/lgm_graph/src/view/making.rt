@@ -6,7 +6,7 @@
 ghost use Rattle.std.specs.Prelude.{◌≡◌, ℕ, ◌+◌, ◌*◌, ◌<◌, ◌≤◌, ◌^◌, ◌++◌, [], List, length, IfOk, OnOk, option_to_list, Option};
 ghost use Rattle.std.specs.Option.{option_and_then, option_map};
 ghost use Rattle.lgm_store.specs.Held.{update_in};
-ghost use Rattle.lgm_store.specs.HeldAt.{held_at};
+ghost use Rattle.lgm_store.specs.Held.{held_at};
 ghost use Rattle.lgm_graph.specs.declared.edge.Edge.{Edge as AnEdge};
 ghost use Rattle.lgm_graph.specs.Edges.{edge_on};
 ghost use Rattle.lgm_graph.specs.Graph.{IsGraphOf, IsNumbered, linked, number_of};

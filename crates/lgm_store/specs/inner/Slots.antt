@@ -9,7 +9,7 @@ use Rattle.std.specs.Ordering.{nat_cmp}
 use Rattle.lgm_check.specs.declared.row.UpdateRow.{UpdateRow}
 use Rattle.lgm_store.specs.declared.held.Held.{Held}
 use Rattle.lgm_store.specs.Rows.{is_second}
-use Rattle.lgm_store.specs.Held.{with_update_in}
+use Rattle.lgm_store.specs.inner.HeldEntries.{with_update_in}
 
 -- the id of a channel
 abbrev pub id_in : Held → ℕ

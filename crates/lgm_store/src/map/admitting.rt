@@ -4,7 +4,7 @@ ghost use Rattle.std.specs.Prelude.{◌≡◌};
 ghost use Rattle.lgm_store.specs.Rows.{channel_of, update_of, node_of, ends_channel, is_banned, is_second};
 ghost use Rattle.lgm_store.specs.Admission.{channel_admission, update_admission, node_admission, admitted, admitted_close, Offers};
 ghost use Rattle.lgm_store.specs.inner.Decided.{channel_op, update_op, node_op, channel_verdict, node_verdict};
-ghost use Rattle.lgm_store.specs.Candidate.{IsSpelled};
+ghost use Rattle.lgm_store.specs.Spelled.{IsSpelled};
 
 use super::Map;
 use crate::op::Op;

@@ -4,7 +4,7 @@ ghost use Rattle.std.specs.Prelude.{◌≡◌, IfOk, OnErr};
 ghost use Rattle.lgm_store.specs.Rows.{channel_of, update_of, node_of, ends_channel, is_banned, is_second};
 ghost use Rattle.lgm_store.specs.Admission.{channel_admission, update_admission, node_admission, admitted, Offers};
 ghost use Rattle.lgm_store.specs.History.{absorbed};
-ghost use Rattle.lgm_store.specs.Candidate.{IsSpelled};
+ghost use Rattle.lgm_store.specs.Spelled.{IsSpelled};
 
 use super::Map;
 use crate::candidate::{Candidate, Kind};

@@ -3,7 +3,7 @@
 ghost use Rattle.std.specs.Prelude.{◌≡◌, ℕ, Bool, ◌*◌, ◌^◌, ◌<◌, ◌≤◌, IfOk, length, map};
 ghost use Rattle.std.specs.Option.{option_copied, option_map, option_and_then};
 ghost use Rattle.lgm_store.specs.Held.{update_in};
-ghost use Rattle.lgm_store.specs.HeldAt.{held_at};
+ghost use Rattle.lgm_store.specs.Held.{held_at};
 ghost use Rattle.lgm_store.specs.Laws.{IsLawful};
 ghost use Rattle.lgm_store.specs.Rows.{IsAscending, channel_of, update_of, node_of, ends_channel, is_banned};
 ghost use Rattle.lgm_store.specs.Reading.{next_channel_of, next_node_of, ids_at, block_of, ids_between_of, channels_between_of};

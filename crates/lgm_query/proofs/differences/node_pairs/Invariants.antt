@@ -2,7 +2,7 @@ use Rattle.std.proofs.Common.{◌≡◌, ◌++◌}
 use Rattle.std.specs.List.{flat_map}
 use Rattle.lgm_query.specs.declared.filter.Filter.{Filter}
 use Rattle.lgm_query.specs.KeyNews.{news_of_node}
-use Rattle.lgm_query.specs.Differences.{news_of_node_pair}
+use Rattle.lgm_query.specs.inner.Pairs.{news_of_node_pair}
 use Rattle.lgm_query.proofs.differences.node_pairs.Given as goal
 
 -- what the pairs tell and what is left make the whole

@@ -1,5 +1,5 @@
 use Rattle.std.proofs.Common.{◌≡◌, ap, ◌∙◌}
-use Rattle.lgm_store.specs.Candidate.{checked_by}
+use Rattle.lgm_store.specs.inner.Candidate.{checked_by}
 use Rattle.lgm_store.proofs.Verdicts.{accepted_fits, accepted_made}
 use Rattle.lgm_store.proofs.candidate.find.Goals as goal
 use Rattle.lgm_store.proofs.candidate.find.Goals.{After-verdict_of}

@@ -1,6 +1,6 @@
 use Rattle.std.proofs.Common.{◌≡◌, ◌+◌, ◌++◌, length}
 use Rattle.std.specs.Slice.Iter.{iter_rest}
-use Rattle.lgm_query.specs.Differences.{news_of_pairs}
+use Rattle.lgm_query.specs.inner.Pairs.{news_of_pairs}
 use Rattle.lgm_query.proofs.news_walk.NewsIterator.next.Given as goal
 
 -- what is still to come stays the same

@@ -1,5 +1,5 @@
 use Rattle.std.proofs.Common.{true, map, ◌∙◌, ap}
-use Rattle.lgm_store.specs.HeldAt.{held_at}
+use Rattle.lgm_store.specs.Held.{held_at}
 use Rattle.lgm_store.proofs.Holding.{ascend-held}
 use Rattle.lgm_store.proofs.HeldRows.{values-held_at, filter-all}
 use Rattle.lgm_store.proofs.map.Map.channels.Goals as goal

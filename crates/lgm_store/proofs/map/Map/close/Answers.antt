@@ -4,7 +4,7 @@ use Rattle.std.specs.Map.{lookup, remove_entry, values_of}
 use Rattle.std.specs.BTreeMap.{is_at}
 use Rattle.std.specs.Ordering.{nat_cmp}
 use Rattle.lgm_store.specs.declared.held.Held.{Held}
-use Rattle.lgm_store.specs.Held.{channel_entries}
+use Rattle.lgm_store.specs.inner.HeldEntries.{channel_entries}
 use Rattle.lgm_store.specs.Rows.{channel_of, ends_banned}
 use Rattle.lgm_store.specs.History.{channels_without, updates_without, ended_nodes}
 use Rattle.lgm_store.proofs.Holding.{ascend-held, remove-none}

@@ -2,7 +2,8 @@ use Rattle.std.proofs.Common.{ap, sym, ◌∙◌}
 use Rattle.std.specs.Option.{option_map, option_and_then}
 use Rattle.std.specs.BTreeMap.{is_at}
 use Rattle.std.specs.Ordering.{nat_cmp}
-use Rattle.lgm_store.specs.Held.{update_in, channel_entries, update_entries}
+use Rattle.lgm_store.specs.Held.{update_in}
+use Rattle.lgm_store.specs.inner.HeldEntries.{channel_entries, update_entries}
 use Rattle.lgm_store.specs.Rows.{channel_of, update_of}
 use Rattle.lgm_store.proofs.Lists.{lookup-channel, lookup-update}
 use Rattle.lgm_store.proofs.Holding.{ascend-held, lookup-channels, lookup-updates}

@@ -5,7 +5,7 @@ use Rattle.std.specs.BTreeMap.{is_at, insert_entry}
 use Rattle.std.specs.Ordering.{nat_cmp}
 use Rattle.lgm_check.specs.declared.row.ChannelRow.{ChannelRow}
 use Rattle.lgm_store.specs.declared.held.Held.{Held}
-use Rattle.lgm_store.specs.Held.{alone, channel_entries, update_entries}
+use Rattle.lgm_store.specs.inner.HeldEntries.{alone, channel_entries, update_entries}
 use Rattle.lgm_store.specs.inner.Slots.{id_in}
 use Rattle.lgm_store.specs.inner.Sound.{id_of}
 use Rattle.lgm_store.specs.Rows.{put, by_id, ends_banned}

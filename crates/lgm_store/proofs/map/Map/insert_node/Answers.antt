@@ -1,6 +1,6 @@
 use Rattle.std.proofs.Common.{◌∙◌, ap}
 use Rattle.lgm_store.specs.Rows.{put, by_node, ends_channel}
-use Rattle.lgm_store.specs.Held.{channel_entries, update_entries}
+use Rattle.lgm_store.specs.inner.HeldEntries.{channel_entries, update_entries}
 use Rattle.lgm_store.proofs.Lists.{values-node}
 use Rattle.lgm_store.proofs.Soundness.{IsSound-node}
 use Rattle.lgm_store.proofs.Changes.{with_node-new}

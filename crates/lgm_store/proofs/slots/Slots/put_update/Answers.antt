@@ -3,7 +3,7 @@ use Rattle.std.specs.Map.{lookup, set_value}
 use Rattle.std.specs.BTreeMap.{is_at}
 use Rattle.std.specs.Ordering.{nat_cmp}
 use Rattle.lgm_store.specs.declared.held.Held.{Held}
-use Rattle.lgm_store.specs.Held.{with_update_in}
+use Rattle.lgm_store.specs.inner.HeldEntries.{with_update_in}
 use Rattle.lgm_store.specs.Rows.{is_second}
 use Rattle.lgm_store.specs.inner.Slots.{id_in}
 use Rattle.lgm_store.specs.inner.Sound.{id_of}

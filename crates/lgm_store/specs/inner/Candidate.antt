@@ -1,7 +1,5 @@
 -- Messages that are ready to be offered, and how they are kept.
 use Rattle.std.specs.Prelude.{ℕ, List}
-use Rattle.lgm_gossip.specs.Message.{Wire}
-use Rattle.lgm_gossip.specs.declared.message.Message.TheVariants as wired
 use Rattle.lgm_check.specs.declared.row.Checked.{Checked}
 use Rattle.lgm_check.specs.declared.row.Checked.TheVariants as messages
 use Rattle.lgm_rows.specs.Announce.{channel_row, IsAnnounce}
@@ -17,12 +15,6 @@ abbrev pub message_of : Kind → Checked
 message_of (kinds.Channel row) = messages.Channel row
 message_of (kinds.Update row signer) = messages.Update row signer
 message_of (kinds.Node row) = messages.Node row
-
--- the bytes of the message's row spell its fields
-abbrev pub IsSpelled : Checked → Type 0
-IsSpelled (messages.Channel row) = Wire (wired.Announce row.message) row.raw
-IsSpelled (messages.Update row signer) = Wire (wired.ChannelUpdate row.message) row.raw
-IsSpelled (messages.Node row) = Wire (wired.NodeAnnounce row.message) row.raw
 
 -- what is found of a message beside its bytes
 abbrev pub verdict_of : Checked → Verdict
