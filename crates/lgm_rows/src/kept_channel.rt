@@ -6,6 +6,7 @@ ghost use Rattle.lgm_gossip.specs.declared.message.Message.TheVariants as messag
 ghost use Rattle.lgm_rows.specs.Announce.{features_len, announce_in, channel_row, IsAnnounce};
 
 use crate::places::{array, lent, number16, number64, point, rest, signature};
+use crate::raw::Raw;
 use lgm_check::ChannelRow;
 use lgm_gossip::{Announce, Bytes, ChainHash, Lent, Point, Scid};
 use std::alloc::{AllocError, Global};
@@ -15,7 +16,7 @@ use std::marker::Model;
 #[derive(Debug, Drop)]
 pub struct KeptChannel {
     sat: u64,
-    raw: Bytes,
+    raw: Raw<432>,
 }
 
 impl Model for KeptChannel {
@@ -68,16 +69,19 @@ impl KeptChannel {
     {
         Ok(KeptChannel {
             sat: row.sat,
-            raw: Bytes::from_slice(alloc, row.raw.as_slice())?,
+            raw: Raw::copied(alloc, row.raw.as_slice())?,
         })
     }
 
-    /// Stores the row that these bytes encode, without a copy.
+    /// Stores the row that these bytes encode. It allocates nothing.
     pub fn of_owned(raw: Bytes, sat: u64) -> KeptChannel
         requires { IsAnnounce raw }
         ensures { result ≡ channel_row sat raw }
     {
-        KeptChannel { sat, raw }
+        KeptChannel {
+            sat,
+            raw: Raw::new(raw),
+        }
     }
 
     /// The row, read from the bytes.

@@ -6,6 +6,7 @@ ghost use Rattle.lgm_gossip.specs.declared.message.Message.TheVariants as messag
 ghost use Rattle.lgm_rows.specs.Update.{update_in, update_row, IsUpdate};
 
 use crate::places::{array, number8, number16, number32, number64, rest, signature};
+use crate::raw::Raw;
 use lgm_check::UpdateRow;
 use lgm_gossip::{Bytes, ChainHash, ChannelUpdate, Lent, Scid};
 use std::alloc::{AllocError, Global};
@@ -14,7 +15,7 @@ use std::marker::Model;
 /// An update of a direction, as its bytes. Contracts see the row that they encode.
 #[derive(Debug, Drop)]
 pub struct KeptUpdate {
-    raw: Bytes,
+    raw: Raw<138>,
 }
 
 impl Model for KeptUpdate {
@@ -57,16 +58,16 @@ impl KeptUpdate {
         ensures { IfOk result (λ kept. kept ≡ row.now) }
     {
         Ok(KeptUpdate {
-            raw: Bytes::from_slice(alloc, row.raw.as_slice())?,
+            raw: Raw::copied(alloc, row.raw.as_slice())?,
         })
     }
 
-    /// Stores the row that these bytes encode, without a copy.
+    /// Stores the row that these bytes encode. It allocates nothing.
     pub fn of_owned(raw: Bytes) -> KeptUpdate
         requires { IsUpdate raw }
         ensures { result ≡ update_row raw }
     {
-        KeptUpdate { raw }
+        KeptUpdate { raw: Raw::new(raw) }
     }
 
     /// The row, read from the bytes.

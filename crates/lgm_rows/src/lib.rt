@@ -7,6 +7,7 @@ mod kept_channel;
 mod kept_node;
 mod kept_update;
 mod places;
+mod raw;
 
 pub use kept_channel::KeptChannel;
 pub use kept_node::KeptNode;
