@@ -52,7 +52,29 @@ fn check_line(alloc: Global, chain: &ChainHash, line: &[u8]) -> Result<Option<Of
     }
 }
 
-/// Checks the items of lines in chunks, in parallel. Each may run out of memory on its own.
+/// How much text one worker checks in the time that it takes to start threads, in bytes.
+const SHARE: usize = 1_048_576;
+
+/// How many workers check these lines: one per line if there are enough, else one per `SHARE` that is begun.
+fn hands(workers: usize, lines: &[&[u8]]) -> usize
+    ensures { 1 ≤ result }
+{
+    if lines.len() <= workers {
+        return workers.max(1);
+    }
+    1 + length_of(lines) / SHARE
+}
+
+/// The length of all lines together.
+fn length_of(lines: &[&[u8]]) -> usize {
+    let mut sum: usize = 0;
+    for line in lines {
+        sum = sum.saturating_add(line.len());
+    }
+    sum
+}
+
+/// Checks the items of lines in chunks, in parallel where that is faster. Each may run out of memory on its own.
 pub fn check_lines<Rt: Threads + Sync, G: Gate>(
     context: &Context<'_, Rt, G>,
     lines: &[&[u8]],
@@ -62,7 +84,6 @@ pub fn check_lines<Rt: Threads + Sync, G: Gate>(
 {
     let alloc = context.pool.alloc;
     let chain = &context.chain;
-    context
-        .pool
-        .map(lines, &|line| check_line(alloc, chain, line))
+    let pool = context.pool.at_most(hands(context.pool.workers, lines));
+    pool.map(lines, &|line| check_line(alloc, chain, line))
 }

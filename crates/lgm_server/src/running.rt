@@ -137,7 +137,7 @@ fn answer_all<Rt: Threads + Sync + RandomSource, G: Gate, R: Source, W: Sink>(
         output.old.writer.now output.new.writer.now result }
 {
     let alloc = context.pool.alloc;
-    let mut lines = LineReader::new(alloc)?;
+    let mut lines = LineReader::for_workers(alloc, context.pool.workers)?;
     let made = Engine::new(alloc, Seed::random(context.pool.rt), known)?;
     let engine = remains.hold(made);
     let answered = answer_lines(context, &mut lines, source, engine, output);
@@ -167,7 +167,8 @@ fn write_answers<W: Sink>(
 ///
 /// The work is shared by 1 to 64 workers. Consecutive lines that are completely read ahead are processed together, at
 /// most 1,024 of items or 64 of questions, and 32 by a single worker: they are parsed, checked and answered in chunks,
-/// each of which passes the gate, and written in order. Neither the number of workers nor the gate affects what is
+/// each of which passes the gate, and written in order. A group of more items than workers is split only if it has a
+/// MiB of text or more: below that starting threads takes longer than checking. Neither the number of workers nor the gate affects what is
 /// written, nor do the random bytes from the system, with which points are hashed.
 ///
 /// Answers are written before the source is read again, and in blocks otherwise. At `TooManyLines` and `LineTooLong`
