@@ -68,7 +68,7 @@ fn known<T: RecordValue>(
 }
 
 /// The value, if the stream that is all of the bytes has it.
-#[tactic(auto, unfolding(crate::specs::OptionalReading::optional_of))]
+#[tactic(auto, unfolding(crate::specs::reading::OptionalReading::optional_of))]
 pub(crate) fn optional<T: RecordValue>(
     alloc: Global,
     ids: usize,

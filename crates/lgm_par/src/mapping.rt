@@ -11,7 +11,7 @@ use std::thread;
 use std::thread::Threads;
 
 /// The start of a chunk.
-#[tactic(auto, unfolding(crate::specs::Pieces::piece_start))]
+#[tactic(auto, unfolding(crate::specs::inner::Chunks::piece_start))]
 fn start_of(len: usize, pieces: usize, piece: usize) -> usize
     requires some { 0 < pieces }
     requires within { piece ≤ pieces }

@@ -139,7 +139,7 @@ fn payload(known: Known) -> Result<HopPayload, PayloadFault>
 }
 
 /// Parses a payload, which begins with its length.
-#[tactic(auto, unfolding(crate::specs::Reading::payload_at))]
+#[tactic(auto, unfolding(crate::specs::reading::Reading::payload_at))]
 fn parse(alloc: Global, bytes: &[u8]) -> Result<HopPayload, PayloadFault>
     ensures { Gives PayloadFault.NoMemory (λ payload. payload) result (payload_at bytes.now) }
 {

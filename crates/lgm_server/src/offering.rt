@@ -14,7 +14,7 @@ use std::alloc::{AllocError, Global};
 use std::collections::VecDeque;
 
 /// Admits an item and applies its operation, which is returned. A refusal or out of memory leaves the map unchanged.
-#[tactic(auto, unfolding(crate::specs::Offered::outcome_on))]
+#[tactic(auto, unfolding(crate::specs::inner::Offered::outcome_on))]
 fn admit(alloc: Global, map: &mut Map, item: Offered) -> Result<Op, Refusal>
     ensures outcome { Gives Refusal.NoMemory (λ op. op) result (outcome_on map.old item) }
     ensures accepted { IfOk result (λ op. map.new ≡ absorbed map.old op) }

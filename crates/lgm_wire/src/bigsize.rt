@@ -46,7 +46,7 @@ fn split_u64(bytes: &[u8]) -> Result<(u64, &[u8]), WireFault>
 }
 
 /// The leading number, and the bytes after it.
-#[tactic(auto, unfolding(crate::specs::BigSizeReading::bigsize_at))]
+#[tactic(auto, unfolding(crate::specs::reading::BigSizeReading::bigsize_at))]
 pub(crate) fn split_bigsize(bytes: &[u8]) -> Result<(u64, &[u8]), WireFault>
     ensures { Sees (λ x. (x.0, x.1.now)) result (bigsize_at bytes.now) }
 {

@@ -47,7 +47,7 @@ impl<'a> Tlvs<'a> {
 }
 
 /// The leading record, whose type is above the last one, and the bytes after it.
-#[tactic(auto, unfolding(crate::specs::TlvReading::record_at))]
+#[tactic(auto, unfolding(crate::specs::reading::TlvReading::record_at))]
 fn split_tlv<'a>(last: Option<u64>, bytes: &'a [u8]) -> Result<(Tlv<'a>, &'a [u8]), WireFault>
     ensures { Sees (λ x. (record_of x.0, x.1.now)) result (record_at last bytes.now) }
 {
