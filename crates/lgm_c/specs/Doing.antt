@@ -32,7 +32,8 @@ Does outcome old status new =
 abbrev pub Offers : List ℕ → Option Evidence → ℕ → Option Held → Option Held → Type 0
 Offers bytes evidence status None new = (status ≡ number_of faults.Closed) × (new ≡ None)
 Offers bytes None status (Some old) new = (status ≡ number_of faults.Argument) × (new ≡ Some old)
-Offers bytes (Some evidence) status (Some old) new = Does (offered_to old.chain old.rows bytes evidence) old status new
+Offers bytes (Some evidence) status (Some old) new =
+    Does (offered_to old.chain old.rows bytes evidence) old status new
 
 -- a channel is closed
 abbrev pub Closes : ℕ → ℕ → Option Held → Option Held → Type 0
@@ -50,9 +51,11 @@ pub record Advances (outcome : Result Op Refusal) (old new : Charted) : Type 0 w
 -- a call did an accepted operation, or gave the refusal and did nothing; or memory was refused
 abbrev pub Follows : {T : Type 0} → Result Op Refusal → Result T Refusal → Charted → Charted → Type 0
 Follows outcome (Ok t) old new = Advances outcome old new
-Follows outcome (Err refusal) old new = ((refusal ≡ refusals.NoMemory) ⊎ (outcome ≡ Err refusal)) × (new ≡ old)
+Follows outcome (Err refusal) old new =
+    ((refusal ≡ refusals.NoMemory) ⊎ (outcome ≡ Err refusal)) × (new ≡ old)
 
 -- the same of what is held
 abbrev pub Leads : {T : Type 0} → Result Op Refusal → Result T Refusal → Held → Held → Type 0
-Leads outcome (Ok t) old new = (op : Op) × (outcome ≡ Ok op) × (new ≡ record old { rows = absorbed old.rows op })
+Leads outcome (Ok t) old new =
+    (op : Op) × (outcome ≡ Ok op) × (new ≡ record old { rows = absorbed old.rows op })
 Leads outcome (Err refusal) old new = ((refusal ≡ refusals.NoMemory) ⊎ (outcome ≡ Err refusal)) × (new ≡ old)

@@ -48,7 +48,8 @@ rows_at None = empty
 rows_at (Some mark) = mark.marked
 
 abbrev pub held_in : ChainHash → Charted → Option Marked → Held
-held_in chain chart mark = record { chain = chain; known = chart.known; rows = chart.rows; marked = rows_at mark }
+held_in chain chart mark =
+    record { chain = chain; known = chart.known; rows = chart.rows; marked = rows_at mark }
 
 -- the messages of the rows tell the keys of their rows, and a mark follows the rows
 pub record IsFollowed (chart : Charted) (mark : Option Marked) : Type 0 where

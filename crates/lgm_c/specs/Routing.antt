@@ -79,9 +79,11 @@ HasToldRoute hops payloads status old new =
 -- a route was told, with its payloads, or its fault
 abbrev pub TellsFound : Result (List Hop) Fault → List ℕ → ℕ → Buffers → Buffers → Type 0
 TellsFound (Ok hops) secret status old new =
-    HasToldRoute (told_hops hops (payloads_of secret hops)) (all_payloads (payloads_of secret hops)) status old new
+    HasToldRoute (told_hops hops (payloads_of secret hops)) (all_payloads (payloads_of secret hops))
+    status old new
 TellsFound (Err fault) secret status old new = (status ≡ number_of fault) × (new ≡ old)
 
 -- the same, or memory was refused
 abbrev pub TellsRoute : Result (List Hop) Fault → List ℕ → ℕ → Buffers → Buffers → Type 0
-TellsRoute answer secret status old new = TellsFound answer secret status old new ⊎ ((status ≡ no_memory) × (new ≡ old))
+TellsRoute answer secret status old new =
+    TellsFound answer secret status old new ⊎ ((status ≡ no_memory) × (new ≡ old))

@@ -1,7 +1,8 @@
 //! What a map holds.
 
 ghost use Rattle.std.specs.Prelude.{◌≡◌};
-ghost use Rattle.lgm_c.specs.Looking.{count_of, told_direction, channel_found, told_node, node_found, TellsNode};
+ghost use Rattle.lgm_c.specs.Looking.{count_of, told_direction, channel_found};
+ghost use Rattle.lgm_c.specs.Looking.{told_node, node_found, TellsNode};
 ghost use Rattle.lgm_c.specs.Status.{if_open, status_of, Finds};
 ghost use Rattle.lgm_c.specs.Telling.{buffer};
 

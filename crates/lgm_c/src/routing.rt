@@ -1,7 +1,8 @@
 //! Routes of payments.
 
 ghost use Rattle.std.specs.Prelude.{◌≡◌, Ok, IfOk};
-ghost use Rattle.lgm_c.specs.Routing.{request_of, route_asked, told_hop, told_hops, all_payloads, TellsRoute, HasToldRoute, buffers};
+ghost use Rattle.lgm_c.specs.Routing.{request_of, route_asked, told_hop, told_hops, all_payloads};
+ghost use Rattle.lgm_c.specs.Routing.{TellsRoute, HasToldRoute, buffers};
 ghost use Rattle.lgm_c.specs.Status.{if_open, status_of};
 
 use crate::fault::{Fault, status};

@@ -88,7 +88,8 @@ pub fn map_chunks<Rt: Threads + Sync, G: Gate, T: Sync, A: Send + Drop, F: Fn(&T
     }
     let work = |piece: usize| -> Result<Vec<A>, AllocError>
         requires { (piece < pieces) × AcceptsAll F.Fn f.now items.now }
-        ensures { IfOk result (λ answers. GivesAll F.Fn f.entry.now (piece_of items.entry.now pieces piece) answers.items) }
+        ensures { IfOk result
+            (λ answers. GivesAll F.Fn f.entry.now (piece_of items.entry.now pieces piece) answers.items) }
     {
         gate.pass(piece);
         map_piece(alloc, piece_at(items, pieces, piece), f)

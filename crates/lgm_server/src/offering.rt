@@ -40,7 +40,8 @@ pub fn offer(
     item: Offered,
 ) -> Result<Option<Refusal>, AllocError>
     ensures refusal { IfOk result (λ refusal. refusal ≡ result_err (outcome_on map.old item)) }
-    ensures kept { OnOk result (Keeps (outcome_on map.old item) map.old map.new pending.old.items pending.new.items) }
+    ensures kept { OnOk result
+        (Keeps (outcome_on map.old item) map.old map.new pending.old.items pending.new.items) }
     ensures same { OnErr result (map.new ≡ map.old) }
     ensures none { OnErr result (pending.new.items ≡ pending.old.items) }
 {

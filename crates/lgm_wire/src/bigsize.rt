@@ -1,7 +1,8 @@
 //! BigSize: a number of up to 64 bits in one, three, five or nine bytes, whichever is shortest
 //! (BOLT 1, Fundamental Types and Appendix A).
 
-ghost use Rattle.std.specs.Prelude.{◌≡◌, ℕ, ◌≤◌, ◌<◌, ◌↔◌, ◌⊎◌, ◌++◌, ◌+◌, length, take, vec_len, vec_capacity, OnOk, OnErr, IfErr, List};
+ghost use Rattle.std.specs.Prelude.{◌≡◌, ℕ, ◌≤◌, ◌<◌, ◌↔◌, ◌⊎◌, ◌++◌, ◌+◌, length, take};
+ghost use Rattle.std.specs.Prelude.{vec_len, vec_capacity, OnOk, OnErr, IfErr, List};
 ghost use Rattle.std.specs.Int.{w16, w32, w64};
 ghost use Rattle.lgm_wire.specs.BigSize.{IsBigSize, bigsize_bytes, form_len, form_value};
 ghost use Rattle.lgm_wire.specs.reading.Reading.{Sees};
