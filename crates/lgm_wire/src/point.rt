@@ -1,6 +1,6 @@
 //! Points: node ids and bitcoin keys.
 
-ghost use Rattle.std.specs.Prelude.{◌≡◌, [], ◌∷◌, drop};
+ghost use Rattle.std.specs.Prelude.{◌≡◌, [], ◌∷◌, take, drop};
 ghost use Rattle.std.specs.Cmp.Lexicographic.{bytes_decides};
 ghost use Rattle.std.proofs.Common.{ap};
 ghost use Rattle.lgm_wire.specs.Point.{is_lawful};
@@ -24,9 +24,9 @@ impl Point {
 /// Only the last 16 bytes are hashed, in one call. They are half of the coordinate, so finding keys that share them takes
 /// as long as for any 16 bytes that a hash returns.
 impl Hash for Point {
-    ghost hash_input = { λ p. drop 17 p.0 ∷ [] };
+    ghost hash_input = { λ p. take 16 (drop 17 p.0) ∷ [] };
 
-    ghost respects_eq = { λ x y same. ap (λ bytes. drop 17 bytes ∷ []) ((bytes_decides x.0 y.0).0 same) };
+    ghost respects_eq = { λ x y same. ap (λ bytes. take 16 (drop 17 bytes) ∷ []) ((bytes_decides x.0 y.0).0 same) };
 
     fn hash<H: Hasher>(&self, state: &mut H) {
         state.write(&self.0[17..]);
