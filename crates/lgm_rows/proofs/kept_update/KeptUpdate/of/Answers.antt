@@ -5,10 +5,10 @@ use Rattle.lgm_rows.proofs.UpdateLaws.{spelled_in}
 use Rattle.lgm_rows.proofs.kept_update.KeptUpdate.of.Goals as goal
 
 pub invariant_of-result : goal.invariant_of-result
-invariant_of-result c = rw (c.in_ok-from_slice.ensures.ok, c.as_slice.ensures) (spelled_in c.args.row.now.message c.args.row.now.raw c.requires).0
+invariant_of-result c = rw (c.in_ok-copied.ensures, c.as_slice.ensures) (spelled_in c.args.row.now.message c.args.row.now.raw c.requires).0
 
 pub returns : goal.returns
 returns c =
     let row = c.args.row.now in
-    rw (c.in_ok-from_slice.ensures.ok, c.as_slice.ensures)
+    rw (c.in_ok-copied.ensures, c.as_slice.ensures)
     (ap (λ (m : ChannelUpdate). let same : UpdateRow = record { message = m; raw = row.raw } in same) (spelled_in row.message row.raw c.requires).1)
