@@ -1,13 +1,12 @@
 -- A channel_announcement is read at its places.
-use Rattle.std.proofs.Common.{◌≡◌, ℕ, ◌+◌, ◌≤◌, List, ◌++◌, length, drop, refl, sym, ap, subst, ◌∙◌, arith}
-use Rattle.std.specs.Int.{w8, w16, w32, w64, to_be_bytes}
+use Rattle.std.proofs.Common.{◌≡◌, ℕ, ◌+◌, ◌≤◌, List, length, drop, refl, sym, ap, subst, ◌∙◌, arith}
+use Rattle.std.specs.Int.{w16, w64, to_be_bytes}
 use Rattle.std.proofs.lemmas.List.{drop_at}
 use Rattle.lgm_gossip.specs.declared.announce.Announce.{Announce}
 use Rattle.lgm_gossip.specs.declared.message.Message.TheVariants as messages
 use Rattle.lgm_gossip.specs.Message.{Wire}
 use Rattle.lgm_gossip.specs.Announce.{fields}
-use Rattle.lgm_gossip.proofs.WireLaws.{wide16, wide32, wide64}
-use Rattle.lgm_gossip.proofs.FieldLaws.{wide8}
+use Rattle.lgm_gossip.proofs.WireLaws.{wide64}
 use Rattle.lgm_rows.specs.Announce.{features_len, announce_with, announce_in, IsAnnounce}
 use Rattle.lgm_rows.proofs.PlaceLaws.{fixed_is, number_is, counted_is}
 

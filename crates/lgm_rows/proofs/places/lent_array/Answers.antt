@@ -1,4 +1,4 @@
-use Rattle.std.proofs.Common.{◌∙◌, ap, length, take, rules, arith}
+use Rattle.std.proofs.Common.{◌∙◌, ap, length, take, arith}
 use Rattle.std.proofs.lemmas.Slice.{between_to_end}
 use Rattle.lgm_rows.proofs.places.lent_array.Goals as goal
 
