@@ -16,7 +16,7 @@ use Rattle.lgm_script.specs.Item.{bytes_of, gossip_of, close_of}
 use Rattle.lgm_script.specs.Payment.{payment_of}
 use Rattle.lgm_script.specs.Request.{filter_of, form_of, request_of, HasLawfulPeer}
 use Rattle.lgm_script.specs.inner.Kinds.{has_route_word, kind_of}
-use Rattle.lgm_script.specs.Groups.{IsOfKind}
+use Rattle.lgm_script.specs.Groups.{IsOfKind, IsNoRoute}
 
 -- whether a line is empty or a comment
 abbrev pub is_quiet : List ℕ → Bool

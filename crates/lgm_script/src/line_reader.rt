@@ -32,14 +32,14 @@ pub struct LineReader {
 }
 
 impl Model for LineReader {
-    ghost use Rattle.std.specs.Prelude.{List, ℕ, length, take, drop, ◌≤◌, ◌<◌};
-    ghost use Rattle.lgm_script.specs.declared.line_reader.TheConstants.{MAX_LINE};
+    ghost use Rattle.std.specs.Prelude.{List, ℕ, length, take, drop, ◌≤◌};
+    ghost use Rattle.lgm_script.specs.declared.line_reader.TheConstants.{ROOM};
 
     ghost Value = { List ℕ };
 
     ghost view = { λ r. drop r.start (take r.end r.buffer.items) };
 
-    ghost invariant = { λ r. (r.start ≤ r.end) × (r.end ≤ length r.buffer.items) × (MAX_LINE < length r.buffer.items) };
+    ghost invariant = { λ r. (r.start ≤ r.end) × (r.end ≤ length r.buffer.items) × (ROOM ≤ length r.buffer.items) };
 }
 
 impl LineReader {
@@ -121,7 +121,7 @@ fn make_room(buffer: &mut Vec<u8>, start: usize, end: usize) -> (usize, usize)
     requires order { start ≤ end }
     requires within { end ≤ length buffer.old.items }
     requires short { end - start ≤ MAX_LINE }
-    requires size { MAX_LINE < length buffer.old.items }
+    requires size { ROOM ≤ length buffer.old.items }
     ensures same { drop result.0 (take result.1 buffer.new.items) ≡ drop start (take end buffer.old.items) }
     ensures order { result.0 ≤ result.1 }
     ensures room { result.1 < length buffer.new.items }
