@@ -21,6 +21,7 @@ use std::alloc::Global;
 pub const MAX_SAT: u64 = 2_100_000_000_000_000;
 
 /// Ok if the test holds, else the refusal.
+#[inline(always)]
 fn require(holds: bool, refusal: Refusal) -> Result<(), Refusal>
     ensures { result ≡ requirement holds refusal }
 {
@@ -28,6 +29,7 @@ fn require(holds: bool, refusal: Refusal) -> Result<(), Refusal>
 }
 
 /// Whether the node ids and bitcoin keys are well-formed points, by their first byte.
+#[inline(always)]
 fn has_lawful_points(message: &Announce) -> bool
     ensures { result ≡ has_lawful_points message.now }
 {
@@ -45,6 +47,7 @@ fn are_in_order(message: &Announce) -> bool
 }
 
 /// The capacity in satoshi, if the output can fund the channel.
+#[inline(always)]
 fn capacity(funding: Funding) -> Result<u64, Refusal>
     ensures { result ≡ capacity_of funding }
 {
@@ -55,6 +58,7 @@ fn capacity(funding: Funding) -> Result<u64, Refusal>
 }
 
 /// Whether all four signatures are valid.
+#[inline(always)]
 fn is_all_four(sig: Sig) -> bool
     ensures { result ≡ is_all_four sig }
 {
@@ -63,6 +67,7 @@ fn is_all_four(sig: Sig) -> bool
 
 /// The row of a `channel_announcement`, or its first refusal.
 #[tactic(auto, unfolding(crate::specs::Precheck::checked_announce))]
+#[inline(always)]
 fn announce<'a>(
     chain: &ChainHash,
     message: &Announce<'a>,
@@ -82,6 +87,7 @@ fn announce<'a>(
 }
 
 /// Whether an update must not be forwarded: bit 1 of its message flags, `dont_forward`.
+#[inline(always)]
 fn is_private(message: &ChannelUpdate) -> bool
     ensures { result ≡ is_private message.now }
 {
@@ -89,6 +95,7 @@ fn is_private(message: &ChannelUpdate) -> bool
 }
 
 /// The point that signed.
+#[inline(always)]
 fn signer(sig: Sig) -> Result<Point, Refusal>
     ensures { result ≡ signer_of sig }
 {
@@ -100,6 +107,7 @@ fn signer(sig: Sig) -> Result<Point, Refusal>
 
 /// The row of a `channel_update`, or its first refusal.
 #[tactic(auto, unfolding(crate::specs::Precheck::checked_update))]
+#[inline(always)]
 fn update<'a>(
     chain: &ChainHash,
     message: &ChannelUpdate<'a>,
@@ -118,6 +126,7 @@ fn update<'a>(
 
 /// The row of a `node_announcement`, or its first refusal.
 #[tactic(auto, unfolding(crate::specs::Precheck::checked_node))]
+#[inline(always)]
 fn node<'a>(
     message: &NodeAnnounce<'a>,
     raw: &'a [u8],
@@ -135,6 +144,7 @@ fn node<'a>(
 
 /// The row of any message, or its first refusal.
 #[tactic(auto, unfolding(crate::specs::Precheck::checked_of))]
+#[inline(always)]
 fn check<'a>(
     alloc: Global,
     chain: &ChainHash,
@@ -165,6 +175,7 @@ fn check<'a>(
 ///
 /// The row borrows the bytes. `NoMemory` is no verdict on the message: it comes only if what [`decode`] stores of a
 /// query or a reply couldn't be allocated. For an announcement or an update nothing is allocated.
+#[inline(always)]
 pub fn precheck<'a>(
     alloc: Global,
     chain: &ChainHash,
