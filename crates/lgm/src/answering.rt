@@ -37,7 +37,8 @@ pub fn answer<Rt: Threads + Wait + Sync + RandomSource, G: Gate, R: Source, W: S
     requires workers { (1 ≤ options.now.workers) × (options.now.workers ≤ 64) }
     requires reader { R.failures reader.old + 1 < 2 ^ 64 }
     requires writer { W.failures writer.old + 1 < 2 ^ 64 }
-    ensures { AnswersAs R.left R.failures W.taken W.failures options.now.mode options.now reader.old reader.new writer.old writer.new result }
+    ensures { AnswersAs R.left R.failures W.taken W.failures options.now.mode options.now reader.old
+        reader.new writer.old writer.new result }
 {
     let chain = &options.chain;
     let known = &options.known;

@@ -173,8 +173,10 @@ fn known(alloc: Global, digits: Option<&str>) -> Result<Known, BadWords>
 /// The options that the arguments of a subcommand give.
 fn options_of(alloc: Global, mode: Mode, words: &ArgMatches) -> Result<Options, BadWords>
     ensures mode { IfOk result (λ options. options.mode ≡ mode) }
-    ensures chain { IfOk result (λ options. AreChain (unwrap_or (first_value (found_of words.now) (codes "chain")) []) options.chain) }
-    ensures known { IfOk result (λ options. AreKnown (first_value (found_of words.now) (codes "known")) options.known) }
+    ensures chain { IfOk result (λ options.
+        AreChain (unwrap_or (first_value (found_of words.now) (codes "chain")) []) options.chain) }
+    ensures known { IfOk result
+        (λ options. AreKnown (first_value (found_of words.now) (codes "known")) options.known) }
     ensures workers { IfOk result (λ options. (1 ≤ options.workers) × (options.workers ≤ 64)) }
 {
     // `clap` has checked that they are 1 to 64.

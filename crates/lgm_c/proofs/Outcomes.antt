@@ -32,16 +32,19 @@ given op (Ok own) offers = elim offers [ inl e ↦ sym e | inr e ↦ absurd cc ]
 given op (Err refusal) offers = absurd cc
 
 -- a message that is lawful by itself, in its turn
-pub checked_offers : (chain : ChainHash) (rows : Rows) (bytes : List ℕ) (evidence : Evidence) (checked : Checked) (answer : Result Op Refusal) → checked_of chain bytes evidence ≡ Ok checked
+pub checked_offers : (chain : ChainHash) (rows : Rows) (bytes : List ℕ) (evidence : Evidence)
+    (checked : Checked) (answer : Result Op Refusal) → checked_of chain bytes evidence ≡ Ok checked
     → Offers answer (admitted rows checked) → Gives refusals.NoMemory (λ op. op) answer (offered_to chain rows bytes evidence)
 checked_offers chain rows bytes evidence checked answer made offers = rw made (offers_gives answer (admitted rows checked) offers)
 
-pub checked_given : (chain : ChainHash) (rows : Rows) (bytes : List ℕ) (evidence : Evidence) (checked : Checked) (op : Op) → checked_of chain bytes evidence ≡ Ok checked
+pub checked_given : (chain : ChainHash) (rows : Rows) (bytes : List ℕ) (evidence : Evidence)
+    (checked : Checked) (op : Op) → checked_of chain bytes evidence ≡ Ok checked
     → Offers (Ok op) (admitted rows checked) → offered_to chain rows bytes evidence ≡ Ok op
 checked_given chain rows bytes evidence checked op made offers = rw made (given op (admitted rows checked) offers)
 
 -- the bytes of an operation are about its keys
-pub offered_tells : (chain : ChainHash) (rows : Rows) (bytes : List ℕ) (evidence : Evidence) (op : Op) → offered_to chain rows bytes evidence ≡ Ok op → TellsKey op
+pub offered_tells : (chain : ChainHash) (rows : Rows) (bytes : List ℕ) (evidence : Evidence) (op : Op)
+    → offered_to chain rows bytes evidence ≡ Ok op → TellsKey op
 offered_tells chain rows bytes evidence op is =
     let checked = bind_ok (checked_of chain bytes evidence) (λ made. admitted rows made) op is in
     operation_tells chain bytes evidence checked.0 rows op checked.1 checked.2
@@ -54,10 +57,13 @@ close_tells rows id op is = by (is_some (channel_of rows.channels id)) is
     by false e = absurd cc
 
 -- a mark goes on following
-pub goes_on : {T : Type 0} (outcome : Result Op Refusal) (result : Result T Refusal) (old new : Charted) (mark mark' : Option Marked) → ((op : Op) → outcome ≡ Ok op → TellsKey op)
+pub goes_on : {T : Type 0} (outcome : Result Op Refusal) (result : Result T Refusal) (old new : Charted)
+    (mark mark' : Option Marked) → ((op : Op) → outcome ≡ Ok op → TellsKey op)
     → Follows outcome result old new → IsFollowed old mark → IfSome mark' (λ m. m.rows ≡ new.rows) → IsFollowed new mark'
 goes_on outcome (Ok t) old new mark mark' tells follows was beside = record {
-  tells = subst TellKeys (sym (ap (λ chart. chart.rows) follows.rows)) (TellKeys-step old.rows follows.op was.tells (tells follows.op follows.accepts));
+  tells =
+      subst TellKeys (sym (ap (λ chart. chart.rows) follows.rows))
+      (TellKeys-step old.rows follows.op was.tells (tells follows.op follows.accepts));
   follows = beside;
 }
 goes_on outcome (Err refusal) old new mark mark' tells follows was beside = record {

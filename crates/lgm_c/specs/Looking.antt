@@ -53,7 +53,8 @@ c_channel row first second = record {
 }
 
 abbrev pub channel_in : Rows → ℕ → Option ChannelRow → Result LgmChannel Fault
-channel_in rows id (Some row) = Ok (c_channel row (update_of rows.updates id false) (update_of rows.updates id true))
+channel_in rows id (Some row) =
+    Ok (c_channel row (update_of rows.updates id false) (update_of rows.updates id true))
 channel_in rows id None = Err (faults.Refused refusals.UnknownChannel)
 
 -- the channel with an id
@@ -61,7 +62,8 @@ abbrev pub channel_found : ℕ → Held → Result LgmChannel Fault
 channel_found id held = channel_in held.rows id (channel_of held.rows.channels id)
 
 abbrev pub c_node : NodeRow → LgmNode
-c_node row = record { timestamp = row.message.timestamp; rgb = row.message.rgb_color; alias = row.message.alias }
+c_node row =
+    record { timestamp = row.message.timestamp; rgb = row.message.rgb_color; alias = row.message.alias }
 
 abbrev pub announced : Option NodeRow → Result NodeRow Fault
 announced (Some row) = Ok row
@@ -73,5 +75,7 @@ node_found point held = announced (node_of held.rows.nodes (record { 0 = point }
 
 -- a node was written, with its addresses or only their length, or the fault was returned
 abbrev pub WritesNode : Result NodeRow Fault → ℕ → LgmNode → LgmNode → Buffer → Buffer → Type 0
-WritesNode (Ok row) status old_node new_node old new = (new_node ≡ c_node row) × IsWritten row.message.addresses status old new
-WritesNode (Err fault) status old_node new_node old new = (status ≡ number_of fault) × (new_node ≡ old_node) × (new ≡ old)
+WritesNode (Ok row) status old_node new_node old new =
+    (new_node ≡ c_node row) × IsWritten row.message.addresses status old new
+WritesNode (Err fault) status old_node new_node old new =
+    (status ≡ number_of fault) × (new_node ≡ old_node) × (new ≡ old)

@@ -79,9 +79,11 @@ IsRouteWritten hops payloads status old new =
 -- a route was written with its payloads, or the fault was returned
 abbrev pub WritesFound : Result (List Hop) Fault → List ℕ → ℕ → Buffers → Buffers → Type 0
 WritesFound (Ok hops) secret status old new =
-    IsRouteWritten (c_hops hops (payloads_of secret hops)) (all_payloads (payloads_of secret hops)) status old new
+    IsRouteWritten (c_hops hops (payloads_of secret hops)) (all_payloads (payloads_of secret hops))
+    status old new
 WritesFound (Err fault) secret status old new = (status ≡ number_of fault) × (new ≡ old)
 
 -- the same, or out of memory
 abbrev pub WritesRoute : Result (List Hop) Fault → List ℕ → ℕ → Buffers → Buffers → Type 0
-WritesRoute answer secret status old new = WritesFound answer secret status old new ⊎ ((status ≡ no_memory) × (new ≡ old))
+WritesRoute answer secret status old new =
+    WritesFound answer secret status old new ⊎ ((status ≡ no_memory) × (new ≡ old))

@@ -3,7 +3,8 @@
 ghost use Rattle.std.specs.Prelude.{◌≡◌, Ok};
 ghost use Rattle.lgm_wire.specs.reading.Reading.{Gives};
 ghost use Rattle.lgm_gossip.specs.reading.MessageReading.{message_at};
-ghost use Rattle.lgm_c.specs.Asking.{replies_in, framed_answer, query_answer, filter_in, backlog_answer, news_answer};
+ghost use Rattle.lgm_c.specs.Asking.{replies_in, framed_answer, query_answer};
+ghost use Rattle.lgm_c.specs.Asking.{filter_in, backlog_answer, news_answer};
 ghost use Rattle.lgm_c.specs.Opening.{MovesMark};
 ghost use Rattle.lgm_c.specs.Status.{if_open};
 ghost use Rattle.lgm_c.specs.Writing.{Answers, buffer};

@@ -1,7 +1,8 @@
 //! Looking up channels and nodes.
 
 ghost use Rattle.std.specs.Prelude.{◌≡◌};
-ghost use Rattle.lgm_c.specs.Looking.{count_of, c_direction, channel_found, c_node, node_found, WritesNode};
+ghost use Rattle.lgm_c.specs.Looking.{count_of, c_direction, channel_found};
+ghost use Rattle.lgm_c.specs.Looking.{c_node, node_found, WritesNode};
 ghost use Rattle.lgm_c.specs.Status.{if_open, status_of, Finds};
 ghost use Rattle.lgm_c.specs.Writing.{buffer};
 

@@ -1,7 +1,8 @@
 //! Routes of payments.
 
 ghost use Rattle.std.specs.Prelude.{◌≡◌, Ok, IfOk};
-ghost use Rattle.lgm_c.specs.Routing.{request_of, route_asked, c_hop, c_hops, all_payloads, WritesRoute, IsRouteWritten, buffers};
+ghost use Rattle.lgm_c.specs.Routing.{request_of, route_asked, c_hop, c_hops, all_payloads};
+ghost use Rattle.lgm_c.specs.Routing.{WritesRoute, IsRouteWritten, buffers};
 ghost use Rattle.lgm_c.specs.Status.{if_open, status_of};
 
 use crate::fault::{Fault, status};

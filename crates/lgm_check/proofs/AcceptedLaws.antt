@@ -30,7 +30,8 @@ use Rattle.lgm_check.specs.declared.row.Checked.{Checked}
 use Rattle.lgm_check.specs.declared.row.Checked.TheVariants as checked
 use Rattle.lgm_check.specs.declared.refusal.Refusal.{Refusal}
 use Rattle.lgm_check.specs.declared.refusal.Refusal.TheVariants as refusals
-use Rattle.lgm_check.specs.Precheck.{require, has_lawful_points, are_in_order, capacity_of, is_all_four, is_private, signer_of, checked_announce, checked_update, checked_node, checked_read, checked_of}
+use Rattle.lgm_check.specs.Precheck.{require, has_lawful_points, are_in_order, capacity_of, is_all_four, is_private, signer_of}
+use Rattle.lgm_check.specs.Precheck.{checked_announce, checked_update, checked_node, checked_read, checked_of}
 use Rattle.lgm_check.specs.Accepted.{IsChannel, IsUpdate, IsNode, IsAccepted}
 
 abbrev Step : Type 0
@@ -39,7 +40,8 @@ Step = Result Checked Refusal
 -- ---- the steps of a check that did not refuse
 
 -- a test that held, and what came of the rest
-passed : (holds : Bool) (refusal : Refusal) (rest : Step) (made : Checked) → (require holds refusal >>= λ _. rest) ≡ Ok made → IsTrue holds × (rest ≡ Ok made)
+passed : (holds : Bool) (refusal : Refusal) (rest : Step) (made : Checked)
+    → (require holds refusal >>= λ _. rest) ≡ Ok made → IsTrue holds × (rest ≡ Ok made)
 passed true refusal rest made e = (refl, e)
 passed false refusal rest made e = absurd cc
 
@@ -52,7 +54,8 @@ record IsFunded (funding : Funding) (next : ℕ → Step) (made : Checked) : Typ
 funded : (funding : Funding) (next : ℕ → Step) (made : Checked) → (capacity_of funding >>= next) ≡ Ok made → IsFunded funding next made
 funded (fundings.Unspent sat) next made e = go (nat_le sat 2100000000000000) refl e
   where
-    go : (small : Bool) → nat_le sat 2100000000000000 ≡ small → ((if small then Ok sat else Err refusals.Funding) >>= next) ≡ Ok made → IsFunded (fundings.Unspent sat) next made
+    go : (small : Bool) → nat_le sat 2100000000000000 ≡ small → ((if small then Ok sat
+        else Err refusals.Funding) >>= next) ≡ Ok made → IsFunded (fundings.Unspent sat) next made
     go true is e = record { sat = sat; unspent = refl; limit = grind arith; rest = e }
     go false is e = absurd cc
 funded fundings.Spent next made e = absurd cc
@@ -114,7 +117,8 @@ channel_takes chain m bytes evidence made wire e =
     let c = passed (are_in_order m) refusals.NodeOrder funding made b.1 in
     let d = funded evidence.funding signing made c.1 in
     let f = passed (is_all_four evidence.sig) refusals.Signature (row d.sat) made d.rest in
-    subst (λ (x : Checked). IsAccepted chain bytes evidence x) (ok_is (checked.Channel (record { message = m; sat = d.sat; raw = bytes })) made f.1) (record {
+    subst (λ (x : Checked). IsAccepted chain bytes evidence x)
+    (ok_is (checked.Channel (record { message = m; sat = d.sat; raw = bytes })) made f.1) (record {
       spelled = wire;
       chain = chain_is m.chain_hash chain a.0;
       points = b.0;
@@ -135,7 +139,8 @@ update_takes chain m bytes evidence made wire e =
     let a = passed (pointwise nat_eq m.chain_hash.0 chain.0) refusals.Chain sending made e in
     let b = passed (not (is_private m)) refusals.Private signing made a.1 in
     let c = signed evidence.sig row made b.1 in
-    subst (λ (x : Checked). IsAccepted chain bytes evidence x) (ok_is (checked.Update (record { message = m; raw = bytes }) c.signer) made c.rest) (record {
+    subst (λ (x : Checked). IsAccepted chain bytes evidence x)
+    (ok_is (checked.Update (record { message = m; raw = bytes }) c.signer) made c.rest) (record {
       spelled = wire;
       chain = chain_is m.chain_hash chain a.0;
       public = public_is m b.0;
@@ -167,7 +172,8 @@ channel_again chain bytes evidence row is =
     rw (chain_test row.message.chain_hash chain is.chain, is.points, is.order, is.funding, limit_test row.sat is.limit, is.signature)
     (ap (λ (raw : List ℕ). let kept : Step = Ok (checked.Channel (record { message = row.message; sat = row.sat; raw = raw })) in kept) (sym is.raw))
 
-update_again : (chain : ChainHash) (bytes : List ℕ) (evidence : Evidence) (row : UpdateRow) (signer : Point) → IsUpdate chain bytes evidence row signer
+update_again : (chain : ChainHash) (bytes : List ℕ) (evidence : Evidence) (row : UpdateRow) (signer : Point)
+    → IsUpdate chain bytes evidence row signer
     → checked_update chain row.message bytes evidence ≡ Ok (checked.Update row signer)
 unfolding checked_update
 update_again chain bytes evidence row signer is =
@@ -183,11 +189,15 @@ node_again bytes evidence row is =
 
 -- ---- all types
 
-read_takes : (chain : ChainHash) (bytes : List ℕ) (evidence : Evidence) (made : Checked) (read : Result Message DecodeFault) → IsBytes bytes → message_at bytes ≡ read
+read_takes : (chain : ChainHash) (bytes : List ℕ) (evidence : Evidence) (made : Checked)
+    (read : Result Message DecodeFault) → IsBytes bytes → message_at bytes ≡ read
     → checked_read chain read bytes evidence ≡ Ok made → IsAccepted chain bytes evidence made
-read_takes chain bytes evidence made (Ok (messages.Announce m)) fits at e = channel_takes chain m bytes evidence made (message_takes bytes (messages.Announce m) fits at) e
-read_takes chain bytes evidence made (Ok (messages.ChannelUpdate m)) fits at e = update_takes chain m bytes evidence made (message_takes bytes (messages.ChannelUpdate m) fits at) e
-read_takes chain bytes evidence made (Ok (messages.NodeAnnounce m)) fits at e = node_takes chain m bytes evidence made (message_takes bytes (messages.NodeAnnounce m) fits at) e
+read_takes chain bytes evidence made (Ok (messages.Announce m)) fits at e =
+    channel_takes chain m bytes evidence made (message_takes bytes (messages.Announce m) fits at) e
+read_takes chain bytes evidence made (Ok (messages.ChannelUpdate m)) fits at e =
+    update_takes chain m bytes evidence made (message_takes bytes (messages.ChannelUpdate m) fits at) e
+read_takes chain bytes evidence made (Ok (messages.NodeAnnounce m)) fits at e =
+    node_takes chain m bytes evidence made (message_takes bytes (messages.NodeAnnounce m) fits at) e
 read_takes chain bytes evidence made (Ok (messages.IdsQuery m)) fits at e = absurd cc
 read_takes chain bytes evidence made (Ok (messages.IdsEnd m)) fits at e = absurd cc
 read_takes chain bytes evidence made (Ok (messages.RangeQuery m)) fits at e = absurd cc
@@ -203,9 +213,14 @@ accepted chain bytes evidence made fits e = read_takes chain bytes evidence made
 pub only : (chain : ChainHash) (bytes : List ℕ) (evidence : Evidence) (made : Checked)
     → IsAccepted chain bytes evidence made → checked_of chain bytes evidence ≡ Ok made
 unfolding checked_of
-only chain bytes evidence (checked.Channel row) is = rw (message_again bytes (messages.Announce row.message) is.spelled) (channel_again chain bytes evidence row is)
-only chain bytes evidence (checked.Update row signer) is = rw (message_again bytes (messages.ChannelUpdate row.message) is.spelled) (update_again chain bytes evidence row signer is)
-only chain bytes evidence (checked.Node row) is = rw (message_again bytes (messages.NodeAnnounce row.message) is.spelled) (node_again bytes evidence row is)
+only chain bytes evidence (checked.Channel row) is =
+    rw (message_again bytes (messages.Announce row.message) is.spelled)
+    (channel_again chain bytes evidence row is)
+only chain bytes evidence (checked.Update row signer) is =
+    rw (message_again bytes (messages.ChannelUpdate row.message) is.spelled)
+    (update_again chain bytes evidence row signer is)
+only chain bytes evidence (checked.Node row) is =
+    rw (message_again bytes (messages.NodeAnnounce row.message) is.spelled) (node_again bytes evidence row is)
 
 -- ---- what was returned
 
@@ -214,7 +229,8 @@ pub channel_accepted : (chain : ChainHash) (m : Announce) (bytes : List ℕ) (ev
 channel_accepted chain m bytes evidence (Ok made) wire given = channel_takes chain m bytes evidence made wire given
 channel_accepted chain m bytes evidence (Err refusal) wire given = tt
 
-pub update_accepted : (chain : ChainHash) (m : ChannelUpdate) (bytes : List ℕ) (evidence : Evidence) (r : Step) → Wire (messages.ChannelUpdate m) bytes
+pub update_accepted : (chain : ChainHash) (m : ChannelUpdate) (bytes : List ℕ) (evidence : Evidence)
+    (r : Step) → Wire (messages.ChannelUpdate m) bytes
     → Sees (λ made. made) r (checked_update chain m bytes evidence) → IfOk r (λ made. IsAccepted chain bytes evidence made)
 update_accepted chain m bytes evidence (Ok made) wire given = update_takes chain m bytes evidence made wire given
 update_accepted chain m bytes evidence (Err refusal) wire given = tt

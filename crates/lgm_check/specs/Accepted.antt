@@ -17,7 +17,8 @@ use Rattle.lgm_check.specs.Precheck.{has_lawful_points, are_in_order}
 
 -- a channel_announcement: nodes in order, of this chain, an unspent output that holds no more satoshi than exist, and
 -- four valid signatures
-pub record IsChannel (ours : ChainHash) (bytes : List ℕ) (evidence : Evidence) (row : ChannelRow) : Type 0 where
+pub record IsChannel (ours : ChainHash) (bytes : List ℕ) (evidence : Evidence)
+    (row : ChannelRow) : Type 0 where
   pub spelled : Wire (messages.Announce row.message) bytes
   pub chain : row.message.chain_hash ≡ ours
   pub points : IsTrue (has_lawful_points row.message)
@@ -29,7 +30,8 @@ pub record IsChannel (ours : ChainHash) (bytes : List ℕ) (evidence : Evidence)
 
 -- a channel_update: of this chain, may be forwarded (bit 1 of its message flags is 0), with a valid signature of some
 -- node
-pub record IsUpdate (ours : ChainHash) (bytes : List ℕ) (evidence : Evidence) (row : UpdateRow) (signer : Point) : Type 0 where
+pub record IsUpdate (ours : ChainHash) (bytes : List ℕ) (evidence : Evidence) (row : UpdateRow)
+    (signer : Point) : Type 0 where
   pub spelled : Wire (messages.ChannelUpdate row.message) bytes
   pub chain : row.message.chain_hash ≡ ours
   pub public : row.message.message_flags / 2 % 2 ≡ 0

@@ -1,5 +1,6 @@
 -- Validation of a message without a map: the row, or the first refusal.
-use Rattle.std.specs.Prelude.{ℕ, ◌/◌, ◌%◌, ◌==◌, List, Bool, false, not, ◌&&◌, nat_eq, nat_le, Result, Ok, Err, if◌then◌else◌}
+use Rattle.std.specs.Prelude.{ℕ, ◌/◌, ◌%◌, ◌==◌, List, Bool, false, not, ◌&&◌}
+use Rattle.std.specs.Prelude.{nat_eq, nat_le, Result, Ok, Err, if◌then◌else◌}
 use Rattle.std.specs.Cmp.Lexicographic.{pointwise, slice_cmp}
 use Rattle.std.specs.Ordering.{is_lt, nat_cmp}
 use Rattle.lgm_wire.specs.reading.Reading.{◌>>=◌}
@@ -30,7 +31,8 @@ require holds refusal = if holds then Ok tt else Err refusal
 
 -- the node ids and bitcoin keys
 abbrev pub has_lawful_points : Announce → Bool
-has_lawful_points m = is_lawful m.node_id_1 && is_lawful m.node_id_2 && is_lawful m.bitcoin_key_1 && is_lawful m.bitcoin_key_2
+has_lawful_points m =
+    is_lawful m.node_id_1 && is_lawful m.node_id_2 && is_lawful m.bitcoin_key_1 && is_lawful m.bitcoin_key_2
 
 -- node_id_1 is the lesser in byte order
 abbrev pub are_in_order : Announce → Bool

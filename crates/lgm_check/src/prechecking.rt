@@ -7,7 +7,8 @@ ghost use Rattle.lgm_wire.specs.declared.chain_hash.ChainHash.{ChainHash};
 ghost use Rattle.lgm_check.specs.declared.evidence.Evidence.{Evidence};
 ghost use Rattle.lgm_check.specs.declared.row.Checked.{Checked};
 ghost use Rattle.lgm_check.specs.Accepted.{IsAccepted};
-ghost use Rattle.lgm_check.specs.Precheck.{require as requirement, has_lawful_points, are_in_order, capacity_of, is_all_four, is_private, signer_of};
+ghost use Rattle.lgm_check.specs.Precheck.{require as requirement, has_lawful_points, are_in_order};
+ghost use Rattle.lgm_check.specs.Precheck.{capacity_of, is_all_four, is_private, signer_of};
 ghost use Rattle.lgm_check.specs.Precheck.{checked_announce, checked_update, checked_node, checked_of};
 
 use crate::evidence::{Evidence, Funding, Sig};
@@ -140,7 +141,8 @@ fn check<'a>(
     raw: &'a [u8],
     evidence: &Evidence,
 ) -> Result<Checked<'a>, Refusal>
-    ensures exact { GivesIf (TakesMemory raw.now) Refusal.NoMemory (λ c. c) result (checked_of chain.now raw.now evidence.now) }
+    ensures exact { GivesIf (TakesMemory raw.now) Refusal.NoMemory (λ c. c) result
+        (checked_of chain.now raw.now evidence.now) }
     ensures accepted { IfOk result (λ made. IsAccepted chain.now raw.now evidence.now made) }
 {
     let message = decode(alloc, raw)?;
@@ -175,10 +177,12 @@ pub fn precheck<'a>(
         → MatchResult result (λ found. found ≡ made) (λ e. e ≡ Refusal.NoMemory) }
 
     // The row, or the first refusal in the order.
-    ensures exact { Gives Refusal.NoMemory (λ made. made) result (checked_of chain.now bytes.now evidence.now) }
+    ensures exact { Gives Refusal.NoMemory (λ made. made) result
+        (checked_of chain.now bytes.now evidence.now) }
 
     // Out of memory comes only if decoding allocates.
-    ensures memory { Sees (λ made. made) result (checked_of chain.now bytes.now evidence.now) ⊎ TakesMemory bytes.now }
+    ensures memory { Sees (λ made. made) result (checked_of chain.now bytes.now evidence.now)
+        ⊎ TakesMemory bytes.now }
 {
     check(alloc, chain, bytes, evidence)
 }

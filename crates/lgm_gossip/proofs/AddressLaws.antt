@@ -1,5 +1,6 @@
 -- Address descriptors: what is read is spelled so, and what is spelled so is read.
-use Rattle.std.proofs.Common.{◌≡◌, ℕ, ◌%◌, ◌^◌, ◌<◌, cond, eqb, List, [], ◌∷◌, ◌++◌, length, Result, Ok, Err, refl, sym, ap, subst, ◌∙◌, append_assoc, arith, inl, inr}
+use Rattle.std.proofs.Common.{◌≡◌, ℕ, ◌%◌, ◌^◌, ◌<◌, cond, eqb, List, [], ◌∷◌, ◌++◌, length, Result}
+use Rattle.std.proofs.Common.{Ok, Err, refl, sym, ap, subst, ◌∙◌, append_assoc, arith, inl, inr}
 use Rattle.std.specs.List.{flat_map, AllByRecursion}
 use Rattle.std.specs.Int.{w8, w16, to_be_bytes}
 use Rattle.std.proofs.lemmas.Bool.{eqb-true}
@@ -31,7 +32,8 @@ record IsAddress (len : ℕ) (variant : List ℕ → ℕ → Address) (a : Addre
   len_is : length address ≡ len
   port_fits : port < 2 ^ 16
 
-address_takes : (len : ℕ) (variant : List ℕ → ℕ → Address) (bytes : List ℕ) (x : Address × List ℕ) → IsBytes bytes → address_at len variant bytes ≡ Ok x → Takes (IsAddress len variant x.0) bytes x.1
+address_takes : (len : ℕ) (variant : List ℕ → ℕ → Address) (bytes : List ℕ) (x : Address × List ℕ)
+    → IsBytes bytes → address_at len variant bytes ≡ Ok x → Takes (IsAddress len variant x.0) bytes x.1
 address_takes len variant bytes x fits e =
     let a = bind_ok (fixed_at len bytes) (λ address. number_at w16 address.1 >>= λ port. Ok (variant address.0 port.0, port.1)) x e in
     let b = bind_ok (number_at w16 a.0.1) (λ port. Ok (variant a.0.0 port.0, port.1)) x a.2 in
@@ -43,22 +45,38 @@ address_takes len variant bytes x fits e =
     subst (λ (y : Address × List ℕ). Takes (IsAddress len variant y.0) bytes y.1) (ok_is made x b.2) (record {
       text = t.text ++ u.text;
       parts = t.parts ∙ ap (λ (s : List ℕ). t.text ++ s) u.parts ∙ sym (append_assoc t.text u.text b.0.1);
-      is = record { address = a.0.0; port = b.0.0; same = refl; whole = ap (λ (s : List ℕ). s ++ u.text) t.is.0 ∙ ap (λ (s : List ℕ). a.0.0 ++ s) u.is.0; len_is = t.is.1; port_fits = u.is.1 };
+      is =
+          record {
+            address = a.0.0;
+            port = b.0.0;
+            same = refl;
+            whole = ap (λ (s : List ℕ). s ++ u.text) t.is.0 ∙ ap (λ (s : List ℕ). a.0.0 ++ s) u.is.0;
+            len_is = t.is.1;
+            port_fits = u.is.1;
+          };
       left_fits = u.left_fits;
     })
 
-address_again : (len : ℕ) (variant : List ℕ → ℕ → Address) (address : List ℕ) (port : ℕ) (left : List ℕ) → length address ≡ len → port < 2 ^ 16 → address_at len variant ((address ++ to_be_bytes w16 port) ++ left) ≡ Ok (variant address port, left)
+address_again : (len : ℕ) (variant : List ℕ → ℕ → Address) (address : List ℕ) (port : ℕ) (left : List ℕ)
+    → length address ≡ len → port < 2 ^ 16
+    → address_at len variant ((address ++ to_be_bytes w16 port) ++ left) ≡ Ok (variant address port, left)
 address_again len variant address port left len_is fits =
     let field = fixed_field len in
     let number = number_field w16 wide16 in
-    ap (address_at len variant) (append_assoc address (to_be_bytes w16 port) left) ∙ rw (field.again address address (to_be_bytes w16 port ++ left) (refl, len_is), number.again port (to_be_bytes w16 port) left (refl, fits)) refl
+    ap (address_at len variant) (append_assoc address (to_be_bytes w16 port) left) ∙ rw (
+      field.again address address (to_be_bytes w16 port ++ left) (refl, len_is),
+      number.again port (to_be_bytes w16 port) left (refl, fits),
+    ) refl
 
 -- ---- a descriptor
 
 -- one line of `descriptor_at`
-line : (kind k len : ℕ) (variant : List ℕ → ℕ → Address) (left : List ℕ) (x : Address × List ℕ) (others : Result (Address × List ℕ) DecodeFault) → IsBytes left
-    → ((address : List ℕ) (port : ℕ) → length address ≡ len → port < 2 ^ 16 → Describes (variant address port) (k ∷ (address ++ to_be_bytes w16 port)))
-    → cond (eqb kind k) (address_at len variant left) others ≡ Ok x → (others ≡ Ok x → Takes (Describes x.0) (kind ∷ left) x.1) → Takes (Describes x.0) (kind ∷ left) x.1
+line : (kind k len : ℕ) (variant : List ℕ → ℕ → Address) (left : List ℕ) (x : Address × List ℕ)
+    (others : Result (Address × List ℕ) DecodeFault) → IsBytes left
+    → ((address : List ℕ) (port : ℕ) → length address ≡ len → port < 2 ^ 16
+    → Describes (variant address port) (k ∷ (address ++ to_be_bytes w16 port)))
+    → cond (eqb kind k) (address_at len variant left) others ≡ Ok x
+    → (others ≡ Ok x → Takes (Describes x.0) (kind ∷ left) x.1) → Takes (Describes x.0) (kind ∷ left) x.1
 line kind k len variant left x others fits describes e later =
     elim (chosen (eqb kind k) (address_at len variant left) others (Ok x) e) [
       | inl is ↦
@@ -68,16 +86,23 @@ line kind k len variant left x others fits describes e later =
           record {
             text = kind ∷ t.text;
             parts = ap (λ (s : List ℕ). kind ∷ s) t.parts;
-            is = subst (λ (a : Address). Describes a (kind ∷ t.text)) t.is.same (record { whole = ap (λ (b : ℕ). b ∷ t.text) kind_is ∙ ap (λ (s : List ℕ). k ∷ s) t.is.whole ∙ d.whole; fits = d.fits });
+            is =
+                subst (λ (a : Address). Describes a (kind ∷ t.text)) t.is.same (record {
+                  whole =
+                      ap (λ (b : ℕ). b ∷ t.text) kind_is ∙ ap (λ (s : List ℕ). k ∷ s) t.is.whole ∙ d.whole;
+                  fits = d.fits;
+                });
             left_fits = t.left_fits;
           }
       | inr other ↦ later other.1
     ]
 
 name_line : (kind : ℕ) (left : List ℕ) (x : Address × List ℕ) → IsBytes left
-    → cond (eqb kind 5) (number_at w8 left >>= λ len. address_at len.0 (λ hostname port. addresses.Name hostname port) len.1) (Err Cut) ≡ Ok x → Takes (Describes x.0) (kind ∷ left) x.1
+    → cond (eqb kind 5) (number_at w8 left >>= λ len. address_at len.0 (λ hostname port.
+    addresses.Name hostname port) len.1) (Err Cut) ≡ Ok x → Takes (Describes x.0) (kind ∷ left) x.1
 name_line kind left x fits e =
-    elim (chosen (eqb kind 5) (number_at w8 left >>= λ len. address_at len.0 (λ hostname port. addresses.Name hostname port) len.1) (Err Cut) (Ok x) e) [
+    elim (chosen (eqb kind 5) (number_at w8 left >>= λ len.
+    address_at len.0 (λ hostname port. addresses.Name hostname port) len.1) (Err Cut) (Ok x) e) [
       | inl is ↦
           let a = bind_ok (number_at w8 left) (λ len. address_at len.0 (λ hostname port. addresses.Name hostname port) len.1) x is.1 in
           let number = number_field w8 wide8 in
@@ -90,7 +115,9 @@ name_line kind left x fits e =
             text = kind ∷ (n.text ++ t.text);
             parts = ap (λ (s : List ℕ). kind ∷ s) (n.parts ∙ ap (λ (s : List ℕ). n.text ++ s) t.parts ∙ sym (append_assoc n.text t.text x.1));
             is = subst (λ (a : Address). Describes a (kind ∷ (n.text ++ t.text))) t.is.same (record {
-              whole = ap (λ (b : ℕ). b ∷ (n.text ++ t.text)) kind_is ∙ ap (λ (s : List ℕ). 5 ∷ (s ++ t.text)) len_text ∙ ap (λ (s : List ℕ). 5 ∷ length t.is.address ∷ s) t.is.whole;
+              whole =
+                  ap (λ (b : ℕ). b ∷ (n.text ++ t.text)) kind_is ∙ ap (λ (s : List ℕ). 5
+                  ∷ (s ++ t.text)) len_text ∙ ap (λ (s : List ℕ). 5 ∷ length t.is.address ∷ s) t.is.whole;
               fits = (omega (arith, n.is.1, t.is.len_is), t.is.port_fits);
             });
             left_fits = t.left_fits;
@@ -113,12 +140,16 @@ pub descriptor_again : (a : Address) (left : List ℕ) → AddressFits a → des
 unfolding descriptor_at
 descriptor_again (addresses.V4 address port) left fits = address_again 4 (λ address port. addresses.V4 address port) address port left fits.0 fits.1
 descriptor_again (addresses.V6 address port) left fits = address_again 16 (λ address port. addresses.V6 address port) address port left fits.0 fits.1
-descriptor_again (addresses.Tor2 address port) left fits = address_again 10 (λ address port. addresses.Tor2 address port) address port left fits.0 fits.1
-descriptor_again (addresses.Tor3 address port) left fits = address_again 35 (λ address port. addresses.Tor3 address port) address port left fits.0 fits.1
+descriptor_again (addresses.Tor2 address port) left fits =
+    address_again 10 (λ address port. addresses.Tor2 address port) address port left fits.0 fits.1
+descriptor_again (addresses.Tor3 address port) left fits =
+    address_again 35 (λ address port. addresses.Tor3 address port) address port left fits.0 fits.1
 descriptor_again (addresses.Name hostname port) left fits =
     let number = number_field w8 wide8 in
     let one_byte : length hostname % 256 ≡ length hostname = omega (arith, fits.0) in
-    let front = number.again (length hostname) (length hostname ∷ []) ((hostname ++ to_be_bytes w16 port) ++ left) (ap (λ (b : ℕ). b ∷ []) (sym one_byte), fits.0) in
+    let front =
+    number.again (length hostname) (length hostname ∷ []) ((hostname ++ to_be_bytes w16 port) ++ left)
+    (ap (λ (b : ℕ). b ∷ []) (sym one_byte), fits.0) in
     rw front (address_again (length hostname) (λ hostname port. addresses.Name hostname port) hostname port left refl fits.1)
 
 -- ---- the descriptors that bytes begin with
@@ -132,12 +163,17 @@ fits-push : (l : List Address) (a : Address) → AllByRecursion AddressFits l �
 fits-push [] a all one = (one, tt)
 fits-push (x ∷ xs) a all one = (all.0, fits-push xs a all.1 one)
 
-pub goes_on : (l : List Address) (bytes left : List ℕ) (a : Address) (after : List ℕ) → IsBytes bytes → IsRead l bytes left → descriptor_at left ≡ Ok (a, after) → IsRead (l ++ a ∷ []) bytes after
+pub goes_on : (l : List Address) (bytes left : List ℕ) (a : Address) (after : List ℕ) → IsBytes bytes
+    → IsRead l bytes left → descriptor_at left ≡ Ok (a, after) → IsRead (l ++ a ∷ []) bytes after
 goes_on l bytes left a after fits read e =
     let t = descriptor_takes left (a, after) (IsBytes-back bytes (flat_map descriptor l) left read.whole fits) e in
     record {
       fits = fits-push l a read.fits t.is.fits;
-      whole = read.whole ∙ ap (λ (s : List ℕ). flat_map descriptor l ++ s) (t.parts ∙ ap (λ (s : List ℕ). s ++ after) t.is.whole) ∙ sym (append_assoc (flat_map descriptor l) (descriptor a) after) ∙ ap (λ (s : List ℕ). s ++ after) (sym (flat_map-append descriptor l (a ∷ []) ∙ ap (λ (s : List ℕ). flat_map descriptor l ++ s) (flat_map-cons descriptor a [] ∙ append-nil (descriptor a))));
+      whole =
+          read.whole ∙ ap (λ (s : List ℕ). flat_map descriptor l ++ s) (t.parts ∙ ap (λ (s : List ℕ). s
+          ++ after) t.is.whole) ∙ sym (append_assoc (flat_map descriptor l) (descriptor a) after)
+          ∙ ap (λ (s : List ℕ). s ++ after) (sym (flat_map-append descriptor l (a ∷ []) ∙ ap (λ (s : List ℕ).
+          flat_map descriptor l ++ s) (flat_map-cons descriptor a [] ∙ append-nil (descriptor a))));
     }
 
 descriptor_len : (a : Address) → 0 < length (descriptor a)
@@ -147,23 +183,34 @@ descriptor_len (addresses.Tor2 address port) = omega arith
 descriptor_len (addresses.Tor3 address port) = omega arith
 descriptor_len (addresses.Name hostname port) = omega arith
 
-pub shrinks : (l : List Address) (bytes left : List ℕ) (a : Address) (after : List ℕ) → IsBytes bytes → IsRead l bytes left → descriptor_at left ≡ Ok (a, after) → length after < length left
+pub shrinks : (l : List Address) (bytes left : List ℕ) (a : Address) (after : List ℕ) → IsBytes bytes
+    → IsRead l bytes left → descriptor_at left ≡ Ok (a, after) → length after < length left
 shrinks l bytes left a after fits read e =
     let t = descriptor_takes left (a, after) (IsBytes-back bytes (flat_map descriptor l) left read.whole fits) e in
     omega (arith, ap length (t.parts ∙ ap (λ (s : List ℕ). s ++ after) t.is.whole), length-append (descriptor a) after, descriptor_len a)
 
-both_begin : (l m : List Address) (left other : List ℕ) (f : DecodeFault) → AllByRecursion AddressFits l → AllByRecursion AddressFits m → descriptor_at left ≡ Err f → flat_map descriptor l ++ left ≡ flat_map descriptor m ++ other → (more : List Address) × (l ≡ m ++ more)
+both_begin : (l m : List Address) (left other : List ℕ) (f : DecodeFault) → AllByRecursion AddressFits l
+    → AllByRecursion AddressFits m → descriptor_at left ≡ Err f
+    → flat_map descriptor l ++ left ≡ flat_map descriptor m ++ other → (more : List Address) × (l ≡ m ++ more)
 both_begin l [] left other f l_fits m_fits ended e = (l, refl)
 both_begin [] (a ∷ m) left other f l_fits m_fits ended e =
-    let parts : left ≡ descriptor a ++ (flat_map descriptor m ++ other) = e ∙ ap (λ (s : List ℕ). s ++ other) (flat_map-cons descriptor a m) ∙ append_assoc (descriptor a) (flat_map descriptor m) other in
+    let parts : left ≡ descriptor a ++ (flat_map descriptor m ++ other) =
+    e ∙ ap (λ (s : List ℕ). s ++ other) (flat_map-cons descriptor a m)
+    ∙ append_assoc (descriptor a) (flat_map descriptor m) other in
     let bad = sym ended ∙ ap descriptor_at parts ∙ descriptor_again a (flat_map descriptor m ++ other) m_fits.0 in
     absurd cc
 both_begin (x ∷ l) (a ∷ m) left other f l_fits m_fits ended e =
-    let l_parts : flat_map descriptor (x ∷ l) ++ left ≡ descriptor x ++ (flat_map descriptor l ++ left) = ap (λ (s : List ℕ). s ++ left) (flat_map-cons descriptor x l) ∙ append_assoc (descriptor x) (flat_map descriptor l) left in
-    let m_parts : flat_map descriptor (a ∷ m) ++ other ≡ descriptor a ++ (flat_map descriptor m ++ other) = ap (λ (s : List ℕ). s ++ other) (flat_map-cons descriptor a m) ∙ append_assoc (descriptor a) (flat_map descriptor m) other in
+    let l_parts : flat_map descriptor (x ∷ l) ++ left ≡ descriptor x ++ (flat_map descriptor l ++ left) =
+    ap (λ (s : List ℕ). s ++ left) (flat_map-cons descriptor x l)
+    ∙ append_assoc (descriptor x) (flat_map descriptor l) left in
+    let m_parts : flat_map descriptor (a ∷ m) ++ other ≡ descriptor a ++ (flat_map descriptor m ++ other) =
+    ap (λ (s : List ℕ). s ++ other) (flat_map-cons descriptor a m)
+    ∙ append_assoc (descriptor a) (flat_map descriptor m) other in
     let l_read = descriptor_again x (flat_map descriptor l ++ left) l_fits.0 in
     let m_read = descriptor_again a (flat_map descriptor m ++ other) m_fits.0 in
-    let same = ok_is (x, flat_map descriptor l ++ left) (a, flat_map descriptor m ++ other) (sym l_read ∙ ap descriptor_at (sym l_parts ∙ e ∙ m_parts) ∙ m_read) in
+    let same =
+    ok_is (x, flat_map descriptor l ++ left) (a, flat_map descriptor m ++ other)
+    (sym l_read ∙ ap descriptor_at (sym l_parts ∙ e ∙ m_parts) ∙ m_read) in
     let first : x ≡ a = ap (λ (p : Address × List ℕ). p.0) same in
     let others = both_begin l m left other f l_fits.1 m_fits.1 ended (ap (λ (p : Address × List ℕ). p.1) same) in
     (others.0, ap (λ (y : Address). y ∷ l) first ∙ ap (λ (ys : List Address). a ∷ ys) others.1)

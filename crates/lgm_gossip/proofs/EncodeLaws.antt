@@ -1,5 +1,6 @@
 -- Parts that say the fields of a message, and what joining them gives.
-use Rattle.std.proofs.Common.{◌≡◌, ℕ, ◌^◌, ◌<◌, ◌≤◌, ◌↔◌, List, [], ◌∷◌, ◌++◌, length, Bor, Some, None, Result, Ok, Err, refl, sym, ap, subst, ◌∙◌, append_assoc, arith, inl, inr}
+use Rattle.std.proofs.Common.{◌≡◌, ℕ, ◌^◌, ◌<◌, ◌≤◌, ◌↔◌, List, [], ◌∷◌, ◌++◌, length, Bor, Some, None, Result}
+use Rattle.std.proofs.Common.{Ok, Err, refl, sym, ap, subst, ◌∙◌, append_assoc, arith, inl, inr}
 use Rattle.std.specs.Prelude.{IfOk}
 use Rattle.std.specs.List.{flat_map, AllByRecursion}
 use Rattle.std.specs.Int.{w8, w16, w32, w64, to_be_bytes}
@@ -29,7 +30,8 @@ pub record Says (ps : List Part) (F : Field) : Type 0 where
   pub is : AllByRecursion PartFits ps → F.Is (texts ps)
 
 -- a part that is one field
-pub then_part : {p : Part} {ps : List Part} {t : List ℕ} {F : List ℕ → Type 0} {G : Field} → text p ≡ t → (PartFits p → F (text p)) → Says ps G → Says (p ∷ ps) (record { Is = F; texts = t ∷ [] } ⌢ G)
+pub then_part : {p : Part} {ps : List Part} {t : List ℕ} {F : List ℕ → Type 0} {G : Field} → text p ≡ t
+    → (PartFits p → F (text p)) → Says ps G → Says (p ∷ ps) (record { Is = F; texts = t ∷ [] } ⌢ G)
 then_part {p} {ps} {t} {F} {G} same is others = record {
   same = ap (λ (s : List ℕ). s ++ texts ps) same ∙ ap (λ (s : List ℕ). t ++ s) others.same;
   is = λ fits. record { front = text p; back = texts ps; whole = refl; front_is = is fits.0; back_is = others.is fits.1 };
@@ -48,13 +50,18 @@ pub then_32 : {ps : List Part} {G : Field} (n : ℕ) → Says ps G → Says (par
 then_32 {ps} {G} n others = then_part refl (λ fits. (refl, fits)) others
 
 pub then_64 : {ps : List Part} {G : Field} (n x : ℕ) → n ≡ x → Says ps G → Says (parts.Number64 n ∷ ps) (number w64 x ⌢ G)
-then_64 {ps} {G} n x same others = then_part (ap (λ (k : ℕ). to_be_bytes w64 k) same) (λ fits. (ap (λ (k : ℕ). to_be_bytes w64 k) same, subst (λ (k : ℕ). k < 2 ^ 64) same fits)) others
+then_64 {ps} {G} n x same others =
+    then_part (ap (λ (k : ℕ). to_be_bytes w64 k) same)
+    (λ fits. (ap (λ (k : ℕ). to_be_bytes w64 k) same, subst (λ (k : ℕ). k < 2 ^ 64) same fits)) others
 
 -- a length, and the part that it measures
-pub then_counted : {ps : List Part} {G : Field} (len : ℕ) (p : Part) (x : List ℕ) → text p ≡ x → len ≡ length (texts (p ∷ [])) → Says ps G → Says (parts.Number16 len ∷ p ∷ ps) (counted x ⌢ G)
+pub then_counted : {ps : List Part} {G : Field} (len : ℕ) (p : Part) (x : List ℕ) → text p ≡ x
+    → len ≡ length (texts (p ∷ [])) → Says ps G → Says (parts.Number16 len ∷ p ∷ ps) (counted x ⌢ G)
 then_counted {ps} {G} len p x text_is measured others = record {
   same =
-      ap (λ (s : List ℕ). to_be_bytes w16 len ++ (text p ++ s)) others.same ∙ sym (append_assoc (to_be_bytes w16 len) (text p) (flat_map (λ t. t) G.texts)) ∙ ap (λ (s : List ℕ). s ++ flat_map (λ t. t) G.texts) front_is;
+      ap (λ (s : List ℕ). to_be_bytes w16 len ++ (text p ++ s)) others.same
+      ∙ sym (append_assoc (to_be_bytes w16 len) (text p) (flat_map (λ t. t) G.texts))
+      ∙ ap (λ (s : List ℕ). s ++ flat_map (λ t. t) G.texts) front_is;
   is = λ fits. record {
     front = to_be_bytes w16 len ++ text p;
     back = texts ps;
@@ -75,7 +82,8 @@ pub says_rest : (p : Part) (x : List ℕ) → text p ≡ x → Says (p ∷ []) (
 says_rest p x text_is = record { same = ap (λ (s : List ℕ). s ++ []) text_is; is = λ fits. append-nil (text p) ∙ text_is }
 
 -- a length, and two parts that it measures together
-pub then_enclosed : {ps : List Part} {F : List ℕ → Type 0} {G : Field} (len : ℕ) (p q : Part) (x : List ℕ) → texts (p ∷ q ∷ []) ≡ x → len ≡ length (texts (p ∷ q ∷ [])) → (PartFits q → F x) → Says ps G
+pub then_enclosed : {ps : List Part} {F : List ℕ → Type 0} {G : Field} (len : ℕ) (p q : Part) (x : List ℕ)
+    → texts (p ∷ q ∷ []) ≡ x → len ≡ length (texts (p ∷ q ∷ [])) → (PartFits q → F x) → Says ps G
     → Says (parts.Number16 len ∷ p ∷ q ∷ ps) (record { Is = Encloses F; texts = counted_text x ∷ [] } ⌢ G)
 then_enclosed {ps} {F} {G} len p q x text_is measured inner others = record {
   same = all (texts ps) ∙ ap (λ (s : List ℕ). counted_text x ++ s) others.same;
@@ -96,7 +104,9 @@ then_enclosed {ps} {F} {G} len p q x text_is measured inner others = record {
 
     all : (left : List ℕ) → to_be_bytes w16 len ++ (text p ++ (text q ++ left)) ≡ counted_text x ++ left
     all left =
-        ap (λ (s : List ℕ). to_be_bytes w16 len ++ s) (sym (append_assoc (text p) (text q) left) ∙ ap (λ (s : List ℕ). s ++ left) pair_is) ∙ ap (λ (k : ℕ). to_be_bytes w16 k ++ (x ++ left)) len_is ∙ sym (append_assoc (to_be_bytes w16 (length x)) x left)
+        ap (λ (s : List ℕ). to_be_bytes w16 len ++ s) (sym (append_assoc (text p) (text q) left)
+        ∙ ap (λ (s : List ℕ). s ++ left) pair_is) ∙ ap (λ (k : ℕ). to_be_bytes w16 k
+        ++ (x ++ left)) len_is ∙ sym (append_assoc (to_be_bytes w16 (length x)) x left)
 
 -- no option, and no record
 pub says_none : {A : Type 0} {F : A → List ℕ → Type 0} (value : A → List ℕ) → Says [] (optional F value None)
@@ -106,13 +116,19 @@ says_none {A} {F} value = record {
 }
 
 -- an option as a record of type 1, behind the length of its value
-pub says_some : {A : Type 0} {F : A → List ℕ → Type 0} (value : A → List ℕ) (x : A) (len : ℕ) (qs : List Part) → texts qs ≡ value x → len ≡ length (texts qs) → (AllByRecursion PartFits qs → F x (value x))
+pub says_some : {A : Type 0} {F : A → List ℕ → Type 0} (value : A → List ℕ) (x : A) (len : ℕ) (qs : List Part)
+    → texts qs ≡ value x → len ≡ length (texts qs) → (AllByRecursion PartFits qs → F x (value x))
     → Says (parts.Big 1 ∷ parts.Big len ∷ qs) (optional F value (Some x))
 says_some {A} {F} value x len qs text_is measured inner = record {
   same = all;
   is = λ fits. record {
     records = r ∷ [];
-    stream = record { fits = (record { kind = omega arith; len = subst (λ (k : ℕ). k < 2 ^ 64) len_is fits.1.0 }, tt); rises = (tt, tt); whole = all };
+    stream =
+        record {
+          fits = (record { kind = omega arith; len = subst (λ (k : ℕ). k < 2 ^ 64) len_is fits.1.0 }, tt);
+          rises = (tt, tt);
+          whole = all;
+        };
     odd = (refl, tt);
     value = inner fits.1.1;
   };
@@ -126,7 +142,10 @@ says_some {A} {F} value x len qs text_is measured inner = record {
 
     all : bigsize_bytes 1 ++ (bigsize_bytes len ++ texts qs) ≡ flat_map (λ t. t) (record_bytes (record { kind = 1; value = value x }) ∷ [])
     all =
-        ap (λ (s : List ℕ). bigsize_bytes 1 ++ (bigsize_bytes len ++ s)) text_is ∙ ap (λ (k : ℕ). bigsize_bytes 1 ++ (bigsize_bytes k ++ value x)) len_is ∙ sym (append_assoc (bigsize_bytes 1) (bigsize_bytes (length (value x))) (value x)) ∙ sym (append-nil (record_bytes (record { kind = 1; value = value x })))
+        ap (λ (s : List ℕ). bigsize_bytes 1 ++ (bigsize_bytes len ++ s)) text_is
+        ∙ ap (λ (k : ℕ). bigsize_bytes 1 ++ (bigsize_bytes k ++ value x)) len_is
+        ∙ sym (append_assoc (bigsize_bytes 1) (bigsize_bytes (length (value x))) (value x))
+        ∙ sym (append-nil (record_bytes (record { kind = 1; value = value x })))
 
 -- nothing behind the last field
 pub says_nothing : Says [] dropped
@@ -141,7 +160,8 @@ pub record Joins (ps : List Part) (r : Result (List ℕ) EncodeFault) : Type 0 w
 abbrev done : List ℕ → Result (List ℕ) EncodeFault
 done bytes = Ok bytes
 
-pub encodes : {ps : List Part} {F : Field} (kind : ℕ) (r : Result (List ℕ) EncodeFault) → Says ps F → Joins (parts.Number16 kind ∷ ps) r → Encodes kind F r
+pub encodes : {ps : List Part} {F : Field} (kind : ℕ) (r : Result (List ℕ) EncodeFault) → Says ps F
+    → Joins (parts.Number16 kind ∷ ps) r → Encodes kind F r
 encodes {ps} {F} kind (Ok b) says joins =
     let same : texts (parts.Number16 kind ∷ ps) ≡ typed kind F.texts = ap (λ (s : List ℕ). to_be_bytes w16 kind ++ s) says.same in
     record {
@@ -167,30 +187,43 @@ encodes {ps} {F} kind (Err e) says joins =
     failed e = Err e
 
 pub two_parts : (p q : Part) (x y : List ℕ) → text p ≡ x → text q ≡ y → texts (p ∷ q ∷ []) ≡ x ++ y
-two_parts p q x y first second = ap (λ (s : List ℕ). text p ++ s) (append-nil (text q)) ∙ ap (λ (s : List ℕ). s ++ text q) first ∙ ap (λ (s : List ℕ). x ++ s) second
+two_parts p q x y first second =
+    ap (λ (s : List ℕ). text p ++ s) (append-nil (text q)) ∙ ap (λ (s : List ℕ). s ++ text q) first
+    ∙ ap (λ (s : List ℕ). x ++ s) second
 
 -- ---- ids, and the options of each message
 
-pub then_ids : {ps : List Part} {G : Field} (len : ℕ) (b : Bor (List ℕ)) (ids : List ℕ) → b.now ≡ ids → len ≡ length (texts (parts.Number8 0 ∷ parts.Ids b ∷ [])) → Says ps G
+pub then_ids : {ps : List Part} {G : Field} (len : ℕ) (b : Bor (List ℕ)) (ids : List ℕ) → b.now ≡ ids
+    → len ≡ length (texts (parts.Number8 0 ∷ parts.Ids b ∷ [])) → Says ps G
     → Says (parts.Number16 len ∷ parts.Number8 0 ∷ parts.Ids b ∷ ps) (encoded_ids ids ⌢ G)
 then_ids {ps} {G} len b ids same measured others =
-    then_enclosed len (parts.Number8 0) (parts.Ids b) (ids_text ids) (two_parts (parts.Number8 0) (parts.Ids b) (0 ∷ []) (flat_map (to_be_bytes w64) ids) refl (ap (λ (xs : List ℕ). flat_map (to_be_bytes w64) xs) same)) measured
+    then_enclosed len (parts.Number8 0) (parts.Ids b) (ids_text ids)
+    (two_parts (parts.Number8 0) (parts.Ids b) (0 ∷ []) (flat_map (to_be_bytes w64) ids) refl
+    (ap (λ (xs : List ℕ). flat_map (to_be_bytes w64) xs) same)) measured
     (λ fits. record { fits = subst (λ (xs : List ℕ). AllByRecursion (λ id. id < 2 ^ 64) xs) same fits; spelled = inl refl }) others
 
-pub says_flags : (count len : ℕ) (b : Bor (List ℕ)) (flags : List ℕ) → b.now ≡ flags → length flags ≡ count → len ≡ length (texts (parts.Number8 0 ∷ parts.Bigs b ∷ []))
+pub says_flags : (count len : ℕ) (b : Bor (List ℕ)) (flags : List ℕ) → b.now ≡ flags → length flags ≡ count
+    → len ≡ length (texts (parts.Number8 0 ∷ parts.Bigs b ∷ []))
     → Says (parts.Big 1 ∷ parts.Big len ∷ parts.Number8 0 ∷ parts.Bigs b ∷ []) (optional (IsQueryFlags count) flags_text (Some flags))
 says_flags count len b flags same one_each measured =
-    says_some flags_text flags len (parts.Number8 0 ∷ parts.Bigs b ∷ []) (two_parts (parts.Number8 0) (parts.Bigs b) (0 ∷ []) (flat_map bigsize_bytes flags) refl (ap (λ (xs : List ℕ). flat_map bigsize_bytes xs) same)) measured
+    says_some flags_text flags len (parts.Number8 0 ∷ parts.Bigs b ∷ [])
+    (two_parts (parts.Number8 0) (parts.Bigs b) (0 ∷ []) (flat_map bigsize_bytes flags) refl
+    (ap (λ (xs : List ℕ). flat_map bigsize_bytes xs) same)) measured
     (λ fits. record { fits = subst (λ (xs : List ℕ). AllByRecursion (λ f. f < 2 ^ 64) xs) same fits.1.0; one_each = one_each; spelled = refl })
 
-pub says_options : (len v : ℕ) → len ≡ length (bigsize_bytes v) → Says (parts.Big 1 ∷ parts.Big len ∷ parts.Big v ∷ []) (optional IsBigSize bigsize_bytes (Some v))
+pub says_options : (len v : ℕ) → len ≡ length (bigsize_bytes v)
+    → Says (parts.Big 1 ∷ parts.Big len ∷ parts.Big v ∷ []) (optional IsBigSize bigsize_bytes (Some v))
 says_options len v measured =
-    says_some bigsize_bytes v len (parts.Big v ∷ []) (append-nil (bigsize_bytes v)) (measured ∙ ap length (sym (append-nil (bigsize_bytes v)))) (λ fits. (fits.0, refl))
+    says_some bigsize_bytes v len (parts.Big v ∷ []) (append-nil (bigsize_bytes v))
+    (measured ∙ ap length (sym (append-nil (bigsize_bytes v)))) (λ fits. (fits.0, refl))
 
-pub says_pairs : (count len : ℕ) (b : Bor (List Timestamps)) (pairs : List Timestamps) → b.now ≡ pairs → length pairs ≡ count → len ≡ length (texts (parts.Number8 0 ∷ parts.Pairs b ∷ []))
+pub says_pairs : (count len : ℕ) (b : Bor (List Timestamps)) (pairs : List Timestamps) → b.now ≡ pairs
+    → length pairs ≡ count → len ≡ length (texts (parts.Number8 0 ∷ parts.Pairs b ∷ []))
     → Says (parts.Big 1 ∷ parts.Big len ∷ parts.Number8 0 ∷ parts.Pairs b ∷ []) (optional (IsTimestampList count) pairs_text (Some pairs))
 says_pairs count len b pairs same one_each measured =
-    says_some pairs_text pairs len (parts.Number8 0 ∷ parts.Pairs b ∷ []) (two_parts (parts.Number8 0) (parts.Pairs b) (0 ∷ []) (flat_map pair_bytes pairs) refl (ap (λ (xs : List Timestamps). flat_map pair_bytes xs) same)) measured
+    says_some pairs_text pairs len (parts.Number8 0 ∷ parts.Pairs b ∷ [])
+    (two_parts (parts.Number8 0) (parts.Pairs b) (0 ∷ []) (flat_map pair_bytes pairs) refl
+    (ap (λ (xs : List Timestamps). flat_map pair_bytes xs) same)) measured
     (λ fits. record { fits = subst (λ (xs : List Timestamps). AllByRecursion PairFits xs) same fits.1.0; one_each = one_each; spelled = refl })
 
 -- what spells the message is read as it

@@ -1,5 +1,6 @@
 -- Fields: what is read is spelled so, and what is spelled so is read.
-use Rattle.std.proofs.Common.{◌≡◌, ℕ, ◌%◌, ◌^◌, ◌<◌, ◌≤◌, Bool, true, false, cond, ltb, List, [], ◌∷◌, ◌++◌, length, get_or, take, drop, Result, Ok, Err, refl, sym, ap, subst, ◌∙◌, append_assoc, arith}
+use Rattle.std.proofs.Common.{◌≡◌, ℕ, ◌%◌, ◌^◌, ◌<◌, ◌≤◌, Bool, true, false, cond, ltb, List, [], ◌∷◌, ◌++◌, length}
+use Rattle.std.proofs.Common.{get_or, take, drop, Result, Ok, Err, refl, sym, ap, subst, ◌∙◌, append_assoc, arith}
 use Rattle.std.specs.Int.{Width, w8, w16, byte_len, from_be_bytes, to_be_bytes}
 use Rattle.std.proofs.lemmas.Bool.{ltb-false, le-ltb}
 use Rattle.std.proofs.lemmas.List.{take_at, drop_at, take-append-drop, length-append, length-take}
@@ -58,7 +59,11 @@ number_field w wide = record {
       subst (λ (y : ℕ × List ℕ). Takes (number w y.0).Is bytes y.1) g.1 (record {
         text = front;
         parts = sym (take-append-drop (byte_len w) bytes);
-        is = (sym (wide.back front (omega (arith, length-take (byte_len w) bytes)) (IsBytes-take (byte_len w) bytes fits)), wide.below front (IsBytes-take (byte_len w) bytes fits));
+        is = (
+          sym (wide.back front (omega (arith, length-take (byte_len w) bytes))
+              (IsBytes-take (byte_len w) bytes fits)),
+          wide.below front (IsBytes-take (byte_len w) bytes fits),
+        );
         left_fits = IsBytes-drop (byte_len w) bytes fits;
       });
   again = λ x text left is.
@@ -92,12 +97,18 @@ counted_field =
           record {
             text = t.text ++ u.text;
             parts = t.parts ∙ ap (λ (s : List ℕ). t.text ++ s) u.parts ∙ sym (append_assoc t.text u.text x.1);
-            is = (ap (λ (s : List ℕ). s ++ u.text) t.is.0 ∙ ap (λ (s : List ℕ). to_be_bytes w16 a.0.0 ++ s) u.is.0 ∙ ap (λ (k : ℕ). to_be_bytes w16 k ++ x.0) (sym u.is.1), omega (arith, u.is.1, t.is.1));
+            is = (
+              ap (λ (s : List ℕ). s ++ u.text) t.is.0 ∙ ap (λ (s : List ℕ). to_be_bytes w16 a.0.0
+                  ++ s) u.is.0 ∙ ap (λ (k : ℕ). to_be_bytes w16 k ++ x.0) (sym u.is.1),
+              omega (arith, u.is.1, t.is.1),
+            );
             left_fits = u.left_fits;
           };
       again = λ x text left is.
           let field = fixed_field (length x) in
-          ap (λ (s : List ℕ). counted_at (s ++ left)) is.0 ∙ ap counted_at (append_assoc (to_be_bytes w16 (length x)) x left) ∙ rw (prefix.again (length x) (to_be_bytes w16 (length x)) (x ++ left) (refl, is.1)) (field.again x x left (refl, refl));
+          ap (λ (s : List ℕ). counted_at (s ++ left)) is.0
+          ∙ ap counted_at (append_assoc (to_be_bytes w16 (length x)) x left) ∙ rw (prefix.again (length x)
+          (to_be_bytes w16 (length x)) (x ++ left) (refl, is.1)) (field.again x x left (refl, refl));
     }
 
 pub rest_field : IsLast rest_at (λ x. (rest x).Is)
@@ -112,7 +123,8 @@ pub record IsText {M : Type 0} (at : List ℕ → Result M DecodeFault) (Fields 
   pub again : (m : M) (bytes : List ℕ) → Fields m bytes → at bytes ≡ Ok m
 
 -- a value behind two bytes of its length
-pub enclosed_field : {A : Type 0} {read : List ℕ → Result A DecodeFault} {F : A → List ℕ → Type 0} → IsText read F → IsField (enclosed_at read) (λ x. Encloses (F x))
+pub enclosed_field : {A : Type 0} {read : List ℕ → Result A DecodeFault} {F : A → List ℕ → Type 0}
+    → IsText read F → IsField (enclosed_at read) (λ x. Encloses (F x))
 enclosed_field {A} {read} {F} law = record {
   takes = λ bytes x fits e.
       let a = bind_ok (counted_at bytes) (λ text. read text.0 >>= λ y. Ok (y, text.1)) x e in

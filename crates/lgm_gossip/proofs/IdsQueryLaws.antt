@@ -23,5 +23,6 @@ ids_query_text = all_reads
 pub one_each : (m : Query) (b : List ℕ) → (fields m).Is b → ForSome m.flags (λ flags. length flags ≡ length m.ids)
 one_each m b is = optional_for (λ flags. length flags ≡ length m.ids) (λ flags text is. is.one_each) m.flags is.back_is.back is.back_is.back_is
 
-pub same_count : (m n : ℕ) (b : List ℕ) (r : Result (Option (List ℕ)) DecodeFault) → m ≡ n → optional_of (query_flags_at m) b ≡ r → optional_of (query_flags_at n) b ≡ r
+pub same_count : (m n : ℕ) (b : List ℕ) (r : Result (Option (List ℕ)) DecodeFault) → m ≡ n
+    → optional_of (query_flags_at m) b ≡ r → optional_of (query_flags_at n) b ≡ r
 same_count m n b r same e = subst (λ (k : ℕ). optional_of (query_flags_at k) b ≡ r) same e

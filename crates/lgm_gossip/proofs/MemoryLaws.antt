@@ -17,7 +17,8 @@ use Rattle.lgm_gossip.specs.Memory.{GivesIf}
 use Rattle.lgm_gossip.proofs.WireLaws.{chosen, bind_ok, ok_is, two_bytes}
 
 -- what is asked for aside
-pub gives : {X Y E : Type 0} (asks : Type 0) (no_memory : E) (view : X → Y) (r : Result X E) (read : Result Y E) → GivesIf asks no_memory view r read → Gives no_memory view r read
+pub gives : {X Y E : Type 0} (asks : Type 0) (no_memory : E) (view : X → Y) (r : Result X E)
+    (read : Result Y E) → GivesIf asks no_memory view r read → Gives no_memory view r read
 gives asks no_memory view (Ok x) read given = given
 gives asks no_memory view (Err e) read given =
     elim given [
@@ -26,7 +27,8 @@ gives asks no_memory view (Err e) read given =
     ]
 
 -- where nothing is asked for, the result is what reading gives
-pub sees_or : {X Y E : Type 0} (asks : Type 0) (no_memory : E) (view : X → Y) (r : Result X E) (read : Result Y E) → GivesIf asks no_memory view r read → Sees view r read ⊎ asks
+pub sees_or : {X Y E : Type 0} (asks : Type 0) (no_memory : E) (view : X → Y) (r : Result X E)
+    (read : Result Y E) → GivesIf asks no_memory view r read → Sees view r read ⊎ asks
 sees_or asks no_memory view (Ok x) read given = inl given
 sees_or asks no_memory view (Err e) read given =
     elim given [
@@ -77,7 +79,8 @@ counted_len bytes x e =
     let n = bind_ok (number_at w16 bytes) (λ n. fixed_at n.0 n.1) x e in
     omega (arith, number_len w16 bytes n.0 n.1, fixed_len n.0.0 n.0.1 x n.2)
 
-pub enclosed_len : {A : Type 0} (read : List ℕ → Result A DecodeFault) (bytes : List ℕ) (x : A × List ℕ) → enclosed_at read bytes ≡ Ok x → 2 + length x.1 ≤ length bytes
+pub enclosed_len : {A : Type 0} (read : List ℕ → Result A DecodeFault) (bytes : List ℕ) (x : A × List ℕ)
+    → enclosed_at read bytes ≡ Ok x → 2 + length x.1 ≤ length bytes
 enclosed_len {A} read bytes x e =
     let text = bind_ok (counted_at bytes) (λ text. read text.0 >>= λ y. Ok (y, text.1)) x e in
     let value = bind_ok (read text.0.0) (λ y. Ok (y, text.0.1)) x text.2 in

@@ -1,5 +1,6 @@
 -- The laws of messages: what is read is spelled so, and what is spelled so is read.
-use Rattle.std.proofs.Common.{◌≡◌, ℕ, ◌+◌, ◌*◌, ◌/◌, ◌%◌, ◌<◌, ◌≤◌, false, cond, eqb, ltb, List, [], ◌∷◌, ◌++◌, length, None, Result, Ok, Err, refl, ap, sym, subst, ◌∙◌, arith, inl, inr}
+use Rattle.std.proofs.Common.{◌≡◌, ℕ, ◌+◌, ◌*◌, ◌/◌, ◌%◌, ◌<◌, ◌≤◌, false, cond, eqb, ltb, List, [], ◌∷◌, ◌++◌}
+use Rattle.std.proofs.Common.{length, None, Result, Ok, Err, refl, ap, sym, subst, ◌∙◌, arith, inl, inr}
 use Rattle.std.specs.Prelude.{IfOk, MatchResult}
 use Rattle.std.specs.Int.{w16, to_be_bytes}
 use Rattle.std.specs.Result.{result_err}
@@ -38,9 +39,12 @@ kind_bytes kind high low lt e below =
     bytes
 
 -- one line of `body_at`: the bytes behind the type were read as its message, or by the lines below
-line : {M : Type 0} {at : List ℕ → Result M DecodeFault} {F : M → Field} (law : IsText at (λ x. (F x).Is)) (variant : M → Message) (kind high low : ℕ) (body : List ℕ) (m : Message) (others : Result Message DecodeFault)
+line : {M : Type 0} {at : List ℕ → Result M DecodeFault} {F : M → Field} (law : IsText at (λ x. (F x).Is))
+    (variant : M → Message) (kind high low : ℕ) (body : List ℕ) (m : Message)
+    (others : Result Message DecodeFault)
     → kind < 512 → ((x : M) → Spells kind (F x) (high ∷ low ∷ body) → Wire (variant x) (high ∷ low ∷ body)) → IsTyped high low body
-    → cond (eqb (high * 256 + low) kind) (at body >>= λ x. Ok (variant x)) others ≡ Ok m → (others ≡ Ok m → Wire m (high ∷ low ∷ body)) → Wire m (high ∷ low ∷ body)
+    → cond (eqb (high * 256 + low) kind) (at body >>= λ x. Ok (variant x)) others ≡ Ok m
+    → (others ≡ Ok m → Wire m (high ∷ low ∷ body)) → Wire m (high ∷ low ∷ body)
 line {M} {at} {F} law variant kind high low body m others below wire typed e later =
     elim (chosen (eqb (high * 256 + low) kind) (at body >>= λ x. Ok (variant x)) others (Ok m) e) [
       | inl is ↦
@@ -63,7 +67,8 @@ unknown_line kind m e =
       | inr bad ↦ absurd cc
     ]
 
-body_takes : (high low : ℕ) (body : List ℕ) (m : Message) → IsTyped high low body → body_at (high * 256 + low) body ≡ Ok m → Wire m (high ∷ low ∷ body)
+body_takes : (high low : ℕ) (body : List ℕ) (m : Message) → IsTyped high low body
+    → body_at (high * 256 + low) body ≡ Ok m → Wire m (high ∷ low ∷ body)
 unfolding body_at
 body_takes high low body m typed e =
     line announce_text (λ x. messages.Announce x) 256 high low body m _ (omega arith) (λ x s. s) typed e (λ e.
@@ -88,10 +93,15 @@ message_takes bytes m fits e =
     typed [] b_fits short read = absurd cc
     typed (high ∷ []) b_fits short read = absurd cc
     typed (high ∷ low ∷ body) b_fits short read =
-        body_takes high low body m (record { low_fits = b_fits 1; fits = IsBytes-rest low body (IsBytes-rest high (low ∷ body) b_fits); short = short }) read
+        body_takes high low body m (record {
+          low_fits = b_fits 1;
+          fits = IsBytes-rest low body (IsBytes-rest high (low ∷ body) b_fits);
+          short = short;
+        }) read
 
 -- a message whose type and fields are read again
-typed_again : {F : Field} (kind : ℕ) (bytes : List ℕ) (s : Spells kind F bytes) (m : Message) → typed_at (to_be_bytes w16 kind ++ s.body) ≡ Ok m → message_at bytes ≡ Ok m
+typed_again : {F : Field} (kind : ℕ) (bytes : List ℕ) (s : Spells kind F bytes) (m : Message)
+    → typed_at (to_be_bytes w16 kind ++ s.body) ≡ Ok m → message_at bytes ≡ Ok m
 unfolding message_at
 typed_again kind bytes s m e =
     let short : ltb 65535 (length bytes) ≡ false = le-ltb _ _ s.len in
@@ -108,11 +118,13 @@ message_again bytes (messages.RangeQuery m) s = typed_again 263 bytes s _ (rw (r
 message_again bytes (messages.RangeReply m) s = typed_again 264 bytes s _ (rw (range_reply_text.again m s.body s.fields) refl)
 message_again bytes (messages.FilterMsg m) s = typed_again 265 bytes s _ (rw (filter_msg_text.again m s.body s.fields) refl)
 
-pub is_found : (bytes : List ℕ) (r : Result Message DecodeFault) → IsBytes bytes → Gives NoMemory (λ m. m) r (message_at bytes) → IfOk r (λ m. Wire m bytes)
+pub is_found : (bytes : List ℕ) (r : Result Message DecodeFault) → IsBytes bytes
+    → Gives NoMemory (λ m. m) r (message_at bytes) → IfOk r (λ m. Wire m bytes)
 is_found bytes (Ok m) fits given = message_takes bytes m fits given
 is_found bytes (Err e) fits given = tt
 
-pub is_only : (bytes : List ℕ) (r : Result Message DecodeFault) (m : Message) → Gives NoMemory (λ m. m) r (message_at bytes) → Wire m bytes → MatchResult r (λ found. found ≡ m) (λ e. e ≡ NoMemory)
+pub is_only : (bytes : List ℕ) (r : Result Message DecodeFault) (m : Message) → Gives NoMemory (λ m. m) r
+    (message_at bytes) → Wire m bytes → MatchResult r (λ found. found ≡ m) (λ e. e ≡ NoMemory)
 is_only bytes (Ok x) m given wire = ok_is x m (sym given ∙ message_again bytes m wire)
 is_only bytes (Err e) m given wire =
     elim given [

@@ -6,12 +6,21 @@ use Rattle.std.proofs.lemmas.List.{length-append}
 use Rattle.std.proofs.lemmas.List.Concat.{flat_map-cons}
 
 -- what stands before a place and what stands there are no longer than all of it
-pub front_len : {X : Type 0} (f : X → List ℕ) (xs : List X) (i : ℕ) (d : X) → i < length xs → length (flat_map f (take i xs)) + length (f (get_or xs i d)) ≤ length (flat_map f xs)
+pub front_len : {X : Type 0} (f : X → List ℕ) (xs : List X) (i : ℕ) (d : X) → i < length xs
+    → length (flat_map f (take i xs)) + length (f (get_or xs i d)) ≤ length (flat_map f xs)
 front_len f [] i d lt = absurd (omega arith)
 front_len f (x ∷ xs) zero d lt = omega (arith, ap length (flat_map-cons f x xs), length-append (f x) (flat_map f xs))
 front_len f (x ∷ xs) (suc i) d lt =
-    omega (arith, ap length (flat_map-cons f x xs), length-append (f x) (flat_map f xs), ap length (flat_map-cons f x (take i xs)), length-append (f x) (flat_map f (take i xs)), front_len f xs i d (omega arith))
+    omega (
+      arith,
+      ap length (flat_map-cons f x xs),
+      length-append (f x) (flat_map f xs),
+      ap length (flat_map-cons f x (take i xs)),
+      length-append (f x) (flat_map f (take i xs)),
+      front_len f xs i d (omega arith),
+    )
 
 -- room after a length, said of a number that is equal
-pub room_at : (o : Option ℕ) (room n k : ℕ) → k ≡ n → MatchOption o (room < k) (λ left. left + k ≡ room) → MatchOption o (room < n) (λ left. left + n ≡ room)
+pub room_at : (o : Option ℕ) (room n k : ℕ) → k ≡ n → MatchOption o (room < k) (λ left. left + k ≡ room)
+    → MatchOption o (room < n) (λ left. left + n ≡ room)
 room_at o room n k same is = subst (λ (m : ℕ). MatchOption o (room < m) (λ left. left + m ≡ room)) same is

@@ -1,5 +1,6 @@
 -- Query flags: what is read is spelled so, and what is spelled so is read.
-use Rattle.std.proofs.Common.{◌≡◌, ℕ, zero, suc, ◌+◌, ◌-◌, ◌^◌, ◌<◌, ◌≤◌, eqb, not, List, [], ◌∷◌, ◌++◌, length, drop, Result, Ok, Err, refl, sym, ap, subst, ◌∙◌, append_assoc, arith, inl, inr}
+use Rattle.std.proofs.Common.{◌≡◌, ℕ, zero, suc, ◌+◌, ◌-◌, ◌^◌, ◌<◌, ◌≤◌, eqb, not, List, [], ◌∷◌, ◌++◌, length}
+use Rattle.std.proofs.Common.{drop, Result, Ok, Err, refl, sym, ap, subst, ◌∙◌, append_assoc, arith, inl, inr}
 use Rattle.std.specs.List.{flat_map, AllByRecursion}
 use Rattle.std.proofs.lemmas.Bool.{eqb-true, not-false}
 use Rattle.std.proofs.lemmas.List.{append-nil}
@@ -11,7 +12,8 @@ use Rattle.lgm_gossip.specs.declared.fault.DecodeFault.TheVariants.{Encoding, Fl
 use Rattle.lgm_gossip.specs.Streams.{bigsize_bytes, bigsize_at}
 use Rattle.lgm_gossip.specs.QueryFlags.{IsQueryFlags}
 use Rattle.lgm_gossip.specs.reading.QueryFlagsReading.{or_flags, flag_at, all_flags_at, query_flags_at}
-use Rattle.lgm_gossip.proofs.WireLaws.{chosen, bind_ok, ok_is, IsBytes, IsBytes-rest, bigsize_spelled, bigsize_at-bigsize_bytes, ReadsBig, big_found, big_not_found}
+use Rattle.lgm_gossip.proofs.WireLaws.{chosen, bind_ok, ok_is, IsBytes, IsBytes-rest, bigsize_spelled}
+use Rattle.lgm_gossip.proofs.WireLaws.{bigsize_at-bigsize_bytes, ReadsBig, big_found, big_not_found}
 use Rattle.lgm_gossip.proofs.FieldLaws.{IsText}
 
 flag_ok : (r : Result (ℕ × List ℕ) WireFault) (x : ℕ × List ℕ) → or_flags r ≡ Ok x → r ≡ Ok x
@@ -26,7 +28,9 @@ record AreFlags (count : ℕ) (bytes flags : List ℕ) : Type 0 where
 
 all_flags_take : (count : ℕ) (bytes flags : List ℕ) → IsBytes bytes → all_flags_at count bytes ≡ Ok flags → AreFlags count bytes flags
 unfolding all_flags_at
-all_flags_take zero [] flags fits e = subst (λ (xs : List ℕ). AreFlags 0 [] xs) (ok_is [] flags e) (record { fits = tt; one_each = refl; whole = refl })
+all_flags_take zero [] flags fits e =
+    subst (λ (xs : List ℕ). AreFlags 0 [] xs) (ok_is [] flags e)
+    (record { fits = tt; one_each = refl; whole = refl })
 all_flags_take zero (b ∷ bs) flags fits e = absurd cc
 all_flags_take (suc count) bytes flags fits e =
     let first = bind_ok (flag_at bytes) (λ x. all_flags_at count x.1 >>= λ others. Ok (x.0 ∷ others)) flags e in
@@ -43,14 +47,17 @@ all_flags_again : (flags : List ℕ) → AllByRecursion (λ f. f < 2 ^ 64) flags
 unfolding all_flags_at
 all_flags_again [] fits = refl
 all_flags_again (f ∷ flags) fits =
-    let read : bigsize_at (flat_map bigsize_bytes (f ∷ flags)) ≡ Ok (f, flat_map bigsize_bytes flags) = ap bigsize_at (flat_map-cons bigsize_bytes f flags) ∙ bigsize_at-bigsize_bytes f (flat_map bigsize_bytes flags) fits.0 in
+    let read : bigsize_at (flat_map bigsize_bytes (f ∷ flags)) ≡ Ok (f, flat_map bigsize_bytes flags) =
+    ap bigsize_at (flat_map-cons bigsize_bytes f flags)
+    ∙ bigsize_at-bigsize_bytes f (flat_map bigsize_bytes flags) fits.0 in
     rw (read, all_flags_again flags fits.1) refl
 
 pub query_flags_text : (count : ℕ) → IsText (query_flags_at count) (IsQueryFlags count)
 query_flags_text count = record {
   takes = take;
   again = λ flags bytes is.
-      ap (query_flags_at count) is.spelled ∙ ap (λ (n : ℕ). all_flags_at n (flat_map bigsize_bytes flags)) (sym is.one_each) ∙ all_flags_again flags is.fits;
+      ap (query_flags_at count) is.spelled ∙ ap (λ (n : ℕ).
+      all_flags_at n (flat_map bigsize_bytes flags)) (sym is.one_each) ∙ all_flags_again flags is.fits;
 }
   where
     take : (bytes flags : List ℕ) → IsBytes bytes → query_flags_at count bytes ≡ Ok flags → IsQueryFlags count flags bytes
@@ -69,7 +76,8 @@ query_flags_text count = record {
 pub flag_found : (bytes : List ℕ) (v n : ℕ) → ReadsBig bytes (Ok (v, n)) → flag_at bytes ≡ Ok (v, drop n bytes)
 flag_found bytes v n reads = ap or_flags (big_found bytes v n reads)
 
-pub flag_not_found : (bytes : List ℕ) (r : Result (ℕ × ℕ) WireFault) (e : WireFault) → IsBytes bytes → r ≡ Err e → ReadsBig bytes r → flag_at bytes ≡ Err Flags
+pub flag_not_found : (bytes : List ℕ) (r : Result (ℕ × ℕ) WireFault) (e : WireFault) → IsBytes bytes
+    → r ≡ Err e → ReadsBig bytes r → flag_at bytes ≡ Err Flags
 flag_not_found bytes r e fits failed reads = ap or_flags (big_not_found bytes r e fits failed reads).1
 
 -- ---- the loop over the flags
@@ -78,19 +86,24 @@ flag_not_found bytes r e fits failed reads = ap or_flags (big_not_found bytes r 
 abbrev pub with_front : List ℕ → Result (List ℕ) DecodeFault → Result (List ℕ) DecodeFault
 with_front front read = read >>= λ others. Ok (front ++ others)
 
-regroup : (front : List ℕ) (f : ℕ) (read : Result (List ℕ) DecodeFault) → with_front front (read >>= λ others. Ok (f ∷ others)) ≡ with_front (front ++ f ∷ []) read
+regroup : (front : List ℕ) (f : ℕ) (read : Result (List ℕ) DecodeFault)
+    → with_front front (read >>= λ others. Ok (f ∷ others)) ≡ with_front (front ++ f ∷ []) read
 regroup front f (Ok others) = ap (λ (s : List ℕ). Ok s) (sym (append_assoc front (f ∷ []) others))
 regroup front f (Err e) = refl
 
-pub flag_on : (front : List ℕ) (count i : ℕ) (bytes : List ℕ) (f : ℕ) (after : List ℕ) (total : Result (List ℕ) DecodeFault) → i < count → flag_at bytes ≡ Ok (f, after)
+pub flag_on : (front : List ℕ) (count i : ℕ) (bytes : List ℕ) (f : ℕ) (after : List ℕ)
+    (total : Result (List ℕ) DecodeFault) → i < count → flag_at bytes ≡ Ok (f, after)
     → with_front front (all_flags_at (count - i) bytes) ≡ total → with_front (front ++ f ∷ []) (all_flags_at (count - (i + 1)) after) ≡ total
 unfolding all_flags_at
 flag_on front count i bytes f after total lt e so_far =
     let more : count - i ≡ suc (count - (i + 1)) = omega arith in
-    let one : with_front front (all_flags_at (count - i) bytes) ≡ with_front (front ++ f ∷ []) (all_flags_at (count - (i + 1)) after) = rw (more, e) (regroup front f (all_flags_at (count - (i + 1)) after)) in
+    let one : with_front front (all_flags_at (count - i) bytes)
+    ≡ with_front (front ++ f ∷ []) (all_flags_at (count - (i + 1)) after) =
+    rw (more, e) (regroup front f (all_flags_at (count - (i + 1)) after)) in
     sym one ∙ so_far
 
-pub flag_fails : (front : List ℕ) (count i : ℕ) (bytes : List ℕ) (fault : DecodeFault) (total : Result (List ℕ) DecodeFault) → i < count → flag_at bytes ≡ Err fault
+pub flag_fails : (front : List ℕ) (count i : ℕ) (bytes : List ℕ) (fault : DecodeFault)
+    (total : Result (List ℕ) DecodeFault) → i < count → flag_at bytes ≡ Err fault
     → with_front front (all_flags_at (count - i) bytes) ≡ total → total ≡ Err fault
 unfolding all_flags_at
 flag_fails front count i bytes fault total lt e so_far =
@@ -98,7 +111,8 @@ flag_fails front count i bytes fault total lt e so_far =
     let one : with_front front (all_flags_at (count - i) bytes) ≡ Err fault = rw (more, e) refl in
     sym so_far ∙ one
 
-pub flags_end : (front : List ℕ) (count i : ℕ) (bytes : List ℕ) (total : Result (List ℕ) DecodeFault) → count ≤ i → length bytes ≡ 0 → with_front front (all_flags_at (count - i) bytes) ≡ total → total ≡ Ok front
+pub flags_end : (front : List ℕ) (count i : ℕ) (bytes : List ℕ) (total : Result (List ℕ) DecodeFault) → count
+    ≤ i → length bytes ≡ 0 → with_front front (all_flags_at (count - i) bytes) ≡ total → total ≡ Ok front
 unfolding all_flags_at
 flags_end front count i [] total le none so_far =
     let last : count - i ≡ 0 = omega arith in
@@ -106,7 +120,9 @@ flags_end front count i [] total le none so_far =
     sym so_far ∙ one
 flags_end front count i (b ∷ bs) total le none so_far = absurd (omega arith)
 
-pub flags_left : (front : List ℕ) (count i : ℕ) (bytes : List ℕ) (total : Result (List ℕ) DecodeFault) → count ≤ i → (length bytes ≡ 0 → ⊥) → with_front front (all_flags_at (count - i) bytes) ≡ total → total ≡ Err Flags
+pub flags_left : (front : List ℕ) (count i : ℕ) (bytes : List ℕ) (total : Result (List ℕ) DecodeFault)
+    → count ≤ i → (length bytes ≡ 0 → ⊥) → with_front front (all_flags_at (count - i) bytes) ≡ total
+    → total ≡ Err Flags
 unfolding all_flags_at
 flags_left front count i [] total le some so_far = absurd (some refl)
 flags_left front count i (b ∷ bs) total le some so_far =

@@ -31,5 +31,6 @@ one_each m b is =
     let ids_on = is.back_is.back_is.back_is.back_is in
     optional_for (λ pairs. length pairs ≡ length m.ids) (λ pairs text is. is.one_each) m.timestamps ids_on.back ids_on.back_is
 
-pub same_count : (m n : ℕ) (b : List ℕ) (r : Result (Option (List Timestamps)) DecodeFault) → m ≡ n → optional_of (timestamps_at m) b ≡ r → optional_of (timestamps_at n) b ≡ r
+pub same_count : (m n : ℕ) (b : List ℕ) (r : Result (Option (List Timestamps)) DecodeFault) → m ≡ n
+    → optional_of (timestamps_at m) b ≡ r → optional_of (timestamps_at n) b ≡ r
 same_count m n b r same e = subst (λ (k : ℕ). optional_of (timestamps_at k) b ≡ r) same e

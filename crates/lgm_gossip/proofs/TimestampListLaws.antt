@@ -1,5 +1,6 @@
 -- Timestamps: what is read is spelled so, and what is spelled so is read.
-use Rattle.std.proofs.Common.{◌≡◌, ℕ, ◌*◌, ◌/◌, ◌%◌, true, cond, eqb, not, List, [], ◌∷◌, ◌++◌, length, map, take, drop, Ok, Err, refl, sym, ap, subst, ◌∙◌, arith, inl, inr}
+use Rattle.std.proofs.Common.{◌≡◌, ℕ, ◌*◌, ◌/◌, ◌%◌, true, cond, eqb, not, List, [], ◌∷◌, ◌++◌, length}
+use Rattle.std.proofs.Common.{map, take, drop, Ok, Err, refl, sym, ap, subst, ◌∙◌, arith, inl, inr}
 use Rattle.std.specs.List.{flat_map}
 use Rattle.std.specs.Int.{w32, from_be_bytes, to_be_bytes}
 use Rattle.std.specs.Simd.{first_chunks}
@@ -19,7 +20,8 @@ pair_cell = record {
   back = λ bytes len fits.
       let first = wide32.back (take 4 bytes) (omega (arith, length-take 4 bytes, len)) (IsBytes-take 4 bytes fits) in
       let second = wide32.back (drop 4 bytes) (omega (arith, length-drop 4 bytes, len)) (IsBytes-drop 4 bytes fits) in
-      ap (λ (s : List ℕ). s ++ to_be_bytes w32 (from_be_bytes w32 (drop 4 bytes))) first ∙ ap (λ (s : List ℕ). take 4 bytes ++ s) second ∙ take-append-drop 4 bytes;
+      ap (λ (s : List ℕ). s ++ to_be_bytes w32 (from_be_bytes w32 (drop 4 bytes))) first
+      ∙ ap (λ (s : List ℕ). take 4 bytes ++ s) second ∙ take-append-drop 4 bytes;
   fits = λ bytes len fits. record {
     node_1 = wide32.below (take 4 bytes) (IsBytes-take 4 bytes fits);
     node_2 = wide32.below (drop 4 bytes) (IsBytes-drop 4 bytes fits);
@@ -39,27 +41,31 @@ pair_cell = record {
 abbrev pairs_in : List ℕ → List Timestamps
 pairs_in left = map pair_of (first_chunks 8 (length left / 8) left)
 
-timestamps_take : (count : ℕ) (bytes : List ℕ) (pairs : List Timestamps) → IsBytes bytes → timestamps_at count bytes ≡ Ok pairs → IsTimestampList count pairs bytes
+timestamps_take : (count : ℕ) (bytes : List ℕ) (pairs : List Timestamps) → IsBytes bytes
+    → timestamps_at count bytes ≡ Ok pairs → IsTimestampList count pairs bytes
 timestamps_take count [] pairs fits e = absurd cc
 timestamps_take count (first ∷ left) pairs fits e =
-    elim (chosen (not (eqb first 0)) (Err (Encoding first)) (cond (not (eqb (length left / 8) count)) (Err (TlvKind 1)) (cond (not (eqb (length left % 8) 0)) (Err (TlvKind 1)) (Ok (pairs_in left)))) (Ok pairs) e) [
+    elim (chosen (not (eqb first 0)) (Err (Encoding first)) (cond (not (eqb (length left / 8) count))
+    (Err (TlvKind 1)) (cond (not (eqb (length left % 8) 0)) (Err (TlvKind 1)) (Ok (pairs_in left))))
+    (Ok pairs) e) [
       | inl bad ↦ absurd cc
-      | inr zeroed ↦ elim (chosen (not (eqb (length left / 8) count)) (Err (TlvKind 1)) (cond (not (eqb (length left % 8) 0)) (Err (TlvKind 1)) (Ok (pairs_in left))) (Ok pairs) zeroed.1) [
-        | inl bad ↦ absurd cc
-        | inr counted ↦ elim (chosen (not (eqb (length left % 8) 0)) (Err (TlvKind 1)) (Ok (pairs_in left)) (Ok pairs) counted.1) [
-          | inl bad ↦ absurd cc
-          | inr whole ↦
-              let zero_is : first ≡ 0 = eqb-true first 0 (not-false (eqb first 0) zeroed.0) in
-              let count_is : length left / 8 ≡ count = eqb-true (length left / 8) count (not-false (eqb (length left / 8) count) counted.0) in
-              let even : length left % 8 ≡ 0 = eqb-true (length left % 8) 0 (not-false (eqb (length left % 8) 0) whole.0) in
-              let cells = cells_take pair_cell (length left / 8) left (omega arith) (IsBytes-rest first left fits) in
-              subst (λ (xs : List Timestamps). IsTimestampList count xs (first ∷ left)) (ok_is (pairs_in left) pairs whole.1) (record {
-                fits = cells.fits;
-                one_each = cells.count_is ∙ count_is;
-                spelled = ap (λ (b : ℕ). b ∷ left) zero_is ∙ ap (λ (s : List ℕ). 0 ∷ s) cells.whole;
-              })
-        ]
-      ]
+      | inr zeroed ↦ elim (chosen (not (eqb (length left / 8) count)) (Err (TlvKind 1))
+          (cond (not (eqb (length left % 8) 0)) (Err (TlvKind 1)) (Ok (pairs_in left))) (Ok pairs) zeroed.1) [
+            | inl bad ↦ absurd cc
+            | inr counted ↦ elim (chosen (not (eqb (length left % 8) 0)) (Err (TlvKind 1)) (Ok (pairs_in left)) (Ok pairs) counted.1) [
+              | inl bad ↦ absurd cc
+              | inr whole ↦
+                  let zero_is : first ≡ 0 = eqb-true first 0 (not-false (eqb first 0) zeroed.0) in
+                  let count_is : length left / 8 ≡ count = eqb-true (length left / 8) count (not-false (eqb (length left / 8) count) counted.0) in
+                  let even : length left % 8 ≡ 0 = eqb-true (length left % 8) 0 (not-false (eqb (length left % 8) 0) whole.0) in
+                  let cells = cells_take pair_cell (length left / 8) left (omega arith) (IsBytes-rest first left fits) in
+                  subst (λ (xs : List Timestamps). IsTimestampList count xs (first ∷ left)) (ok_is (pairs_in left) pairs whole.1) (record {
+                    fits = cells.fits;
+                    one_each = cells.count_is ∙ count_is;
+                    spelled = ap (λ (b : ℕ). b ∷ left) zero_is ∙ ap (λ (s : List ℕ). 0 ∷ s) cells.whole;
+                  })
+            ]
+          ]
     ]
 
 some_again : (count : ℕ) (left : List ℕ) → length left ≡ count * 8 → timestamps_at count (0 ∷ left) ≡ Ok (map pair_of (first_chunks 8 count left))
@@ -74,5 +80,7 @@ timestamps_text count = record {
   takes = timestamps_take count;
   again = λ pairs bytes is.
       let len : length (flat_map pair_bytes pairs) ≡ count * 8 = cells_len pair_cell pairs ∙ ap (λ (n : ℕ). n * 8) is.one_each in
-      ap (timestamps_at count) is.spelled ∙ some_again count (flat_map pair_bytes pairs) len ∙ ap (λ (n : ℕ). Ok (map pair_of (first_chunks 8 n (flat_map pair_bytes pairs)))) (sym is.one_each) ∙ ap (λ (xs : List Timestamps). Ok xs) (cells_again pair_cell pairs is.fits);
+      ap (timestamps_at count) is.spelled ∙ some_again count (flat_map pair_bytes pairs) len
+      ∙ ap (λ (n : ℕ). Ok (map pair_of (first_chunks 8 n (flat_map pair_bytes pairs)))) (sym is.one_each)
+      ∙ ap (λ (xs : List Timestamps). Ok xs) (cells_again pair_cell pairs is.fits);
 }

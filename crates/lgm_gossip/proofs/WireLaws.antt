@@ -26,8 +26,11 @@ values_fit [] bytes fits e = tt
 values_fit (r ∷ rs) bytes fits e =
     let parts = e ∙ flat_map-cons record_bytes r rs in
     let front = IsBytes-front bytes (record_bytes r) (flat_map record_bytes rs) parts fits in
-    let left = IsBytes-back bytes (record_bytes r) (flat_map record_bytes rs) parts fits in
-    (IsBytes-back (record_bytes r) (bigsize_bytes r.kind ++ bigsize_bytes (length r.value)) r.value refl front, values_fit rs (flat_map record_bytes rs) left refl)
+    let left = IsBytes-back bytes (record_bytes r) (flat_map record_bytes rs) parts fits in (
+      IsBytes-back (record_bytes r) (bigsize_bytes r.kind ++ bigsize_bytes (length r.value))
+          r.value refl front,
+      values_fit rs (flat_map record_bytes rs) left refl,
+    )
 
 -- what the clause of `read_bigsize` says of the reading of lists
 abbrev pub ReadsBig : List ℕ → Result (ℕ × ℕ) WireFault → Type 0
@@ -42,7 +45,8 @@ big_found bytes v n reads =
 abbrev no_number : WireFault → Result (ℕ × ℕ) WireFault
 no_number e = Err e
 
-pub big_not_found : (bytes : List ℕ) (result : Result (ℕ × ℕ) WireFault) (e : WireFault) → IsBytes bytes → result ≡ Err e → ReadsBig bytes result → (f : WireFault) × (bigsize_at bytes ≡ Err f)
+pub big_not_found : (bytes : List ℕ) (result : Result (ℕ × ℕ) WireFault) (e : WireFault) → IsBytes bytes
+    → result ≡ Err e → ReadsBig bytes result → (f : WireFault) × (bigsize_at bytes ≡ Err f)
 big_not_found bytes result e fits failed reads = cases (bigsize_at bytes) refl
   where
     cases : (r : Result (ℕ × List ℕ) WireFault) → bigsize_at bytes ≡ r → (f : WireFault) × (bigsize_at bytes ≡ Err f)
@@ -50,6 +54,8 @@ big_not_found bytes result e fits failed reads = cases (bigsize_at bytes) refl
     cases (Ok x) is =
         let t = bigsize_spelled bytes x.0 x.1 fits is in
         let len : length (bigsize_bytes x.0) ≤ length bytes = omega (arith, ap length t.parts, length-append (bigsize_bytes x.0) x.1) in
-        let front : take (length (bigsize_bytes x.0)) bytes ≡ bigsize_bytes x.0 = ap (take (length (bigsize_bytes x.0))) t.parts ∙ take_at (bigsize_bytes x.0) x.1 (length (bigsize_bytes x.0)) refl in
+        let front : take (length (bigsize_bytes x.0)) bytes ≡ bigsize_bytes x.0 =
+        ap (take (length (bigsize_bytes x.0))) t.parts
+        ∙ take_at (bigsize_bytes x.0) x.1 (length (bigsize_bytes x.0)) refl in
         let bad = sym failed ∙ (reads x.0 (length (bigsize_bytes x.0))).1 (len, (t.fits, front)) in
         absurd cc

@@ -12,7 +12,7 @@ use crate::fields::{fixed, number8, number16, part};
 use std::alloc::{AllocError, Global};
 
 /// The leading address, and the bytes after it.
-#[tactic(auto, unfolding(crate::specs::AddressesReading::descriptor_at))]
+#[tactic(auto, unfolding(crate::specs::inner::AddressesReading::descriptor_at))]
 fn descriptor(alloc: Global, bytes: &[u8]) -> Result<(Address, &[u8]), DecodeFault>
     ensures { Gives DecodeFault.NoMemory (λ x. (x.0, x.1.now)) result (descriptor_at bytes.now) }
 {

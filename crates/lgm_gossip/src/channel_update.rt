@@ -61,7 +61,7 @@ impl<'a> ChannelUpdate<'a> {
     }
 
     /// Reads the fields, from left to right, from the bytes after the type.
-    #[tactic(auto, unfolding(crate::specs::ChannelUpdateReading::channel_update_at))]
+    #[tactic(auto, unfolding(crate::specs::reading::ChannelUpdateReading::channel_update_at))]
     pub(crate) fn read(bytes: &'a [u8]) -> Result<ChannelUpdate<'a>, DecodeFault>
         ensures { Sees (λ m. m) result (channel_update_at bytes.now) }
     {

@@ -19,7 +19,7 @@ use crate::range_query::RangeQuery;
 use crate::range_reply::RangeReply;
 use std::alloc::Global;
 
-#[tactic(auto, unfolding(crate::specs::MessageReading::body_at))]
+#[tactic(auto, unfolding(crate::specs::reading::MessageReading::body_at))]
 fn body(alloc: Global, kind: u16, bytes: &[u8]) -> Result<Message<'_>, DecodeFault>
     ensures { GivesIf (BodyTakesMemory kind bytes.now) DecodeFault.NoMemory (λ m. m) result
         (body_at kind bytes.now) }
@@ -38,7 +38,7 @@ fn body(alloc: Global, kind: u16, bytes: &[u8]) -> Result<Message<'_>, DecodeFau
     }
 }
 
-#[tactic(auto, unfolding(crate::specs::MessageReading::message_at))]
+#[tactic(auto, unfolding(crate::specs::reading::MessageReading::message_at))]
 fn message(alloc: Global, bytes: &[u8]) -> Result<Message<'_>, DecodeFault>
     ensures { GivesIf (TakesMemory bytes.now) DecodeFault.NoMemory (λ m. m) result (message_at bytes.now) }
 {

@@ -29,7 +29,7 @@ impl FilterMsg {
     ghost use Rattle.lgm_gossip.specs.Spelling.{Encodes};
 
     /// Reads the fields, from left to right, from the bytes after the type. Trailing bytes are dropped.
-    #[tactic(auto, unfolding(crate::specs::FilterMsgReading::filter_msg_at))]
+    #[tactic(auto, unfolding(crate::specs::reading::FilterMsgReading::filter_msg_at))]
     pub(crate) fn read(bytes: &[u8]) -> Result<FilterMsg, DecodeFault>
         ensures { Sees (λ m. m) result (filter_msg_at bytes.now) }
     {

@@ -27,7 +27,7 @@ impl IdsEnd {
     ghost use Rattle.lgm_gossip.specs.Spelling.{Encodes};
 
     /// Reads the fields, from left to right, from the bytes after the type. Trailing bytes are dropped.
-    #[tactic(auto, unfolding(crate::specs::IdsEndReading::ids_end_at))]
+    #[tactic(auto, unfolding(crate::specs::reading::IdsEndReading::ids_end_at))]
     pub(crate) fn read(bytes: &[u8]) -> Result<IdsEnd, DecodeFault>
         ensures { Sees (λ m. m) result (ids_end_at bytes.now) }
     {

@@ -47,9 +47,10 @@ impl IdsQuery {
     ghost use Rattle.lgm_gossip.specs.Spelling.{Encodes};
 
     /// Reads the fields, from left to right, from the bytes after the type.
-    #[tactic(auto, unfolding(crate::specs::IdsQueryReading::ids_query_at))]
+    #[tactic(auto, unfolding(crate::specs::reading::IdsQueryReading::ids_query_at))]
     pub(crate) fn read(alloc: Global, bytes: &[u8]) -> Result<IdsQuery, DecodeFault>
-        ensures { GivesIf (35 < length bytes.now) DecodeFault.NoMemory (λ m. m) result (ids_query_at bytes.now) }
+        ensures { GivesIf (35 < length bytes.now) DecodeFault.NoMemory (λ m. m) result
+            (ids_query_at bytes.now) }
     {
         let (chain_hash, rest) = fixed(bytes)?;
         let (ids, rest) = encoded_ids(alloc, rest)?;

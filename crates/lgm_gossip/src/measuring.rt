@@ -35,7 +35,8 @@ fn room_after_bigs(room: usize, values: &[u64]) -> Option<usize>
 
 /// The room that is left after a part, if it fits.
 fn room_after(room: usize, part: &Part) -> Option<usize>
-    ensures { MatchOption result (room < length (text part.now)) (λ left. left + length (text part.now) ≡ room) }
+    ensures { MatchOption result (room < length (text part.now))
+        (λ left. left + length (text part.now) ≡ room) }
 {
     match part {
         Part::Bytes(bytes) => room.checked_sub(bytes.len()),

@@ -5,7 +5,8 @@ ghost use Rattle.lgm_wire.specs.reading.Reading.{Gives};
 ghost use Rattle.lgm_wire.specs.TlvView.{record_of, records_of};
 ghost use Rattle.lgm_gossip.specs.declared.fault.DecodeFault.{DecodeFault};
 ghost use Rattle.lgm_gossip.specs.Memory.{GivesIf};
-ghost use Rattle.lgm_gossip.specs.reading.OptionalReading.{stream_at, optional_of, after_record, after_records};
+ghost use Rattle.lgm_gossip.specs.reading.OptionalReading.{stream_at, optional_of, after_record};
+ghost use Rattle.lgm_gossip.specs.reading.OptionalReading.{after_records};
 
 use crate::fault::DecodeFault;
 use lgm_wire::{Tlv, Tlvs, WireFault, read_tlvs};
@@ -68,7 +69,7 @@ fn known<T: RecordValue>(
 }
 
 /// The value, if the stream that is all of the bytes has it.
-#[tactic(auto, unfolding(crate::specs::OptionalReading::optional_of))]
+#[tactic(auto, unfolding(crate::specs::reading::OptionalReading::optional_of))]
 pub(crate) fn optional<T: RecordValue>(
     alloc: Global,
     ids: usize,

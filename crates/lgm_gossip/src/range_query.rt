@@ -47,9 +47,10 @@ impl RangeQuery {
     ghost use Rattle.lgm_gossip.specs.Spelling.{Encodes};
 
     /// Reads the fields, from left to right, from the bytes after the type.
-    #[tactic(auto, unfolding(crate::specs::RangeQueryReading::range_query_at))]
+    #[tactic(auto, unfolding(crate::specs::reading::RangeQueryReading::range_query_at))]
     pub(crate) fn read(alloc: Global, bytes: &[u8]) -> Result<RangeQuery, DecodeFault>
-        ensures { GivesIf (40 < length bytes.now) DecodeFault.NoMemory (λ m. m) result (range_query_at bytes.now) }
+        ensures { GivesIf (40 < length bytes.now) DecodeFault.NoMemory (λ m. m) result
+            (range_query_at bytes.now) }
     {
         let (chain_hash, rest) = fixed(bytes)?;
         let (first_blocknum, rest) = number32(rest)?;

@@ -60,9 +60,10 @@ impl RangeReply {
     ghost use Rattle.lgm_gossip.specs.Spelling.{Encodes};
 
     /// Reads the fields, from left to right, from the bytes after the type.
-    #[tactic(auto, unfolding(crate::specs::RangeReplyReading::range_reply_at))]
+    #[tactic(auto, unfolding(crate::specs::reading::RangeReplyReading::range_reply_at))]
     pub(crate) fn read(alloc: Global, bytes: &[u8]) -> Result<RangeReply, DecodeFault>
-        ensures { GivesIf (44 < length bytes.now) DecodeFault.NoMemory (λ m. m) result (range_reply_at bytes.now) }
+        ensures { GivesIf (44 < length bytes.now) DecodeFault.NoMemory (λ m. m) result
+            (range_reply_at bytes.now) }
     {
         let (chain_hash, rest) = fixed(bytes)?;
         let (first_blocknum, rest) = number32(rest)?;

@@ -22,7 +22,8 @@ use Rattle.lgm_graph.proofs.Keeping.{filter_map-agree, eqb_same, eqb_self}
 use Rattle.lgm_graph.proofs.Showing.{All-test, All_append}
 
 -- channels of other ids stay
-channel_put : (channels : List ChannelRow) (row : ChannelRow) (id : ℕ) → eqb row.message.short_channel_id id ≡ false → channel_of (put by_id channels row) id ≡ channel_of channels id
+channel_put : (channels : List ChannelRow) (row : ChannelRow) (id : ℕ) → eqb row.message.short_channel_id id
+    ≡ false → channel_of (put by_id channels row) id ≡ channel_of channels id
 channel_put channels row id other = by (nat_cmp id row.message.short_channel_id) refl
   where
     p : ChannelRow → Bool
@@ -51,43 +52,59 @@ module _ (known : Option (List ℕ)) (rows : Rows) (row : ChannelRow) (lawful : 
   carrying_added : carrying (with_channel rows row) ≡ carrying rows
   carrying_added = by (is_some (channel_of rows.channels row.message.short_channel_id) || ends_banned rows.banned row) refl
     where
-      each : (is_some (channel_of rows.channels row.message.short_channel_id) || ends_banned rows.banned row) ≡ false → (u : UpdateRow) → is_some (channel_of rows.channels u.message.short_channel_id) ≡ true
+      each : (is_some (channel_of rows.channels row.message.short_channel_id) || ends_banned rows.banned row)
+          ≡ false → (u : UpdateRow) → is_some (channel_of rows.channels u.message.short_channel_id) ≡ true
           → edge_in (put by_id rows.channels row) u ≡ edge_in rows.channels u
-      each new u held = ap (λ (o : Option ChannelRow). option_and_then (λ c. edge_on c u) o) (channel_put rows.channels row u.message.short_channel_id (which (eqb row.message.short_channel_id u.message.short_channel_id) refl))
+      each new u held =
+          ap (λ (o : Option ChannelRow). option_and_then (λ c. edge_on c u) o)
+          (channel_put rows.channels row u.message.short_channel_id
+          (which (eqb row.message.short_channel_id u.message.short_channel_id) refl))
         where
-          which : (b : Bool) → eqb row.message.short_channel_id u.message.short_channel_id ≡ b → eqb row.message.short_channel_id u.message.short_channel_id ≡ false
+          which : (b : Bool) → eqb row.message.short_channel_id u.message.short_channel_id ≡ b
+              → eqb row.message.short_channel_id u.message.short_channel_id ≡ false
           which true f =
               let same = eqb_same row.message.short_channel_id u.message.short_channel_id f in
-              let there : is_some (channel_of rows.channels row.message.short_channel_id) ≡ true = ap (λ id. is_some (channel_of rows.channels id)) same ∙ held in
-              absurd (true≢false (sym there ∙ either_false (is_some (channel_of rows.channels row.message.short_channel_id)) (ends_banned rows.banned row) new))
+              let there : is_some (channel_of rows.channels row.message.short_channel_id) ≡ true =
+              ap (λ id. is_some (channel_of rows.channels id)) same ∙ held in
+              absurd (true≢false (sym there ∙ either_false (is_some
+              (channel_of rows.channels row.message.short_channel_id)) (ends_banned rows.banned row) new))
           which false f = f
 
-      by : (b : Bool) → (is_some (channel_of rows.channels row.message.short_channel_id) || ends_banned rows.banned row) ≡ b → carrying (with_channel rows row) ≡ carrying rows
+      by : (b : Bool) → (is_some (channel_of rows.channels row.message.short_channel_id)
+          || ends_banned rows.banned row) ≡ b → carrying (with_channel rows row) ≡ carrying rows
       by true e = rw e refl
-      by false e = rw e (filter_map-agree (edge_in (put by_id rows.channels row)) (edge_in rows.channels) rows.updates (All_to _ _ rows.updates (each e) lawful.held))
+      by false e =
+          rw e (filter_map-agree (edge_in (put by_id rows.channels row)) (edge_in rows.channels) rows.updates
+          (All_to _ _ rows.updates (each e) lawful.held))
 
   pub nodes_added : (with_channel rows row).nodes ≡ rows.nodes
   nodes_added = by (is_some (channel_of rows.channels row.message.short_channel_id) || ends_banned rows.banned row) refl
     where
-      by : (b : Bool) → (is_some (channel_of rows.channels row.message.short_channel_id) || ends_banned rows.banned row) ≡ b → (with_channel rows row).nodes ≡ rows.nodes
+      by : (b : Bool) → (is_some (channel_of rows.channels row.message.short_channel_id)
+          || ends_banned rows.banned row) ≡ b → (with_channel rows row).nodes ≡ rows.nodes
       by true e = rw e refl
       by false e = rw e refl
 
   ends_added : (P : ChannelRow → Type 0) → AllByRecursion P rows.channels → P row → AllByRecursion P (with_channel rows row).channels
   ends_added P all own = by (is_some (channel_of rows.channels row.message.short_channel_id) || ends_banned rows.banned row) refl
     where
-      by : (b : Bool) → (is_some (channel_of rows.channels row.message.short_channel_id) || ends_banned rows.banned row) ≡ b → AllByRecursion P (with_channel rows row).channels
+      by : (b : Bool) → (is_some (channel_of rows.channels row.message.short_channel_id)
+          || ends_banned rows.banned row) ≡ b → AllByRecursion P (with_channel rows row).channels
       by true e = rw e all
       by false e = rw e (All_append P (filter (λ x. is_lt (by_id x row)) rows.channels) (row ∷ filter (λ x. is_gt (by_id x row)) rows.channels)
           (All-test P (λ x. is_lt (by_id x row)) rows.channels all) (own, All-test P (λ x. is_gt (by_id x row)) rows.channels all))
 
   -- the view, where both ends are numbered
-  pub node_added : (after : Rows) → after ≡ with_channel rows row → (old new : Nodes) → IsGraphOf rows (graph_in known old) → KeepsNumbers old.points.keys new.points.keys
-      → IsNumbered new.points.keys row.message.node_id_1 → IsNumbered new.points.keys row.message.node_id_2 → AreLookedAt known after.nodes new → ShowsIn (carrying rows) new
+  pub node_added : (after : Rows) → after ≡ with_channel rows row → (old new : Nodes)
+      → IsGraphOf rows (graph_in known old) → KeepsNumbers old.points.keys new.points.keys
+      → IsNumbered new.points.keys row.message.node_id_1 → IsNumbered new.points.keys row.message.node_id_2
+      → AreLookedAt known after.nodes new → ShowsIn (carrying rows) new
       → IsGraphOf after (graph_in known new)
   node_added after is old new graph keeps first second looked shows = record {
     ends = rw is (ends_added (λ c. IsNumbered new.points.keys c.message.node_id_1 × IsNumbered new.points.keys c.message.node_id_2)
-        (All_to _ _ rows.channels (λ c both. ((keeps c.message.node_id_1 both.0).1, (keeps c.message.node_id_2 both.1).1)) graph.ends) (first, second));
+        (All_to _ _ rows.channels (λ c both.
+        ((keeps c.message.node_id_1 both.0).1, (keeps c.message.node_id_2 both.1).1)) graph.ends)
+        (first, second));
     takes = looked;
     shows = rw (is, carrying_added) shows;
   }

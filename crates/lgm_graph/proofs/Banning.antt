@@ -1,5 +1,6 @@
 -- How a ban changes the view of a map.
-use Rattle.std.proofs.Common.{◌≡◌, ℕ, ◌<◌, Bool, true, false, cond, not, ◌||◌, List, [], ◌∷◌, length, map, get_or, zero, suc, refl, sym, ap, ◌∙◌, Option, Some, None, arith, is_some}
+use Rattle.std.proofs.Common.{◌≡◌, ℕ, ◌<◌, Bool, true, false, cond, not, ◌||◌, List, [], ◌∷◌, length, map}
+use Rattle.std.proofs.Common.{get_or, zero, suc, refl, sym, ap, ◌∙◌, Option, Some, None, arith, is_some}
 use Rattle.std.specs.Option.{option_and_then, option_map_or}
 use Rattle.std.specs.List.{AllByRecursion, filter, slice_get}
 use Rattle.lgm_wire.specs.declared.point.Point.{Point}
@@ -38,7 +39,9 @@ or_turned false false = refl
 -- whether a link stays, as its edge says
 pub banned_tests : (banned points : List Point) (edges : List Edge) → AllByRecursion (IsJoined points) edges
     → AllByRecursion (λ e. is_allowed points banned (link_of points e) ≡ not (is_banned banned e.from || is_banned banned e.to)) edges
-banned_tests banned points edges joined = All_to (IsJoined points) (λ e. is_allowed points banned (link_of points e) ≡ not (is_banned banned e.from || is_banned banned e.to)) edges
+banned_tests banned points edges joined =
+    All_to (IsJoined points) (λ e. is_allowed points banned (link_of points e)
+    ≡ not (is_banned banned e.from || is_banned banned e.to)) edges
     (λ e both. rw (banned_number points banned e.from both.0, banned_number points banned e.to both.1) refl) joined
 
 module _ (known : Option (List ℕ)) (rows : Rows) (banned : List Point) (lawful : IsLawful rows) where
@@ -48,30 +51,41 @@ module _ (known : Option (List ℕ)) (rows : Rows) (banned : List Point) (lawful
   stays : UpdateRow → Bool
   stays = λ row. not (is_some (channel_of (banned_channels banned rows.channels) row.message.short_channel_id))
 
-  agree : (row : UpdateRow) → not (is_some (channel_of (banned_channels banned rows.channels) row.message.short_channel_id)) ≡ true → edge_in (allowed_channels banned rows.channels) row ≡ edge_in rows.channels row
-  agree row is = ap (λ (o : Option ChannelRow). option_and_then (λ c. edge_on c row) o) (by (channel_of rows.channels row.message.short_channel_id) refl)
+  agree : (row : UpdateRow)
+      → not (is_some (channel_of (banned_channels banned rows.channels) row.message.short_channel_id)) ≡ true
+      → edge_in (allowed_channels banned rows.channels) row ≡ edge_in rows.channels row
+  agree row is =
+      ap (λ (o : Option ChannelRow). option_and_then (λ c. edge_on c row) o)
+      (by (channel_of rows.channels row.message.short_channel_id) refl)
     where
       by : (o : Option ChannelRow) → channel_of rows.channels row.message.short_channel_id ≡ o
           → channel_of (allowed_channels banned rows.channels) row.message.short_channel_id ≡ channel_of rows.channels row.message.short_channel_id
       by None e = none_filter (λ c. not (ends_banned banned c)) rows.channels row.message.short_channel_id e ∙ sym e
-      by (Some channel) e = found_filter (λ c. not (ends_banned banned c)) rows.channels row.message.short_channel_id lawful.ascend.channels channel e ∙ which (ends_banned banned channel) refl ∙ sym e
+      by (Some channel) e =
+          found_filter (λ c. not (ends_banned banned c)) rows.channels row.message.short_channel_id
+          lawful.ascend.channels channel e ∙ which (ends_banned banned channel) refl ∙ sym e
         where
           there : not (is_some (cond (ends_banned banned channel) (Some channel) None)) ≡ true
-          there = ap (λ (o : Option ChannelRow). not (is_some o)) (sym (found_filter (ends_banned banned) rows.channels row.message.short_channel_id lawful.ascend.channels channel e)) ∙ is
+          there =
+              ap (λ (o : Option ChannelRow). not (is_some o)) (sym (found_filter (ends_banned banned)
+              rows.channels row.message.short_channel_id lawful.ascend.channels channel e)) ∙ is
 
           which : (b : Bool) → ends_banned banned channel ≡ b → cond (not (ends_banned banned channel)) (Some channel) None ≡ Some channel
           which true f = let never : not (is_some (cond true (Some channel) None)) ≡ true = rw f at there in absurd cc
           which false f = rw f refl
 
   same : (row : UpdateRow) (edge : Edge) → edge_in rows.channels row ≡ Some edge
-      → not (is_banned banned edge.from || is_banned banned edge.to) ≡ not (is_some (channel_of (banned_channels banned rows.channels) row.message.short_channel_id))
+      → not (is_banned banned edge.from || is_banned banned edge.to)
+      ≡ not (is_some (channel_of (banned_channels banned rows.channels) row.message.short_channel_id))
   unfolding edge_of
   same row edge is =
       let found = edge_in-some rows.channels row edge is in
       rw (found.2) (ap not (turn found.0 (is_second row)) ∙ some_of found.0 (ends_banned banned found.0)
-      ∙ ap (λ (o : Option ChannelRow). not (is_some o)) (sym (found_filter (ends_banned banned) rows.channels row.message.short_channel_id lawful.ascend.channels found.0 found.1)))
+      ∙ ap (λ (o : Option ChannelRow). not (is_some o)) (sym (found_filter (ends_banned banned) rows.channels
+      row.message.short_channel_id lawful.ascend.channels found.0 found.1)))
     where
-      turn : (channel : ChannelRow) (b : Bool) → (is_banned banned (end_of channel b) || is_banned banned (end_of channel (not b))) ≡ ends_banned banned channel
+      turn : (channel : ChannelRow) (b : Bool) → (is_banned banned (end_of channel b)
+          || is_banned banned (end_of channel (not b))) ≡ ends_banned banned channel
       turn channel true = or_turned (is_banned banned channel.message.node_id_2) (is_banned banned channel.message.node_id_1)
       turn channel false = refl
 
@@ -81,21 +95,30 @@ module _ (known : Option (List ℕ)) (rows : Rows) (banned : List Point) (lawful
 
   carrying_banned : carrying (banning rows banned) ≡ filter (λ e. not (is_banned banned e.from || is_banned banned e.to)) (carrying rows)
   carrying_banned =
-      filter_map-agree (edge_in (allowed_channels banned rows.channels)) (edge_in rows.channels) (updates_beside (banned_channels banned rows.channels) rows.updates)
+      filter_map-agree (edge_in (allowed_channels banned rows.channels)) (edge_in rows.channels)
+      (updates_beside (banned_channels banned rows.channels) rows.updates)
       (All_to _ _ (updates_beside (banned_channels banned rows.channels) rows.updates) agree
       (filter_passes (λ row. not (is_some (channel_of (banned_channels banned rows.channels) row.message.short_channel_id))) rows.updates))
-      ∙ filter_map-filter (edge_in rows.channels) (λ row. not (is_some (channel_of (banned_channels banned rows.channels) row.message.short_channel_id)))
+      ∙ filter_map-filter (edge_in rows.channels)
+      (λ row. not (is_some (channel_of (banned_channels banned rows.channels) row.message.short_channel_id)))
       (λ e. not (is_banned banned e.from || is_banned banned e.to)) same rows.updates
 
   -- the links that stay
   links_banned : (end : Edge → Point) (points : List Point) (edges : List Edge) → AllByRecursion (IsJoined points) edges
-      → map (filter (is_allowed points banned)) (links_by end points edges) ≡ links_by end points (filter (λ e. not (is_banned banned e.from || is_banned banned e.to)) edges)
+      → map (filter (is_allowed points banned)) (links_by end points edges)
+      ≡ links_by end points (filter (λ e. not (is_banned banned e.from || is_banned banned e.to)) edges)
   links_banned end points edges joined = each points
     where
-      each : (qs : List Point) → map (filter (is_allowed points banned)) (map (links_at end points edges) qs) ≡ map (links_at end points (filter (λ e. not (is_banned banned e.from || is_banned banned e.to)) edges)) qs
+      each : (qs : List Point)
+          → map (filter (is_allowed points banned)) (map (links_at end points edges) qs) ≡ map (links_at end
+          points (filter (λ e. not (is_banned banned e.from || is_banned banned e.to)) edges)) qs
       each [] = refl
       each (q ∷ qs) =
-          rw (each qs, links_keep end points (λ e. not (is_banned banned e.from || is_banned banned e.to)) (is_allowed points banned) edges q (banned_tests banned points edges joined)) refl
+          rw (
+            each qs,
+            links_keep end points (λ e. not (is_banned banned e.from || is_banned banned e.to))
+                (is_allowed points banned) edges q (banned_tests banned points edges joined),
+          ) refl
 
   -- the view, where they are taken away and all nodes looked at anew
   pub node_banned : (after : Rows) → after ≡ banning rows banned → (old mid new : Nodes) → IsGraphOf rows (graph_in known old)
@@ -108,8 +131,15 @@ module _ (known : Option (List ℕ)) (rows : Rows) (banned : List Point) (lawful
     ends = rw (is, points_new, points) (All-test _ (λ c. not (ends_banned banned c)) rows.channels graph.ends);
     takes = looked;
     shows = record {
-      joined = rw (is, points_new, points, carrying_banned) (All-test (IsJoined old.points.keys) (λ e. not (is_banned banned e.from || is_banned banned e.to)) (carrying rows) graph.shows.joined);
-      into_is = ap (map links_in) into_new ∙ into ∙ rw (is, points_new, points, carrying_banned, graph.shows.into_is) (links_banned (λ e. e.to) old.points.keys (carrying rows) graph.shows.joined);
-      out_is = ap (map links_in) out_new ∙ out ∙ rw (is, points_new, points, carrying_banned, graph.shows.out_is) (links_banned (λ e. e.from) old.points.keys (carrying rows) graph.shows.joined);
+      joined =
+          rw (is, points_new, points, carrying_banned) (All-test (IsJoined old.points.keys)
+          (λ e. not (is_banned banned e.from || is_banned banned e.to)) (carrying rows) graph.shows.joined);
+      into_is =
+          ap (map links_in) into_new ∙ into
+          ∙ rw (is, points_new, points, carrying_banned, graph.shows.into_is)
+          (links_banned (λ e. e.to) old.points.keys (carrying rows) graph.shows.joined);
+      out_is =
+          ap (map links_in) out_new ∙ out ∙ rw (is, points_new, points, carrying_banned, graph.shows.out_is)
+          (links_banned (λ e. e.from) old.points.keys (carrying rows) graph.shows.joined);
     };
   }

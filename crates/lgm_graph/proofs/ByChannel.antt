@@ -1,5 +1,6 @@
 -- The edges of rows, channel by channel.
-use Rattle.std.proofs.Common.{◌≡◌, ◌≢◌, ℕ, ◌<◌, ◌⊎◌, inl, inr, eqb, Bool, true, false, ◌&&◌, List, [], ◌∷◌, ◌++◌, refl, sym, ap, ◌∙◌, Option, Some, None, arith, true≢false}
+use Rattle.std.proofs.Common.{◌≡◌, ◌≢◌, ℕ, ◌<◌, ◌⊎◌, inl, inr, eqb, Bool, true, false, ◌&&◌, List, []}
+use Rattle.std.proofs.Common.{◌∷◌, ◌++◌, refl, sym, ap, ◌∙◌, Option, Some, None, arith, true≢false}
 use Rattle.std.specs.Bool.{beq}
 use Rattle.std.specs.List.{AllByRecursion, filter_map, flat_map, cons_option}
 use Rattle.std.specs.List.Sorted.{IsStrictlySortedBy}
@@ -33,7 +34,8 @@ is_eqb : (a b : ℕ) → a ≡ b → eqb a b ≡ true
 is_eqb a b e = grind (arith, nat_tests)
 
 -- an update below another is of a lesser channel, or of the first direction beside the second one
-below : (row other : UpdateRow) → by_direction row other ≡ Less → (id_of row < id_of other) ⊎ ((id_of row ≡ id_of other) × (is_second row ≡ false) × (is_second other ≡ true))
+below : (row other : UpdateRow) → by_direction row other ≡ Less → (id_of row < id_of other)
+    ⊎ ((id_of row ≡ id_of other) × (is_second row ≡ false) × (is_second other ≡ true))
 below row other e = by (nat_cmp (id_of row) (id_of other)) refl e
   where
     second : (a b : Bool) → bool_cmp a b ≡ Less → (a ≡ false) × (b ≡ true)
@@ -52,7 +54,8 @@ below row other e = by (nat_cmp (id_of row) (id_of other)) refl e
 abbrev is_of : ℕ → Bool → UpdateRow → Bool
 is_of id second row = eqb (id_of row) id && beq (is_second row) second
 
-find_none : (id : ℕ) (second : Bool) (updates : List UpdateRow) → AllByRecursion (λ row. is_of id second row ≡ false) updates → update_of updates id second ≡ None
+find_none : (id : ℕ) (second : Bool) (updates : List UpdateRow)
+    → AllByRecursion (λ row. is_of id second row ≡ false) updates → update_of updates id second ≡ None
 find_none id second [] all = refl
 find_none id second (row ∷ rows) all = rw all.0 (find_none id second rows all.1)
 
@@ -69,21 +72,25 @@ module _ (row : UpdateRow) (rows : List UpdateRow) (first : AllByRecursion (λ o
       apart true b e f = absurd cc
       apart false false e f = absurd cc
 
-      by : (other : UpdateRow) → (id_of row < id_of other) ⊎ ((id_of row ≡ id_of other) × (is_second row ≡ false) × (is_second other ≡ true)) → is_of (id_of row) (is_second row) other ≡ false
+      by : (other : UpdateRow) → (id_of row < id_of other)
+          ⊎ ((id_of row ≡ id_of other) × (is_second row ≡ false) × (is_second other ≡ true))
+          → is_of (id_of row) (is_second row) other ≡ false
       by other (inl lt) = other_id (id_of row) (is_second row) other (λ e. omega (arith, lt, e))
       by other (inr same) = rw (is_eqb (id_of other) (id_of row) (sym same.0)) (apart (is_second row) (is_second other) same.1 same.2)
 
   first_none : is_second row ≡ true → update_of rows (id_of row) false ≡ None
   first_none is = find_none (id_of row) false rows (All_to _ _ rows (λ other less. by other (below row other less)) first)
     where
-      by : (other : UpdateRow) → (id_of row < id_of other) ⊎ ((id_of row ≡ id_of other) × (is_second row ≡ false) × (is_second other ≡ true)) → is_of (id_of row) false other ≡ false
+      by : (other : UpdateRow) → (id_of row < id_of other) ⊎ ((id_of row ≡ id_of other)
+          × (is_second row ≡ false) × (is_second other ≡ true)) → is_of (id_of row) false other ≡ false
       by other (inl lt) = other_id (id_of row) false other (λ e. omega (arith, lt, e))
       by other (inr same) = absurd (true≢false (sym is ∙ same.1))
 
   lesser_none : (id : ℕ) (second : Bool) → id < id_of row → update_of rows id second ≡ None
   lesser_none id second lt = find_none id second rows (All_to _ _ rows (λ other less. by other (below row other less)) first)
     where
-      by : (other : UpdateRow) → (id_of row < id_of other) ⊎ ((id_of row ≡ id_of other) × (is_second row ≡ false) × (is_second other ≡ true)) → is_of id second other ≡ false
+      by : (other : UpdateRow) → (id_of row < id_of other) ⊎ ((id_of row ≡ id_of other)
+          × (is_second row ≡ false) × (is_second other ≡ true)) → is_of id second other ≡ false
       by other (inl more) = other_id id second other (λ e. omega (arith, lt, more, e))
       by other (inr same) = other_id id second other (λ e. omega (arith, lt, same.0, e))
 
@@ -91,13 +98,16 @@ module _ (row : UpdateRow) (rows : List UpdateRow) (first : AllByRecursion (λ o
   other_channel : (channel : ChannelRow) → id_of row ≢ name_of channel → edges_of_channel (row ∷ rows) channel ≡ edges_of_channel rows channel
   other_channel channel ne = rw (not_eqb (id_of row) (name_of channel) ne) refl
 
-  other_channels : (channels : List ChannelRow) → AllByRecursion (λ channel. id_of row < name_of channel) channels → flat_map (edges_of_channel (row ∷ rows)) channels ≡ flat_map (edges_of_channel rows) channels
+  other_channels : (channels : List ChannelRow) → AllByRecursion (λ channel. id_of row < name_of channel)
+      channels → flat_map (edges_of_channel (row ∷ rows)) channels ≡ flat_map (edges_of_channel rows) channels
   other_channels [] all = refl
   other_channels (channel ∷ channels) all =
-      rw (other_channels channels all.1) (ap (λ l. l ++ flat_map (edges_of_channel rows) channels) (other_channel channel (λ e. let lt = all.0 in omega (arith, lt, e))))
+      rw (other_channels channels all.1) (ap (λ l. l ++ flat_map (edges_of_channel rows) channels)
+      (other_channel channel (λ e. let lt = all.0 in omega (arith, lt, e))))
 
   -- its own channel has its edge more, in front
-  own_channel : (channel : ChannelRow) → id_of row ≡ name_of channel → edges_of_channel (row ∷ rows) channel ≡ cons_option (edge_on channel row) (edges_of_channel rows channel)
+  own_channel : (channel : ChannelRow) → id_of row ≡ name_of channel → edges_of_channel (row ∷ rows) channel
+      ≡ cons_option (edge_on channel row) (edges_of_channel rows channel)
   own_channel channel same = by (is_second row) refl (edge_on channel row) refl
     where
       none : update_of rows (name_of channel) (is_second row) ≡ None
@@ -106,22 +116,33 @@ module _ (row : UpdateRow) (rows : List UpdateRow) (first : AllByRecursion (λ o
       gone : is_second row ≡ true → update_of rows (name_of channel) false ≡ None
       gone b = ap (λ id. update_of rows id false) (sym same) ∙ first_none b
 
-      by : (b : Bool) → is_second row ≡ b → (o : Option Edge) → edge_on channel row ≡ o → edges_of_channel (row ∷ rows) channel ≡ cons_option (edge_on channel row) (edges_of_channel rows channel)
+      by : (b : Bool) → is_second row ≡ b → (o : Option Edge) → edge_on channel row ≡ o → edges_of_channel
+          (row ∷ rows) channel ≡ cons_option (edge_on channel row) (edges_of_channel rows channel)
       by false b None is = rw (is_eqb (id_of row) (name_of channel) same, b, is, ap (update_of rows (name_of channel)) (sym b) ∙ none) refl
       by false b (Some edge) is = rw (is_eqb (id_of row) (name_of channel) same, b, is, ap (update_of rows (name_of channel)) (sym b) ∙ none) refl
       by true b None is = rw (is_eqb (id_of row) (name_of channel) same, b, is, gone b, ap (update_of rows (name_of channel)) (sym b) ∙ none) refl
-      by true b (Some edge) is = rw (is_eqb (id_of row) (name_of channel) same, b, is, gone b, ap (update_of rows (name_of channel)) (sym b) ∙ none) refl
+      by true b (Some edge) is =
+          rw (
+            is_eqb (id_of row) (name_of channel) same,
+            b,
+            is,
+            gone b,
+            ap (update_of rows (name_of channel)) (sym b) ∙ none,
+          ) refl
 
 channel_none : (channels : List ChannelRow) (id : ℕ) → AllByRecursion (λ channel. id < name_of channel) channels → channel_of channels id ≡ None
 channel_none [] id all = refl
-channel_none (channel ∷ channels) id all = rw (not_eqb (name_of channel) id (λ e. let lt = all.0 in omega (arith, lt, e))) (channel_none channels id all.1)
+channel_none (channel ∷ channels) id all =
+    rw (not_eqb (name_of channel) id (λ e. let lt = all.0 in omega (arith, lt, e)))
+    (channel_none channels id all.1)
 
 joined : (o : Option Edge) (xs ys : List Edge) → cons_option o xs ++ ys ≡ cons_option o (xs ++ ys)
 joined None xs ys = refl
 joined (Some e) xs ys = refl
 
 -- a further update in front puts its edge in front
-front : (row : UpdateRow) (rows : List UpdateRow) → AllByRecursion (λ other. by_direction row other ≡ Less) rows → (channels : List ChannelRow) → IsStrictlySortedBy by_id channels
+front : (row : UpdateRow) (rows : List UpdateRow) → AllByRecursion (λ other. by_direction row other
+    ≡ Less) rows → (channels : List ChannelRow) → IsStrictlySortedBy by_id channels
     → flat_map (edges_of_channel (row ∷ rows)) channels ≡ cons_option (edge_in channels row) (flat_map (edges_of_channel rows) channels)
 unfolding IsStrictlySortedBy
 front row rows first [] sorted = refl
@@ -136,13 +157,18 @@ front row rows first (channel ∷ channels) sorted = by (front row rows first ch
         ≡ cons_option (edge_in (channel ∷ channels) row) (edges_of_channel rows channel ++ flat_map (edges_of_channel rows) channels)
     by others Less is =
         let lt = less_is (id_of row) (name_of channel) is in
-        let all : AllByRecursion (λ other. id_of row < name_of other) (channel ∷ channels) = (lt, All_to _ _ channels (λ other more. omega (arith, lt, more)) above) in
+        let all : AllByRecursion (λ other. id_of row < name_of other) (channel ∷ channels) =
+        (lt, All_to _ _ channels (λ other more. omega (arith, lt, more)) above) in
         other_channels row rows first (channel ∷ channels) all
-        ∙ sym (ap (λ (o : Option ChannelRow). cons_option (option_and_then (λ c. edge_on c row) o) (edges_of_channel rows channel ++ flat_map (edges_of_channel rows) channels)) (channel_none (channel ∷ channels) (id_of row) all))
+        ∙ sym (ap (λ (o : Option ChannelRow). cons_option (option_and_then (λ c. edge_on c row) o)
+        (edges_of_channel rows channel ++ flat_map (edges_of_channel rows) channels))
+        (channel_none (channel ∷ channels) (id_of row) all))
     by others Equal is =
         let same = same_id (id_of row) (name_of channel) is in
         let rest = other_channels row rows first channels (All_to _ _ channels (λ other more. omega (arith, same, more)) above) in
-        rw (own_channel row rows first channel same, rest, is_eqb (name_of channel) (id_of row) (sym same)) (joined (edge_on channel row) (edges_of_channel rows channel) (flat_map (edges_of_channel rows) channels))
+        rw (own_channel row rows first channel same, rest, is_eqb (name_of channel) (id_of row) (sym same))
+        (joined (edge_on channel row) (edges_of_channel rows channel)
+        (flat_map (edges_of_channel rows) channels))
     by others Greater is =
         let gt : name_of channel < id_of row = grind (arith, nat_tests) in
         rw (
@@ -160,4 +186,6 @@ by_channel [] channels updates ids = none channels
     none : (channels : List ChannelRow) → flat_map (edges_of_channel []) channels ≡ []
     none [] = refl
     none (channel ∷ channels) = none channels
-by_channel (row ∷ rows) channels updates ids = front row rows updates.0 channels ids ∙ ap (cons_option (edge_in channels row)) (by_channel rows channels updates.1 ids)
+by_channel (row ∷ rows) channels updates ids =
+    front row rows updates.0 channels ids
+    ∙ ap (cons_option (edge_in channels row)) (by_channel rows channels updates.1 ids)

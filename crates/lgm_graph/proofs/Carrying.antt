@@ -1,5 +1,6 @@
 -- The edges of rows, as an update changes them.
-use Rattle.std.proofs.Common.{◌≡◌, ◌≢◌, ◌⊎◌, Bool, true, false, cond, not, ◌&&◌, List, [], ◌∷◌, ◌++◌, append_assoc, refl, sym, ap, ◌∙◌, inl, inr, Option, Some, None, option_to_list}
+use Rattle.std.proofs.Common.{◌≡◌, ◌≢◌, ◌⊎◌, Bool, true, false, cond, not, ◌&&◌, List, [], ◌∷◌, ◌++◌, append_assoc}
+use Rattle.std.proofs.Common.{refl, sym, ap, ◌∙◌, inl, inr, Option, Some, None, option_to_list}
 use Rattle.std.specs.Cmp.{IsTotalOrder}
 use Rattle.std.specs.List.{AllByRecursion, filter, filter_map, cons_option}
 use Rattle.std.specs.List.Sorted.{IsStrictlySortedBy}
@@ -55,7 +56,8 @@ module _ {X : Type 0} (f : X → Ordering) where
   IsCut-filter p [] cut = tt
   IsCut-filter p (x ∷ xs) cut = by (IsCut-filter p xs) (p x) refl cut
     where
-      by : (IsCut f xs → IsCut f (filter p xs)) → (b : Bool) → p x ≡ b → ((f x ≡ Less) × IsCut f xs) ⊎ ((f x ≢ Less) × AllByRecursion (λ y. f y ≡ Greater) xs)
+      by : (IsCut f xs → IsCut f (filter p xs)) → (b : Bool) → p x ≡ b
+          → ((f x ≡ Less) × IsCut f xs) ⊎ ((f x ≢ Less) × AllByRecursion (λ y. f y ≡ Greater) xs)
           → IsCut f (cond (p x) (x ∷ filter p xs) (filter p xs))
       by others true is (inl below) = rw is (inl (below.0, others below.1))
       by others true is (inr above) = rw is (inr (above.0, All-filter (λ y. f y ≡ Greater) p xs above.1))
@@ -95,7 +97,8 @@ module _ {X Y : Type 0} (g : X → Option Y) (f : X → Ordering) (h : Y → Ord
   all_through [] all = tt
   all_through (y ∷ ys) all = by (all_through ys all.1) (g y) refl
     where
-      by : AllByRecursion (λ y. h y ≡ Greater) (filter_map g ys) → (o : Option Y) → g y ≡ o → AllByRecursion (λ z. h z ≡ Greater) (cons_option (g y) (filter_map g ys))
+      by : AllByRecursion (λ y. h y ≡ Greater) (filter_map g ys) → (o : Option Y) → g y ≡ o
+          → AllByRecursion (λ z. h z ≡ Greater) (cons_option (g y) (filter_map g ys))
       by others None is = rw is others
       by others (Some z) is = rw is (same y z is ∙ all.0, others)
 
@@ -104,7 +107,8 @@ module _ {X Y : Type 0} (g : X → Option Y) (f : X → Ordering) (h : Y → Ord
   IsCut-filter_map [] cut = tt
   IsCut-filter_map (x ∷ xs) cut = by (IsCut-filter_map xs) (g x) refl cut
     where
-      by : (IsCut f xs → IsCut h (filter_map g xs)) → (o : Option Y) → g x ≡ o → ((f x ≡ Less) × IsCut f xs) ⊎ ((f x ≢ Less) × AllByRecursion (λ y. f y ≡ Greater) xs)
+      by : (IsCut f xs → IsCut h (filter_map g xs)) → (o : Option Y) → g x ≡ o
+          → ((f x ≡ Less) × IsCut f xs) ⊎ ((f x ≢ Less) × AllByRecursion (λ y. f y ≡ Greater) xs)
           → IsCut h (cons_option (g x) (filter_map g xs))
       by others None is (inl below) = rw is (others below.1)
       by others None is (inr above) = rw is (cut_above h (filter_map g xs) (all_through xs above.1))
@@ -121,7 +125,8 @@ module _ {X Y : Type 0} (g : X → Option Y) (f : X → Ordering) (h : Y → Ord
         filter_map-filter g (λ o. is_gt (f o)) (λ y. is_gt (h y)) (λ u y is. ap is_gt (same u y is)) xs,
       ) (by (g x))
     where
-      by : (o : Option Y) → filter (λ y. is_lt (h y)) (filter_map g xs) ++ cons_option o (filter (λ y. is_gt (h y)) (filter_map g xs)) ≡ put_at h (filter_map g xs) o
+      by : (o : Option Y) → filter (λ y. is_lt (h y)) (filter_map g xs)
+          ++ cons_option o (filter (λ y. is_gt (h y)) (filter_map g xs)) ≡ put_at h (filter_map g xs) o
       by None = sym (ap (λ l. l ++ filter (λ y. is_gt (h y)) (filter_map g xs)) (append-none h (filter (λ y. is_lt (h y)) (filter_map g xs))))
       by (Some y) = sym (append_assoc (filter (λ y. is_lt (h y)) (filter_map g xs)) (y ∷ []) (filter (λ y. is_gt (h y)) (filter_map g xs)))
 
@@ -135,7 +140,12 @@ module _ {X : Type 0} (f : X → Ordering) (p : X → Bool) where
   pub filter-put : (xs : List X) (o : Option X) → filter p (put_at f xs o) ≡ put_at f (filter p xs) (option_filter p o)
   filter-put xs o =
       filter-append p (filter (λ x. is_lt (f x)) xs ++ option_to_list o) (filter (λ x. is_gt (f x)) xs)
-      ∙ rw (filter-append p (filter (λ x. is_lt (f x)) xs) (option_to_list o), filter-swap f p (λ x. is_lt (f x)) xs, filter-swap f p (λ x. is_gt (f x)) xs, one o) refl
+      ∙ rw (
+        filter-append p (filter (λ x. is_lt (f x)) xs) (option_to_list o),
+        filter-swap f p (λ x. is_lt (f x)) xs,
+        filter-swap f p (λ x. is_gt (f x)) xs,
+        one o,
+      ) refl
     where
       one : (o : Option X) → filter p (option_to_list o) ≡ option_to_list (option_filter p o)
       one None = refl
@@ -188,7 +198,8 @@ pub edge_in-some : (channels : List ChannelRow) (row : UpdateRow) (edge : Edge) 
     → (channel : ChannelRow) × (channel_of channels row.message.short_channel_id ≡ Some channel) × (edge ≡ edge_of channel row)
 edge_in-some channels row edge is = by (channel_of channels row.message.short_channel_id) refl is
   where
-    by : (o : Option ChannelRow) → channel_of channels row.message.short_channel_id ≡ o → option_and_then (λ channel. edge_on channel row) o ≡ Some edge
+    by : (o : Option ChannelRow) → channel_of channels row.message.short_channel_id ≡ o
+        → option_and_then (λ channel. edge_on channel row) o ≡ Some edge
         → (channel : ChannelRow) × (channel_of channels row.message.short_channel_id ≡ Some channel) × (edge ≡ edge_of channel row)
     by None e is = absurd cc
     by (Some channel) e is = (channel, e, edge_on-is channel row edge is)
@@ -206,7 +217,8 @@ of_channel channels row edge is =
     rw (found.2) (record { channel = found.0; held = found.1; from = refl; to = refl })
 
 -- each edge is one of a held channel
-pub carrying_of : (channels : List ChannelRow) (updates : List UpdateRow) → AllByRecursion (IsOfChannel channels) (filter_map (edge_in channels) updates)
+pub carrying_of : (channels : List ChannelRow) (updates : List UpdateRow)
+    → AllByRecursion (IsOfChannel channels) (filter_map (edge_in channels) updates)
 carrying_of channels [] = tt
 carrying_of channels (row ∷ rows) = by (carrying_of channels rows) (edge_in channels row) refl
   where
@@ -219,7 +231,8 @@ carrying_of channels (row ∷ rows) = by (carrying_of channels rows) (edge_in ch
 pub carrying_cut : (channels : List ChannelRow) (updates : List UpdateRow) (row : UpdateRow) → IsStrictlySortedBy by_direction updates
     → IsCut (to_key row.message.short_channel_id (is_second row)) (filter_map (edge_in channels) updates)
 carrying_cut channels updates row sorted =
-    IsCut-filter_map (edge_in channels) (λ other. by_direction other row) (to_key row.message.short_channel_id (is_second row)) (λ other edge. same_key channels row other edge)
+    IsCut-filter_map (edge_in channels) (λ other. by_direction other row)
+    (to_key row.message.short_channel_id (is_second row)) (λ other edge. same_key channels row other edge)
     updates (cut_sorted by_direction (on_total direction_of direction_total) row updates sorted)
 
 -- the edges with an update put in its place
@@ -227,4 +240,5 @@ pub carrying_put : (channels : List ChannelRow) (updates : List UpdateRow) (row 
     → filter_map (edge_in channels) (put by_direction updates row)
     ≡ put_at (to_key row.message.short_channel_id (is_second row)) (filter_map (edge_in channels) updates) (edge_in channels row)
 carrying_put channels updates row =
-    filter_map-put (edge_in channels) (λ other. by_direction other row) (to_key row.message.short_channel_id (is_second row)) (λ other edge. same_key channels row other edge) updates row
+    filter_map-put (edge_in channels) (λ other. by_direction other row) (to_key row.message.short_channel_id
+    (is_second row)) (λ other edge. same_key channels row other edge) updates row

@@ -20,7 +20,8 @@ use Rattle.lgm_graph.specs.Graph.{IsGraphOf, IsJoined, link_of}
 use Rattle.lgm_graph.specs.inner.Sound.{graph_in, AreInto, AreOut, AreFlags, is_not_of, closed_at}
 use Rattle.lgm_graph.proofs.Carrying.{All_to, filter_map-filter, IsOfChannel, carrying_of, edge_in-some}
 use Rattle.lgm_graph.proofs.Showing.{All-test, passing, links_at}
-use Rattle.lgm_graph.proofs.Keeping.{filter_all, filter_passes, filter_twice, filter_swap, find_stays, any_stays, filter_map-agree, All_of, one_channel, links_keep, eqb_same}
+use Rattle.lgm_graph.proofs.Keeping.{filter_all, filter_passes, filter_twice, filter_swap, find_stays, any_stays}
+use Rattle.lgm_graph.proofs.Keeping.{filter_map-agree, All_of, one_channel, links_keep, eqb_same}
 
 -- ---- links
 
@@ -36,12 +37,19 @@ both_closed end points edges id first second ends q = by (is_point second q) ref
     kept : filter (is_not_of id) (links_at end points edges q) ≡ links_at end points (filter (λ e. not (eqb e.scid id)) edges) q
     kept = links_keep end points (λ e. not (eqb e.scid id)) (is_not_of id) edges q (All_of _ edges (λ e. refl))
 
-    apart : is_point second q ≡ false → is_point first q ≡ false → (e : Edge) → (e.scid ≡ id → (end e ≡ first) ⊎ (end e ≡ second)) × (is_point q (end e) ≡ true) → not (eqb e.scid id) ≡ true
+    apart : is_point second q ≡ false → is_point first q ≡ false → (e : Edge) → (e.scid ≡ id
+        → (end e ≡ first) ⊎ (end e ≡ second)) × (is_point q (end e) ≡ true) → not (eqb e.scid id) ≡ true
     apart other away e both = which (eqb e.scid id) refl
       where
         never : (end e ≡ first) ⊎ (end e ≡ second) → ⊥
-        never (inl is) = let same : is_point first q ≡ true = ap (is_point first) (same_point q (end e) both.1 ∙ is) ∙ is_point-self first in true≢false (sym same ∙ away)
-        never (inr is) = let same : is_point second q ≡ true = ap (is_point second) (same_point q (end e) both.1 ∙ is) ∙ is_point-self second in true≢false (sym same ∙ other)
+        never (inl is) =
+            let same : is_point first q ≡ true =
+            ap (is_point first) (same_point q (end e) both.1 ∙ is) ∙ is_point-self first in
+            true≢false (sym same ∙ away)
+        never (inr is) =
+            let same : is_point second q ≡ true =
+            ap (is_point second) (same_point q (end e) both.1 ∙ is) ∙ is_point-self second in
+            true≢false (sym same ∙ other)
 
         which : (b : Bool) → eqb e.scid id ≡ b → not (eqb e.scid id) ≡ true
         which true f = absurd (never (both.0 (eqb_same e.scid id f)))
@@ -54,14 +62,16 @@ both_closed end points edges id first second ends q = by (is_point second q) ref
     by false e true f = rw (e, f) kept
     by false e false f = rw (e, f) (ap (map (link_of points)) (sym (filter_swap (λ d. is_point q (end d)) (λ d. not (eqb d.scid id)) edges
         ∙ filter_all (λ d. not (eqb d.scid id)) (filter (λ d. is_point q (end d)) edges)
-        (All_to _ _ (filter (λ d. is_point q (end d)) edges) (apart e f) (passing (λ d. d.scid ≡ id → (end d ≡ first) ⊎ (end d ≡ second)) (λ d. is_point q (end d)) edges ends)))))
+        (All_to _ _ (filter (λ d. is_point q (end d)) edges) (apart e f) (passing
+        (λ d. d.scid ≡ id → (end d ≡ first) ⊎ (end d ≡ second)) (λ d. is_point q (end d)) edges ends)))))
 
 pub lists_alike : (F G : Point → List Link) (points : List Point) → ((q : Point) → F q ≡ G q) → map F points ≡ map G points
 lists_alike F G points same = ap (λ (f : Point → List Link). map f points) (λ i q. same q i)
 
 -- ---- rows
 
-module _ (known : Option (List ℕ)) (rows : Rows) (id : ℕ) (channel : ChannelRow) (held : channel_of rows.channels id ≡ Some channel) (lawful : IsLawful rows) where
+module _ (known : Option (List ℕ)) (rows : Rows) (id : ℕ) (channel : ChannelRow)
+    (held : channel_of rows.channels id ≡ Some channel) (lawful : IsLawful rows) where
   abbrev first : Point
   first = channel.message.node_id_1
 
@@ -76,10 +86,12 @@ module _ (known : Option (List ℕ)) (rows : Rows) (id : ℕ) (channel : Channel
   }
   closed = rw held refl
 
-  other_channel : (row : UpdateRow) → not (eqb row.message.short_channel_id id) ≡ true → edge_in (channels_without rows.channels id) row ≡ edge_in rows.channels row
+  other_channel : (row : UpdateRow) → not (eqb row.message.short_channel_id id) ≡ true
+      → edge_in (channels_without rows.channels id) row ≡ edge_in rows.channels row
   other_channel row other =
       ap (λ (o : Option ChannelRow). edge_of_found o)
-      (find_stays (λ c. eqb c.message.short_channel_id row.message.short_channel_id) (λ c. not (eqb c.message.short_channel_id id)) rows.channels (All_of _ rows.channels each))
+      (find_stays (λ c. eqb c.message.short_channel_id row.message.short_channel_id)
+      (λ c. not (eqb c.message.short_channel_id id)) rows.channels (All_of _ rows.channels each))
     where
       edge_of_found : Option ChannelRow → Option Edge
       edge_of_found = λ o. option_and_then (λ c. edge_on c row) o
@@ -87,7 +99,8 @@ module _ (known : Option (List ℕ)) (rows : Rows) (id : ℕ) (channel : Channel
       each : (c : ChannelRow) → eqb c.message.short_channel_id row.message.short_channel_id ≡ true → not (eqb c.message.short_channel_id id) ≡ true
       each c e = ap (λ n. not (eqb n id)) (eqb_same c.message.short_channel_id row.message.short_channel_id e) ∙ other
 
-  own_id : (row : UpdateRow) (edge : Edge) → edge_in rows.channels row ≡ Some edge → not (eqb edge.scid id) ≡ not (eqb row.message.short_channel_id id)
+  own_id : (row : UpdateRow) (edge : Edge) → edge_in rows.channels row ≡ Some edge
+      → not (eqb edge.scid id) ≡ not (eqb row.message.short_channel_id id)
   unfolding edge_of
   own_id row edge is = let found = edge_in-some rows.channels row edge is in rw (found.2) refl
 
@@ -98,7 +111,8 @@ module _ (known : Option (List ℕ)) (rows : Rows) (id : ℕ) (channel : Channel
       ∙ filter_map-filter (edge_in rows.channels) (λ row. not (eqb row.message.short_channel_id id)) (λ e. not (eqb e.scid id)) own_id rows.updates
 
   -- the channel's edges end at its ends
-  of_id : (edge : Edge) → IsOfChannel rows.channels edge → edge.scid ≡ id → (edge.from ≡ end_of channel edge.second) × (edge.to ≡ end_of channel (not edge.second))
+  of_id : (edge : Edge) → IsOfChannel rows.channels edge → edge.scid ≡ id
+      → (edge.from ≡ end_of channel edge.second) × (edge.to ≡ end_of channel (not edge.second))
   of_id edge of same =
       let found : channel_of rows.channels id ≡ Some of.channel = ap (channel_of rows.channels) (sym same) ∙ of.held in
       let one : Some of.channel ≡ Some channel = sym found ∙ held in
@@ -119,7 +133,8 @@ module _ (known : Option (List ℕ)) (rows : Rows) (id : ℕ) (channel : Channel
 
   -- ---- nodes
 
-  still_ended : (q : Point) → is_point first q ≡ false → is_point second q ≡ false → ends_channel (channels_without rows.channels id) q ≡ ends_channel rows.channels q
+  still_ended : (q : Point) → is_point first q ≡ false → is_point second q ≡ false
+      → ends_channel (channels_without rows.channels id) q ≡ ends_channel rows.channels q
   still_ended q away other = any_stays (ends_at q) (λ c. not (eqb c.message.short_channel_id id)) rows.channels
       (All_to _ _ rows.channels each (one_channel rows.channels id channel lawful.ascend.channels held))
     where
@@ -134,43 +149,56 @@ module _ (known : Option (List ℕ)) (rows : Rows) (id : ℕ) (channel : Channel
               absurd cc
           which false f = rw f refl
 
-  other_node : (q : Point) → is_point first q ≡ false → is_point second q ≡ false → takes_payments known (without_channel rows id).nodes q ≡ takes_payments known rows.nodes q
+  other_node : (q : Point) → is_point first q ≡ false → is_point second q ≡ false
+      → takes_payments known (without_channel rows id).nodes q ≡ takes_payments known rows.nodes q
   other_node q away other =
       ap (λ (r : Rows). takes_payments known r.nodes q) closed
-      ∙ ap taken (find_stays (λ row. is_point row.message.node_id q) (λ row. ends_channel (channels_without rows.channels id) row.message.node_id) rows.nodes (All_to _ _ rows.nodes each lawful.ended))
+      ∙ ap taken (find_stays (λ row. is_point row.message.node_id q) (λ row. ends_channel (channels_without
+      rows.channels id) row.message.node_id) rows.nodes (All_to _ _ rows.nodes each lawful.ended))
     where
       taken : Option NodeRow → Bool
       taken = λ o. option_map_or (λ (row : NodeRow). allows known row.message.features) o true
 
-      each : (row : NodeRow) → ends_channel rows.channels row.message.node_id ≡ true → is_point row.message.node_id q ≡ true → ends_channel (channels_without rows.channels id) row.message.node_id ≡ true
+      each : (row : NodeRow) → ends_channel rows.channels row.message.node_id ≡ true
+          → is_point row.message.node_id q ≡ true
+          → ends_channel (channels_without rows.channels id) row.message.node_id ≡ true
       each row ended is =
           let same : row.message.node_id ≡ q = same_point row.message.node_id q is in
           ap (ends_channel (channels_without rows.channels id)) same ∙ still_ended q away other ∙ ap (ends_channel rows.channels) (sym same) ∙ ended
 
   looked : (q : Point) → (if is_point second q then takes_payments known (without_channel rows id).nodes q
-      else if is_point first q then takes_payments known (without_channel rows id).nodes q else takes_payments known rows.nodes q) ≡ takes_payments known (without_channel rows id).nodes q
+      else if is_point first q then takes_payments known (without_channel rows id).nodes q
+      else takes_payments known rows.nodes q) ≡ takes_payments known (without_channel rows id).nodes q
   looked q = by (is_point second q) refl (is_point first q) refl
     where
-      by : (b : Bool) → is_point second q ≡ b → (c : Bool) → is_point first q ≡ c → (if is_point second q then takes_payments known (without_channel rows id).nodes q
-          else if is_point first q then takes_payments known (without_channel rows id).nodes q else takes_payments known rows.nodes q) ≡ takes_payments known (without_channel rows id).nodes q
+      by : (b : Bool) → is_point second q ≡ b → (c : Bool) → is_point first q ≡ c
+          → (if is_point second q then takes_payments known (without_channel rows id).nodes q
+          else if is_point first q then takes_payments known (without_channel rows id).nodes q
+          else takes_payments known rows.nodes q) ≡ takes_payments known (without_channel rows id).nodes q
       by true e c f = rw e refl
       by false e true f = rw (e, f) refl
       by false e false f = rw (e, f) (sym (other_node q f e))
 
   -- ---- the view
 
-  pub node_closed : (after : Rows) → after ≡ without_channel rows id → (old new : Nodes) (one two : Point) → one ≡ first → two ≡ second → IsGraphOf rows (graph_in known old)
+  pub node_closed : (after : Rows) → after ≡ without_channel rows id → (old new : Nodes) (one two : Point)
+      → one ≡ first → two ≡ second → IsGraphOf rows (graph_in known old)
       → new.points.keys ≡ old.points.keys
       → AreInto (closed_at two id (closed_at one id (links_at (λ e. e.to) old.points.keys (carrying rows)))) new
       → AreOut (closed_at two id (closed_at one id (links_at (λ e. e.from) old.points.keys (carrying rows)))) new
-      → AreFlags (λ q. if is_point two q then takes_payments known after.nodes q else if is_point one q then takes_payments known after.nodes q else takes_payments known rows.nodes q) new
+      → AreFlags (λ q. if is_point two q then takes_payments known after.nodes q else if is_point one q
+      then takes_payments known after.nodes q else takes_payments known rows.nodes q) new
       → IsGraphOf after (graph_in known new)
   node_closed after is old new one two one_is two_is graph points into out flags = rw is (record {
     ends = rw (ap (λ (r : Rows). r.channels) closed, points) (All-test _ (λ c. not (eqb c.message.short_channel_id id)) rows.channels graph.ends);
     takes = flags ∙ rw (is, one_is, two_is, points) (ap (λ (f : Point → Bool). map f old.points.keys) (λ i q. looked q i));
     shows = record {
       joined = rw (carrying_closed, points) (All-test (IsJoined old.points.keys) (λ e. not (eqb e.scid id)) (carrying rows) graph.shows.joined);
-      into_is = into ∙ rw (one_is, two_is, points, carrying_closed) (lists_alike _ _ old.points.keys (both_closed (λ e. e.to) old.points.keys (carrying rows) id first second all_to));
-      out_is = out ∙ rw (one_is, two_is, points, carrying_closed) (lists_alike _ _ old.points.keys (both_closed (λ e. e.from) old.points.keys (carrying rows) id first second all_from));
+      into_is =
+          into ∙ rw (one_is, two_is, points, carrying_closed) (lists_alike _ _ old.points.keys
+          (both_closed (λ e. e.to) old.points.keys (carrying rows) id first second all_to));
+      out_is =
+          out ∙ rw (one_is, two_is, points, carrying_closed) (lists_alike _ _ old.points.keys
+          (both_closed (λ e. e.from) old.points.keys (carrying rows) id first second all_from));
     };
   })

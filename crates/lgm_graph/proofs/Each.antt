@@ -25,7 +25,8 @@ given f (suc i) (x ∷ xs) [] = []
 given f (suc i) (x ∷ xs) (y ∷ ys) = f x ∷ given f i xs ys
 
 module _ {X Y : Type 0} (f : X → Y) where
-  pub given-next : (i : ℕ) (xs : List X) (ys : List Y) (d : X) → length ys ≡ length xs → i < length ys → set (given f i xs ys) i (f (get_or xs i d)) ≡ given f (suc i) xs ys
+  pub given-next : (i : ℕ) (xs : List X) (ys : List Y) (d : X) → length ys ≡ length xs → i < length ys
+      → set (given f i xs ys) i (f (get_or xs i d)) ≡ given f (suc i) xs ys
   given-next i xs [] d long lt = absurd (omega (arith, lt))
   given-next i [] (y ∷ ys) d long lt = absurd (omega (arith, long))
   given-next zero (x ∷ xs) (y ∷ ys) d long lt = refl

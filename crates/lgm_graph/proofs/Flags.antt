@@ -11,10 +11,13 @@ use Rattle.lgm_graph.proofs.Places.{get_map}
 use Rattle.lgm_graph.proofs.Showing.{map_at}
 
 -- what stands by number changes at one point
-pub map_change : {Y : Type 0} (F : Point → Y) (h : Point → Y → Y) (points : List Point) (p : Point) (d : Y) → IsDistinct is_point points → IsNumbered points p
-    → set (map F points) (number_of points p) (h p (get_or (map F points) (number_of points p) d)) ≡ map (λ q. if is_point p q then h q (F q) else F q) points
+pub map_change : {Y : Type 0} (F : Point → Y) (h : Point → Y → Y) (points : List Point) (p : Point) (d : Y)
+    → IsDistinct is_point points → IsNumbered points p
+    → set (map F points) (number_of points p) (h p (get_or (map F points) (number_of points p) d))
+    ≡ map (λ q. if is_point p q then h q (F q) else F q) points
 map_change F h points p d distinct there =
-    ap (set (map F points) (number_of points p)) (own ∙ sym here) ∙ map_at F (λ q. if is_point p q then h q (F q) else F q) points p distinct there other
+    ap (set (map F points) (number_of points p)) (own ∙ sym here)
+    ∙ map_at F (λ q. if is_point p q then h q (F q) else F q) points p distinct there other
   where
     own : h p (get_or (map F points) (number_of points p) d) ≡ h p (F p)
     own = ap (h p) (get_map F points (number_of points p) p d there ∙ ap F (get_number points p p there))
@@ -31,7 +34,8 @@ pub map_absent : {Y : Type 0} (F : Point → Y) (h : Point → Y → Y) (points 
 map_absent F h [] p none = refl
 map_absent F h (q ∷ qs) p none = by (map_absent F h qs p) (is_point p q) refl none
   where
-    by : (list_any (is_point p) qs ≡ false → map F qs ≡ map (λ q. if is_point p q then h q (F q) else F q) qs) → (b : Bool) → is_point p q ≡ b → (is_point p q || list_any (is_point p) qs) ≡ false
+    by : (list_any (is_point p) qs ≡ false → map F qs ≡ map (λ q. if is_point p q then h q (F q) else F q) qs)
+        → (b : Bool) → is_point p q ≡ b → (is_point p q || list_any (is_point p) qs) ≡ false
         → F q ∷ map F qs ≡ (if is_point p q then h q (F q) else F q) ∷ map (λ q. if is_point p q then h q (F q) else F q) qs
     by others true e none = let never : true ≡ false = rw e at none in absurd cc
     by others false e none = rw e (ap (λ l. F q ∷ l) (others (rw e at none)))

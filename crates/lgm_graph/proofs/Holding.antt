@@ -1,5 +1,6 @@
 -- A view of rows holds exactly their edges.
-use Rattle.std.proofs.Common.{◌≡◌, ◌⊎◌, inl, inr, ◌↔◌, ℕ, Bool, true, false, not, List, [], ◌∷◌, get_or, refl, sym, ap, subst, ◌∙◌, Option, Some, None}
+use Rattle.std.proofs.Common.{◌≡◌, ◌⊎◌, inl, inr, ◌↔◌, ℕ, Bool, true, false, not, List, []}
+use Rattle.std.proofs.Common.{◌∷◌, get_or, refl, sym, ap, subst, ◌∙◌, Option, Some, None}
 use Rattle.std.specs.List.{IsDistinct, Contains, filter_map, cons_option}
 use Rattle.std.specs.declared.cmp.Ordering.{Ordering}
 use Rattle.std.specs.declared.cmp.Ordering.TheVariants.{Less, Equal, Greater}
@@ -49,7 +50,9 @@ module _ (rows : Rows) (graph : Graph) (distinct : IsDistinct is_point graph.poi
       let at = subst (λ (ls : List (List Link)). Among (get_or ls place.0 []) link.0) beside.shows.into_is place.2 in
       let made = link_at graph.points distinct (carrying rows) beside.shows.joined (λ e. e.to) place.0 link.0 at in
       let both = joined_one made.0 made.1 in
-      let own : made.0 ≡ edge = sym (back_again graph.points distinct (carrying rows) beside.shows.joined made.0 both) ∙ ap (edge_at graph.points) made.2 ∙ link.2 in
+      let own : made.0 ≡ edge =
+      sym (back_again graph.points distinct (carrying rows) beside.shows.joined made.0 both)
+      ∙ ap (edge_at graph.points) made.2 ∙ link.2 in
       let flag : takes_to made.0 ≡ true = sym (flag_at made.0.to both.1) ∙ ap (λ n. get_or graph.takes n false) made.3 ∙ place.1 in
       rw (← own) (Among-passes takes_to (carrying rows) made.0 made.1 flag)
 
@@ -68,7 +71,8 @@ Among-filter_map : {X Y : Type 0} (g : X → Option Y) (xs : List X) (y : Y) →
 Among-filter_map g [] y none = absurd none
 Among-filter_map g (x ∷ xs) y there = by (Among-filter_map g xs y) (g x) refl there
   where
-    by : (Among (filter_map g xs) y → (z : _) × Among xs z × (g z ≡ Some y)) → (o : Option _) → g x ≡ o → Among (cons_option (g x) (filter_map g xs)) y → (z : _) × Among (x ∷ xs) z × (g z ≡ Some y)
+    by : (Among (filter_map g xs) y → (z : _) × Among xs z × (g z ≡ Some y)) → (o : Option _) → g x ≡ o
+        → Among (cons_option (g x) (filter_map g xs)) y → (z : _) × Among (x ∷ xs) z × (g z ≡ Some y)
     by others None is there = let rest = others (rw is at there) in (rest.0, inr rest.1, rest.2)
     by others (Some z) is there = which (rw is at there)
       where
@@ -80,10 +84,12 @@ Among-filter_map g (x ∷ xs) y there = by (Among-filter_map g xs y) (g x) refl 
 cut_once : {X : Type 0} (f : X → Ordering) (xs : List X) (x y : X) → IsCut f xs → Among xs x → Among xs y → f x ≡ Equal → f y ≡ Equal → x ≡ y
 cut_once f [] x y cut none there one two = absurd none
 cut_once f (z ∷ zs) x y (inl below) (inl same) there one two = absurd (let l : f z ≡ Less = below.0 in let e : f z ≡ Equal = ap f same ∙ one in cc)
-cut_once f (z ∷ zs) x y (inl below) (inr more) (inl same) one two = absurd (let l : f z ≡ Less = below.0 in let e : f z ≡ Equal = ap f same ∙ two in cc)
+cut_once f (z ∷ zs) x y (inl below) (inr more) (inl same) one two =
+    absurd (let l : f z ≡ Less = below.0 in let e : f z ≡ Equal = ap f same ∙ two in cc)
 cut_once f (z ∷ zs) x y (inl below) (inr more) (inr also) one two = cut_once f zs x y below.1 more also one two
 cut_once f (z ∷ zs) x y (inr above) (inl same) (inl also) one two = sym same ∙ also
-cut_once f (z ∷ zs) x y (inr above) (inl same) (inr also) one two = absurd (let g : f y ≡ Greater = All_among (λ w. f w ≡ Greater) zs y above.1 also in cc)
+cut_once f (z ∷ zs) x y (inr above) (inl same) (inr also) one two =
+    absurd (let g : f y ≡ Greater = All_among (λ w. f w ≡ Greater) zs y above.1 also in cc)
 cut_once f (z ∷ zs) x y (inr above) (inr more) there one two = absurd (let g : f x ≡ Greater = All_among (λ w. f w ≡ Greater) zs x above.1 more in cc)
 
 other_direction : (b c : Bool) → (b ≡ c) ⊎ (not b ≡ c)
@@ -101,7 +107,8 @@ self_equal Less e = absurd cc
 self_equal Equal e = refl
 self_equal Greater e = absurd cc
 
-key_of : (channels : List ChannelRow) (row : UpdateRow) (e : Edge) → edge_in channels row ≡ Some e → (e.scid ≡ row.message.short_channel_id) × (e.second ≡ is_second row)
+key_of : (channels : List ChannelRow) (row : UpdateRow) (e : Edge) → edge_in channels row ≡ Some e
+    → (e.scid ≡ row.message.short_channel_id) × (e.second ≡ is_second row)
 unfolding edge_of
 key_of channels row e is = let found = edge_in-some channels row e is in rw (found.2) (refl, refl)
 
@@ -127,13 +134,16 @@ are_directions known rows ascend edge other there also same = by (other_directio
     same_edge direction =
         let made = Among-filter_map (edge_in rows.channels) rows.updates edge (carried edge there) in
         let key = key_of rows.channels made.0 edge made.2 in
-        cut_once (to_key made.0.message.short_channel_id (is_second made.0)) (carrying rows) edge other (carrying_cut rows.channels rows.updates made.0 ascend.updates) (carried edge there) (carried other also)
+        cut_once (to_key made.0.message.short_channel_id (is_second made.0)) (carrying rows) edge other
+        (carrying_cut rows.channels rows.updates made.0 ascend.updates) (carried edge there)
+        (carried other also)
         (equal made.0.message.short_channel_id (is_second made.0) edge key.0 key.1)
         (equal made.0.message.short_channel_id (is_second made.0) other (sym same ∙ key.0) (sym direction ∙ key.1))
 
     by : (edge.second ≡ other.second) ⊎ (not edge.second ≡ other.second) → (edge ≡ other) ⊎ ((edge.from ≡ other.to) × (edge.to ≡ other.from))
     by (inl direction) = inl (same_edge direction)
     by (inr turned) = inr (
-      one.from ∙ ap (λ (c : ChannelRow). end_of c edge.second) channel ∙ ap (end_of two.channel) (sym (twice_not edge.second) ∙ ap not turned) ∙ sym two.to,
+      one.from ∙ ap (λ (c : ChannelRow). end_of c edge.second) channel
+          ∙ ap (end_of two.channel) (sym (twice_not edge.second) ∙ ap not turned) ∙ sym two.to,
       one.to ∙ ap (λ (c : ChannelRow). end_of c (not edge.second)) channel ∙ ap (end_of two.channel) turned ∙ sym two.from,
     )

@@ -1,5 +1,6 @@
 -- Edges that stay, where others go with their channels.
-use Rattle.std.proofs.Common.{◌≡◌, ℕ, ◌<◌, eqb, Bool, true, false, cond, ◌&&◌, ◌||◌, List, [], ◌∷◌, map, refl, sym, ap, ◌∙◌, Option, Some, None, arith, true≢false}
+use Rattle.std.proofs.Common.{◌≡◌, ℕ, ◌<◌, eqb, Bool, true, false, cond, ◌&&◌, ◌||◌, List, [], ◌∷◌}
+use Rattle.std.proofs.Common.{map, refl, sym, ap, ◌∙◌, Option, Some, None, arith, true≢false}
 use Rattle.std.specs.List.{AllByRecursion, filter, filter_map, cons_option, find, list_any}
 use Rattle.std.specs.List.Sorted.{IsStrictlySortedBy}
 use Rattle.std.specs.declared.cmp.Ordering.TheVariants.{Less}
@@ -25,7 +26,8 @@ module _ {X : Type 0} where
   filter_passes p [] = tt
   filter_passes p (x ∷ xs) = by (filter_passes p xs) (p x) refl
     where
-      by : AllByRecursion (λ x. p x ≡ true) (filter p xs) → (b : Bool) → p x ≡ b → AllByRecursion (λ x. p x ≡ true) (cond (p x) (x ∷ filter p xs) (filter p xs))
+      by : AllByRecursion (λ x. p x ≡ true) (filter p xs) → (b : Bool) → p x ≡ b
+          → AllByRecursion (λ x. p x ≡ true) (cond (p x) (x ∷ filter p xs) (filter p xs))
       by others true e = rw e (e, others)
       by others false e = rw e others
 
@@ -59,7 +61,8 @@ module _ {X : Type 0} where
   find_stays p t [] all = refl
   find_stays p t (x ∷ xs) all = by (find_stays p t xs all.1) (t x) refl (p x) refl
     where
-      by : find p (filter t xs) ≡ find p xs → (b : Bool) → t x ≡ b → (c : Bool) → p x ≡ c → find p (cond (t x) (x ∷ filter t xs) (filter t xs)) ≡ cond (p x) (Some x) (find p xs)
+      by : find p (filter t xs) ≡ find p xs → (b : Bool) → t x ≡ b → (c : Bool) → p x ≡ c
+          → find p (cond (t x) (x ∷ filter t xs) (filter t xs)) ≡ cond (p x) (Some x) (find p xs)
       by others true e c f = rw e (ap (λ o. cond (p x) (Some x) o) others)
       by others false e true f = absurd (true≢false (sym (all.0 f) ∙ e))
       by others false e false f = rw (e, f) others
@@ -68,7 +71,8 @@ module _ {X : Type 0} where
   any_stays p t [] all = refl
   any_stays p t (x ∷ xs) all = by (any_stays p t xs all.1) (t x) refl (p x) refl
     where
-      by : list_any p (filter t xs) ≡ list_any p xs → (b : Bool) → t x ≡ b → (c : Bool) → p x ≡ c → list_any p (cond (t x) (x ∷ filter t xs) (filter t xs)) ≡ (p x || list_any p xs)
+      by : list_any p (filter t xs) ≡ list_any p xs → (b : Bool) → t x ≡ b → (c : Bool) → p x ≡ c
+          → list_any p (cond (t x) (x ∷ filter t xs) (filter t xs)) ≡ (p x || list_any p xs)
       by others true e c f = rw e (ap (λ o. p x || o) others)
       by others false e true f = absurd (true≢false (sym (all.0 f) ∙ e))
       by others false e false f = rw (e, f) others
@@ -100,19 +104,25 @@ none_above [] id all = refl
 none_above (c ∷ cs) id all = rw (eqb_other id (name_of c) all.0) (none_above cs id all.1)
 
 -- the channel of an id is one
-pub one_channel : (channels : List ChannelRow) (id : ℕ) (channel : ChannelRow) → IsStrictlySortedBy by_id channels → channel_of channels id ≡ Some channel
+pub one_channel : (channels : List ChannelRow) (id : ℕ) (channel : ChannelRow)
+    → IsStrictlySortedBy by_id channels → channel_of channels id ≡ Some channel
     → AllByRecursion (λ c. name_of c ≡ id → c ≡ channel) channels
 unfolding IsStrictlySortedBy
 one_channel [] id channel sorted found = tt
 one_channel (c ∷ cs) id channel sorted found = by (one_channel cs id channel sorted.1) (eqb (name_of c) id) refl found
   where
-    by : (channel_of cs id ≡ Some channel → AllByRecursion (λ c. name_of c ≡ id → c ≡ channel) cs) → (b : Bool) → eqb (name_of c) id ≡ b → cond (eqb (name_of c) id) (Some c) (channel_of cs id) ≡ Some channel
+    by : (channel_of cs id ≡ Some channel → AllByRecursion (λ c. name_of c ≡ id → c ≡ channel) cs)
+        → (b : Bool) → eqb (name_of c) id ≡ b
+        → cond (eqb (name_of c) id) (Some c) (channel_of cs id) ≡ Some channel
         → (name_of c ≡ id → c ≡ channel) × AllByRecursion (λ c. name_of c ≡ id → c ≡ channel) cs
     by others true e found =
         let h : Some c ≡ Some channel = rw e at found in
         let own : c ≡ channel = cc in
-        let same = eqb_same (name_of c) id e in
-        (λ is. own, All_to (λ d. by_id c d ≡ Less) (λ d. name_of d ≡ id → d ≡ channel) cs (λ d less is. absurd (let lt = less_lt (name_of c) (name_of d) less in omega (arith, lt, is, same))) sorted.0)
+        let same = eqb_same (name_of c) id e in (
+          λ is. own,
+          All_to (λ d. by_id c d ≡ Less) (λ d. name_of d ≡ id → d ≡ channel) cs (λ d less is. absurd
+              (let lt = less_lt (name_of c) (name_of d) less in omega (arith, lt, is, same))) sorted.0,
+        )
     by others false e found = (λ is. absurd (true≢false (sym (eqb_self (name_of c) id is) ∙ e)), others (rw e at found))
 
 -- among those that pass, the channel of an id is the same if it passes
@@ -122,8 +132,10 @@ unfolding IsStrictlySortedBy
 found_filter t [] id sorted channel found = absurd cc
 found_filter t (c ∷ cs) id sorted channel found = by (found_filter t cs id sorted.1 channel) (eqb (name_of c) id) refl (t c) refl found
   where
-    by : (channel_of cs id ≡ Some channel → channel_of (filter t cs) id ≡ cond (t channel) (Some channel) None) → (b : Bool) → eqb (name_of c) id ≡ b → (d : Bool) → t c ≡ d
-        → cond (eqb (name_of c) id) (Some c) (channel_of cs id) ≡ Some channel → channel_of (cond (t c) (c ∷ filter t cs) (filter t cs)) id ≡ cond (t channel) (Some channel) None
+    by : (channel_of cs id ≡ Some channel → channel_of (filter t cs) id
+        ≡ cond (t channel) (Some channel) None) → (b : Bool) → eqb (name_of c) id ≡ b → (d : Bool) → t c ≡ d
+        → cond (eqb (name_of c) id) (Some c) (channel_of cs id) ≡ Some channel
+        → channel_of (cond (t c) (c ∷ filter t cs) (filter t cs)) id ≡ cond (t channel) (Some channel) None
     by others true e true f found =
         let h : Some c ≡ Some channel = rw e at found in
         let own : channel ≡ c = cc in
@@ -132,7 +144,8 @@ found_filter t (c ∷ cs) id sorted channel found = by (found_filter t cs id sor
         let h : Some c ≡ Some channel = rw e at found in
         let own : channel ≡ c = cc in
         let same = eqb_same (name_of c) id e in
-        rw (own, f) (none_in cs (All_to (λ d. by_id c d ≡ Less) (λ d. id < name_of d) cs (λ d less. let lt = less_lt (name_of c) (name_of d) less in omega (arith, lt, same)) sorted.0))
+        rw (own, f) (none_in cs (All_to (λ d. by_id c d ≡ Less) (λ d. id < name_of d) cs
+        (λ d less. let lt = less_lt (name_of c) (name_of d) less in omega (arith, lt, same)) sorted.0))
       where
         none_in : (ds : List ChannelRow) → AllByRecursion (λ d. id < name_of d) ds → channel_of (filter t ds) id ≡ None
         none_in [] all = refl
@@ -144,7 +157,8 @@ found_filter t (c ∷ cs) id sorted channel found = by (found_filter t cs id sor
     by others false e true f found = rw (f, e) (others (rw e at found))
     by others false e false f found = rw f (others (rw e at found))
 
-pub none_filter : (t : ChannelRow → Bool) (channels : List ChannelRow) (id : ℕ) → channel_of channels id ≡ None → channel_of (filter t channels) id ≡ None
+pub none_filter : (t : ChannelRow → Bool) (channels : List ChannelRow) (id : ℕ)
+    → channel_of channels id ≡ None → channel_of (filter t channels) id ≡ None
 none_filter t [] id none = refl
 none_filter t (c ∷ cs) id none = by (none_filter t cs id) (eqb (name_of c) id) refl (t c) refl none
   where
@@ -157,13 +171,17 @@ none_filter t (c ∷ cs) id none = by (none_filter t cs id) (eqb (name_of c) id)
 -- ---- the links of those that stay
 
 -- a test of links that is one of their edges
-pub links_keep : (end : Edge → Point) (points : List Point) (keep : Edge → Bool) (test : Link → Bool) (edges : List Edge) (q : Point) → AllByRecursion (λ e. test (link_of points e) ≡ keep e) edges
+pub links_keep : (end : Edge → Point) (points : List Point) (keep : Edge → Bool) (test : Link → Bool)
+    (edges : List Edge) (q : Point) → AllByRecursion (λ e. test (link_of points e) ≡ keep e) edges
     → filter test (links_at end points edges q) ≡ links_at end points (filter keep edges) q
 links_keep end points keep test edges q same =
     filter-map (link_of points) test (filter (λ e. is_point q (end e)) edges)
     ∙ ap (map (link_of points)) (filter_agree (λ e. test (link_of points e)) keep (filter (λ e. is_point q (end e)) edges) (All_pass edges same)
     ∙ filter_swap keep (λ e. is_point q (end e)) edges)
   where
-    All_pass : (es : List Edge) → AllByRecursion (λ e. test (link_of points e) ≡ keep e) es → AllByRecursion (λ e. test (link_of points e) ≡ keep e) (filter (λ e. is_point q (end e)) es)
-    All_pass es all = All_to (λ e. (test (link_of points e) ≡ keep e) × (is_point q (end e) ≡ true)) (λ e. test (link_of points e) ≡ keep e) (filter (λ e. is_point q (end e)) es) (λ e both. both.0)
+    All_pass : (es : List Edge) → AllByRecursion (λ e. test (link_of points e) ≡ keep e) es
+        → AllByRecursion (λ e. test (link_of points e) ≡ keep e) (filter (λ e. is_point q (end e)) es)
+    All_pass es all =
+        All_to (λ e. (test (link_of points e) ≡ keep e) × (is_point q (end e) ≡ true))
+        (λ e. test (link_of points e) ≡ keep e) (filter (λ e. is_point q (end e)) es) (λ e both. both.0)
         (passing (λ e. test (link_of points e) ≡ keep e) (λ e. is_point q (end e)) es all)

@@ -1,5 +1,6 @@
 -- Each link stands with its ends, and nowhere else.
-use Rattle.std.proofs.Common.{◌≡◌, ◌⊎◌, inl, inr, ℕ, ◌<◌, Bool, true, false, List, [], ◌∷◌, length, map, get_or, zero, suc, refl, sym, ap, subst, ◌∙◌, arith, true≢false}
+use Rattle.std.proofs.Common.{◌≡◌, ◌⊎◌, inl, inr, ℕ, ◌<◌, Bool, true, false, List, [], ◌∷◌, length}
+use Rattle.std.proofs.Common.{map, get_or, zero, suc, refl, sym, ap, subst, ◌∙◌, arith, true≢false}
 use Rattle.std.specs.Prelude.{if◌then◌else◌}
 use Rattle.std.specs.List.{AllByRecursion, IsDistinct, Contains, filter, flat_map, zip}
 use Rattle.std.proofs.lemmas.List.{length-map}
@@ -9,9 +10,11 @@ use Rattle.lgm_store.specs.Rows.{is_point}
 use Rattle.lgm_store.proofs.Points.{same_point, is_point-self}
 use Rattle.lgm_graph.specs.declared.edge.Edge.{Edge}
 use Rattle.lgm_graph.specs.declared.link.Link.{Link}
-use Rattle.lgm_graph.specs.Graph.{Graph, IsLinked, AreLinked, IsJoined, IsNumbered, number_of, no_point, link_of, edge_at, links, links_into, links_leaving, links_by}
+use Rattle.lgm_graph.specs.Graph.{Graph, IsLinked, AreLinked, IsJoined, IsNumbered, number_of, no_point}
+use Rattle.lgm_graph.specs.Graph.{link_of, edge_at, links, links_into, links_leaving, links_by}
 use Rattle.lgm_graph.specs.inner.Sound.{IsSound}
-use Rattle.lgm_graph.proofs.Members.{Among, Contains-Among, Among-Contains, Among-left, Among-right, Among-either, Among-passes, Among-passed, All_among, Among-mapped, Among-map}
+use Rattle.lgm_graph.proofs.Members.{Among, Contains-Among, Among-Contains, Among-left, Among-right, Among-either}
+use Rattle.lgm_graph.proofs.Members.{Among-passes, Among-passed, All_among, Among-mapped, Among-map}
 use Rattle.lgm_graph.proofs.Numbers.{get_number}
 use Rattle.lgm_graph.proofs.Showing.{links_at, get_links, turned}
 
@@ -27,13 +30,16 @@ abbrev taken : {Y : Type 0} → Bool × List Y → List Y
 taken node = if node.0 then node.1 else []
 
 module _ {Y : Type 0} where
-  pub zipped_in : (takes : List Bool) (into : List (List Y)) (n : ℕ) (y : Y) → get_or takes n false ≡ true → Among (get_or into n []) y → Among (flat_map (λ (node : Bool × List Y). if node.0 then node.1 else []) (zip takes into)) y
+  pub zipped_in : (takes : List Bool) (into : List (List Y)) (n : ℕ) (y : Y) → get_or takes n false ≡ true
+      → Among (get_or into n []) y
+      → Among (flat_map (λ (node : Bool × List Y). if node.0 then node.1 else []) (zip takes into)) y
   zipped_in [] into n y is there = absurd (true≢false (sym is))
   zipped_in (b ∷ bs) [] n y is there = absurd there
   zipped_in (b ∷ bs) (l ∷ ls) zero y is there = Among-left (if b then l else []) _ y (let here : Among (if b then l else []) y = rw is there in here)
   zipped_in (b ∷ bs) (l ∷ ls) (suc n) y is there = Among-right (if b then l else []) _ y (zipped_in bs ls n y is there)
 
-  pub zipped_out : (takes : List Bool) (into : List (List Y)) (y : Y) → Among (flat_map (λ (node : Bool × List Y). if node.0 then node.1 else []) (zip takes into)) y
+  pub zipped_out : (takes : List Bool) (into : List (List Y)) (y : Y)
+      → Among (flat_map (λ (node : Bool × List Y). if node.0 then node.1 else []) (zip takes into)) y
       → (n : ℕ) × (get_or takes n false ≡ true) × Among (get_or into n []) y
   zipped_out [] into y none = absurd none
   zipped_out (b ∷ bs) [] y none = absurd none
@@ -43,7 +49,8 @@ module _ {Y : Type 0} where
       here true there = (refl, there)
       here false there = absurd there
 
-      by : (Among (flat_map (λ (node : Bool × List Y). if node.0 then node.1 else []) (zip bs ls)) y → (n : ℕ) × (get_or bs n false ≡ true) × Among (get_or ls n []) y)
+      by : (Among (flat_map (λ (node : Bool × List Y). if node.0 then node.1 else []) (zip bs ls)) y
+          → (n : ℕ) × (get_or bs n false ≡ true) × Among (get_or ls n []) y)
           → Among (if b then l else []) y ⊎ Among (flat_map (λ (node : Bool × List Y). if node.0 then node.1 else []) (zip bs ls)) y
           → (n : ℕ) × (get_or (b ∷ bs) n false ≡ true) × Among (get_or (l ∷ ls) n []) y
       by others (inl first) = let is = here b first in (zero, is.0, is.1)
@@ -55,7 +62,8 @@ number_at [] n d distinct lt = absurd (omega (arith, lt))
 number_at (p ∷ ps) zero d distinct lt = rw (is_point-self p) refl
 number_at (p ∷ ps) (suc n) d distinct lt =
     let inner : n < length ps = omega (arith, lt) in
-    rw (turned p (get_or ps n d) (at ps n (IsDistinct-head is_point p ps distinct) inner)) (omega (arith, number_at ps n d (IsDistinct-tail is_point p ps distinct) inner))
+    rw (turned p (get_or ps n d) (at ps n (IsDistinct-head is_point p ps distinct) inner))
+    (omega (arith, number_at ps n d (IsDistinct-tail is_point p ps distinct) inner))
   where
     at : (qs : List Point) (m : ℕ) → AllByRecursion (λ q. is_point p q ≡ false) qs → m < length qs → is_point p (get_or qs m d) ≡ false
     at [] m all lt = absurd (omega (arith, lt))
@@ -71,14 +79,21 @@ module _ (points : List Point) (distinct : IsDistinct is_point points) (edges : 
   link_at end n link there =
       let here = among_at (links_at end points edges) points n no_point link there in
       let made = Among-mapped (link_of points) (filter (λ e. is_point (get_or points n no_point) (end e)) edges) link here.1 in
-      let passed = Among-passed (λ e. is_point (get_or points n no_point) (end e)) edges made.0 made.1 in
-      (made.0, passed.0, made.2, ap (number_of points) (sym (same_point (get_or points n no_point) (end made.0) passed.1)) ∙ number_at points n no_point distinct here.0)
+      let passed = Among-passed (λ e. is_point (get_or points n no_point) (end e)) edges made.0 made.1 in (
+        made.0,
+        passed.0,
+        made.2,
+        ap (number_of points) (sym (same_point (get_or points n no_point) (end made.0) passed.1))
+            ∙ number_at points n no_point distinct here.0,
+      )
 
   -- and an edge's link is at its ends
-  pub link_there : (end : Edge → Point) (edge : Edge) → Among edges edge → IsNumbered points (end edge) → Among (get_or (links_by end points edges) (number_of points (end edge)) []) (link_of points edge)
+  pub link_there : (end : Edge → Point) (edge : Edge) → Among edges edge → IsNumbered points (end edge)
+      → Among (get_or (links_by end points edges) (number_of points (end edge)) []) (link_of points edge)
   link_there end edge there numbered =
       rw (get_links end points edges (end edge) numbered)
-      (Among-map (link_of points) (filter (λ e. is_point (end edge) (end e)) edges) edge (Among-passes (λ e. is_point (end edge) (end e)) edges edge there (is_point-self (end edge))))
+      (Among-map (link_of points) (filter (λ e. is_point (end edge) (end e)) edges) edge
+      (Among-passes (λ e. is_point (end edge) (end e)) edges edge there (is_point-self (end edge))))
 
   pub back_again : (edge : Edge) → IsJoined points edge → edge_at points (link_of points edge) ≡ edge
   back_again edge both = rw (get_number points edge.from no_point both.0, get_number points edge.to no_point both.1) refl
@@ -99,16 +114,20 @@ are_linked graph distinct sound = record {
     joined : (edge : Edge) → Among sound.edges edge → IsJoined graph.points edge
     joined edge there = All_among (IsJoined graph.points) sound.edges edge sound.shows.joined there
 
-    made_into : (n : ℕ) (link : Link) → Among (get_or graph.into n []) link → (edge : Edge) × Among sound.edges edge × (link_of graph.points edge ≡ link) × (number_of graph.points edge.to ≡ n)
+    made_into : (n : ℕ) (link : Link) → Among (get_or graph.into n []) link → (edge : Edge)
+        × Among sound.edges edge × (link_of graph.points edge ≡ link) × (number_of graph.points edge.to ≡ n)
     made_into n link there = link_at graph.points distinct sound.edges sound.shows.joined (λ e. e.to) n link (rw (sound.shows.into_is) at there)
 
-    made_out : (n : ℕ) (link : Link) → Among (get_or graph.out n []) link → (edge : Edge) × Among sound.edges edge × (link_of graph.points edge ≡ link) × (number_of graph.points edge.from ≡ n)
+    made_out : (n : ℕ) (link : Link) → Among (get_or graph.out n []) link → (edge : Edge)
+        × Among sound.edges edge × (link_of graph.points edge ≡ link) × (number_of graph.points edge.from ≡ n)
     made_out n link there = link_at graph.points distinct sound.edges sound.shows.joined (λ e. e.from) n link (rw (sound.shows.out_is) at there)
 
     takes_it : (n : ℕ) (link : Link) → Among (links_into graph n) link → (get_or graph.takes n false ≡ true) × Among (get_or graph.into n []) link
     takes_it n link there = by (get_or graph.takes n false) refl there
       where
-        by : (b : Bool) → get_or graph.takes n false ≡ b → Among (if get_or graph.takes n false then get_or graph.into n [] else []) link → (get_or graph.takes n false ≡ true) × Among (get_or graph.into n []) link
+        by : (b : Bool) → get_or graph.takes n false ≡ b
+            → Among (if get_or graph.takes n false then get_or graph.into n [] else []) link
+            → (get_or graph.takes n false ≡ true) × Among (get_or graph.into n []) link
         by true e there = (e, rw e at there)
         by false e there = let none : ⊥ = rw e at there in absurd none
 

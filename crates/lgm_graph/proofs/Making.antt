@@ -1,5 +1,6 @@
 -- Nodes numbered, and edges put behind the others.
-use Rattle.std.proofs.Common.{◌≡◌, ℕ, Bool, true, false, cond, not, ◌&&◌, List, [], ◌∷◌, ◌++◌, length, map, set, get_or, refl, sym, ap, subst, ◌∙◌, Option, Some, None}
+use Rattle.std.proofs.Common.{◌≡◌, ℕ, Bool, true, false, cond, not, ◌&&◌, List, [], ◌∷◌, ◌++◌, length}
+use Rattle.std.proofs.Common.{map, set, get_or, refl, sym, ap, subst, ◌∙◌, Option, Some, None}
 use Rattle.std.proofs.lemmas.List.{length-map}
 use Rattle.std.specs.Bool.{beq}
 use Rattle.std.specs.List.{IsDistinct, find}
@@ -39,14 +40,20 @@ module _ (old new : Nodes) (same : (known : Option (List ℕ)) → graph_in know
 -- each node has its lists
 module _ (edges : List Edge) (nodes : Nodes) (shows : ShowsIn edges nodes) where
   pub into_long : length nodes.into.items ≡ length nodes.points.keys
-  into_long = sym (length-map nodes.into.items links_in) ∙ ap length shows.into_is ∙ length-map nodes.points.keys (links_at (λ e. e.to) nodes.points.keys edges)
+  into_long =
+      sym (length-map nodes.into.items links_in) ∙ ap length shows.into_is
+      ∙ length-map nodes.points.keys (links_at (λ e. e.to) nodes.points.keys edges)
 
   pub out_long : length nodes.out.items ≡ length nodes.points.keys
-  out_long = sym (length-map nodes.out.items links_in) ∙ ap length shows.out_is ∙ length-map nodes.points.keys (links_at (λ e. e.from) nodes.points.keys edges)
+  out_long =
+      sym (length-map nodes.out.items links_in) ∙ ap length shows.out_is
+      ∙ length-map nodes.points.keys (links_at (λ e. e.from) nodes.points.keys edges)
 
 -- ---- the ends of a direction
 
-pub end_numbered : (points : List Point) (channel : ChannelRow) (second : Bool) → IsNumbered points channel.message.node_id_1 → IsNumbered points channel.message.node_id_2 → IsNumbered points (end_of channel second)
+pub end_numbered : (points : List Point) (channel : ChannelRow) (second : Bool)
+    → IsNumbered points channel.message.node_id_1 → IsNumbered points channel.message.node_id_2
+    → IsNumbered points (end_of channel second)
 end_numbered points channel true first other = other
 end_numbered points channel false first other = first
 
@@ -69,19 +76,22 @@ same_bool true false is = absurd cc
 same_bool false true is = absurd cc
 
 -- an update that is found is of its direction
-pub update_second : (updates : List UpdateRow) (id : ℕ) (second : Bool) (row : UpdateRow) → update_of updates id second ≡ Some row → is_second row ≡ second
+pub update_second : (updates : List UpdateRow) (id : ℕ) (second : Bool) (row : UpdateRow)
+    → update_of updates id second ≡ Some row → is_second row ≡ second
 update_second updates id second row is = same_bool (is_second row) second (both_true _ (beq (is_second row) second) (found_passes _ updates row is)).1
 
 pub edge_from : (channel : ChannelRow) (row : UpdateRow) (edge : Edge) → Some edge ≡ edge_on channel row → edge.from ≡ end_of channel (is_second row)
 unfolding edge_of
 edge_from channel row edge is = rw (edge_on-is channel row edge (sym is)) refl
 
-pub edge_to : (channel : ChannelRow) (row : UpdateRow) (edge : Edge) → Some edge ≡ edge_on channel row → edge.to ≡ end_of channel (not (is_second row))
+pub edge_to : (channel : ChannelRow) (row : UpdateRow) (edge : Edge) → Some edge ≡ edge_on channel row
+    → edge.to ≡ end_of channel (not (is_second row))
 unfolding edge_of
 edge_to channel row edge is = rw (edge_on-is channel row edge (sym is)) refl
 
 -- the edge of a direction
-pub direction_some : (updates : List UpdateRow) (channel : ChannelRow) (id : ℕ) (second : Bool) (row : UpdateRow) (edge : Edge) → id ≡ channel.message.short_channel_id
+pub direction_some : (updates : List UpdateRow) (channel : ChannelRow) (id : ℕ) (second : Bool)
+    (row : UpdateRow) (edge : Edge) → id ≡ channel.message.short_channel_id
     → Some row ≡ update_of updates id second → Some edge ≡ edge_on channel row → edge_of_direction updates channel second ≡ Some edge
 direction_some updates channel id second row edge own found is =
     ap (option_and_then (edge_on channel)) (ap (λ id. update_of updates id second) (sym own) ∙ sym found) ∙ sym is

@@ -1,5 +1,6 @@
 -- Elements of lists, and of what is made of lists.
-use Rattle.std.proofs.Common.{◌≡◌, ◌⊎◌, inl, inr, ℕ, ◌<◌, Bool, true, false, cond, List, [], ◌∷◌, ◌++◌, length, map, get_or, zero, suc, refl, sym, ap, ◌∙◌, arith, true≢false}
+use Rattle.std.proofs.Common.{◌≡◌, ◌⊎◌, inl, inr, ℕ, ◌<◌, Bool, true, false, cond, List, [], ◌∷◌, ◌++◌}
+use Rattle.std.proofs.Common.{length, map, get_or, zero, suc, refl, sym, ap, ◌∙◌, arith, true≢false}
 use Rattle.std.specs.List.{AllByRecursion, Contains, filter, flat_map}
 
 -- an element of the list
@@ -43,7 +44,8 @@ module _ {X : Type 0} where
   Among-passes p [] x none is = absurd none
   Among-passes p (y ∷ ys) x there is = by (Among-passes p ys x) (p y) refl there
     where
-      by : (Among ys x → p x ≡ true → Among (filter p ys) x) → (b : Bool) → p y ≡ b → (y ≡ x) ⊎ Among ys x → Among (cond (p y) (y ∷ filter p ys) (filter p ys)) x
+      by : (Among ys x → p x ≡ true → Among (filter p ys) x) → (b : Bool) → p y ≡ b → (y ≡ x) ⊎ Among ys x
+          → Among (cond (p y) (y ∷ filter p ys) (filter p ys)) x
       by others true e (inl same) = rw e (inl same)
       by others true e (inr more) = rw e (inr (others more is))
       by others false e (inl same) = absurd (true≢false (sym is ∙ ap p (sym same) ∙ e))
@@ -53,7 +55,8 @@ module _ {X : Type 0} where
   Among-passed p [] x none = absurd none
   Among-passed p (y ∷ ys) x there = by (Among-passed p ys x) (p y) refl there
     where
-      by : (Among (filter p ys) x → Among ys x × (p x ≡ true)) → (b : Bool) → p y ≡ b → Among (cond (p y) (y ∷ filter p ys) (filter p ys)) x → Among (y ∷ ys) x × (p x ≡ true)
+      by : (Among (filter p ys) x → Among ys x × (p x ≡ true)) → (b : Bool) → p y ≡ b
+          → Among (cond (p y) (y ∷ filter p ys) (filter p ys)) x → Among (y ∷ ys) x × (p x ≡ true)
       by others true e there = which (rw e at there)
         where
           which : (y ≡ x) ⊎ Among (filter p ys) x → Among (y ∷ ys) x × (p x ≡ true)
@@ -87,6 +90,7 @@ module _ {X Y : Type 0} (f : X → List Y) where
   Among-flattened [] y none = absurd none
   Among-flattened (x ∷ xs) y there = by (Among-flattened xs y) (Among-either (f x) (flat_map f xs) y there)
     where
-      by : (Among (flat_map f xs) y → (z : X) × Among xs z × Among (f z) y) → Among (f x) y ⊎ Among (flat_map f xs) y → (z : X) × Among (x ∷ xs) z × Among (f z) y
+      by : (Among (flat_map f xs) y → (z : X) × Among xs z × Among (f z) y)
+          → Among (f x) y ⊎ Among (flat_map f xs) y → (z : X) × Among (x ∷ xs) z × Among (f z) y
       by others (inl first) = (x, inl refl, first)
       by others (inr second) = let rest = others second in (rest.0, inr rest.1, rest.2)

@@ -16,7 +16,8 @@ module _ {X : Type 0} (p t : X → Bool) where
   find_kept to [] = refl
   find_kept to (x ∷ xs) = by (find_kept to xs) (t x) refl (p x) refl
     where
-      by : find p (filter t xs) ≡ find p xs → (b : Bool) → t x ≡ b → (c : Bool) → p x ≡ c → find p (cond (t x) (x ∷ filter t xs) (filter t xs)) ≡ cond (p x) (Some x) (find p xs)
+      by : find p (filter t xs) ≡ find p xs → (b : Bool) → t x ≡ b → (c : Bool) → p x ≡ c
+          → find p (cond (t x) (x ∷ filter t xs) (filter t xs)) ≡ cond (p x) (Some x) (find p xs)
       by others true e c f = rw e (ap (λ o. cond (p x) (Some x) o) others)
       by others false e true f = absurd (true≢false (sym (to x f) ∙ e))
       by others false e false f = rw (e, f) others
@@ -39,12 +40,14 @@ module _ {X : Type 0} (p : X → Bool) where
   find_back [] ys none = refl
   find_back (x ∷ xs) ys none = by (find_back xs ys) (p x) refl none
     where
-      by : (find p xs ≡ None → find p (xs ++ ys) ≡ find p ys) → (b : Bool) → p x ≡ b → cond (p x) (Some x) (find p xs) ≡ None → cond (p x) (Some x) (find p (xs ++ ys)) ≡ find p ys
+      by : (find p xs ≡ None → find p (xs ++ ys) ≡ find p ys) → (b : Bool) → p x ≡ b
+          → cond (p x) (Some x) (find p xs) ≡ None → cond (p x) (Some x) (find p (xs ++ ys)) ≡ find p ys
       by others true e none = let h : Some x ≡ None = rw e at none in absurd cc
       by others false e none = rw e (others (rw e at none))
 
 -- other nodes keep theirs
-pub node_put : (nodes : List NodeRow) (row : NodeRow) (q : Point) → is_point row.message.node_id q ≡ false → node_of (put by_node nodes row) q ≡ node_of nodes q
+pub node_put : (nodes : List NodeRow) (row : NodeRow) (q : Point) → is_point row.message.node_id q ≡ false
+    → node_of (put by_node nodes row) q ≡ node_of nodes q
 node_put nodes row q other = by (point_cmp q row.message.node_id) refl
   where
     p : NodeRow → Bool

@@ -17,29 +17,36 @@ pub flags_alike : (F G : Point → Bool) (points : List Point) → ((q : Point) 
 flags_alike F G points same = ap (λ (f : Point → Bool). map f points) (λ i q. same q i)
 
 module _ (known : Option (List ℕ)) (rows : Rows) (row : NodeRow) where
-  same_rest : (b : Bool) → ends_channel rows.channels row.message.node_id ≡ b → (carrying (with_node rows row) ≡ carrying rows) × ((with_node rows row).channels ≡ rows.channels)
+  same_rest : (b : Bool) → ends_channel rows.channels row.message.node_id ≡ b
+      → (carrying (with_node rows row) ≡ carrying rows) × ((with_node rows row).channels ≡ rows.channels)
   same_rest true e = (rw e refl, rw e refl)
   same_rest false e = (rw e refl, rw e refl)
 
-  other_node : (q : Point) → is_point row.message.node_id q ≡ false → takes_payments known (with_node rows row).nodes q ≡ takes_payments known rows.nodes q
+  other_node : (q : Point) → is_point row.message.node_id q ≡ false
+      → takes_payments known (with_node rows row).nodes q ≡ takes_payments known rows.nodes q
   other_node q apart = by (ends_channel rows.channels row.message.node_id) refl
     where
-      by : (b : Bool) → ends_channel rows.channels row.message.node_id ≡ b → takes_payments known (with_node rows row).nodes q ≡ takes_payments known rows.nodes q
+      by : (b : Bool) → ends_channel rows.channels row.message.node_id ≡ b
+          → takes_payments known (with_node rows row).nodes q ≡ takes_payments known rows.nodes q
       by true e = rw (e, node_put rows.nodes row q apart) refl
       by false e = rw e refl
 
   -- looked at anew at the node, all are
-  looked : (q : Point) → (if is_point row.message.node_id q then takes_payments known (with_node rows row).nodes q else takes_payments known rows.nodes q) ≡ takes_payments known (with_node rows row).nodes q
+  looked : (q : Point) → (if is_point row.message.node_id q then takes_payments known (with_node rows
+      row).nodes q else takes_payments known rows.nodes q) ≡ takes_payments known (with_node rows row).nodes q
   looked q = by (is_point row.message.node_id q) refl
     where
       by : (b : Bool) → is_point row.message.node_id q ≡ b
-          → (if is_point row.message.node_id q then takes_payments known (with_node rows row).nodes q else takes_payments known rows.nodes q) ≡ takes_payments known (with_node rows row).nodes q
+          → (if is_point row.message.node_id q then takes_payments known (with_node rows row).nodes q
+          else takes_payments known rows.nodes q) ≡ takes_payments known (with_node rows row).nodes q
       by true e = rw e refl
       by false e = rw e (sym (other_node q e))
 
   -- the view, where the node is looked at anew
-  pub graph_noded : (points : List Point) (takes new : List Bool) (into out : List (List Link)) → IsGraphOf rows (record { known = known; points = points; takes = takes; into = into; out = out })
-      → new ≡ map (λ q. if is_point row.message.node_id q then takes_payments known (with_node rows row).nodes q else takes_payments known rows.nodes q) points
+  pub graph_noded : (points : List Point) (takes new : List Bool) (into out : List (List Link))
+      → IsGraphOf rows (record { known = known; points = points; takes = takes; into = into; out = out })
+      → new ≡ map (λ q. if is_point row.message.node_id q
+      then takes_payments known (with_node rows row).nodes q else takes_payments known rows.nodes q) points
       → IsGraphOf (with_node rows row) (record { known = known; points = points; takes = new; into = into; out = out })
   graph_noded points takes new into out graph own =
       let same = same_rest (ends_channel rows.channels row.message.node_id) refl in
@@ -50,10 +57,12 @@ module _ (known : Option (List ℕ)) (rows : Rows) (row : NodeRow) where
       }
 
   -- the same of the nodes as they are kept
-  pub noded : (after : Rows) (node : Point) (old new : Nodes) → after ≡ with_node rows row → node ≡ row.message.node_id → IsGraphOf rows (graph_in known old)
+  pub noded : (after : Rows) (node : Point) (old new : Nodes) → after ≡ with_node rows row
+      → node ≡ row.message.node_id → IsGraphOf rows (graph_in known old)
       → new.points.keys ≡ old.points.keys → new.into.items ≡ old.into.items → new.out.items ≡ old.out.items
       → AreFlags (λ q. if is_point node q then takes_payments known after.nodes q else takes_payments known rows.nodes q) new
       → IsGraphOf after (graph_in known new)
   noded after node old new is own graph points into out flags =
-      rw (is, points, into, out) (graph_noded old.points.keys old.takes.items new.takes.items (map links_in old.into.items) (map links_in old.out.items) graph
+      rw (is, points, into, out) (graph_noded old.points.keys old.takes.items new.takes.items
+      (map links_in old.into.items) (map links_in old.out.items) graph
       (flags ∙ rw (is, own, points) refl))

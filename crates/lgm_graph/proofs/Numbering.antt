@@ -1,5 +1,6 @@
 -- A point looked up, and numbered where it isn't.
-use Rattle.std.proofs.Common.{◌≡◌, ℕ, ◌+◌, ◌<◌, ◌≤◌, ltb, zero, suc, Bool, true, false, cond, ◌||◌, List, [], ◌∷◌, ◌++◌, length, map, refl, ap, subst, ◌∙◌, Option, Some, None, arith, true≢false, length-append}
+use Rattle.std.proofs.Common.{◌≡◌, ℕ, ◌+◌, ◌<◌, ◌≤◌, ltb, zero, suc, Bool, true, false, cond, ◌||◌, List, [], ◌∷◌, ◌++◌}
+use Rattle.std.proofs.Common.{length, map, refl, ap, subst, ◌∙◌, Option, Some, None, arith, true≢false, length-append}
 use Rattle.std.specs.List.{AllByRecursion, IsDistinct, list_any, position, slice_get}
 use Rattle.std.proofs.lemmas.List.{map-append}
 use Rattle.std.proofs.lemmas.Bool.Decides.{nat_tests}
@@ -21,7 +22,8 @@ pub any_numbered : (points : List Point) (p : Point) → list_any (is_point p) p
 any_numbered [] p any = absurd cc
 any_numbered (r ∷ rs) p any = by (any_numbered rs p) (is_point p r) refl any
   where
-    by : (list_any (is_point p) rs ≡ true → IsNumbered rs p) → (b : Bool) → is_point p r ≡ b → (is_point p r || list_any (is_point p) rs) ≡ true → IsNumbered (r ∷ rs) p
+    by : (list_any (is_point p) rs ≡ true → IsNumbered rs p) → (b : Bool) → is_point p r ≡ b
+        → (is_point p r || list_any (is_point p) rs) ≡ true → IsNumbered (r ∷ rs) p
     by others true e any = rw e (omega arith)
     by others false e any = let there = others (rw e at any) in rw e (omega (arith, there))
 
@@ -29,7 +31,8 @@ pub any_not : (points : List Point) (p : Point) → list_any (is_point p) points
 any_not [] p any there = omega (arith, there)
 any_not (r ∷ rs) p any there = by (any_not rs p) (is_point p r) refl any there
   where
-    by : (list_any (is_point p) rs ≡ false → IsNumbered rs p → ⊥) → (b : Bool) → is_point p r ≡ b → (is_point p r || list_any (is_point p) rs) ≡ false → IsNumbered (r ∷ rs) p → ⊥
+    by : (list_any (is_point p) rs ≡ false → IsNumbered rs p → ⊥) → (b : Bool) → is_point p r ≡ b
+        → (is_point p r || list_any (is_point p) rs) ≡ false → IsNumbered (r ∷ rs) p → ⊥
     by others true e any there = let h : true ≡ false = rw e at any in true≢false h
     by others false e any there =
         let next : 1 + number_of rs p ≡ suc (number_of rs p) = omega arith in
@@ -40,7 +43,8 @@ any_not (r ∷ rs) p any there = by (any_not rs p) (is_point p r) refl any there
 pub position_none : (points : List Point) (p : Point) → position (is_point p) points ≡ None → list_any (is_point p) points ≡ false
 position_none points p none = by (list_any (is_point p) points) refl
   where
-    found : IsNumbered points p → (b : Bool) → ltb (number_of points p) (length points) ≡ b → cond (ltb (number_of points p) (length points)) (Some (number_of points p)) None ≡ None → ⊥
+    found : IsNumbered points p → (b : Bool) → ltb (number_of points p) (length points) ≡ b
+        → cond (ltb (number_of points p) (length points)) (Some (number_of points p)) None ≡ None → ⊥
     found there true e is = let h : Some (number_of points p) ≡ None = rw e at is in absurd cc
     found there false e is = let le : length points ≤ number_of points p = grind (arith, nat_tests) in omega (arith, le, there)
 
@@ -54,7 +58,8 @@ found_at P (y ∷ ys) zero x all there = let own : y ≡ x = cc in subst P own a
 found_at P (y ∷ ys) (suc n) x all there = found_at P ys n x all.1 there
 
 -- a point has the number at which it stands, where points are distinct
-pub number_at : (points : List Point) (n : ℕ) (p q : Point) → IsDistinct is_point points → slice_get points n ≡ Some q → is_point p q ≡ true → (n ≡ number_of points p) × IsNumbered points p
+pub number_at : (points : List Point) (n : ℕ) (p q : Point) → IsDistinct is_point points
+    → slice_get points n ≡ Some q → is_point p q ≡ true → (n ≡ number_of points p) × IsNumbered points p
 number_at [] n p q distinct there is = absurd cc
 number_at (r ∷ rs) zero p q distinct there is =
     let own : r ≡ q = cc in
@@ -70,7 +75,8 @@ number_at (r ∷ rs) (suc n) p q distinct there is =
 module _ (old mid new : Nodes) (point : Point) (takes : Bool) (other : list_any (is_point point) old.points.keys ≡ false)
     (same : (known : Option (List ℕ)) → graph_in known mid ≡ graph_in known old)
     (points_is : new.points.keys ≡ mid.points.keys ++ point ∷ []) (takes_is : new.takes.items ≡ mid.takes.items ++ takes ∷ [])
-    (into_is : map links_in new.into.items ≡ map links_in mid.into.items ++ [] ∷ []) (out_is : map links_in new.out.items ≡ map links_in mid.out.items ++ [] ∷ []) where
+    (into_is : map links_in new.into.items ≡ map links_in mid.into.items ++ [] ∷ [])
+    (out_is : map links_in new.out.items ≡ map links_in mid.out.items ++ [] ∷ []) where
   pub further_points : new.points.keys ≡ old.points.keys ++ point ∷ []
   further_points = points_is ∙ ap (λ ps. ps ++ point ∷ []) (same_points old mid same)
 
@@ -83,7 +89,8 @@ module _ (old mid new : Nodes) (point : Point) (takes : Bool) (other : list_any 
   pub further_few : length new.points.keys ≤ length old.points.keys + 1
   further_few = omega (arith, ap length further_points, length-append old.points.keys (point ∷ []))
 
-  pub further_takes : (known : Option (List ℕ)) (rows : List NodeRow) → takes ≡ takes_payments known rows point → AreLookedAt known rows old → AreLookedAt known rows new
+  pub further_takes : (known : Option (List ℕ)) (rows : List NodeRow)
+      → takes ≡ takes_payments known rows point → AreLookedAt known rows old → AreLookedAt known rows new
   further_takes known rows own all =
       rw (takes_is, further_points, same_takes old mid same, all, own, map-append (takes_payments known rows) old.points.keys (point ∷ [])) refl
 

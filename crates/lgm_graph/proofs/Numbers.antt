@@ -1,6 +1,7 @@
 -- The numbers of points.
 use Rattle.lgm_store.proofs.Points.{same_point}
-use Rattle.std.proofs.Common.{◌≡◌, ℕ, ◌+◌, suc, get_or, ◌<◌, ◌≤◌, ltb, Bool, true, false, cond, List, [], ◌∷◌, length, refl, sym, Some, None, arith, Result, Ok, Err}
+use Rattle.std.proofs.Common.{◌≡◌, ℕ, ◌+◌, suc, get_or, ◌<◌, ◌≤◌, ltb, Bool, true, false, cond, List}
+use Rattle.std.proofs.Common.{[], ◌∷◌, length, refl, sym, Some, None, arith, Result, Ok, Err}
 use Rattle.std.specs.List.{AllByRecursion, find, position}
 use Rattle.std.specs.Result.{OnErr}
 use Rattle.std.proofs.lemmas.Bool.Decides.{nat_tests}
@@ -13,14 +14,20 @@ use Rattle.lgm_graph.specs.Edges.{end_of}
 pub number_some : (points : List Point) (p : Point) (n : ℕ) → position (is_point p) points ≡ Some n → (number_of points p ≡ n) × (n < length points)
 number_some points p n is = by (ltb (number_of points p) (length points)) refl is
   where
-    by : (b : Bool) → ltb (number_of points p) (length points) ≡ b → cond (ltb (number_of points p) (length points)) (Some (number_of points p)) None ≡ Some n → (number_of points p ≡ n) × (n < length points)
-    by true e is = let h : Some (number_of points p) ≡ Some n = rw e at is in let same : number_of points p ≡ n = cc in (same, rw (← same) (grind (arith, nat_tests)))
+    by : (b : Bool) → ltb (number_of points p) (length points) ≡ b
+        → cond (ltb (number_of points p) (length points)) (Some (number_of points p)) None ≡ Some n
+        → (number_of points p ≡ n) × (n < length points)
+    by true e is =
+        let h : Some (number_of points p) ≡ Some n = rw e at is in
+        let same : number_of points p ≡ n = cc in
+        (same, rw (← same) (grind (arith, nat_tests)))
     by false e is = let h : None ≡ Some n = rw e at is in absurd cc
 
 pub number_none : (points : List Point) (p : Point) → IsNumbered points p → position (is_point p) points ≡ None → ⊥
 number_none points p there is = by (ltb (number_of points p) (length points)) refl is
   where
-    by : (b : Bool) → ltb (number_of points p) (length points) ≡ b → cond (ltb (number_of points p) (length points)) (Some (number_of points p)) None ≡ None → ⊥
+    by : (b : Bool) → ltb (number_of points p) (length points) ≡ b
+        → cond (ltb (number_of points p) (length points)) (Some (number_of points p)) None ≡ None → ⊥
     by true e is = let h : Some (number_of points p) ≡ None = rw e at is in absurd cc
     by false e is = let le : length points ≤ number_of points p = grind (arith, nat_tests) in omega (arith, le, there)
 
@@ -52,7 +59,8 @@ pub get_number : (points : List Point) (p d : Point) → IsNumbered points p →
 get_number [] p d there = absurd (omega (arith, there))
 get_number (q ∷ qs) p d there = by (get_number qs p d) (is_point p q) refl there
   where
-    by : (number_of qs p < length qs → get_or qs (number_of qs p) d ≡ p) → (b : Bool) → is_point p q ≡ b → number_of (q ∷ qs) p < suc (length qs) → get_or (q ∷ qs) (number_of (q ∷ qs) p) d ≡ p
+    by : (number_of qs p < length qs → get_or qs (number_of qs p) d ≡ p) → (b : Bool) → is_point p q ≡ b
+        → number_of (q ∷ qs) p < suc (length qs) → get_or (q ∷ qs) (number_of (q ∷ qs) p) d ≡ p
     by others true e lt = rw e (sym (same_point p q e))
     by others false e lt =
         let next : 1 + number_of qs p ≡ suc (number_of qs p) = omega arith in

@@ -1,5 +1,6 @@
 -- A view of rows has each of their edges once.
-use Rattle.std.proofs.Common.{◌≡◌, Bool, true, false, cond, not, ◌||◌, List, [], ◌∷◌, ◌++◌, map, refl, sym, ap, subst, ◌∙◌, ◌<◌, ◌+◌, length, arith, true≢false}
+use Rattle.std.proofs.Common.{◌≡◌, Bool, true, false, cond, not, ◌||◌, List, [], ◌∷◌, ◌++◌, map}
+use Rattle.std.proofs.Common.{refl, sym, ap, subst, ◌∙◌, ◌<◌, ◌+◌, length, arith, true≢false}
 use Rattle.std.specs.Prelude.{if◌then◌else◌, flat_map, zip}
 use Rattle.std.specs.List.{AllByRecursion, IsDistinct, filter, list_any}
 use Rattle.std.specs.List.Sorted.{IsPermutation}
@@ -36,8 +37,11 @@ gathered_others p edges (q ∷ qs) apart = rw (here, gathered_others p edges qs 
     pass [] all = refl
     pass (e ∷ es) all = by (pass es all.1) (is_point q e.to) refl (not (is_point p e.to)) refl
       where
-        by : filter (λ e. is_point q e.to) (filter (λ e. not (is_point p e.to)) es) ≡ filter (λ e. is_point q e.to) es → (b : Bool) → is_point q e.to ≡ b → (d : Bool) → not (is_point p e.to) ≡ d
-            → filter (λ e. is_point q e.to) (cond (not (is_point p e.to)) (e ∷ filter (λ e. not (is_point p e.to)) es) (filter (λ e. not (is_point p e.to)) es)) ≡ cond (is_point q e.to) (e ∷ filter (λ e. is_point q e.to) es) (filter (λ e. is_point q e.to) es)
+        by : filter (λ e. is_point q e.to) (filter (λ e. not (is_point p e.to)) es) ≡ filter (λ e.
+            is_point q e.to) es → (b : Bool) → is_point q e.to ≡ b → (d : Bool) → not (is_point p e.to) ≡ d
+            → filter (λ e. is_point q e.to) (cond (not (is_point p e.to)) (e
+            ∷ filter (λ e. not (is_point p e.to)) es) (filter (λ e. not (is_point p e.to)) es))
+            ≡ cond (is_point q e.to) (e ∷ filter (λ e. is_point q e.to) es) (filter (λ e. is_point q e.to) es)
         by others true is true stays = rw (stays, is, others) refl
         by others true is false stays = absurd (true≢false (sym (all.0 is) ∙ stays))
         by others false is true stays = rw (stays, is) others
@@ -47,7 +51,8 @@ gathered_others p edges (q ∷ qs) apart = rw (here, gathered_others p edges qs 
     here = pass edges (each edges)
 
 -- each edge goes to one of the points, and so is gathered once
-gathered_once : (points : List Point) (edges : List Edge) → IsDistinct is_point points → AllByRecursion (λ e. list_any (λ p. is_point p e.to) points ≡ true) edges → IsPermutation edges (gathered points edges)
+gathered_once : (points : List Point) (edges : List Edge) → IsDistinct is_point points → AllByRecursion
+    (λ e. list_any (λ p. is_point p e.to) points ≡ true) edges → IsPermutation edges (gathered points edges)
 gathered_once [] [] distinct all = IsPermutation-refl []
 gathered_once [] (e ∷ es) distinct all = let never : false ≡ true = all.0 in absurd cc
 gathered_once (p ∷ ps) edges distinct all =
@@ -62,8 +67,10 @@ gathered_once (p ∷ ps) edges distinct all =
     others [] all = tt
     others (e ∷ es) all = by (others es all.1) (is_point p e.to) refl
       where
-        by : AllByRecursion (λ e. list_any (λ q. is_point q e.to) ps ≡ true) (filter (λ e. not (is_point p e.to)) es) → (b : Bool) → is_point p e.to ≡ b
-            → AllByRecursion (λ e. list_any (λ q. is_point q e.to) ps ≡ true) (cond (not (is_point p e.to)) (e ∷ filter (λ e. not (is_point p e.to)) es) (filter (λ e. not (is_point p e.to)) es))
+        by : AllByRecursion (λ e. list_any (λ q. is_point q e.to) ps
+            ≡ true) (filter (λ e. not (is_point p e.to)) es) → (b : Bool) → is_point p e.to ≡ b
+            → AllByRecursion (λ e. list_any (λ q. is_point q e.to) ps ≡ true) (cond (not (is_point p e.to)) (e
+            ∷ filter (λ e. not (is_point p e.to)) es) (filter (λ e. not (is_point p e.to)) es))
         by rest true is = rw is rest
         by rest false is = rw is (rw is at all.0, rest)
 
@@ -72,10 +79,13 @@ numbered_among : (points : List Point) (p : Point) → IsNumbered points p → l
 numbered_among [] p there = absurd (omega (arith, there))
 numbered_among (q ∷ qs) p there = by (numbered_among qs p) (is_point p q) refl there
   where
-    by : (IsNumbered qs p → list_any (λ r. is_point r p) qs ≡ true) → (b : Bool) → is_point p q ≡ b → IsNumbered (q ∷ qs) p → (is_point q p || list_any (λ r. is_point r p) qs) ≡ true
+    by : (IsNumbered qs p → list_any (λ r. is_point r p) qs ≡ true) → (b : Bool) → is_point p q ≡ b
+        → IsNumbered (q ∷ qs) p → (is_point q p || list_any (λ r. is_point r p) qs) ≡ true
     by others true is there =
         let own : is_point q p ≡ true = ap (λ (x : Point). is_point x p) (sym (same_point p q is)) ∙ is_point-self p in rw own refl
-    by others false is there = last (is_point q p) (others (let later : 1 + number_of qs p < length (q ∷ qs) = rw is at there in omega (arith, later)))
+    by others false is there =
+        last (is_point q p)
+        (others (let later : 1 + number_of qs p < length (q ∷ qs) = rw is at there in omega (arith, later)))
       where
         last : (b : Bool) → list_any (λ r. is_point r p) qs ≡ true → (b || list_any (λ r. is_point r p) qs) ≡ true
         last true rest = refl
@@ -83,11 +93,15 @@ numbered_among (q ∷ qs) p there = by (numbered_among qs p) (is_point p q) refl
 
 module _ (rows : Rows) (graph : Graph) (distinct : IsDistinct is_point graph.points) (beside : IsGraphOf rows graph) where
   -- the edges into one node
-  edges_at : (p : Point) → map (edge_at graph.points) (if takes_payments graph.known rows.nodes p then links_at (λ e. e.to) graph.points (carrying rows) p else []) ≡ filter (λ e. is_point p e.to) (edges_of graph.known rows)
+  edges_at : (p : Point) → map (edge_at graph.points) (if takes_payments graph.known rows.nodes p
+      then links_at (λ e. e.to) graph.points (carrying rows) p else [])
+      ≡ filter (λ e. is_point p e.to) (edges_of graph.known rows)
   edges_at p = along (carrying rows) beside.shows.joined
     where
       along : (es : List Edge) → AllByRecursion (IsJoined graph.points) es
-          → map (edge_at graph.points) (if takes_payments graph.known rows.nodes p then links_at (λ e. e.to) graph.points es p else []) ≡ filter (λ e. is_point p e.to) (filter (λ e. takes_payments graph.known rows.nodes e.to) es)
+          → map (edge_at graph.points) (if takes_payments graph.known rows.nodes p
+          then links_at (λ e. e.to) graph.points es p else [])
+          ≡ filter (λ e. is_point p e.to) (filter (λ e. takes_payments graph.known rows.nodes e.to) es)
       along [] joined = none (takes_payments graph.known rows.nodes p)
         where
           none : (b : Bool) → map (edge_at graph.points) (if b then [] else []) ≡ []
@@ -101,39 +115,52 @@ module _ (rows : Rows) (graph : Graph) (distinct : IsDistinct is_point graph.poi
           left : List Edge
           left = filter (λ d. takes_payments graph.known rows.nodes d.to) es
 
-          by : map (edge_at graph.points) (if takes_payments graph.known rows.nodes p then map (link_of graph.points) into else []) ≡ filter (λ d. is_point p d.to) left
+          by : map (edge_at graph.points) (if takes_payments graph.known rows.nodes p
+              then map (link_of graph.points) into else []) ≡ filter (λ d. is_point p d.to) left
               → (b : Bool) → is_point p e.to ≡ b → (t : Bool) → takes_payments graph.known rows.nodes p ≡ t
-              → map (edge_at graph.points) (if takes_payments graph.known rows.nodes p then map (link_of graph.points) (cond (is_point p e.to) (e ∷ into) into) else [])
+              → map (edge_at graph.points) (if takes_payments graph.known rows.nodes p
+              then map (link_of graph.points) (cond (is_point p e.to) (e ∷ into) into) else [])
               ≡ filter (λ d. is_point p d.to) (cond (takes_payments graph.known rows.nodes e.to) (e ∷ left) left)
           by rest true b true t =
-              let own : takes_payments graph.known rows.nodes e.to ≡ true = ap (takes_payments graph.known rows.nodes) (sym (same_point p e.to b)) ∙ t in
+              let own : takes_payments graph.known rows.nodes e.to ≡ true =
+              ap (takes_payments graph.known rows.nodes) (sym (same_point p e.to b)) ∙ t in
               let back = back_again graph.points distinct (carrying rows) beside.shows.joined e joined.0 in
               let rest' : map (edge_at graph.points) (map (link_of graph.points) into) ≡ filter (λ d. is_point p d.to) left = rw t at rest in
-              rw (b, t, own, b) (ap (λ (d : Edge). d ∷ map (edge_at graph.points) (map (link_of graph.points) into)) back ∙ ap (λ (l : List Edge). e ∷ l) rest')
+              rw (b, t, own, b) (ap (λ (d : Edge). d ∷ map (edge_at graph.points)
+              (map (link_of graph.points) into)) back ∙ ap (λ (l : List Edge). e ∷ l) rest')
           by rest true b false t =
-              let own : takes_payments graph.known rows.nodes e.to ≡ false = ap (takes_payments graph.known rows.nodes) (sym (same_point p e.to b)) ∙ t in
+              let own : takes_payments graph.known rows.nodes e.to ≡ false =
+              ap (takes_payments graph.known rows.nodes) (sym (same_point p e.to b)) ∙ t in
               rw (own, t) (rw t at rest)
           by rest false b t is = elsewhere (takes_payments graph.known rows.nodes e.to)
             where
-              elsewhere : (d : Bool) → map (edge_at graph.points) (if takes_payments graph.known rows.nodes p then map (link_of graph.points) (cond (is_point p e.to) (e ∷ into) into) else [])
+              elsewhere : (d : Bool) → map (edge_at graph.points) (if takes_payments graph.known rows.nodes p
+                  then map (link_of graph.points) (cond (is_point p e.to) (e ∷ into) into) else [])
                   ≡ filter (λ d. is_point p d.to) (cond d (e ∷ left) left)
               elsewhere true = rw b rest
               elsewhere false = rw b rest
 
-  links_are : (ps : List Point) → map (edge_at graph.points) (flat_map (λ (node : Bool × List Link). if node.0 then node.1 else []) (zip (map (takes_payments graph.known rows.nodes) ps) (map (links_at (λ e. e.to) graph.points (carrying rows)) ps)))
+  links_are : (ps : List Point) → map (edge_at graph.points) (flat_map (λ (node : Bool × List Link). if node.0
+      then node.1 else []) (zip (map (takes_payments graph.known rows.nodes) ps)
+      (map (links_at (λ e. e.to) graph.points (carrying rows)) ps)))
       ≡ gathered ps (edges_of graph.known rows)
   links_are [] = refl
   links_are (p ∷ ps) =
-      map-append (edge_at graph.points) (if takes_payments graph.known rows.nodes p then links_at (λ e. e.to) graph.points (carrying rows) p else []) _
+      map-append (edge_at graph.points) (if takes_payments graph.known rows.nodes p
+      then links_at (λ e. e.to) graph.points (carrying rows) p else []) _
       ∙ rw (edges_at p, links_are ps) refl
 
   pub once : IsPermutation (edges_of graph.known rows) (edges graph)
   once =
       let all : AllByRecursion (λ e. list_any (λ q. is_point q e.to) graph.points ≡ true) (edges_of graph.known rows) =
       All-test _ (λ e. takes_payments graph.known rows.nodes e.to) (carrying rows)
-      (All_to (IsJoined graph.points) (λ e. list_any (λ q. is_point q e.to) graph.points ≡ true) (carrying rows) (λ e both. numbered_among graph.points e.to both.1) beside.shows.joined) in
+      (All_to (IsJoined graph.points) (λ e. list_any (λ q. is_point q e.to) graph.points ≡ true)
+      (carrying rows) (λ e both. numbered_among graph.points e.to both.1) beside.shows.joined) in
       let is : edges graph ≡ gathered graph.points (edges_of graph.known rows) =
-      ap (λ (ts : List Bool). map (edge_at graph.points) (flat_map (λ (node : Bool × List Link). if node.0 then node.1 else []) (zip ts graph.into))) beside.takes
-      ∙ ap (λ (ls : List (List Link)). map (edge_at graph.points) (flat_map (λ (node : Bool × List Link). if node.0 then node.1 else []) (zip (map (takes_payments graph.known rows.nodes) graph.points) ls))) beside.shows.into_is
+      ap (λ (ts : List Bool). map (edge_at graph.points) (flat_map
+      (λ (node : Bool × List Link). if node.0 then node.1 else []) (zip ts graph.into))) beside.takes
+      ∙ ap (λ (ls : List (List Link)).
+      map (edge_at graph.points) (flat_map (λ (node : Bool × List Link). if node.0 then node.1 else [])
+      (zip (map (takes_payments graph.known rows.nodes) graph.points) ls))) beside.shows.into_is
       ∙ links_are graph.points in
       subst (IsPermutation (edges_of graph.known rows)) (sym is) (gathered_once graph.points (edges_of graph.known rows) distinct all)

@@ -1,5 +1,6 @@
 -- The nodes at which channels go by a ban.
-use Rattle.std.proofs.Common.{◌≡◌, ℕ, ◌+◌, ◌<◌, eqb, Bool, true, false, cond, not, ◌||◌, List, [], ◌∷◌, ◌++◌, length, map, take, get_or, zero, suc, refl, sym, ap, ◌∙◌, Option, Some, None, arith, true≢false}
+use Rattle.std.proofs.Common.{◌≡◌, ℕ, ◌+◌, ◌<◌, eqb, Bool, true, false, cond, not, ◌||◌, List, [], ◌∷◌, ◌++◌, length, map}
+use Rattle.std.proofs.Common.{take, get_or, zero, suc, refl, sym, ap, ◌∙◌, Option, Some, None, arith, true≢false}
 use Rattle.std.specs.Prelude.{if◌then◌else◌}
 use Rattle.std.specs.Option.{option_map_or}
 use Rattle.std.specs.List.{AllByRecursion, filter, list_any}
@@ -56,8 +57,12 @@ among_own points p = by (list_any (is_point p) points) refl
     there [] any = absurd cc
     there (q ∷ qs) any = at (there qs) (is_point p q) refl any
       where
-        at : (list_any (is_point p) qs ≡ true → is_among qs p ≡ true) → (b : Bool) → is_point p q ≡ b → (is_point p q || list_any (is_point p) qs) ≡ true → (is_point q p || is_among qs p) ≡ true
-        at others true is any = let own : is_point q p ≡ true = ap (λ (x : Point). is_point x p) (sym (same_point p q is)) ∙ is_point-self p in rw own refl
+        at : (list_any (is_point p) qs ≡ true → is_among qs p ≡ true) → (b : Bool) → is_point p q ≡ b
+            → (is_point p q || list_any (is_point p) qs) ≡ true → (is_point q p || is_among qs p) ≡ true
+        at others true is any =
+            let own : is_point q p ≡ true =
+            ap (λ (x : Point). is_point x p) (sym (same_point p q is)) ∙ is_point-self p in
+            rw own refl
         at others false is any = which (is_point q p) (others (rw is at any))
           where
             which : (b : Bool) → is_among qs p ≡ true → (b || is_among qs p) ≡ true
@@ -76,9 +81,14 @@ pub kept_more : (points : List Point) (channel : ChannelRow) (q : Point) → is_
 kept_more points channel q among = among_more _ channel.message.node_id_2 q (among_more points channel.message.node_id_1 q among)
 
 has_own : (points : List Point) (channel : ChannelRow) → HasEnds (with_ends points channel) channel
-has_own points channel = (among_more _ channel.message.node_id_2 channel.message.node_id_1 (among_own points channel.message.node_id_1), among_own _ channel.message.node_id_2)
+has_own points channel = (
+  among_more _ channel.message.node_id_2 channel.message.node_id_1
+      (among_own points channel.message.node_id_1),
+  among_own _ channel.message.node_id_2,
+)
 
-pub has_kept : (old new : List Point) (channel : ChannelRow) → ((q : Point) → is_among old q ≡ true → is_among new q ≡ true) → HasEnds old channel → HasEnds new channel
+pub has_kept : (old new : List Point) (channel : ChannelRow) → ((q : Point) → is_among old q ≡ true
+    → is_among new q ≡ true) → HasEnds old channel → HasEnds new channel
 has_kept old new channel kept has = (kept channel.message.node_id_1 has.0, kept channel.message.node_id_2 has.1)
 
 -- ---- the channels at a node, one after the other
@@ -95,7 +105,9 @@ each_found (x ∷ xs) sorted = (rw (same (id_of x)) refl, along xs sorted.0 (eac
     apart : (a b : ChannelRow) → by_id a b ≡ Less → eqb (id_of a) (id_of b) ≡ false
     apart a b less = let is : nat_cmp (id_of a) (id_of b) ≡ Less = less in grind (arith, nat_tests)
 
-    along : (ys : List ChannelRow) → AllByRecursion (λ y. by_id x y ≡ Less) ys → AllByRecursion (λ row. channel_of xs (id_of row) ≡ Some row) ys → AllByRecursion (λ row. channel_of (x ∷ xs) (id_of row) ≡ Some row) ys
+    along : (ys : List ChannelRow) → AllByRecursion (λ y. by_id x y ≡ Less) ys
+        → AllByRecursion (λ row. channel_of xs (id_of row) ≡ Some row) ys
+        → AllByRecursion (λ row. channel_of (x ∷ xs) (id_of row) ≡ Some row) ys
     along [] above found = tt
     along (y ∷ ys) above found = (rw (apart x y above.0) found.0, along ys above.1 found.1)
 
@@ -105,7 +117,8 @@ at_place P [] i d lt all = absurd (omega (arith, lt))
 at_place P (x ∷ xs) zero d lt all = all.0
 at_place P (x ∷ xs) (suc i) d lt all = at_place P xs i d (omega (arith, lt)) all.1
 
-get_id : (rows : List ChannelRow) (i : ℕ) (id : ℕ) (d : ChannelRow) → i < length (map id_of rows) → get_or (map id_of rows) i id ≡ id_of (get_or rows i d)
+get_id : (rows : List ChannelRow) (i : ℕ) (id : ℕ) (d : ChannelRow) → i < length (map id_of rows)
+    → get_or (map id_of rows) i id ≡ id_of (get_or rows i d)
 get_id [] i id d lt = absurd (omega (arith, lt))
 get_id (x ∷ xs) zero id d lt = refl
 get_id (x ∷ xs) (suc i) id d lt = get_id xs i id d (omega (arith, lt))
@@ -115,29 +128,37 @@ long_ids [] = refl
 long_ids (x ∷ xs) = rw (long_ids xs) refl
 
 -- the ends of one channel more
-pub ends_next : (rows : List ChannelRow) (node : Point) (ids : List ℕ) (i : ℕ) (id : ℕ) (channel : ChannelRow) (old new : List Point) → IsStrictlySortedBy by_id rows
+pub ends_next : (rows : List ChannelRow) (node : Point) (ids : List ℕ) (i : ℕ) (id : ℕ) (channel : ChannelRow)
+    (old new : List Point) → IsStrictlySortedBy by_id rows
     → ids ≡ ids_at rows node → i < length ids → id ≡ get_or ids i id → channel_of rows id ≡ Some channel → new ≡ with_ends old channel
     → AllByRecursion (HasEnds old) (take i (filter (ends_at node) rows)) → AllByRecursion (HasEnds new) (take (i + 1) (filter (ends_at node) rows))
 ends_next rows node ids i id channel old new sorted ids_are lt is held new_is done =
     let there = filter (ends_at node) rows in
     let within : i < length (map id_of there) = rw ids_are at lt in
     let short : i < length there = let long = long_ids there in omega (arith, within, long) in
-    let found = at_place (λ row. channel_of rows (id_of row) ≡ Some row) there i channel short (All-test _ (ends_at node) rows (each_found rows sorted)) in
+    let found =
+    at_place (λ row. channel_of rows (id_of row) ≡ Some row) there i channel short
+    (All-test _ (ends_at node) rows (each_found rows sorted)) in
     let id_is : id ≡ id_of (get_or there i channel) = is ∙ ap (λ l. get_or l i id) ids_are ∙ get_id there i id channel within in
     let one : Some (get_or there i channel) ≡ Some channel = sym found ∙ ap (channel_of rows) (sym id_is) ∙ held in
     let own : get_or there i channel ≡ channel = cc in
     rw ((take_at_read there i channel short).1, own, new_is)
-    (All_append (HasEnds (with_ends old channel)) (take i there) (channel ∷ []) (All_to (HasEnds old) (HasEnds (with_ends old channel)) (take i there) (λ row has. has_kept old (with_ends old channel) row (kept_more old channel) has) done)
+    (All_append (HasEnds (with_ends old channel)) (take i there) (channel ∷ [])
+    (All_to (HasEnds old) (HasEnds (with_ends old channel)) (take i there) (λ row has.
+    has_kept old (with_ends old channel) row (kept_more old channel) has) done)
     (has_own old channel, tt))
 
 -- the channel of each of the ids is held
-pub ids_held : (rows : List ChannelRow) (node : Point) (ids : List ℕ) (i : ℕ) (id : ℕ) → IsStrictlySortedBy by_id rows → ids ≡ ids_at rows node → i < length ids → id ≡ get_or ids i id → channel_of rows id ≡ None → ⊥
+pub ids_held : (rows : List ChannelRow) (node : Point) (ids : List ℕ) (i : ℕ) (id : ℕ)
+    → IsStrictlySortedBy by_id rows → ids ≡ ids_at rows node → i < length ids → id ≡ get_or ids i id
+    → channel_of rows id ≡ None → ⊥
 ids_held rows node ids i id sorted ids_are lt is none =
     let there = filter (ends_at node) rows in
     let within : i < length (map id_of there) = rw ids_are at lt in
     by there within (All-test _ (ends_at node) rows (each_found rows sorted)) (is ∙ ap (λ l. get_or l i id) ids_are)
   where
-    by : (there : List ChannelRow) → i < length (map id_of there) → AllByRecursion (λ row. channel_of rows (id_of row) ≡ Some row) there → id ≡ get_or (map id_of there) i id → ⊥
+    by : (there : List ChannelRow) → i < length (map id_of there) → AllByRecursion
+        (λ row. channel_of rows (id_of row) ≡ Some row) there → id ≡ get_or (map id_of there) i id → ⊥
     by [] within found is = omega (arith, within)
     by (x ∷ xs) within found is =
         let short : i < length (x ∷ xs) = let long = long_ids (x ∷ xs) in omega (arith, within, long) in
@@ -146,12 +167,14 @@ ids_held rows node ids i id sorted ids_are lt is none =
         absurd cc
 
 -- those that pass a test, among all
-pub ends_all : (rows : List ChannelRow) (node : Point) (points : List Point) → AllByRecursion (HasEnds points) (filter (ends_at node) rows) → AllByRecursion (λ row. ends_at node row ≡ true → HasEnds points row) rows
+pub ends_all : (rows : List ChannelRow) (node : Point) (points : List Point) → AllByRecursion (HasEnds points)
+    (filter (ends_at node) rows) → AllByRecursion (λ row. ends_at node row ≡ true → HasEnds points row) rows
 ends_all [] node points all = tt
 ends_all (x ∷ xs) node points all = by (ends_all xs node points) (ends_at node x) refl all
   where
     by : (AllByRecursion (HasEnds points) (filter (ends_at node) xs) → AllByRecursion (λ row. ends_at node row ≡ true → HasEnds points row) xs)
-        → (b : Bool) → ends_at node x ≡ b → AllByRecursion (HasEnds points) (cond (ends_at node x) (x ∷ filter (ends_at node) xs) (filter (ends_at node) xs))
+        → (b : Bool) → ends_at node x ≡ b → AllByRecursion (HasEnds points)
+        (cond (ends_at node x) (x ∷ filter (ends_at node) xs) (filter (ends_at node) xs))
         → AllByRecursion (λ row. ends_at node row ≡ true → HasEnds points row) (x ∷ xs)
     by others true is all = let here : AllByRecursion (HasEnds points) (x ∷ filter (ends_at node) xs) = rw is at all in ((λ e. here.0), others here.1)
     by others false is all = ((λ e. absurd (true≢false (sym e ∙ is))), others (rw is at all))
@@ -163,19 +186,25 @@ pub parts_all : (rows : Rows) (ban : BanRow) (one two three four : List Point) �
     → AllByRecursion (λ row. ends_at ban.held2 row ≡ true → HasEnds two row) rows.channels
     → AllByRecursion (λ row. ends_at ban.new1 row ≡ true → HasEnds three row) rows.channels
     → AllByRecursion (λ row. ends_at ban.new2 row ≡ true → HasEnds four row) rows.channels
-    → ((q : Point) → is_among one q ≡ true → is_among two q ≡ true) → ((q : Point) → is_among two q ≡ true → is_among three q ≡ true) → ((q : Point) → is_among three q ≡ true → is_among four q ≡ true)
+    → ((q : Point) → is_among one q ≡ true → is_among two q ≡ true) → ((q : Point) → is_among two q ≡ true
+    → is_among three q ≡ true) → ((q : Point) → is_among three q ≡ true → is_among four q ≡ true)
     → AllByRecursion (λ row. ends_banned (with_banned rows.banned ban) row ≡ true → HasEnds four row) rows.channels
 parts_all rows ban one two three four lawful a b c d kept2 kept3 kept4 = along rows.channels lawful.allowed a b c d
   where
-    at : (points : List Point) (p : Point) (row : ChannelRow) → (ends_banned points row ≡ true → HasEnds four row) → (ends_at p row ≡ true → HasEnds four row) → ends_banned (put by_point points p) row ≡ true → HasEnds four row
+    at : (points : List Point) (p : Point) (row : ChannelRow)
+        → (ends_banned points row ≡ true → HasEnds four row) → (ends_at p row ≡ true → HasEnds four row)
+        → ends_banned (put by_point points p) row ≡ true → HasEnds four row
     at points p row before here banned = by (ends_banned points row) refl (rw (ends_banned-put points p row) at banned)
       where
         by : (b : Bool) → ends_banned points row ≡ b → (ends_banned points row || ends_at p row) ≡ true → HasEnds four row
         by true is either = before is
         by false is either = here (rw is at either)
 
-    along : (rs : List ChannelRow) → AreAllowed rows.banned rs → AllByRecursion (λ row. ends_at ban.held1 row ≡ true → HasEnds one row) rs → AllByRecursion (λ row. ends_at ban.held2 row ≡ true → HasEnds two row) rs
-        → AllByRecursion (λ row. ends_at ban.new1 row ≡ true → HasEnds three row) rs → AllByRecursion (λ row. ends_at ban.new2 row ≡ true → HasEnds four row) rs
+    along : (rs : List ChannelRow) → AreAllowed rows.banned rs
+        → AllByRecursion (λ row. ends_at ban.held1 row ≡ true → HasEnds one row) rs
+        → AllByRecursion (λ row. ends_at ban.held2 row ≡ true → HasEnds two row) rs
+        → AllByRecursion (λ row. ends_at ban.new1 row ≡ true → HasEnds three row) rs
+        → AllByRecursion (λ row. ends_at ban.new2 row ≡ true → HasEnds four row) rs
         → AllByRecursion (λ row. ends_banned (with_banned rows.banned ban) row ≡ true → HasEnds four row) rs
     along [] allowed a b c d = tt
     along (x ∷ xs) allowed a b c d = (
@@ -192,35 +221,49 @@ abbrev pub changed_among : {Y : Type 0} → (Point → Y → Y) → List Point �
 changed_among change points before q = if is_among points q then change q (before q) else before q
 
 -- at one more
-pub among_next : {Y : Type 0} (change : Point → Y → Y) → ((q : Point) (y : Y) → change q (change q y) ≡ change q y) → (before : Point → Y) (points : List Point) (i : ℕ) (p d : Point) → i < length points → p ≡ get_or points i d → (q : Point)
-    → (if is_point p q then change q (changed_among change (take i points) before q) else changed_among change (take i points) before q) ≡ changed_among change (take (i + 1) points) before q
+pub among_next : {Y : Type 0} (change : Point → Y → Y) → ((q : Point) (y : Y)
+    → change q (change q y) ≡ change q y) → (before : Point → Y) (points : List Point) (i : ℕ) (p d : Point)
+    → i < length points → p ≡ get_or points i d → (q : Point)
+    → (if is_point p q then change q (changed_among change (take i points) before q)
+    else changed_among change (take i points) before q) ≡ changed_among change (take (i + 1) points) before q
 among_next {Y} change twice before points i p d lt is q =
     by (is_among (take i points) q) refl (is_point p q) refl
   where
     next : is_among (take (i + 1) points) q ≡ (is_among (take i points) q || (is_point p q || false))
-    next = ap (λ ps. is_among ps q) ((take_at_read points i d lt).1) ∙ list_any-append (λ other. is_point other q) (take i points) (get_or points i d ∷ [])
+    next =
+        ap (λ ps. is_among ps q) ((take_at_read points i d lt).1)
+        ∙ list_any-append (λ other. is_point other q) (take i points) (get_or points i d ∷ [])
         ∙ ap (λ (x : Point). is_among (take i points) q || (is_point x q || false)) (sym is)
 
     by : (b : Bool) → is_among (take i points) q ≡ b → (c : Bool) → is_point p q ≡ c
-        → (if is_point p q then change q (changed_among change (take i points) before q) else changed_among change (take i points) before q) ≡ changed_among change (take (i + 1) points) before q
+        → (if is_point p q then change q (changed_among change (take i points) before q) else changed_among
+        change (take i points) before q) ≡ changed_among change (take (i + 1) points) before q
     by true e true f = rw (next, e, f) (twice q (before q))
     by true e false f = rw (next, e, f) refl
     by false e true f = rw (next, e, f) refl
     by false e false f = rw (next, e, f) refl
 
-pub next_at : {Y : Type 0} (change : Point → Y → Y) → ((q : Point) (y : Y) → change q (change q y) ≡ change q y) → (before : Point → Y) (points : List Point) (i : ℕ) (d : Point) → i < length points
-    → (keys : List Point) (values : List Y) → values ≡ map (λ q. if is_point (get_or points i d) q then change q (changed_among change (take i points) before q) else changed_among change (take i points) before q) keys
+pub next_at : {Y : Type 0} (change : Point → Y → Y) → ((q : Point) (y : Y) → change q (change q y)
+    ≡ change q y) → (before : Point → Y) (points : List Point) (i : ℕ) (d : Point) → i < length points
+    → (keys : List Point) (values : List Y) → values ≡ map (λ q. if is_point (get_or points i d) q then change
+    q (changed_among change (take i points) before q) else changed_among change (take i points) before q) keys
     → values ≡ map (changed_among change (take (i + 1) points) before) keys
-next_at {Y} change twice before points i d lt keys values is = is ∙ ap (λ (f : Point → Y). map f keys) (λ j q. among_next change twice before points i (get_or points i d) d lt refl q j)
+next_at {Y} change twice before points i d lt keys values is =
+    is ∙ ap (λ (f : Point → Y). map f keys) (λ j q.
+    among_next change twice before points i (get_or points i d) d lt refl q j)
 
 -- ---- the view, where the nodes at which channels go are changed
 
-module _ (known : Option (List ℕ)) (rows : Rows) (banned : List Point) (lawful : IsLawful rows) (ends : List Point) (parted : AllByRecursion (λ row. ends_banned banned row ≡ true → HasEnds ends row) rows.channels) where
+module _ (known : Option (List ℕ)) (rows : Rows) (banned : List Point) (lawful : IsLawful rows)
+    (ends : List Point)
+    (parted : AllByRecursion (λ row. ends_banned banned row ≡ true → HasEnds ends row) rows.channels) where
   -- an edge of a banned node has both of its ends among the points
-  edge_ends : (e : Edge) → IsOfChannel rows.channels e → (is_banned banned e.from || is_banned banned e.to) ≡ true → (is_among ends e.from ≡ true) × (is_among ends e.to ≡ true)
+  edge_ends : (e : Edge) → IsOfChannel rows.channels e → (is_banned banned e.from || is_banned banned e.to)
+      ≡ true → (is_among ends e.from ≡ true) × (is_among ends e.to ≡ true)
   edge_ends e of is =
       let has : ends_banned banned of.channel ≡ true → HasEnds ends of.channel =
-      found_holds (λ row. ends_banned banned row ≡ true → HasEnds ends row) (λ row. eqb row.message.short_channel_id e.scid) rows.channels of.channel parted of.held in
+      found_holds (λ row. ends_banned banned row ≡ true → HasEnds ends row)
+      (λ row. eqb row.message.short_channel_id e.scid) rows.channels of.channel parted of.held in
       let both = has (by e.second of.channel (rw (of.from, of.to) at is)) in
       (rw of.from (end_among e.second of.channel both), rw of.to (end_among (not e.second) of.channel both))
     where
@@ -230,7 +273,8 @@ module _ (known : Option (List ℕ)) (rows : Rows) (banned : List Point) (lawful
       or_turned false true = refl
       or_turned false false = refl
 
-      by : (b : Bool) (channel : ChannelRow) → (is_banned banned (end_of channel b) || is_banned banned (end_of channel (not b))) ≡ true → ends_banned banned channel ≡ true
+      by : (b : Bool) (channel : ChannelRow) → (is_banned banned (end_of channel b)
+          || is_banned banned (end_of channel (not b))) ≡ true → ends_banned banned channel ≡ true
       by true channel is = or_turned (is_banned banned channel.message.node_id_1) (is_banned banned channel.message.node_id_2) ∙ is
       by false channel is = is
 
@@ -239,12 +283,15 @@ module _ (known : Option (List ℕ)) (rows : Rows) (banned : List Point) (lawful
       end_among false channel has = has.0
 
   -- elsewhere no edge goes
-  stays_at : (end : Edge → Point) → ((e : Edge) → (is_among ends e.from ≡ true) × (is_among ends e.to ≡ true) → is_among ends (end e) ≡ true) → (q : Point) → is_among ends q ≡ false
-      → filter (λ e. is_point q (end e)) (filter (λ e. not (is_banned banned e.from || is_banned banned e.to)) (carrying rows)) ≡ filter (λ e. is_point q (end e)) (carrying rows)
+  stays_at : (end : Edge → Point) → ((e : Edge) → (is_among ends e.from ≡ true) × (is_among ends e.to ≡ true)
+      → is_among ends (end e) ≡ true) → (q : Point) → is_among ends q ≡ false
+      → filter (λ e. is_point q (end e)) (filter (λ e. not (is_banned banned e.from || is_banned banned e.to))
+      (carrying rows)) ≡ filter (λ e. is_point q (end e)) (carrying rows)
   stays_at end which q away =
       filter_swap (λ e. is_point q (end e)) (λ e. not (is_banned banned e.from || is_banned banned e.to)) (carrying rows)
       ∙ filter_all (λ e. not (is_banned banned e.from || is_banned banned e.to)) (filter (λ e. is_point q (end e)) (carrying rows))
-      (All_to _ _ (filter (λ e. is_point q (end e)) (carrying rows)) each (passing (IsOfChannel rows.channels) (λ e. is_point q (end e)) (carrying rows) (carrying_of rows.channels rows.updates)))
+      (All_to _ _ (filter (λ e. is_point q (end e)) (carrying rows)) each (passing (IsOfChannel rows.channels)
+      (λ e. is_point q (end e)) (carrying rows) (carrying_of rows.channels rows.updates)))
     where
       each : (e : Edge) → IsOfChannel rows.channels e × (is_point q (end e) ≡ true) → not (is_banned banned e.from || is_banned banned e.to) ≡ true
       each e both = by (is_banned banned e.from || is_banned banned e.to) refl
@@ -261,7 +308,9 @@ module _ (known : Option (List ℕ)) (rows : Rows) (banned : List Point) (lawful
       each : (c : ChannelRow) → (ends_banned banned c ≡ true → HasEnds ends c) → ends_at q c ≡ true → not (ends_banned banned c) ≡ true
       each c has at = by (ends_banned banned c) refl
         where
-          never : HasEnds ends c → (b : Bool) → is_point c.message.node_id_1 q ≡ b → (is_point c.message.node_id_1 q || is_point c.message.node_id_2 q) ≡ true → is_among ends q ≡ true
+          never : HasEnds ends c → (b : Bool) → is_point c.message.node_id_1 q ≡ b
+              → (is_point c.message.node_id_1 q || is_point c.message.node_id_2 q) ≡ true
+              → is_among ends q ≡ true
           never both true first either = ap (is_among ends) (sym (same_point c.message.node_id_1 q first)) ∙ both.0
           never both false first either =
               let second : is_point c.message.node_id_2 q ≡ true = rw first at either in
@@ -273,12 +322,15 @@ module _ (known : Option (List ℕ)) (rows : Rows) (banned : List Point) (lawful
 
   other_node : (q : Point) → is_among ends q ≡ false → takes_payments known (banning rows banned).nodes q ≡ takes_payments known rows.nodes q
   other_node q away =
-      ap taken (find_stays (λ row. is_point row.message.node_id q) (λ row. ends_channel (allowed_channels banned rows.channels) row.message.node_id) rows.nodes (All_to _ _ rows.nodes each lawful.ended))
+      ap taken (find_stays (λ row. is_point row.message.node_id q) (λ row. ends_channel (allowed_channels
+      banned rows.channels) row.message.node_id) rows.nodes (All_to _ _ rows.nodes each lawful.ended))
     where
       taken : Option NodeRow → Bool
       taken = λ o. option_map_or (λ (row : NodeRow). allows known row.message.features) o true
 
-      each : (row : NodeRow) → ends_channel rows.channels row.message.node_id ≡ true → is_point row.message.node_id q ≡ true → ends_channel (allowed_channels banned rows.channels) row.message.node_id ≡ true
+      each : (row : NodeRow) → ends_channel rows.channels row.message.node_id ≡ true
+          → is_point row.message.node_id q ≡ true
+          → ends_channel (allowed_channels banned rows.channels) row.message.node_id ≡ true
       each row ended is =
           let same : row.message.node_id ≡ q = same_point row.message.node_id q is in
           ap (ends_channel (allowed_channels banned rows.channels)) same ∙ still_ended q away ∙ ap (ends_channel rows.channels) (sym same) ∙ ended
@@ -287,13 +339,19 @@ module _ (known : Option (List ℕ)) (rows : Rows) (banned : List Point) (lawful
 
   links_parted : (end : Edge → Point) (points : List Point) → AllByRecursion (IsJoined points) (carrying rows)
       → ((e : Edge) → (is_among ends e.from ≡ true) × (is_among ends e.to ≡ true) → is_among ends (end e) ≡ true) → (q : Point)
-      → changed_among (λ q ls. filter (is_allowed points banned) ls) ends (links_at end points (carrying rows)) q ≡ filter (is_allowed points banned) (links_at end points (carrying rows) q)
+      → changed_among (λ q ls. filter (is_allowed points banned) ls) ends (links_at end points
+      (carrying rows)) q ≡ filter (is_allowed points banned) (links_at end points (carrying rows) q)
   links_parted end points joined which q = by (is_among ends q) refl
     where
-      kept : filter (is_allowed points banned) (links_at end points (carrying rows) q) ≡ links_at end points (filter (λ e. not (is_banned banned e.from || is_banned banned e.to)) (carrying rows)) q
-      kept = links_keep end points (λ e. not (is_banned banned e.from || is_banned banned e.to)) (is_allowed points banned) (carrying rows) q (banned_tests banned points (carrying rows) joined)
+      kept : filter (is_allowed points banned) (links_at end points (carrying rows) q) ≡ links_at end points
+          (filter (λ e. not (is_banned banned e.from || is_banned banned e.to)) (carrying rows)) q
+      kept =
+          links_keep end points (λ e. not (is_banned banned e.from || is_banned banned e.to))
+          (is_allowed points banned) (carrying rows) q (banned_tests banned points (carrying rows) joined)
 
-      by : (b : Bool) → is_among ends q ≡ b → changed_among (λ q ls. filter (is_allowed points banned) ls) ends (links_at end points (carrying rows)) q ≡ filter (is_allowed points banned) (links_at end points (carrying rows) q)
+      by : (b : Bool) → is_among ends q ≡ b → changed_among (λ q ls.
+          filter (is_allowed points banned) ls) ends (links_at end points (carrying rows)) q
+          ≡ filter (is_allowed points banned) (links_at end points (carrying rows) q)
       by true is = rw is refl
       by false is = rw is (sym (kept ∙ ap (map (link_of points)) (stays_at end which q is)))
 
@@ -301,23 +359,33 @@ module _ (known : Option (List ℕ)) (rows : Rows) (banned : List Point) (lawful
   map_twice f g [] = refl
   map_twice f g (q ∷ qs) = ap (λ l. f (g q) ∷ l) (map_twice f g qs)
 
-  pub node_parted : (after : Rows) → after ≡ banning rows banned → (old new : Nodes) → IsGraphOf rows (graph_in known old) → new.points.keys ≡ old.points.keys
-      → AreInto (changed_among (λ q ls. filter (is_allowed old.points.keys after.banned) ls) ends (links_at (λ e. e.to) old.points.keys (carrying rows))) new
-      → AreOut (changed_among (λ q ls. filter (is_allowed old.points.keys after.banned) ls) ends (links_at (λ e. e.from) old.points.keys (carrying rows))) new
+  pub node_parted : (after : Rows) → after ≡ banning rows banned → (old new : Nodes)
+      → IsGraphOf rows (graph_in known old) → new.points.keys ≡ old.points.keys
+      → AreInto (changed_among (λ q ls. filter (is_allowed old.points.keys after.banned) ls) ends
+      (links_at (λ e. e.to) old.points.keys (carrying rows))) new
+      → AreOut (changed_among (λ q ls. filter (is_allowed old.points.keys after.banned) ls) ends
+      (links_at (λ e. e.from) old.points.keys (carrying rows))) new
       → AreFlags (changed_among (λ q b. takes_payments known after.nodes q) ends (takes_payments known rows.nodes)) new
       → IsGraphOf after (graph_in known new)
   node_parted after is old new graph points into out flags =
       let keys = old.points.keys in
       let joined = graph.shows.joined in
       node_banned known rows banned lawful after is old new new graph points
-      (into ∙ rw (is, points, graph.shows.into_is) (lists_alike _ _ keys (links_parted (λ e. e.to) keys joined (λ e both. both.1)) ∙ sym (map_twice (filter (is_allowed keys banned)) (links_at (λ e. e.to) keys (carrying rows)) keys)))
-      (out ∙ rw (is, points, graph.shows.out_is) (lists_alike _ _ keys (links_parted (λ e. e.from) keys joined (λ e both. both.0)) ∙ sym (map_twice (filter (is_allowed keys banned)) (links_at (λ e. e.from) keys (carrying rows)) keys)))
+      (into ∙ rw (is, points, graph.shows.into_is)
+      (lists_alike _ _ keys (links_parted (λ e. e.to) keys joined (λ e both. both.1)) ∙ sym
+      (map_twice (filter (is_allowed keys banned)) (links_at (λ e. e.to) keys (carrying rows)) keys)))
+      (out ∙ rw (is, points, graph.shows.out_is)
+      (lists_alike _ _ keys (links_parted (λ e. e.from) keys joined (λ e both. both.0)) ∙ sym
+      (map_twice (filter (is_allowed keys banned)) (links_at (λ e. e.from) keys (carrying rows)) keys)))
       refl refl refl
       (flags ∙ rw (is, points) (flags_alike _ (takes_payments known (banning rows banned).nodes) keys looked))
     where
-      looked : (q : Point) → changed_among (λ q b. takes_payments known (banning rows banned).nodes q) ends (takes_payments known rows.nodes) q ≡ takes_payments known (banning rows banned).nodes q
+      looked : (q : Point) → changed_among (λ q b. takes_payments known (banning rows banned).nodes q) ends
+          (takes_payments known rows.nodes) q ≡ takes_payments known (banning rows banned).nodes q
       looked q = by (is_among ends q) refl
         where
-          by : (b : Bool) → is_among ends q ≡ b → changed_among (λ q b. takes_payments known (banning rows banned).nodes q) ends (takes_payments known rows.nodes) q ≡ takes_payments known (banning rows banned).nodes q
+          by : (b : Bool) → is_among ends q ≡ b → changed_among (λ q b.
+              takes_payments known (banning rows banned).nodes q) ends (takes_payments known rows.nodes) q
+              ≡ takes_payments known (banning rows banned).nodes q
           by true is = rw is refl
           by false is = rw is (sym (other_node q is))

@@ -22,7 +22,8 @@ module _ (items : List Links) (n : ℕ) (x w : Links) (within : n < length items
   links_there = ap links_in is ∙ sym (get_map links_in items n x [] within)
 
   -- the links change
-  pub links_edit : (g : List Link → List Link) → links_in w ≡ g (links_in x) → map links_in (set items n w) ≡ set (map links_in items) n (g (get_or (map links_in items) n []))
+  pub links_edit : (g : List Link → List Link) → links_in w ≡ g (links_in x)
+      → map links_in (set items n w) ≡ set (map links_in items) n (g (get_or (map links_in items) n []))
   links_edit g edit = map-set links_in items n w ∙ ap (set (map links_in items) n) (edit ∙ ap g links_there)
 
   -- nothing that shows changes

@@ -1,5 +1,6 @@
 -- Edges that stand with their ends, as they change.
-use Rattle.std.proofs.Common.{◌≡◌, ◌≢◌, inl, inr, ℕ, ◌+◌, ◌<◌, Bool, true, false, cond, List, [], ◌∷◌, ◌++◌, length, map, set, get_or, suc, refl, sym, ap, ◌∙◌, Option, Some, None, option_to_list, arith, true≢false, length-append}
+use Rattle.std.proofs.Common.{◌≡◌, ◌≢◌, inl, inr, ℕ, ◌+◌, ◌<◌, Bool, true, false, cond, List, [], ◌∷◌, ◌++◌, length, map, set, get_or}
+use Rattle.std.proofs.Common.{suc, refl, sym, ap, ◌∙◌, Option, Some, None, option_to_list, arith, true≢false, length-append}
 use Rattle.std.specs.Option.{option_map}
 use Rattle.std.specs.List.{AllByRecursion, IsDistinct, filter}
 use Rattle.std.specs.declared.cmp.Ordering.{Ordering}
@@ -33,11 +34,13 @@ module _ {X Y : Type 0} where
   filter-map f p (x ∷ xs) = by (filter-map f p xs) (p (f x)) refl
     where
       by : filter p (map f xs) ≡ map f (filter (λ x. p (f x)) xs) → (b : Bool) → p (f x) ≡ b
-          → cond (p (f x)) (f x ∷ filter p (map f xs)) (filter p (map f xs)) ≡ map f (cond (p (f x)) (x ∷ filter (λ x. p (f x)) xs) (filter (λ x. p (f x)) xs))
+          → cond (p (f x)) (f x ∷ filter p (map f xs)) (filter p (map f xs))
+          ≡ map f (cond (p (f x)) (x ∷ filter (λ x. p (f x)) xs) (filter (λ x. p (f x)) xs))
       by others true e = rw e (ap (λ l. f x ∷ l) others)
       by others false e = rw e others
 
-  pub put_at-map : (f : X → Y) (h : Y → Ordering) (xs : List X) (o : Option X) → put_at h (map f xs) (option_map f o) ≡ map f (put_at (λ x. h (f x)) xs o)
+  pub put_at-map : (f : X → Y) (h : Y → Ordering) (xs : List X) (o : Option X)
+      → put_at h (map f xs) (option_map f o) ≡ map f (put_at (λ x. h (f x)) xs o)
   put_at-map f h xs o =
       rw (filter-map f (λ y. is_lt (h y)) xs, filter-map f (λ y. is_gt (h y)) xs, one o)
       (sym (map-append f (filter (λ x. is_lt (h (f x))) xs ++ option_to_list o) (filter (λ x. is_gt (h (f x))) xs)
@@ -56,11 +59,13 @@ All-test P p (x ∷ xs) all = by (All-test P p xs all.1) (p x) refl
     by others false is = rw is others
 
 -- what passes, beside what holds of each
-pub passing : {X : Type 0} (P : X → Type 0) (p : X → Bool) (xs : List X) → AllByRecursion P xs → AllByRecursion (λ x. P x × (p x ≡ true)) (filter p xs)
+pub passing : {X : Type 0} (P : X → Type 0) (p : X → Bool) (xs : List X) → AllByRecursion P xs
+    → AllByRecursion (λ x. P x × (p x ≡ true)) (filter p xs)
 passing P p [] all = tt
 passing P p (x ∷ xs) all = by (passing P p xs all.1) (p x) refl
   where
-    by : AllByRecursion (λ x. P x × (p x ≡ true)) (filter p xs) → (b : Bool) → p x ≡ b → AllByRecursion (λ x. P x × (p x ≡ true)) (cond (p x) (x ∷ filter p xs) (filter p xs))
+    by : AllByRecursion (λ x. P x × (p x ≡ true)) (filter p xs) → (b : Bool) → p x ≡ b
+        → AllByRecursion (λ x. P x × (p x ≡ true)) (cond (p x) (x ∷ filter p xs) (filter p xs))
     by others true e = rw e ((all.0, e), others)
     by others false e = rw e others
 
@@ -88,7 +93,9 @@ map_at F G [] p distinct there other = absurd (omega (arith, there))
 map_at F G (q ∷ qs) p distinct there other = by (map_at F G qs p (IsDistinct-tail is_point q qs distinct)) (is_point p q) refl there
   where
     rest : p ≡ q → map F qs ≡ map G qs
-    rest same = map_alike F G qs (All_to _ _ qs (λ r apart. sym (other r (ap (λ s. is_point s r) same ∙ apart))) (IsDistinct-head is_point q qs distinct))
+    rest same =
+        map_alike F G qs (All_to _ _ qs (λ r apart. sym (other r (ap (λ s. is_point s r) same ∙ apart)))
+        (IsDistinct-head is_point q qs distinct))
 
     by : (number_of qs p < length qs → ((r : Point) → is_point p r ≡ false → G r ≡ F r) → set (map F qs) (number_of qs p) (G p) ≡ map G qs)
         → (b : Bool) → is_point p q ≡ b → number_of (q ∷ qs) p < suc (length qs) → set (F q ∷ map F qs) (number_of (q ∷ qs) p) (G p) ≡ G q ∷ map G qs
@@ -103,28 +110,38 @@ module _ (end : Edge → Point) (points : List Point) where
   abbrev pub links_at : List Edge → Point → List Link
   links_at edges point = map (link_of points) (filter (λ edge. is_point point (end edge)) edges)
 
-  pub get_links : (edges : List Edge) (p : Point) → IsNumbered points p → get_or (links_by end points edges) (number_of points p) [] ≡ links_at edges p
+  pub get_links : (edges : List Edge) (p : Point) → IsNumbered points p
+      → get_or (links_by end points edges) (number_of points p) [] ≡ links_at edges p
   get_links edges p there = get_map (links_at edges) points (number_of points p) p [] there ∙ ap (links_at edges) (get_number points p p there)
 
   -- the edges change at one point
-  pub links_by-set : (edges new : List Edge) (p : Point) → IsDistinct is_point points → IsNumbered points p → ((q : Point) → is_point p q ≡ false → links_at new q ≡ links_at edges q)
+  pub links_by-set : (edges new : List Edge) (p : Point) → IsDistinct is_point points → IsNumbered points p
+      → ((q : Point) → is_point p q ≡ false → links_at new q ≡ links_at edges q)
       → set (links_by end points edges) (number_of points p) (links_at new p) ≡ links_by end points new
   links_by-set edges new p distinct there other = map_at (links_at edges) (links_at new) points p distinct there other
 
   -- ---- a further edge
 
   pub links_push : (edges : List Edge) (edge : Edge) → IsDistinct is_point points → IsNumbered points (end edge)
-      → set (links_by end points edges) (number_of points (end edge)) (get_or (links_by end points edges) (number_of points (end edge)) [] ++ link_of points edge ∷ [])
+      → set (links_by end points edges) (number_of points (end edge))
+      (get_or (links_by end points edges) (number_of points (end edge)) [] ++ link_of points edge ∷ [])
       ≡ links_by end points (edges ++ edge ∷ [])
   links_push edges edge distinct there =
       ap (set (links_by end points edges) (number_of points (end edge))) (rw (get_links edges (end edge) there) (sym own))
       ∙ links_by-set edges (edges ++ edge ∷ []) (end edge) distinct there other
     where
       own : links_at (edges ++ edge ∷ []) (end edge) ≡ links_at edges (end edge) ++ link_of points edge ∷ []
-      own = rw (filter-append (λ e. is_point (end edge) (end e)) edges (edge ∷ []), is_point-self (end edge)) (map-append (link_of points) (filter (λ e. is_point (end edge) (end e)) edges) (edge ∷ []))
+      own =
+          rw (filter-append (λ e. is_point (end edge) (end e)) edges (edge ∷ []), is_point-self (end edge))
+          (map-append (link_of points) (filter (λ e. is_point (end edge) (end e)) edges) (edge ∷ []))
 
       other : (q : Point) → is_point (end edge) q ≡ false → links_at (edges ++ edge ∷ []) q ≡ links_at edges q
-      other q apart = rw (filter-append (λ e. is_point q (end e)) edges (edge ∷ []), turned (end edge) q apart, append-none (filter (λ e. is_point q (end e)) edges)) refl
+      other q apart =
+          rw (
+            filter-append (λ e. is_point q (end e)) edges (edge ∷ []),
+            turned (end edge) q apart,
+            append-none (filter (λ e. is_point q (end e)) edges),
+          ) refl
 
   -- ---- an edge put in its place
 
@@ -134,7 +151,8 @@ module _ (end : Edge → Point) (points : List Point) where
     pub links_cut : (p : Point) → IsCut (link_key id second) (links_at edges p)
     links_cut p = IsCut-links (filter (λ e. is_point p (end e)) edges) (IsCut-filter (to_key id second) (λ e. is_point p (end e)) edges cut)
       where
-        above : (es : List Edge) → AllByRecursion (λ e. to_key id second e ≡ Greater) es → AllByRecursion (λ l. link_key id second l ≡ Greater) (map (link_of points) es)
+        above : (es : List Edge) → AllByRecursion (λ e. to_key id second e ≡ Greater) es
+            → AllByRecursion (λ l. link_key id second l ≡ Greater) (map (link_of points) es)
         above [] a = tt
         above (e ∷ es) a = (a.0, above es a.1)
 
@@ -144,7 +162,8 @@ module _ (end : Edge → Point) (points : List Point) where
         IsCut-links (e ∷ es) (inr more) = inr (more.0, above es more.1)
 
     pub links_put : IsDistinct is_point points → IsNumbered points target
-        → set (links_by end points edges) (number_of points target) (put_at (link_key id second) (get_or (links_by end points edges) (number_of points target) []) (option_map (link_of points) edge))
+        → set (links_by end points edges) (number_of points target) (put_at (link_key id second)
+        (get_or (links_by end points edges) (number_of points target) []) (option_map (link_of points) edge))
         ≡ links_by end points (put_at (to_key id second) edges edge)
     links_put distinct there =
         ap (set (links_by end points edges) (number_of points target)) (rw (get_links edges target there) (sym at_target))
@@ -157,7 +176,8 @@ module _ (end : Edge → Point) (points : List Point) where
         stays None is = refl
         stays (Some e) is = let self : is_point target (end e) ≡ true = ap (is_point target) (own e is) ∙ is_point-self target in rw self refl
 
-        at_target : links_at (put_at (to_key id second) edges edge) target ≡ put_at (link_key id second) (links_at edges target) (option_map (link_of points) edge)
+        at_target : links_at (put_at (to_key id second) edges edge) target
+            ≡ put_at (link_key id second) (links_at edges target) (option_map (link_of points) edge)
         at_target = ap (map (link_of points)) (filter-put (to_key id second) (λ e. is_point target (end e)) edges edge
             ∙ ap (put_at (to_key id second) (filter (λ e. is_point target (end e)) edges)) (stays edge refl))
             ∙ sym (put_at-map (link_of points) (link_key id second) (filter (λ e. is_point target (end e)) edges) edge)
@@ -183,7 +203,8 @@ module _ (end : Edge → Point) (points : List Point) where
         other : (q : Point) → is_point target q ≡ false → links_at (put_at (to_key id second) edges edge) q ≡ links_at edges q
         other q away = ap (map (link_of points)) (filter-put (to_key id second) (λ e. is_point q (end e)) edges edge
             ∙ ap (put_at (to_key id second) (filter (λ e. is_point q (end e)) edges)) (gone q away edge refl)
-            ∙ put_at-none (to_key id second) (filter (λ e. is_point q (end e)) edges) (IsCut-filter (to_key id second) (λ e. is_point q (end e)) edges cut) (apart q away))
+            ∙ put_at-none (to_key id second) (filter (λ e. is_point q (end e)) edges)
+            (IsCut-filter (to_key id second) (λ e. is_point q (end e)) edges cut) (apart q away))
 
 -- ---- a further point
 
@@ -191,7 +212,8 @@ pub number_append : (points : List Point) (p q : Point) → IsNumbered points q 
 number_append [] p q there = absurd (omega (arith, there))
 number_append (r ∷ rs) p q there = by (number_append rs p q) (is_point q r) refl there
   where
-    by : (number_of rs q < length rs → number_of (rs ++ p ∷ []) q ≡ number_of rs q) → (b : Bool) → is_point q r ≡ b → number_of (r ∷ rs) q < suc (length rs)
+    by : (number_of rs q < length rs → number_of (rs ++ p ∷ []) q ≡ number_of rs q) → (b : Bool)
+        → is_point q r ≡ b → number_of (r ∷ rs) q < suc (length rs)
         → number_of (r ∷ (rs ++ p ∷ [])) q ≡ number_of (r ∷ rs) q
     by others true e lt = rw e refl
     by others false e lt =
@@ -202,11 +224,13 @@ number_append (r ∷ rs) p q there = by (number_append rs p q) (is_point q r) re
 pub numbered_append : (points : List Point) (p : Point) → KeepsNumbers points (points ++ p ∷ [])
 numbered_append points p q there = let same = number_append points p q there in (same, omega (arith, same, there, length-append points (p ∷ [])))
 
-pub numbered_last : (points : List Point) (p : Point) → (IsNumbered points p → ⊥) → (number_of (points ++ p ∷ []) p ≡ length points) × IsNumbered (points ++ p ∷ []) p
+pub numbered_last : (points : List Point) (p : Point) → (IsNumbered points p → ⊥)
+    → (number_of (points ++ p ∷ []) p ≡ length points) × IsNumbered (points ++ p ∷ []) p
 numbered_last [] p new = rw (is_point-self p) (refl, omega arith)
 numbered_last (r ∷ rs) p new = by (numbered_last rs p) (is_point p r) refl new
   where
-    by : ((IsNumbered rs p → ⊥) → (number_of (rs ++ p ∷ []) p ≡ length rs) × IsNumbered (rs ++ p ∷ []) p) → (b : Bool) → is_point p r ≡ b → (IsNumbered (r ∷ rs) p → ⊥)
+    by : ((IsNumbered rs p → ⊥) → (number_of (rs ++ p ∷ []) p ≡ length rs) × IsNumbered (rs ++ p ∷ []) p)
+        → (b : Bool) → is_point p r ≡ b → (IsNumbered (r ∷ rs) p → ⊥)
         → (number_of (r ∷ (rs ++ p ∷ [])) p ≡ suc (length rs)) × IsNumbered (r ∷ (rs ++ p ∷ [])) p
     by others true e new = let there : IsNumbered (r ∷ rs) p = rw e (omega arith) in absurd (new there)
     by others false e new =
@@ -220,41 +244,54 @@ links_kept points more edges keeps joined = All_to (IsJoined points) (λ e. link
     (λ e both. let from = keeps e.from both.0 in let to = keeps e.to both.1 in rw (from.0, to.0) refl) joined
 
 -- no edge has an end without a number
-none_at : (end : Edge → Point) (points : List Point) (p : Point) (edges : List Edge) → (IsNumbered points p → ⊥) → AllByRecursion (λ e. IsNumbered points (end e)) edges
+none_at : (end : Edge → Point) (points : List Point) (p : Point) (edges : List Edge)
+    → (IsNumbered points p → ⊥) → AllByRecursion (λ e. IsNumbered points (end e)) edges
     → filter (λ e. is_point p (end e)) edges ≡ []
 none_at end points p [] new all = refl
 none_at end points p (e ∷ es) new all = by (none_at end points p es new all.1) (is_point p (end e)) refl
   where
-    by : filter (λ e. is_point p (end e)) es ≡ [] → (b : Bool) → is_point p (end e) ≡ b → cond (is_point p (end e)) (e ∷ filter (λ e. is_point p (end e)) es) (filter (λ e. is_point p (end e)) es) ≡ []
+    by : filter (λ e. is_point p (end e)) es ≡ [] → (b : Bool) → is_point p (end e) ≡ b → cond (is_point p
+        (end e)) (e ∷ filter (λ e. is_point p (end e)) es) (filter (λ e. is_point p (end e)) es) ≡ []
     by others true is = absurd (new (rw (same_point p (end e) is) all.0))
     by others false is = rw is others
 
-pub links_more : (end : Edge → Point) (points : List Point) (p : Point) (edges : List Edge) → (IsNumbered points p → ⊥) → AllByRecursion (λ e. IsNumbered points (end e)) edges
+pub links_more : (end : Edge → Point) (points : List Point) (p : Point) (edges : List Edge)
+    → (IsNumbered points p → ⊥) → AllByRecursion (λ e. IsNumbered points (end e)) edges
     → AllByRecursion (IsJoined points) edges → links_by end points edges ++ [] ∷ [] ≡ links_by end (points ++ p ∷ []) edges
 links_more end points p edges new all joined =
     sym (map-append (links_at end (points ++ p ∷ []) edges) points (p ∷ [])
-    ∙ rw (none_at end points p edges new all, map_alike (links_at end (points ++ p ∷ []) edges) (links_at end points edges) points (each points)) refl)
+    ∙ rw (
+      none_at end points p edges new all,
+      map_alike (links_at end (points ++ p ∷ []) edges) (links_at end points edges) points (each points),
+    ) refl)
   where
     each : (qs : List Point) → AllByRecursion (λ q. links_at end (points ++ p ∷ []) edges q ≡ links_at end points edges q) qs
     each [] = tt
     each (q ∷ qs) = (
       sym (map_alike (link_of points) (link_of (points ++ p ∷ [])) (filter (λ e. is_point q (end e)) edges)
-          (All-test (λ e. link_of points e ≡ link_of (points ++ p ∷ []) e) (λ e. is_point q (end e)) edges (links_kept points (points ++ p ∷ []) edges (numbered_append points p) joined))),
+          (All-test (λ e. link_of points e ≡ link_of (points ++ p ∷ []) e) (λ e. is_point q (end e)) edges
+          (links_kept points (points ++ p ∷ []) edges (numbered_append points p) joined))),
       each qs,
     )
 
-pub shows_more : (edges : List Edge) (points : List Point) (into out : List (List Link)) (p : Point) → (IsNumbered points p → ⊥) → Shows edges points into out
+pub shows_more : (edges : List Edge) (points : List Point) (into out : List (List Link)) (p : Point)
+    → (IsNumbered points p → ⊥) → Shows edges points into out
     → Shows edges (points ++ p ∷ []) (into ++ [] ∷ []) (out ++ [] ∷ [])
 shows_more edges points into out p new shows = record {
   joined = All_to (IsJoined points) (IsJoined (points ++ p ∷ [])) edges
       (λ e both. ((numbered_append points p e.from both.0).1, (numbered_append points p e.to both.1).1)) shows.joined;
-  into_is = ap (λ ls. ls ++ [] ∷ []) shows.into_is ∙ links_more (λ e. e.to) points p edges new (All_to (IsJoined points) (λ e. IsNumbered points e.to) edges (λ e both. both.1) shows.joined) shows.joined;
-  out_is = ap (λ ls. ls ++ [] ∷ []) shows.out_is ∙ links_more (λ e. e.from) points p edges new (All_to (IsJoined points) (λ e. IsNumbered points e.from) edges (λ e both. both.0) shows.joined) shows.joined;
+  into_is =
+      ap (λ ls. ls ++ [] ∷ []) shows.into_is ∙ links_more (λ e. e.to) points p edges new (All_to
+      (IsJoined points) (λ e. IsNumbered points e.to) edges (λ e both. both.1) shows.joined) shows.joined;
+  out_is =
+      ap (λ ls. ls ++ [] ∷ []) shows.out_is ∙ links_more (λ e. e.from) points p edges new (All_to
+      (IsJoined points) (λ e. IsNumbered points e.from) edges (λ e both. both.0) shows.joined) shows.joined;
 }
 
 -- ---- whole
 
-pub shows_push : (edges : List Edge) (points : List Point) (into out : List (List Link)) (edge : Edge) → IsDistinct is_point points → IsJoined points edge → Shows edges points into out
+pub shows_push : (edges : List Edge) (points : List Point) (into out : List (List Link)) (edge : Edge)
+    → IsDistinct is_point points → IsJoined points edge → Shows edges points into out
     → Shows (edges ++ edge ∷ []) points
     (set into (number_of points edge.to) (get_or into (number_of points edge.to) [] ++ link_of points edge ∷ []))
     (set out (number_of points edge.from) (get_or out (number_of points edge.from) [] ++ link_of points edge ∷ []))

@@ -1,5 +1,6 @@
 -- How an update changes the view of a map.
-use Rattle.std.proofs.Common.{◌≡◌, ℕ, Bool, true, false, not, List, [], ◌++◌, map, set, get_or, refl, sym, ap, ◌∙◌, Option, Some, None, option_to_list, IfSome}
+use Rattle.std.proofs.Common.{◌≡◌, ℕ, Bool, true, false, not, List, [], ◌++◌, map, set, get_or}
+use Rattle.std.proofs.Common.{refl, sym, ap, ◌∙◌, Option, Some, None, option_to_list, IfSome}
 use Rattle.std.specs.Option.{option_map, option_and_then}
 use Rattle.std.specs.List.{AllByRecursion, IsDistinct, filter}
 use Rattle.std.specs.declared.cmp.Ordering.{Ordering}
@@ -37,15 +38,19 @@ at_key id second edge e = by (nat_cmp edge.scid id) refl e
     by Equal is e = (same_id edge.scid id is, same_second edge.second second e)
     by Greater is e = absurd cc
 
-All_put : {X : Type 0} (P : X → Type 0) (f : X → Ordering) (xs : List X) (o : Option X) → AllByRecursion P xs → IfSome o P → AllByRecursion P (put_at f xs o)
+All_put : {X : Type 0} (P : X → Type 0) (f : X → Ordering) (xs : List X) (o : Option X) → AllByRecursion P xs
+    → IfSome o P → AllByRecursion P (put_at f xs o)
 All_put P f xs o all new = All_append P (filter (λ x. is_lt (f x)) xs ++ option_to_list o) (filter (λ x. is_gt (f x)) xs)
-    (All_append P (filter (λ x. is_lt (f x)) xs) (option_to_list o) (All-test P (λ x. is_lt (f x)) xs all) (one o new)) (All-test P (λ x. is_gt (f x)) xs all)
+    (All_append P (filter (λ x. is_lt (f x)) xs) (option_to_list o) (All-test P (λ x. is_lt (f x)) xs all)
+    (one o new)) (All-test P (λ x. is_gt (f x)) xs all)
   where
     one : (o : Option _) → IfSome o P → AllByRecursion P (option_to_list o)
     one None h = tt
     one (Some x) h = (h, tt)
 
-module _ (known : Option (List ℕ)) (rows : Rows) (row : UpdateRow) (channel : ChannelRow) (held : channel_of rows.channels row.message.short_channel_id ≡ Some channel) (ascend : IsAscending rows) where
+module _ (known : Option (List ℕ)) (rows : Rows) (row : UpdateRow) (channel : ChannelRow)
+    (held : channel_of rows.channels row.message.short_channel_id ≡ Some channel)
+    (ascend : IsAscending rows) where
   abbrev key : Edge → Ordering
   key = to_key row.message.short_channel_id (is_second row)
 
@@ -83,15 +88,20 @@ module _ (known : Option (List ℕ)) (rows : Rows) (row : UpdateRow) (channel : 
   cut = carrying_cut rows.channels rows.updates row ascend.updates
 
   all_from : AllByRecursion (λ e. key e ≡ Equal → e.from ≡ start) (carrying rows)
-  all_from = All_to (IsOfChannel rows.channels) (λ e. key e ≡ Equal → e.from ≡ start) (carrying rows) (λ e of is. (of_key e of is).0) (carrying_of rows.channels rows.updates)
+  all_from =
+      All_to (IsOfChannel rows.channels) (λ e. key e ≡ Equal → e.from ≡ start) (carrying rows)
+      (λ e of is. (of_key e of is).0) (carrying_of rows.channels rows.updates)
 
   all_to : AllByRecursion (λ e. key e ≡ Equal → e.to ≡ target) (carrying rows)
-  all_to = All_to (IsOfChannel rows.channels) (λ e. key e ≡ Equal → e.to ≡ target) (carrying rows) (λ e of is. (of_key e of is).1) (carrying_of rows.channels rows.updates)
+  all_to =
+      All_to (IsOfChannel rows.channels) (λ e. key e ≡ Equal → e.to ≡ target) (carrying rows)
+      (λ e of is. (of_key e of is).1) (carrying_of rows.channels rows.updates)
 
   in_row : edge_in rows.channels row ≡ edge_on channel row
   in_row = ap (λ o. option_and_then (λ channel. edge_on channel row) o) held
 
-  module _ (points : List Point) (takes : List Bool) (into out : List (List Link)) (graph : IsGraphOf rows (record { known = known; points = points; takes = takes; into = into; out = out })) where
+  module _ (points : List Point) (takes : List Bool) (into out : List (List Link)) (graph : IsGraphOf rows
+      (record { known = known; points = points; takes = takes; into = into; out = out })) where
     pub start_there : IsNumbered points start
     start_there = ends_numbered points rows.channels row.message.short_channel_id channel (is_second row) graph.ends held
 
@@ -101,18 +111,21 @@ module _ (known : Option (List ℕ)) (rows : Rows) (row : UpdateRow) (channel : 
     -- the links of both ends are in order
     pub into_cut : IsCut (link_key row.message.short_channel_id (is_second row)) (get_or into (number_of points target) [])
     into_cut = rw (graph.shows.into_is, get_links (λ e. e.to) points (carrying rows) target target_there)
-        (links_cut (λ e. e.to) points row.message.short_channel_id (is_second row) (carrying rows) (edge_in rows.channels row) target cut all_to (λ e is. (own_ends e is).1) target)
+        (links_cut (λ e. e.to) points row.message.short_channel_id (is_second row) (carrying rows)
+        (edge_in rows.channels row) target cut all_to (λ e is. (own_ends e is).1) target)
 
     pub out_cut : IsCut (link_key row.message.short_channel_id (is_second row)) (get_or out (number_of points start) [])
     out_cut = rw (graph.shows.out_is, get_links (λ e. e.from) points (carrying rows) start start_there)
-        (links_cut (λ e. e.from) points row.message.short_channel_id (is_second row) (carrying rows) (edge_in rows.channels row) start cut all_from (λ e is. (own_ends e is).0) start)
+        (links_cut (λ e. e.from) points row.message.short_channel_id (is_second row) (carrying rows)
+        (edge_in rows.channels row) start cut all_from (λ e is. (own_ends e is).0) start)
 
     own_joined : (o : Option Edge) → edge_in rows.channels row ≡ o → IfSome o (IsJoined points)
     own_joined None is = tt
     own_joined (Some edge) is = let ends = own_ends edge is in (rw (ends.0) start_there, rw (ends.1) target_there)
 
     -- the edge by the numbers of its ends
-    numbered : (o : Option Edge) → edge_in rows.channels row ≡ o → option_map (λ e. linked e (number_of points start) (number_of points target)) o ≡ option_map (link_of points) o
+    numbered : (o : Option Edge) → edge_in rows.channels row ≡ o → option_map (λ e.
+        linked e (number_of points start) (number_of points target)) o ≡ option_map (link_of points) o
     numbered None is = refl
     numbered (Some edge) is = let ends = own_ends edge is in rw (ends.0, ends.1) refl
 
@@ -120,41 +133,59 @@ module _ (known : Option (List ℕ)) (rows : Rows) (row : UpdateRow) (channel : 
     carrying_updated = ap carrying updated ∙ carrying_put rows.channels rows.updates row
 
     -- the view, where the link is put at both ends
-    pub graph_updated : (edge : Option Edge) (link : Option Link) (new_into new_out : List (List Link)) → IsDistinct is_point points → edge ≡ edge_on channel row
+    pub graph_updated : (edge : Option Edge) (link : Option Link) (new_into new_out : List (List Link))
+        → IsDistinct is_point points → edge ≡ edge_on channel row
         → link ≡ option_map (λ e. linked e (number_of points start) (number_of points target)) edge
-        → new_into ≡ set into (number_of points target) (put_at (link_key row.message.short_channel_id (is_second row)) (get_or into (number_of points target) []) link)
-        → new_out ≡ set out (number_of points start) (put_at (link_key row.message.short_channel_id (is_second row)) (get_or out (number_of points start) []) link)
+        → new_into ≡ set into (number_of points target) (put_at (link_key row.message.short_channel_id
+        (is_second row)) (get_or into (number_of points target) []) link)
+        → new_out ≡ set out (number_of points start) (put_at
+        (link_key row.message.short_channel_id (is_second row)) (get_or out (number_of points start) []) link)
         → IsGraphOf (with_update rows row) (record { known = known; points = points; takes = takes; into = new_into; out = new_out })
     graph_updated edge link new_into new_out distinct edge_is link_is into_new out_new = record {
       ends = rw (ap (λ (r : Rows). r.channels) updated) graph.ends;
       takes = rw (ap (λ (r : Rows). r.nodes) updated) graph.takes;
       shows = record {
-        joined = rw carrying_updated (All_put (IsJoined points) key (carrying rows) (edge_in rows.channels row) graph.shows.joined (own_joined (edge_in rows.channels row) refl));
+        joined =
+            rw carrying_updated (All_put (IsJoined points) key (carrying rows) (edge_in rows.channels row)
+            graph.shows.joined (own_joined (edge_in rows.channels row) refl));
         into_is = into_new ∙ rw (own, graph.shows.into_is, carrying_updated)
-            (links_put (λ e. e.to) points row.message.short_channel_id (is_second row) (carrying rows) (edge_in rows.channels row) target cut all_to (λ e is. (own_ends e is).1) distinct target_there);
+            (links_put (λ e. e.to) points row.message.short_channel_id (is_second row) (carrying rows)
+            (edge_in rows.channels row) target cut all_to (λ e is. (own_ends e is).1) distinct
+            target_there);
         out_is = out_new ∙ rw (own, graph.shows.out_is, carrying_updated)
-            (links_put (λ e. e.from) points row.message.short_channel_id (is_second row) (carrying rows) (edge_in rows.channels row) start cut all_from (λ e is. (own_ends e is).0) distinct start_there);
+            (links_put (λ e. e.from) points row.message.short_channel_id (is_second row) (carrying rows)
+            (edge_in rows.channels row) start cut all_from (λ e is. (own_ends e is).0)
+            distinct start_there);
       };
     }
       where
         own : link ≡ option_map (link_of points) (edge_in rows.channels row)
-        own = link_is ∙ ap (option_map (λ e. linked e (number_of points start) (number_of points target))) (edge_is ∙ sym in_row) ∙ numbered (edge_in rows.channels row) refl
+        own =
+            link_is ∙ ap (option_map (λ e. linked e (number_of points start) (number_of points target)))
+            (edge_is ∙ sym in_row) ∙ numbered (edge_in rows.channels row) refl
 
 -- the same of the nodes as they are kept
-pub node_updated : (known : Option (List ℕ)) (rows after : Rows) (row : UpdateRow) (channel : ChannelRow) (held : channel_of rows.channels row.message.short_channel_id ≡ Some channel) → IsAscending rows
-    → after ≡ with_update rows row → (old mid new : Nodes) → IsDistinct is_point old.points.keys → IsGraphOf rows (graph_in known old) → ((k : Option (List ℕ)) → graph_in k mid ≡ graph_in k old)
+pub node_updated : (known : Option (List ℕ)) (rows after : Rows) (row : UpdateRow) (channel : ChannelRow)
+    (held : channel_of rows.channels row.message.short_channel_id ≡ Some channel) → IsAscending rows
+    → after ≡ with_update rows row → (old mid new : Nodes) → IsDistinct is_point old.points.keys
+    → IsGraphOf rows (graph_in known old) → ((k : Option (List ℕ)) → graph_in k mid ≡ graph_in k old)
     → (id from to : ℕ) (second : Bool) (edge : Option Edge) (link : Option Link) → id ≡ row.message.short_channel_id → second ≡ is_second row
     → from ≡ number_of old.points.keys (end_of channel second) → to ≡ number_of old.points.keys (end_of channel (not second))
     → edge ≡ edge_on channel row → link ≡ option_map (λ e. linked e from to) edge
     → new.points.keys ≡ mid.points.keys → new.takes.items ≡ mid.takes.items
-    → map links_in new.into.items ≡ set (map links_in mid.into.items) to (put_at (link_key id second) (get_or (map links_in mid.into.items) to []) link)
-    → map links_in new.out.items ≡ set (map links_in mid.out.items) from (put_at (link_key id second) (get_or (map links_in mid.out.items) from []) link)
+    → map links_in new.into.items ≡ set (map links_in mid.into.items) to
+    (put_at (link_key id second) (get_or (map links_in mid.into.items) to []) link)
+    → map links_in new.out.items ≡ set (map links_in mid.out.items) from
+    (put_at (link_key id second) (get_or (map links_in mid.out.items) from []) link)
     → IsGraphOf after (graph_in known new)
-node_updated known rows after row channel held ascend after_is old mid new distinct graph same id from to second edge link id_is second_is from_is to_is edge_is link_is points takes into out =
+node_updated known rows after row channel held ascend after_is old mid new distinct graph same id from to
+    second edge link id_is second_is from_is to_is edge_is link_is points takes into out =
     let starts = from_is ∙ ap (λ b. number_of old.points.keys (end_of channel b)) second_is in
     let ends = to_is ∙ ap (λ b. number_of old.points.keys (end_of channel (not b))) second_is in
     rw (after_is, points, takes, same_points old mid same, same_takes old mid same)
-    (graph_updated known rows row channel held ascend old.points.keys old.takes.items (map links_in old.into.items) (map links_in old.out.items) graph edge link (map links_in new.into.items) (map links_in new.out.items)
+    (graph_updated known rows row channel held ascend old.points.keys old.takes.items
+    (map links_in old.into.items) (map links_in old.out.items) graph edge link
+    (map links_in new.into.items) (map links_in new.out.items)
     distinct edge_is (link_is ∙ rw (starts, ends) refl)
     (into ∙ rw (same_into old mid same, ends, id_is, second_is) refl)
     (out ∙ rw (same_out old mid same, starts, id_is, second_is) refl))

@@ -1,5 +1,6 @@
 -- A walk of the channels, step by step.
-use Rattle.std.proofs.Common.{◌≡◌, ℕ, ◌+◌, ◌≤◌, Bool, true, false, List, [], ◌∷◌, ◌++◌, length, map, append_assoc, Option, refl, sym, ap, subst, ◌∙◌, arith, length-append}
+use Rattle.std.proofs.Common.{◌≡◌, ℕ, ◌+◌, ◌≤◌, Bool, true, false, List, [], ◌∷◌, ◌++◌, length, map}
+use Rattle.std.proofs.Common.{append_assoc, Option, refl, sym, ap, subst, ◌∙◌, arith, length-append}
 use Rattle.std.specs.List.{flat_map}
 use Rattle.std.proofs.lemmas.Grind.{flat_map-append}
 use Rattle.lgm_check.specs.declared.row.ChannelRow.{ChannelRow}
@@ -18,12 +19,14 @@ use Rattle.lgm_graph.proofs.Showing.{All_append, append-none}
 use Rattle.lgm_graph.proofs.ByChannel.{by_channel}
 
 -- an update of a channel in a walk is that of its direction
-pub held_update : (rows : Rows) (channel : ChannelRow) (second : Bool) → update_in second (held_at rows channel) ≡ update_of rows.updates channel.message.short_channel_id second
+pub held_update : (rows : Rows) (channel : ChannelRow) (second : Bool)
+    → update_in second (held_at rows channel) ≡ update_of rows.updates channel.message.short_channel_id second
 held_update rows channel true = refl
 held_update rows channel false = refl
 
 -- the next one is a channel with its updates
-pub walked_own : (rows : Rows) (held : Held) (left : List Held) (links : List Link) (graph : Graph) → HasWalked rows (held ∷ left) links graph → held ≡ held_at rows held.channel
+pub walked_own : (rows : Rows) (held : Held) (left : List Held) (links : List Link) (graph : Graph)
+    → HasWalked rows (held ∷ left) links graph → held ≡ held_at rows held.channel
 walked_own rows held left links graph walked = by walked.rest walked.left_is
   where
     by : (rest : List ChannelRow) → held ∷ left ≡ map (held_at rows) rest → held ≡ held_at rows held.channel
@@ -37,14 +40,20 @@ module _ (known : Option (List ℕ)) (rows : Rows) (held : Held) (left : List He
     (first : IsNumbered new.points.keys held.channel.message.node_id_1) (second : IsNumbered new.points.keys held.channel.message.node_id_2)
     (takes : AreLookedAt known rows.nodes old → AreLookedAt known rows.nodes new)
     (bare : ShowsIn [] old → ShowsIn [] new)
-    (links : (edges : List Edge) → AreLinksOf edges old.points.keys before → AreLinksOf (edges ++ edges_of_channel rows.updates held.channel) new.points.keys after) where
+    (links : (edges : List Edge) → AreLinksOf edges old.points.keys before
+    → AreLinksOf (edges ++ edges_of_channel rows.updates held.channel) new.points.keys after) where
   pub walked_more : HasWalked rows (held ∷ left) before (graph_in known old) → HasWalked rows left after (graph_in known new)
   walked_more walked = by walked.rest walked.parts walked.left_is
     where
-      more : flat_map (edges_of_channel rows.updates) (walked.done ++ held.channel ∷ []) ≡ flat_map (edges_of_channel rows.updates) walked.done ++ edges_of_channel rows.updates held.channel
-      more = flat_map-append (edges_of_channel rows.updates) walked.done (held.channel ∷ []) ∙ ap (λ l. flat_map (edges_of_channel rows.updates) walked.done ++ l) (append-none (edges_of_channel rows.updates held.channel))
+      more : flat_map (edges_of_channel rows.updates) (walked.done ++ held.channel ∷ [])
+          ≡ flat_map (edges_of_channel rows.updates) walked.done ++ edges_of_channel rows.updates held.channel
+      more =
+          flat_map-append (edges_of_channel rows.updates) walked.done (held.channel ∷ [])
+          ∙ ap (λ l. flat_map (edges_of_channel rows.updates) walked.done
+          ++ l) (append-none (edges_of_channel rows.updates held.channel))
 
-      by : (rest : List ChannelRow) → rows.channels ≡ walked.done ++ rest → held ∷ left ≡ map (held_at rows) rest → HasWalked rows left after (graph_in known new)
+      by : (rest : List ChannelRow) → rows.channels ≡ walked.done ++ rest
+          → held ∷ left ≡ map (held_at rows) rest → HasWalked rows left after (graph_in known new)
       by [] parts is = absurd cc
       by (channel ∷ rest) parts is =
           let own : held ≡ held_at rows channel = cc in
@@ -56,15 +65,22 @@ module _ (known : Option (List ℕ)) (rows : Rows) (held : Held) (left : List He
             parts = parts ∙ ap (λ c. walked.done ++ c ∷ rest) (sym same) ∙ sym (append_assoc walked.done (held.channel ∷ []) rest);
             left_is = others;
             few = omega (arith, few, walked.few, length-append walked.done (held.channel ∷ []));
-            ends = All_append _ walked.done (held.channel ∷ []) (All_to _ _ walked.done (λ c both. ((kept c.message.node_id_1 both.0).1, (kept c.message.node_id_2 both.1).1)) walked.ends) ((first, second), tt);
+            ends =
+                All_append _ walked.done (held.channel ∷ []) (All_to _ _ walked.done (λ c both.
+                ((kept c.message.node_id_1 both.0).1, (kept c.message.node_id_2 both.1).1)) walked.ends)
+                ((first, second), tt);
             takes = takes walked.takes;
             bare = bare walked.bare;
-            links_are = subst (λ es. AreLinksOf es new.points.keys after) (sym more) (links (flat_map (edges_of_channel rows.updates) walked.done) walked.links_are);
+            links_are =
+                subst (λ es. AreLinksOf es new.points.keys after) (sym more)
+                (links (flat_map (edges_of_channel rows.updates) walked.done) walked.links_are);
           }
 
 -- the whole walk, once the links are put in their lists
-pub walked_all : (known : Option (List ℕ)) (rows : Rows) (links : List Link) (old new : Nodes) → IsAscending rows → HasWalked rows [] links (graph_in known old)
-    → new.points.keys ≡ old.points.keys → new.takes.items ≡ old.takes.items → ((edges : List Edge) → AreLinksOf edges old.points.keys links → ShowsIn edges new)
+pub walked_all : (known : Option (List ℕ)) (rows : Rows) (links : List Link) (old new : Nodes)
+    → IsAscending rows → HasWalked rows [] links (graph_in known old)
+    → new.points.keys ≡ old.points.keys → new.takes.items ≡ old.takes.items
+    → ((edges : List Edge) → AreLinksOf edges old.points.keys links → ShowsIn edges new)
     → IsGraphOf rows (graph_in known new)
 walked_all known rows links old new ascend walked points takes shows = record {
   ends = rw (points, all) walked.ends;

@@ -1,5 +1,6 @@
 -- Links written down one behind the other.
-use Rattle.std.proofs.Common.{◌≡◌, ℕ, ◌+◌, ◌<◌, Bool, true, false, not, List, [], ◌∷◌, ◌++◌, length, map, set, get_or, take, zero, suc, refl, sym, ap, subst, ◌∙◌, Option, Some, None, option_to_list, append_assoc, arith}
+use Rattle.std.proofs.Common.{◌≡◌, ℕ, ◌+◌, ◌<◌, Bool, true, false, not, List, [], ◌∷◌, ◌++◌, length, map, set, get_or, take}
+use Rattle.std.proofs.Common.{zero, suc, refl, sym, ap, subst, ◌∙◌, Option, Some, None, option_to_list, append_assoc, arith}
 use Rattle.std.specs.Option.{option_and_then, option_map}
 use Rattle.std.specs.List.{AllByRecursion, IsDistinct}
 use Rattle.std.proofs.lemmas.List.{length-map, map-append, take_more}
@@ -23,7 +24,8 @@ use Rattle.lgm_graph.proofs.Showing.{All_append, append-none, links_kept, map_al
 use Rattle.lgm_graph.proofs.Walked.{held_update}
 
 -- further numbers change none of them
-pub links_of_more : (old new : List Point) (edges : List Edge) (links : List Link) → KeepsNumbers old new → AreLinksOf edges old links → AreLinksOf edges new links
+pub links_of_more : (old new : List Point) (edges : List Edge) (links : List Link) → KeepsNumbers old new
+    → AreLinksOf edges old links → AreLinksOf edges new links
 links_of_more old new edges links keeps are = record {
   joined = All_to (IsJoined old) (IsJoined new) edges (λ e both. ((keeps e.from both.0).1, (keeps e.to both.1).1)) are.joined;
   links_are = are.links_are ∙ map_alike (link_of old) (link_of new) edges (links_kept old new edges keeps are.joined);
@@ -35,7 +37,8 @@ edge_ends : (updates : List UpdateRow) (channel : ChannelRow) (second : Bool) (e
 edge_ends updates channel second edge is = by (update_of updates channel.message.short_channel_id second) refl is
   where
     by : (o : Option UpdateRow) → update_of updates channel.message.short_channel_id second ≡ o
-        → option_and_then (edge_on channel) (update_of updates channel.message.short_channel_id second) ≡ Some edge → (edge.from ≡ end_of channel second) × (edge.to ≡ end_of channel (not second))
+        → option_and_then (edge_on channel) (update_of updates channel.message.short_channel_id second)
+        ≡ Some edge → (edge.from ≡ end_of channel second) × (edge.to ≡ end_of channel (not second))
     by None e is = let h : None ≡ Some edge = rw e at is in absurd cc
     by (Some row) e is =
         let own : edge_on channel row ≡ Some edge = rw e at is in
@@ -63,9 +66,12 @@ module _ (rows : Rows) (held : Held) (points : List Point) (own : held ≡ held_
       by (Some edge) e =
           let ends = edge_ends rows.updates held.channel second edge e in
           let starts : IsNumbered points edge.from = subst (IsNumbered points) (sym ends.0) (end_numbered points held.channel second first other) in
-          let stops : IsNumbered points edge.to = subst (IsNumbered points) (sym ends.1) (end_numbered points held.channel (not second) first other) in
+          let stops : IsNumbered points edge.to =
+          subst (IsNumbered points) (sym ends.1)
+          (end_numbered points held.channel (not second) first other) in
           let link_is : linked edge from to ≡ link_of points edge =
-          ap (λ n. linked edge n to) (from_is ∙ ap (number_of points) (sym ends.0)) ∙ ap (linked edge (number_of points edge.from)) (to_is ∙ ap (number_of points) (sym ends.1)) in
+          ap (λ n. linked edge n to) (from_is ∙ ap (number_of points) (sym ends.0))
+          ∙ ap (linked edge (number_of points edge.from)) (to_is ∙ ap (number_of points) (sym ends.1)) in
           record {
             joined = All_append (IsJoined points) edges (edge ∷ []) are.joined ((starts, stops), tt);
             links_are = ap (λ ls. ls ++ linked edge from to ∷ []) are.links_are ∙ ap (λ l. map (link_of points) edges ++ l ∷ []) link_is
@@ -81,8 +87,10 @@ module _ (rows : Rows) (held : Held) (points : List Point) (own : held ≡ held_
   channel_written from to edges before mid after from_is to_is mid_is after_is are =
       let one = direction_written false from to edges before mid from_is to_is mid_is are in
       subst (λ es. AreLinksOf es points after)
-      (append_assoc edges (option_to_list (edge_of_direction rows.updates held.channel false)) (option_to_list (edge_of_direction rows.updates held.channel true)))
-      (direction_written true to from (edges ++ option_to_list (edge_of_direction rows.updates held.channel false)) mid after to_is from_is after_is one)
+      (append_assoc edges (option_to_list (edge_of_direction rows.updates held.channel false))
+      (option_to_list (edge_of_direction rows.updates held.channel true)))
+      (direction_written true to from (edges ++ option_to_list
+      (edge_of_direction rows.updates held.channel false)) mid after to_is from_is after_is one)
 
 -- ---- one of them
 
@@ -98,7 +106,8 @@ place_of (x ∷ xs) zero lt = (x, refl)
 place_of (x ∷ xs) (suc i) lt = place_of xs i (omega (arith, lt))
 
 -- the link at a place is that of the edge there
-pub link_at : (edges : List Edge) (points : List Point) (links : List Link) (i : ℕ) (link : Link) → AreLinksOf edges points links → i < length links → link ≡ get_or links i link
+pub link_at : (edges : List Edge) (points : List Point) (links : List Link) (i : ℕ) (link : Link)
+    → AreLinksOf edges points links → i < length links → link ≡ get_or links i link
     → (edge : Edge) × (take (i + 1) edges ≡ take i edges ++ edge ∷ []) × (link ≡ link_of points edge) × IsJoined points edge
 link_at edges points links i link are lt is =
     let long : length links ≡ length edges = ap length are.links_are ∙ length-map edges (link_of points) in
@@ -120,11 +129,14 @@ module _ (points : List Point) (links : List Link) (i : ℕ) (link : Link) (lt :
       let found = link_at edges points links i link are lt is in
       let from = ap (λ (l : Link). l.from) found.2 in
       let to = ap (λ (l : Link). l.to) found.2 in
-      let long = ap length same in
-      (omega (arith, from, long, found.3.0, out_long (take i edges) nodes shows), omega (arith, to, long, found.3.1, into_long (take i edges) nodes shows))
+      let long = ap length same in (
+        omega (arith, from, long, found.3.0, out_long (take i edges) nodes shows),
+        omega (arith, to, long, found.3.1, into_long (take i edges) nodes shows),
+      )
 
   -- the next link behind the others of its nodes
-  pub link_put : (edges : List Edge) (old mid new : Nodes) → AreLinksOf edges points links → old.points.keys ≡ points → IsDistinct is_point old.points.keys
+  pub link_put : (edges : List Edge) (old mid new : Nodes) → AreLinksOf edges points links
+      → old.points.keys ≡ points → IsDistinct is_point old.points.keys
       → ((known : Option (List ℕ)) → graph_in known mid ≡ graph_in known old) → new.points.keys ≡ mid.points.keys
       → map links_in new.into.items ≡ set (map links_in mid.into.items) link.to (get_or (map links_in mid.into.items) link.to [] ++ link ∷ [])
       → map links_in new.out.items ≡ set (map links_in mid.out.items) link.from (get_or (map links_in mid.out.items) link.from [] ++ link ∷ [])
@@ -137,5 +149,6 @@ module _ (points : List Point) (links : List Link) (i : ℕ) (link : Link) (lt :
       let link_is : link ≡ linked edge link.from link.to =
       found.2 ∙ ap (λ n. linked edge n (number_of points edge.to)) (sym from) ∙ ap (linked edge link.from) (sym to) in
       subst (λ es. ShowsIn es new) (sym found.1)
-      (pushed old mid new (take i edges) edge link.from link.to link distinct same (from ∙ ap (λ ps. number_of ps edge.from) (sym own)) (to ∙ ap (λ ps. number_of ps edge.to) (sym own))
+      (pushed old mid new (take i edges) edge link.from link.to link distinct same (from
+      ∙ ap (λ ps. number_of ps edge.from) (sym own)) (to ∙ ap (λ ps. number_of ps edge.to) (sym own))
       link_is (subst (λ ps. IsJoined ps edge) (sym own) found.3) points_is into out shows)

@@ -1,5 +1,6 @@
 -- The edges of rows.
-use Rattle.std.specs.Prelude.{◌≡◌, ◌⊎◌, Contains, ℕ, ◌*◌, ◌/◌, ◌%◌, Bool, true, not, ◌&&◌, nat_eq, nat_le, List, Option, Some, None, filter, bit_and, if◌then◌else◌}
+use Rattle.std.specs.Prelude.{◌≡◌, ◌⊎◌, Contains, ℕ, ◌*◌, ◌/◌, ◌%◌, Bool, true, not, ◌&&◌, nat_eq}
+use Rattle.std.specs.Prelude.{nat_le, List, Option, Some, None, filter, bit_and, if◌then◌else◌}
 use Rattle.std.specs.List.{list_any, filter_map}
 use Rattle.std.specs.Option.{option_and_then, option_map_or}
 use Rattle.lgm_wire.specs.declared.point.Point.{Point}
@@ -44,7 +45,8 @@ edge_on channel row = if can_carry channel row then Some (edge_of channel row) e
 
 -- the edge of an update, if its channel is in the map and it can carry payments
 abbrev pub edge_in : List ChannelRow → UpdateRow → Option Edge
-edge_in channels row = option_and_then (λ channel. edge_on channel row) (channel_of channels row.message.short_channel_id)
+edge_in channels row =
+    option_and_then (λ channel. edge_on channel row) (channel_of channels row.message.short_channel_id)
 
 -- the edges, regardless of the features of the nodes that they go to
 abbrev pub carrying : Rows → List Edge
@@ -52,7 +54,8 @@ carrying rows = filter_map (edge_in rows.channels) rows.updates
 
 -- a node takes payments unless its announcement has a feature that isn't allowed
 abbrev pub takes_payments : Option (List ℕ) → List NodeRow → Point → Bool
-takes_payments known nodes node = option_map_or (λ row. allows known row.message.features) (node_of nodes node) true
+takes_payments known nodes node =
+    option_map_or (λ row. allows known row.message.features) (node_of nodes node) true
 
 -- the edges, in the order of the update rows
 abbrev pub edges_of : Option (List ℕ) → Rows → List Edge

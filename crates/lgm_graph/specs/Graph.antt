@@ -1,5 +1,6 @@
 -- The graph of a view: numbered points, and the links between them.
-use Rattle.std.specs.Prelude.{◌≡◌, ℕ, ◌<◌, Bool, false, List, [], map, filter, flat_map, zip, length, slice_index_or, Contains, Option, if◌then◌else◌}
+use Rattle.std.specs.Prelude.{◌≡◌, ℕ, ◌<◌, Bool, false, List, [], map, filter, flat_map, zip}
+use Rattle.std.specs.Prelude.{length, slice_index_or, Contains, Option, if◌then◌else◌}
 use Rattle.std.specs.List.{AllByRecursion, IsDistinct, position_or_len}
 use Rattle.lgm_wire.specs.declared.point.Point.{Point}
 use Rattle.lgm_store.specs.Rows.{Rows, is_point}
@@ -102,14 +103,17 @@ pub record AreLinked (graph : Graph) : Type 0 where
   pub wide : length graph.into ≡ length graph.points
   pub unique : IsDistinct is_point graph.points
   pub each : (link : Link) → Contains (links graph) link → IsLinked graph link
-  pub into : (number : ℕ) (link : Link) → Contains (links_into graph number) link → (link.to ≡ number) × Contains (links graph) link
-  pub leaving : (number : ℕ) (link : Link) → Contains (links_leaving graph number) link → (link.from ≡ number) × (link.to < length graph.points)
+  pub into : (number : ℕ) (link : Link) → Contains (links_into graph number) link
+      → (link.to ≡ number) × Contains (links graph) link
+  pub leaving : (number : ℕ) (link : Link) → Contains (links_leaving graph number) link
+      → (link.from ≡ number) × (link.to < length graph.points)
 
 -- ---- the view of rows
 
 -- the links of the edges that have each of the points as an end
 abbrev pub links_by : (Edge → Point) → List Point → List Edge → List (List Link)
-links_by end points edges = map (λ point. map (link_of points) (filter (λ edge. is_point point (end edge)) edges)) points
+links_by end points edges =
+    map (λ point. map (link_of points) (filter (λ edge. is_point point (end edge)) edges)) points
 
 -- both nodes of an edge are numbered
 abbrev pub IsJoined : List Point → Edge → Type 0
@@ -124,6 +128,7 @@ pub record Shows (edges : List Edge) (points : List Point) (into out : List (Lis
 -- the view is that of the rows: the nodes of each channel are numbered, each node's features are checked, and the edges
 -- are in the lists of their nodes
 pub record IsGraphOf (rows : Rows) (graph : Graph) : Type 0 where
-  pub ends : AllByRecursion (λ channel. IsNumbered graph.points channel.message.node_id_1 × IsNumbered graph.points channel.message.node_id_2) rows.channels
+  pub ends : AllByRecursion (λ channel. IsNumbered graph.points channel.message.node_id_1
+      × IsNumbered graph.points channel.message.node_id_2) rows.channels
   pub takes : graph.takes ≡ map (takes_payments graph.known rows.nodes) graph.points
   pub shows : Shows (carrying rows) graph.points graph.into graph.out

@@ -6,5 +6,6 @@ ghost use Rattle.lgm_graph.specs.Edges.{edges_of, AreDirections};
 
 /// Two edges of one channel are the same or have opposite directions. The call does nothing: its contract is the law.
 pub fn edges_are_directions()
-    ensures { (known : Option (List ℕ)) (rows : Rows) → IsAscending rows → AreDirections (edges_of known rows) }
+    ensures { (known : Option (List ℕ)) (rows : Rows) → IsAscending rows
+        → AreDirections (edges_of known rows) }
 {}

@@ -1,6 +1,8 @@
 //! Lists of links, by node.
 
-ghost use Rattle.std.specs.Prelude.{◌≡◌, ◌++◌, ◌∷◌, [], ◌<◌, ◌≤◌, suc, take, drop, map, filter, length, slice_index_or, slice_set, option_to_list, IfOk, OnOk, MatchResult, vec_len};
+ghost use Rattle.std.specs.Prelude.{◌≡◌, ◌++◌, ◌∷◌, [], ◌<◌, ◌≤◌, suc, take, drop, map};
+ghost use Rattle.std.specs.Prelude.{filter, length, slice_index_or, slice_set, option_to_list};
+ghost use Rattle.std.specs.Prelude.{IfOk, OnOk, MatchResult, vec_len};
 ghost use Rattle.std.specs.List.{HoldsAt};
 ghost use Rattle.std.specs.Vec.{vec_capacity};
 ghost use Rattle.std.specs.Ordering.{is_lt, is_gt};
@@ -26,9 +28,11 @@ fn order(link: &Link, scid: Scid, second: bool) -> Ordering
 fn place(links: &[Link], scid: Scid, second: bool) -> Result<usize, usize>
     requires { IsCut (link_key scid second) links.now }
     ensures found { MatchResult result
-        (λ i. (i < length links.now) × (take i links.now ≡ filter (λ x. is_lt (link_key scid second x)) links.now)
+        (λ i. (i < length links.now)
+        × (take i links.now ≡ filter (λ x. is_lt (link_key scid second x)) links.now)
         × (drop (suc i) links.now ≡ filter (λ x. is_gt (link_key scid second x)) links.now))
-        (λ i. (i ≤ length links.now) × (take i links.now ≡ filter (λ x. is_lt (link_key scid second x)) links.now)
+        (λ i. (i ≤ length links.now)
+        × (take i links.now ≡ filter (λ x. is_lt (link_key scid second x)) links.now)
         × (drop i links.now ≡ filter (λ x. is_gt (link_key scid second x)) links.now)) }
 {
     links.binary_search_by(
@@ -41,7 +45,8 @@ fn place(links: &[Link], scid: Scid, second: bool) -> Result<usize, usize>
 /// Replaces the link at an index, or removes it.
 fn replace(links: &mut Vec<Link>, place: usize, link: Option<Link>)
     requires { place < length links.old.items }
-    ensures { links.new.items ≡ take place links.old.items ++ option_to_list link ++ drop (suc place) links.old.items }
+    ensures { links.new.items
+        ≡ take place links.old.items ++ option_to_list link ++ drop (suc place) links.old.items }
 {
     match link {
         Some(link) => links[place] = link,
@@ -55,7 +60,8 @@ fn replace(links: &mut Vec<Link>, place: usize, link: Option<Link>)
 fn insert(links: &mut Vec<Link>, place: usize, link: Option<Link>)
     requires room { vec_len links.old < vec_capacity links.old }
     requires within { place ≤ vec_len links.old }
-    ensures { links.new.items ≡ take place links.old.items ++ option_to_list link ++ drop place links.old.items }
+    ensures { links.new.items
+        ≡ take place links.old.items ++ option_to_list link ++ drop place links.old.items }
 {
     if let Some(link) = link {
         match links.insert(place, link) {
@@ -128,7 +134,8 @@ fn is_banned(points: &IndexSet<Point, Seed>, held: &Map, number: u32) -> bool
 impl Links {
     /// Removes the links from or to a banned node.
     fn drop_banned(&mut self, points: &IndexSet<Point, Seed>, held: &Map)
-        ensures { self.new.links.items ≡ filter (is_allowed points.now.keys held.now.banned) self.old.links.items }
+        ensures { self.new.links.items
+            ≡ filter (is_allowed points.now.keys held.now.banned) self.old.links.items }
     {
         self.links.retain(
             |link: &Link| -> bool
@@ -159,7 +166,9 @@ pub(crate) fn drop_banned_at(
 )
     requires { number < length lists.old.items }
     ensures long { length lists.new.items ≡ length lists.old.items }
-    ensures links { map links_in lists.new.items ≡ slice_set (map links_in lists.old.items) number (filter (is_allowed points.now.keys held.now.banned) (slice_index_or (map links_in lists.old.items) number [])) }
+    ensures links { map links_in lists.new.items
+        ≡ slice_set (map links_in lists.old.items) number (filter (is_allowed points.now.keys held.now.banned)
+        (slice_index_or (map links_in lists.old.items) number [])) }
 {
     lists[number].drop_banned(points, held);
 }
@@ -168,7 +177,8 @@ pub(crate) fn drop_banned_at(
 pub(crate) fn drop_at(lists: &mut Vec<Links>, number: usize, scid: Scid)
     requires { number < length lists.old.items }
     ensures long { length lists.new.items ≡ length lists.old.items }
-    ensures links { map links_in lists.new.items ≡ slice_set (map links_in lists.old.items) number (filter (is_not_of scid) (slice_index_or (map links_in lists.old.items) number [])) }
+    ensures links { map links_in lists.new.items ≡ slice_set (map links_in lists.old.items) number
+        (filter (is_not_of scid) (slice_index_or (map links_in lists.old.items) number [])) }
 {
     lists[number].drop_channel(scid);
 }
@@ -234,7 +244,8 @@ pub(crate) fn put_at(
     requires within { number < length lists.old.items }
     requires room { HoldsAt HasRoom lists.old.items number }
     requires cut { IsCut (link_key scid second) (slice_index_or (map links_in lists.old.items) number []) }
-    ensures { map links_in lists.new.items ≡ slice_set (map links_in lists.old.items) number (put_at (link_key scid second) (slice_index_or (map links_in lists.old.items) number []) link) }
+    ensures { map links_in lists.new.items ≡ slice_set (map links_in lists.old.items) number
+        (put_at (link_key scid second) (slice_index_or (map links_in lists.old.items) number []) link) }
 {
     lists[number].put(scid, second, link);
 }
@@ -243,7 +254,8 @@ pub(crate) fn put_at(
 pub(crate) fn push_at(lists: &mut Vec<Links>, number: usize, link: Link)
     requires within { number < length lists.old.items }
     requires room { HoldsAt HasRoom lists.old.items number }
-    ensures { map links_in lists.new.items ≡ slice_set (map links_in lists.old.items) number (slice_index_or (map links_in lists.old.items) number [] ++ link ∷ []) }
+    ensures { map links_in lists.new.items ≡ slice_set (map links_in lists.old.items) number
+        (slice_index_or (map links_in lists.old.items) number [] ++ link ∷ []) }
 {
     lists[number].push(link);
 }

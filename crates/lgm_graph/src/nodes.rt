@@ -1,6 +1,7 @@
 //! Numbered nodes, and the links of each.
 
-ghost use Rattle.std.specs.Prelude.{◌≡◌, ◌++◌, ◌∷◌, [], ℕ, ◌+◌, ◌<◌, ◌≤◌, List, map, length, slice_set, slice_index_or, OnOk, IfOk, Option, Bool, false, true, if◌then◌else◌};
+ghost use Rattle.std.specs.Prelude.{◌≡◌, ◌++◌, ◌∷◌, [], ℕ, ◌+◌, ◌<◌, ◌≤◌, List, map, length, slice_set};
+ghost use Rattle.std.specs.Prelude.{slice_index_or, OnOk, IfOk, Option, Bool, false, true, if◌then◌else◌};
 ghost use Rattle.std.specs.List.{HoldsAt, list_any};
 ghost use Rattle.indexmap.specs.IndexSet.{spare};
 ghost use Rattle.lgm_wire.specs.declared.point.Point.{Point as APoint};
@@ -11,7 +12,8 @@ ghost use Rattle.lgm_store.specs.Rows.{is_point};
 ghost use Rattle.lgm_graph.specs.Edges.{takes_payments};
 ghost use Rattle.lgm_graph.specs.inner.Lists.{link_key, IsCut, put_at};
 ghost use Rattle.lgm_graph.specs.Graph.{number_of, IsNumbered};
-ghost use Rattle.lgm_graph.specs.inner.Sound.{graph_in, links_in, HasRoom, HasPlaces, AreFlags, AreInto, AreOut, AreLookedAt, ShowsIn, closed_at, allowed_at};
+ghost use Rattle.lgm_graph.specs.inner.Sound.{graph_in, links_in, HasRoom, HasPlaces, AreFlags, AreInto};
+ghost use Rattle.lgm_graph.specs.inner.Sound.{AreOut, AreLookedAt, ShowsIn, closed_at, allowed_at};
 
 use crate::known::Known;
 use crate::link::Link;
@@ -68,7 +70,8 @@ impl Nodes {
 
     /// A copy with the same graph. The only error is out of memory.
     pub(crate) fn copy(&self, alloc: Global) -> Result<Nodes, AllocError>
-        ensures { (known : Option (List ℕ)) → IfOk result (λ copy. graph_in known copy ≡ graph_in known self.now) }
+        ensures { (known : Option (List ℕ))
+            → IfOk result (λ copy. graph_in known copy ≡ graph_in known self.now) }
     {
         Ok(Nodes {
             points: self.points.clone()?,
@@ -160,8 +163,10 @@ impl Nodes {
         requires into { HoldsAt HasRoom self.old.into.items to }
         ensures points { self.new.points.keys ≡ self.old.points.keys }
         ensures takes { self.new.takes.items ≡ self.old.takes.items }
-        ensures into { map links_in self.new.into.items ≡ slice_set (map links_in self.old.into.items) to (slice_index_or (map links_in self.old.into.items) to [] ++ link ∷ []) }
-        ensures out { map links_in self.new.out.items ≡ slice_set (map links_in self.old.out.items) from (slice_index_or (map links_in self.old.out.items) from [] ++ link ∷ []) }
+        ensures into { map links_in self.new.into.items ≡ slice_set (map links_in self.old.into.items) to
+            (slice_index_or (map links_in self.old.into.items) to [] ++ link ∷ []) }
+        ensures out { map links_in self.new.out.items ≡ slice_set (map links_in self.old.out.items) from
+            (slice_index_or (map links_in self.old.out.items) from [] ++ link ∷ []) }
     {
         let copy = link;
         lists::push_at(&mut self.into, to, copy);
@@ -181,12 +186,16 @@ impl Nodes {
         requires to { to < length self.old.into.items }
         requires leaving { HoldsAt HasRoom self.old.out.items from }
         requires into { HoldsAt HasRoom self.old.into.items to }
-        requires cut_into { IsCut (link_key scid second) (slice_index_or (map links_in self.old.into.items) to []) }
-        requires cut_out { IsCut (link_key scid second) (slice_index_or (map links_in self.old.out.items) from []) }
+        requires cut_into { IsCut (link_key scid second)
+            (slice_index_or (map links_in self.old.into.items) to []) }
+        requires cut_out { IsCut (link_key scid second)
+            (slice_index_or (map links_in self.old.out.items) from []) }
         ensures points { self.new.points.keys ≡ self.old.points.keys }
         ensures takes { self.new.takes.items ≡ self.old.takes.items }
-        ensures into { map links_in self.new.into.items ≡ slice_set (map links_in self.old.into.items) to (put_at (link_key scid second) (slice_index_or (map links_in self.old.into.items) to []) link) }
-        ensures out { map links_in self.new.out.items ≡ slice_set (map links_in self.old.out.items) from (put_at (link_key scid second) (slice_index_or (map links_in self.old.out.items) from []) link) }
+        ensures into { map links_in self.new.into.items ≡ slice_set (map links_in self.old.into.items) to
+            (put_at (link_key scid second) (slice_index_or (map links_in self.old.into.items) to []) link) }
+        ensures out { map links_in self.new.out.items ≡ slice_set (map links_in self.old.out.items) from
+            (put_at (link_key scid second) (slice_index_or (map links_in self.old.out.items) from []) link) }
     {
         let copy = link;
         lists::put_at(&mut self.into, to, scid, second, copy);
@@ -200,7 +209,8 @@ impl Nodes {
         ensures into { self.new.into.items ≡ self.old.into.items }
         ensures out { self.new.out.items ≡ self.old.out.items }
         ensures takes { (before : APoint → Bool) → AreFlags before self.old
-            → AreFlags (λ q. if is_point node.now q then takes_payments known.now map.now.nodes q else before q) self.new }
+            → AreFlags (λ q. if is_point node.now q then takes_payments known.now map.now.nodes q
+            else before q) self.new }
     {
         // The contract of `len` says that points are distinct.
         let _ = self.points.len();
@@ -218,10 +228,13 @@ impl Nodes {
         ensures points { self.new.points.keys ≡ self.old.points.keys }
         ensures into_long { length self.new.into.items ≡ length self.old.into.items }
         ensures out_long { length self.new.out.items ≡ length self.old.out.items }
-        ensures into { (before : APoint → List ALink) → AreInto before self.old → AreInto (closed_at node.now scid before) self.new }
-        ensures out { (before : APoint → List ALink) → AreOut before self.old → AreOut (closed_at node.now scid before) self.new }
+        ensures into { (before : APoint → List ALink) → AreInto before self.old
+            → AreInto (closed_at node.now scid before) self.new }
+        ensures out { (before : APoint → List ALink) → AreOut before self.old
+            → AreOut (closed_at node.now scid before) self.new }
         ensures takes { (before : APoint → Bool) → AreFlags before self.old
-            → AreFlags (λ q. if is_point node.now q then takes_payments known.now map.now.nodes q else before q) self.new }
+            → AreFlags (λ q. if is_point node.now q then takes_payments known.now map.now.nodes q
+            else before q) self.new }
     {
         // The contract of `len` says that points are distinct.
         let _ = self.points.len();
@@ -237,7 +250,8 @@ impl Nodes {
         ensures few { length self.new.points.keys ≤ length self.old.points.keys + 1 }
         ensures kept { KeepsNumbers self.old.points.keys self.new.points.keys }
         ensures numbered { IsNumbered self.new.points.keys point }
-        ensures takes { AreLookedAt known.now held.now.nodes self.old → AreLookedAt known.now held.now.nodes self.new }
+        ensures takes { AreLookedAt known.now held.now.nodes self.old
+            → AreLookedAt known.now held.now.nodes self.new }
         ensures shows { (edges : List AnEdge) → ShowsIn edges self.old → ShowsIn edges self.new }
         ensures places { (more : ℕ) → HasPlaces (more + 1) self.old → HasPlaces more self.new }
     {
@@ -257,10 +271,13 @@ impl Nodes {
         ensures takes_long { length self.new.takes.items ≡ length self.old.takes.items }
         ensures into_long { length self.new.into.items ≡ length self.old.into.items }
         ensures out_long { length self.new.out.items ≡ length self.old.out.items }
-        ensures into { (before : APoint → List ALink) → AreInto before self.old → AreInto (allowed_at node.now self.old.points.keys map.now.banned before) self.new }
-        ensures out { (before : APoint → List ALink) → AreOut before self.old → AreOut (allowed_at node.now self.old.points.keys map.now.banned before) self.new }
+        ensures into { (before : APoint → List ALink) → AreInto before self.old
+            → AreInto (allowed_at node.now self.old.points.keys map.now.banned before) self.new }
+        ensures out { (before : APoint → List ALink) → AreOut before self.old
+            → AreOut (allowed_at node.now self.old.points.keys map.now.banned before) self.new }
         ensures takes { (before : APoint → Bool) → AreFlags before self.old
-            → AreFlags (λ q. if is_point node.now q then takes_payments known.now map.now.nodes q else before q) self.new }
+            → AreFlags (λ q. if is_point node.now q then takes_payments known.now map.now.nodes q
+            else before q) self.new }
     {
         // The contract of `len` says that points are distinct.
         let _ = self.points.len();

@@ -1,6 +1,7 @@
 //! The view of a map.
 
-ghost use Rattle.std.specs.Prelude.{◌≡◌, ◌↔◌, Contains, ◌+◌, ◌-◌, ◌^◌, ◌<◌, ◌≤◌, length, min, slice_get, IfOk, OnOk, OnErr};
+ghost use Rattle.std.specs.Prelude.{◌≡◌, ◌↔◌, Contains, ◌+◌, ◌-◌, ◌^◌, ◌<◌, ◌≤◌};
+ghost use Rattle.std.specs.Prelude.{length, min, slice_get, IfOk, OnOk, OnErr};
 ghost use Rattle.std.specs.List.{position};
 ghost use Rattle.std.specs.List.Sorted.{IsPermutation};
 ghost use Rattle.std.specs.Option.{option_copied};
@@ -8,7 +9,8 @@ ghost use Rattle.lgm_store.specs.Rows.{Rows, is_point};
 ghost use Rattle.lgm_store.specs.History.{absorbed};
 ghost use Rattle.lgm_graph.specs.declared.edge.Edge.{Edge as AnEdge};
 ghost use Rattle.lgm_graph.specs.Edges.{edges_of};
-ghost use Rattle.lgm_graph.specs.Graph.{AreLinked, IsGraphOf, edge_at, edges, takes_at, links_into, links_leaving};
+ghost use Rattle.lgm_graph.specs.Graph.{AreLinked, IsGraphOf, edge_at, edges};
+ghost use Rattle.lgm_graph.specs.Graph.{takes_at, links_into, links_leaving};
 
 mod applying;
 mod hints;
@@ -160,8 +162,10 @@ impl View {
 impl View {
     /// A view of rows has exactly their edges, each once. The call does nothing: its contract is the law.
     pub fn shows_the_edges(&self)
-        ensures found { (rows : Rows) → IsGraphOf rows self.now → (edge : AnEdge) → Contains (edges self.now) edge ↔ Contains (edges_of self.now.known rows) edge }
-        ensures once { (rows : Rows) → IsGraphOf rows self.now → IsPermutation (edges_of self.now.known rows) (edges self.now) }
+        ensures found { (rows : Rows) → IsGraphOf rows self.now → (edge : AnEdge)
+            → Contains (edges self.now) edge ↔ Contains (edges_of self.now.known rows) edge }
+        ensures once { (rows : Rows) → IsGraphOf rows self.now
+            → IsPermutation (edges_of self.now.known rows) (edges self.now) }
     {
         // Different points have different numbers.
         self.nodes();

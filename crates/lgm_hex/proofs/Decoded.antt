@@ -1,11 +1,14 @@
 -- Lanes of digits, and the bytes that they spell.
-use Rattle.std.proofs.Common.{◌≡◌, ℕ, zero, suc, ◌+◌, ◌-◌, ◌*◌, ◌/◌, ◌%◌, ◌^◌, ◌<◌, ◌≤◌, Bool, true, false, ◌&&◌, cond, eqb, ltb, List, [], ◌∷◌, map, length, get_or, replicate, Option, Some, None, unwrap_or, Ok, bit_and, bit_or, w8, Fits, refl, sym, ap, ◌∙◌, inl, inr, arith, eqb-true, add-one, take, drop}
+use Rattle.std.proofs.Common.{◌≡◌, ℕ, zero, suc, ◌+◌, ◌-◌, ◌*◌, ◌/◌, ◌%◌, ◌^◌, ◌<◌, ◌≤◌, Bool, true, false, ◌&&◌, cond, eqb}
+use Rattle.std.proofs.Common.{ltb, List, [], ◌∷◌, map, length, get_or, replicate, Option, Some, None, unwrap_or, Ok, bit_and}
+use Rattle.std.proofs.Common.{bit_or, w8, Fits, refl, sym, ap, ◌∙◌, inl, inr, arith, eqb-true, add-one, take, drop}
 use Rattle.std.proofs.lemmas.Bool.{cases_lt}
 use Rattle.std.proofs.lemmas.Bool.Decides.{Decides-below_and, Decides-eqb, nat_tests}
 use Rattle.std.proofs.lemmas.List.{get_or-map, set-get_or}
 use Rattle.std.proofs.lemmas.Nat.{le_or_l, le_or_r}
 use Rattle.std.proofs.lemmas.Nat.Bits.{bit_at_ones}
-use Rattle.std.proofs.lemmas.Simd.{bitmask_splat, bit_mask_l, below_from_Fits, Each1-get_or, get_or-zip2, get_or_wider, length-chunk, get_or-chunk, get_or-put_chunk_below, get_or-put_chunk_at}
+use Rattle.std.proofs.lemmas.Simd.{bitmask_splat, bit_mask_l, below_from_Fits, Each1-get_or, get_or-zip2, get_or_wider}
+use Rattle.std.proofs.lemmas.Simd.{length-chunk, get_or-chunk, get_or-put_chunk_below, get_or-put_chunk_at}
 use lib.Lanes.{zip2, sel_l, mask_l, top, Each1, chunk, put_chunk, number_l, digits_l}
 use Rattle.hex.specs.Hex.{◌>>=◌, hex_digit_value, digit_or_error, pair_value, decode_pairs, decode_sized}
 use Rattle.hex.proofs.Pairs.{prepend, decode_start, decode_step, decode_done, decode_sized-pairs}
@@ -59,7 +62,10 @@ agree_below zero = true
 agree_below (suc n) = agrees n && agree_below n
 
 lane_agrees : (c : ℕ) → c < 256 → cond (ltb (lane c) 16) (lane c) 255 ≡ unwrap_or (hex_digit_value c) 255
-lane_agrees = (Decides-below_and agrees (λ c. cond (ltb (lane c) 16) (lane c) 255 ≡ unwrap_or (hex_digit_value c) 255) agree_below (λ c. Decides-eqb (cond (ltb (lane c) 16) (lane c) 255) (unwrap_or (hex_digit_value c) 255)) refl (λ _. refl) 256).0 refl
+lane_agrees =
+    (Decides-below_and agrees (λ c. cond (ltb (lane c) 16) (lane c) 255 ≡ unwrap_or (hex_digit_value c) 255)
+    agree_below (λ c. Decides-eqb (cond (ltb (lane c) 16) (lane c) 255) (unwrap_or (hex_digit_value c) 255))
+    refl (λ _. refl) 256).0 refl
 
 value_found : (found : Option ℕ) (value : ℕ) → cond (ltb value 16) value 255 ≡ unwrap_or found 255 → value < 16 → found ≡ Some value
 value_found (Some x) value e small = let same : x ≡ value = grind (arith, nat_tests) in ap Some same
@@ -88,8 +94,10 @@ all_small v long test k h =
 
 -- where the bits of two vectors are put together, and each lane is below 16, it is so in both
 pub both_valid : (v w : List ℕ) → length v ≡ 32 → length w ≡ 32 → AreValid (zip2 bit_or v w) → AreValid v × AreValid w
-both_valid v w long also valid =
-    (λ k h. omega (arith, valid k h, together k h, le_or_l (get_or v k 0) (get_or w k 0)), λ k h. omega (arith, valid k h, together k h, le_or_r (get_or v k 0) (get_or w k 0)))
+both_valid v w long also valid = (
+  λ k h. omega (arith, valid k h, together k h, le_or_l (get_or v k 0) (get_or w k 0)),
+  λ k h. omega (arith, valid k h, together k h, le_or_r (get_or v k 0) (get_or w k 0)),
+)
   where
     together : (k : ℕ) → k < 32 → get_or (zip2 bit_or v w) k 0 ≡ bit_or (get_or v k 0) (get_or w k 0)
     together k h = get_or-zip2 bit_or v w k 0 0 0 (omega arith) (omega arith)
@@ -140,12 +148,16 @@ block_decoded digits out bytes values at room twice long are joined valid before
           let j = k - at in
           let e : at + j ≡ k = omega arith in
           let byte = get_or-put_chunk_at at out bytes j 0 (omega arith) (omega arith) ∙ joined valid j (omega arith) in
-          pair_reads (get_or digits (2 * k) 0) (get_or digits (2 * k + 1) 0) (2 * k) (get_or values (2 * j) 0) (get_or values (2 * j + 1) 0) (value_at (2 * j) (2 * k) (omega arith) (omega arith)) (value_at (2 * j + 1) (2 * k + 1) (omega arith) (omega arith))
+          pair_reads (get_or digits (2 * k) 0) (get_or digits (2 * k + 1) 0) (2 * k) (get_or values (2 * j) 0)
+          (get_or values (2 * j + 1) 0) (value_at (2 * j) (2 * k) (omega arith) (omega arith))
+          (value_at (2 * j + 1) (2 * k + 1) (omega arith) (omega arith))
           ∙ ap Ok (sym (rw e at byte))
     ]
   where
     value_at : (i m : ℕ) → i < 32 → 2 * at + i ≡ m → hex_digit_value (get_or digits m 0) ≡ Some (get_or values i 0)
-    value_at i m h e = ap (λ p. hex_digit_value (get_or digits p 0)) (sym e) ∙ ap hex_digit_value (sym (get_or-chunk (2 * at) 32 digits i 0 h)) ∙ are i h (valid i h)
+    value_at i m h e =
+        ap (λ p. hex_digit_value (get_or digits p 0)) (sym e)
+        ∙ ap hex_digit_value (sym (get_or-chunk (2 * at) 32 digits i 0 h)) ∙ are i h (valid i h)
 
 -- the bytes before n, and what the rest of the text decodes to
 front : (s out : List ℕ) (n : ℕ) → n ≤ length out → length s ≡ 2 * length out → IsDecoded s out n

@@ -1,10 +1,12 @@
 -- Lanes of bytes, and the digits that spell them.
-use Rattle.std.proofs.Common.{◌≡◌, ℕ, zero, suc, ◌+◌, ◌-◌, ◌*◌, ◌/◌, ◌%◌, ◌^◌, ◌<◌, ◌≤◌, Bool, true, ◌&&◌, eqb, List, [], ◌∷◌, ◌++◌, length, get_or, replicate, bit_and, w8, refl, sym, ap, ◌∙◌, inl, inr, arith, add-one, take, drop}
+use Rattle.std.proofs.Common.{◌≡◌, ℕ, zero, suc, ◌+◌, ◌-◌, ◌*◌, ◌/◌, ◌%◌, ◌^◌, ◌<◌, ◌≤◌, Bool, true, ◌&&◌, eqb, List, [], ◌∷◌, ◌++◌}
+use Rattle.std.proofs.Common.{length, get_or, replicate, bit_and, w8, refl, sym, ap, ◌∙◌, inl, inr, arith, add-one, take, drop}
 use Rattle.std.proofs.lemmas.Bool.{cases_lt}
 use Rattle.std.proofs.lemmas.Bool.Decides.{Decides-below_and, Decides-eqb}
 use Rattle.std.proofs.lemmas.List.{get_or-map, set-get_or, get_or_append_left, get_or-append_right}
 use Rattle.std.proofs.lemmas.Nat.{and_mask}
-use Rattle.std.proofs.lemmas.Simd.{SwzOk, swz_l, SwzOk-from_below, get_or-swz_l_below, Each1-from_get_or, get_or-zip2, get_or-replicate, get_or-chunk, get_or-put_chunk_below, get_or-put_chunk_at}
+use Rattle.std.proofs.lemmas.Simd.{SwzOk, swz_l, SwzOk-from_below, get_or-swz_l_below, Each1-from_get_or, get_or-zip2}
+use Rattle.std.proofs.lemmas.Simd.{get_or-replicate, get_or-chunk, get_or-put_chunk_below, get_or-put_chunk_at}
 use lib.Lanes.{zip2, pick_l, chunk, put_chunk}
 use Rattle.hex.specs.Hex.{lower_digits, encode_with, encode_lower}
 use Rattle.hex.proofs.Pairs.{encode_step, encode_done}
@@ -41,7 +43,9 @@ low_halves bytes long k h =
 -- ---- two vectors of digits, a digit of the one and a digit of the other in turn
 
 abbrev in_turn : List ℕ
-in_turn = 0 ∷ 16 ∷ 1 ∷ 17 ∷ 2 ∷ 18 ∷ 3 ∷ 19 ∷ 4 ∷ 20 ∷ 5 ∷ 21 ∷ 6 ∷ 22 ∷ 7 ∷ 23 ∷ 8 ∷ 24 ∷ 9 ∷ 25 ∷ 10 ∷ 26 ∷ 11 ∷ 27 ∷ 12 ∷ 28 ∷ 13 ∷ 29 ∷ 14 ∷ 30 ∷ 15 ∷ 31 ∷ []
+in_turn =
+    0 ∷ 16 ∷ 1 ∷ 17 ∷ 2 ∷ 18 ∷ 3 ∷ 19 ∷ 4 ∷ 20 ∷ 5 ∷ 21 ∷ 6 ∷ 22 ∷ 7 ∷ 23 ∷ 8 ∷ 24 ∷ 9 ∷ 25 ∷ 10 ∷ 26 ∷ 11
+    ∷ 27 ∷ 12 ∷ 28 ∷ 13 ∷ 29 ∷ 14 ∷ 30 ∷ 15 ∷ 31 ∷ []
 
 -- the tests that lanes 2 k and 2 k + 1 are lane k of the one and of the other, for each k below n
 abbrev first_below : ℕ → Bool
@@ -53,10 +57,15 @@ second_below zero = true
 second_below (suc n) = eqb (get_or in_turn (2 * n + 1) 0) (16 + n) && second_below n
 
 first_of_one : (k : ℕ) → k < 16 → get_or in_turn (2 * k) 0 ≡ k
-first_of_one = (Decides-below_and (λ k. eqb (get_or in_turn (2 * k) 0) k) (λ k. get_or in_turn (2 * k) 0 ≡ k) first_below (λ k. Decides-eqb (get_or in_turn (2 * k) 0) k) refl (λ _. refl) 16).0 refl
+first_of_one =
+    (Decides-below_and (λ k. eqb (get_or in_turn (2 * k) 0) k) (λ k. get_or in_turn (2 * k) 0 ≡ k) first_below
+    (λ k. Decides-eqb (get_or in_turn (2 * k) 0) k) refl (λ _. refl) 16).0 refl
 
 second_of_other : (k : ℕ) → k < 16 → get_or in_turn (2 * k + 1) 0 ≡ 16 + k
-second_of_other = (Decides-below_and (λ k. eqb (get_or in_turn (2 * k + 1) 0) (16 + k)) (λ k. get_or in_turn (2 * k + 1) 0 ≡ 16 + k) second_below (λ k. Decides-eqb (get_or in_turn (2 * k + 1) 0) (16 + k)) refl (λ _. refl) 16).0 refl
+second_of_other =
+    (Decides-below_and (λ k. eqb (get_or in_turn (2 * k + 1) 0) (16 + k))
+    (λ k. get_or in_turn (2 * k + 1) 0 ≡ 16 + k) second_below
+    (λ k. Decides-eqb (get_or in_turn (2 * k + 1) 0) (16 + k)) refl (λ _. refl) 16).0 refl
 
 -- `pairs_of` gives the digits of each byte
 pub pairs_are : (bytes high low : List ℕ) → length high ≡ 16 → length low ≡ 16
@@ -65,7 +74,9 @@ pub pairs_are : (bytes high low : List ℕ) → length high ≡ 16 → length lo
     → IsEncoded bytes (pick_l 0 (high ++ low) in_turn) 16
 pairs_are bytes high low long also highs lows k h = (
   get_or-map at_lane in_turn (2 * k) 0 0 (omega arith) ∙ ap at_lane (first_of_one k h) ∙ get_or_append_left high low 0 k (omega arith) ∙ highs k h,
-  get_or-map at_lane in_turn (2 * k + 1) 0 0 (omega arith) ∙ ap at_lane (second_of_other k h) ∙ get_or-append_right high low 16 (16 + k) 0 long (omega arith) ∙ ap (λ p. get_or low p 0) back ∙ lows k h,
+  get_or-map at_lane in_turn (2 * k + 1) 0 0 (omega arith) ∙ ap at_lane (second_of_other k h)
+      ∙ get_or-append_right high low 16 (16 + k) 0 long (omega arith)
+      ∙ ap (λ p. get_or low p 0) back ∙ lows k h,
 )
   where
     at_lane : ℕ → ℕ
@@ -96,7 +107,9 @@ block_encoded bytes out digits at room twice long pairs before k h =
     ]
   where
     written : (i m : ℕ) → i < 32 → 2 * at + i ≡ m → get_or (put_chunk (2 * at) out digits) m 0 ≡ get_or digits i 0
-    written i m h e = ap (λ p. get_or (put_chunk (2 * at) out digits) p 0) (sym e) ∙ get_or-put_chunk_at (2 * at) out digits i 0 (omega arith) (omega arith)
+    written i m h e =
+        ap (λ p. get_or (put_chunk (2 * at) out digits) p 0) (sym e)
+        ∙ get_or-put_chunk_at (2 * at) out digits i 0 (omega arith) (omega arith)
 
 -- the digits of the bytes before n, and those of the rest
 front : (bytes out : List ℕ) (n : ℕ) → n ≤ length bytes → length out ≡ 2 * length bytes → IsEncoded bytes out n
@@ -105,7 +118,8 @@ front bytes out zero within twice done = refl
 front bytes out (suc n) within twice done =
     let before = front bytes out n (omega arith) twice (λ k h. done k (omega arith)) in
     let here = done n (omega arith) in
-    rw (set-get_or, set-get_or, add-one) at (encode_step lower_digits bytes out n (get_or out (2 * n) 0) (get_or out (2 * n + 1) 0) (omega arith) (omega arith) here.0 here.1 before)
+    rw (set-get_or, set-get_or, add-one) at (encode_step lower_digits bytes out n (get_or out (2 * n) 0)
+    (get_or out (2 * n + 1) 0) (omega arith) (omega arith) here.0 here.1 before)
 
 -- where the digits of each byte are written, the text is
 pub all_encoded : (bytes out : List ℕ) → length out ≡ 2 * length bytes → IsEncoded bytes out (length bytes) → out ≡ encode_lower bytes

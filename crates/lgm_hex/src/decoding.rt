@@ -1,6 +1,7 @@
 //! Decoding, thirty-two digits at a time.
 
-ghost use Rattle.std.specs.Prelude.{◌≡◌, ◌≢◌, ℕ, ◌+◌, ◌*◌, ◌/◌, ◌%◌, ◌<◌, ◌≤◌, ◌⊎◌, [], length, map, slice_index, vec_capacity, IsTrue, IfOk, IfErr, OnOk, OnErr, MatchResult};
+ghost use Rattle.std.specs.Prelude.{◌≡◌, ◌≢◌, ℕ, ◌+◌, ◌*◌, ◌/◌, ◌%◌, ◌<◌, ◌≤◌, ◌⊎◌, [], length, map};
+ghost use Rattle.std.specs.Prelude.{slice_index, vec_capacity, IsTrue, IfOk, IfErr, OnOk, OnErr, MatchResult};
 ghost use Rattle.hex.specs.Hex.{decode_of, decode_sized};
 ghost use Rattle.hex.specs.declared.error.FromHexError.TheVariants.{OddLength, OutOfMemory};
 ghost use Rattle.lgm_hex.specs.inner.Digits.{IsValue, AreValid, IsDecoded};
@@ -50,7 +51,8 @@ fn decode_block(digits: &[u8], out: &mut [u8], at: usize) -> u8x32
     requires room { at + 16 ≤ length out.old }
     requires twice { length digits.now ≡ 2 * length out.old }
     ensures len { length result ≡ 32 }
-    ensures bytes { AreValid result → IsDecoded digits.now out.old at → IsDecoded digits.now out.new (at + 16) }
+    ensures bytes { AreValid result → IsDecoded digits.now out.old at
+        → IsDecoded digits.now out.new (at + 16) }
 {
     let values = values_of(u8x32::from_slice(&digits[2 * at..]));
     joined(values).copy_to_slice(&mut out[at..]);

@@ -1,6 +1,7 @@
 //! Encoding, sixteen bytes at a time.
 
-ghost use Rattle.std.specs.Prelude.{◌≡◌, ℕ, ◌+◌, ◌*◌, ◌<◌, ◌≤◌, ◌↔◌, ◌++◌, length, slice_index, IsOk, IfErr, OnOk, OnErr};
+ghost use Rattle.std.specs.Prelude.{◌≡◌, ℕ, ◌+◌, ◌*◌, ◌<◌, ◌≤◌, ◌↔◌, ◌++◌, length};
+ghost use Rattle.std.specs.Prelude.{slice_index, IsOk, IfErr, OnOk, OnErr};
 ghost use Rattle.hex.specs.Hex.{encode_lower, lower_digits};
 ghost use Rattle.lgm_hex.specs.inner.Digits.{IsEncoded};
 ghost use Rattle.hex.specs.declared.error.FromHexError.TheVariants.{InvalidStringLength};
@@ -36,7 +37,8 @@ fn encode_each(bytes: &[u8], out: &mut [u8])
 fn digits_of(values: u8x16) -> u8x16
     requires { (k : ℕ) → k < 16 → slice_index values k < 16 }
     ensures len { length result ≡ 16 }
-    ensures lanes { (k : ℕ) → k < 16 → slice_index result k ≡ slice_index lower_digits (slice_index values k) }
+    ensures lanes { (k : ℕ) → k < 16
+        → slice_index result k ≡ slice_index lower_digits (slice_index values k) }
 {
     u8x16::from_slice(b"0123456789abcdef").swizzle_dyn(values)
 }

@@ -1,5 +1,6 @@
 -- Payments that are dealt out in turn.
-use Rattle.std.proofs.Common.{◌≡◌, ◌≢◌, ◌⊎◌, inl, inr, ℕ, zero, suc, ◌+◌, ◌-◌, ◌*◌, ◌/◌, ◌%◌, ◌<◌, ◌≤◌, min, cond, List, [], ◌∷◌, Some, refl, sym, ap, subst, ◌∙◌, arith}
+use Rattle.std.proofs.Common.{◌≡◌, ◌≢◌, ◌⊎◌, inl, inr, ℕ, zero, suc, ◌+◌, ◌-◌, ◌*◌, ◌/◌, ◌%◌, ◌<◌, ◌≤◌}
+use Rattle.std.proofs.Common.{min, cond, List, [], ◌∷◌, Some, refl, sym, ap, subst, ◌∙◌, arith}
 use Rattle.std.specs.Prelude.{slice_get}
 use Rattle.std.proofs.Math.Nat.{mod-lt, zero-div, zero-mod}
 use Rattle.std.proofs.lemmas.Nat.{div-add-mod', div-mul-add, mod-mul-add}
@@ -70,14 +71,16 @@ turns_grow w i n (suc k) some below =
       | inr other ↦ omega (arith, more, turns_other w i (n + k) some below other.1)
     ])
 
-pub dealt_here : (w i next : ℕ) (payment : Payment) (payments : List Payment) → next % w ≡ i → dealt_from w i next (payment ∷ payments) ≡ payment ∷ dealt_from w i (next + 1) payments
+pub dealt_here : (w i next : ℕ) (payment : Payment) (payments : List Payment) → next % w ≡ i
+    → dealt_from w i next (payment ∷ payments) ≡ payment ∷ dealt_from w i (next + 1) payments
 dealt_here w i next payment payments own =
     elim (eqb_tells (next % w) i) [
       | inl is ↦ ap (λ b. cond b (payment ∷ dealt_from w i (next + 1) payments) (dealt_from w i (next + 1) payments)) is.0
       | inr not ↦ absurd (not.1 own)
     ]
 
-pub dealt_there : (w i next : ℕ) (payment : Payment) (payments : List Payment) → next % w ≢ i → dealt_from w i next (payment ∷ payments) ≡ dealt_from w i (next + 1) payments
+pub dealt_there : (w i next : ℕ) (payment : Payment) (payments : List Payment) → next % w ≢ i
+    → dealt_from w i next (payment ∷ payments) ≡ dealt_from w i (next + 1) payments
 dealt_there w i next payment payments other =
     elim (eqb_tells (next % w) i) [
       | inl is ↦ absurd (other is.1)
@@ -87,12 +90,15 @@ dealt_there w i next payment payments other =
 -- behind its first turn
 one_behind : (w i next place : ℕ) (p : Payment) (others : List Payment) (payment : Payment) → 0 < w → i < w
     → ((n : ℕ) → n + turns w i (next + 1) ≡ turns w i (next + 1 + place) → slice_get others n ≡ Some payment)
-    → (n : ℕ) → n + turns w i next ≡ turns w i (next + 1 + place) → turns w i (next + 1) ≡ turns w i next + 1 → slice_get (p ∷ others) n ≡ Some payment
-one_behind w i next place p others payment some below rest zero count more = absurd (omega (arith, count, more, turns_grow w i (next + 1) place some below))
+    → (n : ℕ) → n + turns w i next ≡ turns w i (next + 1 + place) → turns w i (next + 1) ≡ turns w i next + 1
+    → slice_get (p ∷ others) n ≡ Some payment
+one_behind w i next place p others payment some below rest zero count more =
+    absurd (omega (arith, count, more, turns_grow w i (next + 1) place some below))
 one_behind w i next place p others payment some below rest (suc n) count more = rest n (omega (arith, count, more))
 
 -- a worker's turn at a place comes behind its turns before
-dealt_at : (w i next : ℕ) (payments : List Payment) (place pos : ℕ) (payment : Payment) → 0 < w → i < w → slice_get payments place ≡ Some payment → (next + place) % w ≡ i
+dealt_at : (w i next : ℕ) (payments : List Payment) (place pos : ℕ) (payment : Payment) → 0 < w → i < w
+    → slice_get payments place ≡ Some payment → (next + place) % w ≡ i
     → pos + turns w i next ≡ turns w i (next + place) → slice_get (dealt_from w i next payments) pos ≡ Some payment
 dealt_at w i next [] place pos payment some below at own count = absurd cc
 dealt_at w i next (p ∷ ps) zero pos payment some below at own count =
@@ -106,8 +112,11 @@ dealt_at w i next (p ∷ ps) (suc place) pos payment some below at own count =
     let rest : (n : ℕ) → n + turns w i (next + 1) ≡ turns w i (next + 1 + place) → slice_get (dealt_from w i (next + 1) ps) n ≡ Some payment =
     λ n count. dealt_at w i (next + 1) ps place n payment some below at own' count in
     elim (eqb_tells (next % w) i) [
-      | inl is ↦ subst (λ dealt. slice_get dealt pos ≡ Some payment) (sym (dealt_here w i next p ps is.1)) (one_behind w i next place p (dealt_from w i (next + 1) ps) payment some below rest pos count' (turns_own w i next some is.1))
-      | inr not ↦ subst (λ dealt. slice_get dealt pos ≡ Some payment) (sym (dealt_there w i next p ps not.1)) (rest pos (omega (arith, count', turns_other w i next some below not.1)))
+      | inl is ↦ subst (λ dealt. slice_get dealt pos ≡ Some payment) (sym (dealt_here w i next p ps is.1))
+          (one_behind w i next place p (dealt_from w i (next + 1) ps) payment some below rest pos count'
+          (turns_own w i next some is.1))
+      | inr not ↦ subst (λ dealt. slice_get dealt pos ≡ Some payment) (sym (dealt_there w i next p ps not.1))
+          (rest pos (omega (arith, count', turns_other w i next some below not.1)))
     ]
 
 -- the payment at a place goes to the worker whose turn it is, behind as many as there were rounds

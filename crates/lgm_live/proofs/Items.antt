@@ -1,5 +1,6 @@
 -- What is written of one more item, and of one more batch.
-use Rattle.std.proofs.Common.{◌≡◌, ℕ, ◌+◌, ◌<◌, List, [], ◌∷◌, ◌++◌, length, map, take, get_or, Some, None, Result, Ok, Err, sym, ap, ◌∙◌, append_assoc}
+use Rattle.std.proofs.Common.{◌≡◌, ℕ, ◌+◌, ◌<◌, List, [], ◌∷◌, ◌++◌, length, map, take, get_or}
+use Rattle.std.proofs.Common.{Some, None, Result, Ok, Err, sym, ap, ◌∙◌, append_assoc}
 use Rattle.std.specs.List.{filter_map, cons_option}
 use Rattle.std.specs.Result.{result_ok, result_err}
 use Rattle.std.proofs.lemmas.List.{append-nil, map-append, take_more}
@@ -19,34 +20,45 @@ use Rattle.lgm_live.specs.Batches.{items_of, ends_behind, ends_of}
 use Rattle.lgm_live.specs.inner.Written.{IsWritten}
 
 outcomes_behind-push : (chain : ChainHash) (history : List Op) (items : List Item) (item : Item)
-    → outcomes_behind chain history (items ++ item ∷ []) ≡ outcomes_behind chain history items ++ outcome_of chain (fold (history ++ filter_map result_ok (outcomes_behind chain history items))) item ∷ []
+    → outcomes_behind chain history (items ++ item ∷ []) ≡ outcomes_behind chain history items ++ outcome_of
+    chain (fold (history ++ filter_map result_ok (outcomes_behind chain history items))) item ∷ []
 outcomes_behind-push chain history [] item = ap (λ (h : List Op). outcome_of chain (fold h) item ∷ []) (sym (append-nil history))
 outcomes_behind-push chain history (i ∷ items) item =
     let first = outcome_of chain (fold history) i in
     let next = with_outcome history first in
     ap (λ os. first ∷ os) (outcomes_behind-push chain next items item)
-    ∙ ap (λ (h : List Op). first ∷ (outcomes_behind chain next items ++ outcome_of chain (fold h) item ∷ [])) (sym (outcome_joins history first (filter_map result_ok (outcomes_behind chain next items))))
+    ∙ ap (λ (h : List Op). first ∷ (outcomes_behind chain next items ++ outcome_of chain (fold h) item ∷ []))
+    (sym (outcome_joins history first (filter_map result_ok (outcomes_behind chain next items))))
 
 -- the outcome of one more item comes behind the others
-outcomes-push : (chain : ChainHash) (items : List Item) (item : Item) (written : Written) (outcome : Result Op Refusal) → IsWritten chain items written → outcome_of chain written.map item ≡ outcome
+outcomes-push : (chain : ChainHash) (items : List Item) (item : Item) (written : Written)
+    (outcome : Result Op Refusal) → IsWritten chain items written
+    → outcome_of chain written.map item ≡ outcome
     → outcomes chain (items ++ item ∷ []) ≡ outcomes chain items ++ outcome ∷ []
 outcomes-push chain items item written outcome w is =
     outcomes_behind-push chain [] items item ∙ ap (λ o. outcomes chain items ++ o ∷ []) (ap (λ rows. outcome_of chain rows item) (sym w.rows) ∙ is)
 
-history-push : (chain : ChainHash) (items : List Item) (item : Item) (written : Written) (outcome : Result Op Refusal) → IsWritten chain items written → outcome_of chain written.map item ≡ outcome
+history-push : (chain : ChainHash) (items : List Item) (item : Item) (written : Written)
+    (outcome : Result Op Refusal) → IsWritten chain items written
+    → outcome_of chain written.map item ≡ outcome
     → history_of chain (items ++ item ∷ []) ≡ history_of chain items ++ cons_option (result_ok outcome) []
 history-push chain items item written outcome w is =
-    ap (filter_map result_ok) (outcomes-push chain items item written outcome w is) ∙ filter_map-append result_ok (outcomes chain items) (outcome ∷ [])
+    ap (filter_map result_ok) (outcomes-push chain items item written outcome w is)
+    ∙ filter_map-append result_ok (outcomes chain items) (outcome ∷ [])
 
-refusals-push : (chain : ChainHash) (items : List Item) (item : Item) (written : Written) (outcome : Result Op Refusal) → IsWritten chain items written → outcome_of chain written.map item ≡ outcome
+refusals-push : (chain : ChainHash) (items : List Item) (item : Item) (written : Written)
+    (outcome : Result Op Refusal) → IsWritten chain items written
+    → outcome_of chain written.map item ≡ outcome
     → written.outcomes.items ++ result_err outcome ∷ [] ≡ map result_err (outcomes chain (items ++ item ∷ []))
 refusals-push chain items item written outcome w is =
     ap (λ os. os ++ result_err outcome ∷ []) w.outcomes ∙ sym (map-append result_err (outcomes chain items) (outcome ∷ []))
     ∙ ap (map result_err) (sym (outcomes-push chain items item written outcome w is))
 
 -- an item that is accepted
-pub accepted_written : (chain : ChainHash) (items : List Item) (item : Item) (old new : Written) (op : Op) → outcome_of chain old.map item ≡ Ok op → new.map ≡ absorbed old.map op
-    → new.outcomes.items ≡ old.outcomes.items ++ None ∷ [] → new.ops.items ≡ old.ops.items ++ op ∷ [] → IsWritten chain items old → IsWritten chain (items ++ item ∷ []) new
+pub accepted_written : (chain : ChainHash) (items : List Item) (item : Item) (old new : Written) (op : Op)
+    → outcome_of chain old.map item ≡ Ok op → new.map ≡ absorbed old.map op
+    → new.outcomes.items ≡ old.outcomes.items ++ None ∷ [] → new.ops.items ≡ old.ops.items ++ op ∷ []
+    → IsWritten chain items old → IsWritten chain (items ++ item ∷ []) new
 accepted_written chain items item old new op is map_is outcomes_are ops_are w =
     let history = history-push chain items item old (Ok op) w is in
     record {
@@ -56,8 +68,10 @@ accepted_written chain items item old new op is map_is outcomes_are ops_are w =
     }
 
 -- an item that is refused
-pub refused_written : (chain : ChainHash) (items : List Item) (item : Item) (old new : Written) (refusal : Refusal) → outcome_of chain old.map item ≡ Err refusal → new.map ≡ old.map
-    → new.outcomes.items ≡ old.outcomes.items ++ Some refusal ∷ [] → new.ops.items ≡ old.ops.items → IsWritten chain items old → IsWritten chain (items ++ item ∷ []) new
+pub refused_written : (chain : ChainHash) (items : List Item) (item : Item) (old new : Written)
+    (refusal : Refusal) → outcome_of chain old.map item ≡ Err refusal → new.map ≡ old.map
+    → new.outcomes.items ≡ old.outcomes.items ++ Some refusal ∷ [] → new.ops.items ≡ old.ops.items
+    → IsWritten chain items old → IsWritten chain (items ++ item ∷ []) new
 refused_written chain items item old new refusal is map_is outcomes_are ops_are w =
     let history = history-push chain items item old (Err refusal) w is ∙ append-nil (history_of chain items) in
     record {
@@ -67,11 +81,13 @@ refused_written chain items item old new refusal is map_is outcomes_are ops_are 
     }
 
 ends_behind-push : (chain : ChainHash) (before : List Item) (batches : List (List Item)) (batch : List Item)
-    → ends_behind chain before (batches ++ batch ∷ []) ≡ ends_behind chain before batches ++ length (history_of chain (before ++ items_of (batches ++ batch ∷ []))) ∷ []
+    → ends_behind chain before (batches ++ batch ∷ []) ≡ ends_behind chain before batches
+    ++ length (history_of chain (before ++ items_of (batches ++ batch ∷ []))) ∷ []
 ends_behind-push chain before [] batch = ap (λ (items : List Item). length (history_of chain (before ++ items)) ∷ []) (sym (append-nil batch))
 ends_behind-push chain before (first ∷ batches) batch =
     ap (λ ends. length (history_of chain (before ++ first)) ∷ ends) (ends_behind-push chain (before ++ first) batches batch)
-    ∙ ap (λ (items : List Item). length (history_of chain (before ++ first)) ∷ (ends_behind chain (before ++ first) batches ++ length (history_of chain items) ∷ []))
+    ∙ ap (λ (items : List Item). length (history_of chain (before ++ first))
+    ∷ (ends_behind chain (before ++ first) batches ++ length (history_of chain items) ∷ []))
     (append_assoc before first (items_of (batches ++ batch ∷ [])))
 
 -- the items with one more batch

@@ -1,5 +1,6 @@
 -- What lines ask, all together and line by line.
-use Rattle.std.proofs.Common.{◌≡◌, inl, inr, ℕ, ◌+◌, ◌%◌, ◌<◌, ◌≤◌, List, [], ◌∷◌, ◌++◌, length, map, get_or, replicate, refl, sym, ap, ◌∙◌, append_assoc, arith}
+use Rattle.std.proofs.Common.{◌≡◌, inl, inr, ℕ, ◌+◌, ◌%◌, ◌<◌, ◌≤◌, List, [], ◌∷◌, ◌++◌, length}
+use Rattle.std.proofs.Common.{map, get_or, replicate, refl, sym, ap, ◌∙◌, append_assoc, arith}
 use Rattle.std.proofs.lemmas.List.{append-nil, length-set, length-replicate, get_or-set_same, get_or-set_other, get_or-replicate}
 use Rattle.std.proofs.lemmas.List.FromFn.{fill_by_all}
 use Rattle.std.proofs.lemmas.Bool.Decides.{eqb_tells}
@@ -19,7 +20,8 @@ nothing_asked workers = record { batches = []; batch = []; lists = replicate wor
 
 -- ---- one more line
 
-pub with_lines-push : (so_far : Gathered) (asked : List Request) (request : Request) → with_lines so_far (asked ++ request ∷ []) ≡ with_line (with_lines so_far asked) request
+pub with_lines-push : (so_far : Gathered) (asked : List Request) (request : Request)
+    → with_lines so_far (asked ++ request ∷ []) ≡ with_line (with_lines so_far asked) request
 with_lines-push so_far [] request = refl
 with_lines-push so_far (r ∷ asked) request = with_lines-push (with_line so_far r) asked request
 
@@ -66,7 +68,8 @@ slots_are so_far (request ∷ asked) =
     slots_are (with_line so_far request) asked ∙ ap (λ slots. slots ++ slot_of request ∷ [] ++ map slot_of asked) (slots_stay so_far request)
     ∙ append_assoc so_far.slots (slot_of request ∷ []) (map slot_of asked)
 
-batches_are : (so_far : Gathered) (asked : List Request) → (with_lines so_far asked).batches ++ (with_lines so_far asked).batch ∷ [] ≡ so_far.batches ++ batches_behind so_far.batch asked
+batches_are : (so_far : Gathered) (asked : List Request) → (with_lines so_far asked).batches
+    ++ (with_lines so_far asked).batch ∷ [] ≡ so_far.batches ++ batches_behind so_far.batch asked
 batches_are so_far [] = refl
 batches_are so_far (requests.Quiet ∷ asked) = batches_are (with_line so_far requests.Quiet) asked
 batches_are so_far (requests.Bad ∷ asked) = batches_are (with_line so_far requests.Bad) asked
@@ -81,7 +84,8 @@ batches_are so_far (requests.Route payment ∷ asked) = batches_are (with_line s
 abbrev dealt_on : ℕ → ℕ → ℕ → List Payment → List RouteRequest
 dealt_on workers worker place payments = map asked_route (dealt_from workers worker place payments)
 
-given_own : (lists : List (List RouteRequest)) (worker own : ℕ) (request : RouteRequest) (others : List RouteRequest) → worker < length lists → own ≡ worker
+given_own : (lists : List (List RouteRequest)) (worker own : ℕ) (request : RouteRequest)
+    (others : List RouteRequest) → worker < length lists → own ≡ worker
     → get_or (given lists own request) worker [] ++ others ≡ get_or lists worker [] ++ (request ∷ others)
 given_own lists worker own request others below is =
     ap (λ (l : List RouteRequest). l ++ others)
@@ -89,7 +93,8 @@ given_own lists worker own request others below is =
     ∙ append_assoc (get_or lists worker []) (request ∷ []) others
 
 lists_with : (so_far : Gathered) (payment : Payment) (payments : List Payment) (workers worker : ℕ) → length so_far.lists ≡ workers → worker < workers
-    → get_or (given so_far.lists (so_far.payments % length so_far.lists) (asked_route payment)) worker [] ++ dealt_on workers worker (so_far.payments + 1) payments
+    → get_or (given so_far.lists (so_far.payments % length so_far.lists) (asked_route payment)) worker []
+    ++ dealt_on workers worker (so_far.payments + 1) payments
     ≡ get_or so_far.lists worker [] ++ dealt_on workers worker so_far.payments (payment ∷ payments)
 lists_with so_far payment payments workers worker many below =
     let own = so_far.payments % workers in
@@ -108,10 +113,13 @@ lists_are : (so_far : Gathered) (asked : List Request) (workers worker : ℕ) �
 lists_are so_far [] workers worker many below = sym (append-nil (get_or so_far.lists worker []))
 lists_are so_far (requests.Quiet ∷ asked) workers worker many below = lists_are (with_line so_far requests.Quiet) asked workers worker many below
 lists_are so_far (requests.Bad ∷ asked) workers worker many below = lists_are (with_line so_far requests.Bad) asked workers worker many below
-lists_are so_far (requests.Offer item ∷ asked) workers worker many below = lists_are (with_line so_far (requests.Offer item)) asked workers worker many below
+lists_are so_far (requests.Offer item ∷ asked) workers worker many below =
+    lists_are (with_line so_far (requests.Offer item)) asked workers worker many below
 lists_are so_far (requests.Commit ∷ asked) workers worker many below = lists_are (with_line so_far requests.Commit) asked workers worker many below
-lists_are so_far (requests.Query bytes ∷ asked) workers worker many below = lists_are (with_line so_far (requests.Query bytes)) asked workers worker many below
-lists_are so_far (requests.Filter peer bytes ∷ asked) workers worker many below = lists_are (with_line so_far (requests.Filter peer bytes)) asked workers worker many below
+lists_are so_far (requests.Query bytes ∷ asked) workers worker many below =
+    lists_are (with_line so_far (requests.Query bytes)) asked workers worker many below
+lists_are so_far (requests.Filter peer bytes ∷ asked) workers worker many below =
+    lists_are (with_line so_far (requests.Filter peer bytes)) asked workers worker many below
 lists_are so_far (requests.Route payment ∷ asked) workers worker many below =
     lists_are (with_line so_far (requests.Route payment)) asked workers worker (workers_stay so_far (requests.Route payment) ∙ many) below
     ∙ lists_with so_far payment (payments_of asked) workers worker many below
@@ -130,6 +138,7 @@ agenda_is workers asked last is =
       batches = batches_are first asked;
       lists =
           fill_by_all (list_for workers (payments_of asked)) all.lists workers [] (workers_are first asked ∙ many)
-          (λ k below. lists_are first asked workers k many below ∙ ap (λ (l : List RouteRequest). l ++ dealt_on workers k 0 (payments_of asked)) (get_or-replicate workers k [] [] below));
+          (λ k below. lists_are first asked workers k many below ∙ ap (λ (l : List RouteRequest). l
+          ++ dealt_on workers k 0 (payments_of asked)) (get_or-replicate workers k [] [] below));
       slots = slots_are first asked;
     })

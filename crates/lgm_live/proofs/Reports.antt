@@ -18,22 +18,29 @@ use Rattle.lgm_live.specs.inner.Worked.{HasWorked, AreOf, HaveWorked, IsTied, Is
 use Rattle.lgm_live.proofs.Answers.{zip_second}
 
 -- eyes of one board with the same known features
-pub are_of : (book : Book) (known : Option (List ℕ)) (eyes : List Sight) → All (λ (eye : Sight). eye.board ≡ book) eyes → All (λ (eye : Sight). eye.known ≡ known) eyes → AreOf book known eyes
+pub are_of : (book : Book) (known : Option (List ℕ)) (eyes : List Sight) → All (λ (eye : Sight). eye.board
+    ≡ book) eyes → All (λ (eye : Sight). eye.known ≡ known) eyes → AreOf book known eyes
 are_of book known eyes boards knowns = λ k d below. (boards k d below, knowns k d below)
 
 -- the workers' eyes are of the board
-pub boards_stay : (book : Book) (known : Option (List ℕ)) (eyes : List Sight) (lists : List (List Request)) (works : Result (Vec Worked) LiveFault) → AreOf book known eyes
+pub boards_stay : (book : Book) (known : Option (List ℕ)) (eyes : List Sight) (lists : List (List Request))
+    (works : Result (Vec Worked) LiveFault) → AreOf book known eyes
     → IfOk works (λ ws. HaveWorked eyes lists ws.items) → IfOk works (λ ws. All (λ (worked : Worked). worked.eye.board ≡ book) ws.items)
-boards_stay book known eyes lists (Ok ws) are have = zip_second (HasWorked book known) (λ (worked : Worked). worked.eye.board ≡ book) (λ requests worked done. done.board) lists ws.items (have book known are)
+boards_stay book known eyes lists (Ok ws) are have =
+    zip_second (HasWorked book known) (λ (worked : Worked). worked.eye.board ≡ book)
+    (λ requests worked done. done.board) lists ws.items (have book known are)
 boards_stay book known eyes lists (Err fault) are have = tt
 
 -- what a list's answers are
-pub record IsReported (known : Option (List ℕ)) (published : List Op) (ends : List ℕ) (requests : List Request) (answers : Vec LiveAnswer) : Type 0 where
+pub record IsReported (known : Option (List ℕ)) (published : List Op) (ends : List ℕ)
+    (requests : List Request) (answers : Vec LiveAnswer) : Type 0 where
   pub answered : AreAnsweredBy known published requests answers.items
   pub at_ends : All (IsAtEnd ends) answers.items
   pub rising : NeverFall answers.items
 
-zip_through : {A B C : Type 0} (R : A → B → Type 0) (Q : B → C → Type 0) (S : A → C → Type 0) → ((x : A) (y : B) (z : C) → R x y → Q y z → S x z) → (xs : List A) (ys : List B) (zs : List C) → AllZip R xs ys → AllZip Q ys zs → AllZip S xs zs
+zip_through : {A B C : Type 0} (R : A → B → Type 0) (Q : B → C → Type 0) (S : A → C → Type 0)
+    → ((x : A) (y : B) (z : C) → R x y → Q y z → S x z) → (xs : List A) (ys : List B) (zs : List C)
+    → AllZip R xs ys → AllZip Q ys zs → AllZip S xs zs
 zip_through R Q S gives [] [] [] first second = tt
 zip_through R Q S gives [] [] (z ∷ zs) first second = absurd second
 zip_through R Q S gives [] (y ∷ ys) zs first second = absurd first
@@ -41,7 +48,9 @@ zip_through R Q S gives (x ∷ xs) [] zs first second = absurd first
 zip_through R Q S gives (x ∷ xs) (y ∷ ys) [] first second = absurd second
 zip_through R Q S gives (x ∷ xs) (y ∷ ys) (z ∷ zs) first second = (gives x y z first.0 second.0, zip_through R Q S gives xs ys zs first.1 second.1)
 
-is_reported : (book : Book) (known : Option (List ℕ)) (published : List Op) (ends : List ℕ) (requests : List Request) (worked : Worked) (answers : Vec LiveAnswer) → HasWorked book known requests worked
+is_reported : (book : Book) (known : Option (List ℕ)) (published : List Op) (ends : List ℕ)
+    (requests : List Request) (worked : Worked) (answers : Vec LiveAnswer)
+    → HasWorked book known requests worked
     → IsTied published ends worked answers → IsReported known published ends requests answers
 is_reported book known published ends requests worked answers done tied = record {
   answered = tied.answered known requests done.answered;
@@ -53,34 +62,46 @@ is_reported book known published ends requests worked answers done tied = record
 abbrev pub AreReported : Option (List ℕ) → List Op → List (List Request) → LiveReport → Type 0
 AreReported known published lists report = AllZip (IsReported known published report.ends.items) lists report.answers.items
 
-pub are_reported : (book : Book) (known : Option (List ℕ)) (eyes : List Sight) (lists : List (List Request)) (published : List Op) (works : Result (Vec Worked) LiveFault) (report : Result LiveReport LiveFault)
+pub are_reported : (book : Book) (known : Option (List ℕ)) (eyes : List Sight) (lists : List (List Request))
+    (published : List Op) (works : Result (Vec Worked) LiveFault) (report : Result LiveReport LiveFault)
     → AreOf book known eyes → IfOk works (λ ws. HaveWorked eyes lists ws.items)
     → IfOk report (λ r. MatchResult works (λ ws. AllZip (IsTied published r.ends.items) ws.items r.answers.items) (λ _. ⊥))
     → IfOk report (AreReported known published lists)
 are_reported book known eyes lists published (Ok ws) (Ok r) are have tied =
-    zip_through (HasWorked book known) (IsTied published r.ends.items) (IsReported known published r.ends.items) (is_reported book known published r.ends.items) lists ws.items r.answers.items (have book known are) tied
+    zip_through (HasWorked book known) (IsTied published r.ends.items)
+    (IsReported known published r.ends.items) (is_reported book known published r.ends.items) lists
+    ws.items r.answers.items (have book known are) tied
 are_reported book known eyes lists published (Err fault) (Ok r) are have tied = absurd tied
 are_reported book known eyes lists published works (Err fault) are have tied = tt
 
 -- the answers, over the reported operations
-pub reported_answers : (known : Option (List ℕ)) (lists : List (List Request)) (published : List Op) (written : Result Written LiveFault) (report : Result LiveReport LiveFault)
-    → IfOk report (AreReported known published lists) → IfOk report (λ r. MatchResult written (IsOfWriter r) (λ _. ⊥)) → IfOk written (λ w. published ≡ w.ops.items)
-    → IfOk report (λ r. AllZip (λ (requests : List Request) (answers : Vec LiveAnswer). AreAnsweredBy known r.ops.items requests answers.items) lists r.answers.items)
+pub reported_answers : (known : Option (List ℕ)) (lists : List (List Request)) (published : List Op)
+    (written : Result Written LiveFault) (report : Result LiveReport LiveFault)
+    → IfOk report (AreReported known published lists) → IfOk report
+    (λ r. MatchResult written (IsOfWriter r) (λ _. ⊥)) → IfOk written (λ w. published ≡ w.ops.items)
+    → IfOk report (λ r. AllZip (λ (requests : List Request) (answers : Vec LiveAnswer).
+    AreAnsweredBy known r.ops.items requests answers.items) lists r.answers.items)
 reported_answers known lists published (Ok w) (Ok r) all of is =
     let ops : published ≡ r.ops.items = is ∙ sym (ap (λ (ops : Vec Op). ops.items) of.ops) in
-    zip_weaker (IsReported known published r.ends.items) (λ (requests : List Request) (answers : Vec LiveAnswer). AreAnsweredBy known r.ops.items requests answers.items)
+    zip_weaker (IsReported known published r.ends.items)
+    (λ (requests : List Request) (answers : Vec LiveAnswer).
+    AreAnsweredBy known r.ops.items requests answers.items)
     (λ requests answers done. subst (λ ops. AreAnsweredBy known ops requests answers.items) ops done.answered) lists r.answers.items all
 reported_answers known lists published (Err fault) (Ok r) all of is = absurd of
 reported_answers known lists published written (Err fault) all of is = tt
 
-pub reported_ends : (known : Option (List ℕ)) (lists : List (List Request)) (published : List Op) (report : Result LiveReport LiveFault) → IfOk report (AreReported known published lists)
+pub reported_ends : (known : Option (List ℕ)) (lists : List (List Request)) (published : List Op)
+    (report : Result LiveReport LiveFault) → IfOk report (AreReported known published lists)
     → IfOk report (λ r. All (λ (answers : Vec LiveAnswer). All (IsAtEnd r.ends.items) answers.items) r.answers.items)
 reported_ends known lists published (Ok r) all =
-    zip_second (IsReported known published r.ends.items) (λ (answers : Vec LiveAnswer). All (IsAtEnd r.ends.items) answers.items) (λ requests answers done. done.at_ends) lists r.answers.items all
+    zip_second (IsReported known published r.ends.items) (λ (answers : Vec LiveAnswer). All (IsAtEnd
+    r.ends.items) answers.items) (λ requests answers done. done.at_ends) lists r.answers.items all
 reported_ends known lists published (Err fault) all = tt
 
-pub reported_rising : (known : Option (List ℕ)) (lists : List (List Request)) (published : List Op) (report : Result LiveReport LiveFault) → IfOk report (AreReported known published lists)
+pub reported_rising : (known : Option (List ℕ)) (lists : List (List Request)) (published : List Op)
+    (report : Result LiveReport LiveFault) → IfOk report (AreReported known published lists)
     → IfOk report (λ r. All (λ (answers : Vec LiveAnswer). NeverFall answers.items) r.answers.items)
 reported_rising known lists published (Ok r) all =
-    zip_second (IsReported known published r.ends.items) (λ (answers : Vec LiveAnswer). NeverFall answers.items) (λ requests answers done. done.rising) lists r.answers.items all
+    zip_second (IsReported known published r.ends.items) (λ (answers : Vec LiveAnswer).
+    NeverFall answers.items) (λ requests answers done. done.rising) lists r.answers.items all
 reported_rising known lists published (Err fault) all = tt

@@ -1,5 +1,6 @@
 -- A report on what a script asks.
-use Rattle.std.proofs.Common.{◌≡◌, ℕ, ◌+◌, ◌/◌, ◌%◌, ◌<◌, ◌≤◌, Bool, true, cond, List, [], ◌∷◌, ◌++◌, length, Option, Some, None, Result, Ok, Err, codes, refl, sym, ap, subst, ◌∙◌, append_assoc, arith}
+use Rattle.std.proofs.Common.{◌≡◌, ℕ, ◌+◌, ◌/◌, ◌%◌, ◌<◌, ◌≤◌, Bool, true, cond, List, [], ◌∷◌, ◌++◌, length, Option}
+use Rattle.std.proofs.Common.{Some, None, Result, Ok, Err, codes, refl, sym, ap, subst, ◌∙◌, append_assoc, arith}
 use Rattle.std.specs.Prelude.{◌&&◌, MatchOption, count_by, nat_eq, slice_get}
 use Rattle.std.specs.Option.{IsSomeAnd, option_map}
 use Rattle.std.specs.List.{AllZip, filter_map, cons_option}
@@ -45,7 +46,13 @@ same_numbers (x ∷ xs) = ap (λ b. b && pointwise nat_eq xs xs) (eq-eqb x x ref
 
 hop_is_same : (hop : Hop) → same_hop hop hop ≡ true
 hop_is_same hop =
-    simp (eq-eqb hop.scid hop.scid refl, same_numbers hop.from.0, same_numbers hop.to.0, eq-eqb hop.amount hop.amount refl, eq-eqb hop.expiry hop.expiry refl) refl
+    simp (
+      eq-eqb hop.scid hop.scid refl,
+      same_numbers hop.from.0,
+      same_numbers hop.to.0,
+      eq-eqb hop.amount hop.amount refl,
+      eq-eqb hop.expiry hop.expiry refl,
+    ) refl
 
 hops_are_same : (hops : List Hop) → pointwise same_hop hops hops ≡ true
 hops_are_same [] = refl
@@ -55,7 +62,8 @@ answer_is_same : (answer : Result (List Hop) RouteFault) → same_answer answer 
 answer_is_same (Ok hops) = hops_are_same hops
 answer_is_same (Err fault) = same_numbers (route_word fault)
 
-replay_is_same : (known : Option (List ℕ)) (ops : List Op) (payment : Payment) (answer : LiveAnswer) → IsAnsweredBy known ops (asked_route payment) answer
+replay_is_same : (known : Option (List ℕ)) (ops : List Op) (payment : Payment) (answer : LiveAnswer)
+    → IsAnsweredBy known ops (asked_route payment) answer
     → replay_word known ops payment answer ≡ codes "same"
 replay_is_same known ops payment answer answered =
     ap (λ (other : Result (List Hop) RouteFault). cond (same_answer answer.result other) (codes "same") (codes "other")) (sym answered.1)
@@ -63,15 +71,18 @@ replay_is_same known ops payment answer answered =
 
 -- ---- the answer to a payment
 
-zipped : {A B : Type 0} (Q : A → B → Type 0) (xs : List A) (ys : List B) (k : ℕ) (x : A) → AllZip Q xs ys → slice_get xs k ≡ Some x → (y : B) × (slice_get ys k ≡ Some y) × Q x y
+zipped : {A B : Type 0} (Q : A → B → Type 0) (xs : List A) (ys : List B) (k : ℕ) (x : A) → AllZip Q xs ys
+    → slice_get xs k ≡ Some x → (y : B) × (slice_get ys k ≡ Some y) × Q x y
 zipped {A} {B} Q xs ys k x all at =
-    found (slice_get ys k) (subst (λ (o : Option A). MatchOption o (Unit {0}) (λ x. IsSomeAnd (slice_get ys k) (Q x))) at (AllZip-left Q xs ys all k)) refl
+    found (slice_get ys k) (subst (λ (o : Option A).
+    MatchOption o (Unit {0}) (λ x. IsSomeAnd (slice_get ys k) (Q x))) at (AllZip-left Q xs ys all k)) refl
   where
     found : (o : Option B) → IsSomeAnd o (Q x) → slice_get ys k ≡ o → (y : B) × (slice_get ys k ≡ Some y) × Q x y
     found None some is = absurd some
     found (Some y) some is = (y, is, some)
 
-list_at : (workers worker : ℕ) (asked : List Request) → worker < workers → slice_get (lists_of workers asked) worker ≡ Some (list_for workers (payments_of asked) worker)
+list_at : (workers worker : ℕ) (asked : List Request) → worker < workers
+    → slice_get (lists_of workers asked) worker ≡ Some (list_for workers (payments_of asked) worker)
 list_at workers worker asked below =
     let f = list_for workers (payments_of asked) in
     slice_get-get_or (lists_of workers asked) worker [] (omega (arith, below, length-map-range_with_len f 0 workers))
@@ -83,14 +94,20 @@ request_at workers place payments payment some at =
     slice_get-map asked_route (dealt_from workers (place % workers) 0 payments) (place / workers)
     ∙ ap (option_map asked_route) (dealt_in_turn workers place payments payment some at)
 
-pub are_same : (chain : ChainHash) (known : Option (List ℕ)) (workers : ℕ) (asked : List Request) (report : LiveReport) → 0 < workers → IsReportOn chain known workers asked report
+pub are_same : (chain : ChainHash) (known : Option (List ℕ)) (workers : ℕ) (asked : List Request)
+    (report : LiveReport) → 0 < workers → IsReportOn chain known workers asked report
     → AreSame workers known report (payments_of asked)
 are_same chain known workers asked report some is = λ place payment at.
     let worker = place % workers in
     let requests = list_for workers (payments_of asked) worker in
     let ops = report.ops.items in
-    let list = zipped (λ (requests : List RouteRequest) (answers : Vec LiveAnswer). AreAnsweredBy known ops requests answers.items) (lists_of workers asked) report.answers.items worker requests is.answers (list_at workers worker asked (mod-lt place some)) in
-    let answer = zipped (IsAnsweredBy known ops) requests list.0.items (place / workers) (asked_route payment) list.2 (request_at workers place (payments_of asked) payment some at) in
+    let list =
+    zipped (λ (requests : List RouteRequest) (answers : Vec LiveAnswer).
+    AreAnsweredBy known ops requests answers.items) (lists_of workers asked) report.answers.items worker
+    requests is.answers (list_at workers worker asked (mod-lt place some)) in
+    let answer =
+    zipped (IsAnsweredBy known ops) requests list.0.items (place / workers) (asked_route payment) list.2
+    (request_at workers place (payments_of asked) payment some at) in
     (answer.0, ap (λ (o : Option (Vec LiveAnswer)). whole place o) list.1 ∙ answer.1, replay_is_same known ops payment answer.0 answer.2)
   where
     whole : ℕ → Option (Vec LiveAnswer) → Option LiveAnswer
@@ -125,11 +142,15 @@ batches_count : (items : List Item) (asked : List Request) → length (batches_b
 batches_count items [] = refl
 batches_count items (requests.Quiet ∷ asked) = omega (arith, batches_count items asked, count_by-cons is_commit requests.Quiet asked)
 batches_count items (requests.Bad ∷ asked) = omega (arith, batches_count items asked, count_by-cons is_commit requests.Bad asked)
-batches_count items (requests.Offer item ∷ asked) = omega (arith, batches_count (items ++ item ∷ []) asked, count_by-cons is_commit (requests.Offer item) asked)
+batches_count items (requests.Offer item ∷ asked) =
+    omega
+    (arith, batches_count (items ++ item ∷ []) asked, count_by-cons is_commit (requests.Offer item) asked)
 batches_count items (requests.Commit ∷ asked) = omega (arith, batches_count [] asked, count_by-cons is_commit requests.Commit asked)
 batches_count items (requests.Query bytes ∷ asked) = omega (arith, batches_count items asked, count_by-cons is_commit (requests.Query bytes) asked)
-batches_count items (requests.Filter peer bytes ∷ asked) = omega (arith, batches_count items asked, count_by-cons is_commit (requests.Filter peer bytes) asked)
-batches_count items (requests.Route payment ∷ asked) = omega (arith, batches_count items asked, count_by-cons is_commit (requests.Route payment) asked)
+batches_count items (requests.Filter peer bytes ∷ asked) =
+    omega (arith, batches_count items asked, count_by-cons is_commit (requests.Filter peer bytes) asked)
+batches_count items (requests.Route payment ∷ asked) =
+    omega (arith, batches_count items asked, count_by-cons is_commit (requests.Route payment) asked)
 
 ends_count : (chain : ChainHash) (before : List Item) (batches : List (List Item)) → length (ends_behind chain before batches) ≡ length batches
 ends_count chain before [] = refl
@@ -139,10 +160,12 @@ outcomes_count : (chain : ChainHash) (history : List Op) (items : List Item) →
 outcomes_count chain history [] = refl
 outcomes_count chain history (item ∷ items) = omega (arith, outcomes_count chain (with_outcome history (outcome_of chain (fold history) item)) items)
 
-pub is_full : (chain : ChainHash) (known : Option (List ℕ)) (workers : ℕ) (asked : List Request) (report : LiveReport) → IsReportOn chain known workers asked report → IsFull report asked
+pub is_full : (chain : ChainHash) (known : Option (List ℕ)) (workers : ℕ) (asked : List Request)
+    (report : LiveReport) → IsReportOn chain known workers asked report → IsFull report asked
 is_full chain known workers asked report is = record {
   outcomes =
-      ap length is.outcomes ∙ length-map (outcomes chain (all_items (batches_of asked))) result_err ∙ outcomes_count chain [] (all_items (batches_of asked))
+      ap length is.outcomes ∙ length-map (outcomes chain (all_items (batches_of asked))) result_err
+      ∙ outcomes_count chain [] (all_items (batches_of asked))
       ∙ ap length (items_behind [] asked);
   ends = ap length is.ends ∙ ends_count chain [] (batches_of asked) ∙ batches_count [] asked;
 }

@@ -1,5 +1,6 @@
 -- The text of slots, one after the other.
-use Rattle.std.proofs.Common.{◌≡◌, ℕ, zero, suc, ◌+◌, ◌-◌, ◌<◌, Bool, cond, List, [], ◌∷◌, ◌++◌, length, get_or, take, codes, refl, sym, ap, subst, ◌∙◌, append_assoc, add-one, arith}
+use Rattle.std.proofs.Common.{◌≡◌, ℕ, zero, suc, ◌+◌, ◌-◌, ◌<◌, Bool, cond, List, [], ◌∷◌, ◌++◌, length, get_or}
+use Rattle.std.proofs.Common.{take, codes, refl, sym, ap, subst, ◌∙◌, append_assoc, add-one, arith}
 use Rattle.std.specs.Prelude.{count_by}
 use Rattle.std.specs.Fmt.{decimal}
 use Rattle.std.proofs.lemmas.List.{append-nil, take_more}
@@ -17,7 +18,8 @@ use Rattle.lgm_live.specs.inner.Telling.{is_item, is_end, is_payment, place_behi
 
 -- ---- the line of a version
 
-pub version_line : (number version : ℕ) (word : List ℕ) → word ≡ 97 ∷ 116 ∷ 32 ∷ (decimal version ++ 32 ∷ 115 ∷ 97 ∷ 109 ∷ 101 ∷ []) → word_line number word ≡ at_line number version (codes "same")
+pub version_line : (number version : ℕ) (word : List ℕ) → word ≡ 97 ∷ 116 ∷ 32 ∷ (decimal version
+    ++ 32 ∷ 115 ∷ 97 ∷ 109 ∷ 101 ∷ []) → word_line number word ≡ at_line number version (codes "same")
 version_line number version word is =
     ap (word_line number) (is ∙ ap (λ (l : List ℕ). 97 ∷ 116 ∷ 32 ∷ l) (sym (append_assoc (decimal version) (codes " ") (codes "same"))))
 
@@ -48,7 +50,8 @@ place_push before slot = rw (count_push is_item before slot, count_push is_end b
     by_slot slots.NotLive = same (place_behind before)
     by_slot (slots.Payment secret) = ap (λ (place : Place). record place { payments = count_by is_payment before + 1 }) (same (place_behind before))
 
-pub place_more : (all : List Slot) (k : ℕ) → k < length all → place_passed (place_behind (take k all)) (get_or all k slots.Quiet) ≡ place_behind (take (k + 1) all)
+pub place_more : (all : List Slot) (k : ℕ) → k < length all
+    → place_passed (place_behind (take k all)) (get_or all k slots.Quiet) ≡ place_behind (take (k + 1) all)
 place_more all k below = place_push (take k all) (get_or all k slots.Quiet) ∙ ap place_behind (sym (take_more all k slots.Quiet below))
 
 -- ---- texts
@@ -57,18 +60,23 @@ place_more all k below = place_push (take k all) (get_or all k slots.Quiet) ∙ 
 abbrev pub text_at : ℕ → LiveReport → List Slot → ℕ → List ℕ
 text_at workers report all k = slot_text workers report (k + 1) (place_behind (take k all)) (get_or all k slots.Quiet)
 
-text_suc : (workers : ℕ) (report : LiveReport) (all : List Slot) (k : ℕ) → slots_before workers report all (suc k) ≡ slots_before workers report all k ++ text_at workers report all k
+text_suc : (workers : ℕ) (report : LiveReport) (all : List Slot) (k : ℕ) → slots_before workers report all
+    (suc k) ≡ slots_before workers report all k ++ text_at workers report all k
 unfolding slots_before
 text_suc workers report all k = refl
 
-text_more : (workers : ℕ) (report : LiveReport) (all : List Slot) (k : ℕ) → slots_before workers report all (k + 1) ≡ slots_before workers report all k ++ text_at workers report all k
-text_more workers report all k = subst (λ n. slots_before workers report all n ≡ slots_before workers report all k ++ text_at workers report all k) (sym (add-one k)) (text_suc workers report all k)
+text_more : (workers : ℕ) (report : LiveReport) (all : List Slot) (k : ℕ) → slots_before workers report all (k
+    + 1) ≡ slots_before workers report all k ++ text_at workers report all k
+text_more workers report all k =
+    subst (λ n. slots_before workers report all n ≡ slots_before workers report all k
+    ++ text_at workers report all k) (sym (add-one k)) (text_suc workers report all k)
 
 pub no_text : (workers : ℕ) (report : LiveReport) (all : List Slot) → slots_before workers report all 0 ≡ []
 unfolding slots_before
 no_text workers report all = refl
 
-text_behind : (workers : ℕ) (report : LiveReport) (all : List Slot) (k n : ℕ) → (more : List ℕ) × (slots_before workers report all (k + n) ≡ slots_before workers report all k ++ more)
+text_behind : (workers : ℕ) (report : LiveReport) (all : List Slot) (k n : ℕ)
+    → (more : List ℕ) × (slots_before workers report all (k + n) ≡ slots_before workers report all k ++ more)
 text_behind workers report all k zero =
     let same : k + zero ≡ k = omega arith in
     ([], rw same (sym (append-nil (slots_before workers report all k))))
@@ -76,7 +84,8 @@ text_behind workers report all k (suc n) =
     let others = text_behind workers report all k n in
     let next : k + suc n ≡ k + n + 1 = omega arith in (
       others.0 ++ text_at workers report all (k + n),
-      ap (slots_before workers report all) next ∙ text_more workers report all (k + n) ∙ ap (λ (t : List ℕ). t ++ text_at workers report all (k + n)) others.1
+      ap (slots_before workers report all) next ∙ text_more workers report all (k + n)
+          ∙ ap (λ (t : List ℕ). t ++ text_at workers report all (k + n)) others.1
           ∙ append_assoc (slots_before workers report all k) others.0 (text_at workers report all (k + n)),
     )
 
@@ -88,13 +97,16 @@ text_here workers report all k number place number_is place_is =
     ∙ ap (λ (p : Place). slot_text workers report (k + 1) p (get_or all k slots.Quiet)) place_is
 
 -- one more slot was told
-pub one_more : (workers : ℕ) (report : LiveReport) (all : List Slot) (k : ℕ) (old mid new : Told) → Tells old mid (slots_before workers report all k) → Tells mid new (text_at workers report all k)
+pub one_more : (workers : ℕ) (report : LiveReport) (all : List Slot) (k : ℕ) (old mid new : Told)
+    → Tells old mid (slots_before workers report all k) → Tells mid new (text_at workers report all k)
     → Tells old new (slots_before workers report all (k + 1))
 one_more workers report all k old mid new so_far told =
-    subst (Tells old new) (sym (text_more workers report all k)) (tells_both old mid new (slots_before workers report all k) (text_at workers report all k) so_far told)
+    subst (Tells old new) (sym (text_more workers report all k)) (tells_both old mid new
+    (slots_before workers report all k) (text_at workers report all k) so_far told)
 
 -- a part of it, and then a fault
-pub stops : (workers : ℕ) (report : LiveReport) (all : List Slot) (k : ℕ) (old mid new : Told) (fault : SendFault) → k < length all → Tells old mid (slots_before workers report all k)
+pub stops : (workers : ℕ) (report : LiveReport) (all : List Slot) (k : ℕ) (old mid new : Told)
+    (fault : SendFault) → k < length all → Tells old mid (slots_before workers report all k)
     → TellsPart mid new (text_at workers report all k) fault → TellsPart old new (slots_before workers report all (length all)) fault
 stops workers report all k old mid new fault below so_far part =
     let behind = tells_part_behind old mid new (slots_before workers report all k) (text_at workers report all k) fault so_far part in

@@ -1,5 +1,6 @@
 -- What requests are told, by their slots.
-use Rattle.std.proofs.Common.{◌≡◌, ℕ, zero, suc, ◌+◌, ◌<◌, ◌≤◌, Bool, cond, List, [], ◌∷◌, ◌++◌, length, map, get_or, take, Option, Some, None, codes, refl, sym, ap, subst, ◌∙◌, arith}
+use Rattle.std.proofs.Common.{◌≡◌, ℕ, zero, suc, ◌+◌, ◌<◌, ◌≤◌, Bool, cond, List, [], ◌∷◌, ◌++◌, length, map}
+use Rattle.std.proofs.Common.{get_or, take, Option, Some, None, codes, refl, sym, ap, subst, ◌∙◌, arith}
 use Rattle.std.specs.Prelude.{is_some, count_by, slice_get}
 use Rattle.std.specs.List.{filter_map, cons_option}
 use Rattle.std.proofs.lemmas.List.{length-map, take-map}
@@ -29,13 +30,16 @@ count_by-cons p x xs = sum_by-cons (λ y. cond (p y) 1 0) x xs
 as_one : Bool → ℕ
 as_one b = cond b 1 0
 
-one_found : {Y : Type 0} (o : Option Y) (found : List Y) (p : Slot → Bool) (slot : Slot) (all : List Slot) → is_some o ≡ p slot → length found ≡ count_by p all → length (cons_option o found) ≡ count_by p (slot ∷ all)
+one_found : {Y : Type 0} (o : Option Y) (found : List Y) (p : Slot → Bool) (slot : Slot) (all : List Slot)
+    → is_some o ≡ p slot → length found ≡ count_by p all
+    → length (cons_option o found) ≡ count_by p (slot ∷ all)
 unfolding as_one
 one_found None found p slot all same count = omega (arith, count, count_by-cons p slot all, ap as_one same)
 one_found (Some y) found p slot all same count = omega (arith, count, count_by-cons p slot all, ap as_one same)
 
 -- what is found in requests, counted by their slots
-found_count : {Y : Type 0} (h : Request → Option Y) (p : Slot → Bool) → ((r : Request) → is_some (h r) ≡ p (slot_of r)) → (asked : List Request) → length (filter_map h asked) ≡ count_by p (map slot_of asked)
+found_count : {Y : Type 0} (h : Request → Option Y) (p : Slot → Bool) → ((r : Request) → is_some (h r)
+    ≡ p (slot_of r)) → (asked : List Request) → length (filter_map h asked) ≡ count_by p (map slot_of asked)
 found_count h p same [] = refl
 found_count h p same (r ∷ asked) = one_found (h r) (filter_map h asked) p (slot_of r) (map slot_of asked) (same r) (found_count h p same asked)
 
@@ -78,34 +82,43 @@ commits_count [] = refl
 commits_count (r ∷ asked) =
     omega (arith, commits_count asked, count_by-cons is_commit r asked, count_by-cons is_end (slot_of r) (map slot_of asked), ap as_one (commits r))
 
-one_before : {Y : Type 0} (o : Option Y) (found before : List Y) (y : Y) → slice_get found (length before) ≡ Some y → slice_get (cons_option o found) (length (cons_option o before)) ≡ Some y
+one_before : {Y : Type 0} (o : Option Y) (found before : List Y) (y : Y) → slice_get found (length before)
+    ≡ Some y → slice_get (cons_option o found) (length (cons_option o before)) ≡ Some y
 one_before None found before y is = is
 one_before (Some x) found before y is = is
 
 -- what is found at a place comes behind what is found before
-found_at : {Y : Type 0} (h : Request → Option Y) (asked : List Request) (k : ℕ) (y : Y) → k < length asked → h (get_or asked k requests.Quiet) ≡ Some y
+found_at : {Y : Type 0} (h : Request → Option Y) (asked : List Request) (k : ℕ) (y : Y) → k < length asked
+    → h (get_or asked k requests.Quiet) ≡ Some y
     → slice_get (filter_map h asked) (length (filter_map h (take k asked))) ≡ Some y
 found_at h [] k y below is = absurd (omega (arith, below))
 found_at h (r ∷ asked) zero y below is = ap (λ o. slice_get (cons_option o (filter_map h asked)) 0) is
-found_at h (r ∷ asked) (suc k) y below is = one_before (h r) (filter_map h asked) (filter_map h (take k asked)) y (found_at h asked k y (omega (arith, below)) is)
+found_at h (r ∷ asked) (suc k) y below is =
+    one_before (h r) (filter_map h asked) (filter_map h (take k asked)) y
+    (found_at h asked k y (omega (arith, below)) is)
 
 -- ---- the text
 
 -- a payment behind these has an answer, which the replay gives too
 abbrev IsPaid : ℕ → Option (List ℕ) → LiveReport → List Request → Request → Type 0
 IsPaid workers known report before request = (payment : Payment) → request ≡ requests.Route payment
-    → (answer : LiveAnswer) × (answer_at workers report.answers.items (length (payments_of before)) ≡ Some answer) × (replay_word known report.ops.items payment answer ≡ codes "same")
+    → (answer : LiveAnswer) × (answer_at workers report.answers.items (length (payments_of before))
+    ≡ Some answer) × (replay_word known report.ops.items payment answer ≡ codes "same")
 
-paid_text : (workers : ℕ) (known : Option (List ℕ)) (report : LiveReport) (number : ℕ) (before : List Request) (payment : Payment) (answer : LiveAnswer)
-    → answer_at workers report.answers.items (length (payments_of before)) ≡ Some answer → replay_word known report.ops.items payment answer ≡ codes "same"
-    → told_for workers known report number before (requests.Route payment) ≡ slot_text workers report number (place_behind (map slot_of before)) (slots.Payment payment.secret)
+paid_text : (workers : ℕ) (known : Option (List ℕ)) (report : LiveReport) (number : ℕ) (before : List Request)
+    (payment : Payment) (answer : LiveAnswer)
+    → answer_at workers report.answers.items (length (payments_of before)) ≡ Some answer
+    → replay_word known report.ops.items payment answer ≡ codes "same"
+    → told_for workers known report number before (requests.Route payment)
+    ≡ slot_text workers report number (place_behind (map slot_of before)) (slots.Payment payment.secret)
 paid_text workers known report number before payment answer at same =
     ap (payment_text known report.ops.items number payment) at
     ∙ ap (λ (word : List ℕ). at_line number answer.version word ++ route_text number payment.secret answer.result) same
     ∙ sym (ap (same_text number payment.secret) at)
     ∙ ap (λ (place : ℕ). same_text number payment.secret (answer_at workers report.answers.items place)) (payments_count before)
 
-one_told : (workers : ℕ) (known : Option (List ℕ)) (report : LiveReport) (number : ℕ) (before : List Request) (request : Request) → IsPaid workers known report before request
+one_told : (workers : ℕ) (known : Option (List ℕ)) (report : LiveReport) (number : ℕ) (before : List Request)
+    (request : Request) → IsPaid workers known report before request
     → told_for workers known report number before request ≡ slot_text workers report number (place_behind (map slot_of before)) (slot_of request)
 one_told workers known report number before requests.Quiet paid = refl
 one_told workers known report number before requests.Bad paid = refl
@@ -118,28 +131,35 @@ one_told workers known report number before (requests.Filter peer bytes) paid = 
 one_told workers known report number before (requests.Route payment) paid =
     let has = paid payment refl in paid_text workers known report number before payment has.0 has.1 has.2
 
-paid_at : (workers : ℕ) (known : Option (List ℕ)) (report : LiveReport) (asked : List Request) (k : ℕ) → AreSame workers known report (payments_of asked) → k < length asked
+paid_at : (workers : ℕ) (known : Option (List ℕ)) (report : LiveReport) (asked : List Request) (k : ℕ)
+    → AreSame workers known report (payments_of asked) → k < length asked
     → IsPaid workers known report (take k asked) (get_or asked k requests.Quiet)
-paid_at workers known report asked k same below = λ payment is. same (length (payments_of (take k asked))) payment (found_at payment_in asked k payment below (ap payment_in is))
+paid_at workers known report asked k same below =
+    λ payment is. same (length (payments_of (take k asked))) payment
+    (found_at payment_in asked k payment below (ap payment_in is))
 
-text_before : (workers : ℕ) (known : Option (List ℕ)) (report : LiveReport) (asked : List Request) (k : ℕ) → AreSame workers known report (payments_of asked) → k ≤ length asked
+text_before : (workers : ℕ) (known : Option (List ℕ)) (report : LiveReport) (asked : List Request) (k : ℕ)
+    → AreSame workers known report (payments_of asked) → k ≤ length asked
     → told_before workers known report asked k ≡ slots_before workers report (map slot_of asked) k
 unfolding told_before slots_before
 text_before workers known report asked zero same within = refl
 text_before workers known report asked (suc k) same within =
     let below : k < length asked = omega (arith, within) in
     let request = get_or asked k requests.Quiet in
-    ap (λ (text : List ℕ). text ++ told_for workers known report (k + 1) (take k asked) request) (text_before workers known report asked k same (omega (arith, within)))
+    ap (λ (text : List ℕ). text ++ told_for workers known report (k + 1) (take k asked) request)
+    (text_before workers known report asked k same (omega (arith, within)))
     ∙ ap (λ (text : List ℕ). slots_before workers report (map slot_of asked) k ++ text)
     (one_told workers known report (k + 1) (take k asked) request (paid_at workers known report asked k same below)
     ∙ ap (λ (before : List Slot). slot_text workers report (k + 1) (place_behind before) (slot_of request)) (sym (take-map slot_of k asked))
     ∙ ap (slot_text workers report (k + 1) (place_behind (take k (map slot_of asked)))) (sym (get_or-map slot_of asked k requests.Quiet)))
 
 -- the text of a script is that of its slots
-pub text_is : (workers : ℕ) (known : Option (List ℕ)) (report : LiveReport) (asked : List Request) (all : List Slot) → AreSame workers known report (payments_of asked) → all ≡ map slot_of asked
+pub text_is : (workers : ℕ) (known : Option (List ℕ)) (report : LiveReport) (asked : List Request)
+    (all : List Slot) → AreSame workers known report (payments_of asked) → all ≡ map slot_of asked
     → told_all workers known report asked ≡ slots_before workers report all (length all)
 text_is workers known report asked all same is =
-    rw is (text_before workers known report asked (length asked) same (omega arith) ∙ ap (slots_before workers report (map slot_of asked)) (sym (length-map asked slot_of)))
+    rw is (text_before workers known report asked (length asked) same (omega arith)
+    ∙ ap (slots_before workers report (map slot_of asked)) (sym (length-map asked slot_of)))
 
 -- ---- what is told is there
 
@@ -157,24 +177,30 @@ pub record IsFull (report : LiveReport) (asked : List Request) : Type 0 where
   pub outcomes : length report.outcomes.items ≡ length (items_of asked)
   pub ends : length report.ends.items ≡ count_by is_commit asked + 1
 
-there_at : (workers : ℕ) (known : Option (List ℕ)) (report : LiveReport) (asked : List Request) (k : ℕ) (request : Request) → IsFull report asked → AreSame workers known report (payments_of asked) → k < length asked
+there_at : (workers : ℕ) (known : Option (List ℕ)) (report : LiveReport) (asked : List Request) (k : ℕ)
+    (request : Request) → IsFull report asked → AreSame workers known report (payments_of asked)
+    → k < length asked
     → get_or asked k requests.Quiet ≡ request → IsThere workers report (place_behind (map slot_of (take k asked))) (slot_of request)
 there_at workers known report asked k requests.Quiet full same below is = tt
 there_at workers known report asked k requests.Bad full same below is = tt
 there_at workers known report asked k (requests.Offer item) full same below is =
     let within = slice_get_within (items_of asked) (length (items_of (take k asked))) item (found_at item_in asked k item below (ap item_in is)) in
     omega (arith, within, items_count (take k asked), full.outcomes)
-there_at workers known report asked k requests.Commit full same below is = omega (arith, count_take is_commit asked k, commits_count (take k asked), full.ends)
+there_at workers known report asked k requests.Commit full same below is =
+    omega (arith, count_take is_commit asked k, commits_count (take k asked), full.ends)
 there_at workers known report asked k (requests.Query bytes) full same below is = tt
 there_at workers known report asked k (requests.Filter peer bytes) full same below is = tt
 there_at workers known report asked k (requests.Route payment) full same below is =
     let has = same (length (payments_of (take k asked))) payment (found_at payment_in asked k payment below (ap payment_in is)) in
     ap is_some (ap (answer_at workers report.answers.items) (sym (payments_count (take k asked))) ∙ has.1)
 
-pub all_there : (workers : ℕ) (known : Option (List ℕ)) (report : LiveReport) (asked : List Request) (all : List Slot) → IsFull report asked → AreSame workers known report (payments_of asked) → all ≡ map slot_of asked
+pub all_there : (workers : ℕ) (known : Option (List ℕ)) (report : LiveReport) (asked : List Request)
+    (all : List Slot) → IsFull report asked → AreSame workers known report (payments_of asked)
+    → all ≡ map slot_of asked
     → AreThere workers report all
 all_there workers known report asked all full same is = rw is (λ k below.
     let within : k < length asked = omega (arith, below, length-map asked slot_of) in
     let here = there_at workers known report asked k (get_or asked k requests.Quiet) full same within refl in
-    subst (λ (before : List Slot). IsThere workers report (place_behind before) (get_or (map slot_of asked) k slots.Quiet)) (sym (take-map slot_of k asked))
+    subst (λ (before : List Slot). IsThere workers report (place_behind before)
+    (get_or (map slot_of asked) k slots.Quiet)) (sym (take-map slot_of k asked))
     (subst (IsThere workers report (place_behind (map slot_of (take k asked)))) (sym (get_or-map slot_of asked k requests.Quiet)) here))

@@ -1,5 +1,6 @@
 -- How far a script was read.
-use Rattle.std.proofs.Common.{◌≡◌, ℕ, ◌+◌, ◌<◌, ◌≤◌, Bool, true, false, cond, eqb, List, [], ◌∷◌, ◌++◌, length, map, get_or, take, drop, Option, Some, None, Result, Err, refl, sym, ap, subst, ◌∙◌, arith}
+use Rattle.std.proofs.Common.{◌≡◌, ℕ, ◌+◌, ◌<◌, ◌≤◌, Bool, true, false, cond, eqb, List, [], ◌∷◌, ◌++◌, length, map}
+use Rattle.std.proofs.Common.{get_or, take, drop, Option, Some, None, Result, Err, refl, sym, ap, subst, ◌∙◌, arith}
 use Rattle.std.specs.Prelude.{◌≢◌, IfSome}
 use Rattle.std.specs.List.{AllByRecursion}
 use Rattle.std.proofs.lemmas.List.{append-nil, length-append, length-drop, take_all, take_more, drop_more, map_push, nil_from_length}
@@ -43,7 +44,8 @@ some_is a b e = cc
 
 -- ---- one line
 
-step_at : (script : List ℕ) (asked : List Request) (count : ℕ) (buffered left : List ℕ) (input : Option (List ℕ)) → IsAt script asked input → ahead buffered (Some left) ≡ input
+step_at : (script : List ℕ) (asked : List Request) (count : ℕ) (buffered left : List ℕ)
+    (input : Option (List ℕ)) → IsAt script asked input → ahead buffered (Some left) ≡ input
     → IsFirstLine buffered (Some left) count → count ≤ 140000 → length (take count buffered) ≤ 140000
     → IsAt script (asked ++ request_of (take count buffered) ∷ []) (ahead (drop (count + 1) buffered) (Some left))
 step_at script asked count buffered left input at kept first small short =
@@ -52,7 +54,8 @@ step_at script asked count buffered left input at kept first small short =
     let line = take count buffered in
     let rest = drop (count + 1) buffered ++ left in
     let next = next_of buffered left count first in
-    let here : drop k all ≡ line ∷ lines_of rest = sym at.left ∙ ap lines_of (sym (some_is (buffered ++ left) at.rest (kept ∙ at.input_is))) ∙ next.lines in
+    let here : drop k all ≡ line ∷ lines_of rest =
+    sym at.left ∙ ap lines_of (sym (some_is (buffered ++ left) at.rest (kept ∙ at.input_is))) ∙ next.lines in
     let below : k < length all = omega (arith, ap length here, length-drop k all) in
     let parts : get_or all k [] ∷ drop (k + 1) all ≡ line ∷ lines_of rest = sym (drop_more all k [] below) ∙ here in
     let is : get_or all k [] ≡ line = ap (λ (ls : List (List ℕ)). get_or ls 0 []) parts in
@@ -64,24 +67,32 @@ step_at script asked count buffered left input at kept first small short =
       left = ap (drop 1) (sym parts) ∙ ap (λ n. drop n all) (sym more);
       few = omega (arith, more, below);
       short = subst (λ n. AllByRecursion (λ l. length l ≤ 140000) (take n all)) (sym more)
-          (subst (λ (ls : List (List ℕ)). AllByRecursion (λ l. length l ≤ 140000) ls) (sym front) (each-push (λ l. length l ≤ 140000) (take k all) line at.short short));
+          (subst (λ (ls : List (List ℕ)). AllByRecursion (λ l. length l ≤ 140000) ls) (sym front)
+          (each-push (λ l. length l ≤ 140000) (take k all) line at.short short));
       asked_is = asked_with at.asked_is front ∙ ap (λ n. map request_of (take n all)) (sym more);
     }
   where
-    asked_with : asked ≡ map request_of (take (length asked) (lines_of script)) → take (length asked + 1) (lines_of script) ≡ take (length asked) (lines_of script) ++ take count buffered ∷ []
+    asked_with : asked ≡ map request_of (take (length asked) (lines_of script)) → take (length asked
+        + 1) (lines_of script) ≡ take (length asked) (lines_of script) ++ take count buffered ∷ []
         → asked ++ request_of (take count buffered) ∷ [] ≡ map request_of (take (length asked + 1) (lines_of script))
-    asked_with is front = ap (λ (rs : List Request). rs ++ request_of (take count buffered) ∷ []) is ∙ sym (map_push request_of (take (length asked) (lines_of script)) (take count buffered)) ∙ ap (map request_of) (sym front)
+    asked_with is front =
+        ap (λ (rs : List Request). rs ++ request_of (take count buffered) ∷ []) is
+        ∙ sym (map_push request_of (take (length asked) (lines_of script)) (take count buffered))
+        ∙ ap (map request_of) (sym front)
 
-pub step : (script : Option (List ℕ)) (asked : List Request) (count : ℕ) (buffered : List ℕ) (left input : Option (List ℕ)) → SoFar script asked input → ahead buffered left ≡ input
+pub step : (script : Option (List ℕ)) (asked : List Request) (count : ℕ) (buffered : List ℕ)
+    (left input : Option (List ℕ)) → SoFar script asked input → ahead buffered left ≡ input
     → IsFirstLine buffered left count → count ≤ 140000 → length (take count buffered) ≤ 140000
     → SoFar script (asked ++ request_of (take count buffered) ∷ []) (ahead (drop (count + 1) buffered) left)
 step None asked count buffered left input so_far kept first small short = tt
 step (Some script) asked count buffered None input so_far kept first small short = absurd (let bad = kept ∙ so_far.input_is in cc)
-step (Some script) asked count buffered (Some left) input so_far kept first small short = step_at script asked count buffered left input so_far kept first small short
+step (Some script) asked count buffered (Some left) input so_far kept first small short =
+    step_at script asked count buffered left input so_far kept first small short
 
 -- ---- how it ends
 
-pub ends : (script : Option (List ℕ)) (asked : List Request) (input input' : Option (List ℕ)) → SoFar script asked input → input' ≡ input → IsAtEnd input' → length asked ≤ 10000000 → IfSome script (IsAsked asked)
+pub ends : (script : Option (List ℕ)) (asked : List Request) (input input' : Option (List ℕ)) → SoFar script
+    asked input → input' ≡ input → IsAtEnd input' → length asked ≤ 10000000 → IfSome script (IsAsked asked)
 ends None asked input input' so_far kept ended limit = tt
 ends (Some script) asked input None so_far kept ended limit = absurd (let bad = kept ∙ so_far.input_is in cc)
 ends (Some script) asked input (Some s) so_far kept ended limit =
@@ -110,7 +121,8 @@ has_line (b ∷ bs) some = by_test (eqb b 10)
     by_test true = omega arith
     by_test false = onto (lines_of bs)
 
-pub many : (script : Option (List ℕ)) (asked : List Request) (buffered : List ℕ) (left input : Option (List ℕ)) → SoFar script asked input → ahead buffered left ≡ input → 0 < length buffered
+pub many : (script : Option (List ℕ)) (asked : List Request) (buffered : List ℕ) (left input : Option
+    (List ℕ)) → SoFar script asked input → ahead buffered left ≡ input → 0 < length buffered
     → length asked ≡ 10000000 → IfSome script HasMoreLines
 many None asked buffered left input so_far kept more full = tt
 many (Some script) asked buffered None input so_far kept more full = absurd (let bad = kept ∙ so_far.input_is in cc)
@@ -123,7 +135,8 @@ many (Some script) asked buffered (Some left) input so_far kept more full =
       short = subst (AreShort script) full so_far.short;
     }
 
-pub long : (script : Option (List ℕ)) (asked : List Request) (input input' : Option (List ℕ)) → SoFar script asked input → input' ≡ input → length asked < 10000000 → IsLongerThan 140000 input'
+pub long : (script : Option (List ℕ)) (asked : List Request) (input input' : Option (List ℕ))
+    → SoFar script asked input → input' ≡ input → length asked < 10000000 → IsLongerThan 140000 input'
     → IfSome script HasLongLine
 long None asked input input' so_far kept limit longer = tt
 long (Some script) asked input None so_far kept limit longer = absurd (let bad = kept ∙ so_far.input_is in cc)
@@ -150,7 +163,9 @@ pub silent : (old new : Told) → old.gathered ≡ [] → Tells old new [] → I
 silent old new clear told =
     let size = ap length told.whole ∙ ap (λ (g : List ℕ). length (g ++ [])) clear in
     record {
-      taken = nothing_taken old.taken new.taken told.written (nil_from_length told.written (omega (arith, size, length-append told.written new.gathered))) told.taken;
+      taken =
+          nothing_taken old.taken new.taken told.written (nil_from_length told.written
+          (omega (arith, size, length-append told.written new.gathered))) told.taken;
       clear = nil_from_length new.gathered (omega (arith, size, length-append told.written new.gathered));
     }
 
@@ -168,7 +183,9 @@ abbrev pub failed : {T : Type 0} → LineFault → Result T LineFault
 failed fault = Err fault
 
 -- whatever the fault
-pub silent_fault : {T : Type 0} (fault : LineFault) (old new : Told) → old.gathered ≡ [] → (failed {T = T} fault ≢ failed lines.Write → Tells old new []) → (failed {T = T} fault ≡ failed lines.Write → TellsPart old new [] SendWrite)
+pub silent_fault : {T : Type 0} (fault : LineFault) (old new : Told) → old.gathered ≡ []
+    → (failed {T = T} fault ≢ failed lines.Write → Tells old new [])
+    → (failed {T = T} fault ≡ failed lines.Write → TellsPart old new [] SendWrite)
     → IsSilent old new
 silent_fault lines.Read old new clear told part = silent old new clear (told (λ e. absurd cc))
 silent_fault lines.Write old new clear told part = silent_part old new clear (part refl)

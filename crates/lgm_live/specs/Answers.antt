@@ -12,7 +12,8 @@ use Rattle.lgm_live.specs.declared.report.LiveAnswer.{LiveAnswer}
 -- the answer is that on the map of the first operations, as many as its version says
 abbrev pub IsAnsweredBy : Option (List ℕ) → List Op → Request → LiveAnswer → Type 0
 IsAnsweredBy known ops request answer =
-    (answer.version ≤ length ops) × (answer.result ≡ answer_of (edges_of known (fold (take answer.version ops))) request)
+    (answer.version ≤ length ops)
+    × (answer.result ≡ answer_of (edges_of known (fold (take answer.version ops))) request)
 
 -- one answer for each request, in order
 abbrev pub AreAnsweredBy : Option (List ℕ) → List Op → List Request → List LiveAnswer → Type 0

@@ -11,7 +11,8 @@ items_of batches = flat_map (λ (batch : List Item). batch) batches
 -- the length of the history after each batch, after items that came before
 abbrev pub ends_behind : ChainHash → List Item → List (List Item) → List ℕ
 ends_behind chain before [] = []
-ends_behind chain before (batch ∷ batches) = length (history_of chain (before ++ batch)) ∷ ends_behind chain (before ++ batch) batches
+ends_behind chain before (batch ∷ batches) =
+    length (history_of chain (before ++ batch)) ∷ ends_behind chain (before ++ batch) batches
 
 -- the length of the history after each batch
 abbrev pub ends_of : ChainHash → List (List Item) → List ℕ

@@ -38,11 +38,13 @@ live_fault live.Closed = faults.Closed
 live_fault live.Versions = faults.Versions
 
 -- what `live` promises of its report
-pub record IsReport (chain : ChainHash) (known : Option (List ℕ)) (batches : List (List Item)) (lists : List (List RouteRequest)) (report : LiveReport) : Type 0 where
+pub record IsReport (chain : ChainHash) (known : Option (List ℕ)) (batches : List (List Item))
+    (lists : List (List RouteRequest)) (report : LiveReport) : Type 0 where
   pub outcomes : report.outcomes.items ≡ map result_err (outcomes chain (items_of batches))
   pub ops : report.ops.items ≡ history_of chain (items_of batches)
   pub ends : report.ends.items ≡ ends_of chain batches
-  pub answers : AllZip (λ requests answers. AreAnsweredBy known report.ops.items requests answers.items) lists report.answers.items
+  pub answers : AllZip (λ requests answers. AreAnsweredBy known report.ops.items requests answers.items) lists
+      report.answers.items
   pub at_ends : All (λ answers. All (IsAtEnd report.ends.items) answers.items) report.answers.items
   pub rising : All (λ answers. NeverFall answers.items) report.answers.items
 
@@ -53,17 +55,20 @@ pub record IsWithin (script : List ℕ) : Type 0 where
 
 -- a report on what these requests ask
 abbrev pub IsReportOn : ChainHash → Option (List ℕ) → ℕ → List Request → LiveReport → Type 0
-IsReportOn chain known workers asked report = IsReport chain known (batches_of asked) (lists_of workers asked) report
+IsReportOn chain known workers asked report =
+    IsReport chain known (batches_of asked) (lists_of workers asked) report
 
 -- the report is one on the whole script, and the whole text of both was written
-pub record IsToldWhole (chain : ChainHash) (known : Option (List ℕ)) (workers : ℕ) (told : List ℕ → Type 0) (report : LiveReport) (script : List ℕ) : Type 0 where
+pub record IsToldWhole (chain : ChainHash) (known : Option (List ℕ)) (workers : ℕ) (told : List ℕ → Type 0)
+    (report : LiveReport) (script : List ℕ) : Type 0 where
   pub limits : IsWithin script
   pub is_report : IsReportOn chain known workers (requests_of script) report
   pub text : told (told_all workers known report (requests_of script))
   pub same : AreSame workers known report (payments_of (requests_of script))
 
 -- a prefix of the text of the whole script and of some report on it was written
-pub record IsToldInPart (chain : ChainHash) (known : Option (List ℕ)) (workers : ℕ) (told_part : List ℕ → Type 0) (script : List ℕ) : Type 0 where
+pub record IsToldInPart (chain : ChainHash) (known : Option (List ℕ)) (workers : ℕ)
+    (told_part : List ℕ → Type 0) (script : List ℕ) : Type 0 where
   pub limits : IsWithin script
   pub report : LiveReport
   pub is_report : IsReportOn chain known workers (requests_of script) report

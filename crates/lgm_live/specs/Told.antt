@@ -1,5 +1,7 @@
 -- The text of a script whose payments are answered while its items are admitted.
-use Rattle.std.specs.Prelude.{◌≡◌, ℕ, zero, suc, ◌+◌, ◌/◌, ◌%◌, ◌==◌, ◌&&◌, Bool, false, List, [], ◌++◌, length, take, Option, Some, None, Result, Ok, Err, codes, count_by, nat_eq, slice_get, slice_index_or, option_and_then, if◌then◌else◌}
+use Rattle.std.specs.Prelude.{◌≡◌, ℕ, zero, suc, ◌+◌, ◌/◌, ◌%◌, ◌==◌, ◌&&◌, Bool, false, List, [], ◌++◌}
+use Rattle.std.specs.Prelude.{length, take, Option, Some, None, Result, Ok, Err, codes, count_by, nat_eq}
+use Rattle.std.specs.Prelude.{slice_get, slice_index_or, option_and_then, if◌then◌else◌}
 use Rattle.std.specs.Cmp.Lexicographic.{pointwise}
 use Rattle.std.specs.Fmt.{decimal}
 use Rattle.std.specs.Global.{Vec}
@@ -23,7 +25,8 @@ use Rattle.lgm_live.specs.Agenda.{payments_of}
 
 abbrev pub same_hop : Hop → Hop → Bool
 same_hop a b =
-    (a.scid == b.scid) && pointwise nat_eq a.from.0 b.from.0 && pointwise nat_eq a.to.0 b.to.0 && (a.amount == b.amount) && (a.expiry == b.expiry)
+    (a.scid == b.scid) && pointwise nat_eq a.from.0 b.from.0 && pointwise nat_eq a.to.0 b.to.0
+    && (a.amount == b.amount) && (a.expiry == b.expiry)
 
 abbrev pub same_answer : Result (List Hop) RouteFault → Result (List Hop) RouteFault → Bool
 same_answer (Ok hops) (Ok others) = pointwise same_hop hops others
@@ -33,14 +36,16 @@ same_answer _ _ = false
 -- whether the map of the first operations, as many as the answer's version says, gives the same answer
 abbrev pub replay_word : Option (List ℕ) → List Op → Payment → LiveAnswer → List ℕ
 replay_word known ops payment answer =
-    if same_answer answer.result (route_answer known (fold (take answer.version ops)) payment) then codes "same" else codes "other"
+    if same_answer answer.result (route_answer known (fold (take answer.version ops)) payment)
+    then codes "same" else codes "other"
 
 -- ---- the text for requests
 
 -- the answer to a payment, by its index among all that were dealt to this many workers round-robin
 abbrev pub answer_at : ℕ → List (Vec LiveAnswer) → ℕ → Option LiveAnswer
 answer_at workers answers place =
-    option_and_then (λ (list : Vec LiveAnswer). slice_get list.items (place / workers)) (slice_get answers (place % workers))
+    option_and_then (λ (list : Vec LiveAnswer). slice_get list.items (place / workers))
+    (slice_get answers (place % workers))
 
 -- N at V WORD
 abbrev pub at_line : ℕ → ℕ → List ℕ → List ℕ
@@ -50,7 +55,8 @@ at_line number version word = word_line number (codes "at " ++ decimal version +
 abbrev pub payment_text : Option (List ℕ) → List Op → ℕ → Payment → Option LiveAnswer → List ℕ
 payment_text known ops number payment None = []
 payment_text known ops number payment (Some answer) =
-    at_line number answer.version (replay_word known ops payment answer) ++ route_text number payment.secret answer.result
+    at_line number answer.version (replay_word known ops payment answer)
+    ++ route_text number payment.secret answer.result
 
 -- the text for a request after these, for the line with this number
 abbrev pub told_for : ℕ → Option (List ℕ) → LiveReport → ℕ → List Request → Request → List ℕ
@@ -63,13 +69,15 @@ told_for workers known report number before requests.Commit =
 told_for workers known report number before (requests.Query bytes) = word_line number (codes "not-live")
 told_for workers known report number before (requests.Filter peer bytes) = word_line number (codes "not-live")
 told_for workers known report number before (requests.Route payment) =
-    payment_text known report.ops.items number payment (answer_at workers report.answers.items (length (payments_of before)))
+    payment_text known report.ops.items number payment
+    (answer_at workers report.answers.items (length (payments_of before)))
 
 -- the text for the first k requests
 unfoldable pub told_before : ℕ → Option (List ℕ) → LiveReport → List Request → ℕ → List ℕ
 told_before workers known report asked zero = []
 told_before workers known report asked (suc k) =
-    told_before workers known report asked k ++ told_for workers known report (k + 1) (take k asked) (slice_index_or asked k requests.Quiet)
+    told_before workers known report asked k
+    ++ told_for workers known report (k + 1) (take k asked) (slice_index_or asked k requests.Quiet)
 
 -- the text for all requests
 abbrev pub told_all : ℕ → Option (List ℕ) → LiveReport → List Request → List ℕ
@@ -77,5 +85,7 @@ told_all workers known report asked = told_before workers known report asked (le
 
 -- each payment has an answer, and the replay gives the same
 abbrev pub AreSame : ℕ → Option (List ℕ) → LiveReport → List Payment → Type 0
-AreSame workers known report payments = (place : ℕ) (payment : Payment) → slice_get payments place ≡ Some payment
-    → (answer : LiveAnswer) × (answer_at workers report.answers.items place ≡ Some answer) × (replay_word known report.ops.items payment answer ≡ codes "same")
+AreSame workers known report payments =
+    (place : ℕ) (payment : Payment) → slice_get payments place ≡ Some payment
+    → (answer : LiveAnswer) × (answer_at workers report.answers.items place ≡ Some answer)
+    × (replay_word known report.ops.items payment answer ≡ codes "same")

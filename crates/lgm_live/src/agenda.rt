@@ -35,13 +35,20 @@ impl Model for Agenda {
 
     ghost Value = { Gathered };
 
-    ghost view = { λ a. record { batches = a.batches; batch = a.batch.items; lists = a.lists; payments = a.payments; slots = a.slots.items } };
+    ghost view = { λ a. record {
+      batches = a.batches;
+      batch = a.batch.items;
+      lists = a.lists;
+      payments = a.payments;
+      slots = a.slots.items;
+    } };
 }
 
 impl Agenda {
     /// No requests, for this many workers.
     pub(crate) fn new(alloc: Global, workers: usize) -> Result<Agenda, AllocError>
-        ensures { IfOk result (λ agenda. agenda ≡ record { batches = []; batch = []; lists = replicate workers []; payments = 0; slots = [] }) }
+        ensures { IfOk result (λ agenda. agenda
+            ≡ record { batches = []; batch = []; lists = replicate workers []; payments = 0; slots = [] }) }
     {
         Ok(Agenda {
             batches: Batches::new(alloc),
@@ -55,7 +62,8 @@ impl Agenda {
 
     /// Ends the batch of the items since the last commit.
     pub(crate) fn end_batch(&mut self, alloc: Global) -> Result<(), AllocError>
-        ensures { OnOk result (self.new ≡ record self.old { batches = self.old.batches ++ self.old.batch ∷ []; batch = [] }) }
+        ensures { OnOk result
+            (self.new ≡ record self.old { batches = self.old.batches ++ self.old.batch ∷ []; batch = [] }) }
     {
         let batch = mem::replace(&mut self.batch, Vec::new(alloc));
         self.batches.push(batch)

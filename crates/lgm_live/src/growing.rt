@@ -63,7 +63,8 @@ fn run_both<R: Threads + Wait + Sync + RandomSource, G: Gate>(
     ensures board { pen.new.board ≡ pen.old.board }
     ensures written { IfOk result.0 (IsWritten chain.now (items_of batches.now)) }
     ensures ends { IfOk result.0 (λ written. written.ends.items ≡ ends_of chain.now batches.now) }
-    ensures within { IfOk result.0 (λ written. All (λ end. end ≤ length written.ops.items) written.ends.items) }
+    ensures within { IfOk result.0
+        (λ written. All (λ end. end ≤ length written.ops.items) written.ends.items) }
     ensures published { IfOk result.0 (λ written. pen.new.published ≡ written.ops.items) }
     ensures worked { IfOk result.1 (λ works. HaveWorked eyes.items lists.now works.items) }
 {
@@ -96,10 +97,12 @@ fn gather(
     written: Result<Written, LiveFault>,
     works: Result<Vec<Worked>, LiveFault>,
 ) -> Result<LiveReport, LiveFault>
-    requires within { IfOk written (λ written. All (λ end. end ≤ length pen.old.published) written.ends.items) }
+    requires within { IfOk written
+        (λ written. All (λ end. end ≤ length pen.old.published) written.ends.items) }
     requires board { IfOk works (λ works. All (λ worked. worked.eye.board ≡ pen.old.board) works.items) }
     ensures written { IfOk result (λ report. MatchResult written (IsOfWriter report) (λ _. ⊥)) }
-    ensures tied { IfOk result (λ report. MatchResult works (λ works. AllZip (IsTied pen.old.published report.ends.items) works.items report.answers.items) (λ _. ⊥)) }
+    ensures tied { IfOk result (λ report. MatchResult works (λ works.
+        AllZip (IsTied pen.old.published report.ends.items) works.items report.answers.items) (λ _. ⊥)) }
 {
     let Written {
         map: _map,
@@ -143,15 +146,18 @@ pub fn live<R: Threads + Wait + Sync + RandomSource, G: Gate>(
     requires few { length lists.now ≤ 64 }
 
     // The items are judged in order, as if there were no batches and no workers.
-    ensures outcomes { IfOk result (λ report. report.outcomes.items ≡ map result_err (outcomes chain.now (items_of batches.now))) }
+    ensures outcomes { IfOk result
+        (λ report. report.outcomes.items ≡ map result_err (outcomes chain.now (items_of batches.now))) }
     ensures ops { IfOk result (λ report. report.ops.items ≡ history_of chain.now (items_of batches.now)) }
     ensures ends { IfOk result (λ report. report.ends.items ≡ ends_of chain.now batches.now) }
 
     // Each worker returns one answer for each payment of its list, in order, on the map of the answer's version.
-    ensures answers { IfOk result (λ report. AllZip (λ requests answers. AreAnsweredBy known.now report.ops.items requests answers.items) lists.now report.answers.items) }
+    ensures answers { IfOk result (λ report. AllZip (λ requests answers.
+        AreAnsweredBy known.now report.ops.items requests answers.items) lists.now report.answers.items) }
 
     // That map is empty or that of the end of a batch, and never shrinks.
-    ensures at_ends { IfOk result (λ report. All (λ answers. All (IsAtEnd report.ends.items) answers.items) report.answers.items) }
+    ensures at_ends { IfOk result
+        (λ report. All (λ answers. All (IsAtEnd report.ends.items) answers.items) report.answers.items) }
     ensures rising { IfOk result (λ report. All (λ answers. NeverFall answers.items) report.answers.items) }
 {
     let lists = lists.as_slice();

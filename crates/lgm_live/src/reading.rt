@@ -1,6 +1,7 @@
 //! Reading a whole script before any of it is answered.
 
-ghost use Rattle.std.specs.Prelude.{◌≡◌, ◌≢◌, ◌≤◌, ◌+◌, ◌<◌, ◌^◌, [], length, take, drop, IfSome, IfOk, IfErr, OnOk};
+ghost use Rattle.std.specs.Prelude.{◌≡◌, ◌≢◌, ◌≤◌, ◌+◌, ◌<◌, ◌^◌, [], length};
+ghost use Rattle.std.specs.Prelude.{take, drop, IfSome, IfOk, IfErr, OnOk};
 ghost use Rattle.lgm_script.specs.Request.{request_of};
 ghost use Rattle.lgm_live.specs.inner.Gathered.{with_line};
 ghost use Rattle.lgm_live.specs.inner.Reading.{IsNoted, IsRead};
@@ -54,8 +55,10 @@ fn read_lines<R: Source, W: Sink>(
     ensures silent { W.taken output.new.writer.now ≡ W.taken output.old.writer.now }
     ensures gathered { output.new.gathered.now.items ≡ [] }
     ensures read { result ≡ Err RunLiveFault.Read → R.failures source.old < R.failures source.new }
-    ensures write { result ≡ Err RunLiveFault.Write → W.failures output.old.writer.now < W.failures output.new.writer.now }
-    ensures well { result ≢ Err RunLiveFault.Write → W.failures output.new.writer.now ≡ W.failures output.old.writer.now }
+    ensures write { result ≡ Err RunLiveFault.Write
+        → W.failures output.old.writer.now < W.failures output.new.writer.now }
+    ensures well { result ≢ Err RunLiveFault.Write
+        → W.failures output.new.writer.now ≡ W.failures output.old.writer.now }
 {
     let mut number = 0;
     while number < MAX_LINES {
@@ -90,8 +93,10 @@ pub(crate) fn read_script<R: Source, W: Sink>(
     ensures silent { W.taken output.new.writer.now ≡ W.taken output.old.writer.now }
     ensures gathered { output.new.gathered.now.items ≡ [] }
     ensures read { result ≡ Err RunLiveFault.Read → R.failures source.old < R.failures source.new }
-    ensures write { result ≡ Err RunLiveFault.Write → W.failures output.old.writer.now < W.failures output.new.writer.now }
-    ensures well { result ≢ Err RunLiveFault.Write → W.failures output.new.writer.now ≡ W.failures output.old.writer.now }
+    ensures write { result ≡ Err RunLiveFault.Write
+        → W.failures output.old.writer.now < W.failures output.new.writer.now }
+    ensures well { result ≢ Err RunLiveFault.Write
+        → W.failures output.new.writer.now ≡ W.failures output.old.writer.now }
 {
     let mut lines = LineReader::new(alloc)?;
     let mut agenda = Agenda::new(alloc, workers)?;

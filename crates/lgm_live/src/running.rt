@@ -39,12 +39,15 @@ fn run_all<Rt: Threads + Wait + Sync + RandomSource, G: Gate, R: Source, W: Sink
         (Appends (W.taken output.old.writer.now) (W.taken output.new.writer.now)) report)) }
     ensures too_many { result ≡ Err RunLiveFault.TooManyLines → IfSome (R.left source.old) HasMoreLines }
     ensures too_long { result ≡ Err RunLiveFault.LineTooLong → IfSome (R.left source.old) HasLongLine }
-    ensures silent { IfErr result (λ fault. ComesFirst fault → W.taken output.new.writer.now ≡ W.taken output.old.writer.now) }
-    ensures fault { OnErr result ((W.taken output.new.writer.now ≡ W.taken output.old.writer.now) ⊎ IfSome (R.left source.old)
+    ensures silent { IfErr result
+        (λ fault. ComesFirst fault → W.taken output.new.writer.now ≡ W.taken output.old.writer.now) }
+    ensures fault { OnErr result
+        ((W.taken output.new.writer.now ≡ W.taken output.old.writer.now) ⊎ IfSome (R.left source.old)
         (IsToldInPart chain.now known.now pool.now.workers
         (AppendsSome (W.taken output.old.writer.now) (W.taken output.new.writer.now)))) }
     ensures read { result ≡ Err RunLiveFault.Read → R.failures source.old < R.failures source.new }
-    ensures write { result ≡ Err RunLiveFault.Write → W.failures output.old.writer.now < W.failures output.new.writer.now }
+    ensures write { result ≡ Err RunLiveFault.Write
+        → W.failures output.old.writer.now < W.failures output.new.writer.now }
 {
     let agenda = read_script(pool.alloc, pool.workers, source, output)?;
     let paced = Paced::new(pool.rt, pool.alloc, pool.gate, pool.workers, agenda.above())?;
@@ -88,7 +91,8 @@ pub fn run_live<Rt: Threads + Wait + Sync + RandomSource, G: Gate, R: Source, W:
 
     // The report is one as `live` promises for the whole script, and exactly its text was written.
     ensures ok { IfOk result (λ report. IfSome (R.left reader.old)
-        (IsToldWhole chain.now known.now workers (Appends (W.taken writer.old) (W.taken writer.new)) report)) }
+        (IsToldWhole chain.now known.now workers
+        (Appends (W.taken writer.old) (W.taken writer.new)) report)) }
 
     // The script exceeds a limit.
     ensures too_many { result ≡ Err RunLiveFault.TooManyLines → IfSome (R.left reader.old) HasMoreLines }

@@ -6,7 +6,8 @@ ghost use Rattle.lgm_script.specs.Device.{Appends, AppendsSome};
 ghost use Rattle.lgm_script.specs.Output.{Sends, SendsPart};
 ghost use Rattle.lgm_server.specs.Answer.{route_text};
 ghost use Rattle.lgm_live.specs.Told.{answer_at};
-ghost use Rattle.lgm_live.specs.inner.Telling.{place_passed, same_text, slot_text, slots_before, IsThere, AreThere};
+ghost use Rattle.lgm_live.specs.inner.Telling.{place_passed, same_text, slot_text};
+ghost use Rattle.lgm_live.specs.inner.Telling.{slots_before, IsThere, AreThere};
 ghost use Rattle.lgm_live.specs.declared.report.LiveAnswer.{LiveAnswer};
 
 use crate::report::{LiveAnswer, LiveReport};
@@ -70,8 +71,10 @@ fn tell_result<W: Sink>(
 ) -> Result<(), SendFault>
     requires { W.failures output.old.writer.now + 1 < 2 ^ 64 }
     ensures writer { output.new.writer.ghost_name ≡ output.old.writer.ghost_name }
-    ensures told { OnOk result (Sends W.taken W.failures output.old output.new (route_text number secret.now found.now)) }
-    ensures fault { IfErr result (SendsPart W.taken W.failures output.old output.new (route_text number secret.now found.now)) }
+    ensures told { OnOk result
+        (Sends W.taken W.failures output.old output.new (route_text number secret.now found.now)) }
+    ensures fault { IfErr result
+        (SendsPart W.taken W.failures output.old output.new (route_text number secret.now found.now)) }
 {
     match found {
         Ok(route) => {
@@ -93,8 +96,10 @@ fn tell_answer<W: Sink>(
 ) -> Result<(), SendFault>
     requires { W.failures output.old.writer.now + 1 < 2 ^ 64 }
     ensures writer { output.new.writer.ghost_name ≡ output.old.writer.ghost_name }
-    ensures told { OnOk result (Sends W.taken W.failures output.old output.new (same_text number secret.now (Some answer.now))) }
-    ensures fault { IfErr result (SendsPart W.taken W.failures output.old output.new (same_text number secret.now (Some answer.now))) }
+    ensures told { OnOk result
+        (Sends W.taken W.failures output.old output.new (same_text number secret.now (Some answer.now))) }
+    ensures fault { IfErr result
+        (SendsPart W.taken W.failures output.old output.new (same_text number secret.now (Some answer.now))) }
 {
     let version = answer.version;
     let word = format!(in alloc; "at {version} same")?;
@@ -116,8 +121,10 @@ fn tell_slot<W: Sink>(
     requires there { IsThere workers report.now place slot }
     requires writer { W.failures output.old.writer.now + 1 < 2 ^ 64 }
     ensures writer { output.new.writer.ghost_name ≡ output.old.writer.ghost_name }
-    ensures told { OnOk result (Sends W.taken W.failures output.old output.new (slot_text workers report.now number place slot)) }
-    ensures fault { IfErr result (SendsPart W.taken W.failures output.old output.new (slot_text workers report.now number place slot)) }
+    ensures told { OnOk result
+        (Sends W.taken W.failures output.old output.new (slot_text workers report.now number place slot)) }
+    ensures fault { IfErr result (SendsPart W.taken W.failures output.old output.new
+        (slot_text workers report.now number place slot)) }
 {
     match slot {
         Slot::Quiet => Ok(()),
@@ -147,8 +154,10 @@ fn tell_slots<W: Sink>(
     requires there { AreThere workers report.now slots.now }
     requires writer { W.failures output.old.writer.now + 1 < 2 ^ 64 }
     ensures writer { output.new.writer.ghost_name ≡ output.old.writer.ghost_name }
-    ensures told { OnOk result (Sends W.taken W.failures output.old output.new (slots_before workers report.now slots.now (length slots.now))) }
-    ensures fault { IfErr result (SendsPart W.taken W.failures output.old output.new (slots_before workers report.now slots.now (length slots.now))) }
+    ensures told { OnOk result (Sends W.taken W.failures output.old output.new
+        (slots_before workers report.now slots.now (length slots.now))) }
+    ensures fault { IfErr result (SendsPart W.taken W.failures output.old output.new
+        (slots_before workers report.now slots.now (length slots.now))) }
 {
     let mut number = 0;
     let mut place = Place {
@@ -179,9 +188,12 @@ pub(crate) fn tell<W: Sink>(
     requires gathered { output.old.gathered.now.items ≡ [] }
     requires writer { W.failures output.old.writer.now + 1 < 2 ^ 64 }
     ensures writer { output.new.writer.ghost_name ≡ output.old.writer.ghost_name }
-    ensures told { OnOk result (Appends (W.taken output.old.writer.now) (W.taken output.new.writer.now) (slots_before workers report.now slots.now (length slots.now))) }
-    ensures part { OnErr result (AppendsSome (W.taken output.old.writer.now) (W.taken output.new.writer.now) (slots_before workers report.now slots.now (length slots.now))) }
-    ensures write { result ≡ Err SendFault.Write → W.failures output.old.writer.now < W.failures output.new.writer.now }
+    ensures told { OnOk result (Appends (W.taken output.old.writer.now) (W.taken output.new.writer.now)
+        (slots_before workers report.now slots.now (length slots.now))) }
+    ensures part { OnErr result (AppendsSome (W.taken output.old.writer.now) (W.taken output.new.writer.now)
+        (slots_before workers report.now slots.now (length slots.now))) }
+    ensures write { result ≡ Err SendFault.Write
+        → W.failures output.old.writer.now < W.failures output.new.writer.now }
 {
     let told = tell_slots(alloc, workers, slots, report, output);
     if let Err(SendFault::Write) = told {

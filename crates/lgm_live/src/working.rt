@@ -36,7 +36,8 @@ fn find(alloc: Global, guard: &Guard, request: &Request) -> Result<Route, RouteF
 /// Answers a payment on the map that a guard shows.
 fn answer(alloc: Global, guard: &Guard, request: &Request) -> Result<LiveAnswer, LiveFault>
     ensures version { IfOk result (λ answer. answer.version ≡ length guard.now.ops) }
-    ensures result { IfOk result (λ answer. answer.result ≡ answer_of (edges_of guard.now.known (fold guard.now.ops)) request.now) }
+    ensures result { IfOk result
+        (λ answer. answer.result ≡ answer_of (edges_of guard.now.known (fold guard.now.ops)) request.now) }
 {
     match find(alloc, guard, request) {
         Err(RouteFault::NoMemory) => Err(LiveFault::NoMemory),
@@ -56,7 +57,8 @@ fn work<G: Gate>(
     requests: &[Request],
 ) -> Result<Worked, LiveFault>
     ensures board { IfOk result (λ worked. worked.eye.board ≡ eye.board) }
-    ensures answered { IfOk result (λ worked. AreAnsweredBy eye.known worked.eye.ops requests.now worked.answers.items) }
+    ensures answered { IfOk result
+        (λ worked. AreAnsweredBy eye.known worked.eye.ops requests.now worked.answers.items) }
     ensures rising { IfOk result (λ worked. NeverFall worked.answers.items) }
 {
     let mut own = eye;

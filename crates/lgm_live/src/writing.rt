@@ -103,7 +103,8 @@ impl Written {
         ensures map { self.new.map ≡ self.old.map }
         ensures outcomes { self.new.outcomes ≡ self.old.outcomes }
         ensures ops { self.new.ops ≡ self.old.ops }
-        ensures ends { OnOk result (self.new.ends.items ≡ self.old.ends.items ++ length self.old.ops.items ∷ []) }
+        ensures ends { OnOk result
+            (self.new.ends.items ≡ self.old.ends.items ++ length self.old.ops.items ∷ []) }
         ensures board { pen.new.board ≡ pen.old.board }
         ensures published { OnOk result (pen.new.published ≡ self.old.ops.items) }
         ensures pending { OnOk result (pen.new.pending ≡ []) }
@@ -128,7 +129,8 @@ impl Written {
         requires pending { pen.old.pending ≡ [] }
         ensures written { (items : List Item) → IsWritten chain.now items self.old
             → OnOk result (IsWritten chain.now (items ++ batch.now) self.new) }
-        ensures ends { OnOk result (self.new.ends.items ≡ self.old.ends.items ++ length self.new.ops.items ∷ []) }
+        ensures ends { OnOk result
+            (self.new.ends.items ≡ self.old.ends.items ++ length self.new.ops.items ∷ []) }
         ensures few { OnOk result (length self.new.ops.items ≤ length self.old.ops.items + length batch.now) }
         ensures grows { OnOk result (length self.old.ops.items ≤ length self.new.ops.items) }
         ensures board { pen.new.board ≡ pen.old.board }

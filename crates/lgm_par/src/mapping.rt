@@ -11,7 +11,7 @@ use std::thread;
 use std::thread::Threads;
 
 /// The start of a chunk.
-#[tactic(auto, unfolding(crate::specs::Pieces::piece_start))]
+#[tactic(auto, unfolding(crate::specs::inner::Chunks::piece_start))]
 fn start_of(len: usize, pieces: usize, piece: usize) -> usize
     requires some { 0 < pieces }
     requires within { piece ≤ pieces }
@@ -88,7 +88,8 @@ pub fn map_chunks<Rt: Threads + Sync, G: Gate, T: Sync, A: Send + Drop, F: Fn(&T
     }
     let work = |piece: usize| -> Result<Vec<A>, AllocError>
         requires { (piece < pieces) × AcceptsAll F.Fn f.now items.now }
-        ensures { IfOk result (λ answers. GivesAll F.Fn f.entry.now (piece_of items.entry.now pieces piece) answers.items) }
+        ensures { IfOk result
+            (λ answers. GivesAll F.Fn f.entry.now (piece_of items.entry.now pieces piece) answers.items) }
     {
         gate.pass(piece);
         map_piece(alloc, piece_at(items, pieces, piece), f)

@@ -1,5 +1,6 @@
 -- How long payloads are, and that they are read back.
-use Rattle.std.proofs.Common.{◌≡◌, ℕ, suc, ◌+◌, ◌*◌, ◌<◌, ◌≤◌, Bool, true, false, cond, eqb, List, [], ◌∷◌, ◌++◌, length, Some, refl, ap, ◌∙◌, arith, inl, inr}
+use Rattle.std.proofs.Common.{◌≡◌, ℕ, suc, ◌+◌, ◌*◌, ◌<◌, ◌≤◌, Bool, true, false, cond, eqb, List}
+use Rattle.std.proofs.Common.{[], ◌∷◌, ◌++◌, length, Some, refl, ap, ◌∙◌, arith, inl, inr}
 use Rattle.std.specs.Int.{w64, to_be_bytes}
 use Rattle.std.specs.List.{flat_map, AllByRecursion, AllZip}
 use Rattle.std.proofs.lemmas.List.{length-append, append-nil}
@@ -20,7 +21,8 @@ without_len : (digits : List ℕ) → length (without_leading_zeros digits) ≤ 
 without_len [] = omega arith
 without_len (digit ∷ digits) = by (eqb digit 0) (without_len digits)
   where
-    by : (b : Bool) → length (without_leading_zeros digits) ≤ length digits → length (cond b (without_leading_zeros digits) (digit ∷ digits)) ≤ suc (length digits)
+    by : (b : Bool) → length (without_leading_zeros digits) ≤ length digits
+        → length (cond b (without_leading_zeros digits) (digit ∷ digits)) ≤ suc (length digits)
     by true le = omega arith
     by false le = omega arith
 
@@ -30,11 +32,19 @@ truncated_len n = without_len (to_be_bytes w64 n)
 one_byte : (n : ℕ) → n < 0xfd → length (bigsize_bytes n) ≡ 1
 one_byte n lt = ap length (bigsize_bytes-one_byte n lt)
 
-record_len : (kind : ℕ) (value : List ℕ) → kind < 0xfd → length value < 0xfd → length (record_bytes (record { kind = kind; value = value })) ≡ 2 + length value
+record_len : (kind : ℕ) (value : List ℕ) → kind < 0xfd → length value < 0xfd
+    → length (record_bytes (record { kind = kind; value = value })) ≡ 2 + length value
 record_len kind value small short =
-    omega (arith, one_byte kind small, one_byte (length value) short, length-append (bigsize_bytes kind ++ bigsize_bytes (length value)) value, length-append (bigsize_bytes kind) (bigsize_bytes (length value)))
+    omega (
+      arith,
+      one_byte kind small,
+      one_byte (length value) short,
+      length-append (bigsize_bytes kind ++ bigsize_bytes (length value)) value,
+      length-append (bigsize_bytes kind) (bigsize_bytes (length value)),
+    )
 
-three_len : (a b c : TlvRecord) → length (flat_map record_bytes (a ∷ b ∷ c ∷ [])) ≡ length (record_bytes a) + (length (record_bytes b) + length (record_bytes c))
+three_len : (a b c : TlvRecord) → length (flat_map record_bytes (a ∷ b ∷ c ∷ []))
+    ≡ length (record_bytes a) + (length (record_bytes b) + length (record_bytes c))
 three_len a b c =
     let parts = flat_map-cons record_bytes a (b ∷ c ∷ []) in
     let behind = flat_map-cons record_bytes b (c ∷ []) in
@@ -56,8 +66,11 @@ forward_text next =
     let x = truncated_len next.expiry in
     let one = record_len 2 amount (omega arith) (omega arith) in
     let two = record_len 4 expiry (omega arith) (omega arith) in
-    let three : length (record_bytes (record { kind = 6; value = to_be_bytes w64 next.scid })) ≡ 10 = record_len 6 (to_be_bytes w64 next.scid) (omega arith) (omega arith) in
-    let all = three_len (record { kind = 2; value = amount }) (record { kind = 4; value = expiry }) (record { kind = 6; value = to_be_bytes w64 next.scid }) in
+    let three : length (record_bytes (record { kind = 6; value = to_be_bytes w64 next.scid })) ≡ 10 =
+    record_len 6 (to_be_bytes w64 next.scid) (omega arith) (omega arith) in
+    let all =
+    three_len (record { kind = 2; value = amount }) (record { kind = 4; value = expiry })
+    (record { kind = 6; value = to_be_bytes w64 next.scid }) in
     omega arith
 
 arrival_text : (secret : List ℕ) (last : Hop) → length secret ≡ 32 → length (text_of (arrival secret last)) ≤ 62
@@ -74,9 +87,15 @@ arrival_text secret last len =
     omega arith
 
 framed_len : (payload : HopPayload) → length (text_of payload) < 0xfd → length (payload_bytes payload) ≡ 1 + length (text_of payload)
-framed_len payload short = omega (arith, one_byte (length (text_of payload)) short, length-append (bigsize_bytes (length (text_of payload))) (text_of payload))
+framed_len payload short =
+    omega (
+      arith,
+      one_byte (length (text_of payload)) short,
+      length-append (bigsize_bytes (length (text_of payload))) (text_of payload),
+    )
 
-onion_most : (secret : List ℕ) (hops : List Hop) → length secret ≡ 32 → 1 ≤ length hops → onion_len (payloads_of secret hops) + 63 ≤ 63 * length hops + 95
+onion_most : (secret : List ℕ) (hops : List Hop) → length secret ≡ 32 → 1 ≤ length hops
+    → onion_len (payloads_of secret hops) + 63 ≤ 63 * length hops + 95
 onion_most secret [] len some = absurd (omega arith)
 onion_most secret (hop ∷ []) len some =
     let short = arrival_text secret hop len in
@@ -89,7 +108,8 @@ onion_most secret (hop ∷ next ∷ hops) len some =
     omega arith
 
 -- the payloads of 1 to 20 hops fit the packet
-pub onion_fits : (secret : List ℕ) (hops : List Hop) → length secret ≡ 32 → 1 ≤ length hops → length hops ≤ 20 → onion_len (payloads_of secret hops) ≤ 1300
+pub onion_fits : (secret : List ℕ) (hops : List Hop) → length secret ≡ 32 → 1 ≤ length hops → length hops ≤ 20
+    → onion_len (payloads_of secret hops) ≤ 1300
 onion_fits secret hops len some few = let most = onion_most secret hops len some in omega arith
 
 -- ---- what was built spells what it was built from
@@ -104,7 +124,13 @@ forward_spelled next sized =
       framed = record { whole = refl; len = omega arith };
       records = records_of (forward next);
       stream = record {
-        fits = (record { kind = omega arith; len = omega arith }, (record { kind = omega arith; len = omega arith }, (record { kind = omega arith; len = omega arith }, tt)));
+        fits = (
+          record { kind = omega arith; len = omega arith },
+          (
+            record { kind = omega arith; len = omega arith },
+            (record { kind = omega arith; len = omega arith }, tt),
+          ),
+        );
         rises = (tt, (omega arith, (omega arith, tt)));
         whole = refl;
       };
@@ -124,7 +150,8 @@ forward_spelled next sized =
       one_way = inr refl;
     }
 
-arrival_spelled : (secret : List ℕ) (last : Hop) → length secret ≡ 32 → IsSized last → IsPayload (arrival secret last) (payload_bytes (arrival secret last))
+arrival_spelled : (secret : List ℕ) (last : Hop) → length secret ≡ 32 → IsSized last
+    → IsPayload (arrival secret last) (payload_bytes (arrival secret last))
 arrival_spelled secret last len sized =
     let short = arrival_text secret last len in
     let a = truncated_len last.amount in
@@ -135,7 +162,13 @@ arrival_spelled secret last len sized =
       framed = record { whole = refl; len = omega arith };
       records = records_of (arrival secret last);
       stream = record {
-        fits = (record { kind = omega arith; len = omega arith }, (record { kind = omega arith; len = omega arith }, (record { kind = omega arith; len = omega arith }, tt)));
+        fits = (
+          record { kind = omega arith; len = omega arith },
+          (
+            record { kind = omega arith; len = omega arith },
+            (record { kind = omega arith; len = omega arith }, tt),
+          ),
+        );
         rises = (tt, (omega arith, (omega arith, tt)));
         whole = refl;
       };
@@ -161,7 +194,8 @@ arrival_spelled secret last len sized =
     total_is : (s : List ℕ) (n : ℕ) (payment : Payment) → Some (record { secret = s; total = n }) ≡ Some payment → n ≡ payment.total
     total_is s n payment e = let same : record { secret = s; total = n } ≡ payment = cc in ap (λ p. p.total) same
 
-pub built_spelled : (secret : List ℕ) (hops : List Hop) → length secret ≡ 32 → AllByRecursion IsSized hops → AllZip IsPayload (told secret hops) (payloads_of secret hops)
+pub built_spelled : (secret : List ℕ) (hops : List Hop) → length secret ≡ 32 → AllByRecursion IsSized hops
+    → AllZip IsPayload (told secret hops) (payloads_of secret hops)
 built_spelled secret [] len sized = tt
 built_spelled secret (hop ∷ []) len sized = (arrival_spelled secret hop len sized.0, tt)
 built_spelled secret (hop ∷ next ∷ hops) len sized = (forward_spelled next sized.1.0, built_spelled secret (next ∷ hops) len sized.1)

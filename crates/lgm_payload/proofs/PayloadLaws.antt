@@ -1,5 +1,6 @@
 -- The laws of payloads: what is read is spelled so, and what is spelled so is read.
-use Rattle.std.proofs.Common.{◌≡◌, ◌⊎◌, ℕ, ◌-◌, ◌%◌, ◌^◌, ◌<◌, ◌≤◌, true, false, cond, eqb, ltb, List, [], ◌∷◌, ◌++◌, length, get_or, take, drop, Option, Some, None, Result, Ok, Err, refl, sym, ap, subst, ◌∙◌, arith, inl, inr}
+use Rattle.std.proofs.Common.{◌≡◌, ◌⊎◌, ℕ, ◌-◌, ◌%◌, ◌^◌, ◌<◌, ◌≤◌, true, false, cond, eqb, ltb, List, [], ◌∷◌, ◌++◌, length, get_or}
+use Rattle.std.proofs.Common.{take, drop, Option, Some, None, Result, Ok, Err, refl, sym, ap, subst, ◌∙◌, arith, inl, inr}
 use Rattle.std.specs.Prelude.{All, IfOk, MatchResult, ◌&&◌}
 use Rattle.std.specs.Int.{w64, to_be_bytes, from_be_bytes}
 use Rattle.std.specs.List.{AllByRecursion}
@@ -19,14 +20,17 @@ use Rattle.lgm_wire.specs.reading.TlvReading.{tlvs_of}
 use Rattle.lgm_wire.specs.declared.tlv.Tlv.{Tlv}
 use Rattle.lgm_wire.specs.TlvView.{record_of, records_of}
 use Rattle.lgm_wire.proofs.TruncatedIntegerLaws.{number_of-below, short_bytes, same_bytes, IsTruncatedInteger-truncated_bytes}
-use Rattle.lgm_gossip.proofs.WireLaws.{chosen, bind_ok, ok_is, IsBytes, IsBytes-drop, IsBytes-rest, wide64, bigsize_spelled, bigsize_at-bigsize_bytes, ReadsBig, big_found, big_not_found, whole_read, stream_takes, values_fit}
+use Rattle.lgm_gossip.proofs.WireLaws.{chosen, bind_ok, ok_is, IsBytes, IsBytes-drop, IsBytes-rest, wide64, bigsize_spelled, bigsize_at-bigsize_bytes}
+use Rattle.lgm_gossip.proofs.WireLaws.{ReadsBig, big_found, big_not_found, whole_read, stream_takes, values_fit}
 use Rattle.lgm_payload.specs.declared.fault.PayloadFault.{PayloadFault}
 use Rattle.lgm_payload.specs.declared.fault.PayloadFault.TheVariants.{Length, Blinded, Kind, Extra, NoMemory}
 use Rattle.lgm_payload.specs.declared.hop_payload.HopPayload.{HopPayload}
 use Rattle.lgm_payload.specs.declared.hop_payload.Payment.{Payment}
 use Rattle.lgm_payload.specs.declared.reading.Known.{Known}
 use Rattle.lgm_payload.specs.HopPayload.{value_of, payment_bytes, IsKnown, Fits, IsOneWay, IsPayload}
-use Rattle.lgm_payload.specs.reading.Reading.{unless, behind_len, or_tlv, number_fault, scid_fault, payment_fault, payment_of, is_blinded, unknown_fault, record_fault, first_fault, known_in, known_at, whole_of, whole, payload_at, fault, text_at, stream_at}
+use Rattle.lgm_payload.specs.reading.Reading.{unless, behind_len, or_tlv, number_fault, scid_fault, payment_fault, payment_of}
+use Rattle.lgm_payload.specs.reading.Reading.{is_blinded, unknown_fault, record_fault, first_fault, known_in, known_at}
+use Rattle.lgm_payload.specs.reading.Reading.{whole_of, whole, payload_at, fault, text_at, stream_at}
 use Rattle.lgm_payload.proofs.Records.{both_none, lawful_value, each_value, AreTold, fault_at}
 
 -- ---- numbers
@@ -59,7 +63,10 @@ number_is most value few short minimal fits =
     let wide : 256 ^ most ≤ 256 ^ 8 = pow-le-pow_right {n = 256} (omega arith) {i = most} {j = 8} few in
     let lt : number_of value < 2 ^ 64 = omega arith in
     record {
-      spells = same_bytes (number_of value) value (truncated_bytes (number_of value)) (record { digits = digits; minimal = not_zero value minimal; value = refl }) (IsTruncatedInteger-truncated_bytes (number_of value) lt);
+      spells =
+          same_bytes (number_of value) value (truncated_bytes (number_of value))
+          (record { digits = digits; minimal = not_zero value minimal; value = refl })
+          (IsTruncatedInteger-truncated_bytes (number_of value) lt);
       below = omega arith;
     }
 
@@ -156,7 +163,13 @@ record_fault-known kind value none =
                             elim (cases_eq kind 16) [
                               | inl e ↦ inl (inr (inr (inr (inr e))))
                               | inr f ↦
-                                  inr (odd (sym (rw (ne_eqb kind 2 a, ne_eqb kind 4 b, ne_eqb kind 6 c, ne_eqb kind 8 d, ne_eqb kind 16 f) refl) ∙ none))
+                                  inr (odd (sym (rw (
+                                    ne_eqb kind 2 a,
+                                    ne_eqb kind 4 b,
+                                    ne_eqb kind 6 c,
+                                    ne_eqb kind 8 d,
+                                    ne_eqb kind 16 f,
+                                  ) refl) ∙ none))
                             ]
                       ]
                 ]
@@ -215,7 +228,8 @@ whole_is known payload e = by known.amount known.expiry refl refl e
     made : ℕ → ℕ → HopPayload
     made a x = record { amount = a; expiry = x; next = known.next; payment = known.payment; metadata = known.metadata }
 
-    by : (a x : Option ℕ) → known.amount ≡ a → known.expiry ≡ x → whole_of a x known.next known.payment known.metadata ≡ Ok payload → IsWhole known payload
+    by : (a x : Option ℕ) → known.amount ≡ a → known.expiry ≡ x
+        → whole_of a x known.next known.payment known.metadata ≡ Ok payload → IsWhole known payload
     by None x a-is x-is given = absurd cc
     by (Some a) None a-is x-is given = absurd cc
     by (Some a) (Some x) a-is x-is given =
@@ -225,7 +239,8 @@ whole_is known payload e = by known.amount known.expiry refl refl e
 known_ok : (records : List TlvRecord) (known : Known) → known_at records ≡ Ok known → (first_fault records ≡ None) × (known_in records ≡ known)
 known_ok records known e = by (first_fault records) refl e
   where
-    by : (f : Option PayloadFault) → first_fault records ≡ f → unless f (known_in records) ≡ Ok known → (first_fault records ≡ None) × (known_in records ≡ known)
+    by : (f : Option PayloadFault) → first_fault records ≡ f → unless f (known_in records) ≡ Ok known
+        → (first_fault records ≡ None) × (known_in records ≡ known)
     by None is given = (is, ok_is (known_in records) known given)
     by (Some fault) is given = absurd cc
 
@@ -245,7 +260,8 @@ stream_ok (Ok x) l e = ap (λ (y : List TlvRecord). Ok y) (ok_is x l e)
 stream_ok (Err f) l e = absurd cc
 
 -- the value of an option, by a function that spells it
-mapped : {A : Type 0} (spell : A → List ℕ) (of : List ℕ → A) (o : Option (List ℕ)) (x : Option A) → option_map of o ≡ x → ((v : List ℕ) → o ≡ Some v → v ≡ spell (of v)) → o ≡ option_map spell x
+mapped : {A : Type 0} (spell : A → List ℕ) (of : List ℕ → A) (o : Option (List ℕ)) (x : Option A)
+    → option_map of o ≡ x → ((v : List ℕ) → o ≡ Some v → v ≡ spell (of v)) → o ≡ option_map spell x
 mapped spell of None x e each = ap (option_map spell) e
 mapped spell of (Some v) x e each = ap (λ (w : List ℕ). Some w) (each v refl) ∙ ap (option_map spell) e
 
@@ -254,11 +270,13 @@ found_number : (o : Option (List ℕ)) (n : ℕ) → option_map number_of o ≡ 
 found_number None n e = absurd cc
 found_number (Some v) n e = (v, refl, cc)
 
-for_mapped : {A : Type 0} (P : A → Type 0) (of : List ℕ → A) (o : Option (List ℕ)) (x : Option A) → option_map of o ≡ x → ((v : List ℕ) → o ≡ Some v → P (of v)) → ForSome x P
+for_mapped : {A : Type 0} (P : A → Type 0) (of : List ℕ → A) (o : Option (List ℕ)) (x : Option A)
+    → option_map of o ≡ x → ((v : List ℕ) → o ≡ Some v → P (of v)) → ForSome x P
 for_mapped P of None x e each = λ y is. absurd cc
 for_mapped P of (Some v) x e each = λ y is. let same : of v ≡ y = cc in subst P same (each v refl)
 
-fits_of : (records : List TlvRecord) (payload : HopPayload) → first_fault records ≡ None → AllByRecursion (λ r. IsBytes r.value) records → IsWhole (known_in records) payload → Fits payload
+fits_of : (records : List TlvRecord) (payload : HopPayload) → first_fault records ≡ None
+    → AllByRecursion (λ r. IsBytes r.value) records → IsWhole (known_in records) payload → Fits payload
 fits_of records payload none bytes is =
     let amount = found_number (value_of 2 records) payload.amount is.amount in
     let expiry = found_number (value_of 4 records) payload.expiry is.expiry in
@@ -269,12 +287,22 @@ fits_of records payload none bytes is =
     record {
       amount = let lt = a_number.below in let e = amount.2 in omega arith;
       expiry = let lt = x_number.below in let e = expiry.2 in omega arith;
-      next = for_mapped (λ scid. scid < 2 ^ 64) (from_be_bytes w64) (value_of 6 records) payload.next is.next (λ v e. wide64.below v (lawful_value 6 records v none bytes e).fits);
-      secret = for_mapped (λ payment. length payment.secret ≡ 32) payment_of (value_of 8 records) payload.payment is.payment (λ v e. let l = lawful_value 8 records v none bytes e in (payment_lawful v l.faultless l.fits).secret);
-      total = for_mapped (λ payment. payment.total < 2 ^ 64) payment_of (value_of 8 records) payload.payment is.payment (λ v e. let l = lawful_value 8 records v none bytes e in (payment_lawful v l.faultless l.fits).total);
+      next =
+          for_mapped (λ scid. scid < 2 ^ 64) (from_be_bytes w64) (value_of 6 records) payload.next is.next
+          (λ v e. wide64.below v (lawful_value 6 records v none bytes e).fits);
+      secret =
+          for_mapped (λ payment. length payment.secret ≡ 32) payment_of (value_of 8 records) payload.payment
+          is.payment (λ v e. let l = lawful_value 8 records v none bytes e in
+          (payment_lawful v l.faultless l.fits).secret);
+      total =
+          for_mapped (λ payment. payment.total < 2 ^ 64) payment_of (value_of 8 records) payload.payment
+          is.payment (λ v e. let l = lawful_value 8 records v none bytes e in
+          (payment_lawful v l.faultless l.fits).total);
     }
 
-spelled_number : (kind most : ℕ) (o : Option (List ℕ)) (n : ℕ) → most ≤ 8 → option_map number_of o ≡ Some n → ((v : List ℕ) → o ≡ Some v → (number_fault kind most v ≡ None) × IsBytes v) → o ≡ Some (truncated_bytes n)
+spelled_number : (kind most : ℕ) (o : Option (List ℕ)) (n : ℕ) → most ≤ 8 → option_map number_of o ≡ Some n
+    → ((v : List ℕ) → o ≡ Some v → (number_fault kind most v ≡ None) × IsBytes v)
+    → o ≡ Some (truncated_bytes n)
 spelled_number kind most o n few e lawful =
     let found = found_number o n e in
     let l = lawful found.0 found.1 in
@@ -302,10 +330,18 @@ payload_takes bytes payload fits e =
       records = records;
       stream = stream;
       kinds = kinds_of records none;
-      amount = spelled_number 2 8 (value_of 2 records) payload.amount (omega arith) is.amount (λ v there. let l = lawful 2 v there in (l.faultless, l.fits));
-      expiry = spelled_number 4 4 (value_of 4 records) payload.expiry (omega arith) is.expiry (λ v there. let l = lawful 4 v there in (l.faultless, l.fits));
-      next = mapped (to_be_bytes w64) (from_be_bytes w64) (value_of 6 records) payload.next is.next (λ v there. let l = lawful 6 v there in scid_lawful v l.faultless l.fits);
-      payment = mapped payment_bytes payment_of (value_of 8 records) payload.payment is.payment (λ v there. let l = lawful 8 v there in (payment_lawful v l.faultless l.fits).spells);
+      amount =
+          spelled_number 2 8 (value_of 2 records) payload.amount (omega arith) is.amount
+          (λ v there. let l = lawful 2 v there in (l.faultless, l.fits));
+      expiry =
+          spelled_number 4 4 (value_of 4 records) payload.expiry (omega arith) is.expiry
+          (λ v there. let l = lawful 4 v there in (l.faultless, l.fits));
+      next =
+          mapped (to_be_bytes w64) (from_be_bytes w64) (value_of 6 records) payload.next is.next
+          (λ v there. let l = lawful 6 v there in scid_lawful v l.faultless l.fits);
+      payment =
+          mapped payment_bytes payment_of (value_of 8 records) payload.payment is.payment
+          (λ v there. let l = lawful 8 v there in (payment_lawful v l.faultless l.fits).spells);
       metadata = is.metadata;
       fits = fits_of records payload none values is;
       one_way = is.one_way;
@@ -314,18 +350,23 @@ payload_takes bytes payload fits e =
 -- ---- what is spelled so is read
 
 -- an option's value, by what it spells
-spelled_by : {A : Type 0} (spell : A → List ℕ) (P : A → Type 0) (x : Option A) (v : List ℕ) → ForSome x P → option_map spell x ≡ Some v → (y : A) × (v ≡ spell y) × P y
+spelled_by : {A : Type 0} (spell : A → List ℕ) (P : A → Type 0) (x : Option A) (v : List ℕ) → ForSome x P
+    → option_map spell x ≡ Some v → (y : A) × (v ≡ spell y) × P y
 spelled_by spell P None v all e = absurd cc
 spelled_by spell P (Some y) v all e = (y, cc, all y refl)
 
 some_is : {A : Type 0} {a b : A} → Some a ≡ Some b → a ≡ b
 some_is e = cc
 
-paid : (x : Option Payment) (v : List ℕ) → ForSome x (λ payment. length payment.secret ≡ 32) → ForSome x (λ payment. payment.total < 2 ^ 64) → option_map payment_bytes x ≡ Some v → payment_fault v ≡ None
+paid : (x : Option Payment) (v : List ℕ) → ForSome x (λ payment. length payment.secret ≡ 32) → ForSome x
+    (λ payment. payment.total < 2 ^ 64) → option_map payment_bytes x ≡ Some v → payment_fault v ≡ None
 paid None v secret total e = absurd cc
-paid (Some y) v secret total e = let same : payment_bytes y ≡ v = cc in subst (λ w. payment_fault w ≡ None) same (payment_spelled y (secret y refl) (total y refl))
+paid (Some y) v secret total e =
+    let same : payment_bytes y ≡ v = cc in
+    subst (λ w. payment_fault w ≡ None) same (payment_spelled y (secret y refl) (total y refl))
 
-record_lawful : (payload : HopPayload) (bytes : List ℕ) (is : IsPayload payload bytes) (r : TlvRecord) → IsKnown r.kind ⊎ (r.kind % 2 ≡ 1) → value_of r.kind is.records ≡ Some r.value → record_fault r ≡ None
+record_lawful : (payload : HopPayload) (bytes : List ℕ) (is : IsPayload payload bytes) (r : TlvRecord)
+    → IsKnown r.kind ⊎ (r.kind % 2 ≡ 1) → value_of r.kind is.records ≡ Some r.value → record_fault r ≡ None
 record_lawful payload bytes is r (inr odd) there = odd_skipped r.kind r.value odd
 record_lawful payload bytes is r (inl known) there =
     elim known [
@@ -338,7 +379,9 @@ record_lawful payload bytes is r (inl known) there =
             rw (e, v) (number_spelled 4 4 payload.expiry (let lt = is.fits.expiry in omega arith) (omega arith))
         | inr rest ↦ elim rest [
           | inl e ↦
-              let s = spelled_by (to_be_bytes w64) (λ scid. scid < 2 ^ 64) payload.next r.value is.fits.next (sym is.next ∙ sym (ap (λ k. value_of k is.records) e) ∙ there) in
+              let s =
+              spelled_by (to_be_bytes w64) (λ scid. scid < 2 ^ 64) payload.next r.value is.fits.next
+              (sym is.next ∙ sym (ap (λ k. value_of k is.records) e) ∙ there) in
               rw (e, s.1) refl
           | inr last ↦ elim last [
             | inl e ↦
@@ -350,15 +393,19 @@ record_lawful payload bytes is r (inl known) there =
     ]
 
 records_lawful : (payload : HopPayload) (bytes : List ℕ) (is : IsPayload payload bytes) (rs : List TlvRecord)
-    → AllByRecursion (λ r. IsKnown r.kind ⊎ (r.kind % 2 ≡ 1)) rs → AllByRecursion (λ r. value_of r.kind is.records ≡ Some r.value) rs → first_fault rs ≡ None
+    → AllByRecursion (λ r. IsKnown r.kind ⊎ (r.kind % 2 ≡ 1)) rs
+    → AllByRecursion (λ r. value_of r.kind is.records ≡ Some r.value) rs → first_fault rs ≡ None
 records_lawful payload bytes is [] kinds values = refl
-records_lawful payload bytes is (r ∷ rs) kinds values = rw (record_lawful payload bytes is r kinds.0 values.0) (records_lawful payload bytes is rs kinds.1 values.1)
+records_lawful payload bytes is (r ∷ rs) kinds values =
+    rw (record_lawful payload bytes is r kinds.0 values.0)
+    (records_lawful payload bytes is rs kinds.1 values.1)
 
 next_again : (x : Option ℕ) → ForSome x (λ scid. scid < 2 ^ 64) → option_map (from_be_bytes w64) (option_map (to_be_bytes w64) x) ≡ x
 next_again None all = refl
 next_again (Some n) all = ap (λ (m : ℕ). Some m) (wide64.again n (all n refl))
 
-paid_again : (x : Option Payment) → ForSome x (λ payment. length payment.secret ≡ 32) → ForSome x (λ payment. payment.total < 2 ^ 64) → option_map payment_of (option_map payment_bytes x) ≡ x
+paid_again : (x : Option Payment) → ForSome x (λ payment. length payment.secret ≡ 32)
+    → ForSome x (λ payment. payment.total < 2 ^ 64) → option_map payment_of (option_map payment_bytes x) ≡ x
 paid_again None secret total = refl
 paid_again (Some p) secret total = ap (λ (q : Payment). Some q) (payment_again p (secret p refl) (total p refl))
 
@@ -373,25 +420,50 @@ one_test p (inr none) = by p.next
 pub payload_again : (bytes : List ℕ) (payload : HopPayload) → IsPayload payload bytes → payload_at bytes ≡ Ok payload
 unfolding payload_at
 payload_again bytes payload is =
-    let size : behind_len (bigsize_at bytes) ≡ Ok is.text = ap (λ (b : List ℕ). behind_len (bigsize_at b)) is.framed.whole ∙ rw (bigsize_at-bigsize_bytes (length is.text) is.text is.framed.len, eq-eqb (length is.text) (length is.text) refl) refl in
+    let size : behind_len (bigsize_at bytes) ≡ Ok is.text =
+    ap (λ (b : List ℕ). behind_len (bigsize_at b)) is.framed.whole ∙ rw (
+      bigsize_at-bigsize_bytes (length is.text) is.text is.framed.len,
+      eq-eqb (length is.text) (length is.text) refl,
+    ) refl in
     let stream : stream_at is.text ≡ Ok is.records = ap or_tlv (whole_read is.records is.text is.stream) in
     let none = records_lawful payload bytes is is.records is.kinds (each_value None is.records is.stream.rises) in
-    let amount : option_map number_of (value_of 2 is.records) ≡ Some payload.amount = ap (option_map number_of) is.amount ∙ ap (λ (n : ℕ). Some n) (number_again payload.amount is.fits.amount) in
+    let amount : option_map number_of (value_of 2 is.records) ≡ Some payload.amount =
+    ap (option_map number_of) is.amount
+    ∙ ap (λ (n : ℕ). Some n) (number_again payload.amount is.fits.amount) in
     let small : payload.expiry < 2 ^ 64 = let lt = is.fits.expiry in omega arith in
-    let expiry : option_map number_of (value_of 4 is.records) ≡ Some payload.expiry = ap (option_map number_of) is.expiry ∙ ap (λ (n : ℕ). Some n) (number_again payload.expiry small) in
-    let next : option_map (from_be_bytes w64) (value_of 6 is.records) ≡ payload.next = ap (option_map (from_be_bytes w64)) is.next ∙ next_again payload.next is.fits.next in
-    let payment : option_map payment_of (value_of 8 is.records) ≡ payload.payment = ap (option_map payment_of) is.payment ∙ paid_again payload.payment is.fits.secret is.fits.total in
-    let known : known_in is.records ≡ record { amount = Some payload.amount; expiry = Some payload.expiry; next = payload.next; payment = payload.payment; metadata = payload.metadata } = rw (amount, expiry, next, payment, is.metadata) refl in
-    let all : known_at is.records ≡ Ok (record { amount = Some payload.amount; expiry = Some payload.expiry; next = payload.next; payment = payload.payment; metadata = payload.metadata }) = rw (none, known) refl in
+    let expiry : option_map number_of (value_of 4 is.records) ≡ Some payload.expiry =
+    ap (option_map number_of) is.expiry ∙ ap (λ (n : ℕ). Some n) (number_again payload.expiry small) in
+    let next : option_map (from_be_bytes w64) (value_of 6 is.records) ≡ payload.next =
+    ap (option_map (from_be_bytes w64)) is.next ∙ next_again payload.next is.fits.next in
+    let payment : option_map payment_of (value_of 8 is.records) ≡ payload.payment =
+    ap (option_map payment_of) is.payment ∙ paid_again payload.payment is.fits.secret is.fits.total in
+    let known : known_in is.records ≡ record {
+      amount = Some payload.amount;
+      expiry = Some payload.expiry;
+      next = payload.next;
+      payment = payload.payment;
+      metadata = payload.metadata;
+    } =
+    rw (amount, expiry, next, payment, is.metadata) refl in
+    let all : known_at is.records ≡ Ok (record {
+      amount = Some payload.amount;
+      expiry = Some payload.expiry;
+      next = payload.next;
+      payment = payload.payment;
+      metadata = payload.metadata;
+    }) =
+    rw (none, known) refl in
     rw (size, stream, all, one_test payload is.one_way) refl
 
 -- ---- the clauses
 
-pub is_found : (bytes : List ℕ) (r : Result HopPayload PayloadFault) → IsBytes bytes → Gives NoMemory (λ p. p) r (payload_at bytes) → IfOk r (λ p. IsPayload p bytes)
+pub is_found : (bytes : List ℕ) (r : Result HopPayload PayloadFault) → IsBytes bytes
+    → Gives NoMemory (λ p. p) r (payload_at bytes) → IfOk r (λ p. IsPayload p bytes)
 is_found bytes (Ok p) fits given = payload_takes bytes p fits given
 is_found bytes (Err e) fits given = tt
 
-pub is_only : (bytes : List ℕ) (r : Result HopPayload PayloadFault) (p : HopPayload) → Gives NoMemory (λ p. p) r (payload_at bytes) → IsPayload p bytes → MatchResult r (λ found. found ≡ p) (λ e. e ≡ NoMemory)
+pub is_only : (bytes : List ℕ) (r : Result HopPayload PayloadFault) (p : HopPayload) → Gives NoMemory (λ p. p)
+    r (payload_at bytes) → IsPayload p bytes → MatchResult r (λ found. found ≡ p) (λ e. e ≡ NoMemory)
 is_only bytes (Ok x) p given is = ok_is x p (sym given ∙ payload_again bytes p is)
 is_only bytes (Err e) p given is =
     elim given [
@@ -416,7 +488,8 @@ faultless p b is = ap result_err (payload_again b p is)
 
 -- ---- the length in front
 
-pub text_found : (bytes : List ℕ) (len front : ℕ) (text : List ℕ) → ReadsBig bytes (Ok (len, front)) → len ≡ length bytes - front → text ≡ drop front bytes → text_at bytes ≡ Ok text
+pub text_found : (bytes : List ℕ) (len front : ℕ) (text : List ℕ) → ReadsBig bytes (Ok (len, front))
+    → len ≡ length bytes - front → text ≡ drop front bytes → text_at bytes ≡ Ok text
 text_found bytes len front text reads size is =
     let same : eqb len (length (drop front bytes)) ≡ true = eq-eqb _ _ (omega (arith, length-drop front bytes)) in
     ap behind_len (big_found bytes len front reads) ∙ rw (is, same) refl
@@ -426,14 +499,16 @@ text_other bytes len front reads size =
     let other : eqb len (length (drop front bytes)) ≡ false = ne_eqb _ _ (λ e. size (omega (arith, length-drop front bytes))) in
     ap behind_len (big_found bytes len front reads) ∙ rw other refl
 
-pub text_none : (bytes : List ℕ) (result : Result (ℕ × ℕ) WireFault) (e : WireFault) → IsBytes bytes → result ≡ Err e → ReadsBig bytes result → text_at bytes ≡ Err Length
+pub text_none : (bytes : List ℕ) (result : Result (ℕ × ℕ) WireFault) (e : WireFault) → IsBytes bytes
+    → result ≡ Err e → ReadsBig bytes result → text_at bytes ≡ Err Length
 text_none bytes result e fits failed reads =
     let f = big_not_found bytes result e fits failed reads in
     ap behind_len f.1
 
 -- ---- a record at fault ends a loop
 
-pub told_fails : (tlvs : List Tlv) (i : ℕ) (d : Tlv) (known : Known) (fault : PayloadFault) → i < length tlvs → AreTold (records_of (take i tlvs)) known
+pub told_fails : (tlvs : List Tlv) (i : ℕ) (d : Tlv) (known : Known) (fault : PayloadFault) → i < length tlvs
+    → AreTold (records_of (take i tlvs)) known
     → (fault ≡ NoMemory) ⊎ (record_fault (record_of (get_or tlvs i d)) ≡ Some fault) → (fault ≡ NoMemory) ⊎ (known_at (records_of tlvs) ≡ Err fault)
 told_fails tlvs i d known fault lt told (inl none) = inl none
 told_fails tlvs i d known fault lt told (inr is) = inr (rw (fault_at tlvs i d known fault lt told is) refl)

@@ -1,5 +1,6 @@
 -- The values of records, and their faults, record by record.
-use Rattle.std.proofs.Common.{◌≡◌, ℕ, ◌+◌, ◌<◌, ◌≤◌, Bool, true, false, cond, eqb, List, [], ◌∷◌, ◌++◌, length, get_or, take, drop, Option, Some, None, refl, sym, ap, subst, ◌∙◌, arith, inl, inr}
+use Rattle.std.proofs.Common.{◌≡◌, ℕ, ◌+◌, ◌<◌, ◌≤◌, Bool, true, false, cond, eqb, List, [], ◌∷◌, ◌++◌, length, get_or}
+use Rattle.std.proofs.Common.{take, drop, Option, Some, None, refl, sym, ap, subst, ◌∙◌, arith, inl, inr}
 use Rattle.std.specs.List.{AllByRecursion}
 use Rattle.std.specs.Option.{option_map}
 use Rattle.std.proofs.lemmas.Bool.{eqb-true, eq-eqb, ne_eqb}
@@ -17,11 +18,13 @@ use Rattle.lgm_payload.specs.reading.Reading.{record_fault, or_later, first_faul
 
 -- ---- one more record
 
-before_cond : (kind : ℕ) (x : TlvRecord) (b : Bool) (v : List ℕ) (o : Option (List ℕ)) → value_before kind x (cond b (Some v) o) ≡ cond b (Some v) (value_before kind x o)
+before_cond : (kind : ℕ) (x : TlvRecord) (b : Bool) (v : List ℕ) (o : Option (List ℕ))
+    → value_before kind x (cond b (Some v) o) ≡ cond b (Some v) (value_before kind x o)
 before_cond kind x true v o = refl
 before_cond kind x false v o = refl
 
-pub value_of-push : (kind : ℕ) (xs : List TlvRecord) (r : TlvRecord) → value_of kind (xs ++ r ∷ []) ≡ cond (eqb r.kind kind) (Some r.value) (value_of kind xs)
+pub value_of-push : (kind : ℕ) (xs : List TlvRecord) (r : TlvRecord)
+    → value_of kind (xs ++ r ∷ []) ≡ cond (eqb r.kind kind) (Some r.value) (value_of kind xs)
 value_of-push kind [] r = refl
 value_of-push kind (x ∷ xs) r = ap (value_before kind x) (value_of-push kind xs r) ∙ before_cond kind x (eqb r.kind kind) r.value (value_of kind xs)
 
@@ -29,7 +32,9 @@ map_cond : {A B : Type 0} (f : A → B) (b : Bool) (v : A) (o : Option A) → op
 map_cond f true v o = refl
 map_cond f false v o = refl
 
-told_push : {B : Type 0} (f : List ℕ → B) (kind : ℕ) (xs : List TlvRecord) (r : TlvRecord) → option_map f (value_of kind (xs ++ r ∷ [])) ≡ cond (eqb r.kind kind) (Some (f r.value)) (option_map f (value_of kind xs))
+told_push : {B : Type 0} (f : List ℕ → B) (kind : ℕ) (xs : List TlvRecord) (r : TlvRecord)
+    → option_map f (value_of kind (xs ++ r ∷ []))
+    ≡ cond (eqb r.kind kind) (Some (f r.value)) (option_map f (value_of kind xs))
 told_push f kind xs r = ap (option_map f) (value_of-push kind xs r) ∙ map_cond f (eqb r.kind kind) r.value (value_of kind xs)
 
 pub known_in-push : (xs : List TlvRecord) (r : TlvRecord) → known_in (xs ++ r ∷ []) ≡ with_record (known_in xs) r
@@ -60,11 +65,13 @@ pub record AreTold (records : List TlvRecord) (known : Known) : Type 0 where
   pub is : known ≡ known_in records
 
 -- the records up to a place, and the one there
-records_more : (tlvs : List Tlv) (i : ℕ) (d : Tlv) → i < length tlvs → records_of (take (i + 1) tlvs) ≡ records_of (take i tlvs) ++ record_of (get_or tlvs i d) ∷ []
+records_more : (tlvs : List Tlv) (i : ℕ) (d : Tlv) → i < length tlvs
+    → records_of (take (i + 1) tlvs) ≡ records_of (take i tlvs) ++ record_of (get_or tlvs i d) ∷ []
 records_more tlvs i d lt = ap records_of (take_more tlvs i d lt) ∙ map-append record_of (take i tlvs) (get_or tlvs i d ∷ [])
 
 pub told_more : (tlvs : List Tlv) (i : ℕ) (d : Tlv) (known after : Known) → i < length tlvs → AreTold (records_of (take i tlvs)) known
-    → record_fault (record_of (get_or tlvs i d)) ≡ None → after ≡ with_record known (record_of (get_or tlvs i d)) → AreTold (records_of (take (i + 1) tlvs)) after
+    → record_fault (record_of (get_or tlvs i d)) ≡ None
+    → after ≡ with_record known (record_of (get_or tlvs i d)) → AreTold (records_of (take (i + 1) tlvs)) after
 told_more tlvs i d known after lt told none is =
     let r : TlvRecord = record_of (get_or tlvs i d) in
     let xs : List TlvRecord = records_of (take i tlvs) in
@@ -73,7 +80,8 @@ told_more tlvs i d known after lt told none is =
       is = is ∙ ap (λ k. with_record k r) told.is ∙ sym (known_in-push xs r);
     })
 
-pub told_all : (tlvs : List Tlv) (i : ℕ) (known : Known) → length tlvs ≤ i → AreTold (records_of (take i tlvs)) known → AreTold (records_of tlvs) known
+pub told_all : (tlvs : List Tlv) (i : ℕ) (known : Known) → length tlvs ≤ i
+    → AreTold (records_of (take i tlvs)) known → AreTold (records_of tlvs) known
 told_all tlvs i known le told = subst (λ ts. AreTold (records_of ts) known) (take_all i tlvs le) told
 
 pub fault_at : (tlvs : List Tlv) (i : ℕ) (d : Tlv) (known : Known) (fault : PayloadFault) → i < length tlvs → AreTold (records_of (take i tlvs)) known
@@ -82,7 +90,9 @@ fault_at tlvs i d known fault lt told is =
     let r : TlvRecord = record_of (get_or tlvs i d) in
     let xs : List TlvRecord = records_of (take i tlvs) in
     let ys : List TlvRecord = records_of (drop (i + 1) tlvs) in
-    let parts : records_of tlvs ≡ xs ++ r ∷ ys = ap records_of (sym (take-append-drop i tlvs)) ∙ map-append record_of (take i tlvs) (drop i tlvs) ∙ ap (λ zs. xs ++ records_of zs) (drop_more tlvs i d lt) in
+    let parts : records_of tlvs ≡ xs ++ r ∷ ys =
+    ap records_of (sym (take-append-drop i tlvs)) ∙ map-append record_of (take i tlvs) (drop i tlvs)
+    ∙ ap (λ zs. xs ++ records_of zs) (drop_more tlvs i d lt) in
     ap first_fault parts ∙ first_fault-none xs (r ∷ ys) told.faultless ∙ ap (λ f. or_later f (first_fault ys)) is
 
 -- ---- the value of a type
@@ -97,11 +107,14 @@ same_value a b e = cc
 
 lawful_here : (kind : ℕ) (r : TlvRecord) (v : List ℕ) → r.kind ≡ kind → r.value ≡ v → record_fault r ≡ None → IsBytes r.value → IsLawful kind v
 lawful_here kind r v k e none fits = record {
-  faultless = subst (λ x. record_fault (record { kind = x; value = v }) ≡ None) k (subst (λ x. record_fault (record { kind = r.kind; value = x }) ≡ None) e none);
+  faultless =
+      subst (λ x. record_fault (record { kind = x; value = v }) ≡ None) k
+      (subst (λ x. record_fault (record { kind = r.kind; value = x }) ≡ None) e none);
   fits = subst IsBytes e fits;
 }
 
-lawful_one : (kind : ℕ) (r : TlvRecord) (v : List ℕ) (o : Option (List ℕ)) → record_fault r ≡ None → IsBytes r.value → (o ≡ Some v → IsLawful kind v) → value_before kind r o ≡ Some v → IsLawful kind v
+lawful_one : (kind : ℕ) (r : TlvRecord) (v : List ℕ) (o : Option (List ℕ)) → record_fault r ≡ None
+    → IsBytes r.value → (o ≡ Some v → IsLawful kind v) → value_before kind r o ≡ Some v → IsLawful kind v
 lawful_one kind r v (Some w) none fits later e = later e
 lawful_one kind r v None none fits later e =
     elim (chosen (eqb r.kind kind) (Some r.value) None (Some v) e) [
@@ -109,7 +122,8 @@ lawful_one kind r v None none fits later e =
       | inr other ↦ absurd cc
     ]
 
-pub lawful_value : (kind : ℕ) (rs : List TlvRecord) (v : List ℕ) → first_fault rs ≡ None → AllByRecursion (λ r. IsBytes r.value) rs → value_of kind rs ≡ Some v → IsLawful kind v
+pub lawful_value : (kind : ℕ) (rs : List TlvRecord) (v : List ℕ) → first_fault rs ≡ None
+    → AllByRecursion (λ r. IsBytes r.value) rs → value_of kind rs ≡ Some v → IsLawful kind v
 lawful_value kind [] v none fits is = absurd cc
 lawful_value kind (r ∷ rs) v none fits is =
     let both = both_none (record_fault r) (first_fault rs) none in
@@ -126,12 +140,15 @@ absent kind last (r ∷ rs) rises le =
 value_behind : (kind : ℕ) (r : TlvRecord) (rs : List TlvRecord) (v : List ℕ) → value_of kind rs ≡ Some v → value_of kind (r ∷ rs) ≡ Some v
 value_behind kind r rs v is = ap (value_before kind r) is
 
-values_behind : (r : TlvRecord) (rs xs : List TlvRecord) → AllByRecursion (λ x. value_of x.kind rs ≡ Some x.value) xs → AllByRecursion (λ x. value_of x.kind (r ∷ rs) ≡ Some x.value) xs
+values_behind : (r : TlvRecord) (rs xs : List TlvRecord) → AllByRecursion (λ x. value_of x.kind rs
+    ≡ Some x.value) xs → AllByRecursion (λ x. value_of x.kind (r ∷ rs) ≡ Some x.value) xs
 values_behind r rs [] all = tt
 values_behind r rs (x ∷ xs) all = (value_behind x.kind r rs x.value all.0, values_behind r rs xs all.1)
 
 pub each_value : (last : Option ℕ) (rs : List TlvRecord) → RisesFrom last rs → AllByRecursion (λ r. value_of r.kind rs ≡ Some r.value) rs
 each_value last [] rises = tt
 each_value last (r ∷ rs) rises =
-    let head : value_of r.kind (r ∷ rs) ≡ Some r.value = ap (value_before r.kind r) (absent r.kind r.kind rs rises.1 (omega arith)) ∙ rw (eq-eqb r.kind r.kind refl) refl in
+    let head : value_of r.kind (r ∷ rs) ≡ Some r.value =
+    ap (value_before r.kind r) (absent r.kind r.kind rs rises.1 (omega arith))
+    ∙ rw (eq-eqb r.kind r.kind refl) refl in
     (head, values_behind r rs rs (each_value (Some r.kind) rs rises.1))

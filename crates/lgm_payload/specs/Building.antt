@@ -7,7 +7,14 @@ use Rattle.lgm_payload.specs.HopPayload.{payload_bytes, IsPayload}
 
 -- the payload of the node before a hop
 abbrev pub forward : Hop → HopPayload
-forward next = record { amount = next.amount; expiry = next.expiry; next = Some next.scid; payment = None; metadata = None }
+forward next =
+    record {
+      amount = next.amount;
+      expiry = next.expiry;
+      next = Some next.scid;
+      payment = None;
+      metadata = None;
+    }
 
 -- the payload of the node at the end of the last hop
 abbrev pub arrival : List ℕ → Hop → HopPayload
@@ -43,4 +50,5 @@ pub record IsSized (hop : Hop) : Type 0 where
 -- each payload of a route encodes what it was built from
 abbrev pub BuiltIsSpelled : Type 0
 BuiltIsSpelled =
-    (secret : List ℕ) (hops : List Hop) → length secret ≡ 32 → AllByRecursion IsSized hops → AllZip IsPayload (told secret hops) (payloads_of secret hops)
+    (secret : List ℕ) (hops : List Hop) → length secret ≡ 32 → AllByRecursion IsSized hops
+    → AllZip IsPayload (told secret hops) (payloads_of secret hops)

@@ -1,10 +1,12 @@
 //! Parsing of payloads.
 
-ghost use Rattle.std.specs.Prelude.{◌≡◌, ◌⊎◌, ℕ, List, IfOk, IfErr, MatchResult, Some, None, ◌<◌, ◌≤◌, ◌^◌, slice_index};
+ghost use Rattle.std.specs.Prelude.{◌≡◌, ◌⊎◌, ℕ, List, IfOk, IfErr, MatchResult};
+ghost use Rattle.std.specs.Prelude.{Some, None, ◌<◌, ◌≤◌, ◌^◌, slice_index};
 ghost use Rattle.lgm_wire.specs.reading.Reading.{Sees, Gives};
 ghost use Rattle.lgm_wire.specs.TlvView.{record_of, records_of};
 ghost use Rattle.lgm_payload.specs.HopPayload.{IsPayload};
-ghost use Rattle.lgm_payload.specs.reading.Reading.{number_at, scid_at, payment_at, text_at, stream_at, IsTaken, known_at, whole, payload_at, fault};
+ghost use Rattle.lgm_payload.specs.reading.Reading.{number_at, scid_at, payment_at, text_at, stream_at};
+ghost use Rattle.lgm_payload.specs.reading.Reading.{IsTaken, known_at, whole, payload_at, fault};
 ghost use Rattle.lgm_payload.specs.declared.hop_payload.HopPayload.{HopPayload};
 
 use crate::fault::PayloadFault;
@@ -139,7 +141,7 @@ fn payload(known: Known) -> Result<HopPayload, PayloadFault>
 }
 
 /// Parses a payload, which begins with its length.
-#[tactic(auto, unfolding(crate::specs::Reading::payload_at))]
+#[tactic(auto, unfolding(crate::specs::reading::Reading::payload_at))]
 fn parse(alloc: Global, bytes: &[u8]) -> Result<HopPayload, PayloadFault>
     ensures { Gives PayloadFault.NoMemory (λ payload. payload) result (payload_at bytes.now) }
 {

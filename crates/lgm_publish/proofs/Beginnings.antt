@@ -1,5 +1,6 @@
 -- Lists of which one begins with another.
-use Rattle.std.proofs.Common.{◌≡◌, ℕ, ◌≤◌, ◌<◌, Bool, true, false, leb, MatchBool, List, [], ◌∷◌, ◌++◌, length, refl, ap, sym, ◌∙◌, arith, append_assoc}
+use Rattle.std.proofs.Common.{◌≡◌, ℕ, ◌≤◌, ◌<◌, Bool, true, false, leb, MatchBool, List, []}
+use Rattle.std.proofs.Common.{◌∷◌, ◌++◌, length, refl, ap, sym, ◌∙◌, arith, append_assoc}
 use Rattle.std.proofs.lemmas.List.{append-nil}
 use Rattle.std.proofs.lemmas.Bool.Decides.{nat_tests}
 use mathlib.Core.List.{IsPrefix}
@@ -38,10 +39,12 @@ pub joined_prefix : {A : Type 0} (xs ys : List (List A)) → IsPrefix xs ys → 
 joined_prefix xs ys p = (joined p.0, sym (joined_append xs p.0) ∙ ap joined p.1)
 
 -- two that one book has reached, of which the first is no longer
-pub joined_shorter : {A : Type 0} (xs ys zs : List (List A)) → IsPrefix xs zs → IsPrefix ys zs → length (joined xs) ≤ length (joined ys) → IsPrefix (joined xs) (joined ys)
+pub joined_shorter : {A : Type 0} (xs ys zs : List (List A)) → IsPrefix xs zs → IsPrefix ys zs
+    → length (joined xs) ≤ length (joined ys) → IsPrefix (joined xs) (joined ys)
 joined_shorter xs ys zs p q le = prefix_shorter (joined xs) (joined ys) (joined zs) (joined_prefix xs zs p) (joined_prefix ys zs q) le
 
-compares : {A : Type 0} (xs ys zs : List (List A)) (m n : ℕ) (b : Bool) → leb m n ≡ b → m ≡ length (joined xs) → n ≡ length (joined ys) → IsPrefix xs zs → IsPrefix ys zs
+compares : {A : Type 0} (xs ys zs : List (List A)) (m n : ℕ) (b : Bool) → leb m n ≡ b → m ≡ length (joined xs)
+    → n ≡ length (joined ys) → IsPrefix xs zs → IsPrefix ys zs
     → MatchBool b (IsPrefix (joined xs) (joined ys)) (IsPrefix (joined ys) (joined xs))
 compares xs ys zs m n true is mx ny p q = let le : m ≤ n = grind (arith, nat_tests) in joined_shorter xs ys zs p q (omega (arith, mx, ny))
 compares xs ys zs m n false is mx ny p q = let lt : n < m = grind (arith, nat_tests) in joined_shorter ys xs zs q p (omega (arith, mx, ny))

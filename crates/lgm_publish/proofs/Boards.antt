@@ -1,5 +1,6 @@
 -- Each kind of step keeps the rule of a board.
-use Rattle.std.proofs.Common.{◌≡◌, Result, Ok, Err, ℕ, ◌+◌, ◌≤◌, ◌==◌, ◌≢◌, Bool, true, false, fold, length, length-append, append_assoc, arith, Option, Some, None, List, [], ◌∷◌, ◌++◌, set, refl, sym, ap, ◌∙◌, subst, ⊎_elim}
+use Rattle.std.proofs.Common.{◌≡◌, Result, Ok, Err, ℕ, ◌+◌, ◌≤◌, ◌==◌, ◌≢◌, Bool, true, false, fold, length, length-append, append_assoc}
+use Rattle.std.proofs.Common.{arith, Option, Some, None, List, [], ◌∷◌, ◌++◌, set, refl, sym, ap, ◌∙◌, subst, ⊎_elim}
 use Rattle.std.proofs.lemmas.List.{append-nil}
 use Rattle.std.proofs.lemmas.Bool.Decides.{nat_tests}
 use mathlib.Core.Option.{some, some-ne-none}
@@ -45,7 +46,9 @@ follows_trans a b c p q = (q.0 ∙ p.0, (q.1.0 ∙ p.1.0, prefix_trans a.told.op
 
 refits : (shown : Contents) (views : List Last) (seat : ℕ) (w : Last) → FitAll shown views → Fits shown w → FitAll shown (set views seat w)
 refits shown views seat w h fits j first e =
-    ⊎_elim (λ (t : (j ≡ seat) × (w ≡ Some first)). fits first t.1) (λ (t : (j ≢ seat) × (get_elem? views j ≡ some (Some first))). h j first t.1) (at_set views seat j w (Some first) e)
+    ⊎_elim (λ (t : (j ≡ seat) × (w ≡ Some first)). fits first t.1)
+    (λ (t : (j ≢ seat) × (get_elem? views j ≡ some (Some first))). h j first t.1)
+    (at_set views seat j w (Some first) e)
 
 one_more : (shown : Contents) (views : List Last) (w : Last) → FitAll shown views → Fits shown w → FitAll shown (views ++ w ∷ [])
 one_more shown views w h fits j first e = ⊎_elim (h j first) (λ (same : w ≡ Some first). fits first same) (at_snoc views w (Some first) j e)
@@ -61,11 +64,14 @@ admits x views h = (h.0, one_more x views None h.1 (fits_none x))
 
 -- an empty edition, seen by nobody
 pub opens : (x : Contents) → x.rows ≡ empty → x.absorbed ≡ 0 → x.told.ops ≡ [] → Holds x (None ∷ [])
-opens x rows none ops =
-    ((rows ∙ sym (ap store.fold ops), none ∙ sym (ap length ops)), one_more x [] None (λ seat first at. absurd (some-ne-none (Some first) (sym at))) (fits_none x))
+opens x rows none ops = (
+  (rows ∙ sym (ap store.fold ops), none ∙ sym (ap length ops)),
+  one_more x [] None (λ seat first at. absurd (some-ne-none (Some first) (sym at))) (fits_none x),
+)
 
 -- a step that shows y in place of x, or takes it where they are the same
-pub sees : (seat : ℕ) (v : Last) (x y : Contents) → (IsFold x → IsFold y) → (IsFold x → Follows x y) → TurnsAt Holds seat v x y (λ v _ y w. Sees v y w)
+pub sees : (seat : ℕ) (v : Last) (x y : Contents) → (IsFold x → IsFold y) → (IsFold x → Follows x y)
+    → TurnsAt Holds seat v x y (λ v _ y w. Sees v y w)
 sees seat v x y folds follows views h at =
     let h' : FitAll y views = λ j first e. follows_trans first x y (h.1 j first e) (follows h.0) in (
       Some y,
@@ -82,7 +88,10 @@ forks seat v x views h at =
 -- another thread takes it in
 pub merges : (seat : ℕ) (v : Last) (other : ℕ) (w : Last) → Merges Holds seat v other w w None
 merges seat v other w x views h at apart there =
-    let theirs = ⊎_elim (λ (t : (other ≡ seat) × (w ≡ w)). absurd (apart t.0)) (λ (t : (other ≢ seat) × (get_elem? views other ≡ some w)). fits_at x views other w h.1 t.1) (at_set views seat other w w there) in
+    let theirs =
+    ⊎_elim (λ (t : (other ≡ seat) × (w ≡ w)). absurd (apart t.0))
+    (λ (t : (other ≢ seat) × (get_elem? views other ≡ some w)). fits_at x views other w h.1 t.1)
+    (at_set views seat other w w there) in
     (h.0, refits x (set views seat w) other None (refits x views seat w h.1 theirs) (fits_none x))
 
 -- ---- what entries make of an edition
@@ -147,7 +156,11 @@ publishes seat v x y es come few is =
     let long = length-append x.told.ops (ops_of es) in
     let done : (f : IsFold x) → Absorbs x es y = λ f. subst (Absorbs x es) (sym is) (absorbs x es (omega (arith, f.1, long, few))) in
     sees seat v x y
-    (λ f. rw told ((done f).0 ∙ (ap (λ rows. fold_from rows (ops_of es)) f.0 ∙ sym (fold_append empty x.told.ops (ops_of es))), omega (arith, (done f).1, f.1, long)))
+    (λ f. rw told (
+      (done f).0 ∙ (ap (λ rows. fold_from rows (ops_of es)) f.0
+          ∙ sym (fold_append empty x.told.ops (ops_of es))),
+      omega (arith, (done f).1, f.1, long),
+    ))
     (λ f. (known, rw told (refl, (ops_of es, refl))))
 
 -- ---- the entries
@@ -177,11 +190,21 @@ pub ops_absorb : (es : List Entry) (op : Op) → ops_of (es ++ Absorb op ∷ [])
 ops_absorb es op = ops_append es (Absorb op ∷ [])
 
 -- what the pen's book has begins the whole, also after one more operation
-pub appends : (noted k : History) (es fs : List Entry) (op : Op) (n : ℕ) → ops_of fs ≡ ops_of es ++ op ∷ [] → GoesOn noted (whole k es) → n ≡ length (whole k es).ops
+pub appends : (noted k : History) (es fs : List Entry) (op : Op) (n : ℕ) → ops_of fs ≡ ops_of es ++ op ∷ []
+    → GoesOn noted (whole k es) → n ≡ length (whole k es).ops
     → GoesOn noted (whole k fs) × (n + 1 ≡ length (whole k fs).ops)
 appends noted k es fs op n is h count =
-    let longer : k.ops ++ ops_of fs ≡ (k.ops ++ ops_of es) ++ op ∷ [] = ap (λ w. k.ops ++ w) is ∙ sym (append_assoc k.ops (ops_of es) (op ∷ [])) in
-    ((h.0, (h.1.0 ++ op ∷ [], sym (append_assoc noted.ops h.1.0 (op ∷ [])) ∙ (ap (λ w. w ++ op ∷ []) h.1.1 ∙ sym longer))), omega (arith, count, ap length longer, length-append (k.ops ++ ops_of es) (op ∷ [])))
+    let longer : k.ops ++ ops_of fs ≡ (k.ops ++ ops_of es) ++ op ∷ [] = ap (λ w. k.ops ++ w) is ∙ sym (append_assoc k.ops (ops_of es) (op ∷ [])) in (
+      (
+        h.0,
+        (
+          h.1.0 ++ op ∷ [],
+          sym (append_assoc noted.ops h.1.0 (op ∷ []))
+              ∙ (ap (λ w. w ++ op ∷ []) h.1.1 ∙ sym longer),
+        ),
+      ),
+      omega (arith, count, ap length longer, length-append (k.ops ++ ops_of es) (op ∷ [])),
+    )
 
 -- the book has the whole, where it went on to it
 pub noted_whole : (noted new k l : History) → GoesOn noted k → new.board ≡ noted.board → new.ops ≡ k.ops → l ≡ k → GoesOn new l

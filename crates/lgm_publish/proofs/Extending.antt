@@ -28,7 +28,9 @@ module _ (v : List (List Op)) (ask : List Op) (old new : ℕ) where
       let same : joined v ≡ joined log = prefix_whole (joined v) (joined log) (joined_prefix v log pre) (omega arith) in
       let whole : joined (log ++ more.0 ∷ []) ≡ ask =
       joined_append log (more.0 ∷ []) ∙ (ap (λ w. joined log ++ w) (append-nil more.0) ∙ (ap (λ w. w ++ more.0) (sym same) ∙ more.1)) in
-      let n : either (length (joined log) == old) new (length (joined log)) ≡ length (joined (log ++ more.0 ∷ [])) = rw is (sym all ∙ sym (ap length whole)) in (
+      let n : either (length (joined log) == old) new (length (joined log))
+      ≡ length (joined (log ++ more.0 ∷ [])) =
+      rw is (sym all ∙ sym (ap length whole)) in (
         keeps,
         more.0 ∷ [],
         None,
@@ -38,7 +40,8 @@ module _ (v : List (List Op)) (ask : List Op) (old new : ℕ) where
         rw is whole,
       )
   extends_goes log len all more pre false is =
-      let n : either (length (joined log) == old) new (length (joined log)) ≡ length (joined (log ++ [])) = rw is (ap (λ w. length (joined w)) (sym (append-nil log))) in (
+      let n : either (length (joined log) == old) new (length (joined log)) ≡ length (joined (log ++ [])) =
+      rw is (ap (λ w. length (joined w)) (sym (append-nil log))) in (
         keeps,
         [],
         None,

@@ -1,5 +1,6 @@
 -- What holds of a world after any events.
-use Rattle.std.proofs.Common.{◌≡◌, ◌⊎◌, inl, inr, ℕ, ◌+◌, ◌<◌, ◌≤◌, ◌==◌, Bool, true, false, Option, List, [], ◌∷◌, ◌++◌, length, take, drop, length-append, append_assoc, refl, sym, ap, ◌∙◌, subst, arith}
+use Rattle.std.proofs.Common.{◌≡◌, ◌⊎◌, inl, inr, ℕ, ◌+◌, ◌<◌, ◌≤◌, ◌==◌, Bool, true, false, Option, List, [], ◌∷◌, ◌++◌}
+use Rattle.std.proofs.Common.{length, take, drop, length-append, append_assoc, refl, sym, ap, ◌∙◌, subst, arith}
 use Rattle.std.specs.Prelude.{Contains}
 use Rattle.std.proofs.lemmas.List.{append-nil, take-append-le, take_all, take-take, take-append-drop, length-replicate}
 use Rattle.std.proofs.lemmas.Bool.Decides.{nat_tests}
@@ -13,7 +14,8 @@ use Rattle.lgm_publish.specs.World.{Standing, opening, marks, marks_of, publishe
 use Rattle.lgm_publish.specs.Laws.{world_of, brought_by, AreAppended, AreAnswered, WerePublished, ArePublished, AreEntered, NeverShrink, StayInOrder}
 use Rattle.lgm_publish.proofs.Beginnings.{prefix_self, prefix_trans}
 use Rattle.lgm_publish.proofs.Worlds.{ordered_opening}
-use Rattle.lgm_publish.proofs.Steps.{chosen, not_refused, ordered_step, entered_bound, EntersBy, entered_step, entered_at, PublishesBy, published_step, SameBoard, board_step}
+use Rattle.lgm_publish.proofs.Steps.{chosen, not_refused, ordered_step, entered_bound, EntersBy, entered_step}
+use Rattle.lgm_publish.proofs.Steps.{entered_at, PublishesBy, published_step, SameBoard, board_step}
 
 -- ---- lists of events
 
@@ -29,7 +31,8 @@ by_last_from P step before [] here = subst P (sym (append-nil before)) here
 by_last_from P step before (event ∷ events) here =
     subst P (append_assoc before (event ∷ []) events) (by_last_from P step (before ++ event ∷ []) events (step before event here))
 
-by_last : (P : List Event → Type 0) → P [] → ((events : List Event) (event : Event) → P events → P (events ++ event ∷ [])) → (events : List Event) → P events
+by_last : (P : List Event → Type 0) → P [] → ((events : List Event) (event : Event) → P events
+    → P (events ++ event ∷ [])) → (events : List Event) → P events
 by_last P start step events = by_last_from P step [] events start
 
 -- an event that isn't in a list is neither its first one nor in the rest
@@ -73,17 +76,26 @@ opens_empty known eyes eye = take-nil (marks_of (opening known eyes) eye).entere
 
 -- the list is empty, or all that was appended at a publication before
 abbrev Was : Option (List ℕ) → ℕ → List Event → List Op → Type 0
-Was known eyes events ops = (ops ≡ []) ⊎ ((before later : List Event) × (events ≡ before ++ Publish ∷ later) × (ops ≡ (world_of known eyes before).appended))
+Was known eyes events ops =
+    (ops ≡ []) ⊎ ((before later : List Event) × (events ≡ before ++ Publish ∷ later)
+    × (ops ≡ (world_of known eyes before).appended))
 
 module _ (known : Option (List ℕ)) (eyes : ℕ) where
   was_more : (events : List Event) (event : Event) (ops : List Op) → Was known eyes events ops → Was known eyes (events ++ event ∷ []) ops
   was_more events event ops (inl none) = inl none
-  was_more events event ops (inr at) = inr (at.0, at.1 ++ event ∷ [], ap (λ l. l ++ event ∷ []) at.2 ∙ append_assoc at.0 (Publish ∷ at.1) (event ∷ []), at.3)
+  was_more events event ops (inr at) =
+      inr (
+        at.0,
+        at.1 ++ event ∷ [],
+        ap (λ l. l ++ event ∷ []) at.2 ∙ append_assoc at.0 (Publish ∷ at.1) (event ∷ []),
+        at.3,
+      )
 
   -- what is published was published, and what each eye took
   abbrev AllWere : List Event → Type 0
   AllWere events =
-      Was known eyes events (published_in (world_of known eyes events)) × ((eye : ℕ) → Was known eyes events (entered_by (world_of known eyes events) eye))
+      Was known eyes events (published_in (world_of known eyes events))
+      × ((eye : ℕ) → Was known eyes events (entered_by (world_of known eyes events) eye))
 
   were_step : (events : List Event) (event : Event) → AllWere events → AllWere (events ++ event ∷ [])
   were_step events event h =
@@ -92,7 +104,8 @@ module _ (known : Option (List ℕ)) (eyes : ℕ) where
       let ordered = stay_in_order known eyes events in
       rw next (publishes world (h.0) (published_step world event ordered), λ eye. enters world eye (entered_step world event eye ordered))
     where
-      publishes : (world : Standing) → Was known eyes events (published_in (world_of known eyes events)) → PublishesBy (world_of known eyes events) event (stepped (world_of known eyes events) event)
+      publishes : (world : Standing) → Was known eyes events (published_in (world_of known eyes events))
+          → PublishesBy (world_of known eyes events) event (stepped (world_of known eyes events) event)
           → Was known eyes (events ++ event ∷ []) (published_in (stepped (world_of known eyes events) event))
       publishes world was (inl same) = rw same (was_more events event (published_in (world_of known eyes events)) was)
       publishes world was (inr new) = inr (events, [], ap (λ e. events ++ e ∷ []) new.0, new.1)
@@ -109,7 +122,8 @@ pub were_published : WerePublished
 were_published known eyes events eye = (all_were known eyes events).1 eye
 
 -- with no publication, what is published stays
-unpublished : (world : Standing) (events : List Event) → IsOrdered world → ¬ Contains events Publish → published_in (world_after world events) ≡ published_in world
+unpublished : (world : Standing) (events : List Event) → IsOrdered world → ¬ Contains events Publish
+    → published_in (world_after world events) ≡ published_in world
 unpublished world [] h none = refl
 unpublished world (event ∷ events) h none =
     let rest = unpublished (stepped world event) events (ordered_step world event h) (not_later Publish event events none) in
@@ -128,7 +142,8 @@ are_published = record {
 -- ---- what an eye took
 
 -- with no entry of the eye, what it took stays
-unentered : (world : Standing) (events : List Event) (eye : ℕ) → IsOrdered world → ¬ Contains events (Enter eye) → entered_by (world_after world events) eye ≡ entered_by world eye
+unentered : (world : Standing) (events : List Event) (eye : ℕ) → IsOrdered world
+    → ¬ Contains events (Enter eye) → entered_by (world_after world events) eye ≡ entered_by world eye
 unentered world [] eye h none = refl
 unentered world (event ∷ events) eye h none =
     let rest = unentered (stepped world event) events eye (ordered_step world event h) (not_later (Enter eye) event events none) in
@@ -140,7 +155,8 @@ are_entered = record {
       let world = world_of known eyes before in
       let h = stay_in_order known eyes before in
       ap (λ w. entered_by w eye) (after_parts (opening known eyes) before (Enter eye ∷ later))
-      ∙ (unentered (stepped world (Enter eye)) later eye (ordered_step world (Enter eye) h) none ∙ entered_at world eye (eyes_there known eyes before eye below));
+      ∙ (unentered (stepped world (Enter eye)) later eye (ordered_step world (Enter eye) h) none
+      ∙ entered_at world eye (eyes_there known eyes before eye below));
   first = λ known eyes events eye none. unentered (opening known eyes) events eye (ordered_opening known eyes) none ∙ opens_empty known eyes eye;
 }
 
@@ -148,9 +164,14 @@ are_entered = record {
 
 -- a beginning of a list begins its longer beginnings
 take_prefix : {A : Type 0} (few more : ℕ) (xs : List A) → few ≤ more → IsPrefix (take few xs) (take more xs)
-take_prefix few more xs le = (drop few (take more xs), ap (λ l. l ++ drop few (take more xs)) (sym (take-take few more xs le)) ∙ take-append-drop few (take more xs))
+take_prefix few more xs le = (
+  drop few (take more xs),
+  ap (λ l. l ++ drop few (take more xs)) (sym (take-take few more xs le))
+      ∙ take-append-drop few (take more xs),
+)
 
-grows : (world : Standing) (events : List Event) (eye : ℕ) → IsOrdered world → IsPrefix (entered_by world eye) (entered_by (world_after world events) eye)
+grows : (world : Standing) (events : List Event) (eye : ℕ) → IsOrdered world
+    → IsPrefix (entered_by world eye) (entered_by (world_after world events) eye)
 grows world [] eye h = prefix_self (entered_by world eye)
 grows world (event ∷ events) eye h =
     let next = stepped world event in
@@ -172,24 +193,31 @@ abbrev Brings : Standing → List Event → Type 0
 Brings world events = (world_after world events).appended ≡ take 2000000000 (world.appended ++ brought_by events)
 
 -- an operation more, or one too many
-brings_op : (world : Standing) (op : Op) (events : List Event) (full : Bool) → (length world.appended == 2000000000) ≡ full → length world.appended ≤ 2000000000
+brings_op : (world : Standing) (op : Op) (events : List Event) (full : Bool)
+    → (length world.appended == 2000000000) ≡ full → length world.appended ≤ 2000000000
     → ((next : Standing) → length next.appended ≤ 2000000000 → Brings next events) → Brings world (Append op ∷ events)
 brings_op world op events true is few rest =
     let most : 2000000000 ≤ length world.appended = grind (arith, nat_tests) in
     let stays : stepped world (Append op) ≡ world = rw is refl in
     subst (λ (w : Standing). (world_after w events).appended ≡ take 2000000000 (world.appended ++ op ∷ brought_by events)) (sym stays)
-    (rest world few ∙ (take-append-le 2000000000 world.appended (brought_by events) most ∙ sym (take-append-le 2000000000 world.appended (op ∷ brought_by events) most)))
+    (rest world few ∙ (take-append-le 2000000000 world.appended (brought_by events) most
+    ∙ sym (take-append-le 2000000000 world.appended (op ∷ brought_by events) most)))
 brings_op world op events false is few rest =
     let below : length world.appended + 1 ≤ 2000000000 = grind (arith, nat_tests) in
     let goes : stepped world (Append op) ≡ after world (Append op) = rw is refl in
     subst (λ (w : Standing). (world_after w events).appended ≡ take 2000000000 (world.appended ++ op ∷ brought_by events)) (sym goes)
-    (rest (after world (Append op)) (omega (arith, below, length-append world.appended (op ∷ []))) ∙ ap (take 2000000000) (append_assoc world.appended (op ∷ []) (brought_by events)))
+    (rest (after world (Append op)) (omega (arith, below, length-append world.appended (op ∷ [])))
+    ∙ ap (take 2000000000) (append_assoc world.appended (op ∷ []) (brought_by events)))
 
 -- an event that brings none
-brings_none : (world : Standing) (event : Event) (events : List Event) → (stepped world event).appended ≡ world.appended → length world.appended ≤ 2000000000
-    → ((next : Standing) → length next.appended ≤ 2000000000 → Brings next events) → (world_after (stepped world event) events).appended ≡ take 2000000000 (world.appended ++ brought_by events)
+brings_none : (world : Standing) (event : Event) (events : List Event)
+    → (stepped world event).appended ≡ world.appended → length world.appended ≤ 2000000000
+    → ((next : Standing) → length next.appended ≤ 2000000000 → Brings next events)
+    → (world_after (stepped world event) events).appended
+    ≡ take 2000000000 (world.appended ++ brought_by events)
 brings_none world event events same few rest =
-    rest (stepped world event) (subst (λ (l : List Op). length l ≤ 2000000000) (sym same) few) ∙ ap (λ l. take 2000000000 (l ++ brought_by events)) same
+    rest (stepped world event) (subst (λ (l : List Op). length l ≤ 2000000000) (sym same) few)
+    ∙ ap (λ l. take 2000000000 (l ++ brought_by events)) same
 
 -- a step that isn't an appending leaves what is appended
 keeps : (world : Standing) (event : Event) → (after world event).appended ≡ world.appended → (stepped world event).appended ≡ world.appended
@@ -201,7 +229,8 @@ brings (Append op ∷ events) world few = brings_op world op events (length worl
 brings (Publish ∷ events) world few = brings_none world Publish events (keeps world Publish refl) few (brings events)
 brings (Enter eye ∷ events) world few = brings_none world (Enter eye) events (keeps world (Enter eye) refl) few (brings events)
 brings (Learn eye ∷ events) world few = brings_none world (Learn eye) events (keeps world (Learn eye) refl) few (brings events)
-brings (Answer eye request ∷ events) world few = brings_none world (Answer eye request) events (keeps world (Answer eye request) refl) few (brings events)
+brings (Answer eye request ∷ events) world few =
+    brings_none world (Answer eye request) events (keeps world (Answer eye request) refl) few (brings events)
 
 pub are_appended : AreAppended
 are_appended known eyes events = brings events (opening known eyes) (omega arith)

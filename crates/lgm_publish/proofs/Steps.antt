@@ -1,5 +1,6 @@
 -- What one event does to a world.
-use Rattle.std.proofs.Common.{◌≡◌, ◌≢◌, ◌⊎◌, inl, inr, ℕ, ◌<◌, ◌≤◌, Bool, true, false, nat_lt, nat_eq, is_some, if◌then◌else◌, Option, Some, None, [], ◌∷◌, length, take, set, get_or, refl, sym, ap, ◌∙◌, arith}
+use Rattle.std.proofs.Common.{◌≡◌, ◌≢◌, ◌⊎◌, inl, inr, ℕ, ◌<◌, ◌≤◌, Bool, true, false, nat_lt, nat_eq, is_some, if◌then◌else◌}
+use Rattle.std.proofs.Common.{Option, Some, None, [], ◌∷◌, length, take, set, get_or, refl, sym, ap, ◌∙◌, arith}
 use Rattle.std.proofs.lemmas.List.{get_or-set_same, get_or-set_other, length-set, take-append-le}
 use Rattle.std.proofs.lemmas.List.Elements.{All-get_or}
 use Rattle.std.proofs.lemmas.Bool.Decides.{nat_tests}
@@ -16,7 +17,8 @@ use Rattle.lgm_publish.proofs.Worlds.{ordered_append, ordered_publish, ordered_e
 -- ---- refusals
 
 -- what holds before and after an event that isn't refused, holds after a step
-pub chosen : (P : Standing → Type 0) (world next : Standing) (refused : Option WorldFault) → P world → (refused ≡ None → P next) → P (if is_some refused then world else next)
+pub chosen : (P : Standing → Type 0) (world next : Standing) (refused : Option WorldFault) → P world
+    → (refused ≡ None → P next) → P (if is_some refused then world else next)
 chosen P world next (Some fault) here there = here
 chosen P world next None here there = there refl
 
@@ -48,8 +50,10 @@ ordered_step world event h = chosen IsOrdered world (after world event) (refusal
 bound_at : (world : Standing) (eye : ℕ) (is : Bool) → nat_lt eye (length world.eyes) ≡ is → IsOrdered world
     → ((marks_of world eye).entered ≤ (marks_of world eye).seen) × ((marks_of world eye).seen ≤ world.published)
 bound_at world eye true is h =
-    let below : eye < length world.eyes = grind (arith, nat_tests) in
-    (All-get_or (λ m. m.entered ≤ m.seen) world.eyes eye (marks 0 0) below h.entered, All-get_or (λ m. m.seen ≤ world.published) world.eyes eye (marks 0 0) below h.seen)
+    let below : eye < length world.eyes = grind (arith, nat_tests) in (
+      All-get_or (λ m. m.entered ≤ m.seen) world.eyes eye (marks 0 0) below h.entered,
+      All-get_or (λ m. m.seen ≤ world.published) world.eyes eye (marks 0 0) below h.seen,
+    )
 bound_at world eye false is h =
     let past : length world.eyes ≤ eye = grind (arith, nat_tests) in
     let none : marks_of world eye ≡ marks 0 0 = get_or-eq_default world.eyes (marks 0 0) past in
@@ -66,7 +70,8 @@ abbrev pub EntersBy : Standing → Event → ℕ → Standing → Type 0
 EntersBy world event eye next = (entered_by next eye ≡ entered_by world eye) ⊎ ((event ≡ Enter eye) × (entered_by next eye ≡ published_in world))
 
 set_at : (world : Standing) (eye other : ℕ) (m : Marks) (same : Bool) → nat_eq other eye ≡ same → eye < length world.eyes
-    → (get_or (set world.eyes eye m) other (marks 0 0) ≡ get_or world.eyes other (marks 0 0)) ⊎ ((other ≡ eye) × (get_or (set world.eyes eye m) other (marks 0 0) ≡ m))
+    → (get_or (set world.eyes eye m) other (marks 0 0) ≡ get_or world.eyes other (marks 0 0))
+    ⊎ ((other ≡ eye) × (get_or (set world.eyes eye m) other (marks 0 0) ≡ m))
 set_at world eye other m true is below =
     let same : other ≡ eye = grind (arith, nat_tests) in
     inr (same, rw same (get_or-set_same world.eyes eye m (marks 0 0) below))
@@ -76,14 +81,17 @@ set_at world eye other m false is below =
 
 -- the marks of an eye are written, and those of the others stay
 marks_set : (world : Standing) (eye other : ℕ) (m : Marks) → eye < length world.eyes
-    → (get_or (set world.eyes eye m) other (marks 0 0) ≡ get_or world.eyes other (marks 0 0)) ⊎ ((other ≡ eye) × (get_or (set world.eyes eye m) other (marks 0 0) ≡ m))
+    → (get_or (set world.eyes eye m) other (marks 0 0) ≡ get_or world.eyes other (marks 0 0))
+    ⊎ ((other ≡ eye) × (get_or (set world.eyes eye m) other (marks 0 0) ≡ m))
 marks_set world eye other m below = set_at world eye other m (nat_eq other eye) refl below
 
 pub entered_step : (world : Standing) (event : Event) (eye : ℕ) → IsOrdered world → EntersBy world event eye (stepped world event)
 entered_step world event eye h = chosen (EntersBy world event eye) world (after world event) (refusal world event) (inl refl) (by event)
   where
     by : (event : Event) → refusal world event ≡ None → EntersBy world event eye (after world event)
-    by (Append op) none = inl (take-append-le (marks_of world eye).entered world.appended (op ∷ []) (omega (arith, entered_bound world eye h, h.published)))
+    by (Append op) none =
+        inl (take-append-le (marks_of world eye).entered world.appended (op ∷ [])
+        (omega (arith, entered_bound world eye h, h.published)))
     by Publish none = inl refl
     by (Enter other) none = elim (marks_set world other eye (marks world.published world.published) (is_there world other none)) [
       | inl same ↦ inl (ap (λ (m : Marks). take m.entered world.appended) same)
@@ -98,7 +106,8 @@ entered_step world event eye h = chosen (EntersBy world event eye) world (after 
 -- an eye that enters takes what is published
 pub entered_at : (world : Standing) (eye : ℕ) → eye < length world.eyes → entered_by (stepped world (Enter eye)) eye ≡ published_in world
 entered_at world eye below =
-    rw (not_refused world eye below) (ap (λ (m : Marks). take m.entered world.appended) (get_or-set_same world.eyes eye (marks world.published world.published) (marks 0 0) below))
+    rw (not_refused world eye below) (ap (λ (m : Marks). take m.entered world.appended)
+    (get_or-set_same world.eyes eye (marks world.published world.published) (marks 0 0) below))
 
 -- ---- what is published
 

@@ -9,7 +9,9 @@ use Rattle.lgm_publish.specs.World.{Standing, IsOrdered, opening, after, marks, 
 -- what was published before is published
 seen_more : (eyes : List Marks) (few more : ℕ) → few ≤ more → All (λ eye. eye.seen ≤ few) eyes → All (λ eye. eye.seen ≤ more) eyes
 seen_more eyes few more le h =
-    All-from_get_or (λ eye. eye.seen ≤ more) eyes (marks 0 0) (λ i below. let at : (get_or eyes i (marks 0 0)).seen ≤ few = All-get_or (λ eye. eye.seen ≤ few) eyes i (marks 0 0) below h in omega (arith, at, le))
+    All-from_get_or (λ eye. eye.seen ≤ more) eyes (marks 0 0)
+    (λ i below. let at : (get_or eyes i (marks 0 0)).seen
+    ≤ few = All-get_or (λ eye. eye.seen ≤ few) eyes i (marks 0 0) below h in omega (arith, at, le))
 
 -- nothing is seen where nothing is published
 pub ordered_opening : (known : Option (List ℕ)) (eyes : ℕ) → IsOrdered (opening known eyes)
@@ -20,10 +22,20 @@ ordered_opening known eyes = record {
 }
 
 pub ordered_append : (world : Standing) (op : Op) → IsOrdered world → IsOrdered (after world (Append op))
-ordered_append world op h = record { entered = h.entered; seen = h.seen; published = omega (arith, h.published, length-append world.appended (op ∷ [])) }
+ordered_append world op h =
+    record {
+      entered = h.entered;
+      seen = h.seen;
+      published = omega (arith, h.published, length-append world.appended (op ∷ []));
+    }
 
 pub ordered_publish : (world : Standing) → IsOrdered world → IsOrdered (after world Publish)
-ordered_publish world h = record { entered = h.entered; seen = seen_more world.eyes world.published (length world.appended) h.published h.seen; published = omega arith }
+ordered_publish world h =
+    record {
+      entered = h.entered;
+      seen = seen_more world.eyes world.published (length world.appended) h.published h.seen;
+      published = omega arith;
+    }
 
 pub ordered_enter : (world : Standing) (eye : ℕ) → IsOrdered world → IsOrdered (after world (Enter eye))
 ordered_enter world eye h = record {
@@ -37,7 +49,9 @@ ordered_learn world eye below h =
     let took = All-get_or (λ m. m.entered ≤ m.seen) world.eyes eye (marks 0 0) below h.entered in
     let saw = All-get_or (λ m. m.seen ≤ world.published) world.eyes eye (marks 0 0) below h.seen in
     record {
-      entered = All-set (λ m. m.entered ≤ m.seen) world.eyes eye (marks world.published (marks_of world eye).entered) (omega (arith, took, saw)) h.entered;
+      entered =
+          All-set (λ m. m.entered ≤ m.seen) world.eyes eye
+          (marks world.published (marks_of world eye).entered) (omega (arith, took, saw)) h.entered;
       seen = All-set (λ m. m.seen ≤ world.published) world.eyes eye (marks world.published (marks_of world eye).entered) (omega arith) h.seen;
       published = h.published;
     }

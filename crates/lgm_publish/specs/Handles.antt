@@ -12,7 +12,9 @@ pub record History : Type 0 where
   pub ops : List Op
 
 abbrev pub history_code : Coded History
-history_code = code_by (Book × List Op) (coded× book_coded (coded_list the_row.coded)) (λ h. (h.board, h.ops)) (λ p. record { board = p.0; ops = p.1 }) (λ _. refl)
+history_code =
+    code_by (Book × List Op) (coded× book_coded (coded_list the_row.coded)) (λ h. (h.board, h.ops))
+    (λ p. record { board = p.0; ops = p.1 }) (λ _. refl)
 
 abbrev pub history : Book → List Op → History
 history board ops = record { board = board; ops = ops }
@@ -27,7 +29,8 @@ pub record Sight : Type 0 where
 
 abbrev pub sight_code : Coded Sight
 sight_code =
-    code_by (Book × (Option (List ℕ) × List Op)) (coded× book_coded (coded× (coded_option (coded_list coded_ℕ)) (coded_list the_row.coded))) (λ s. (s.board, (s.known, s.ops)))
+    code_by (Book × (Option (List ℕ) × List Op)) (coded× book_coded (coded×
+    (coded_option (coded_list coded_ℕ)) (coded_list the_row.coded))) (λ s. (s.board, (s.known, s.ops)))
     (λ p. record { board = p.0; known = p.1.0; ops = p.1.1 }) (λ _. refl)
 
 -- the writer of a board
@@ -40,5 +43,6 @@ pub record Writing : Type 0 where
 
 abbrev pub writing_code : Coded Writing
 writing_code =
-    code_by (Book × (List Op × List Op)) (coded× book_coded (coded× (coded_list the_row.coded) (coded_list the_row.coded))) (λ w. (w.board, (w.published, w.pending)))
+    code_by (Book × (List Op × List Op)) (coded× book_coded (coded× (coded_list the_row.coded)
+    (coded_list the_row.coded))) (λ w. (w.board, (w.published, w.pending)))
     (λ p. record { board = p.0; published = p.1.0; pending = p.1.1 }) (λ _. refl)

@@ -1,5 +1,7 @@
 -- One writer and its readers: the effect of each event, and the replies.
-use Rattle.std.specs.Prelude.{◌≡◌, ◌≢◌, ◌⊎◌, ℕ, ◌≤◌, ◌==◌, List, [], ◌∷◌, ◌++◌, length, take, replicate, All, slice_index_or, slice_set, nat_lt, is_some, Option, Some, None, Result, Ok, Err, OnOk, OnErr, if◌then◌else◌}
+use Rattle.std.specs.Prelude.{◌≡◌, ◌≢◌, ◌⊎◌, ℕ, ◌≤◌, ◌==◌, List, [], ◌∷◌, ◌++◌, length, take}
+use Rattle.std.specs.Prelude.{replicate, All, slice_index_or, slice_set, nat_lt, is_some, Option}
+use Rattle.std.specs.Prelude.{Some, None, Result, Ok, Err, OnOk, OnErr, if◌then◌else◌}
 use Rattle.lgm_store.specs.declared.op.Op.{Op}
 use Rattle.lgm_store.specs.History.{fold}
 use Rattle.lgm_graph.specs.Edges.{edges_of}
@@ -25,7 +27,8 @@ pub record Standing : Type 0 where
   pub eyes : List Marks
 
 abbrev pub standing : Option (List ℕ) → List Op → ℕ → List Marks → Standing
-standing known appended published eyes = record { known = known; appended = appended; published = published; eyes = eyes }
+standing known appended published eyes =
+    record { known = known; appended = appended; published = published; eyes = eyes }
 
 -- an eye that has observed this many operations, and took the map of that many last
 abbrev pub marks : ℕ → ℕ → Marks
@@ -65,8 +68,10 @@ refusal world (Answer eye request) = no_eye world eye
 abbrev pub after : Standing → Event → Standing
 after world (Append op) = record world { appended = world.appended ++ op ∷ [] }
 after world Publish = record world { published = length world.appended }
-after world (Enter eye) = record world { eyes = slice_set world.eyes eye (marks world.published world.published) }
-after world (Learn eye) = record world { eyes = slice_set world.eyes eye (marks world.published (marks_of world eye).entered) }
+after world (Enter eye) =
+    record world { eyes = slice_set world.eyes eye (marks world.published world.published) }
+after world (Learn eye) =
+    record world { eyes = slice_set world.eyes eye (marks world.published (marks_of world eye).entered) }
 after world (Answer eye request) = world
 
 -- the reply to an event that isn't refused
@@ -75,7 +80,8 @@ reply world (Append op) = Done
 reply world Publish = Done
 reply world (Enter eye) = Done
 reply world (Learn eye) = Done
-reply world (Answer eye request) = Routed (answer_of (edges_of world.known (fold (entered_by world eye))) request)
+reply world (Answer eye request) =
+    Routed (answer_of (edges_of world.known (fold (entered_by world eye))) request)
 
 -- a refusal, or the reply
 abbrev pub refused_or : Option WorldFault → Reply → Result Reply WorldFault
@@ -87,7 +93,8 @@ abbrev pub outcome : Standing → Event → Result Reply WorldFault
 outcome world event = refused_or (refusal world event) (reply world event)
 
 -- the result of a step and the state after it: a refusal that allocates nothing comes first
-pub record IsStep (world : Standing) (event : Event) (result : Result Reply WorldFault) (next : Standing) : Type 0 where
+pub record IsStep (world : Standing) (event : Event) (result : Result Reply WorldFault)
+    (next : Standing) : Type 0 where
   pub refused : (fault : WorldFault) → refusal world event ≡ Some fault → result ≡ Err fault
   pub reply : (result ≡ Err NoMemory) ⊎ (result ≡ outcome world event)
   pub done : OnOk result (next ≡ after world event)

@@ -39,7 +39,12 @@ impl Model for Edition {
 
     ghost Value = { Contents };
 
-    ghost view = { λ e. record { rows = e.network.rows; known = e.network.graph.known; absorbed = e.absorbed; told = e.told } };
+    ghost view = { λ e. record {
+      rows = e.network.rows;
+      known = e.network.graph.known;
+      absorbed = e.absorbed;
+      told = e.told;
+    } };
 
     ghost invariant = { λ e. (e.absorbed ≤ 2000000000) × (length e.network.graph.points ≤ 2 * e.absorbed) };
 }
@@ -52,7 +57,8 @@ impl Edition {
         known: &Known,
         told: Told,
     ) -> Result<Edition, AllocError>
-        ensures { IfOk result (λ edition. edition ≡ record { rows = empty; known = known.now; absorbed = 0; told = told }) }
+        ensures { IfOk result
+            (λ edition. edition ≡ record { rows = empty; known = known.now; absorbed = 0; told = told }) }
     {
         Ok(Edition {
             network: Network::of(alloc, Map::with_seed(alloc, seed)?, known)?,

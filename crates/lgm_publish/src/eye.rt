@@ -36,7 +36,8 @@ impl Model for Eye {
 
     ghost view = { λ e. sight (known_in (last_of e.reader.place)) e.told };
 
-    ghost invariant = { λ e. (last : Contents) × (last_of e.reader.place ≡ Some last) × (last.told.board ≡ e.told.board) };
+    ghost invariant = { λ e. (last : Contents) × (last_of e.reader.place ≡ Some last)
+        × (last.told.board ≡ e.told.board) };
 }
 
 impl Eye {
@@ -108,7 +109,8 @@ impl Model for Guard {
 
     ghost view = { λ g. sight g.reading.part.value.known g.reading.part.value.told };
 
-    ghost invariant = { λ g. (last_of g.reading.place ≡ Some g.reading.part.value) × IsFold g.reading.part.value };
+    ghost invariant = { λ g. (last_of g.reading.place ≡ Some g.reading.part.value)
+        × IsFold g.reading.part.value };
 }
 
 impl Guard {

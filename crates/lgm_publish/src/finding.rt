@@ -39,7 +39,8 @@ pub(crate) fn find_route(
     request: &Request,
 ) -> Result<Route, RouteFault>
     requires { length history.now ≤ 2000000000 }
-    ensures { (result ≡ Err RouteFault.NoMemory) ⊎ (result ≡ answer_of (edges_of known.now (fold history.now)) request.now) }
+    ensures { (result ≡ Err RouteFault.NoMemory)
+        ⊎ (result ≡ answer_of (edges_of known.now (fold history.now)) request.now) }
 {
     let network = replay(alloc, known, history)?;
     find_in(alloc, &network, request)

@@ -1,6 +1,7 @@
 //! Laws of worlds.
 
-ghost use Rattle.lgm_publish.specs.Laws.{AreAppended, AreAnswered, WerePublished, ArePublished, AreEntered, NeverShrink, StayInOrder};
+ghost use Rattle.lgm_publish.specs.Laws.{AreAppended, AreAnswered, WerePublished, ArePublished};
+ghost use Rattle.lgm_publish.specs.Laws.{AreEntered, NeverShrink, StayInOrder};
 
 /// After any list of events an eye answers on the map of a prefix of the appended operations: of none, or of all that
 /// had been appended at some earlier publication. It is the prefix that was published when the eye last entered, and a

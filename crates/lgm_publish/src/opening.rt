@@ -28,9 +28,11 @@ fn seat_all(
     requires none { eyes.old.items ≡ [] }
     requires seen { last_of writer.old.desk.place ≡ Some writer.old.desk.shown.value }
     requires told { told.now ≡ writer.old.desk.shown.value.told }
-    ensures kept { (writer.new.desk.shown ≡ writer.old.desk.shown) × (writer.new.log ≡ writer.old.log) × (writer.new.behind ≡ writer.old.behind) }
+    ensures kept { (writer.new.desk.shown ≡ writer.old.desk.shown) × (writer.new.log ≡ writer.old.log)
+        × (writer.new.behind ≡ writer.old.behind) }
     ensures count { IfOk result (λ _. length eyes.new.items ≡ readers) }
-    ensures eyes { IfOk result (λ _. All (λ eye. eye ≡ sight writer.old.desk.shown.value.known told.now) eyes.new.items) }
+    ensures eyes { IfOk result
+        (λ _. All (λ eye. eye ≡ sight writer.old.desk.shown.value.known told.now) eyes.new.items) }
 {
     for _eye in 0..readers {
         let Ok(mut reader) = writer.factory().reader() else {

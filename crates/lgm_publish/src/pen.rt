@@ -48,9 +48,14 @@ impl Model for Pen {
 
     ghost coded = { writing_code };
 
-    ghost view = { λ p. record { board = p.writer.desk.shown.value.told.board; published = p.writer.desk.shown.value.told.ops; pending = ops_of (drop p.writer.behind p.writer.log.items) } };
+    ghost view = { λ p. record {
+      board = p.writer.desk.shown.value.told.board;
+      published = p.writer.desk.shown.value.told.ops;
+      pending = ops_of (drop p.writer.behind p.writer.log.items);
+    } };
 
-    ghost invariant = { λ p. IsNoted p.head p.noted p.appended (whole p.writer.desk.shown.value.told (drop p.writer.behind p.writer.log.items)) };
+    ghost invariant = { λ p. IsNoted p.head p.noted p.appended
+        (whole p.writer.desk.shown.value.told (drop p.writer.behind p.writer.log.items)) };
 }
 
 impl Pen {
@@ -78,7 +83,8 @@ impl Pen {
     pub fn append(&mut self, op: Op) -> Result<(), AppendFault>
         ensures board { self.new.board ≡ self.old.board }
         ensures published { self.new.published ≡ self.old.published }
-        ensures pending { MatchResult result (λ _. self.new.pending ≡ self.old.pending ++ op ∷ []) (λ _. self.new.pending ≡ self.old.pending) }
+        ensures pending { MatchResult result (λ _. self.new.pending ≡ self.old.pending ++ op ∷ [])
+            (λ _. self.new.pending ≡ self.old.pending) }
         ensures back { IfErr result (λ fault. fault.op ≡ op) }
         ensures full { AppendIs result (length (self.old.published ++ self.old.pending)) }
     {
@@ -106,8 +112,10 @@ impl Pen {
     /// On an error the published and the pending operations are unchanged; the next call publishes them.
     pub fn publish<R: Wait>(&mut self, rt: &R) -> Result<(), NoMemory>
         ensures board { self.new.board ≡ self.old.board }
-        ensures published { MatchResult result (λ _. self.new.published ≡ self.old.published ++ self.old.pending) (λ _. self.new.published ≡ self.old.published) }
-        ensures pending { MatchResult result (λ _. self.new.pending ≡ []) (λ _. self.new.pending ≡ self.old.pending) }
+        ensures published { MatchResult result (λ _. self.new.published
+            ≡ self.old.published ++ self.old.pending) (λ _. self.new.published ≡ self.old.published) }
+        ensures pending { MatchResult result (λ _. self.new.pending ≡ [])
+            (λ _. self.new.pending ≡ self.old.pending) }
     {
         if !self
             .noted
@@ -120,9 +128,12 @@ impl Pen {
             &mut self.writer,
             rt,
             |writer: Sides, rt: &R| -> (Sides, Result<(), NoMemory>)
-                requires complete { IsComplete writer.desk.shown.value.told (drop writer.behind writer.log.items) }
-                requires few { length (whole writer.desk.shown.value.told (drop writer.behind writer.log.items)).ops ≤ 2000000000 }
-                ensures { Publishes result.1 writer.desk.shown.value.told result.0.desk.shown.value.told (drop writer.behind writer.log.items) (drop result.0.behind result.0.log.items) }
+                requires complete { IsComplete writer.desk.shown.value.told
+                    (drop writer.behind writer.log.items) }
+                requires few { length (whole writer.desk.shown.value.told
+                    (drop writer.behind writer.log.items)).ops ≤ 2000000000 }
+                ensures { Publishes result.1 writer.desk.shown.value.told result.0.desk.shown.value.told
+                    (drop writer.behind writer.log.items) (drop result.0.behind result.0.log.items) }
             { publish_all(rt, writer) },
         )
     }

@@ -18,8 +18,10 @@ pub(crate) type Sides = Writer<Edition, Entry, Last, Published>;
 /// Adds a pending operation.
 pub(crate) fn absorb(writer: &mut Sides, op: Op) -> Result<(), Op>
     ensures desk { writer.new.desk ≡ writer.old.desk }
-    ensures appended { OnOk result (ops_of (drop writer.new.behind writer.new.log.items) ≡ ops_of (drop writer.old.behind writer.old.log.items) ++ op ∷ []) }
-    ensures stays { OnErr result (ops_of (drop writer.new.behind writer.new.log.items) ≡ ops_of (drop writer.old.behind writer.old.log.items)) }
+    ensures appended { OnOk result (ops_of (drop writer.new.behind writer.new.log.items)
+        ≡ ops_of (drop writer.old.behind writer.old.log.items) ++ op ∷ []) }
+    ensures stays { OnErr result (ops_of (drop writer.new.behind writer.new.log.items)
+        ≡ ops_of (drop writer.old.behind writer.old.log.items)) }
     ensures back { IfErr result (λ back. back ≡ op) }
 {
     match writer.append(Entry::Absorb(op)) {
@@ -33,8 +35,10 @@ pub(crate) fn absorb(writer: &mut Sides, op: Op) -> Result<(), Op>
 pub(crate) fn reach(writer: &mut Sides, told: Told) -> Result<(), NoMemory>
     requires { told ≡ whole writer.old.desk.shown.value.told (drop writer.old.behind writer.old.log.items) }
     ensures desk { writer.new.desk ≡ writer.old.desk }
-    ensures ops { ops_of (drop writer.new.behind writer.new.log.items) ≡ ops_of (drop writer.old.behind writer.old.log.items) }
-    ensures complete { OnOk result (IsComplete writer.new.desk.shown.value.told (drop writer.new.behind writer.new.log.items)) }
+    ensures ops { ops_of (drop writer.new.behind writer.new.log.items)
+        ≡ ops_of (drop writer.old.behind writer.old.log.items) }
+    ensures complete { OnOk result
+        (IsComplete writer.new.desk.shown.value.told (drop writer.new.behind writer.new.log.items)) }
 {
     match writer.append(Entry::Reach(told)) {
         Ok(()) => Ok(()),
@@ -45,8 +49,10 @@ pub(crate) fn reach(writer: &mut Sides, told: Told) -> Result<(), NoMemory>
 /// Publishes all pending operations.
 pub(crate) fn publish_all<R: Wait>(rt: &R, writer: Sides) -> (Sides, Result<(), NoMemory>)
     requires complete { IsComplete writer.desk.shown.value.told (drop writer.behind writer.log.items) }
-    requires few { length (whole writer.desk.shown.value.told (drop writer.behind writer.log.items)).ops ≤ 2000000000 }
-    ensures told { Publishes result.1 writer.desk.shown.value.told result.0.desk.shown.value.told (drop writer.behind writer.log.items) (drop result.0.behind result.0.log.items) }
+    requires few { length (whole writer.desk.shown.value.told (drop writer.behind writer.log.items)).ops
+        ≤ 2000000000 }
+    ensures told { Publishes result.1 writer.desk.shown.value.told result.0.desk.shown.value.told
+        (drop writer.behind writer.log.items) (drop result.0.behind result.0.log.items) }
     ensures known { result.0.desk.shown.value.known ≡ writer.desk.shown.value.known }
     ensures seen { IfOk result.1 (λ _. last_of result.0.desk.place ≡ Some result.0.desk.shown.value) }
 {

@@ -103,7 +103,8 @@ impl Told {
     /// Whether this list is a prefix of the other. If not, the other is a prefix of this one.
     pub(crate) fn begins(&self, other: &Told) -> bool
         requires { other.now.board ≡ self.now.board }
-        ensures { MatchBool result (IsPrefix self.now.ops other.now.ops) (IsPrefix other.now.ops self.now.ops) }
+        ensures { MatchBool result (IsPrefix self.now.ops other.now.ops)
+            (IsPrefix other.now.ops self.now.ops) }
     {
         let mut both = self.seen.again();
         both.learn(&other.seen);

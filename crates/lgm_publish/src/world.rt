@@ -41,7 +41,8 @@ impl Model for World {
 
     ghost view = { λ w. standing w.known w.appended.items w.published w.eyes.items };
 
-    ghost invariant = { λ w. IsOrdered (standing w.known w.appended.items w.published w.eyes.items) × (length w.appended.items ≤ 2000000000) };
+    ghost invariant = { λ w. IsOrdered (standing w.known w.appended.items w.published w.eyes.items)
+        × (length w.appended.items ≤ 2000000000) };
 }
 
 impl World {
@@ -76,7 +77,8 @@ impl World {
     /// An event that is refused changes nothing.
     pub fn step(&mut self, event: &Event) -> Result<Reply, WorldFault>
         // A number of no eye, and an operation beyond the limit, are refused before anything is allocated.
-        ensures refused { (fault : WorldFault) → refusal self.old event.now ≡ Some fault → result ≡ Err fault }
+        ensures refused { (fault : WorldFault) → refusal self.old event.now ≡ Some fault
+            → result ≡ Err fault }
 
         // Otherwise the reply is that of the definition, unless memory runs out.
         ensures reply { (result ≡ Err WorldFault.NoMemory) ⊎ (result ≡ outcome self.old event.now) }

@@ -26,8 +26,10 @@ pub AreSent-more : (rows : Rows) (query : Query) (i id flags : ℕ) (old new : S
 AreSent-more rows query i id flags old new within same_len id_is flags_is are sends =
     let within_zip : i < length (zip query.ids (flags_of query)) = omega (arith, length-zip query.ids (flags_of query)) in
     let within_flags : i < length (flags_of query) = omega arith in
-    let place : get_or (zip query.ids (flags_of query)) i (0, 0) ≡ (id, flags) = get_or-zip query.ids (flags_of query) i (0, 0) within within_flags ∙ rw (id_is, flags_is) refl in
-    let more : flat_map (chosen rows) (take (i + 1) (zip query.ids (flags_of query))) ≡ flat_map (chosen rows) (take i (zip query.ids (flags_of query))) ++ chosen rows (id, flags) =
+    let place : get_or (zip query.ids (flags_of query)) i (0, 0) ≡ (id, flags) =
+    get_or-zip query.ids (flags_of query) i (0, 0) within within_flags ∙ rw (id_is, flags_is) refl in
+    let more : flat_map (chosen rows) (take (i + 1) (zip query.ids (flags_of query)))
+    ≡ flat_map (chosen rows) (take i (zip query.ids (flags_of query))) ++ chosen rows (id, flags) =
     ap (flat_map (chosen rows)) (take_more (zip query.ids (flags_of query)) i (0, 0) within_zip)
     ∙ flat_map-append (chosen rows) (take i (zip query.ids (flags_of query))) (get_or (zip query.ids (flags_of query)) i (0, 0) ∷ [])
     ∙ ap (λ (place : ℕ × ℕ). flat_map (chosen rows) (take i (zip query.ids (flags_of query))) ++ (chosen rows place ++ [])) place
@@ -38,5 +40,6 @@ AreSent-more rows query i id flags old new within same_len id_is flags_is are se
 pub messages-all : (rows : Rows) (query : Query) (i : ℕ) (sent : Sent) → length query.ids ≤ i
     → AreSent (flat_map (chosen rows) (take i (zip query.ids (flags_of query)))) sent → sent.messages ≡ messages_asked_for rows query
 messages-all rows query i sent all are =
-    let whole : take i (zip query.ids (flags_of query)) ≡ zip query.ids (flags_of query) = take_all i (zip query.ids (flags_of query)) (omega (arith, length-zip query.ids (flags_of query))) in
+    let whole : take i (zip query.ids (flags_of query)) ≡ zip query.ids (flags_of query) =
+    take_all i (zip query.ids (flags_of query)) (omega (arith, length-zip query.ids (flags_of query))) in
     rw whole at are.messages

@@ -1,5 +1,6 @@
 -- Replies to ids that ascend.
-use Rattle.std.proofs.Common.{◌≡◌, ℕ, zero, suc, ◌+◌, ◌-◌, ◌*◌, ◌<◌, ◌≤◌, Bool, true, false, List, [], ◌∷◌, ◌++◌, length, map, take, drop, refl, sym, ap, subst, ◌∙◌, arith, add-one, length-take, length-drop}
+use Rattle.std.proofs.Common.{◌≡◌, ℕ, zero, suc, ◌+◌, ◌-◌, ◌*◌, ◌<◌, ◌≤◌, Bool, true, false, List, [], ◌∷◌, ◌++◌, length}
+use Rattle.std.proofs.Common.{map, take, drop, refl, sym, ap, subst, ◌∙◌, arith, add-one, length-take, length-drop}
 use Rattle.std.specs.Prelude.{nat_eq, nat_lt, nat_le, ◌&&◌, slice_index, ◌==◌, if◌then◌else◌}
 use Rattle.std.specs.Cmp.Lexicographic.{pointwise}
 use Rattle.std.specs.List.{AllByRecursion, flat_map, range_with_len}
@@ -17,7 +18,8 @@ use Rattle.lgm_check.specs.declared.row.ChannelRow.{ChannelRow}
 use Rattle.lgm_store.specs.Rows.{Rows, IsAscending, by_id}
 use Rattle.lgm_store.specs.Reading.{block_of, is_between}
 use Rattle.lgm_query.specs.Cover.{CoverRange}
-use Rattle.lgm_query.specs.RangeReply.{range_end, ids_asked_for, AreInRange, reply_count, is_last, ids_at, first_block, last_block, reply_start, reply_end}
+use Rattle.lgm_query.specs.RangeReply.{range_end, ids_asked_for, AreInRange, reply_count, is_last}
+use Rattle.lgm_query.specs.RangeReply.{ids_at, first_block, last_block, reply_start, reply_end}
 use Rattle.lgm_query.proofs.RangeLaws.{All-ids_asked_for}
 
 -- ---- ids that ascend
@@ -36,15 +38,19 @@ none-ascend : IsStrictlySortedBy nat_cmp []
 unfolding IsStrictlySortedBy
 none-ascend = tt
 
-asked-ascend : (chain : ChainHash) (rows : Rows) (query : RangeQuery) → IsStrictlySortedBy by_id rows.channels → IsStrictlySortedBy nat_cmp (ids_asked_for chain rows query)
+asked-ascend : (chain : ChainHash) (rows : Rows) (query : RangeQuery) → IsStrictlySortedBy by_id rows.channels
+    → IsStrictlySortedBy nat_cmp (ids_asked_for chain rows query)
 asked-ascend chain rows query sorted = by (pointwise nat_eq query.chain_hash.0 chain.0) refl
   where
     by : (b : Bool) → pointwise nat_eq query.chain_hash.0 chain.0 ≡ b → IsStrictlySortedBy nat_cmp (ids_asked_for chain rows query)
-    by true is = rw is (IsStrictlySortedBy-filter nat_cmp (λ id. is_between id query.first_blocknum (range_end query)) _ (ids-ascend rows.channels sorted))
+    by true is =
+        rw is (IsStrictlySortedBy-filter nat_cmp (λ id. is_between id query.first_blocknum (range_end query))
+        _ (ids-ascend rows.channels sorted))
     by false is = rw is none-ascend
 
 -- blocks don't fall
-blocks : (ids : List ℕ) → IsStrictlySortedBy nat_cmp ids → (i j : ℕ) → i ≤ j → j < length ids → block_of (slice_index ids i) ≤ block_of (slice_index ids j)
+blocks : (ids : List ℕ) → IsStrictlySortedBy nat_cmp ids → (i j : ℕ) → i ≤ j → j < length ids
+    → block_of (slice_index ids i) ≤ block_of (slice_index ids j)
 blocks ids sorted i j le within = of (slice_index ids i) (slice_index ids j) (non_decreasing_from_sorted ids sorted i j 0 le within)
   where
     of : (a b : ℕ) → a ≤ b → block_of a ≤ block_of b
@@ -113,7 +119,8 @@ start_low last first le = by (first + 1 == last + 1) refl
 start_near : (end first : ℕ) → ((if first + 1 == end then end - 1 else end) ≤ end) × (end ≤ (if first + 1 == end then end - 1 else end) + 1)
 start_near end first = by (first + 1 == end) refl
   where
-    by : (b : Bool) → (first + 1 == end) ≡ b → ((if first + 1 == end then end - 1 else end) ≤ end) × (end ≤ (if first + 1 == end then end - 1 else end) + 1)
+    by : (b : Bool) → (first + 1 == end) ≡ b → ((if first + 1 == end then end - 1 else end) ≤ end)
+        × (end ≤ (if first + 1 == end then end - 1 else end) + 1)
     by true is = rw is (omega arith, omega arith)
     by false is = rw is (omega arith, omega arith)
 
@@ -146,9 +153,11 @@ module _ (query : RangeQuery) (ids : List ℕ) (sorted : IsStrictlySortedBy nat_
           let order : block_of (slice_index ids j) ≤ last_block ids i = blocks ids sorted j (4000 * i + 3999) (omega arith) (omega arith) in
           rw is (omega arith)
 
-  joined : (i : ℕ) → i + 1 < reply_count ids → (reply_start query ids (i + 1) ≤ reply_end query ids i) × (reply_end query ids i ≤ reply_start query ids (i + 1) + 1)
+  joined : (i : ℕ) → i + 1 < reply_count ids → (reply_start query ids (i + 1) ≤ reply_end query ids i)
+      × (reply_end query ids i ≤ reply_start query ids (i + 1) + 1)
   joined i more =
-      subst (λ (next : ℕ). (reply_start query ids next ≤ reply_end query ids i) × (reply_end query ids i ≤ reply_start query ids next + 1)) (sym (add-one i))
+      subst (λ (next : ℕ). (reply_start query ids next ≤ reply_end query ids i)
+      × (reply_end query ids i ≤ reply_start query ids next + 1)) (sym (add-one i))
       (start_near (reply_end query ids i) (first_block ids (suc i)))
 
   forward : (i : ℕ) → i < reply_count ids → reply_start query ids i ≤ reply_end query ids i
@@ -176,7 +185,10 @@ module _ (query : RangeQuery) (ids : List ℕ) (sorted : IsStrictlySortedBy nat_
       → (reply_start query ids i ≤ block_of (slice_index (ids_at ids i) k)) × (block_of (slice_index (ids_at ids i) k) < reply_end query ids i)
   held i k within own =
       let few : k < 4000 = below_4000 ids i k own in
-      rw (at_place ids i k own) (starts i (4000 * i + k) within (omega arith) (within_all ids i k own), ends i (4000 * i + k) within (omega arith) (within_all ids i k own))
+      rw (at_place ids i k own) (
+        starts i (4000 * i + k) within (omega arith) (within_all ids i k own),
+        ends i (4000 * i + k) within (omega arith) (within_all ids i k own),
+      )
 
 -- ---- all ids
 
@@ -185,7 +197,8 @@ pieces ids a zero = refl
 pieces ids a (suc n) =
     let size : 4000 * (suc n) ≡ 4000 + 4000 * n = omega arith in
     let next : 4000 * (a + 1) ≡ 4000 * a + 4000 = omega arith in
-    ap (λ (rest : List ℕ). ids_at ids a ++ rest) (pieces ids (a + 1) n ∙ ap (λ (m : ℕ). take (4000 * n) (drop m ids)) next ∙ ap (take (4000 * n)) (sym (drop-drop 4000 (4000 * a) ids)))
+    ap (λ (rest : List ℕ). ids_at ids a ++ rest) (pieces ids (a + 1) n ∙ ap (λ (m : ℕ).
+    take (4000 * n) (drop m ids)) next ∙ ap (take (4000 * n)) (sym (drop-drop 4000 (4000 * a) ids)))
     ∙ sym (take-add 4000 (4000 * n) (drop (4000 * a) ids))
     ∙ ap (λ (m : ℕ). take m (drop (4000 * a) ids)) (sym size)
 

@@ -28,7 +28,8 @@ use Rattle.lgm_store.proofs.Lists.{node_total}
 use Rattle.lgm_store.proofs.Ordered.{find-same, filter-alike}
 use Rattle.lgm_query.specs.declared.filter.Filter.{Filter}
 use Rattle.lgm_query.specs.Backlog.{passes, passing_update, behind_announcement, passing_channel, passing_node, backlog, is_among, news}
-use Rattle.lgm_query.specs.KeyNews.{Subject, of_channel, of_node, subject_of, TellKeys, passing_of_channel, passing_of_node, without_known, news_of_channel, news_of_node}
+use Rattle.lgm_query.specs.KeyNews.{Subject, of_channel, of_node, subject_of, TellKeys, passing_of_channel}
+use Rattle.lgm_query.specs.KeyNews.{passing_of_node, without_known, news_of_channel, news_of_node}
 use Rattle.lgm_query.proofs.Ids.{id_test, id_level}
 use Rattle.lgm_query.proofs.KeyNewsLaws.{other_subject, filter-flat_map, flat_map-alike, among_its_row, along_keys, All-given}
 use Rattle.std.specs.BTreeMap.{is_at}
@@ -75,7 +76,8 @@ found P p (y ∷ ys) x all is = by (found P p ys x all.1) (p y) refl is
     by others true holds is = let same : Some y ≡ Some x = rw holds at is in let own : y ≡ x = cc in (rw (← own) all.0, rw (← own) holds)
     by others false holds is = others (rw holds at is)
 
-update_about : (rows : Rows) (id : ℕ) (second : Bool) (row : UpdateRow) → TellKeys rows → update_of rows.updates id second ≡ Some row → About (of_channel id) row.raw
+update_about : (rows : Rows) (id : ℕ) (second : Bool) (row : UpdateRow) → TellKeys rows
+    → update_of rows.updates id second ≡ Some row → About (of_channel id) row.raw
 update_about rows id second row tell is =
     let both = found (λ r. subject_of r.raw ≡ of_channel r.message.short_channel_id) _ rows.updates row tell.updates is in
     both.0 ∙ ap of_channel (eqb-true row.message.short_channel_id id (and_parts _ _ both.1).0)
@@ -94,24 +96,31 @@ abbrev pub passing_at : Filter → Rows → ChannelRow → List (List ℕ)
 passing_at f rows row = passing_channel f (held_at rows row)
 
 backlog_rows : (f : Filter) (rows : Rows) → backlog rows f ≡ flat_map (passing_at f rows) rows.channels ++ flat_map (passing_node f) rows.nodes
-backlog_rows f rows = ap (λ (messages : List (List ℕ)). messages ++ flat_map (passing_node f) rows.nodes) (flat_map-map (passing_channel f) (held_at rows) rows.channels)
+backlog_rows f rows =
+    ap (λ (messages : List (List ℕ)). messages ++ flat_map (passing_node f) rows.nodes)
+    (flat_map-map (passing_channel f) (held_at rows) rows.channels)
 
-behind_about : (subject : Subject) (row : ChannelRow) (updates : List (List ℕ)) → About subject row.raw → AllByRecursion (About subject) updates → AllByRecursion (About subject) (behind_announcement row updates)
+behind_about : (subject : Subject) (row : ChannelRow) (updates : List (List ℕ)) → About subject row.raw
+    → AllByRecursion (About subject) updates
+    → AllByRecursion (About subject) (behind_announcement row updates)
 behind_about subject row [] own all = tt
 behind_about subject row (u ∷ us) own all = (own, all)
 
-channel_about : (f : Filter) (rows : Rows) (row : ChannelRow) → TellKeys rows → About (of_channel (id_of row)) row.raw → AllByRecursion (About (of_channel (id_of row))) (passing_at f rows row)
+channel_about : (f : Filter) (rows : Rows) (row : ChannelRow) → TellKeys rows → About (of_channel (id_of row))
+    row.raw → AllByRecursion (About (of_channel (id_of row))) (passing_at f rows row)
 channel_about f rows row tell own =
     behind_about _ row _ own
     (All-append _ _ _ (passing_about f _ (update_of rows.updates (id_of row) false) (λ u is. update_about rows (id_of row) false u tell is))
     (passing_about f _ (update_of rows.updates (id_of row) true) (λ u is. update_about rows (id_of row) true u tell is)))
 
-channels_about : (f : Filter) (rows : Rows) → TellKeys rows → (channels : List ChannelRow) → AllByRecursion (λ row. subject_of row.raw ≡ of_channel (id_of row)) channels
+channels_about : (f : Filter) (rows : Rows) → TellKeys rows → (channels : List ChannelRow)
+    → AllByRecursion (λ row. subject_of row.raw ≡ of_channel (id_of row)) channels
     → AllByRecursion (λ row. AllByRecursion (About (of_channel (id_of row))) (passing_at f rows row)) channels
 channels_about f rows tell [] own = tt
 channels_about f rows tell (row ∷ channels) own = (channel_about f rows row tell own.0, channels_about f rows tell channels own.1)
 
-node_about : (f : Filter) (row : NodeRow) → About (of_node (point_of row)) row.raw → AllByRecursion (About (of_node (point_of row))) (passing_node f row)
+node_about : (f : Filter) (row : NodeRow) → About (of_node (point_of row)) row.raw
+    → AllByRecursion (About (of_node (point_of row))) (passing_node f row)
 node_about f row own = by (passes f row.message.timestamp)
   where
     by : (b : Bool) → AllByRecursion (About (of_node (point_of row))) (cond b (row.raw ∷ []) [])
@@ -126,7 +135,8 @@ nodes_about f (row ∷ nodes) own = (node_about f row own.0, nodes_about f nodes
 -- ---- of the earlier backlog, a message can only be among those of its key
 
 -- no message of these rows is about that
-none_about : {R : Type 0} (h : R → List (List ℕ)) (about : R → Subject) (message : List ℕ) (rows : List R) → ((row : R) → subject_of message ≡ about row → ⊥)
+none_about : {R : Type 0} (h : R → List (List ℕ)) (about : R → Subject) (message : List ℕ) (rows : List R)
+    → ((row : R) → subject_of message ≡ about row → ⊥)
     → AllByRecursion (λ row. AllByRecursion (About (about row)) (h row)) rows → is_among (flat_map h rows) message ≡ false
 none_about h about message [] other all = refl
 none_about h about message (row ∷ rows) other all =
@@ -138,9 +148,12 @@ pub among_channel : (f : Filter) (rows : Rows) (message : List ℕ) (id : ℕ) �
 among_channel f rows message id ascend tell is =
     ap (λ (messages : List (List ℕ)). is_among messages message) (backlog_rows f rows)
     ∙ list_any-append (pointwise nat_eq message) (flat_map (passing_at f rows) rows.channels) (flat_map (passing_node f) rows.nodes)
-    ∙ rw (none_about (passing_node f) (λ row. of_node (point_of row)) message rows.nodes (λ row e. let never : of_channel id ≡ of_node (point_of row) = sym is ∙ e in absurd cc) (nodes_about f rows.nodes tell.nodes))
+    ∙ rw (none_about (passing_node f) (λ row. of_node (point_of row)) message rows.nodes
+    (λ row e. let never : of_channel id ≡ of_node (point_of row) = sym is ∙ e in absurd cc)
+    (nodes_about f rows.nodes tell.nodes))
     (or-false _)
-    ∙ among_its_row id_of nat_cmp nat_cmp_total of_channel channel_apart (passing_at f rows) message id rows.channels is ascend.channels (channels_about f rows tell rows.channels tell.channels)
+    ∙ among_its_row id_of nat_cmp nat_cmp_total of_channel channel_apart (passing_at f rows) message id
+    rows.channels is ascend.channels (channels_about f rows tell rows.channels tell.channels)
     ∙ ap (λ o. is_among (option_map_or (passing_at f rows) o []) message) (find-same _ _ (λ row. id_test (id_of row) id) rows.channels)
 
 pub among_node : (f : Filter) (rows : Rows) (message : List ℕ) (node : Point) → IsAscending rows → TellKeys rows → subject_of message ≡ of_node node
@@ -148,8 +161,11 @@ pub among_node : (f : Filter) (rows : Rows) (message : List ℕ) (node : Point) 
 among_node f rows message node ascend tell is =
     ap (λ (messages : List (List ℕ)). is_among messages message) (backlog_rows f rows)
     ∙ list_any-append (pointwise nat_eq message) (flat_map (passing_at f rows) rows.channels) (flat_map (passing_node f) rows.nodes)
-    ∙ rw (none_about (passing_at f rows) (λ row. of_channel (id_of row)) message rows.channels (λ row e. let never : of_node node ≡ of_channel (id_of row) = sym is ∙ e in absurd cc) (channels_about f rows tell rows.channels tell.channels))
-    (among_its_row point_of point_cmp node_total of_node node_apart (passing_node f) message node rows.nodes is ascend.nodes (nodes_about f rows.nodes tell.nodes))
+    ∙ rw (none_about (passing_at f rows) (λ row. of_channel (id_of row)) message rows.channels
+    (λ row e. let never : of_node node ≡ of_channel (id_of row) = sym is ∙ e in absurd cc)
+    (channels_about f rows tell rows.channels tell.channels))
+    (among_its_row point_of point_cmp node_total of_node node_apart (passing_node f) message node rows.nodes
+    is ascend.nodes (nodes_about f rows.nodes tell.nodes))
     ∙ ap (λ o. is_among (option_map_or (passing_node f) o []) message) (find-same _ _ (λ row. is_at-point (point_of row) node) rows.nodes)
 
 -- ---- the news
@@ -159,18 +175,22 @@ All-each P [] each = tt
 All-each P (x ∷ xs) each = (each x, All-each P xs each)
 
 -- each row is found at its key
-own_rows : {R K : Type 0} (key : R → K) (c : K → K → Ordering) → ((k : K) → c k k ≡ Equal) → (rows : List R) → IsStrictlySortedBy (λ a b. c (key a) (key b)) rows
+own_rows : {R K : Type 0} (key : R → K) (c : K → K → Ordering) → ((k : K) → c k k ≡ Equal) → (rows : List R)
+    → IsStrictlySortedBy (λ a b. c (key a) (key b)) rows
     → AllByRecursion (λ row. find (λ other. is_eq (c (key other) (key row))) rows ≡ Some row) rows
 unfolding IsStrictlySortedBy
 own_rows key c level [] sorted = tt
 own_rows key c level (row ∷ rows) sorted =
     (rw (level (key row)) refl, All-given _ _ _ rows (λ other less is. rw less is) sorted.0 (own_rows key c level rows sorted.1))
 
-same_as_given : (known given : List (List ℕ)) (messages : List (List ℕ)) → AllByRecursion (λ m. is_among known m ≡ is_among given m) messages → without_known known messages ≡ without_known given messages
+same_as_given : (known given : List (List ℕ)) (messages : List (List ℕ))
+    → AllByRecursion (λ m. is_among known m ≡ is_among given m) messages
+    → without_known known messages ≡ without_known given messages
 same_as_given known given messages same = filter-alike _ _ messages (All-given _ _ _ messages (λ m is other. ap not is) same same)
 
 -- what is told of a row is told of its key
-told : {R K : Type 0} (key : R → K) (c : K → K → Ordering) (about : K → Subject) (h : R → List (List ℕ)) (g : K → List (List ℕ)) (earlier : List (List ℕ)) (given : K → List (List ℕ)) (rows : List R)
+told : {R K : Type 0} (key : R → K) (c : K → K → Ordering) (about : K → Subject) (h : R → List (List ℕ))
+    (g : K → List (List ℕ)) (earlier : List (List ℕ)) (given : K → List (List ℕ)) (rows : List R)
     → ((m : List ℕ) (k : K) → subject_of m ≡ about k → is_among earlier m ≡ is_among (given k) m)
     → ((row : R) → find (λ other. is_eq (c (key other) (key row))) rows ≡ Some row → without_known (given (key row)) (h row) ≡ g (key row))
     → (some : List R) → AllByRecursion (λ row. find (λ other. is_eq (c (key other) (key row))) rows ≡ Some row) some
@@ -178,27 +198,34 @@ told : {R K : Type 0} (key : R → K) (c : K → K → Ordering) (about : K → 
     → AllByRecursion (λ row. without_known earlier (h row) ≡ g (key row)) some
 told key c about h g earlier given rows among at some own tell =
     All-given _ _ _ some
-    (λ row is own_about. same_as_given earlier (given (key row)) (h row) (All-given _ _ _ (h row) (λ m one other. among m (key row) one) own_about own_about) ∙ at row is)
+    (λ row is own_about. same_as_given earlier (given (key row)) (h row)
+    (All-given _ _ _ (h row) (λ m one other. among m (key row) one) own_about own_about) ∙ at row is)
     own tell
 
-channel_news : (f : Filter) (before after : Rows) (ids : List ℕ) → IsAscending before → IsAscending after → TellKeys before → TellKeys after → IsStrictlySortedBy nat_cmp ids
+channel_news : (f : Filter) (before after : Rows) (ids : List ℕ) → IsAscending before → IsAscending after
+    → TellKeys before → TellKeys after → IsStrictlySortedBy nat_cmp ids
     → ((id : ℕ) → list_any (is_at (nat_cmp id)) ids ≡ false → news_of_channel f before after id ≡ [])
     → without_known (backlog before f) (flat_map (passing_at f after) after.channels) ≡ flat_map (news_of_channel f before after) ids
 channel_news f before after ids before_ascends after_ascends before_tells after_tells ascend lie =
     filter-flat_map _ (passing_at f after) after.channels
     ∙ flat_map-alike _ (λ row. news_of_channel f before after (id_of row)) after.channels
-    (told id_of nat_cmp of_channel (passing_at f after) (news_of_channel f before after) (backlog before f) (passing_of_channel f before) after.channels
+    (told id_of nat_cmp of_channel (passing_at f after) (news_of_channel f before after) (backlog before f)
+    (passing_of_channel f before) after.channels
     (λ m id about. among_channel f before m id before_ascends before_tells about)
     (λ row is. ap (λ o. without_known (passing_of_channel f before (id_of row)) (option_map_or (passing_at f after) o []))
     (sym is ∙ find-same _ _ (λ other. id_test (id_of other) (id_of row)) after.channels))
-    after.channels (own_rows id_of nat_cmp id_level after.channels after_ascends.channels) (channels_about f after after_tells after.channels after_tells.channels))
+    after.channels (own_rows id_of nat_cmp id_level after.channels after_ascends.channels)
+    (channels_about f after after_tells after.channels after_tells.channels))
     ∙ along_keys id_of nat_cmp nat_cmp_total exact_unsigned (news_of_channel f before after) after.channels ids after_ascends.channels ascend
     (All-each _ after.channels (λ row. lie (id_of row))) (All-each _ ids none)
   where
     none : (id : ℕ) → find (λ row. is_eq (nat_cmp (id_of row) id)) after.channels ≡ None → news_of_channel f before after id ≡ []
-    none id is = ap (λ o. without_known (passing_of_channel f before id) (option_map_or (passing_at f after) o [])) (sym (find-same _ _ (λ row. id_test (id_of row) id) after.channels) ∙ is)
+    none id is =
+        ap (λ o. without_known (passing_of_channel f before id) (option_map_or (passing_at f after) o []))
+        (sym (find-same _ _ (λ row. id_test (id_of row) id) after.channels) ∙ is)
 
-node_news : (f : Filter) (before after : Rows) (nodes : List Point) → IsAscending before → IsAscending after → TellKeys before → TellKeys after → IsStrictlySortedBy point_cmp nodes
+node_news : (f : Filter) (before after : Rows) (nodes : List Point) → IsAscending before → IsAscending after
+    → TellKeys before → TellKeys after → IsStrictlySortedBy point_cmp nodes
     → ((node : Point) → list_any (is_at (point_cmp node)) nodes ≡ false → news_of_node f before after node ≡ [])
     → without_known (backlog before f) (flat_map (passing_node f) after.nodes) ≡ flat_map (news_of_node f before after) nodes
 node_news f before after nodes before_ascends after_ascends before_tells after_tells ascend lie =
@@ -213,11 +240,15 @@ node_news f before after nodes before_ascends after_ascends before_tells after_t
     (All-each _ after.nodes (λ row. lie (point_of row))) (All-each _ nodes none)
   where
     none : (node : Point) → find (λ row. is_eq (point_cmp (point_of row) node)) after.nodes ≡ None → news_of_node f before after node ≡ []
-    none node is = ap (λ o. without_known (passing_of_node f before node) (option_map_or (passing_node f) o [])) (sym (find-same _ _ (λ row. is_at-point (point_of row) node) after.nodes) ∙ is)
+    none node is =
+        ap (λ o. without_known (passing_of_node f before node) (option_map_or (passing_node f) o []))
+        (sym (find-same _ _ (λ row. is_at-point (point_of row) node) after.nodes) ∙ is)
 
 -- where bytes tell their keys, the news are those of the keys at which there are any
-pub news_at_keys : (f : Filter) (before after : Rows) (ids : List ℕ) (nodes : List Point) → IsAscending before → IsAscending after → TellKeys before → TellKeys after
-    → LieAt f before after ids nodes → news before after f ≡ flat_map (news_of_channel f before after) ids ++ flat_map (news_of_node f before after) nodes
+pub news_at_keys : (f : Filter) (before after : Rows) (ids : List ℕ) (nodes : List Point) → IsAscending before
+    → IsAscending after → TellKeys before → TellKeys after
+    → LieAt f before after ids nodes → news before after f
+    ≡ flat_map (news_of_channel f before after) ids ++ flat_map (news_of_node f before after) nodes
 news_at_keys f before after ids nodes before_ascends after_ascends before_tells after_tells lie =
     ap (without_known (backlog before f)) (backlog_rows f after)
     ∙ filter-append _ (flat_map (passing_at f after) after.channels) (flat_map (passing_node f) after.nodes)

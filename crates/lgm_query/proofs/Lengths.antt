@@ -1,5 +1,6 @@
 -- How long replies are.
-use Rattle.std.proofs.Common.{◌≡◌, ℕ, suc, ◌+◌, ◌*◌, ◌≤◌, Bool, true, false, List, [], ◌∷◌, ◌++◌, length, Option, Some, None, arith, refl, length-append}
+use Rattle.std.proofs.Common.{◌≡◌, ℕ, suc, ◌+◌, ◌*◌, ◌≤◌, Bool, true, false, List, [], ◌∷◌}
+use Rattle.std.proofs.Common.{◌++◌, length, Option, Some, None, arith, refl, length-append}
 use Rattle.std.specs.Prelude.{nat_lt}
 use Rattle.std.specs.List.{flat_map}
 use Rattle.std.specs.Option.{ForSome}
@@ -41,7 +42,8 @@ length-record : (size value : List ℕ) (n : ℕ) → length size ≤ 9 → leng
 length-record size value n few fits = omega (arith, length-append size value)
 
 -- the record of timestamps, where there is one
-length-option : (pairs : Option (List Timestamps)) (count : ℕ) → ForSome pairs (λ ps. length ps ≡ count) → length (option_text pairs_text pairs) ≤ 8 * count + 11
+length-option : (pairs : Option (List Timestamps)) (count : ℕ) → ForSome pairs (λ ps. length ps ≡ count)
+    → length (option_text pairs_text pairs) ≤ 8 * count + 11
 length-option None count are = omega arith
 length-option (Some ps) count are =
     let eight : length (flat_map pair_bytes ps) ≡ 8 * length ps = length-pairs ps in
@@ -49,7 +51,8 @@ length-option (Some ps) count are =
     length-record (bigsize_bytes (length (pairs_text ps))) (pairs_text ps) (8 * count + 11) (length-bigsize (length (pairs_text ps))) (omega arith)
 
 -- a reply of at most 4,000 ids
-pub length-reply : (m : Reply) → length m.chain_hash.0 ≡ 32 → length m.ids ≤ 4000 → ForSome m.timestamps (λ pairs. length pairs ≡ length m.ids) → length (spelling (messages.RangeReply m)) ≤ 65535
+pub length-reply : (m : Reply) → length m.chain_hash.0 ≡ 32 → length m.ids ≤ 4000 → ForSome m.timestamps
+    (λ pairs. length pairs ≡ length m.ids) → length (spelling (messages.RangeReply m)) ≤ 65535
 length-reply m chain few pairs =
     let eight : length (flat_map (to_be_bytes w64) m.ids) ≡ 8 * length m.ids = length-ids m.ids in
     let more : length (option_text pairs_text m.timestamps) ≤ 8 * length m.ids + 11 = length-option m.timestamps (length m.ids) pairs in

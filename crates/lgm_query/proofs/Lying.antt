@@ -40,21 +40,30 @@ found_id : (id : ℕ) (rows : List ChannelRow) (row : ChannelRow) → channel_of
 found_id id [] row is = absurd cc
 found_id id (r ∷ rs) row is = by (found_id id rs row) (r.message.short_channel_id == id) refl is
   where
-    by : (channel_of rs id ≡ Some row → row.message.short_channel_id ≡ id) → (b : Bool) → (r.message.short_channel_id == id) ≡ b → cond (r.message.short_channel_id == id) (Some r) (channel_of rs id) ≡ Some row → row.message.short_channel_id ≡ id
-    by others true test is = let same : Some r ≡ Some row = rw test at is in let own : r ≡ row = cc in ap (λ (x : ChannelRow). x.message.short_channel_id) (sym own) ∙ eqb-true r.message.short_channel_id id test
+    by : (channel_of rs id ≡ Some row → row.message.short_channel_id ≡ id) → (b : Bool)
+        → (r.message.short_channel_id == id) ≡ b → cond (r.message.short_channel_id
+        == id) (Some r) (channel_of rs id) ≡ Some row → row.message.short_channel_id ≡ id
+    by others true test is =
+        let same : Some r ≡ Some row = rw test at is in
+        let own : r ≡ row = cc in
+        ap (λ (x : ChannelRow). x.message.short_channel_id) (sym own)
+        ∙ eqb-true r.message.short_channel_id id test
     by others false test is = others (rw test at is)
 
-passing_same : (f : Filter) (id : ℕ) (before after : Rows) → SameChannel id before after → passing_of_channel f after id ≡ passing_of_channel f before id
+passing_same : (f : Filter) (id : ℕ) (before after : Rows) → SameChannel id before after
+    → passing_of_channel f after id ≡ passing_of_channel f before id
 passing_same f id before after same = ap (λ o. option_map_or (passing_at f after) o []) same.0 ∙ by (channel_of before.channels id) refl
   where
     updates : (row : ChannelRow) → row.message.short_channel_id ≡ id → passing_at f after row ≡ passing_at f before row
     updates row own = rw (own, same.1 false, same.1 true) refl
 
-    by : (o : Option ChannelRow) → channel_of before.channels id ≡ o → option_map_or (passing_at f after) o [] ≡ option_map_or (passing_at f before) o []
+    by : (o : Option ChannelRow) → channel_of before.channels id ≡ o
+        → option_map_or (passing_at f after) o [] ≡ option_map_or (passing_at f before) o []
     by None is = refl
     by (Some row) is = updates row (found_id id before.channels row is)
 
-no_channel_news : (f : Filter) (id : ℕ) (before after : Rows) → SameChannel id before after ⊎ NoChannel id after → news_of_channel f before after id ≡ []
+no_channel_news : (f : Filter) (id : ℕ) (before after : Rows)
+    → SameChannel id before after ⊎ NoChannel id after → news_of_channel f before after id ≡ []
 no_channel_news f id before after (inl same) = rw (passing_same f id before after same) (nothing_new (passing_of_channel f before id))
 no_channel_news f id before after (inr none) = rw none refl
 
@@ -63,12 +72,15 @@ no_node_news f node before after (inl same) = rw same (nothing_new (passing_of_n
 no_node_news f node before after (inr none) = rw none refl
 
 -- news lie at what operations touch
-pub lie_at : (f : Filter) (before after : Rows) (history : List Op) (touched : Touched) → IsAscending before → after ≡ fold_from before history → HasTouched history touched
+pub lie_at : (f : Filter) (before after : Rows) (history : List Op) (touched : Touched) → IsAscending before
+    → after ≡ fold_from before history → HasTouched history touched
     → LieAt f before after touched.channels touched.nodes
 lie_at f before after history touched ascend is has = rw is (record {
   channels_ascend = has.channels_ascend;
   nodes_ascend = has.nodes_ascend;
-  of_channels = λ id none. no_channel_news f id before (fold_from before history) (channel_untouched id before history ascend (sym (has.of_channels id) ∙ none));
+  of_channels =
+      λ id none. no_channel_news f id before (fold_from before history)
+      (channel_untouched id before history ascend (sym (has.of_channels id) ∙ none));
   of_nodes = λ node none. no_node_news f node before (fold_from before history) (node_untouched node before history (sym (has.of_nodes node) ∙ none));
 })
 

@@ -17,10 +17,12 @@ with_nodes_once-push (first ∷ pieces) piece =
     ap (λ (rest : List Piece). first ∷ filter (λ other. not (are_of_one_node first other)) rest) (with_nodes_once-push pieces piece)
     ∙ ap (λ (rest : List Piece). first ∷ rest)
     (filter-append (λ other. not (are_of_one_node first other)) (with_nodes_once pieces) (if comes_again pieces piece then [] else piece ∷ [])
-    ∙ ap (λ (rest : List Piece). filter (λ other. not (are_of_one_node first other)) (with_nodes_once pieces) ++ rest) (by (are_of_one_node first piece) refl (comes_again pieces piece)))
+    ∙ ap (λ (rest : List Piece). filter (λ other. not (are_of_one_node first other)) (with_nodes_once pieces)
+    ++ rest) (by (are_of_one_node first piece) refl (comes_again pieces piece)))
   where
     by : (b : Bool) → are_of_one_node first piece ≡ b → (d : Bool)
-        → filter (λ other. not (are_of_one_node first other)) (if d then [] else piece ∷ []) ≡ (if are_of_one_node first piece || d then [] else piece ∷ [])
+        → filter (λ other. not (are_of_one_node first other)) (if d then [] else piece ∷ [])
+        ≡ (if are_of_one_node first piece || d then [] else piece ∷ [])
     by true is true = rw is refl
     by true is false = rw is refl
     by false is true = rw is refl

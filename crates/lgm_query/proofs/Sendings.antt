@@ -39,7 +39,10 @@ plain piece old new no_node other_nodes message same pieces are = record {
   messages = message ∙ ap (λ (ms : List (List ℕ)). ms ++ bytes_of piece ∷ []) are.messages
       ∙ sym (map-append bytes_of (with_nodes_once pieces) (piece ∷ []))
       ∙ ap (map bytes_of) (sym (with_nodes_once-push pieces piece ∙ rw (no_node pieces) refl));
-  nodes = λ point. ap (list_any (is_at (point_cmp point))) same ∙ are.nodes point ∙ sym (list_any-append (is_of_node point) pieces (piece ∷ []) ∙ rw (other_nodes point) (or_false (list_any (is_of_node point) pieces)));
+  nodes =
+      λ point. ap (list_any (is_at (point_cmp point))) same ∙ are.nodes point
+      ∙ sym (list_any-append (is_of_node point) pieces (piece ∷ [])
+      ∙ rw (other_nodes point) (or_false (list_any (is_of_node point) pieces)));
 }
   where
     or_false : (b : Bool) → (b || (false || false)) ≡ b
@@ -50,7 +53,8 @@ not_again : (piece : Piece) → ((earlier : Piece) → are_of_one_node earlier p
 not_again piece apart [] = refl
 not_again piece apart (earlier ∷ pieces) = rw (apart earlier, not_again piece apart pieces) refl
 
-pub Sends-channel : (row : ChannelRow) (old new : Sent) → new.messages ≡ old.messages ++ row.raw ∷ [] → new.nodes ≡ old.nodes → Sends (channel row ∷ []) old new
+pub Sends-channel : (row : ChannelRow) (old new : Sent) → new.messages ≡ old.messages ++ row.raw ∷ []
+    → new.nodes ≡ old.nodes → Sends (channel row ∷ []) old new
 Sends-channel row old new message same = plain (channel row) old new (not_again (channel row) apart) (λ p. refl) message same
   where
     apart : (earlier : Piece) → are_of_one_node earlier (channel row) ≡ false
@@ -58,7 +62,8 @@ Sends-channel row old new message same = plain (channel row) old new (not_again 
     apart (update r) = refl
     apart (node r) = refl
 
-pub Sends-update : (row : UpdateRow) (old new : Sent) → new.messages ≡ old.messages ++ row.raw ∷ [] → new.nodes ≡ old.nodes → Sends (update row ∷ []) old new
+pub Sends-update : (row : UpdateRow) (old new : Sent) → new.messages ≡ old.messages ++ row.raw ∷ []
+    → new.nodes ≡ old.nodes → Sends (update row ∷ []) old new
 Sends-update row old new message same = plain (update row) old new (not_again (update row) apart) (λ p. refl) message same
   where
     apart : (earlier : Piece) → are_of_one_node earlier (update row) ≡ false
@@ -75,7 +80,8 @@ again row (node r ∷ pieces) = ap (λ (b : Bool). is_point r.message.node_id ro
 
 -- the node is in the set behind it
 known : (row : NodeRow) (old new : Sent)
-    → ((q : Point) → list_any (is_at (point_cmp q)) new.nodes ≡ cond (is_at (point_cmp row.message.node_id) q) true (list_any (is_at (point_cmp q)) old.nodes))
+    → ((q : Point) → list_any (is_at (point_cmp q)) new.nodes
+    ≡ cond (is_at (point_cmp row.message.node_id) q) true (list_any (is_at (point_cmp q)) old.nodes))
     → (pieces : List Piece) → ((q : Point) → list_any (is_at (point_cmp q)) old.nodes ≡ list_any (is_of_node q) pieces)
     → (q : Point) → list_any (is_at (point_cmp q)) new.nodes ≡ list_any (is_of_node q) (pieces ++ node row ∷ [])
 known row old new inserts pieces are q =
@@ -95,19 +101,26 @@ found_node : (nodes : List NodeRow) (point : Point) (row : NodeRow) → node_of 
 found_node [] point row is = absurd cc
 found_node (r ∷ rs) point row is = by (found_node rs point row) (is_point r.message.node_id point) refl is
   where
-    by : (node_of rs point ≡ Some row → row.message.node_id ≡ point) → (b : Bool) → is_point r.message.node_id point ≡ b → cond (is_point r.message.node_id point) (Some r) (node_of rs point) ≡ Some row → row.message.node_id ≡ point
-    by others true test is = let same : Some r ≡ Some row = rw test at is in let own : r ≡ row = cc in ap (λ (x : NodeRow). x.message.node_id) (sym own) ∙ same_point r.message.node_id point test
+    by : (node_of rs point ≡ Some row → row.message.node_id ≡ point) → (b : Bool) → is_point r.message.node_id
+        point ≡ b → cond (is_point r.message.node_id point) (Some r) (node_of rs point) ≡ Some row
+        → row.message.node_id ≡ point
+    by others true test is =
+        let same : Some r ≡ Some row = rw test at is in
+        let own : r ≡ row = cc in
+        ap (λ (x : NodeRow). x.message.node_id) (sym own) ∙ same_point r.message.node_id point test
     by others false test is = others (rw test at is)
 
 -- the announcement of a node that wasn't sent yet
-Sends-new_node : (nodes : List NodeRow) (row : NodeRow) (point : Point) (keys : List Point) (old new : Sent) → Some row ≡ node_of nodes point → old.nodes ≡ keys
+Sends-new_node : (nodes : List NodeRow) (row : NodeRow) (point : Point) (keys : List Point) (old new : Sent)
+    → Some row ≡ node_of nodes point → old.nodes ≡ keys
     → list_any (is_at (point_cmp point)) keys ≡ false
     → ((q : Point) → list_any (is_at (point_cmp q)) new.nodes ≡ cond (is_at (point_cmp point) q) true (list_any (is_at (point_cmp q)) keys))
     → new.messages ≡ old.messages ++ row.raw ∷ [] → Sends (option_to_list (option_map node (node_of nodes point))) old new
 Sends-new_node nodes row point keys old new held were absent inserts message =
     let own : row.message.node_id ≡ point = found_node nodes point row (sym held) in
     let absent' : list_any (is_at (point_cmp row.message.node_id)) old.nodes ≡ false = rw (were, own) absent in
-    let inserts' : (q : Point) → list_any (is_at (point_cmp q)) new.nodes ≡ cond (is_at (point_cmp row.message.node_id) q) true (list_any (is_at (point_cmp q)) old.nodes) =
+    let inserts' : (q : Point) → list_any (is_at (point_cmp q)) new.nodes
+    ≡ cond (is_at (point_cmp row.message.node_id) q) true (list_any (is_at (point_cmp q)) old.nodes) =
     λ q. rw (were, own) (inserts q) in
     rw (← held) (λ pieces are. record {
       messages = message ∙ ap (λ (ms : List (List ℕ)). ms ++ row.raw ∷ []) are.messages
@@ -117,14 +130,16 @@ Sends-new_node nodes row point keys old new held were absent inserts message =
     })
 
 -- that of one that was, if it is held
-pub Sends-known_node : (nodes : List NodeRow) (point : Point) (keys : List Point) (old new : Sent) → old.nodes ≡ keys → list_any (is_at (point_cmp point)) keys ≡ true → new ≡ old
+pub Sends-known_node : (nodes : List NodeRow) (point : Point) (keys : List Point) (old new : Sent)
+    → old.nodes ≡ keys → list_any (is_at (point_cmp point)) keys ≡ true → new ≡ old
     → Sends (option_to_list (option_map node (node_of nodes point))) old new
 Sends-known_node nodes point keys old new were present same = rw same (by (node_of nodes point) refl)
   where
     here : list_any (is_at (point_cmp point)) old.nodes ≡ true
     here = rw were present
 
-    none_more : (row : NodeRow) (pieces : List Piece) → list_any (is_of_node row.message.node_id) pieces ≡ true → (q : Point) (b : Bool) → is_point row.message.node_id q ≡ b
+    none_more : (row : NodeRow) (pieces : List Piece) → list_any (is_of_node row.message.node_id) pieces
+        ≡ true → (q : Point) (b : Bool) → is_point row.message.node_id q ≡ b
         → list_any (is_of_node q) pieces ≡ (list_any (is_of_node q) pieces || (is_point row.message.node_id q || false))
     none_more row pieces sent q true is =
         let same : row.message.node_id ≡ q = same_point row.message.node_id q is in
@@ -139,8 +154,12 @@ Sends-known_node nodes point keys old new were present same = rw same (by (node_
         λ pieces are.
         let sent : list_any (is_of_node row.message.node_id) pieces ≡ true = sym (are.nodes row.message.node_id) ∙ rw own here in
         record {
-          messages = are.messages ∙ ap (map bytes_of) (sym (with_nodes_once-push pieces (node row) ∙ rw (again row pieces, sent) (append-nil (with_nodes_once pieces))));
-          nodes = λ q. are.nodes q ∙ none_more row pieces sent q (is_point row.message.node_id q) refl ∙ sym (list_any-append (is_of_node q) pieces (node row ∷ []));
+          messages =
+              are.messages ∙ ap (map bytes_of) (sym (with_nodes_once-push pieces (node row)
+              ∙ rw (again row pieces, sent) (append-nil (with_nodes_once pieces))));
+          nodes =
+              λ q. are.nodes q ∙ none_more row pieces sent q (is_point row.message.node_id q) refl
+              ∙ sym (list_any-append (is_of_node q) pieces (node row ∷ []));
         }
 
 -- a message that is put at the end
@@ -149,13 +168,17 @@ pub OnOk-channel : {E : Type 0} (r : Result (Unit {0}) E) (row : ChannelRow) (ra
 OnOk-channel (Ok u) row raw old new is message same = Sends-channel row old new (rw is at message) same
 OnOk-channel (Err e) row raw old new is message same = tt
 
-pub OnOk-update : {E : Type 0} (r : Result (Unit {0}) E) (raw : List ℕ) (found : Option UpdateRow) (old new : Sent) → Some raw ≡ option_map (λ (row : UpdateRow). row.raw) found
-    → OnOk r (new.messages ≡ old.messages ++ raw ∷ []) → OnOk r (new.nodes ≡ old.nodes) → OnOk r (Sends (option_to_list (option_map update found)) old new)
+pub OnOk-update : {E : Type 0} (r : Result (Unit {0}) E) (raw : List ℕ) (found : Option UpdateRow)
+    (old new : Sent) → Some raw ≡ option_map (λ (row : UpdateRow). row.raw) found
+    → OnOk r (new.messages ≡ old.messages ++ raw ∷ []) → OnOk r (new.nodes ≡ old.nodes)
+    → OnOk r (Sends (option_to_list (option_map update found)) old new)
 OnOk-update (Ok u) raw None old new held message same = absurd cc
 OnOk-update (Ok u) raw (Some row) old new held message same = let is : raw ≡ row.raw = cc in Sends-update row old new (rw is at message) same
 OnOk-update (Err e) raw found old new held message same = tt
 
-pub OnOk-node : {E : Type 0} (r : Result (Unit {0}) E) (nodes : List NodeRow) (row : NodeRow) (raw : List ℕ) (point : Point) (keys inserted : List Point) (old mid new : Sent) → Some row ≡ node_of nodes point → raw ≡ row.raw
+pub OnOk-node : {E : Type 0} (r : Result (Unit {0}) E) (nodes : List NodeRow) (row : NodeRow) (raw : List ℕ)
+    (point : Point) (keys inserted : List Point) (old mid new : Sent) → Some row ≡ node_of nodes point
+    → raw ≡ row.raw
     → old.nodes ≡ keys → list_any (is_at (point_cmp point)) keys ≡ false
     → ((q : Point) → list_any (is_at (point_cmp q)) inserted ≡ cond (is_at (point_cmp point) q) true (list_any (is_at (point_cmp q)) keys))
     → mid.messages ≡ old.messages → mid.nodes ≡ inserted → OnOk r (new.messages ≡ mid.messages ++ raw ∷ []) → OnOk r (new.nodes ≡ mid.nodes)
@@ -171,7 +194,8 @@ pub Sends-set : (flags bit : ℕ) (piece : Option Piece) (b : Bool) (old mid new
 Sends-set flags bit piece b old mid new tests is same sends = rw (same, ← tests, is) sends
 
 -- and one that isn't set
-pub Sends-unset : (flags bit : ℕ) (piece : Option Piece) (b : Bool) (old new : Sent) → b ≡ (bit_at flags bit == 1) → b ≡ false → new ≡ old → Sends (if_set flags bit piece) old new
+pub Sends-unset : (flags bit : ℕ) (piece : Option Piece) (b : Bool) (old new : Sent)
+    → b ≡ (bit_at flags bit == 1) → b ≡ false → new ≡ old → Sends (if_set flags bit piece) old new
 Sends-unset flags bit piece b old new tests is same = rw (same, ← tests, is) (Sends-none old)
 
 -- what the five bits choose

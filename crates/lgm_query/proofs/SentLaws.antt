@@ -43,7 +43,8 @@ neither false true = refl
 neither false false = refl
 
 -- a message passed with an update exactly where it is among those that passed
-passed_with-is_among : (f : Filter) (held : Held) (message : List ℕ) → passed_with f held (sent_with (Some held) (Some message)) ≡ is_among (passing_channel f held) message
+passed_with-is_among : (f : Filter) (held : Held) (message : List ℕ)
+    → passed_with f held (sent_with (Some held) (Some message)) ≡ is_among (passing_channel f held) message
 passed_with-is_among f held message = by held.first held.second
   where
     is : List ℕ → Bool
@@ -68,7 +69,8 @@ passed_with-is_among f held message = by held.first held.second
     by (Some u) (Some v) = two (passes f u.message.timestamp) (passes f v.message.timestamp)
       where
         two : (p q : Bool) → ((is_among (held.channel.raw ∷ u.raw ∷ []) message && p) || (is_among (held.channel.raw ∷ v.raw ∷ []) message && q))
-            ≡ is_among (behind_announcement held.channel (option_to_list (cond p (Some u.raw) None) ++ option_to_list (cond q (Some v.raw) None))) message
+            ≡ is_among (behind_announcement held.channel
+            (option_to_list (cond p (Some u.raw) None) ++ option_to_list (cond q (Some v.raw) None))) message
         two true true = both_updates (pointwise nat_eq message held.channel.raw) (pointwise nat_eq message u.raw) (pointwise nat_eq message v.raw)
         two true false = not_second (is_among (held.channel.raw ∷ u.raw ∷ []) message) (is_among (held.channel.raw ∷ v.raw ∷ []) message)
         two false true = not_first (is_among (held.channel.raw ∷ u.raw ∷ []) message) (is_among (held.channel.raw ∷ v.raw ∷ []) message)
@@ -98,7 +100,8 @@ unless_passed-told f None sent None told = refl
 unless_passed-told f (Some held) sent None told = refl
 unless_passed-told f before sent (Some message) told = rw told (unless_passed-message f before message)
 
-tells_update : (f : Filter) (before : Option Held) (update : Option UpdateRow) → Tells before (sent_with before (update_message update)) (passing_update f update)
+tells_update : (f : Filter) (before : Option Held) (update : Option UpdateRow)
+    → Tells before (sent_with before (update_message update)) (passing_update f update)
 tells_update f before None = tt
 tells_update f before (Some row) = by (passes f row.message.timestamp)
   where
@@ -123,7 +126,8 @@ pub news_by_message : (f : Filter) (before : Option Held) (after : Held) (announ
     → announcement ≡ sent_with before (Some after.channel.raw)
     → first ≡ sent_with before (update_message after.first)
     → second ≡ sent_with before (update_message after.second)
-    → option_to_list (unless_passed f before announcement (then_some (is_some (passing_update f after.first) || is_some (passing_update f after.second)) after.channel.raw))
+    → option_to_list (unless_passed f before announcement (then_some
+    (is_some (passing_update f after.first) || is_some (passing_update f after.second)) after.channel.raw))
     ++ option_to_list (unless_passed f before first (passing_update f after.first))
     ++ option_to_list (unless_passed f before second (passing_update f after.second))
     ≡ without_known (passed_before f before) (passing_channel f after)
@@ -140,6 +144,7 @@ news_by_message f before after announcement first second of_announcement of_firs
     ) (sym (
     ap (without_known (passed_before f before)) (behind_announcement-parts after.channel one two)
     ∙ filter-append _ (option_to_list row ++ option_to_list one) (option_to_list two)
-    ∙ ap (λ (messages : List (List ℕ)). messages ++ without_known (passed_before f before) (option_to_list two)) (filter-append _ (option_to_list row) (option_to_list one))
+    ∙ ap (λ (messages : List (List ℕ)). messages ++ without_known (passed_before f before)
+    (option_to_list two)) (filter-append _ (option_to_list row) (option_to_list one))
     ))
     )

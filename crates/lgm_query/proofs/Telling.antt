@@ -20,7 +20,8 @@ use Rattle.std.specs.Prelude.{nat_eq, not, if◌then◌else◌}
 use Rattle.std.specs.Cmp.Lexicographic.{pointwise}
 use Rattle.lgm_wire.specs.Point.{is_lawful}
 use Rattle.lgm_check.specs.declared.refusal.Refusal.TheVariants as refusals
-use Rattle.lgm_check.specs.Precheck.{require, has_lawful_points, are_in_order, is_all_four, is_private, capacity_of, signer_of, checked_announce, checked_update, checked_node, checked_read, checked_of}
+use Rattle.lgm_check.specs.Precheck.{require, has_lawful_points, are_in_order, is_all_four, is_private, capacity_of, signer_of}
+use Rattle.lgm_check.specs.Precheck.{checked_announce, checked_update, checked_node, checked_read, checked_of}
 use Rattle.lgm_store.specs.declared.op.Op.{Op}
 use Rattle.lgm_store.specs.declared.op.Op.TheVariants as ops
 use Rattle.lgm_store.specs.Rows.{Rows, is_second, is_point, is_banned, ends_banned, ends_channel, channel_of, update_of, node_of}
@@ -45,9 +46,12 @@ signed (Ok point) next made is = (point, is)
 signed (Err refusal) next made is = absurd cc
 
 abbrev channel_step : Announce → List ℕ → Evidence → ℕ → Step Checked
-channel_step m bytes evidence sat = require (is_all_four evidence.sig) refusals.Signature >>= λ _. Ok (checked.Channel (record { message = m; sat = sat; raw = bytes }))
+channel_step m bytes evidence sat =
+    require (is_all_four evidence.sig) refusals.Signature >>= λ _.
+    Ok (checked.Channel (record { message = m; sat = sat; raw = bytes }))
 
-announce_tells : (chain : ChainHash) (m : Announce) (bytes : List ℕ) (evidence : Evidence) (made : Checked) → subject_of bytes ≡ of_channel m.short_channel_id
+announce_tells : (chain : ChainHash) (m : Announce) (bytes : List ℕ) (evidence : Evidence) (made : Checked)
+    → subject_of bytes ≡ of_channel m.short_channel_id
     → checked_announce chain m bytes evidence ≡ Ok made → CheckedTellsKey made
 unfolding checked_announce
 announce_tells chain m bytes evidence made about is =
@@ -63,7 +67,8 @@ announce_tells chain m bytes evidence made about is =
     let own : made ≡ checked.Channel (record { message = m; sat = d.0; raw = bytes }) = cc in
     rw own about
 
-update_tells : (chain : ChainHash) (m : ChannelUpdate) (bytes : List ℕ) (evidence : Evidence) (made : Checked) → subject_of bytes ≡ of_channel m.short_channel_id
+update_tells : (chain : ChainHash) (m : ChannelUpdate) (bytes : List ℕ) (evidence : Evidence) (made : Checked)
+    → subject_of bytes ≡ of_channel m.short_channel_id
     → checked_update chain m bytes evidence ≡ Ok made → CheckedTellsKey made
 unfolding checked_update
 update_tells chain m bytes evidence made about is =
@@ -107,13 +112,15 @@ read_tells chain bytes evidence made (Ok (messages.FilterMsg m)) at is = absurd 
 read_tells chain bytes evidence made (Err fault) at is = absurd cc
 
 -- a message that passes the check is about its row's key
-pub checked_tells : (chain : ChainHash) (bytes : List ℕ) (evidence : Evidence) (made : Checked) → checked_of chain bytes evidence ≡ Ok made → CheckedTellsKey made
+pub checked_tells : (chain : ChainHash) (bytes : List ℕ) (evidence : Evidence) (made : Checked)
+    → checked_of chain bytes evidence ≡ Ok made → CheckedTellsKey made
 unfolding checked_of
 checked_tells chain bytes evidence made is = read_tells chain bytes evidence made (message_at bytes) refl is
 
 -- ---- what is admitted is about it too
 
-announced_tells : (held : Option ChannelRow) (row : ChannelRow) (op : Op) → subject_of row.raw ≡ of_channel row.message.short_channel_id → announced held row ≡ Ok op → TellsKey op
+announced_tells : (held : Option ChannelRow) (row : ChannelRow) (op : Op)
+    → subject_of row.raw ≡ of_channel row.message.short_channel_id → announced held row ≡ Ok op → TellsKey op
 announced_tells None row op about is = let own : ops.Channel row ≡ op = cc in rw (← own) about
 announced_tells (Some held) row op about is = by (have_same_nodes held row) is
   where
@@ -121,13 +128,16 @@ announced_tells (Some held) row op about is = by (have_same_nodes held row) is
     by true is = absurd cc
     by false is = let own : ops.Ban (ban_of held row) ≡ op = cc in rw (← own) tt
 
-update_admitted_tells : (channel : Option ChannelRow) (held : Option UpdateRow) (row : UpdateRow) (signer : Point) (op : Op) → subject_of row.raw ≡ of_channel row.message.short_channel_id
+update_admitted_tells : (channel : Option ChannelRow) (held : Option UpdateRow) (row : UpdateRow)
+    (signer : Point) (op : Op) → subject_of row.raw ≡ of_channel row.message.short_channel_id
     → update_admission channel held row signer ≡ Ok op → TellsKey op
 update_admitted_tells None held row signer op about is = absurd cc
 update_admitted_tells (Some channel) held row signer op about is =
     let last : Step Op = Ok (ops.Update row) in
     let newer : Step Op = require (update_is_newer held row) refusals.NotNewer >>= λ _. last in
-    let e : last ≡ Ok op = tested (update_is_newer held row) refusals.NotNewer last op (tested (is_point signer (node_by channel row)) refusals.Signature newer op is) in
+    let e : last ≡ Ok op =
+    tested (update_is_newer held row) refusals.NotNewer last op
+    (tested (is_point signer (node_by channel row)) refusals.Signature newer op is) in
     let own : ops.Update row ≡ op = cc in
     rw (← own) about
 
@@ -136,7 +146,8 @@ admitted_tells rows (checked.Channel row) op about is =
     let held = channel_of rows.channels row.message.short_channel_id in
     announced_tells held row op about (tested (not (ends_banned rows.banned row)) refusals.Banned (announced held row) op is)
 admitted_tells rows (checked.Update row signer) op about is =
-    update_admitted_tells (channel_of rows.channels row.message.short_channel_id) (update_of rows.updates row.message.short_channel_id (is_second row)) row signer op about is
+    update_admitted_tells (channel_of rows.channels row.message.short_channel_id)
+    (update_of rows.updates row.message.short_channel_id (is_second row)) row signer op about is
 admitted_tells rows (checked.Node row) op about is =
     let last : Step Op = Ok (ops.Node row) in
     let held = node_of rows.nodes row.message.node_id in
@@ -149,6 +160,7 @@ admitted_tells rows (checked.Node row) op about is =
     rw (← own) about
 
 -- the operation that an admitted message gives is about its row's key
-pub operation_tells : (chain : ChainHash) (bytes : List ℕ) (evidence : Evidence) (made : Checked) (rows : Rows) (op : Op) → checked_of chain bytes evidence ≡ Ok made → admitted rows made ≡ Ok op
+pub operation_tells : (chain : ChainHash) (bytes : List ℕ) (evidence : Evidence) (made : Checked)
+    (rows : Rows) (op : Op) → checked_of chain bytes evidence ≡ Ok made → admitted rows made ≡ Ok op
     → TellsKey op
 operation_tells chain bytes evidence made rows op is admits = admitted_tells rows made op (checked_tells chain bytes evidence made is) admits

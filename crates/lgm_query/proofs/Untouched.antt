@@ -14,9 +14,11 @@ use Rattle.lgm_check.specs.declared.row.UpdateRow.{UpdateRow}
 use Rattle.lgm_check.specs.declared.row.NodeRow.{NodeRow}
 use Rattle.lgm_store.specs.declared.op.Op.{Op}
 use Rattle.lgm_store.specs.declared.op.Op.TheVariants as ops
-use Rattle.lgm_store.specs.Rows.{Rows, IsAscending, put, by_id, by_direction, by_node, is_point, is_second, channel_of, update_of, node_of, ends_channel, ends_banned}
+use Rattle.lgm_store.specs.Rows.{Rows, IsAscending, put, by_id, by_direction, by_node, is_point, is_second}
+use Rattle.lgm_store.specs.Rows.{channel_of, update_of, node_of, ends_channel, ends_banned}
 use Rattle.lgm_store.specs.inner.Ends.{point_cmp}
-use Rattle.lgm_store.specs.History.{channels_without, updates_without, ended_nodes, with_banned, allowed_channels, banned_channels, banning, absorbed, fold_from}
+use Rattle.lgm_store.specs.History.{channels_without, updates_without, ended_nodes, with_banned, allowed_channels}
+use Rattle.lgm_store.specs.History.{banned_channels, banning, absorbed, fold_from}
 use Rattle.lgm_store.proofs.Ascending.{IsAscending-absorbed}
 use Rattle.lgm_store.proofs.Points.{same_point, is_at-point}
 use Rattle.lgm_query.specs.KeyNews.{TellKeys}
@@ -38,7 +40,8 @@ module _ {X : Type 0} (p : X → Bool) where
   find-kept_here q [] kept = refl
   find-kept_here q (x ∷ xs) kept = by (find-kept_here q xs kept.1) (p x) refl (q x) refl
     where
-      by : find p (filter q xs) ≡ find p xs → (a : Bool) → p x ≡ a → (b : Bool) → q x ≡ b → find p (cond (q x) (x ∷ filter q xs) (filter q xs)) ≡ cond (p x) (Some x) (find p xs)
+      by : find p (filter q xs) ≡ find p xs → (a : Bool) → p x ≡ a → (b : Bool) → q x ≡ b
+          → find p (cond (q x) (x ∷ filter q xs) (filter q xs)) ≡ cond (p x) (Some x) (find p xs)
       by others true is true also = rw (also, is) refl
       by others true is false also = let never : true ≡ false = sym (kept.0 is) ∙ also in absurd cc
       by others false is true also = rw (also, is) others
@@ -69,25 +72,30 @@ module _ {X : Type 0} (p : X → Bool) where
   find-second [] ys none = refl
   find-second (x ∷ xs) ys none = by (find-second xs ys) (p x) refl none
     where
-      by : (find p xs ≡ None → find p (xs ++ ys) ≡ find p ys) → (b : Bool) → p x ≡ b → cond (p x) (Some x) (find p xs) ≡ None → cond (p x) (Some x) (find p (xs ++ ys)) ≡ find p ys
+      by : (find p xs ≡ None → find p (xs ++ ys) ≡ find p ys) → (b : Bool) → p x ≡ b
+          → cond (p x) (Some x) (find p xs) ≡ None → cond (p x) (Some x) (find p (xs ++ ys)) ≡ find p ys
       by others true is none = let never : Some x ≡ None = rw is at none in absurd cc
       by others false is none = rw is (others (rw is at none))
 
   -- a row that is put in its place is not found by a test that it doesn't pass
-  find-put : (order : X → X → Ordering) (xs : List X) (row : X) (o : Ordering) → (o ≡ Equal → ⊥) → p row ≡ false → ((x : X) → p x ≡ true → order x row ≡ o) → find p (put order xs row) ≡ find p xs
+  find-put : (order : X → X → Ordering) (xs : List X) (row : X) (o : Ordering) → (o ≡ Equal → ⊥)
+      → p row ≡ false → ((x : X) → p x ≡ true → order x row ≡ o) → find p (put order xs row) ≡ find p xs
   find-put order xs row Less other fails side =
-      find-first (filter (λ x. is_lt (order x row)) xs) (row ∷ filter (λ x. is_gt (order x row)) xs) (rw (fails, find-gone (λ x. is_gt (order x row)) xs (λ x is. ap is_gt (side x is))) refl)
+      find-first (filter (λ x. is_lt (order x row)) xs) (row ∷ filter (λ x. is_gt (order x row)) xs)
+      (rw (fails, find-gone (λ x. is_gt (order x row)) xs (λ x is. ap is_gt (side x is))) refl)
       ∙ find-kept (λ x. is_lt (order x row)) xs (λ x is. ap is_lt (side x is))
   find-put order xs row Equal other fails side = absurd (other refl)
   find-put order xs row Greater other fails side =
-      find-second (filter (λ x. is_lt (order x row)) xs) (row ∷ filter (λ x. is_gt (order x row)) xs) (find-gone (λ x. is_lt (order x row)) xs (λ x is. ap is_lt (side x is)))
+      find-second (filter (λ x. is_lt (order x row)) xs) (row ∷ filter (λ x. is_gt (order x row)) xs)
+      (find-gone (λ x. is_lt (order x row)) xs (λ x is. ap is_lt (side x is)))
       ∙ rw fails (find-kept (λ x. is_gt (order x row)) xs (λ x is. ap is_gt (side x is)))
 
 -- ---- what is held of a channel that isn't touched: the same, or nothing any more
 
 abbrev pub SameChannel : ℕ → Rows → Rows → Type 0
 SameChannel id before after =
-    (channel_of after.channels id ≡ channel_of before.channels id) × ((second : Bool) → update_of after.updates id second ≡ update_of before.updates id second)
+    (channel_of after.channels id ≡ channel_of before.channels id)
+    × ((second : Bool) → update_of after.updates id second ≡ update_of before.updates id second)
 
 -- or it isn't held any more
 abbrev pub NoChannel : ℕ → Rows → Type 0
@@ -101,16 +109,20 @@ then_first Less p other = refl
 then_first Equal p other = absurd (other refl)
 then_first Greater p other = refl
 
-put_channel : (id : ℕ) (rows : List ChannelRow) (row : ChannelRow) → (row.message.short_channel_id == id) ≡ false → channel_of (put by_id rows row) id ≡ channel_of rows id
+put_channel : (id : ℕ) (rows : List ChannelRow) (row : ChannelRow)
+    → (row.message.short_channel_id == id) ≡ false → channel_of (put by_id rows row) id ≡ channel_of rows id
 put_channel id rows row differ =
     find-put _ by_id rows row (nat_cmp id row.message.short_channel_id) (apart row.message.short_channel_id id differ) differ
     (λ x is. ap (λ k. nat_cmp k row.message.short_channel_id) (eqb-true x.message.short_channel_id id is))
 
-put_update : (id : ℕ) (second : Bool) (rows : List UpdateRow) (row : UpdateRow) → (row.message.short_channel_id == id) ≡ false → update_of (put by_direction rows row) id second ≡ update_of rows id second
+put_update : (id : ℕ) (second : Bool) (rows : List UpdateRow) (row : UpdateRow)
+    → (row.message.short_channel_id == id) ≡ false
+    → update_of (put by_direction rows row) id second ≡ update_of rows id second
 put_update id second rows row differ =
     find-put _ by_direction rows row (nat_cmp id row.message.short_channel_id) (apart row.message.short_channel_id id differ) (rw differ refl)
     (λ x is. let own = eqb-true x.message.short_channel_id id (and_parts _ _ is).0 in
-    ap (λ k. ordering_then (nat_cmp k row.message.short_channel_id) (bool_cmp (is_second x) (is_second row))) own ∙ then_first _ _ (apart row.message.short_channel_id id differ))
+    ap (λ k. ordering_then (nat_cmp k row.message.short_channel_id) (bool_cmp (is_second x) (is_second row)))
+    own ∙ then_first _ _ (apart row.message.short_channel_id id differ))
 
 other_id : (x id other : ℕ) → (other == id) ≡ false → (x == id) ≡ true → not (x == other) ≡ true
 other_id x id other differ is = grind (arith, nat_tests)
@@ -125,28 +137,38 @@ unfolding IsStrictlySortedBy
 id_alike id q [] ascend = (true, tt)
 id_alike id q (row ∷ rows) ascend = by (id_alike id q rows ascend.1) (row.message.short_channel_id == id) refl
   where
-    apart_from : (x : ChannelRow) → (row.message.short_channel_id == id) ≡ true → nat_cmp row.message.short_channel_id x.message.short_channel_id ≡ Less → (x.message.short_channel_id == id) ≡ true → q x ≡ q row
+    apart_from : (x : ChannelRow) → (row.message.short_channel_id == id) ≡ true
+        → nat_cmp row.message.short_channel_id x.message.short_channel_id ≡ Less
+        → (x.message.short_channel_id == id) ≡ true → q x ≡ q row
     apart_from x own less is = absurd (grind (arith, nat_tests))
 
-    by : (b : Bool) × AllByRecursion (λ x. (x.message.short_channel_id == id) ≡ true → q x ≡ b) rows → (at : Bool) → (row.message.short_channel_id == id) ≡ at
+    by : (b : Bool) × AllByRecursion (λ x. (x.message.short_channel_id == id) ≡ true → q x ≡ b) rows
+        → (at : Bool) → (row.message.short_channel_id == id) ≡ at
         → (b : Bool) × AllByRecursion (λ x. (x.message.short_channel_id == id) ≡ true → q x ≡ b) (row ∷ rows)
     by others true own = (q row, (λ is. refl, All-to _ _ rows (λ x less. apart_from x own less) ascend.0))
     by others false own = (others.0, (λ is. let never : false ≡ true = sym own ∙ is in absurd cc, others.1))
 
-channel_step : (id : ℕ) (rows : Rows) (op : Op) → IsAscending rows → touches_channel id op ≡ false → SameChannel id rows (absorbed rows op) ⊎ NoChannel id (absorbed rows op)
-channel_step id rows (ops.Channel row) ascend differ = by (is_some (channel_of rows.channels row.message.short_channel_id) || ends_banned rows.banned row)
+channel_step : (id : ℕ) (rows : Rows) (op : Op) → IsAscending rows → touches_channel id op ≡ false
+    → SameChannel id rows (absorbed rows op) ⊎ NoChannel id (absorbed rows op)
+channel_step id rows (ops.Channel row) ascend differ =
+    by (is_some (channel_of rows.channels row.message.short_channel_id) || ends_banned rows.banned row)
   where
-    by : (b : Bool) → SameChannel id rows (if b then rows else record rows { channels = put by_id rows.channels row }) ⊎ NoChannel id (if b then rows else record rows { channels = put by_id rows.channels row })
+    by : (b : Bool)
+        → SameChannel id rows (if b then rows else record rows { channels = put by_id rows.channels row })
+        ⊎ NoChannel id (if b then rows else record rows { channels = put by_id rows.channels row })
     by true = inl (refl, λ second. refl)
     by false = inl (put_channel id rows.channels row differ, λ second. refl)
 channel_step id rows (ops.Update row) ascend differ = by (is_some (channel_of rows.channels row.message.short_channel_id))
   where
-    by : (b : Bool) → SameChannel id rows (if b then record rows { updates = put by_direction rows.updates row } else rows) ⊎ NoChannel id (if b then record rows { updates = put by_direction rows.updates row } else rows)
+    by : (b : Bool) → SameChannel id rows (if b
+        then record rows { updates = put by_direction rows.updates row } else rows)
+        ⊎ NoChannel id (if b then record rows { updates = put by_direction rows.updates row } else rows)
     by true = inl (refl, λ second. put_update id second rows.updates row differ)
     by false = inl (refl, λ second. refl)
 channel_step id rows (ops.Node row) ascend differ = by (ends_channel rows.channels row.message.node_id)
   where
-    by : (b : Bool) → SameChannel id rows (if b then record rows { nodes = put by_node rows.nodes row } else rows) ⊎ NoChannel id (if b then record rows { nodes = put by_node rows.nodes row } else rows)
+    by : (b : Bool) → SameChannel id rows (if b then record rows { nodes = put by_node rows.nodes row }
+        else rows) ⊎ NoChannel id (if b then record rows { nodes = put by_node rows.nodes row } else rows)
     by true = inl (refl, λ second. refl)
     by false = inl (refl, λ second. refl)
 channel_step id rows (ops.Close other) ascend differ = by (is_some (channel_of rows.channels other))
@@ -180,21 +202,26 @@ channel_step id rows (ops.Ban ban) ascend differ = by alike.0 alike.1
     alike : (b : Bool) × AllByRecursion (λ x. (x.message.short_channel_id == id) ≡ true → ends_banned banned x ≡ b) rows.channels
     alike = id_alike id (ends_banned banned) rows.channels ascend.channels
 
-    by : (b : Bool) → AllByRecursion (λ x. (x.message.short_channel_id == id) ≡ true → ends_banned banned x ≡ b) rows.channels → SameChannel id rows (banning rows banned) ⊎ NoChannel id (banning rows banned)
+    by : (b : Bool) → AllByRecursion (λ x. (x.message.short_channel_id == id) ≡ true → ends_banned banned x
+        ≡ b) rows.channels → SameChannel id rows (banning rows banned) ⊎ NoChannel id (banning rows banned)
     by true all = inr (find-gone_here _ _ rows.channels (All-to _ _ rows.channels (λ x each is. ap not (each is)) all))
     by false all =
         let none : channel_of gone id ≡ None = find-gone_here _ _ rows.channels all in
         inl (
           find-kept_here _ _ rows.channels (All-to _ _ rows.channels (λ x each is. ap not (each is)) all),
-          λ second. find-kept _ _ rows.updates (λ x is. ap (λ k. not (is_some (channel_of gone k))) (eqb-true x.message.short_channel_id id (and_parts _ _ is).0) ∙ ap (λ o. not (is_some o)) none),
+          λ second. find-kept _ _ rows.updates (λ x is. ap (λ k. not (is_some (channel_of gone k)))
+              (eqb-true x.message.short_channel_id id (and_parts _ _ is).0) ∙ ap (λ o. not (is_some o)) none),
         )
 
-both_channel_steps : (id : ℕ) (before mid after : Rows) → SameChannel id before mid ⊎ NoChannel id mid → SameChannel id mid after ⊎ NoChannel id after → SameChannel id before after ⊎ NoChannel id after
+both_channel_steps : (id : ℕ) (before mid after : Rows) → SameChannel id before mid ⊎ NoChannel id mid
+    → SameChannel id mid after ⊎ NoChannel id after → SameChannel id before after ⊎ NoChannel id after
 both_channel_steps id before mid after (inl first) (inl second) = inl (second.0 ∙ first.0, λ direction. second.1 direction ∙ first.1 direction)
 both_channel_steps id before mid after (inr first) (inl second) = inr (second.0 ∙ first)
 both_channel_steps id before mid after first (inr second) = inr second
 
-pub channel_untouched : (id : ℕ) (rows : Rows) (history : List Op) → IsAscending rows → list_any (touches_channel id) history ≡ false → SameChannel id rows (fold_from rows history) ⊎ NoChannel id (fold_from rows history)
+pub channel_untouched : (id : ℕ) (rows : Rows) (history : List Op) → IsAscending rows
+    → list_any (touches_channel id) history ≡ false
+    → SameChannel id rows (fold_from rows history) ⊎ NoChannel id (fold_from rows history)
 channel_untouched id rows [] ascend none = inl (refl, λ second. refl)
 channel_untouched id rows (op ∷ history) ascend none =
     let parts = or_parts _ _ none in
@@ -212,7 +239,8 @@ point_apart a b differ e =
     let self : is_point a b ≡ true = rw own (sym (is_at-point a a) ∙ ap is_eq (rw own at e)) in
     let never : false ≡ true = sym differ ∙ self in absurd cc
 
-put_node : (node : Point) (rows : List NodeRow) (row : NodeRow) → is_point row.message.node_id node ≡ false → node_of (put by_node rows row) node ≡ node_of rows node
+put_node : (node : Point) (rows : List NodeRow) (row : NodeRow) → is_point row.message.node_id node ≡ false
+    → node_of (put by_node rows row) node ≡ node_of rows node
 put_node node rows row differ =
     find-put _ by_node rows row (point_cmp node row.message.node_id) (point_apart row.message.node_id node differ) differ
     (λ x is. ap (λ k. point_cmp k row.message.node_id) (same_point x.message.node_id node is))
@@ -252,18 +280,21 @@ node_step node rows (ops.Close other) differ = by (is_some (channel_of rows.chan
     by true = ended_same node (channels_without rows.channels other) rows.nodes (ends_channel (channels_without rows.channels other) node) refl
     by false = inl refl
 node_step node rows (ops.Ban ban) differ =
-    ended_same node (allowed_channels (with_banned rows.banned ban) rows.channels) rows.nodes (ends_channel (allowed_channels (with_banned rows.banned ban) rows.channels) node) refl
+    ended_same node (allowed_channels (with_banned rows.banned ban) rows.channels) rows.nodes
+    (ends_channel (allowed_channels (with_banned rows.banned ban) rows.channels) node) refl
 
 both_steps : (node : Point) (before mid after : Rows) → SameNode node before mid → SameNode node mid after → SameNode node before after
 both_steps node before mid after (inl first) (inl second) = inl (second ∙ first)
 both_steps node before mid after (inr first) (inl second) = inr (second ∙ first)
 both_steps node before mid after first (inr second) = inr second
 
-pub node_untouched : (node : Point) (rows : Rows) (history : List Op) → list_any (touches_node node) history ≡ false → SameNode node rows (fold_from rows history)
+pub node_untouched : (node : Point) (rows : Rows) (history : List Op)
+    → list_any (touches_node node) history ≡ false → SameNode node rows (fold_from rows history)
 node_untouched node rows [] none = inl refl
 node_untouched node rows (op ∷ history) none =
     let parts = or_parts _ _ none in
-    both_steps node rows (absorbed rows op) (fold_from (absorbed rows op) history) (node_step node rows op parts.0) (node_untouched node (absorbed rows op) history parts.1)
+    both_steps node rows (absorbed rows op) (fold_from (absorbed rows op) history)
+    (node_step node rows op parts.0) (node_untouched node (absorbed rows op) history parts.1)
 
 -- ---- bytes go on telling their keys
 
@@ -275,7 +306,8 @@ All-filter P q (x ∷ xs) all = by (All-filter P q xs all.1) (q x)
     by others true = (all.0, others)
     by others false = others
 
-All-put : {X : Type 0} (P : X → Type 0) (order : X → X → Ordering) (xs : List X) (x : X) → AllByRecursion P xs → P x → AllByRecursion P (put order xs x)
+All-put : {X : Type 0} (P : X → Type 0) (order : X → X → Ordering) (xs : List X) (x : X) → AllByRecursion P xs
+    → P x → AllByRecursion P (put order xs x)
 All-put P order xs x all own = onto (filter (λ y. is_lt (order y x)) xs) (All-filter P _ xs all)
   where
     onto : (ys : List _) → AllByRecursion P ys → AllByRecursion P (ys ++ x ∷ filter (λ y. is_gt (order y x)) xs)

@@ -9,12 +9,14 @@ pub record CoverRange (query : RangeQuery) (ids : List ℕ) : Type 0 where
   -- the first starts where the range does
   pub first : reply_start query ids 0 ≡ query.first_blocknum
   -- no block is skipped: each later reply starts where the previous one ends, or one block earlier
-  pub joined : (i : ℕ) → i + 1 < reply_count ids → (reply_start query ids (i + 1) ≤ reply_end query ids i) × (reply_end query ids i ≤ reply_start query ids (i + 1) + 1)
+  pub joined : (i : ℕ) → i + 1 < reply_count ids → (reply_start query ids (i + 1) ≤ reply_end query ids i)
+      × (reply_end query ids i ≤ reply_start query ids (i + 1) + 1)
   -- the last ends where the range does
   pub last : (i : ℕ) → i + 1 ≡ reply_count ids → reply_end query ids i ≡ range_end query
   -- each covers the blocks of its ids
   pub blocks : (i k : ℕ) → i < reply_count ids → k < length (ids_at ids i)
-      → (reply_start query ids i ≤ block_of (slice_index (ids_at ids i) k)) × (block_of (slice_index (ids_at ids i) k) < reply_end query ids i)
+      → (reply_start query ids i ≤ block_of (slice_index (ids_at ids i) k))
+      × (block_of (slice_index (ids_at ids i) k) < reply_end query ids i)
   -- none ends before it starts
   pub forward : (i : ℕ) → i < reply_count ids → reply_start query ids i ≤ reply_end query ids i
   -- together they have all ids, in order

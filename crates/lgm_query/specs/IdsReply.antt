@@ -1,5 +1,6 @@
 -- The reply to a query by ids: the messages of each channel, and then the end.
-use Rattle.std.specs.Prelude.{ℕ, nat_eq, ◌==◌, List, [], ◌∷◌, ◌++◌, map, Option, Some, unwrap_or, if◌then◌else◌}
+use Rattle.std.specs.Prelude.{ℕ, nat_eq, ◌==◌, List, [], ◌∷◌, ◌++◌, map}
+use Rattle.std.specs.Prelude.{Option, Some, unwrap_or, if◌then◌else◌}
 use Rattle.std.specs.Cmp.Lexicographic.{pointwise}
 use Rattle.std.specs.Int.{bit_at}
 use Rattle.std.specs.List.{flat_map, zip}
@@ -29,7 +30,9 @@ chosen_of nodes flags held =
 
 -- what the flags select of an id: nothing if the channel isn't in the map
 abbrev pub chosen : Rows → ℕ × ℕ → List Piece
-chosen rows place = option_map_or (λ row. chosen_of rows.nodes place.1 (held_at rows row)) (channel_of rows.channels place.0) []
+chosen rows place =
+    option_map_or (λ row. chosen_of rows.nodes place.1 (held_at rows row))
+    (channel_of rows.channels place.0) []
 
 -- the flags for each id: all five if the query has none
 abbrev pub flags_of : Query → List ℕ

@@ -29,13 +29,16 @@ subject_of bytes = subject_in (message_at bytes)
 
 -- the bytes of each row are about its key
 pub record TellKeys (rows : Rows) : Type 0 where
-  pub channels : AllByRecursion (λ row. subject_of row.raw ≡ of_channel row.message.short_channel_id) rows.channels
-  pub updates : AllByRecursion (λ row. subject_of row.raw ≡ of_channel row.message.short_channel_id) rows.updates
+  pub channels : AllByRecursion
+      (λ row. subject_of row.raw ≡ of_channel row.message.short_channel_id) rows.channels
+  pub updates : AllByRecursion
+      (λ row. subject_of row.raw ≡ of_channel row.message.short_channel_id) rows.updates
   pub nodes : AllByRecursion (λ row. subject_of row.raw ≡ of_node row.message.node_id) rows.nodes
 
 -- what passes of a channel, and of a node: nothing if it isn't in the map
 abbrev pub passing_of_channel : Filter → Rows → ℕ → List (List ℕ)
-passing_of_channel f rows id = option_map_or (λ row. passing_channel f (held_at rows row)) (channel_of rows.channels id) []
+passing_of_channel f rows id =
+    option_map_or (λ row. passing_channel f (held_at rows row)) (channel_of rows.channels id) []
 
 abbrev pub passing_of_node : Filter → Rows → Point → List (List ℕ)
 passing_of_node f rows node = option_map_or (passing_node f) (node_of rows.nodes node) []
@@ -46,7 +49,9 @@ without_known known messages = filter (λ message. not (is_among known message))
 
 -- what passes later and didn't before, of a channel and of a node
 abbrev pub news_of_channel : Filter → Rows → Rows → ℕ → List (List ℕ)
-news_of_channel f before after id = without_known (passing_of_channel f before id) (passing_of_channel f after id)
+news_of_channel f before after id =
+    without_known (passing_of_channel f before id) (passing_of_channel f after id)
 
 abbrev pub news_of_node : Filter → Rows → Rows → Point → List (List ℕ)
-news_of_node f before after node = without_known (passing_of_node f before node) (passing_of_node f after node)
+news_of_node f before after node =
+    without_known (passing_of_node f before node) (passing_of_node f after node)

@@ -25,4 +25,5 @@ are_of_one_node a b = false
 -- without repeated node announcements
 abbrev pub with_nodes_once : List Piece → List Piece
 with_nodes_once [] = []
-with_nodes_once (piece ∷ pieces) = piece ∷ filter (λ other. not (are_of_one_node piece other)) (with_nodes_once pieces)
+with_nodes_once (piece ∷ pieces) =
+    piece ∷ filter (λ other. not (are_of_one_node piece other)) (with_nodes_once pieces)

@@ -1,5 +1,7 @@
 -- The replies to a query of a block range: the ids of its channels, in pieces of at most 4,000.
-use Rattle.std.specs.Prelude.{◌≡◌, ℕ, zero, suc, ◌+◌, ◌-◌, ◌*◌, max, nat_eq, ◌==◌, Bool, true, false, List, [], length, map, take, drop, Option, Some, None, slice_index, unwrap_or, All, if◌then◌else◌}
+use Rattle.std.specs.Prelude.{◌≡◌, ℕ, zero, suc, ◌+◌, ◌-◌, ◌*◌, max, nat_eq, ◌==◌, Bool}
+use Rattle.std.specs.Prelude.{true, false, List, [], length, map, take, drop, Option, Some}
+use Rattle.std.specs.Prelude.{None, slice_index, unwrap_or, All, if◌then◌else◌}
 use Rattle.std.specs.Cmp.Lexicographic.{pointwise}
 use Rattle.std.specs.Int.{bit_at, div_ceil}
 use Rattle.std.specs.List.{range_with_len}
@@ -69,7 +71,11 @@ timestamp_of row = option_map_or (λ row. row.message.timestamp) row 0
 
 -- the timestamps of a channel's updates
 abbrev pub timestamps_of : Rows → ℕ → Timestamps
-timestamps_of rows id = record { node_1 = timestamp_of (update_of rows.updates id false); node_2 = timestamp_of (update_of rows.updates id true) }
+timestamps_of rows id =
+    record {
+      node_1 = timestamp_of (update_of rows.updates id false);
+      node_2 = timestamp_of (update_of rows.updates id true);
+    }
 
 -- the same of a channel with its updates
 abbrev pub timestamps_in : Held → Timestamps
@@ -88,7 +94,8 @@ timestamps_beside rows query ids = if asks_for_timestamps query then all_timesta
 
 -- the timestamps of these channels, if the query requests them
 abbrev pub timestamps_asked_for : Rows → RangeQuery → List ℕ → Option (List Timestamps)
-timestamps_asked_for rows query ids = if asks_for_timestamps query then Some (all_timestamps_of rows ids) else None
+timestamps_asked_for rows query ids =
+    if asks_for_timestamps query then Some (all_timestamps_of rows ids) else None
 
 -- reply i, reply_channel_range
 abbrev pub reply : Rows → RangeQuery → List ℕ → ℕ → Reply

@@ -45,5 +45,7 @@ pub record Touched : Type 0 where
 pub record HasTouched (history : List Op) (touched : Touched) : Type 0 where
   pub channels_ascend : IsStrictlySortedBy nat_cmp touched.channels
   pub nodes_ascend : IsStrictlySortedBy point_cmp touched.nodes
-  pub of_channels : (id : ℕ) → list_any (is_at (nat_cmp id)) touched.channels ≡ list_any (touches_channel id) history
-  pub of_nodes : (node : Point) → list_any (is_at (point_cmp node)) touched.nodes ≡ list_any (touches_node node) history
+  pub of_channels : (id : ℕ)
+      → list_any (is_at (nat_cmp id)) touched.channels ≡ list_any (touches_channel id) history
+  pub of_nodes : (node : Point)
+      → list_any (is_at (point_cmp node)) touched.nodes ≡ list_any (touches_node node) history

@@ -2,7 +2,9 @@
 
 ghost use Rattle.std.specs.Prelude.{◌≡◌, ◌*◌, ◌<◌, ◌≤◌, true, length, IfOk, if◌then◌else◌};
 ghost use Rattle.lgm_store.specs.Rows.{Rows};
-ghost use Rattle.lgm_query.specs.RangeReply.{ids_asked_for, AreInRange, reply_count, piece_at, timestamps_in, timestamps_beside, asks_for_timestamps, reply_bytes, range_reply};
+ghost use Rattle.lgm_query.specs.RangeReply.{ids_asked_for, AreInRange, reply_count, piece_at};
+ghost use Rattle.lgm_query.specs.RangeReply.{timestamps_in, timestamps_beside, asks_for_timestamps};
+ghost use Rattle.lgm_query.specs.RangeReply.{reply_bytes, range_reply};
 
 use crate::encoded::encoded;
 use crate::ranges::{
@@ -98,7 +100,8 @@ fn timestamps_beside(
     map: &Map,
     query: &RangeQuery,
 ) -> Result<Vec<Timestamps>, AllocError>
-    ensures { IfOk result (λ times. times.items ≡ timestamps_beside map.now query.now (ids_asked_for chain.now map.now query.now)) }
+    ensures { IfOk result (λ times. times.items
+        ≡ timestamps_beside map.now query.now (ids_asked_for chain.now map.now query.now)) }
 {
     let mut times = Vec::new(alloc);
     if !asks_for_timestamps(query) || query.chain_hash != *chain {
@@ -118,7 +121,8 @@ fn timestamps_at(
     place: usize,
 ) -> Result<Option<TimestampList>, AllocError>
     requires { asks_for_timestamps query.now ≡ true → 4000 * place ≤ length times.now }
-    ensures { IfOk result (λ pairs. pairs ≡ if asks_for_timestamps query.now then Some (piece_at times.now place) else None) }
+    ensures { IfOk result
+        (λ pairs. pairs ≡ if asks_for_timestamps query.now then Some (piece_at times.now place) else None) }
 {
     if !asks_for_timestamps(query) {
         return Ok(None);

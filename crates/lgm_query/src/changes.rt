@@ -39,7 +39,8 @@ impl Changes {
 
     /// Adds the keys of another operation. The only error is out of memory, which leaves them unchanged.
     pub fn touch(&mut self, op: &Op) -> Result<(), AllocError>
-        ensures ok { OnOk result ((history : List Op) → HasTouched history self.old → HasTouched (history ++ op.now ∷ []) self.new) }
+        ensures ok { OnOk result ((history : List Op) → HasTouched history self.old
+            → HasTouched (history ++ op.now ∷ []) self.new) }
         ensures err { OnErr result (self.new ≡ self.old) }
     {
         match op {

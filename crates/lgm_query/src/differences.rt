@@ -36,7 +36,8 @@ impl<'a> Model for Differences<'a> {
 
     ghost view = { λ d. record { before = d.before.now; after = d.after.now } };
 
-    ghost invariant = { λ d. (f : Filter) → news_of_pairs f d.channels.items d.nodes.items ≡ news d.before.now d.after.now f };
+    ghost invariant = { λ d. (f : Filter)
+        → news_of_pairs f d.channels.items d.nodes.items ≡ news d.before.now d.after.now f };
 }
 
 impl<'a> Differences<'a> {
@@ -51,7 +52,8 @@ impl<'a> Differences<'a> {
         changes: &Changes,
     ) -> Result<Differences<'a>, AllocError>
         requires { ComesOf before.now after.now changes.now }
-        ensures { IfOk result (λ differences. differences ≡ record { before = before.now; after = after.now }) }
+        ensures { IfOk result
+            (λ differences. differences ≡ record { before = before.now; after = after.now }) }
     {
         before.rows_are_lawful();
         after.rows_are_lawful();
@@ -81,7 +83,8 @@ fn channel_pairs<'a>(
     scids: &BTreeSet<Scid>,
 ) -> Result<Vec<ChannelPair<'a>>, AllocError>
     ensures { IfOk result (λ pairs. (f : Filter)
-        → flat_map (news_of_channel_pair f) pairs.items ≡ flat_map (news_of_channel f before.now after.now) scids.now.keys) }
+        → flat_map (news_of_channel_pair f) pairs.items
+        ≡ flat_map (news_of_channel f before.now after.now) scids.now.keys) }
 {
     let mut pairs = Vec::new(alloc);
     for scid in scids {
@@ -100,7 +103,8 @@ fn node_pairs<'a>(
     nodes: &BTreeSet<Point>,
 ) -> Result<Vec<NodePair<'a>>, AllocError>
     ensures { IfOk result (λ pairs. (f : Filter)
-        → flat_map (news_of_node_pair f) pairs.items ≡ flat_map (news_of_node f before.now after.now) nodes.now.keys) }
+        → flat_map (news_of_node_pair f) pairs.items
+        ≡ flat_map (news_of_node f before.now after.now) nodes.now.keys) }
 {
     let mut pairs = Vec::new(alloc);
     for node in nodes {

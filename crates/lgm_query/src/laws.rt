@@ -27,7 +27,8 @@ pub fn replies_cover_range()
 /// The bytes of an operation made from a checked message are about the channel or node of its row. The call does
 /// nothing: its contract is the law.
 pub fn operations_tell_keys()
-    ensures { (chain : ChainHash) (bytes : List ℕ) (evidence : Evidence) (checked : Checked) (rows : Rows) (op : Op)
+    ensures { (chain : ChainHash) (bytes : List ℕ) (evidence : Evidence) (checked : Checked)
+        (rows : Rows) (op : Op)
         → checked_of chain bytes evidence ≡ Ok checked → admitted rows checked ≡ Ok op → TellsKey op }
 {}
 

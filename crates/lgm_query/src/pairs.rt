@@ -40,7 +40,8 @@ impl<'a> ChannelPair<'a> {
 
     /// The pair of an id, if the later map has it. The messages are compared here, once for all filters.
     pub(crate) fn at(before: &'a Map, after: &'a Map, scid: Scid) -> Option<ChannelPair<'a>>
-        ensures { (f : Filter) → option_map_or (news_of_channel_pair f) result [] ≡ news_of_channel f before.now after.now scid }
+        ensures { (f : Filter)
+            → option_map_or (news_of_channel_pair f) result [] ≡ news_of_channel f before.now after.now scid }
     {
         let after = after.held(scid)?;
         let before = before.held(scid);
@@ -59,7 +60,8 @@ impl<'a> NodePair<'a> {
 
     /// The pair of a node, if the later map has it. The messages are compared here, once for all filters.
     pub(crate) fn at(before: &'a Map, after: &'a Map, node: &Point) -> Option<NodePair<'a>>
-        ensures { (f : Filter) → option_map_or (news_of_node_pair f) result [] ≡ news_of_node f before.now after.now node.now }
+        ensures { (f : Filter)
+            → option_map_or (news_of_node_pair f) result [] ≡ news_of_node f before.now after.now node.now }
     {
         let after = after.kept_node(node)?;
         let before = before.kept_node(node);

@@ -135,7 +135,8 @@ fn unless_passed<'a>(
     sent: SentWith,
     message: Option<&'a [u8]>,
 ) -> Option<&'a [u8]>
-    ensures { option_copied result ≡ unless_passed filter.now (option_copied before.entry) sent (option_copied message.entry) }
+    ensures { option_copied result
+        ≡ unless_passed filter.now (option_copied before.entry) sent (option_copied message.entry) }
 {
     match (before, message) {
         (Some(held), Some(_)) if sent.passed(filter, held) => None,

@@ -2,7 +2,8 @@
 
 ghost use Rattle.std.specs.Prelude.{◌≡◌, ◌+◌, ◌-◌, ◌*◌, ◌^◌, ◌<◌, ◌≤◌, length};
 ghost use Rattle.lgm_store.specs.Reading.{block_of};
-ghost use Rattle.lgm_query.specs.RangeReply.{range_end, AreInRange, reply_count, is_last, piece_at, ids_at, reply_end, reply_start};
+ghost use Rattle.lgm_query.specs.RangeReply.{range_end, AreInRange, reply_count, is_last};
+ghost use Rattle.lgm_query.specs.RangeReply.{piece_at, ids_at, reply_end, reply_start};
 
 use lgm_gossip::{RangeQuery, Scid};
 

@@ -93,7 +93,8 @@ impl<'a> Sending<'a> {
     }
 
     fn send_update(&mut self, held: &'a Held, second: bool) -> Result<(), AllocError>
-        ensures { OnOk result (Sends (option_to_list (option_map update (update_in second held.now))) self.old self.new) }
+        ensures { OnOk result
+            (Sends (option_to_list (option_map update (update_in second held.now))) self.old self.new) }
     {
         match held.update_raw(second) {
             None => Ok(()),

@@ -1,5 +1,6 @@
 -- What the pass from the payer tells.
-use Rattle.std.proofs.Common.{◌≡◌, ◌≢◌, ◌⊎◌, ℕ, zero, suc, ◌+◌, ◌-◌, ◌^◌, ◌<◌, ◌≤◌, min, List, [], ◌∷◌, ◌++◌, length, get_or, set, Bool, true, false, refl, sym, ◌∙◌, ap, subst, inl, inr, arith, get_or-set_other}
+use Rattle.std.proofs.Common.{◌≡◌, ◌≢◌, ◌⊎◌, ℕ, zero, suc, ◌+◌, ◌-◌, ◌^◌, ◌<◌, ◌≤◌, min, List, [], ◌∷◌, ◌++◌, length, get_or}
+use Rattle.std.proofs.Common.{set, Bool, true, false, refl, sym, ◌∙◌, ap, subst, inl, inr, arith, get_or-set_other}
 use Rattle.std.specs.List.{Contains}
 use Rattle.std.proofs.lemmas.List.{get_or_default, get_or_push, length_push, get_or_append_left}
 use Rattle.lgm_graph.specs.Fee.{fee_of}
@@ -13,13 +14,18 @@ use Rattle.lgm_route.proofs.Rests.{trichotomy}
 abbrev pub IsCut : ℕ → ℕ → ℕ → Type 0
 IsCut most old new = ((new ≡ old) × (old ≤ most)) ⊎ ((new ≡ most) × (most ≤ old))
 
-pub near_later : (request : NumberedRequest) (start nodes : ℕ) (dist after : List ℕ) (edge : Link) → ((other : ℕ) → number_at after other ≤ number_at dist other) →
+pub near_later : (request : NumberedRequest) (start nodes : ℕ) (dist after : List ℕ) (edge : Link)
+    → ((other : ℕ) → number_at after other ≤ number_at dist other) →
     IsNear request start nodes dist edge → IsNear request start nodes after edge
 near_later request start nodes dist after edge falls near =
-    record { over = λ to min max. omega (arith, falls edge.to, near.over to min max); first = λ to min max from. omega (arith, falls edge.to, near.first to min max from) }
+    record {
+      over = λ to min max. omega (arith, falls edge.to, near.over to min max);
+      first = λ to min max from. omega (arith, falls edge.to, near.first to min max from);
+    }
 
 -- lowered, the closed nodes tell the same
-pub spread_lowered : (edges : List Link) (request : NumberedRequest) (dist : List ℕ) (closed : List Bool) (node amount : ℕ) (after : List ℕ) (now : List Bool) →
+pub spread_lowered : (edges : List Link) (request : NumberedRequest) (dist : List ℕ) (closed : List Bool)
+    (node amount : ℕ) (after : List ℕ) (now : List Bool) →
     IsLowered dist closed node amount after now → IsSpread edges request dist closed → IsSpread edges request after now
 spread_lowered edges request dist closed node amount after now low is =
     record {
@@ -39,8 +45,10 @@ start_lowered dist closed node amount after now start at low h k = by (low.least
     by (inr p) = omega arith
 
 -- what a look at an edge leaves
-pub looked : (request : NumberedRequest) (start amount node : ℕ) (edge : Link) (dist : List ℕ) (closed : List Bool) (after : List ℕ) (now : List Bool) →
-    IsLowered dist closed node amount after now → node ≡ edge.to → start ≤ amount → (edge.from ≡ request.payer → amount ≤ start) → amount ≤ start + fee_of request.amount edge.base edge.millionths →
+pub looked : (request : NumberedRequest) (start amount node : ℕ) (edge : Link) (dist : List ℕ)
+    (closed : List Bool) (after : List ℕ) (now : List Bool) →
+    IsLowered dist closed node amount after now → node ≡ edge.to → start ≤ amount → (edge.from ≡ request.payer
+    → amount ≤ start) → amount ≤ start + fee_of request.amount edge.base edge.millionths →
     IsLooked request start edge dist closed after now
 looked request start amount node edge dist closed after now low to more first most =
     let same = ap (λ n. number_at after n) to in
@@ -48,7 +56,11 @@ looked request start amount node edge dist closed after now low to more first mo
       falls = low.falls;
       keeps = λ edges is. spread_lowered edges request dist closed node amount after now low is;
       stays = λ at h. start_lowered dist closed node amount after now start at low more h;
-      near = record { over = λ inside min max. omega (arith, same, low.near, most); first = λ inside min max from. omega (arith, same, low.near, first from) };
+      near =
+          record {
+            over = λ inside min max. omega (arith, same, low.near, most);
+            first = λ inside min max from. omega (arith, same, low.near, first from);
+          };
     }
 
 -- one more edge out of the node was looked at
@@ -90,31 +102,40 @@ spread_closed graph request dist closed node start linked long within none low n
     before : (other : ℕ) → other ≢ node → is_closed (set closed node true) other ≡ true → is_closed closed other ≡ true
     before other apart shut = sym (get_or-set_other closed node other true false apart) ∙ shut
 
-    at : (edge : Link) → Contains (links graph) edge → edge.min ≤ request.amount → request.amount ≤ edge.max → is_closed (set closed node true) edge.from ≡ true →
-        (edge.from < node) ⊎ (edge.from ≡ node) ⊎ (node < edge.from) → number_at dist edge.to ≤ number_at dist edge.from + fee_of request.amount edge.base edge.millionths
+    at : (edge : Link) → Contains (links graph) edge → edge.min ≤ request.amount → request.amount ≤ edge.max
+        → is_closed (set closed node true) edge.from ≡ true →
+        (edge.from < node) ⊎ (edge.from ≡ node) ⊎ (node < edge.from) → number_at dist edge.to
+        ≤ number_at dist edge.from + fee_of request.amount edge.base edge.millionths
     at edge there min max shut (inl p) = is.near edge there (before edge.from (λ e. omega (arith, p)) shut) min max
     at edge there min max shut (inr (inl e)) = omega (arith, (found edge there e).over (inside edge there) min max, ap (λ n. number_at dist n) e)
     at edge there min max shut (inr (inr p)) = is.near edge there (before edge.from (λ e. omega (arith, p)) shut) min max
 
-    at_first : (edge : Link) → Contains (links graph) edge → edge.min ≤ request.amount → request.amount ≤ edge.max → edge.from ≡ request.payer → is_closed (set closed node true) edge.from ≡ true →
+    at_first : (edge : Link) → Contains (links graph) edge → edge.min ≤ request.amount → request.amount
+        ≤ edge.max → edge.from ≡ request.payer → is_closed (set closed node true) edge.from ≡ true →
         (edge.from < node) ⊎ (edge.from ≡ node) ⊎ (node < edge.from) → number_at dist edge.to ≤ 0
     at_first edge there min max from shut (inl p) = is.first edge there (before edge.from (λ e. omega (arith, p)) shut) min max from
-    at_first edge there min max from shut (inr (inl e)) = omega (arith, (found edge there e).first (inside edge there) min max from, none (sym e ∙ from))
+    at_first edge there min max from shut (inr (inl e)) =
+        omega (arith, (found edge there e).first (inside edge there) min max from, none (sym e ∙ from))
     at_first edge there min max from shut (inr (inr p)) = is.first edge there (before edge.from (λ e. omega (arith, p)) shut) min max from
 
 -- cut at the least of the open nodes these are bounds
 pub low_of : (edges : List Link) (request : NumberedRequest) (dist : List ℕ) (closed : List Bool) (most : ℕ) (after : List ℕ) →
-    ((edge : Link) → Contains edges edge → (edge.from < length dist) × (edge.to < length dist)) → IsSpread edges request dist closed → IsRadius dist closed most → AreCut dist most after → AreLow edges request after
+    ((edge : Link) → Contains edges edge → (edge.from < length dist) × (edge.to < length dist))
+    → IsSpread edges request dist closed → IsRadius dist closed most → AreCut dist most after
+    → AreLow edges request after
 low_of edges request dist closed most after range is radius cut =
     record {
-      rises = λ edge there min max. rises edge there min max (is_closed closed edge.from) refl (cut.each edge.from (inside edge there).0) (cut.each edge.to (inside edge there).1);
+      rises =
+          λ edge there min max. rises edge there min max (is_closed closed edge.from) refl
+          (cut.each edge.from (inside edge there).0) (cut.each edge.to (inside edge there).1);
       none = λ edge there min max from. none edge there min max from (is_closed closed edge.from) refl (cut.each edge.to (inside edge there).1);
     }
   where
     inside : (edge : Link) → Contains edges edge → (edge.from < length dist) × (edge.to < length dist)
     inside edge there = range edge there
 
-    rises : (edge : Link) → Contains edges edge → edge.min ≤ request.amount → request.amount ≤ edge.max → (b : Bool) → is_closed closed edge.from ≡ b →
+    rises : (edge : Link) → Contains edges edge → edge.min ≤ request.amount → request.amount ≤ edge.max
+        → (b : Bool) → is_closed closed edge.from ≡ b →
         IsCut most (number_at dist edge.from) (number_at after edge.from) → IsCut most (number_at dist edge.to) (number_at after edge.to) →
         number_at after edge.to ≤ number_at after edge.from + fee_of request.amount edge.base edge.millionths
     rises edge there min max true e (inl p) (inl q) = omega (arith, p.0, q.0, is.near edge there e min max)
@@ -126,12 +147,17 @@ low_of edges request dist closed most after range is radius cut =
     rises edge there min max false e (inr p) (inl q) = omega (arith, p.0, q.0, q.1)
     rises edge there min max false e (inr p) (inr q) = omega (arith, p.0, q.0)
 
-    none : (edge : Link) → Contains edges edge → edge.min ≤ request.amount → request.amount ≤ edge.max → edge.from ≡ request.payer → (b : Bool) → is_closed closed edge.from ≡ b →
+    none : (edge : Link) → Contains edges edge → edge.min ≤ request.amount → request.amount ≤ edge.max
+        → edge.from ≡ request.payer → (b : Bool) → is_closed closed edge.from ≡ b →
         IsCut most (number_at dist edge.to) (number_at after edge.to) → number_at after edge.to ≡ 0
     none edge there min max from true e (inl q) = omega (arith, q.0, is.first edge there e min max from)
     none edge there min max from true e (inr q) = omega (arith, q.0, q.1, is.first edge there e min max from)
-    none edge there min max from false e (inl q) = omega (arith, q.0, q.1, radius edge.from (inside edge there).0 e, ap (λ n. number_at dist n) from, is.payer)
-    none edge there min max from false e (inr q) = omega (arith, q.0, radius edge.from (inside edge there).0 e, ap (λ n. number_at dist n) from, is.payer)
+    none edge there min max from false e (inl q) =
+        omega
+        (arith, q.0, q.1, radius edge.from (inside edge there).0 e, ap (λ n. number_at dist n) from, is.payer)
+    none edge there min max from false e (inr q) =
+        omega
+        (arith, q.0, radius edge.from (inside edge there).0 e, ap (λ n. number_at dist n) from, is.payer)
 
 pub bound_at : (radius : ℕ) (dist : List ℕ) (node : ℕ) → number_at (bounds_in radius dist) node ≡ min (number_at dist node) radius
 bound_at radius [] node = grind arith
@@ -144,7 +170,13 @@ length_bounds radius (d ∷ dist) = ap suc (length_bounds radius dist)
 
 -- no bound is above the radius
 pub cut_bounds : (radius : ℕ) (dist : List ℕ) → AreCut dist radius (bounds_in radius dist)
-cut_bounds radius dist = record { long = length_bounds radius dist; each = λ node within. subst (λ n. IsCut radius (number_at dist node) n) (sym (bound_at radius dist node)) (lesser (number_at dist node)) }
+cut_bounds radius dist =
+    record {
+      long = length_bounds radius dist;
+      each =
+          λ node within. subst (λ n. IsCut radius (number_at dist node) n) (sym (bound_at radius dist node))
+          (lesser (number_at dist node));
+    }
   where
     lesser : (n : ℕ) → IsCut radius n (min n radius)
     lesser n = grind arith
@@ -154,19 +186,24 @@ cut_bounds radius dist = record { long = length_bounds radius dist; each = λ no
 -- what is charged up to open nodes of the list is no less
 abbrev pub IsLeastOf : List ℕ → List Bool → List ℕ → ℕ → ℕ → Type 0
 IsLeastOf dist closed reached place most =
-    (k : ℕ) → k < place → get_or reached k 0 < length dist → is_closed closed (get_or reached k 0) ≡ false → most ≤ number_at dist (get_or reached k 0)
+    (k : ℕ) → k < place → get_or reached k 0 < length dist → is_closed closed (get_or reached k 0) ≡ false
+    → most ≤ number_at dist (get_or reached k 0)
 
-pub least_more : (dist : List ℕ) (closed : List Bool) (reached : List ℕ) (place most less : ℕ) → IsLeastOf dist closed reached place most → less ≤ most →
+pub least_more : (dist : List ℕ) (closed : List Bool) (reached : List ℕ) (place most less : ℕ)
+    → IsLeastOf dist closed reached place most → less ≤ most →
     (get_or reached place 0 < length dist → is_closed closed (get_or reached place 0) ≡ false → less ≤ number_at dist (get_or reached place 0)) →
     IsLeastOf dist closed reached (place + 1) less
 least_more dist closed reached place most less before low new k to within shut = by (trichotomy k place)
   where
     by : (k < place) ⊎ (k ≡ place) ⊎ (place < k) → less ≤ number_at dist (get_or reached k 0)
     by (inl p) = omega (arith, low, before k p within shut)
-    by (inr (inl e)) = subst (λ n. get_or reached n 0 < length dist → is_closed closed (get_or reached n 0) ≡ false → less ≤ number_at dist (get_or reached n 0)) (sym e) new within shut
+    by (inr (inl e)) =
+        subst (λ n. get_or reached n 0 < length dist → is_closed closed (get_or reached n 0) ≡ false
+        → less ≤ number_at dist (get_or reached n 0)) (sym e) new within shut
     by (inr (inr p)) = absurd (omega arith)
 
-pub least_all : (dist : List ℕ) (closed : List Bool) (reached : List ℕ) (place most : ℕ) → IsLeastOf dist closed reached place most → length reached ≤ place → most ≤ 2 ^ 64 - 1 →
+pub least_all : (dist : List ℕ) (closed : List Bool) (reached : List ℕ) (place most : ℕ)
+    → IsLeastOf dist closed reached place most → length reached ≤ place → most ≤ 2 ^ 64 - 1 →
     AreReached dist reached → IsRadius dist closed most
 least_all dist closed reached place most least all small are node within shut = by (are node within)
   where
@@ -174,10 +211,12 @@ least_all dist closed reached place most least all small are node within shut = 
     by (inl e) = omega (arith, e, small)
     by (inr there) =
         let at : get_or reached there.0 0 ≡ node = sym (get_or_default reached there.0 node 0 there.1) ∙ there.2 in
-        subst (λ n. n < length dist → is_closed closed n ≡ false → most ≤ number_at dist n) at (least there.0 (omega (arith, there.1, all))) within shut
+        subst (λ n. n < length dist → is_closed closed n ≡ false → most ≤ number_at dist n) at
+        (least there.0 (omega (arith, there.1, all))) within shut
 
 -- a node more in the list, and what is charged up to it lowered
-pub reached_more : (dist after : List ℕ) (reached : List ℕ) (node : ℕ) → length after ≡ length dist → ((other : ℕ) → (other ≡ node) ⊎ (number_at after other ≡ number_at dist other)) →
+pub reached_more : (dist after : List ℕ) (reached : List ℕ) (node : ℕ) → length after ≡ length dist
+    → ((other : ℕ) → (other ≡ node) ⊎ (number_at after other ≡ number_at dist other)) →
     AreReached dist reached → AreReached after (reached ++ node ∷ [])
 reached_more dist after reached node long others are other within = by (others other)
   where
@@ -187,27 +226,32 @@ reached_more dist after reached node long others are other within = by (others o
     old : Contains reached other → Contains (reached ++ node ∷ []) other
     old there = (there.0, omega (arith, there.1, length_push reached node), get_or_append_left reached (node ∷ []) other there.0 there.1 ∙ there.2)
 
-    by : (other ≡ node) ⊎ (number_at after other ≡ number_at dist other) → (number_at after other ≡ 2 ^ 64 - 1) ⊎ Contains (reached ++ node ∷ []) other
+    by : (other ≡ node) ⊎ (number_at after other ≡ number_at dist other)
+        → (number_at after other ≡ 2 ^ 64 - 1) ⊎ Contains (reached ++ node ∷ []) other
     by (inl e) = inr (subst (Contains (reached ++ node ∷ [])) (sym e) new)
     by (inr e) = then_by (are other (omega (arith, within, long)))
       where
-        then_by : (number_at dist other ≡ 2 ^ 64 - 1) ⊎ Contains reached other → (number_at after other ≡ 2 ^ 64 - 1) ⊎ Contains (reached ++ node ∷ []) other
+        then_by : (number_at dist other ≡ 2 ^ 64 - 1) ⊎ Contains reached other
+            → (number_at after other ≡ 2 ^ 64 - 1) ⊎ Contains (reached ++ node ∷ []) other
         then_by (inl m) = inl (e ∙ m)
         then_by (inr there) = inr (old there)
 
 -- a node that was in the list
-pub reached_same : (dist after : List ℕ) (reached : List ℕ) (node : ℕ) → length after ≡ length dist → node < length dist → number_at dist node < 2 ^ 64 - 1 →
+pub reached_same : (dist after : List ℕ) (reached : List ℕ) (node : ℕ) → length after ≡ length dist
+    → node < length dist → number_at dist node < 2 ^ 64 - 1 →
     ((other : ℕ) → (other ≡ node) ⊎ (number_at after other ≡ number_at dist other)) → AreReached dist reached → AreReached after reached
 reached_same dist after reached node long here charged others are other within = by (others other) (are other (omega (arith, within, long)))
   where
-    by : (other ≡ node) ⊎ (number_at after other ≡ number_at dist other) → (number_at dist other ≡ 2 ^ 64 - 1) ⊎ Contains reached other → (number_at after other ≡ 2 ^ 64 - 1) ⊎ Contains reached other
+    by : (other ≡ node) ⊎ (number_at after other ≡ number_at dist other) → (number_at dist other ≡ 2 ^ 64 - 1)
+        ⊎ Contains reached other → (number_at after other ≡ 2 ^ 64 - 1) ⊎ Contains reached other
     by (inl e) (inl m) = absurd (omega (arith, charged, m, ap (number_at dist) e))
     by (inr e) (inl m) = inl (e ∙ m)
     by _ (inr there) = inr there
 
 -- ---- before the first step
 
-pub spread_first : (edges : List Link) (request : NumberedRequest) (dist : List ℕ) (closed : List Bool) → ((node : ℕ) → is_closed closed node ≡ false) → number_at dist request.payer ≡ 0 →
+pub spread_first : (edges : List Link) (request : NumberedRequest) (dist : List ℕ) (closed : List Bool)
+    → ((node : ℕ) → is_closed closed node ≡ false) → number_at dist request.payer ≡ 0 →
     IsSpread edges request dist closed
 spread_first edges request dist closed none payer = record {
   near = λ edge there shut min max. absurd (no edge.from shut);

@@ -20,7 +20,8 @@ pub record AreBeside (graph : Graph) (labels : List Label) (label other here the
   pub first : NotAfter (ids rest) (ids also) → IdsFirst graph labels label other
   pub after : NotAfter (ids also) (ids rest) → IdsFirst graph labels other label
 
-pub beside_start : (graph : Graph) (labels : List Label) (label other : Label) → IsSpelled graph labels label → IsSpelled graph labels other → label.count ≡ other.count →
+pub beside_start : (graph : Graph) (labels : List Label) (label other : Label) → IsSpelled graph labels label
+    → IsSpelled graph labels other → label.count ≡ other.count →
     AreBeside graph labels label other label other label.count
 beside_start graph labels label other h k e =
     record {
@@ -40,13 +41,19 @@ beside_start graph labels label other h k e =
     same_also : (also : List Link) → Spells graph labels other also → length also ≡ other.count → k.0 ≡ also
     same_also also t n = Spells-unique graph labels other k.0 also k.1 t (k.2 ∙ sym n)
 
-    move : (rest also : List Link) → Spells graph labels label rest → Spells graph labels other also → length rest ≡ label.count → length also ≡ other.count →
+    move : (rest also : List Link) → Spells graph labels label rest → Spells graph labels other also
+        → length rest ≡ label.count → length also ≡ other.count →
         NotAfter (ids h.0) (ids k.0) → NotAfter (ids rest) (ids also)
-    move rest also s t m n p = subst (λ r. NotAfter (ids r) (ids also)) (same rest s m) (subst (λ r. NotAfter (ids h.0) (ids r)) (same_also also t n) p)
+    move rest also s t m n p =
+        subst (λ r. NotAfter (ids r) (ids also)) (same rest s m)
+        (subst (λ r. NotAfter (ids h.0) (ids r)) (same_also also t n) p)
 
-    move_back : (rest also : List Link) → Spells graph labels label rest → Spells graph labels other also → length rest ≡ label.count → length also ≡ other.count →
+    move_back : (rest also : List Link) → Spells graph labels label rest → Spells graph labels other also
+        → length rest ≡ label.count → length also ≡ other.count →
         NotAfter (ids k.0) (ids h.0) → NotAfter (ids also) (ids rest)
-    move_back rest also s t m n p = subst (λ r. NotAfter (ids also) (ids r)) (same rest s m) (subst (λ r. NotAfter (ids r) (ids h.0)) (same_also also t n) p)
+    move_back rest also s t m n p =
+        subst (λ r. NotAfter (ids also) (ids r)) (same rest s m)
+        (subst (λ r. NotAfter (ids r) (ids h.0)) (same_also also t n) p)
 
 -- where edges are left, each label has one, and leads on
 pub record HasMore (graph : Graph) (labels : List Label) (label : Label) (rest : List Link) (count : ℕ) : Type 0 where
@@ -75,23 +82,33 @@ pub record IsOnTheWay (graph : Graph) (labels : List Label) (found here : Label)
   pub whole : Spells graph labels found (walk ++ rest)
   pub all : length (walk ++ rest) ≡ found.count
 
-pub way_more : (graph : Graph) (labels : List Label) (found here : Label) (count : ℕ) (walk : List Link) → (way : IsOnTheWay graph labels found here count walk) → 0 < count →
+pub way_more : (graph : Graph) (labels : List Label) (found here : Label) (count : ℕ) (walk : List Link)
+    → (way : IsOnTheWay graph labels found here count walk) → 0 < count →
     HasMore graph labels here way.rest count
 way_more graph labels found here count walk way left = has_more graph labels here way.rest count way.spells way.long left
 
-pub way_step : (graph : Graph) (labels : List Label) (found here : Label) (count : ℕ) (walk : List Link) → IsOnTheWay graph labels found here count walk → 0 < count →
+pub way_step : (graph : Graph) (labels : List Label) (found here : Label) (count : ℕ) (walk : List Link)
+    → IsOnTheWay graph labels found here count walk → 0 < count →
     IsOnTheWay graph labels found (label_at labels here.next) (count - 1) (walk ++ first_of graph labels here ∷ [])
 way_step graph labels found here count walk way left =
     let more = way_more graph labels found here count walk way left in
-    let same : walk ++ way.rest ≡ (walk ++ first_of graph labels here ∷ []) ++ more.tail = ap (λ r. walk ++ r) more.is ∙ sym (append_assoc walk (first_of graph labels here ∷ []) more.tail) in
-    record { rest = more.tail; spells = more.spells; long = more.long; whole = subst (λ r. Spells graph labels found r) same way.whole; all = subst (λ r. length r ≡ found.count) same way.all }
+    let same : walk ++ way.rest ≡ (walk ++ first_of graph labels here ∷ []) ++ more.tail =
+    ap (λ r. walk ++ r) more.is ∙ sym (append_assoc walk (first_of graph labels here ∷ []) more.tail) in
+    record {
+      rest = more.tail;
+      spells = more.spells;
+      long = more.long;
+      whole = subst (λ r. Spells graph labels found r) same way.whole;
+      all = subst (λ r. length r ≡ found.count) same way.all;
+    }
 
 pub way_last : (graph : Graph) (labels : List Label) (found here other : Label) (count : ℕ) (walk : List Link) → count ≡ 0 →
     IsOnTheWay graph labels found here count walk → IsOnTheWay graph labels found other count walk
 way_last graph labels found here other count walk e way =
     record { rest = way.rest; spells = spells_none graph labels other way.rest (way.long ∙ e); long = way.long; whole = way.whole; all = way.all }
 
-module _ (graph : Graph) (labels : List Label) (label other here there : Label) (count : ℕ) (beside : AreBeside graph labels label other here there count) (left : 0 < count) where
+module _ (graph : Graph) (labels : List Label) (label other here there : Label) (count : ℕ)
+    (beside : AreBeside graph labels label other here there count) (left : 0 < count) where
   pub one : HasMore graph labels here beside.rest count
   one = has_more graph labels here beside.rest count beside.spells beside.long left
 
@@ -100,22 +117,28 @@ module _ (graph : Graph) (labels : List Label) (label other here there : Label) 
 
   pub beside_less : (first_of graph labels here).scid < (first_of graph labels there).scid → IdsFirst graph labels label other
   beside_less p =
-      beside.first (subst (λ r. NotAfter (ids r) (ids beside.also)) (sym one.is) (subst (λ r. NotAfter (ids (first_of graph labels here ∷ one.tail)) (ids r)) (sym two.is)
+      beside.first (subst (λ r. NotAfter (ids r) (ids beside.also)) (sym one.is)
+      (subst (λ r. NotAfter (ids (first_of graph labels here ∷ one.tail)) (ids r)) (sym two.is)
       (NotAfter-join (first_of graph labels here).scid (first_of graph labels there).scid (ids one.tail) (ids two.tail) (inl p))))
 
   pub beside_more : (first_of graph labels there).scid < (first_of graph labels here).scid → IdsFirst graph labels other label
   beside_more p =
-      beside.after (subst (λ r. NotAfter (ids beside.also) (ids r)) (sym one.is) (subst (λ r. NotAfter (ids r) (ids (first_of graph labels here ∷ one.tail))) (sym two.is)
+      beside.after (subst (λ r. NotAfter (ids beside.also) (ids r)) (sym one.is)
+      (subst (λ r. NotAfter (ids r) (ids (first_of graph labels here ∷ one.tail))) (sym two.is)
       (NotAfter-join (first_of graph labels there).scid (first_of graph labels here).scid (ids two.tail) (ids one.tail) (inl p))))
 
-  pub first_tail : (first_of graph labels here).scid ≡ (first_of graph labels there).scid → NotAfter (ids one.tail) (ids two.tail) → IdsFirst graph labels label other
+  pub first_tail : (first_of graph labels here).scid ≡ (first_of graph labels there).scid
+      → NotAfter (ids one.tail) (ids two.tail) → IdsFirst graph labels label other
   first_tail e p =
-      beside.first (subst (λ r. NotAfter (ids r) (ids beside.also)) (sym one.is) (subst (λ r. NotAfter (ids (first_of graph labels here ∷ one.tail)) (ids r)) (sym two.is)
+      beside.first (subst (λ r. NotAfter (ids r) (ids beside.also)) (sym one.is)
+      (subst (λ r. NotAfter (ids (first_of graph labels here ∷ one.tail)) (ids r)) (sym two.is)
       (NotAfter-join (first_of graph labels here).scid (first_of graph labels there).scid (ids one.tail) (ids two.tail) (inr (e, p)))))
 
-  pub after_tail : (first_of graph labels here).scid ≡ (first_of graph labels there).scid → NotAfter (ids two.tail) (ids one.tail) → IdsFirst graph labels other label
+  pub after_tail : (first_of graph labels here).scid ≡ (first_of graph labels there).scid
+      → NotAfter (ids two.tail) (ids one.tail) → IdsFirst graph labels other label
   after_tail e p =
-      beside.after (subst (λ r. NotAfter (ids beside.also) (ids r)) (sym one.is) (subst (λ r. NotAfter (ids r) (ids (first_of graph labels here ∷ one.tail))) (sym two.is)
+      beside.after (subst (λ r. NotAfter (ids beside.also) (ids r)) (sym one.is)
+      (subst (λ r. NotAfter (ids r) (ids (first_of graph labels here ∷ one.tail))) (sym two.is)
       (NotAfter-join (first_of graph labels there).scid (first_of graph labels here).scid (ids two.tail) (ids one.tail) (inr (sym e, p)))))
 
   pub beside_next : (first_of graph labels here).scid ≡ (first_of graph labels there).scid →
@@ -132,17 +155,20 @@ module _ (graph : Graph) (labels : List Label) (label other here there : Label) 
         after = after_tail e;
       }
 
-  pub beside_same : (first_of graph labels here).scid ≡ (first_of graph labels there).scid → here.next ≡ there.next → IdsFirst graph labels label other
+  pub beside_same : (first_of graph labels here).scid ≡ (first_of graph labels there).scid
+      → here.next ≡ there.next → IdsFirst graph labels label other
   beside_same e n =
       let same : one.tail ≡ two.tail = Spells-unique graph labels (label_at labels there.next) one.tail two.tail
       (subst (λ i. Spells graph labels (label_at labels i) one.tail) n one.spells) two.spells (one.long ∙ sym two.long) in
       first_tail e (subst (λ r. NotAfter (ids one.tail) (ids r)) same (NotAfter-refl (ids one.tail)))
 
-pub beside_end : (graph : Graph) (labels : List Label) (label other here there : Label) (count : ℕ) → AreBeside graph labels label other here there count → count ≡ 0 →
+pub beside_end : (graph : Graph) (labels : List Label) (label other here there : Label) (count : ℕ)
+    → AreBeside graph labels label other here there count → count ≡ 0 →
     IdsFirst graph labels label other
 beside_end graph labels label other here there count beside e = by beside.rest beside.also (beside.long ∙ e) (beside.long_also ∙ e) beside.first
   where
-    by : (rest also : List Link) → length rest ≡ 0 → length also ≡ 0 → (NotAfter (ids rest) (ids also) → IdsFirst graph labels label other) → IdsFirst graph labels label other
+    by : (rest also : List Link) → length rest ≡ 0 → length also ≡ 0 → (NotAfter (ids rest) (ids also)
+        → IdsFirst graph labels label other) → IdsFirst graph labels label other
     by [] [] m n f = f (NotAfter-refl [])
     by [] (edge ∷ also) m n f = absurd (omega arith)
     by (edge ∷ rest) also m n f = absurd (omega arith)

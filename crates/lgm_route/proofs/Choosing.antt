@@ -1,5 +1,6 @@
 -- The walk that trial gives is the least one, and the only one.
-use Rattle.std.proofs.Common.{◌≡◌, ◌≢◌, ◌⊎◌, ◌↔◌, ℕ, ◌≤◌, Bool, List, [], ◌∷◌, length, map, Ordering, zero, suc, true, false, cond, refl, sym, ◌∙◌, ap, subst, inl, inr, arith}
+use Rattle.std.proofs.Common.{◌≡◌, ◌≢◌, ◌⊎◌, ◌↔◌, ℕ, ◌≤◌, Bool, List, [], ◌∷◌, length, map, Ordering, zero}
+use Rattle.std.proofs.Common.{suc, true, false, cond, refl, sym, ◌∙◌, ap, subst, inl, inr, arith}
 use Rattle.std.specs.Prelude.{nat_le, nat_lt, nat_eq, is_some, ◌&&◌, Option, Some, None, Result, Ok, Err}
 use Rattle.std.specs.List.{Contains, fold}
 use Rattle.std.specs.declared.cmp.Ordering.TheVariants.{Less, Equal, Greater}
@@ -12,7 +13,8 @@ use Rattle.lgm_store.specs.Rows.{is_point}
 use Rattle.lgm_store.proofs.Points.{same_point, is_point-self}
 use Rattle.lgm_graph.specs.Edges.{AreDirections}
 use Rattle.lgm_graph.specs.declared.edge.Edge.{Edge}
-use Rattle.lgm_graph.proofs.Members.{Among, Contains-Among, Among-Contains, Among-passes, Among-passed, Among-mapped, Among-map, Among-flat, Among-flattened}
+use Rattle.lgm_graph.proofs.Members.{Among, Contains-Among, Among-Contains, Among-passes, Among-passed}
+use Rattle.lgm_graph.proofs.Members.{Among-mapped, Among-map, Among-flat, Among-flattened}
 use Rattle.lgm_route.specs.declared.request.Request.{Request}
 use Rattle.lgm_route.specs.declared.route.Hop.{Hop}
 use Rattle.lgm_route.specs.declared.fault.RouteFault.{RouteFault}
@@ -63,7 +65,8 @@ both : (a b : Bool) → (a && b) ≡ true → (a ≡ true) × (b ≡ true)
 both true b h = (refl, h)
 both false b h = absurd (false≢true h)
 
-rests_lead : (edges : List Edge) (request : Request) (node : Point) (walk : List Edge) → IsRest edges request node walk → (leads request node walk ≡ true) × AreOf edges walk
+rests_lead : (edges : List Edge) (request : Request) (node : Point) (walk : List Edge)
+    → IsRest edges request node walk → (leads request node walk ≡ true) × AreOf edges walk
 rests_lead edges request node [] joins = (subst (λ p. is_point node p ≡ true) joins (is_point-self node), tt)
 rests_lead edges request node (edge ∷ rest) joins =
     let later = rests_lead edges request edge.to rest joins.1 in
@@ -72,7 +75,8 @@ rests_lead edges request node (edge ∷ rest) joins =
     let most = le_true (owed request.amount rest) edge.max joins.0.below_max in
     (rw (here, least, most, later.0) refl, (joins.0.there, later.1))
 
-leads_rest : (edges : List Edge) (request : Request) (node : Point) (walk : List Edge) → leads request node walk ≡ true → AreOf edges walk → IsRest edges request node walk
+leads_rest : (edges : List Edge) (request : Request) (node : Point) (walk : List Edge)
+    → leads request node walk ≡ true → AreOf edges walk → IsRest edges request node walk
 leads_rest edges request node [] h of = same_point node request.payee h
 leads_rest edges request node (edge ∷ rest) h of =
     let below = nat_le (owed request.amount rest) edge.max in
@@ -114,7 +118,8 @@ NoneBefore request best walks = (other : List Edge) → Among walks other → No
 -- the better of two walks
 abbrev IsLesser : Request → List Edge → List Edge → List Edge → Type 0
 IsLesser request walk other best =
-    (NotAfter (walk_key request best) (walk_key request walk) × NotAfter (walk_key request best) (walk_key request other)) × ((best ≡ walk) ⊎ (best ≡ other))
+    (NotAfter (walk_key request best) (walk_key request walk)
+    × NotAfter (walk_key request best) (walk_key request other)) × ((best ≡ walk) ⊎ (best ≡ other))
 
 lesser_of : (request : Request) (walk other : List Edge) → IsLesser request walk other (lesser request walk other)
 lesser_of request walk other = by (slice_cmp nat_cmp (walk_key request other) (walk_key request walk)) refl
@@ -122,7 +127,9 @@ lesser_of request walk other = by (slice_cmp nat_cmp (walk_key request other) (w
     kept : (slice_cmp nat_cmp (walk_key request other) (walk_key request walk) ≡ Less → ⊥) → IsLesser request walk other walk
     kept later = ((NotAfter-refl (walk_key request walk), not_after (walk_key request walk) (walk_key request other) later), inl refl)
 
-    by : (o : Ordering) → slice_cmp nat_cmp (walk_key request other) (walk_key request walk) ≡ o → IsLesser request walk other (cond (is_lt (slice_cmp nat_cmp (walk_key request other) (walk_key request walk))) other walk)
+    by : (o : Ordering) → slice_cmp nat_cmp (walk_key request other) (walk_key request walk) ≡ o
+        → IsLesser request walk other
+        (cond (is_lt (slice_cmp nat_cmp (walk_key request other) (walk_key request walk))) other walk)
     by Less e = rw e ((before e, NotAfter-refl (walk_key request other)), inr refl)
       where
         before : slice_cmp nat_cmp (walk_key request other) (walk_key request walk) ≡ Less → NotAfter (walk_key request other) (walk_key request walk)
@@ -132,7 +139,8 @@ lesser_of request walk other = by (slice_cmp nat_cmp (walk_key request other) (w
 
 -- with a walk more in front
 one_more : (request : Request) (best walk next last : List Edge) (walks : List (List Edge)) → IsLesser request best walk next →
-    Among (next ∷ walks) last × NoneBefore request last (next ∷ walks) → Among (best ∷ walk ∷ walks) last × NoneBefore request last (best ∷ walk ∷ walks)
+    Among (next ∷ walks) last × NoneBefore request last (next ∷ walks)
+    → Among (best ∷ walk ∷ walks) last × NoneBefore request last (best ∷ walk ∷ walks)
 one_more request best walk next last walks is later = (among later.0 is.1, none)
   where
     among : Among (next ∷ walks) last → (next ≡ best) ⊎ (next ≡ walk) → Among (best ∷ walk ∷ walks) last
@@ -144,8 +152,12 @@ one_more request best walk next last walks is later = (among later.0 is.1, none)
     before = later.1 next (inl refl)
 
     none : NoneBefore request last (best ∷ walk ∷ walks)
-    none other (inl same) = subst (λ w. NotAfter (walk_key request last) (walk_key request w)) same (NotAfter-trans (walk_key request last) (walk_key request next) (walk_key request best) before (is.0).0)
-    none other (inr (inl same)) = subst (λ w. NotAfter (walk_key request last) (walk_key request w)) same (NotAfter-trans (walk_key request last) (walk_key request next) (walk_key request walk) before (is.0).1)
+    none other (inl same) =
+        subst (λ w. NotAfter (walk_key request last) (walk_key request w)) same (NotAfter-trans
+        (walk_key request last) (walk_key request next) (walk_key request best) before (is.0).0)
+    none other (inr (inl same)) =
+        subst (λ w. NotAfter (walk_key request last) (walk_key request w)) same (NotAfter-trans
+        (walk_key request last) (walk_key request next) (walk_key request walk) before (is.0).1)
     none other (inr (inr there)) = later.1 other (inr there)
 
 folded : (request : Request) (best : List Edge) (walks : List (List Edge)) →
@@ -178,7 +190,8 @@ least_found edges request (walk ∷ walks) same = (best, record { usable = usabl
 
     first : (other : List Edge) → IsUsable edges request other → Precedes request other best → ⊥
     first other able before =
-        NotAfter-excludes (walk_key request best) (walk_key request other) (is.1 other (subst (λ ws. Among ws other) (sym same) (usable_found edges request other able))) before
+        NotAfter-excludes (walk_key request best) (walk_key request other) (is.1 other
+        (subst (λ ws. Among ws other) (sym same) (usable_found edges request other able))) before
 
 -- trial gives an answer
 pub tried : (edges : List Edge) (request : Request) → IsAnswer edges request (answer_of edges request)
@@ -195,7 +208,8 @@ tried edges request = by (refusal request)
 -- ---- there is one
 
 -- a request to the payer itself is refused
-some_fault : (p q r : Bool) → is_some (cond p (Some AmountZero) (cond q (Some AmountTooLarge) (cond r (Some ExpiryTooLarge) (Some SelfPayment)))) ≡ true
+some_fault : (p q r : Bool) → is_some (cond p (Some AmountZero)
+    (cond q (Some AmountTooLarge) (cond r (Some ExpiryTooLarge) (Some SelfPayment)))) ≡ true
 some_fault true q r = refl
 some_fault false true r = refl
 some_fault false false true = refl
@@ -208,7 +222,8 @@ point_apart request none same =
     let some : is_some (refusal request) ≡ true = rw self refused in
     false≢true (sym (ap is_some none) ∙ some)
 
-both_found : (edges : List Edge) (request : Request) (answer other : Result (List Hop) RouteFault) → AreDirections edges → request.payer ≢ request.payee →
+both_found : (edges : List Edge) (request : Request) (answer other : Result (List Hop) RouteFault)
+    → AreDirections edges → request.payer ≢ request.payee →
     IsFoundOver edges request answer → IsFoundOver edges request other → answer ≡ other
 both_found edges request (Ok hops) (Ok hops') directions apart found also =
     let same = least-unique edges request found.0 also.0 directions apart found.1 also.1 in
@@ -222,7 +237,8 @@ pub answer-unique : (edges : List Edge) (request : Request) (answer other : Resu
     IsAnswer edges request answer → IsAnswer edges request other → answer ≡ other
 answer-unique edges request answer other directions is also = by (refusal request) refl is also
   where
-    by : (refused : Option RouteFault) → refusal request ≡ refused → IsAnswerBy refused edges request answer → IsAnswerBy refused edges request other → answer ≡ other
+    by : (refused : Option RouteFault) → refusal request ≡ refused → IsAnswerBy refused edges request answer
+        → IsAnswerBy refused edges request other → answer ≡ other
     by (Some fault) e is also = is ∙ sym also
     by None e is also = both_found edges request answer other directions (point_apart request e) is also
 
@@ -231,7 +247,8 @@ answer-unique edges request answer other directions is also = by (refusal reques
 abbrev HaveSame : List Edge → List Edge → Type 0
 HaveSame edges others = (edge : Edge) → Contains edges edge ↔ Contains others edge
 
-rest_over : (edges others : List Edge) (request : Request) (node : Point) (walk : List Edge) → ((edge : Edge) → Contains edges edge → Contains others edge) →
+rest_over : (edges others : List Edge) (request : Request) (node : Point) (walk : List Edge)
+    → ((edge : Edge) → Contains edges edge → Contains others edge) →
     IsRest edges request node walk → IsRest others request node walk
 rest_over edges others request node [] held joins = joins
 rest_over edges others request node (edge ∷ rest) held joins = (
@@ -266,7 +283,8 @@ answer-over edges others request answer same is = by (refusal request) is
     by None is = found_over edges others request answer same is
 
 -- the answer is that of trial
-pub answer-tried : (edges others : List Edge) (request : Request) (answer : Result (List Hop) RouteFault) → AreDirections others → HaveSame edges others →
+pub answer-tried : (edges others : List Edge) (request : Request) (answer : Result (List Hop) RouteFault)
+    → AreDirections others → HaveSame edges others →
     IsAnswer edges request answer → answer ≡ answer_of others request
 answer-tried edges others request answer directions same is =
     answer-unique others request answer (answer_of others request) directions (answer-over edges others request answer same is) (tried others request)

@@ -1,5 +1,6 @@
 -- From numbered nodes to points: walks over links are walks over edges, and no others are.
-use Rattle.std.proofs.Common.{◌≡◌, ℕ, zero, suc, ◌+◌, ◌<◌, ◌≤◌, Bool, true, false, cond, ltb, List, [], ◌∷◌, length, get_or, map, Some, None, refl, sym, ◌∙◌, ap, subst, arith}
+use Rattle.std.proofs.Common.{◌≡◌, ℕ, zero, suc, ◌+◌, ◌<◌, ◌≤◌, Bool, true, false, cond, ltb, List, []}
+use Rattle.std.proofs.Common.{◌∷◌, length, get_or, map, Some, None, refl, sym, ◌∙◌, ap, subst, arith}
 use Rattle.std.specs.Prelude.{Contains}
 use Rattle.std.specs.List.{position}
 use Rattle.std.specs.Ordering.{nat_cmp}
@@ -34,7 +35,8 @@ contains_map f xs x there = (there.0, omega (arith, length_map f xs, there.1), m
 contains_tail : {A : Type 0} (x y : A) (xs : List A) → Contains xs y → Contains (x ∷ xs) y
 contains_tail x y xs there = (suc there.0, omega (arith, there.1), there.2)
 
-contained_map : {A B : Type 0} (f : A → B) (xs : List A) (y : B) (i : ℕ) → i < length (map f xs) → get_or (map f xs) i y ≡ y → (x : A) × Contains xs x × (f x ≡ y)
+contained_map : {A B : Type 0} (f : A → B) (xs : List A) (y : B) (i : ℕ) → i < length (map f xs)
+    → get_or (map f xs) i y ≡ y → (x : A) × Contains xs x × (f x ≡ y)
 contained_map f [] y i lt e = absurd (omega arith)
 contained_map f (x ∷ xs) y zero lt e = (x, (0, omega arith, refl), e)
 contained_map f (x ∷ xs) y (suc i) lt e =
@@ -46,7 +48,8 @@ contained_map f (x ∷ xs) y (suc i) lt e =
 not_numbered : (points : List Point) (p : Point) → position (is_point p) points ≡ None → IsNumbered points p → ⊥
 not_numbered points p none there = by (ltb (number_of points p) (length points)) refl none
   where
-    by : (b : Bool) → ltb (number_of points p) (length points) ≡ b → cond (ltb (number_of points p) (length points)) (Some (number_of points p)) None ≡ None → ⊥
+    by : (b : Bool) → ltb (number_of points p) (length points) ≡ b
+        → cond (ltb (number_of points p) (length points)) (Some (number_of points p)) None ≡ None → ⊥
     by true e is = let h : Some (number_of points p) ≡ None = rw e at is in absurd cc
     by false e is = let le : length points ≤ number_of points p = grind (arith, nat_tests) in omega (arith, le, there)
 
@@ -56,7 +59,9 @@ some_is a b e = cc
 pub number_is : (points : List Point) (p : Point) (n : ℕ) → position (is_point p) points ≡ Some n → (number_of points p ≡ n) × IsNumbered points p
 number_is points p n is = by (ltb (number_of points p) (length points)) refl is
   where
-    by : (b : Bool) → ltb (number_of points p) (length points) ≡ b → cond (ltb (number_of points p) (length points)) (Some (number_of points p)) None ≡ Some n → (number_of points p ≡ n) × IsNumbered points p
+    by : (b : Bool) → ltb (number_of points p) (length points) ≡ b
+        → cond (ltb (number_of points p) (length points)) (Some (number_of points p)) None ≡ Some n
+        → (number_of points p ≡ n) × IsNumbered points p
     by true e is = let h : Some (number_of points p) ≡ Some n = rw e at is in (some_is (number_of points p) n h, grind (arith, nat_tests))
     by false e is = let h : None ≡ Some n = rw e at is in absurd cc
 
@@ -65,7 +70,8 @@ get_number : (points : List Point) (p d : Point) → IsNumbered points p → get
 get_number [] p d there = absurd (omega (arith, there))
 get_number (q ∷ qs) p d there = by (get_number qs p d) (is_point p q) refl there
   where
-    by : (number_of qs p < length qs → get_or qs (number_of qs p) d ≡ p) → (b : Bool) → is_point p q ≡ b → number_of (q ∷ qs) p < suc (length qs) → get_or (q ∷ qs) (number_of (q ∷ qs) p) d ≡ p
+    by : (number_of qs p < length qs → get_or qs (number_of qs p) d ≡ p) → (b : Bool) → is_point p q ≡ b
+        → number_of (q ∷ qs) p < suc (length qs) → get_or (q ∷ qs) (number_of (q ∷ qs) p) d ≡ p
     by others true e lt = rw e (sym (same_point p q e))
     by others false e lt =
         let next : 1 + number_of qs p ≡ suc (number_of qs p) = omega arith in
@@ -101,7 +107,8 @@ keys_same points amount walk = rw (sent_over points amount walk, length_map (edg
 -- ---- walks
 
 module _ (graph : Graph) (linked : AreLinked graph) (request : Request) (payer payee : ℕ)
-    (payer_is : position (is_point request.payer) graph.points ≡ Some payer) (payee_is : position (is_point request.payee) graph.points ≡ Some payee) where
+    (payer_is : position (is_point request.payer) graph.points ≡ Some payer)
+    (payee_is : position (is_point request.payee) graph.points ≡ Some payee) where
   abbrev numbered : NumberedRequest
   numbered = record { payer = payer; payee = payee; amount = request.amount }
 
@@ -114,7 +121,8 @@ module _ (graph : Graph) (linked : AreLinked graph) (request : Request) (payer p
       ap point_at (sym number.0) ∙ get_number graph.points p no_point number.1
 
   -- a walk over links is one over edges
-  rest_over : (walk : List Link) (node : ℕ) → walks.IsRest (links graph) numbered node walk → routes.IsRest (edges graph) request (point_at node) (over graph.points walk)
+  rest_over : (walk : List Link) (node : ℕ) → walks.IsRest (links graph) numbered node walk
+      → routes.IsRest (edges graph) request (point_at node) (over graph.points walk)
   rest_over [] node joins = ap point_at joins ∙ stands request.payee payee payee_is
   rest_over (link ∷ rest) node joins = (
     record {
@@ -129,16 +137,24 @@ module _ (graph : Graph) (linked : AreLinked graph) (request : Request) (payer p
   -- and each walk over edges is one over links
   rest_back : (walk : List Edge) (point : Point) (node : ℕ) → number_of graph.points point ≡ node → routes.IsRest (edges graph) request point walk →
       (back : List Link) × (over graph.points back ≡ walk) × walks.IsRest (links graph) numbered node back
-  rest_back [] point node number joins = ([], refl, sym number ∙ ap (number_of graph.points) joins ∙ (number_is graph.points request.payee payee payee_is).0)
+  rest_back [] point node number joins = (
+    [],
+    refl,
+    sym number ∙ ap (number_of graph.points) joins
+        ∙ (number_is graph.points request.payee payee payee_is).0,
+  )
   rest_back (edge ∷ rest) point node number joins =
       let found = contained_map (edge_at graph.points) (links graph) edge joins.0.there.0 joins.0.there.1 joins.0.there.2 in
       let link = found.0 in
       let same : edge_at graph.points link ≡ edge = found.2 in
       let numbers = (linked.each link found.1).back in
-      let from : link.from ≡ node = sym (ap (λ l. l.from) numbers) ∙ ap (λ e. number_of graph.points e.from) same ∙ ap (number_of graph.points) joins.0.leaves ∙ number in
+      let from : link.from ≡ node =
+      sym (ap (λ l. l.from) numbers) ∙ ap (λ e. number_of graph.points e.from) same
+      ∙ ap (number_of graph.points) joins.0.leaves ∙ number in
       let to : number_of graph.points edge.to ≡ link.to = ap (λ e. number_of graph.points e.to) (sym same) ∙ ap (λ l. l.to) numbers in
       let later = rest_back rest edge.to link.to to joins.1 in
-      let cost : walks.owed request.amount later.0 ≡ routes.owed request.amount rest = sym (owed_over graph.points request.amount later.0) ∙ ap (routes.owed request.amount) later.1 in (
+      let cost : walks.owed request.amount later.0 ≡ routes.owed request.amount rest =
+      sym (owed_over graph.points request.amount later.0) ∙ ap (routes.owed request.amount) later.1 in (
         link ∷ later.0,
         ap (λ e. e ∷ over graph.points later.0) same ∙ ap (λ r. edge ∷ r) later.1,
         (
@@ -152,13 +168,15 @@ module _ (graph : Graph) (linked : AreLinked graph) (request : Request) (payer p
         ),
       )
 
-  usable_back : (walk : List Edge) → routes.IsUsable (edges graph) request walk → (back : List Link) × (over graph.points back ≡ walk) × walks.IsUsable (links graph) numbered back
+  usable_back : (walk : List Edge) → routes.IsUsable (edges graph) request walk
+      → (back : List Link) × (over graph.points back ≡ walk) × walks.IsUsable (links graph) numbered back
   usable_back walk usable =
       let back = rest_back walk request.payer payer (number_is graph.points request.payer payer payer_is).0 usable.joins in
       let long : length back.0 ≡ length walk = sym (length_map (edge_at graph.points) back.0) ∙ ap length back.1 in
       (back.0, back.1, record { some = let h = usable.some in omega arith; few = let h = usable.few in omega arith; joins = back.2 })
 
-  pub none_over : ((walk : List Link) → walks.IsUsable (links graph) numbered walk → ⊥) → (walk : List Edge) → routes.IsUsable (edges graph) request walk → ⊥
+  pub none_over : ((walk : List Link) → walks.IsUsable (links graph) numbered walk → ⊥) → (walk : List Edge)
+      → routes.IsUsable (edges graph) request walk → ⊥
   none_over none walk usable = let back = usable_back walk usable in none back.0 back.2
 
   pub least_over : (walk : List Link) → walks.IsLeast (links graph) numbered walk → routes.IsLeast (edges graph) request (over graph.points walk)
@@ -168,21 +186,27 @@ module _ (graph : Graph) (linked : AreLinked graph) (request : Request) (payer p
         usable = record {
           some = let h = least.usable.some in omega arith;
           few = let h = least.usable.few in omega arith;
-          joins = subst (λ p. routes.IsRest (edges graph) request p (over graph.points walk)) (stands request.payer payer payer_is) (rest_over walk payer least.usable.joins);
+          joins =
+              subst (λ p. routes.IsRest (edges graph) request p (over graph.points walk))
+              (stands request.payer payer payer_is) (rest_over walk payer least.usable.joins);
         };
         first = λ other usable before. first (usable_back other usable) before;
       }
     where
-      first : {other : List Edge} → (back : List Link) × (over graph.points back ≡ other) × walks.IsUsable (links graph) numbered back → routes.Precedes request other (over graph.points walk) → ⊥
+      first : {other : List Edge} → (back : List Link) × (over graph.points back ≡ other) × walks.IsUsable
+          (links graph) numbered back → routes.Precedes request other (over graph.points walk) → ⊥
       first {other} back before =
-          let left : key request.amount back.0 ≡ key_over request.amount other = sym (keys_same graph.points request.amount back.0) ∙ ap (key_over request.amount) back.1 in
+          let left : key request.amount back.0 ≡ key_over request.amount other =
+          sym (keys_same graph.points request.amount back.0) ∙ ap (key_over request.amount) back.1 in
           let right : key request.amount walk ≡ key_over request.amount (over graph.points walk) = sym (keys_same graph.points request.amount walk) in
-          least.first back.0 back.2 (ap (λ k. slice_cmp nat_cmp k (key request.amount walk)) left ∙ ap (slice_cmp nat_cmp (key_over request.amount other)) right ∙ before)
+          least.first back.0 back.2 (ap (λ k. slice_cmp nat_cmp k (key request.amount walk)) left
+          ∙ ap (slice_cmp nat_cmp (key_over request.amount other)) right ∙ before)
 
 -- ---- ends without a number
 
 -- both ends of an edge have one
-edge_numbered : (graph : Graph) → AreLinked graph → (edge : Edge) → Contains (edges graph) edge → IsNumbered graph.points edge.from × IsNumbered graph.points edge.to
+edge_numbered : (graph : Graph) → AreLinked graph → (edge : Edge) → Contains (edges graph) edge
+    → IsNumbered graph.points edge.from × IsNumbered graph.points edge.to
 edge_numbered graph linked edge there =
     let found = contained_map (edge_at graph.points) (links graph) edge there.0 there.1 there.2 in
     let link = found.0 in
@@ -191,17 +215,23 @@ edge_numbered graph linked edge there =
     let to : number_of graph.points edge.to ≡ link.to = ap (λ e. number_of graph.points e.to) (sym found.2) ∙ ap (λ l. l.to) is.back in
     (let h = is.from in omega arith, let h = is.to in omega arith)
 
-pub none_from : (graph : Graph) (request : Request) → AreLinked graph → position (is_point request.payer) graph.points ≡ None → (walk : List Edge) → routes.IsUsable (edges graph) request walk → ⊥
+pub none_from : (graph : Graph) (request : Request) → AreLinked graph → position (is_point request.payer)
+    graph.points ≡ None → (walk : List Edge) → routes.IsUsable (edges graph) request walk → ⊥
 none_from graph request linked none [] usable = omega (arith, usable.some)
 none_from graph request linked none (edge ∷ rest) usable =
     let step = usable.joins.0 in
     not_numbered graph.points request.payer none (subst (IsNumbered graph.points) step.leaves (edge_numbered graph linked edge step.there).0)
 
-numbered_to : (graph : Graph) (request : Request) → AreLinked graph → (walk : List Edge) (point : Point) → IsNumbered graph.points point → routes.IsRest (edges graph) request point walk → IsNumbered graph.points request.payee
+numbered_to : (graph : Graph) (request : Request) → AreLinked graph → (walk : List Edge) (point : Point)
+    → IsNumbered graph.points point → routes.IsRest (edges graph) request point walk
+    → IsNumbered graph.points request.payee
 numbered_to graph request linked [] point number joins = subst (IsNumbered graph.points) joins number
-numbered_to graph request linked (edge ∷ rest) point number joins = numbered_to graph request linked rest edge.to (edge_numbered graph linked edge joins.0.there).1 joins.1
+numbered_to graph request linked (edge ∷ rest) point number joins =
+    numbered_to graph request linked rest edge.to (edge_numbered graph linked edge joins.0.there).1 joins.1
 
-pub none_to : (graph : Graph) (request : Request) → AreLinked graph → position (is_point request.payee) graph.points ≡ None → (walk : List Edge) → routes.IsUsable (edges graph) request walk → ⊥
+pub none_to : (graph : Graph) (request : Request) → AreLinked graph → position (is_point request.payee)
+    graph.points ≡ None → (walk : List Edge) → routes.IsUsable (edges graph) request walk → ⊥
 none_to graph request linked none [] usable = omega (arith, usable.some)
 none_to graph request linked none (edge ∷ rest) usable =
-    not_numbered graph.points request.payee none (numbered_to graph request linked rest edge.to (edge_numbered graph linked edge usable.joins.0.there).1 usable.joins.1)
+    not_numbered graph.points request.payee none (numbered_to graph request linked rest edge.to
+    (edge_numbered graph linked edge usable.joins.0.there).1 usable.joins.1)

@@ -1,5 +1,6 @@
 -- Labels, and the rests that they stand for.
-use Rattle.std.proofs.Common.{◌≡◌, ◌⊎◌, ℕ, ◌+◌, ◌*◌, ◌<◌, ◌≤◌, List, [], ◌∷◌, ◌++◌, length, Option, Some, None, refl, sym, ◌∙◌, ap, subst, inl, inr, arith}
+use Rattle.std.proofs.Common.{◌≡◌, ◌⊎◌, ℕ, ◌+◌, ◌*◌, ◌<◌, ◌≤◌, List, [], ◌∷◌, ◌++◌, length, Option}
+use Rattle.std.proofs.Common.{Some, None, refl, sym, ◌∙◌, ap, subst, inl, inr, arith}
 use Rattle.std.proofs.Common.{length-append}
 use Rattle.std.proofs.lemmas.List.{get_or_append_left, append_assoc, append-nil}
 use Rattle.lgm_graph.specs.Graph.{Graph, links, links_into}
@@ -7,10 +8,12 @@ use Rattle.lgm_graph.specs.declared.link.Link.{Link}
 use Rattle.lgm_route.specs.declared.numbered_request.NumberedRequest.{NumberedRequest}
 use Rattle.lgm_route.specs.declared.label.Label.{Label}
 use Rattle.lgm_route.specs.inner.Numbered.{owed, sent, IsRest, IsStep, IsUsable}
-use Rattle.lgm_route.specs.inner.Searching.{walk_key, Serves, label_at, no_label, number_at, Spells, IsLabel, IsWalk, bound_of, IsNoBetter, Has, IsHopeless, Reaches, IsPassed, IsLeft, IsSettled, AreLabels, IsFound, Grows, Begins, first_of, link_at}
+use Rattle.lgm_route.specs.inner.Searching.{walk_key, Serves, label_at, no_label, number_at, Spells, IsLabel, IsWalk, bound_of, IsNoBetter, Has}
+use Rattle.lgm_route.specs.inner.Searching.{IsHopeless, Reaches, IsPassed, IsLeft, IsSettled, AreLabels, IsFound, Grows, Begins, first_of, link_at}
 use Rattle.lgm_route.specs.inner.Bounding.{AreLow}
 use Rattle.lgm_route.proofs.Orders.{NotAfter-trans}
-use Rattle.lgm_route.proofs.Rests.{Serves-refl, Serves-trans, Serves-owed, Serves-prepend, Serves-walk, step-cheaper, walk_less, fee-monotone, owed-least}
+use Rattle.lgm_route.proofs.Rests.{Serves-refl, Serves-trans, Serves-owed, Serves-prepend, Serves-walk}
+use Rattle.lgm_route.proofs.Rests.{step-cheaper, walk_less, fee-monotone, owed-least}
 
 -- a label stands for one rest
 pub Spells-unique : (graph : Graph) (labels : List Label) (label : Label) (rest also : List Link) →
@@ -40,7 +43,8 @@ Begins-grows graph labels more label h = record {
   at = subst (λ l. label.at < length (links_into graph l.node)) (sym (label_left labels more label.next h.next)) h.at;
 }
 
-pub first-grows : (graph : Graph) (labels more : List Label) (label : Label) → label.next < length labels → first_of graph (labels ++ more) label ≡ first_of graph labels label
+pub first-grows : (graph : Graph) (labels more : List Label) (label : Label) → label.next < length labels
+    → first_of graph (labels ++ more) label ≡ first_of graph labels label
 first-grows graph labels more label within = ap (λ l. link_at (links_into graph l.node) label.at) (label_left labels more label.next within)
 
 pub Spells-grows : (graph : Graph) (labels more : List Label) (label : Label) (rest : List Link) →
@@ -61,7 +65,14 @@ label-grows graph request labels more label rest h =
 pub walk-grows : (graph : Graph) (request : NumberedRequest) (labels more : List Label) (label : Label) (walk : List Link) →
     IsWalk graph request labels label walk → IsWalk graph request (labels ++ more) label walk
 walk-grows graph request labels more label walk h =
-    record { spells = Spells-grows graph labels more label walk h.spells; long = h.long; some = h.some; few = h.few; joins = h.joins; sends = h.sends }
+    record {
+      spells = Spells-grows graph labels more label walk h.spells;
+      long = h.long;
+      some = h.some;
+      few = h.few;
+      joins = h.joins;
+      sends = h.sends;
+    }
 
 pub has-grows : (graph : Graph) (request : NumberedRequest) (labels more : List Label) (node : ℕ) (rest : List Link) →
     Has graph request labels node rest → Has graph request (labels ++ more) node rest
@@ -72,7 +83,9 @@ has-grows graph request labels more node rest h =
       within = omega (arith, longer labels more, h.within);
       at = ap (λ l. l.node) same ∙ h.at;
       other = h.other;
-      is = subst (λ l. IsLabel graph request (labels ++ more) l h.other) (sym same) (label-grows graph request labels more (label_at labels h.place) h.other h.is);
+      is =
+          subst (λ l. IsLabel graph request (labels ++ more) l h.other) (sym same)
+          (label-grows graph request labels more (label_at labels h.place) h.other h.is);
       serves = h.serves;
     }
 
@@ -91,14 +104,24 @@ pub hopeless-serves : (request : NumberedRequest) (low : List ℕ) (bound node :
     IsHopeless request low bound node a → IsHopeless request low bound node b
 hopeless-serves request low bound node a b h hopeless = omega (arith, hopeless, h.fewer, Serves-owed request a b h)
 
-pub reaches-serves : (graph : Graph) (request : NumberedRequest) (low : List ℕ) (start : ℕ) (labels : List Label) (found : Option Label) (node : ℕ) (a b : List Link) → Serves request a b →
+pub reaches-serves : (graph : Graph) (request : NumberedRequest) (low : List ℕ) (start : ℕ)
+    (labels : List Label) (found : Option Label) (node : ℕ) (a b : List Link) → Serves request a b →
     Reaches graph request low start labels found node a → Reaches graph request low start labels found node b
 reaches-serves graph request low start labels found node a b h (inl has) =
-    inl (record { place = has.place; within = has.within; at = has.at; other = has.other; is = has.is; serves = Serves-trans request has.other a b has.serves h })
-reaches-serves graph request low start labels found node a b h (inr hopeless) = inr (hopeless-serves request low (bound_of start found) node a b h hopeless)
+    inl (record {
+      place = has.place;
+      within = has.within;
+      at = has.at;
+      other = has.other;
+      is = has.is;
+      serves = Serves-trans request has.other a b has.serves h;
+    })
+reaches-serves graph request low start labels found node a b h (inr hopeless) =
+    inr (hopeless-serves request low (bound_of start found) node a b h hopeless)
 
 -- what holds as the search grows
-module _ (graph : Graph) (request : NumberedRequest) (low : List ℕ) (start : ℕ) (labels : List Label) (found : Option Label) (after : List Label) (now : Option Label)
+module _ (graph : Graph) (request : NumberedRequest) (low : List ℕ) (start : ℕ) (labels : List Label)
+    (found : Option Label) (after : List Label) (now : Option Label)
     (grows : Grows graph request start labels found after now) where
   pub has-later : (node : ℕ) (rest : List Link) → Has graph request labels node rest → Has graph request after node rest
   has-later node rest h = subst (λ l. Has graph request l node rest) (sym grows.is) (has-grows graph request labels grows.more node rest h)
@@ -112,32 +135,43 @@ module _ (graph : Graph) (request : NumberedRequest) (low : List ℕ) (start : �
   pub long-later : length labels ≤ length after
   long-later = omega (arith, longer labels grows.more, ap length grows.is)
 
-  pub reaches-later : (node : ℕ) (rest : List Link) → Reaches graph request low start labels found node rest → Reaches graph request low start after now node rest
+  pub reaches-later : (node : ℕ) (rest : List Link) → Reaches graph request low start labels found node rest
+      → Reaches graph request low start after now node rest
   reaches-later node rest (inl h) = inl (has-later node rest h)
   reaches-later node rest (inr h) = inr (omega (arith, h, grows.lower))
 
-  pub passed-later : (edge : Link) (rest : List Link) → IsPassed graph request low start labels found edge rest → IsPassed graph request low start after now edge rest
+  pub passed-later : (edge : Link) (rest : List Link) → IsPassed graph request low start labels found edge
+      rest → IsPassed graph request low start after now edge rest
   passed-later edge rest h =
       record { whole = λ from. grows.first (edge ∷ rest) (h.whole from); longer = λ few. reaches-later edge.from (edge ∷ rest) (h.longer few) }
 
-  pub left-later : (node : ℕ) (rest : List Link) → IsLeft graph request low start labels found node rest → IsLeft graph request low start after now node rest
+  pub left-later : (node : ℕ) (rest : List Link) → IsLeft graph request low start labels found node rest
+      → IsLeft graph request low start after now node rest
   left-later node rest h = λ edge there to min max. passed-later edge rest (h edge there to min max)
 
   pub settled-later : (label : Label) → IsSettled graph request low start labels found label → IsSettled graph request low start after now label
   settled-later label h = record { rest = h.rest; is = label-later label h.rest h.is; done = by h.done }
     where
-      by : IsHopeless request low (bound_of start found) label.node h.rest ⊎ ((other : List Link) × Serves request other h.rest × IsLeft graph request low start labels found label.node other) →
-          IsHopeless request low (bound_of start now) label.node h.rest ⊎ ((other : List Link) × Serves request other h.rest × IsLeft graph request low start after now label.node other)
+      by : IsHopeless request low (bound_of start found) label.node h.rest ⊎ ((other : List Link)
+          × Serves request other h.rest × IsLeft graph request low start labels found label.node other) →
+          IsHopeless request low (bound_of start now) label.node h.rest ⊎ ((other : List Link)
+          × Serves request other h.rest × IsLeft graph request low start after now label.node other)
       by (inl p) = inl (omega (arith, p, grows.lower))
       by (inr p) = inr (p.0, p.1, left-later label.node p.0 p.2)
 
-pub grows-refl : (graph : Graph) (request : NumberedRequest) (start : ℕ) (labels : List Label) (found : Option Label) → Grows graph request start labels found labels found
+pub grows-refl : (graph : Graph) (request : NumberedRequest) (start : ℕ) (labels : List Label)
+    (found : Option Label) → Grows graph request start labels found labels found
 grows-refl graph request start labels found = record { more = []; is = sym (append-nil labels); lower = omega arith; first = λ walk h. h }
 
 pub grows-trans : (graph : Graph) (request : NumberedRequest) (start : ℕ) (a b c : List Label) (x y z : Option Label) →
     Grows graph request start a x b y → Grows graph request start b y c z → Grows graph request start a x c z
 grows-trans graph request start a b c x y z h k =
-    record { more = h.more ++ k.more; is = k.is ∙ ap (λ l. l ++ k.more) h.is ∙ append_assoc a h.more k.more; lower = omega (arith, h.lower, k.lower); first = λ walk p. k.first walk (h.first walk p) }
+    record {
+      more = h.more ++ k.more;
+      is = k.is ∙ ap (λ l. l ++ k.more) h.is ∙ append_assoc a h.more k.more;
+      lower = omega (arith, h.lower, k.lower);
+      first = λ walk p. k.first walk (h.first walk p);
+    }
 
 -- once all labels are settled, every rest is reached
 module _ (graph : Graph) (request : NumberedRequest) (low : List ℕ) (start : ℕ) (labels : List Label) (found : Option Label)
@@ -145,7 +179,9 @@ module _ (graph : Graph) (request : NumberedRequest) (low : List ℕ) (start : �
     (settled : (i : ℕ) → i < length labels → IsSettled graph request low start labels found (label_at labels i)) where
   -- a rest with a label is hopeless, or one that serves in its place was led on
   abbrev Onward : ℕ → List Link → Type 0
-  Onward node rest = IsHopeless request low (bound_of start found) node rest ⊎ ((other : List Link) × Serves request other rest × IsLeft graph request low start labels found node other)
+  Onward node rest =
+      IsHopeless request low (bound_of start found) node rest ⊎ ((other : List Link)
+      × Serves request other rest × IsLeft graph request low start labels found node other)
 
   onward : (node : ℕ) (rest : List Link) → Reaches graph request low start labels found node rest → Onward node rest
   onward node rest (inr hopeless) = inl hopeless
@@ -173,8 +209,17 @@ module _ (graph : Graph) (request : NumberedRequest) (low : List ℕ) (start : �
       let from = ap (λ n. number_at low n) step.leaves in
       omega (arith, h, rises, fees, from)
 
-  pub all_reached : (rest : List Link) (node : ℕ) → IsRest (links graph) request node rest → length rest ≤ 19 → Reaches graph request low start labels found node rest
-  all_reached [] node joins few = inl (record { place = 0; within = omega (arith, labelled.some); at = labelled.first.0 ∙ sym joins; other = []; is = first; serves = Serves-refl request [] })
+  pub all_reached : (rest : List Link) (node : ℕ) → IsRest (links graph) request node rest → length rest ≤ 19
+      → Reaches graph request low start labels found node rest
+  all_reached [] node joins few =
+      inl (record {
+        place = 0;
+        within = omega (arith, labelled.some);
+        at = labelled.first.0 ∙ sym joins;
+        other = [];
+        is = first;
+        serves = Serves-refl request [];
+      })
     where
       s : (rest : List Link) × IsLabel graph request labels (label_at labels 0) rest
       s = labelled.sound 0 (omega (arith, labelled.some))
@@ -197,18 +242,26 @@ module _ (graph : Graph) (request : NumberedRequest) (low : List ℕ) (start : �
           (passed.longer (omega (arith, h.1.fewer))))
 
   -- so no usable walk is better than the best
-  no_better_by : (walk : List Link) (o : Option Label) → IsFound graph request labels start o → length walk ≤ 20 → bound_of start o < sent request.amount walk * 32 + length walk →
+  no_better_by : (walk : List Link) (o : Option Label) → IsFound graph request labels start o
+      → length walk ≤ 20 → bound_of start o < sent request.amount walk * 32 + length walk →
       IsNoBetter graph request labels start o walk
   no_better_by walk None is few p = omega arith
   no_better_by walk (Some best) is few p =
       let w = (is.0).1 in
       ((is.0).0, w, walk_less request (is.0).0 walk (omega (arith, w.long, w.few)) few (omega (arith, p, w.sends, w.long)))
 
-  served_by : (edge : Link) (a b : List Link) (o : Option Label) → Serves request a b → IsNoBetter graph request labels start o (edge ∷ a) → IsNoBetter graph request labels start o (edge ∷ b)
+  served_by : (edge : Link) (a b : List Link) (o : Option Label) → Serves request a b → IsNoBetter graph
+      request labels start o (edge ∷ a) → IsNoBetter graph request labels start o (edge ∷ b)
   served_by edge a b None h p = omega (arith, p, Serves-owed request a b h)
-  served_by edge a b (Some best) h p = (p.0, p.1, NotAfter-trans (walk_key request p.0) (walk_key request (edge ∷ a)) (walk_key request (edge ∷ b)) p.2 (Serves-walk request edge a b h))
+  served_by edge a b (Some best) h p = (
+    p.0,
+    p.1,
+    NotAfter-trans (walk_key request p.0) (walk_key request (edge ∷ a)) (walk_key request (edge ∷ b)) p.2
+        (Serves-walk request edge a b h),
+  )
 
-  pub none_better : IsFound graph request labels start found → (walk : List Link) → IsUsable (links graph) request walk → IsNoBetter graph request labels start found walk
+  pub none_better : IsFound graph request labels start found → (walk : List Link)
+      → IsUsable (links graph) request walk → IsNoBetter graph request labels start found walk
   none_better is [] usable = absurd (omega (arith, usable.some))
   none_better is (edge ∷ rest) usable = by (onward edge.to rest (all_reached rest edge.to usable.joins.1 (omega (arith, usable.few))))
     where

@@ -1,5 +1,6 @@
 -- Rests led on over one more edge, and what it takes that all of a label's are.
-use Rattle.std.proofs.Common.{◌≡◌, ◌≢◌, ◌⊎◌, ℕ, ◌+◌, ◌*◌, ◌<◌, ◌≤◌, List, [], ◌∷◌, ◌++◌, length, Option, Some, None, refl, sym, ◌∙◌, ap, subst, inl, inr, arith}
+use Rattle.std.proofs.Common.{◌≡◌, ◌≢◌, ◌⊎◌, ℕ, ◌+◌, ◌*◌, ◌<◌, ◌≤◌, List, [], ◌∷◌, ◌++◌, length}
+use Rattle.std.proofs.Common.{Option, Some, None, refl, sym, ◌∙◌, ap, subst, inl, inr, arith}
 use Rattle.std.proofs.lemmas.List.{get_or_push, length_push, append-nil}
 use Rattle.lgm_graph.specs.Fee.{fee_of}
 use Rattle.lgm_graph.specs.Graph.{Graph, links, links_into, AreLinked}
@@ -7,14 +8,16 @@ use Rattle.lgm_graph.specs.declared.link.Link.{Link}
 use Rattle.lgm_route.specs.declared.numbered_request.NumberedRequest.{NumberedRequest}
 use Rattle.lgm_route.specs.declared.label.Label.{Label}
 use Rattle.lgm_route.specs.inner.Numbered.{IsRest}
-use Rattle.lgm_route.specs.inner.Searching.{link_at, first_of, label_at, no_label, number_at, Has, Spells, IsLabel, IsWalk, SomeRest, SomeWalk, AreLabels, bound_of, Grows, IsBetter, IsOffered, PassesOn, LeadsOn}
+use Rattle.lgm_route.specs.inner.Searching.{link_at, first_of, label_at, no_label, number_at, Has, Spells, IsLabel, IsWalk, SomeRest}
+use Rattle.lgm_route.specs.inner.Searching.{SomeWalk, AreLabels, bound_of, Grows, IsBetter, IsOffered, PassesOn, LeadsOn}
 use Rattle.lgm_route.specs.inner.Leading.{IsNeedless, IsLed, IsLead, in_list, IsTaken, IsAmong, AreLeads}
 use Rattle.lgm_route.proofs.Rests.{trichotomy}
 use Rattle.lgm_route.proofs.Labels.{label_left, at-later, long-later}
 use Rattle.lgm_route.proofs.Steps.{all_passed}
 
 -- one more edge before a label's rest
-module _ (graph : Graph) (request : NumberedRequest) (labels : List Label) (i : ℕ) (edge : Link) (new : Label) (led : IsLed graph request labels i edge new)
+module _ (graph : Graph) (request : NumberedRequest) (labels : List Label) (i : ℕ) (edge : Link) (new : Label)
+    (led : IsLed graph request labels i edge new)
     (rest : List Link) (is : IsLabel graph request labels (label_at labels i) rest) where
   step : IsRest (links graph) request edge.from (edge ∷ rest)
   step = (
@@ -50,51 +53,67 @@ module _ (graph : Graph) (request : NumberedRequest) (labels : List Label) (new 
     (led : IsLed graph request labels new.next (first_of graph labels new) new) where
   pub some_walk : new.node ≡ request.payer → SomeWalk graph request labels new
   some_walk at =
-      let s = are.sound new.next led.within in
-      (first_of graph labels new ∷ s.0, led_walk graph request labels new.next (first_of graph labels new) new led s.0 s.1 (sym led.node ∙ at) (are.few new.next led.within))
+      let s = are.sound new.next led.within in (
+        first_of graph labels new ∷ s.0,
+        led_walk graph request labels new.next (first_of graph labels new) new led s.0 s.1
+            (sym led.node ∙ at) (are.few new.next led.within),
+      )
 
   pub some_rest : new.node ≢ request.payer → SomeRest graph request labels new
   some_rest other =
-      let s = are.sound new.next led.within in
-      (first_of graph labels new ∷ s.0, led_rest graph request labels new.next (first_of graph labels new) new led s.0 s.1 (λ e. other (led.node ∙ e)))
+      let s = are.sound new.next led.within in (
+        first_of graph labels new ∷ s.0,
+        led_rest graph request labels new.next (first_of graph labels new) new led s.0 s.1
+            (λ e. other (led.node ∙ e)),
+      )
 
   pub few_edges : new.node ≢ request.payer → new.count ≤ 19
   few_edges other = (led.longer (λ e. other (led.node ∙ e))).0
 
-  pub taken_walk : (start : ℕ) (found now : Option Label) → new.node ≡ request.payer → IsBetter graph request labels start found new now → IsTaken graph request start labels new labels now
+  pub taken_walk : (start : ℕ) (found now : Option Label) → new.node ≡ request.payer
+      → IsBetter graph request labels start found new now → IsTaken graph request start labels new labels now
   taken_walk start found now at better low rest is to min max =
-      let walk = led_walk graph request labels new.next (first_of graph labels new) new led rest is (sym led.node ∙ at) (are.few new.next led.within) in
+      let walk =
+      led_walk graph request labels new.next (first_of graph labels new) new led rest is (sym led.node ∙ at)
+      (are.few new.next led.within) in
       record {
         whole = λ from. better.takes (first_of graph labels new ∷ rest) walk;
         longer = λ few. inr (omega (arith, better.below, walk.sends, walk.long));
       }
 
-  pub taken_rest : (start : ℕ) (found : Option Label) (after : List Label) → new.node ≢ request.payer → IsOffered graph request labels new after → IsTaken graph request start labels new after found
+  pub taken_rest : (start : ℕ) (found : Option Label) (after : List Label) → new.node ≢ request.payer
+      → IsOffered graph request labels new after → IsTaken graph request start labels new after found
   taken_rest start found after other offered low rest is to min max =
       record {
         whole = λ from. absurd (other (led.node ∙ from));
         longer = λ few. inl (subst (λ n. Has graph request after n (first_of graph labels new ∷ rest)) led.node
-            (offered.has (first_of graph labels new ∷ rest) (led_rest graph request labels new.next (first_of graph labels new) new led rest is (λ e. other (led.node ∙ e)))));
+            (offered.has (first_of graph labels new ∷ rest) (led_rest graph request labels new.next
+            (first_of graph labels new) new led rest is (λ e. other (led.node ∙ e)))));
       }
 
 -- where leading on is needless it counts as done
-pub passed_needless : (graph : Graph) (request : NumberedRequest) (low : List ℕ) (start bound i : ℕ) (labels after : List Label) (now : Option Label) (edge : Link) →
+pub passed_needless : (graph : Graph) (request : NumberedRequest) (low : List ℕ) (start bound i : ℕ)
+    (labels after : List Label) (now : Option Label) (edge : Link) →
     bound_of start now ≤ bound → IsNeedless request low bound (label_at labels i) edge → PassesOn graph request low start labels i after now edge
 passed_needless graph request low start bound i labels after now edge lower needless rest is to min max =
     let h = needless min (omega (arith, is.owes, max)) in
     record {
       whole = λ from. absurd (h.0 from);
       longer = λ few.
-          let hopeless = subst (λ x. bound ≤ (x + fee_of x edge.base edge.millionths + number_at low edge.from) * 32 + ((label_at labels i).count + 1)) (sym is.owes) (h.1 (omega (arith, is.long, few))) in
+          let hopeless =
+          subst (λ x. bound ≤ (x + fee_of x edge.base edge.millionths + number_at low edge.from) * 32
+          + ((label_at labels i).count + 1)) (sym is.owes) (h.1 (omega (arith, is.long, few))) in
           inr (omega (arith, hopeless, is.long, lower));
     }
 
 -- all that a label leads on to over the edges up to a place
-pub record AreLeadsTo (graph : Graph) (request : NumberedRequest) (low : List ℕ) (bound : ℕ) (labels : List Label) (i : ℕ) (run : List Link) (place : ℕ) (leads : List Label) : Type 0 where
+pub record AreLeadsTo (graph : Graph) (request : NumberedRequest) (low : List ℕ) (bound : ℕ)
+    (labels : List Label) (i : ℕ) (run : List Link) (place : ℕ) (leads : List Label) : Type 0 where
   pub led : (k : ℕ) → k < length leads → IsLed graph request labels i (first_of graph labels (label_at leads k)) (label_at leads k)
   pub each : (j : ℕ) → j < place → IsNeedless request low bound (label_at labels i) (link_at run j) ⊎ IsAmong graph labels leads (link_at run j)
 
-pub leads_next : (graph : Graph) (request : NumberedRequest) (low : List ℕ) (bound : ℕ) (labels : List Label) (i : ℕ) (run : List Link) (place : ℕ) (leads : List Label) (lead : Option Label) →
+pub leads_next : (graph : Graph) (request : NumberedRequest) (low : List ℕ) (bound : ℕ) (labels : List Label)
+    (i : ℕ) (run : List Link) (place : ℕ) (leads : List Label) (lead : Option Label) →
     AreLeadsTo graph request low bound labels i run place leads → IsLead graph request low bound labels i (link_at run place) lead →
     AreLeadsTo graph request low bound labels i run (place + 1) (leads ++ in_list lead)
 leads_next graph request low bound labels i run place leads None are needless =
@@ -106,7 +125,11 @@ leads_next graph request low bound labels i run place leads None are needless =
     by j to (inl p) = are.each j p
     by j to (inr (inl e)) = inl (subst (λ n. IsNeedless request low bound (label_at labels i) (link_at run n)) (sym e) needless)
     by j to (inr (inr p)) = absurd (omega arith)
-leads_next graph request low bound labels i run place leads (Some new) are new_led = record { led = λ k to. led k (trichotomy k (length leads)) to; each = λ j to. by j to (trichotomy j place) }
+leads_next graph request low bound labels i run place leads (Some new) are new_led =
+    record {
+      led = λ k to. led k (trichotomy k (length leads)) to;
+      each = λ j to. by j to (trichotomy j place);
+    }
   where
     long : length (leads ++ new ∷ []) ≡ length leads + 1
     long = length_push leads new
@@ -122,7 +145,8 @@ leads_next graph request low bound labels i run place leads (Some new) are new_l
     led k (inl p) to = subst (λ l. IsLed graph request labels i (first_of graph labels l) l) (sym (left k p)) (are.led k p)
     led k (inr (inl e)) to =
         subst (λ n. IsLed graph request labels i (first_of graph labels (label_at (leads ++ new ∷ []) n)) (label_at (leads ++ new ∷ []) n)) (sym e)
-        (subst (λ l. IsLed graph request labels i (first_of graph labels l) l) (sym last) (subst (λ edge. IsLed graph request labels i edge new) (sym new_led.over) new_led))
+        (subst (λ l. IsLed graph request labels i (first_of graph labels l) l) (sym last)
+        (subst (λ edge. IsLed graph request labels i edge new) (sym new_led.over) new_led))
     led k (inr (inr p)) to = absurd (omega (arith, long))
 
     by : (j : ℕ) → j < place + 1 → (j < place) ⊎ (j ≡ place) ⊎ (place < j) →
@@ -136,21 +160,30 @@ leads_next graph request low bound labels i run place leads (Some new) are new_l
     by j to (inr (inl e)) = inr (length leads, omega (arith, long), ap (λ l. first_of graph labels l) last ∙ new_led.over ∙ ap (link_at run) (sym e))
     by j to (inr (inr p)) = absurd (omega arith)
 
-pub leads_all : (graph : Graph) (request : NumberedRequest) (low : List ℕ) (bound : ℕ) (labels : List Label) (i : ℕ) (run : List Link) (place : ℕ) (leads : List Label) →
-    run ≡ links_into graph (label_at labels i).node → length run ≤ place → AreLeadsTo graph request low bound labels i run place leads → AreLeads graph request low bound labels i leads
-leads_all graph request low bound labels i run place leads is all are = record { led = are.led; each = λ j to. subst (At j) is (are.each j (omega (arith, to, all, ap length is))) }
+pub leads_all : (graph : Graph) (request : NumberedRequest) (low : List ℕ) (bound : ℕ) (labels : List Label)
+    (i : ℕ) (run : List Link) (place : ℕ) (leads : List Label) →
+    run ≡ links_into graph (label_at labels i).node → length run ≤ place → AreLeadsTo graph request low bound
+    labels i run place leads → AreLeads graph request low bound labels i leads
+leads_all graph request low bound labels i run place leads is all are =
+    record {
+      led = are.led;
+      each = λ j to. subst (At j) is (are.each j (omega (arith, to, all, ap length is)));
+    }
   where
     At : ℕ → List Link → Type 0
     At j links = IsNeedless request low bound (label_at labels i) (link_at links j) ⊎ IsAmong graph labels leads (link_at links j)
 
 -- what a label leads on to, later in the search
-module _ (graph : Graph) (request : NumberedRequest) (low : List ℕ) (start : ℕ) (labels : List Label) (found : Option Label) (after : List Label) (now : Option Label)
+module _ (graph : Graph) (request : NumberedRequest) (low : List ℕ) (start : ℕ) (labels : List Label)
+    (found : Option Label) (after : List Label) (now : Option Label)
     (grows : Grows graph request start labels found after now) (i : ℕ) (within : i < length labels) where
   same : label_at after i ≡ label_at labels i
   same = at-later graph request low start labels found after now grows i within
 
   pub first_later : (new : Label) → new.next < length labels → first_of graph after new ≡ first_of graph labels new
-  first_later new inside = ap (λ l. link_at (links_into graph l.node) new.at) (at-later graph request low start labels found after now grows new.next inside)
+  first_later new inside =
+      ap (λ l. link_at (links_into graph l.node) new.at)
+      (at-later graph request low start labels found after now grows new.next inside)
 
   pub led_later : (edge : Link) (new : Label) → IsLed graph request labels i edge new → IsLed graph request after i edge new
   led_later edge new led =
@@ -162,7 +195,9 @@ module _ (graph : Graph) (request : NumberedRequest) (low : List ℕ) (start : �
         below_max = omega (arith, led.below_max, ap (λ l. l.owed) same);
         begins = record {
           next = omega (arith, led.begins.next, long-later graph request low start labels found after now grows);
-          at = subst (λ l. new.at < length (links_into graph l.node)) (sym (at-later graph request low start labels found after now grows new.next led.begins.next)) led.begins.at;
+          at =
+              subst (λ l. new.at < length (links_into graph l.node)) (sym (at-later graph request low start
+              labels found after now grows new.next led.begins.next)) led.begins.at;
         };
         over = first_later new led.begins.next ∙ led.over;
         next = led.next;
@@ -172,42 +207,61 @@ module _ (graph : Graph) (request : NumberedRequest) (low : List ℕ) (start : �
         longer = λ other. ((led.longer other).0, (led.longer other).1 ∙ ap (λ l. l.owed + fee_of l.owed edge.base edge.millionths) (sym same));
       }
 
-needless_lower : (request : NumberedRequest) (low : List ℕ) (bound lower : ℕ) (label : Label) (edge : Link) → lower ≤ bound → IsNeedless request low bound label edge → IsNeedless request low lower label edge
+needless_lower : (request : NumberedRequest) (low : List ℕ) (bound lower : ℕ) (label : Label) (edge : Link)
+    → lower ≤ bound → IsNeedless request low bound label edge → IsNeedless request low lower label edge
 needless_lower request low bound lower label edge less needless min max = ((needless min max).0, λ few. omega (arith, less, (needless min max).1 few))
 
 -- all that a label leads on to, later in the search
-pub leads_later : (graph : Graph) (request : NumberedRequest) (low : List ℕ) (start : ℕ) (labels : List Label) (found : Option Label) (after : List Label) (now : Option Label) (i : ℕ) (leads : List Label) →
+pub leads_later : (graph : Graph) (request : NumberedRequest) (low : List ℕ) (start : ℕ) (labels : List Label)
+    (found : Option Label) (after : List Label) (now : Option Label) (i : ℕ) (leads : List Label) →
     Grows graph request start labels found after now → i < length labels → AreLeads graph request low (bound_of start found) labels i leads →
     AreLeads graph request low (bound_of start now) after i leads
 leads_later graph request low start labels found after now i leads grows within are =
-    record { led = led; each = subst Each (sym (at-later graph request low start labels found after now grows i within)) (λ j to. by j (are.each j to)) }
+    record {
+      led = led;
+      each =
+          subst Each (sym (at-later graph request low start labels found after now grows i within))
+          (λ j to. by j (are.each j to));
+    }
   where
     first : (k : ℕ) → k < length leads → first_of graph after (label_at leads k) ≡ first_of graph labels (label_at leads k)
     first k to = first_later graph request low start labels found after now grows i within (label_at leads k) (are.led k to).begins.next
 
     led : (k : ℕ) → k < length leads → IsLed graph request after i (first_of graph after (label_at leads k)) (label_at leads k)
     led k to = subst (λ edge. IsLed graph request after i edge (label_at leads k)) (sym (first k to))
-        (led_later graph request low start labels found after now grows i within (first_of graph labels (label_at leads k)) (label_at leads k) (are.led k to))
+        (led_later graph request low start labels found after now grows i within
+        (first_of graph labels (label_at leads k)) (label_at leads k) (are.led k to))
 
     Each : Label → Type 0
     Each label =
         (j : ℕ) → j < length (links_into graph label.node) →
-        IsNeedless request low (bound_of start now) label (link_at (links_into graph label.node) j) ⊎ IsAmong graph after leads (link_at (links_into graph label.node) j)
+        IsNeedless request low (bound_of start now) label (link_at (links_into graph label.node) j)
+        ⊎ IsAmong graph after leads (link_at (links_into graph label.node) j)
 
-    by : (j : ℕ) → IsNeedless request low (bound_of start found) (label_at labels i) (link_at (links_into graph (label_at labels i).node) j) ⊎ IsAmong graph labels leads (link_at (links_into graph (label_at labels i).node) j) →
-        IsNeedless request low (bound_of start now) (label_at labels i) (link_at (links_into graph (label_at labels i).node) j) ⊎ IsAmong graph after leads (link_at (links_into graph (label_at labels i).node) j)
-    by j (inl p) = inl (needless_lower request low (bound_of start found) (bound_of start now) (label_at labels i) (link_at (links_into graph (label_at labels i).node) j) grows.lower p)
+    by : (j : ℕ) → IsNeedless request low (bound_of start found) (label_at labels i)
+        (link_at (links_into graph (label_at labels i).node) j)
+        ⊎ IsAmong graph labels leads (link_at (links_into graph (label_at labels i).node) j) →
+        IsNeedless request low (bound_of start now) (label_at labels i)
+        (link_at (links_into graph (label_at labels i).node) j)
+        ⊎ IsAmong graph after leads (link_at (links_into graph (label_at labels i).node) j)
+    by j (inl p) =
+        inl (needless_lower request low (bound_of start found) (bound_of start now) (label_at labels i)
+        (link_at (links_into graph (label_at labels i).node) j) grows.lower p)
     by j (inr h) = inr (h.0, h.1, first h.0 h.1 ∙ h.2)
 
 -- once all is taken that a label leads on to, its rest was led on
-pub all_taken : (graph : Graph) (request : NumberedRequest) (low : List ℕ) (start i : ℕ) (labels : List Label) (found : Option Label) (after : List Label) (now : Option Label) (leads : List Label) → AreLinked graph →
+pub all_taken : (graph : Graph) (request : NumberedRequest) (low : List ℕ) (start i : ℕ) (labels : List Label)
+    (found : Option Label) (after : List Label) (now : Option Label) (leads : List Label) → AreLinked graph →
     Grows graph request start labels found after now → AreLeads graph request low (bound_of start found) labels i leads →
     ((k : ℕ) → k < length leads → PassesOn graph request low start labels i after now (first_of graph labels (label_at leads k))) →
     LeadsOn graph request low start labels i after now
-all_taken graph request low start i labels found after now leads linked grows are taken = all_passed graph request low start i labels after now linked (λ j to. by j (are.each j to))
+all_taken graph request low start i labels found after now leads linked grows are taken =
+    all_passed graph request low start i labels after now linked (λ j to. by j (are.each j to))
   where
     by : (j : ℕ) → IsNeedless request low (bound_of start found) (label_at labels i) (link_at (links_into graph (label_at labels i).node) j) ⊎
         IsAmong graph labels leads (link_at (links_into graph (label_at labels i).node) j) →
         PassesOn graph request low start labels i after now (link_at (links_into graph (label_at labels i).node) j)
-    by j (inl p) = passed_needless graph request low start (bound_of start found) i labels after now (link_at (links_into graph (label_at labels i).node) j) grows.lower p
+    by j (inl p) =
+        passed_needless graph request low start (bound_of start found) i labels after now
+        (link_at (links_into graph (label_at labels i).node) j) grows.lower p
     by j (inr h) = subst (PassesOn graph request low start labels i after now) h.2 (taken h.0 h.1)

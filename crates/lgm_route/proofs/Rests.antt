@@ -35,7 +35,11 @@ Serves-refl request rest = record { fewer = omega arith; before = NotAfter-refl 
 
 pub Serves-trans : (request : NumberedRequest) (a b c : List Link) → Serves request a b → Serves request b c → Serves request a c
 Serves-trans request a b c h k =
-    record { fewer = omega (arith, h.fewer, k.fewer); before = NotAfter-trans (rest_key request a) (rest_key request b) (rest_key request c) h.before k.before }
+    record {
+      fewer = omega (arith, h.fewer, k.fewer);
+      before =
+          NotAfter-trans (rest_key request a) (rest_key request b) (rest_key request c) h.before k.before;
+    }
 
 pub Serves-owed : (request : NumberedRequest) (a b : List Link) → Serves request a b → owed request.amount a ≤ owed request.amount b
 Serves-owed request a b h = NotAfter-heads (owed request.amount a) (owed request.amount b) (length a ∷ ids a) (length b ∷ ids b) h.before
@@ -63,13 +67,18 @@ Serves-prepend request edge a b h =
     y = owed request.amount b
 
     by : (x < y) ⊎ ((x ≡ y) × Tails a b) → NotAfter (rest_key request (edge ∷ a)) (rest_key request (edge ∷ b))
-    by (inl p) = NotAfter-join (owed request.amount (edge ∷ a)) (owed request.amount (edge ∷ b)) (length (edge ∷ a) ∷ ids (edge ∷ a)) (length (edge ∷ b) ∷ ids (edge ∷ b))
+    by (inl p) =
+        NotAfter-join (owed request.amount (edge ∷ a)) (owed request.amount (edge ∷ b))
+        (length (edge ∷ a) ∷ ids (edge ∷ a)) (length (edge ∷ b) ∷ ids (edge ∷ b))
         (inl (raised-lt x y edge.base edge.millionths p))
-    by (inr p) = NotAfter-join (owed request.amount (edge ∷ a)) (owed request.amount (edge ∷ b)) (length (edge ∷ a) ∷ ids (edge ∷ a)) (length (edge ∷ b) ∷ ids (edge ∷ b))
+    by (inr p) =
+        NotAfter-join (owed request.amount (edge ∷ a)) (owed request.amount (edge ∷ b))
+        (length (edge ∷ a) ∷ ids (edge ∷ a)) (length (edge ∷ b) ∷ ids (edge ∷ b))
         (inr (ap (λ z. z + fee_of z edge.base edge.millionths) p.0, tails_prepend edge a b p.1))
 
 -- and as whole walks, where the first edge charges nothing
-pub Serves-walk : (request : NumberedRequest) (edge : Link) (a b : List Link) → Serves request a b → NotAfter (walk_key request (edge ∷ a)) (walk_key request (edge ∷ b))
+pub Serves-walk : (request : NumberedRequest) (edge : Link) (a b : List Link) → Serves request a b
+    → NotAfter (walk_key request (edge ∷ a)) (walk_key request (edge ∷ b))
 Serves-walk request edge a b h = by (NotAfter-split x y (length a ∷ ids a) (length b ∷ ids b) h.before)
   where
     x : ℕ
@@ -88,7 +97,8 @@ pub walk_less : (request : NumberedRequest) (walk other : List Link) → length 
     NotAfter (walk_key request walk) (walk_key request other)
 walk_less request walk other few also p = by (trichotomy (sent request.amount walk) (sent request.amount other))
   where
-    by : (sent request.amount walk < sent request.amount other) ⊎ (sent request.amount walk ≡ sent request.amount other) ⊎ (sent request.amount other < sent request.amount walk) →
+    by : (sent request.amount walk < sent request.amount other) ⊎ (sent request.amount walk
+        ≡ sent request.amount other) ⊎ (sent request.amount other < sent request.amount walk) →
         NotAfter (walk_key request walk) (walk_key request other)
     by (inl r) = NotAfter-join (sent request.amount walk) (sent request.amount other) (length walk ∷ ids walk) (length other ∷ ids other) (inl r)
     by (inr (inl r)) = NotAfter-join (sent request.amount walk) (sent request.amount other) (length walk ∷ ids walk) (length other ∷ ids other)

@@ -1,5 +1,6 @@
 -- A search as one value, from step to step.
-use Rattle.std.proofs.Common.{◌≡◌, ◌≢◌, ◌⊎◌, ℕ, zero, suc, ◌+◌, ◌*◌, ◌^◌, ◌<◌, ◌≤◌, List, [], ◌∷◌, length, get_or, Option, Some, None, Bool, true, false, refl, sym, ◌∙◌, ap, subst, inl, inr, arith}
+use Rattle.std.proofs.Common.{◌≡◌, ◌≢◌, ◌⊎◌, ℕ, zero, suc, ◌+◌, ◌*◌, ◌^◌, ◌<◌, ◌≤◌, List, [], ◌∷◌, length, get_or}
+use Rattle.std.proofs.Common.{Option, Some, None, Bool, true, false, refl, sym, ◌∙◌, ap, subst, inl, inr, arith}
 use Rattle.std.proofs.lemmas.List.{get_or_default}
 use Rattle.lgm_graph.specs.Graph.{Graph, links, links_into, AreLinked}
 use Rattle.lgm_graph.specs.declared.link.Link.{Link}
@@ -7,12 +8,15 @@ use Rattle.lgm_route.specs.declared.numbered_request.NumberedRequest.{NumberedRe
 use Rattle.lgm_route.specs.declared.label.Label.{Label}
 use Rattle.lgm_route.specs.inner.Bounding.{AreLow}
 use Rattle.lgm_route.specs.inner.Numbered.{sent, IsLeast}
-use Rattle.lgm_route.specs.inner.Searching.{label_at, link_at, no_link, Spells, first_of, bound_of, number_at, IsSettled, AreLabels, IsFound, Grows, IsMarked, IsOffered, IsBetter, PassesOn, AreSpelled, SomeRest, IsNoBetter, StandsIn}
+use Rattle.lgm_route.specs.inner.Searching.{label_at, link_at, no_link, Spells, first_of, bound_of, number_at, IsSettled, AreLabels, IsFound}
+use Rattle.lgm_route.specs.inner.Searching.{Grows, IsMarked, IsOffered, IsBetter, PassesOn, AreSpelled, SomeRest, IsNoBetter, StandsIn}
 use Rattle.lgm_route.specs.inner.Leading.{IsInto, IsLed, AreLeads}
-use Rattle.lgm_route.specs.inner.State.{Ground, State, state_of, IsGround, IsSearch, Extends, IsSettledAt, IsMarkedAt, IsIntoAt, IsLeadAt, AreLeadsAt, IsPassedOn, IsLeftAt, IsFinished, bound_in}
+use Rattle.lgm_route.specs.inner.State.{Ground, State, state_of, IsGround, IsSearch, Extends, IsSettledAt, IsMarkedAt}
+use Rattle.lgm_route.specs.inner.State.{IsIntoAt, IsLeadAt, AreLeadsAt, IsPassedOn, IsLeftAt, IsFinished, bound_in}
 use Rattle.lgm_route.proofs.Rests.{trichotomy}
 use Rattle.lgm_route.proofs.Labels.{grows-refl, grows-trans, found-grows, no_better-grows, at-later, long-later, none_better}
-use Rattle.lgm_route.proofs.Steps.{least_of, sent_small, still_settled, settled_more, settled_left, settled_hopeless, settled_for, passes_from, passes_later, all_passed, spelled_labels}
+use Rattle.lgm_route.proofs.Steps.{least_of, sent_small, still_settled, settled_more, settled_left, settled_hopeless}
+use Rattle.lgm_route.proofs.Steps.{settled_for, passes_from, passes_later, all_passed, spelled_labels}
 use Rattle.lgm_route.proofs.Leads.{leads_later, led_later, all_taken, passed_needless, taken_walk, taken_rest}
 
 -- ---- one search, later
@@ -79,7 +83,8 @@ passed_more a b c at i place within h k before new j to = by (trichotomy j place
 
 -- over all edges into the node
 pub left_all : (a b : State) (i : ℕ) → IsGround a.ground →
-    ((j : ℕ) → j < length (links_into a.ground.graph (label_at a.labels i).node) → IsPassedOn a i (link_at (links_into a.ground.graph (label_at a.labels i).node) j) b) →
+    ((j : ℕ) → j < length (links_into a.ground.graph (label_at a.labels i).node)
+    → IsPassedOn a i (link_at (links_into a.ground.graph (label_at a.labels i).node) j) b) →
     IsLeftAt a i b
 left_all a b i ground passed =
     all_passed a.ground.graph a.ground.request a.ground.low a.ground.start i a.labels b.labels b.best ground.linked passed
@@ -88,7 +93,8 @@ left_all a b i ground passed =
 
 -- more labels, and a better walk
 pub search_grown : (s : State) (labels : List Label) (best : Option Label) → IsSearch s → AreLabels s.ground.graph s.ground.request labels →
-    IsFound s.ground.graph s.ground.request labels s.ground.start best → Grows s.ground.graph s.ground.request s.ground.start s.labels s.best labels best →
+    IsFound s.ground.graph s.ground.request labels s.ground.start best
+    → Grows s.ground.graph s.ground.request s.ground.start s.labels s.best labels best →
     IsSearch (record s { labels = labels; best = best })
 search_grown s labels best is labelled found grows = record {
   ground = is.ground;
@@ -121,22 +127,26 @@ pub extends_offered : (s : State) (new : Label) (labels : List Label) → IsOffe
 extends_offered s new labels offered = record { ground = refl; grows = offered_grows s new labels offered; still = λ i h. h }
 
 -- a walk was taken, or not
-pub better_grows : (s : State) (new : Label) (best : Option Label) → IsBetter s.ground.graph s.ground.request s.labels s.ground.start s.best new best →
+pub better_grows : (s : State) (new : Label) (best : Option Label)
+    → IsBetter s.ground.graph s.ground.request s.labels s.ground.start s.best new best →
     Grows s.ground.graph s.ground.request s.ground.start s.labels s.best s.labels best
 better_grows s new best better =
     let same = grows-refl s.ground.graph s.ground.request s.ground.start s.labels s.best in
     record { more = same.more; is = same.is; lower = better.lower; first = better.keeps }
 
-pub search_better : (s : State) (new : Label) (best : Option Label) → IsSearch s → IsBetter s.ground.graph s.ground.request s.labels s.ground.start s.best new best →
+pub search_better : (s : State) (new : Label) (best : Option Label) → IsSearch s
+    → IsBetter s.ground.graph s.ground.request s.labels s.ground.start s.best new best →
     IsSearch (record s { best = best })
 search_better s new best is better = search_grown s s.labels best is is.labelled better.found_is (better_grows s new best better)
 
-pub extends_better : (s : State) (new : Label) (best : Option Label) → IsBetter s.ground.graph s.ground.request s.labels s.ground.start s.best new best →
+pub extends_better : (s : State) (new : Label) (best : Option Label)
+    → IsBetter s.ground.graph s.ground.request s.labels s.ground.start s.best new best →
     Extends s (record s { best = best })
 extends_better s new best better = record { ground = refl; grows = better_grows s new best better; still = λ i h. h }
 
 -- a settled label was marked
-pub search_marked : (s : State) (i : ℕ) (done : List Bool) → IsSearch s → i < length s.labels → IsSettledAt s i → IsMarked s.done i done → IsSearch (record s { done = done })
+pub search_marked : (s : State) (i : ℕ) (done : List Bool) → IsSearch s → i < length s.labels
+    → IsSettledAt s i → IsMarked s.done i done → IsSearch (record s { done = done })
 search_marked s i done is within settled marked = record {
   ground = is.ground;
   labelled = is.labelled;
@@ -153,7 +163,8 @@ extends_marked s i done marked = record {
 }
 
 -- marks that say the same
-pub search_same : (s : State) (done : List Bool) → IsSearch s → ((j : ℕ) → get_or done j false ≡ get_or s.done j false) → IsSearch (record s { done = done })
+pub search_same : (s : State) (done : List Bool) → IsSearch s
+    → ((j : ℕ) → get_or done j false ≡ get_or s.done j false) → IsSearch (record s { done = done })
 search_same s done is same = record { ground = is.ground; labelled = is.labelled; found = is.found; settled = λ j h. is.settled j (sym (same j) ∙ h) }
 
 -- ---- settling
@@ -168,7 +179,8 @@ Settled ground s i = IsSettled ground.graph ground.request ground.low ground.sta
 pub settled_led : (a b : State) (i : ℕ) → IsSearch a → Extends a b → i < length a.labels → IsLeftAt a i b → IsSettledAt b i
 settled_led a b i is h within left =
     subst (λ g. Settled g b i) (sym h.ground)
-    (settled_left a.ground.graph a.ground.request a.ground.low a.ground.start a.labels a.best b.labels b.best i h.grows within (is.labelled.sound i within) left)
+    (settled_left a.ground.graph a.ground.request a.ground.low a.ground.start a.labels a.best b.labels b.best
+    i h.grows within (is.labelled.sound i within) left)
 
 -- so is one that no walk over it can make better
 pub settled_vain : (s : State) (i : ℕ) → IsSearch s → i < length s.labels →
@@ -177,7 +189,8 @@ settled_vain s i is within h =
     settled_hopeless s.ground.graph s.ground.request s.ground.low s.ground.start s.labels s.best (label_at s.labels i) (is.labelled.sound i within) h
 
 -- and one for which another stands in that is
-pub settled_by : (a b : State) (i place : ℕ) → IsSearch a → IsSearch b → Extends a b → i < length a.labels → StandsIn a.ground.graph a.labels i place → IsMarkedAt b place → IsSettledAt b i
+pub settled_by : (a b : State) (i place : ℕ) → IsSearch a → IsSearch b → Extends a b → i < length a.labels
+    → StandsIn a.ground.graph a.labels i place → IsMarkedAt b place → IsSettledAt b i
 settled_by a b i place is later h within stands marked =
     subst (λ g. Settled g b i) (sym h.ground)
     (settled_for a.ground.graph a.ground.request a.ground.low a.ground.start a.labels a.best b.labels b.best i place h.grows is.labelled within stands
@@ -195,7 +208,8 @@ marked_more a b i h before here j to = by (trichotomy j i)
 -- once all labels are marked the search is finished
 pub finished : (s : State) → IsSearch s → ((i : ℕ) → i < length s.labels → IsMarkedAt s i) → IsFinished s
 finished s is all =
-    none_better s.ground.graph s.ground.request s.ground.low s.ground.start s.labels s.best is.labelled is.ground.low (λ i within. (is.settled i (all i within)).1) is.found
+    none_better s.ground.graph s.ground.request s.ground.low s.ground.start s.labels s.best is.labelled
+    is.ground.low (λ i within. (is.settled i (all i within)).1) is.found
 
 -- the best walk is the least
 pub walk_least : (s : State) (best : Label) (walk : List Link) → s.best ≡ Some best → IsSearch s → IsFinished s →
@@ -204,13 +218,17 @@ pub walk_least : (s : State) (best : Label) (walk : List Link) → s.best ≡ So
 walk_least s best walk some is finished spelled =
     let found = subst (λ o. IsFound s.ground.graph s.ground.request s.labels s.ground.start o) some is.found in (
       least_of s.ground.graph s.ground.request s.labels s.ground.start best walk
-          (λ other usable. subst (λ o. IsNoBetter s.ground.graph s.ground.request s.labels s.ground.start o other) some (finished other usable)) found spelled.0 spelled.1,
+          (λ other usable. subst (λ o. IsNoBetter s.ground.graph s.ground.request s.labels s.ground.start o
+          other) some (finished other usable)) found spelled.0 spelled.1,
       sent_small s.ground.graph s.ground.request s.labels s.ground.start best walk is.ground.small found spelled.0 spelled.1,
     )
 
 -- a search that begins
-pub begun : (graph : Graph) (request : NumberedRequest) (low : List ℕ) (start : ℕ) → AreLinked graph → length low ≡ length graph.points → AreLow (links graph) request low → start ≤ 2 ^ 64 →
-    (labels : List Label) → labels ≡ record { owed = request.amount; next = 0; at = 0; node = request.payee; count = 0 } ∷ [] → (done : List Bool) → done ≡ [] →
+pub begun : (graph : Graph) (request : NumberedRequest) (low : List ℕ) (start : ℕ) → AreLinked graph
+    → length low ≡ length graph.points → AreLow (links graph) request low → start ≤ 2 ^ 64 →
+    (labels : List Label)
+    → labels ≡ record { owed = request.amount; next = 0; at = 0; node = request.payee; count = 0 } ∷ []
+    → (done : List Bool) → done ≡ [] →
     IsSearch (state_of graph request low start labels None done)
 begun graph request low start linked long are_low small labels one done none = record {
   ground = record { linked = linked; long = long; low = are_low; small = small };
@@ -237,7 +255,8 @@ begun graph request low start linked long are_low small labels one done none = r
     first = record { some = omega arith; first = (refl, refl); sound = sound; few = few }
 
 -- an edge read from a run is the one at its place
-pub into_at : (s : State) (i at : ℕ) (label : Label) (run : List Link) (edge : Link) → i < length s.labels → label ≡ label_at s.labels i → run ≡ links_into s.ground.graph label.node →
+pub into_at : (s : State) (i at : ℕ) (label : Label) (run : List Link) (edge : Link) → i < length s.labels
+    → label ≡ label_at s.labels i → run ≡ links_into s.ground.graph label.node →
     at < length run → edge ≡ get_or run at edge → IsIntoAt s i at edge
 into_at s i at label run edge within is run_is inside read =
     let same : run ≡ links_into s.ground.graph (label_at s.labels i).node = run_is ∙ ap (λ l. links_into s.ground.graph l.node) is in
@@ -272,7 +291,8 @@ passed_self a b i edge new led passed = subst (λ n. IsPassedOn a n edge b) led.
 abbrev IsLedBy : Ground → List Label → ℕ → Link → Label → Type 0
 IsLedBy ground labels i edge new = IsLed ground.graph ground.request labels i edge new
 
-pub led_at_later : (a b : State) (i : ℕ) (edge : Link) (new : Label) → Extends a b → i < length a.labels → IsLed a.ground.graph a.ground.request a.labels i edge new →
+pub led_at_later : (a b : State) (i : ℕ) (edge : Link) (new : Label) → Extends a b → i < length a.labels
+    → IsLed a.ground.graph a.ground.request a.labels i edge new →
     IsLed b.ground.graph b.ground.request b.labels i edge new
 led_at_later a b i edge new h within led =
     subst (λ g. IsLedBy g b.labels i edge new) (sym h.ground)
@@ -284,19 +304,24 @@ passed_none s i edge needless =
     passed_needless s.ground.graph s.ground.request s.ground.low s.ground.start (bound_in s) i s.labels s.labels s.best edge (omega arith) needless
 
 -- a walk was taken
-pub passed_walk : (s after : State) (new : Label) → IsSearch s → IsLed s.ground.graph s.ground.request s.labels new.next (first_of s.ground.graph s.labels new) new →
+pub passed_walk : (s after : State) (new : Label) → IsSearch s
+    → IsLed s.ground.graph s.ground.request s.labels new.next (first_of s.ground.graph s.labels new) new →
     new.node ≡ s.ground.request.payer → after.labels ≡ s.labels →
-    IsBetter s.ground.graph s.ground.request s.labels s.ground.start s.best new after.best → IsPassedOn s new.next (first_of s.ground.graph s.labels new) after
+    IsBetter s.ground.graph s.ground.request s.labels s.ground.start s.best new after.best
+    → IsPassedOn s new.next (first_of s.ground.graph s.labels new) after
 passed_walk s after new is led at same better =
-    subst (λ ls. PassesOn s.ground.graph s.ground.request s.ground.low s.ground.start s.labels new.next ls after.best (first_of s.ground.graph s.labels new)) (sym same)
+    subst (λ ls. PassesOn s.ground.graph s.ground.request s.ground.low s.ground.start s.labels new.next ls
+    after.best (first_of s.ground.graph s.labels new)) (sym same)
     (taken_walk s.ground.graph s.ground.request s.labels new is.labelled led s.ground.start s.best after.best at better s.ground.low)
 
 -- a rest was offered
-pub passed_rest : (s after : State) (new : Label) → IsSearch s → IsLed s.ground.graph s.ground.request s.labels new.next (first_of s.ground.graph s.labels new) new →
+pub passed_rest : (s after : State) (new : Label) → IsSearch s
+    → IsLed s.ground.graph s.ground.request s.labels new.next (first_of s.ground.graph s.labels new) new →
     new.node ≢ s.ground.request.payer → after.best ≡ s.best →
     IsOffered s.ground.graph s.ground.request s.labels new after.labels → IsPassedOn s new.next (first_of s.ground.graph s.labels new) after
 passed_rest s after new is led other same offered =
-    subst (λ o. PassesOn s.ground.graph s.ground.request s.ground.low s.ground.start s.labels new.next after.labels o (first_of s.ground.graph s.labels new)) (sym same)
+    subst (λ o. PassesOn s.ground.graph s.ground.request s.ground.low s.ground.start s.labels new.next
+    after.labels o (first_of s.ground.graph s.labels new)) (sym same)
     (taken_rest s.ground.graph s.ground.request s.labels new is.labelled led s.ground.start s.best after.labels other offered s.ground.low)
 
 pub left_taken : (a b : State) (i : ℕ) (leads : List Label) → IsGround a.ground → Extends a b → AreLeadsAt a i leads →

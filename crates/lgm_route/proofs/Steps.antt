@@ -1,5 +1,6 @@
 -- One step of the search: labels compared, added and led on.
-use Rattle.std.proofs.Common.{◌≡◌, ◌⊎◌, ℕ, ◌+◌, ◌*◌, ◌^◌, ◌<◌, ◌≤◌, List, [], ◌∷◌, ◌++◌, length, get_or, Option, Some, None, Bool, true, false, refl, sym, ◌∙◌, ap, subst, inl, inr, arith}
+use Rattle.std.proofs.Common.{◌≡◌, ◌⊎◌, ℕ, ◌+◌, ◌*◌, ◌^◌, ◌<◌, ◌≤◌, List, [], ◌∷◌, ◌++◌, length, get_or, Option}
+use Rattle.std.proofs.Common.{Some, None, Bool, true, false, refl, sym, ◌∙◌, ap, subst, inl, inr, arith}
 use Rattle.std.specs.Prelude.{if◌then◌else◌}
 use Rattle.std.specs.List.{Contains}
 use Rattle.std.proofs.lemmas.List.{get_or_push, length_push, get_or_default, append-nil}
@@ -8,20 +9,28 @@ use Rattle.lgm_graph.specs.declared.link.Link.{Link}
 use Rattle.lgm_route.specs.declared.numbered_request.NumberedRequest.{NumberedRequest}
 use Rattle.lgm_route.specs.declared.label.Label.{Label}
 use Rattle.lgm_route.specs.inner.Numbered.{sent, ids, IsUsable, IsLeast, Precedes}
-use Rattle.lgm_route.specs.inner.Searching.{NotAfter, walk_key, Serves, no_link, link_at, label_at, no_label, number_at, Spells, IdsFirst, IsLabel, IsWalk, DoesServe, SomeRest, SomeWalk, bound_of, IsNoBetter, IsHopeless, IsPassed, IsLeft, IsSettled, AreLabels, IsFound, Grows, IsBetter, IsOffered, PassesOn, LeadsOn, StandsIn, AreSpelled, AreSettled, IsMarked, IsStart}
+use Rattle.lgm_route.specs.inner.Searching.{NotAfter, walk_key, Serves, no_link, link_at, label_at, no_label, number_at, Spells}
+use Rattle.lgm_route.specs.inner.Searching.{IdsFirst, IsLabel, IsWalk, DoesServe, SomeRest, SomeWalk, bound_of, IsNoBetter, IsHopeless}
+use Rattle.lgm_route.specs.inner.Searching.{IsPassed, IsLeft, IsSettled, AreLabels, IsFound, Grows, IsBetter, IsOffered, PassesOn}
+use Rattle.lgm_route.specs.inner.Searching.{LeadsOn, StandsIn, AreSpelled, AreSettled, IsMarked, IsStart}
 use Rattle.lgm_route.specs.inner.Leading.{IsInto}
 use Rattle.lgm_route.proofs.Orders.{NotAfter-refl, NotAfter-trans, NotAfter-join, NotAfter-excludes}
 use Rattle.lgm_route.proofs.Rests.{trichotomy, Serves-refl, Serves-trans}
-use Rattle.lgm_route.proofs.Labels.{Spells-unique, label-unique, label_left, label-grows, hopeless-serves, label-later, at-later, long-later, passed-later, settled-later}
+use Rattle.lgm_route.proofs.Labels.{Spells-unique, label-unique, label_left, label-grows, hopeless-serves}
+use Rattle.lgm_route.proofs.Labels.{label-later, at-later, long-later, passed-later, settled-later}
 
 -- the label comes first: by what it owes, then by how many edges it has, then by their ids
 abbrev pub IsBefore : Graph → List Label → Label → Label → Type 0
-IsBefore graph labels x y = (x.owed < y.owed) ⊎ ((x.owed ≡ y.owed) × (x.count < y.count)) ⊎ ((x.owed ≡ y.owed) × (x.count ≡ y.count) × IdsFirst graph labels x y)
+IsBefore graph labels x y =
+    (x.owed < y.owed) ⊎ ((x.owed ≡ y.owed) × (x.count < y.count))
+    ⊎ ((x.owed ≡ y.owed) × (x.count ≡ y.count) × IdsFirst graph labels x y)
 
-pub before_walk : (graph : Graph) (request : NumberedRequest) (labels : List Label) (x y : Label) (walk other : List Link) → IsWalk graph request labels x walk → IsWalk graph request labels y other →
+pub before_walk : (graph : Graph) (request : NumberedRequest) (labels : List Label) (x y : Label)
+    (walk other : List Link) → IsWalk graph request labels x walk → IsWalk graph request labels y other →
     IsBefore graph labels x y → NotAfter (walk_key request walk) (walk_key request other)
 before_walk graph request labels x y walk other h k (inl p) =
-    NotAfter-join (sent request.amount walk) (sent request.amount other) (length walk ∷ ids walk) (length other ∷ ids other) (inl (omega (arith, h.sends, k.sends)))
+    NotAfter-join (sent request.amount walk) (sent request.amount other) (length walk ∷ ids walk)
+    (length other ∷ ids other) (inl (omega (arith, h.sends, k.sends)))
 before_walk graph request labels x y walk other h k (inr (inl p)) =
     NotAfter-join (sent request.amount walk) (sent request.amount other) (length walk ∷ ids walk) (length other ∷ ids other)
     (inr (h.sends ∙ p.0 ∙ sym k.sends, NotAfter-join (length walk) (length other) (ids walk) (ids other) (inl (omega (arith, p.1, h.long, k.long)))))
@@ -41,17 +50,31 @@ module _ (graph : Graph) (request : NumberedRequest) (labels : List Label) (star
         found_is = (some, low);
         lower = omega (arith, some.1.few);
         below = omega arith;
-        keeps = λ walk h. (some.0, some.1, NotAfter-join (sent request.amount some.0) (sent request.amount walk) (length some.0 ∷ ids some.0) (length walk ∷ ids walk) (inl (omega (arith, some.1.sends))));
+        keeps =
+            λ walk h. (
+              some.0,
+              some.1,
+              NotAfter-join (sent request.amount some.0) (sent request.amount walk)
+                  (length some.0 ∷ ids some.0) (length walk ∷ ids walk) (inl (omega (arith, some.1.sends))),
+            );
         takes = λ walk is. (walk, is, NotAfter-refl (walk_key request walk));
       }
 
-  pub better_takes : (best new : Label) → IsFound graph request labels start (Some best) → SomeWalk graph request labels new → IsBefore graph labels new best → IsBetter graph request labels start (Some best) new (Some new)
+  pub better_takes : (best new : Label) → IsFound graph request labels start (Some best)
+      → SomeWalk graph request labels new → IsBefore graph labels new best
+      → IsBetter graph request labels start (Some best) new (Some new)
   better_takes best new found some before =
       record {
         found_is = (some, low before);
         lower = lower before;
         below = omega arith;
-        keeps = λ walk h. (some.0, some.1, NotAfter-trans (walk_key request some.0) (walk_key request h.0) (walk_key request walk) (before_walk graph request labels new best some.0 h.0 some.1 h.1 before) h.2);
+        keeps =
+            λ walk h. (
+              some.0,
+              some.1,
+              NotAfter-trans (walk_key request some.0) (walk_key request h.0) (walk_key request walk)
+                  (before_walk graph request labels new best some.0 h.0 some.1 h.1 before) h.2,
+            );
         takes = λ walk is. (walk, is, NotAfter-refl (walk_key request walk));
       }
     where
@@ -65,7 +88,8 @@ module _ (graph : Graph) (request : NumberedRequest) (labels : List Label) (star
       lower (inr (inl p)) = omega (arith, p.0, p.1)
       lower (inr (inr p)) = omega (arith, p.0, p.1)
 
-  pub better_keeps : (best new : Label) → IsFound graph request labels start (Some best) → IsBefore graph labels best new → IsBetter graph request labels start (Some best) new (Some best)
+  pub better_keeps : (best new : Label) → IsFound graph request labels start (Some best)
+      → IsBefore graph labels best new → IsBetter graph request labels start (Some best) new (Some best)
   better_keeps best new found before =
       record {
         found_is = found;
@@ -97,7 +121,8 @@ module _ (graph : Graph) (request : NumberedRequest) (labels : List Label) (star
   better_choice best new false f g = g refl
 
 -- a label that serves is there
-pub offered_there : (graph : Graph) (request : NumberedRequest) (labels : List Label) (new : Label) (place : ℕ) → AreLabels graph request labels → place < length labels →
+pub offered_there : (graph : Graph) (request : NumberedRequest) (labels : List Label) (new : Label)
+    (place : ℕ) → AreLabels graph request labels → place < length labels →
     (label_at labels place).node ≡ new.node → DoesServe graph labels (label_at labels place) new → IsOffered graph request labels new labels
 offered_there graph request labels new place are within at serves =
     record {
@@ -124,7 +149,10 @@ offered_new graph request labels new are some few =
     record {
       labelled = record {
         some = omega (arith, all, are.some);
-        first = (ap (λ l. l.node) (label_left labels (new ∷ []) 0 (omega (arith, are.some))) ∙ are.first.0, ap (λ l. l.count) (label_left labels (new ∷ []) 0 (omega (arith, are.some))) ∙ are.first.1);
+        first = (
+          ap (λ l. l.node) (label_left labels (new ∷ []) 0 (omega (arith, are.some))) ∙ are.first.0,
+          ap (λ l. l.count) (label_left labels (new ∷ []) 0 (omega (arith, are.some))) ∙ are.first.1,
+        );
         sound = λ i within. sound i (trichotomy i (length labels)) within;
         few = λ i within. low i (trichotomy i (length labels)) within;
       };
@@ -146,29 +174,43 @@ offered_new graph request labels new are some few =
     last : label_at (labels ++ new ∷ []) (length labels) ≡ new
     last = label_new labels new (length labels) refl
 
-    sound : (i : ℕ) → (i < length labels) ⊎ (i ≡ length labels) ⊎ (length labels < i) → i < length (labels ++ new ∷ []) → SomeRest graph request (labels ++ new ∷ []) (label_at (labels ++ new ∷ []) i)
+    sound : (i : ℕ) → (i < length labels) ⊎ (i ≡ length labels) ⊎ (length labels < i) → i < length (labels
+        ++ new ∷ []) → SomeRest graph request (labels ++ new ∷ []) (label_at (labels ++ new ∷ []) i)
     sound i (inl p) within = (
       (are.sound i p).0,
       subst (λ l. IsLabel graph request (labels ++ new ∷ []) l (are.sound i p).0) (sym (label_left labels (new ∷ []) i p))
           (label-grows graph request labels (new ∷ []) (label_at labels i) (are.sound i p).0 (are.sound i p).1),
     )
-    sound i (inr (inl e)) within = (some.0, subst (λ l. IsLabel graph request (labels ++ new ∷ []) l some.0) (sym (label_new labels new i (sym e))) (label-grows graph request labels (new ∷ []) new some.0 some.1))
+    sound i (inr (inl e)) within = (
+      some.0,
+      subst (λ l. IsLabel graph request (labels ++ new ∷ []) l some.0) (sym (label_new labels new i
+          (sym e))) (label-grows graph request labels (new ∷ []) new some.0 some.1),
+    )
     sound i (inr (inr p)) within = absurd (omega (arith, all))
 
-    low : (i : ℕ) → (i < length labels) ⊎ (i ≡ length labels) ⊎ (length labels < i) → i < length (labels ++ new ∷ []) → (label_at (labels ++ new ∷ []) i).count ≤ 19
+    low : (i : ℕ) → (i < length labels) ⊎ (i ≡ length labels) ⊎ (length labels < i)
+        → i < length (labels ++ new ∷ []) → (label_at (labels ++ new ∷ []) i).count ≤ 19
     low i (inl p) within = omega (arith, are.few i p, ap (λ l. l.count) (label_left labels (new ∷ []) i p))
     low i (inr (inl e)) within = omega (arith, ap (λ l. l.count) (label_new labels new i (sym e)))
     low i (inr (inr p)) within = absurd (omega (arith, all))
 
 -- passing over an edge, seen from an earlier state, or in a later one
-pub passes_from : (graph : Graph) (request : NumberedRequest) (low : List ℕ) (start i : ℕ) (labels : List Label) (found : Option Label) (after : List Label) (now : Option Label) (last : List Label) (best : Option Label) (edge : Link) →
-    Grows graph request start labels found after now → i < length labels → PassesOn graph request low start after i last best edge → PassesOn graph request low start labels i last best edge
+pub passes_from : (graph : Graph) (request : NumberedRequest) (low : List ℕ) (start i : ℕ)
+    (labels : List Label) (found : Option Label) (after : List Label) (now : Option Label) (last : List Label)
+    (best : Option Label) (edge : Link) →
+    Grows graph request start labels found after now → i < length labels → PassesOn graph request low start
+    after i last best edge → PassesOn graph request low start labels i last best edge
 passes_from graph request low start i labels found after now last best edge grows within passes rest is to min max =
     let same = at-later graph request low start labels found after now grows i within in
-    passes rest (subst (λ l. IsLabel graph request after l rest) (sym same) (label-later graph request low start labels found after now grows (label_at labels i) rest is)) (to ∙ ap (λ l. l.node) (sym same)) min max
+    passes rest (subst (λ l. IsLabel graph request after l rest) (sym same)
+    (label-later graph request low start labels found after now grows (label_at labels i) rest is))
+    (to ∙ ap (λ l. l.node) (sym same)) min max
 
-pub passes_later : (graph : Graph) (request : NumberedRequest) (low : List ℕ) (start i : ℕ) (labels : List Label) (after : List Label) (now : Option Label) (last : List Label) (best : Option Label) (edge : Link) →
-    Grows graph request start after now last best → PassesOn graph request low start labels i after now edge → PassesOn graph request low start labels i last best edge
+pub passes_later : (graph : Graph) (request : NumberedRequest) (low : List ℕ) (start i : ℕ)
+    (labels : List Label) (after : List Label) (now : Option Label) (last : List Label) (best : Option Label)
+    (edge : Link) →
+    Grows graph request start after now last best → PassesOn graph request low start labels i after now edge
+    → PassesOn graph request low start labels i last best edge
 passes_later graph request low start i labels after now last best edge grows passes rest is to min max =
     passed-later graph request low start after now last best grows edge rest (passes rest is to min max)
 
@@ -189,8 +231,10 @@ into_node graph labels i at edge linked into =
     record { there = found.1; to = found.0; from = (linked.each edge found.1).from }
 
 -- each edge into the label's node is in the run of edges into it
-pub all_passed : (graph : Graph) (request : NumberedRequest) (low : List ℕ) (start i : ℕ) (labels after : List Label) (now : Option Label) → AreLinked graph →
-    ((j : ℕ) → j < length (links_into graph (label_at labels i).node) → PassesOn graph request low start labels i after now (link_at (links_into graph (label_at labels i).node) j)) →
+pub all_passed : (graph : Graph) (request : NumberedRequest) (low : List ℕ) (start i : ℕ)
+    (labels after : List Label) (now : Option Label) → AreLinked graph →
+    ((j : ℕ) → j < length (links_into graph (label_at labels i).node) → PassesOn graph request low start
+    labels i after now (link_at (links_into graph (label_at labels i).node) j)) →
     LeadsOn graph request low start labels i after now
 all_passed graph request low start i labels after now linked passes rest is edge there to min max =
     let run = links_into graph (label_at labels i).node in
@@ -200,16 +244,28 @@ all_passed graph request low start i labels after now linked passes rest is edge
     (passes place.0 place.1 rest is (ap (λ e. e.to) same ∙ to) (omega (arith, ap (λ e. e.min) same, min)) (omega (arith, ap (λ e. e.max) same, max)))
 
 -- a label is settled where one is that serves in its place
-pub settled_serves : (graph : Graph) (request : NumberedRequest) (low : List ℕ) (start : ℕ) (labels : List Label) (found : Option Label) (x y : Label) (rest : List Link) →
-    x.node ≡ y.node → ((a b : List Link) → IsLabel graph request labels x a → IsLabel graph request labels y b → Serves request a b) → IsLabel graph request labels y rest → IsSettled graph request low start labels found x → IsSettled graph request low start labels found y
+pub settled_serves : (graph : Graph) (request : NumberedRequest) (low : List ℕ) (start : ℕ)
+    (labels : List Label) (found : Option Label) (x y : Label) (rest : List Link) →
+    x.node ≡ y.node → ((a b : List Link) → IsLabel graph request labels x a → IsLabel graph request labels y b
+    → Serves request a b) → IsLabel graph request labels y rest
+    → IsSettled graph request low start labels found x → IsSettled graph request low start labels found y
 settled_serves graph request low start labels found x y rest node serves is settled =
-    record { rest = rest; is = is; done = subst (λ n. IsHopeless request low (bound_of start found) n rest ⊎ ((other : List Link) × Serves request other rest × IsLeft graph request low start labels found n other)) node (by settled.done) }
+    record {
+      rest = rest;
+      is = is;
+      done =
+          subst (λ n. IsHopeless request low (bound_of start found) n rest ⊎ ((other : List Link)
+          × Serves request other rest × IsLeft graph request low start labels found n other)) node
+          (by settled.done);
+    }
   where
     better : Serves request settled.rest rest
     better = serves settled.rest rest settled.is is
 
-    by : IsHopeless request low (bound_of start found) x.node settled.rest ⊎ ((other : List Link) × Serves request other settled.rest × IsLeft graph request low start labels found x.node other) →
-        IsHopeless request low (bound_of start found) x.node rest ⊎ ((other : List Link) × Serves request other rest × IsLeft graph request low start labels found x.node other)
+    by : IsHopeless request low (bound_of start found) x.node settled.rest ⊎ ((other : List Link)
+        × Serves request other settled.rest × IsLeft graph request low start labels found x.node other) →
+        IsHopeless request low (bound_of start found) x.node rest ⊎ ((other : List Link)
+        × Serves request other rest × IsLeft graph request low start labels found x.node other)
     by (inl p) = inl (hopeless-serves request low (bound_of start found) x.node settled.rest rest better p)
     by (inr p) = inr (p.0, Serves-trans request p.0 settled.rest rest p.1 better, p.2)
 
@@ -223,7 +279,8 @@ spelled_labels graph request labels labelled i within = let s = labelled.sound i
 -- marked labels are settled, and one more
 module _ (graph : Graph) (request : NumberedRequest) (low : List ℕ) (start : ℕ) where
   pub still_settled : (labels : List Label) (found : Option Label) (after : List Label) (now : Option Label) (done : List Bool) →
-      Grows graph request start labels found after now → AreSettled graph request low start labels found done → AreSettled graph request low start after now done
+      Grows graph request start labels found after now → AreSettled graph request low start labels found done
+      → AreSettled graph request low start after now done
   still_settled labels found after now done grows settled j h = (
     omega (arith, (settled j h).0, long-later graph request low start labels found after now grows),
     subst (λ l. IsSettled graph request low start after now l) (sym (at-later graph request low start labels found after now grows j (settled j h).0))
@@ -231,7 +288,8 @@ module _ (graph : Graph) (request : NumberedRequest) (low : List ℕ) (start : �
   )
 
   pub settled_more : (labels : List Label) (found : Option Label) (after : List Label) (now : Option Label) (done marked : List Bool) (i : ℕ) →
-      Grows graph request start labels found after now → AreSettled graph request low start labels found done → IsMarked done i marked → i < length labels →
+      Grows graph request start labels found after now → AreSettled graph request low start labels found done
+      → IsMarked done i marked → i < length labels →
       IsSettled graph request low start after now (label_at after i) → AreSettled graph request low start after now marked
   settled_more labels found after now done marked i grows settled mark within new j is = by (mark.others j is)
     where
@@ -244,7 +302,8 @@ module _ (graph : Graph) (request : NumberedRequest) (low : List ℕ) (start : �
 
   -- a label whose rest was led on
   pub settled_left : (labels : List Label) (found : Option Label) (after : List Label) (now : Option Label) (i : ℕ) →
-      Grows graph request start labels found after now → i < length labels → SomeRest graph request labels (label_at labels i) → LeadsOn graph request low start labels i after now →
+      Grows graph request start labels found after now → i < length labels → SomeRest graph request labels
+      (label_at labels i) → LeadsOn graph request low start labels i after now →
       IsSettled graph request low start after now (label_at after i)
   settled_left labels found after now i grows within some leads =
       subst (λ l. IsSettled graph request low start after now l) (sym (at-later graph request low start labels found after now grows i within))
@@ -279,7 +338,8 @@ module _ (graph : Graph) (request : NumberedRequest) (low : List ℕ) (start : �
       mine : SomeRest graph request after (label_at after i)
       mine = later i within
 
-      serves : (a b : List Link) → IsLabel graph request after (label_at after place) a → IsLabel graph request after (label_at after i) b → Serves request a b
+      serves : (a b : List Link) → IsLabel graph request after (label_at after place) a
+          → IsLabel graph request after (label_at after i) b → Serves request a b
       serves a b is_a is_b =
           let p = are.sound place stands.within in
           let q = are.sound i within in
@@ -289,7 +349,8 @@ module _ (graph : Graph) (request : NumberedRequest) (low : List ℕ) (start : �
 
 -- over the payer's edges goes no more than the most
 pub start_of : (graph : Graph) (most : ℕ) (request : NumberedRequest) → AreLinked graph →
-    ((j : ℕ) → j < length (links_leaving graph request.payer) → (link_at (links_leaving graph request.payer) j).max < most) → IsStart (links graph) request most
+    ((j : ℕ) → j < length (links_leaving graph request.payer)
+    → (link_at (links_leaving graph request.payer) j).max < most) → IsStart (links graph) request most
 start_of graph most request linked above [] usable = absurd (omega (arith, usable.some))
 start_of graph most request linked above (edge ∷ rest) usable =
     let step = usable.joins.0 in
@@ -301,12 +362,18 @@ start_of graph most request linked above (edge ∷ rest) usable =
 
 -- the best walk, once none is better, is the least
 pub least_of : (graph : Graph) (request : NumberedRequest) (labels : List Label) (start : ℕ) (found : Label) (walk : List Link) →
-    ((other : List Link) → IsUsable (links graph) request other → IsNoBetter graph request labels start (Some found) other) → IsFound graph request labels start (Some found) →
+    ((other : List Link) → IsUsable (links graph) request other → IsNoBetter graph request labels start
+    (Some found) other) → IsFound graph request labels start (Some found) →
     Spells graph labels found walk → length walk ≡ found.count → IsLeast (links graph) request walk
 least_of graph request labels start found walk best is spells long =
     subst (λ w. IsLeast (links graph) request w) (same (is.0).0 (is.0).1)
     (record {
-      usable = record { some = omega (arith, (is.0).1.some, (is.0).1.long); few = omega (arith, (is.0).1.few, (is.0).1.long); joins = (is.0).1.joins };
+      usable =
+          record {
+            some = omega (arith, (is.0).1.some, (is.0).1.long);
+            few = omega (arith, (is.0).1.few, (is.0).1.long);
+            joins = (is.0).1.joins;
+          };
       first = λ other usable before. by other (best other usable) before;
     })
   where

@@ -1,5 +1,6 @@
 -- The least walk comes back to no node, and its ids name it.
-use Rattle.std.proofs.Common.{◌≡◌, ◌≢◌, ◌⊎◌, ℕ, ◌<◌, ◌≤◌, Bool, List, [], ◌∷◌, length, Ordering, true, false, refl, sym, ◌∙◌, ap, subst, inl, inr, arith}
+use Rattle.std.proofs.Common.{◌≡◌, ◌≢◌, ◌⊎◌, ℕ, ◌<◌, ◌≤◌, Bool, List, [], ◌∷◌, length, Ordering}
+use Rattle.std.proofs.Common.{true, false, refl, sym, ◌∙◌, ap, subst, inl, inr, arith}
 use Rattle.std.specs.declared.cmp.Ordering.TheVariants.{Less, Equal, Greater}
 use Rattle.std.specs.Ordering.{nat_cmp, is_gt, ordering_reverse}
 use Rattle.std.specs.Cmp.Lexicographic.{slice_cmp}
@@ -26,10 +27,12 @@ Shorter edges request node walk =
     (other : List Edge) × IsRest edges request node other × (length other < length walk) × (owed request.amount other ≤ sent request.amount walk)
 
 -- from a node that is visited the rest of the walk leads on
-from_visit : (edges : List Edge) (request : Request) (node visited : Point) (walk : List Edge) → IsRest edges request node walk → Visits visited walk →
+from_visit : (edges : List Edge) (request : Request) (node visited : Point) (walk : List Edge)
+    → IsRest edges request node walk → Visits visited walk →
     Shorter edges request visited walk
 from_visit edges request node visited [] joins h = absurd h
-from_visit edges request node visited (edge ∷ rest) joins (inl e) = (rest, subst (λ n. IsRest edges request n rest) e joins.1, omega arith, omega arith)
+from_visit edges request node visited (edge ∷ rest) joins (inl e) =
+    (rest, subst (λ n. IsRest edges request n rest) e joins.1, omega arith, omega arith)
 from_visit edges request node visited (edge ∷ rest) joins (inr h) =
     let later = from_visit edges request edge.to visited rest joins.1 h in
     (later.0, later.1, omega (arith, later.2), omega (arith, later.3, sent_below request.amount rest))
@@ -67,7 +70,9 @@ step-cheaper edges request node edge rest other h step =
 -- a walk from the node, of fewer edges, over which neither more is sent nor more is owed
 abbrev Better : List Edge → Request → Point → List Edge → Type 0
 Better edges request node walk =
-    (other : List Edge) × IsRest edges request node other × (length other < length walk) × (owed request.amount other ≤ owed request.amount walk) × (sent request.amount other ≤ sent request.amount walk)
+    (other : List Edge) × IsRest edges request node other × (length other < length walk)
+    × (owed request.amount other ≤ owed request.amount walk)
+    × (sent request.amount other ≤ sent request.amount walk)
 
 -- a walk comes back to no node, or a better one does without the way round
 simple_or_better : (edges : List Edge) (request : Request) (node : Point) (walk : List Edge) → IsRest edges request node walk →
@@ -83,9 +88,16 @@ simple_or_better edges request node (edge ∷ rest) joins = by (visits_or_not no
     by (inl h) d = inr (round (from_visit edges request node node (edge ∷ rest) joins h))
     by (inr f) (inl s) = inl (f, s)
     by (inr f) (inr b) =
-        inr (edge ∷ b.0, (step-cheaper edges request node edge b.0 rest b.3 joins.0, b.1), omega (arith, b.2), raised-le (owed request.amount b.0) (owed request.amount rest) edge.base edge.millionths b.3, b.3)
+        inr (
+          edge ∷ b.0,
+          (step-cheaper edges request node edge b.0 rest b.3 joins.0, b.1),
+          omega (arith, b.2),
+          raised-le (owed request.amount b.0) (owed request.amount rest) edge.base edge.millionths b.3,
+          b.3,
+        )
 
-precedes_of : (request : Request) (walk other : List Edge) → length other < length walk → sent request.amount other ≤ sent request.amount walk → Precedes request other walk
+precedes_of : (request : Request) (walk other : List Edge) → length other < length walk
+    → sent request.amount other ≤ sent request.amount walk → Precedes request other walk
 precedes_of request walk other fewer less = by (slice_cmp nat_cmp (walk_key request other) (walk_key request walk)) refl
   where
     a : ℕ
@@ -101,20 +113,24 @@ precedes_of request walk other fewer less = by (slice_cmp nat_cmp (walk_key requ
         at (inl p) = omega arith
         at (inr p) = omega (arith, NotAfter-heads (length walk) (length other) (ids walk) (ids other) p.1)
 
-    turned : (o : Ordering) → slice_cmp nat_cmp (walk_key request other) (walk_key request walk) ≡ o → slice_cmp nat_cmp (walk_key request walk) (walk_key request other) ≡ ordering_reverse o
+    turned : (o : Ordering) → slice_cmp nat_cmp (walk_key request other) (walk_key request walk) ≡ o
+        → slice_cmp nat_cmp (walk_key request walk) (walk_key request other) ≡ ordering_reverse o
     turned o e = nat_list_cmp_total.antisymm (walk_key request walk) (walk_key request other) ∙ ap ordering_reverse e
 
-    by : (o : Ordering) → slice_cmp nat_cmp (walk_key request other) (walk_key request walk) ≡ o → slice_cmp nat_cmp (walk_key request other) (walk_key request walk) ≡ Less
+    by : (o : Ordering) → slice_cmp nat_cmp (walk_key request other) (walk_key request walk) ≡ o
+        → slice_cmp nat_cmp (walk_key request other) (walk_key request walk) ≡ Less
     by Less e = e
     by Equal e = absurd (not_back (ap is_gt (turned Equal e)))
     by Greater e = absurd (not_back (ap is_gt (turned Greater e)))
 
-some_edges : (edges : List Edge) (request : Request) (walk : List Edge) → request.payer ≢ request.payee → IsRest edges request request.payer walk → 1 ≤ length walk
+some_edges : (edges : List Edge) (request : Request) (walk : List Edge) → request.payer ≢ request.payee
+    → IsRest edges request request.payer walk → 1 ≤ length walk
 some_edges edges request [] apart joins = absurd (apart joins)
 some_edges edges request (edge ∷ rest) apart joins = omega arith
 
 -- the least walk comes back to no node
-pub least-simple : (edges : List Edge) (request : Request) (walk : List Edge) → request.payer ≢ request.payee → IsLeast edges request walk → IsSimple request.payer walk
+pub least-simple : (edges : List Edge) (request : Request) (walk : List Edge) → request.payer ≢ request.payee
+    → IsLeast edges request walk → IsSimple request.payer walk
 least-simple edges request walk apart least = by (simple_or_better edges request request.payer walk least.usable.joins)
   where
     by : IsSimple request.payer walk ⊎ Better edges request request.payer walk → IsSimple request.payer walk
@@ -158,7 +174,8 @@ ids_name edges request node [] (edge ∷ rest) directions joins also simple e = 
 ids_name edges request node (edge ∷ rest) [] directions joins also simple e = absurd (cc)
 ids_name edges request node (edge ∷ rest) (edge' ∷ rest') directions joins also simple e =
     by (directions edge edge' joins.0.there also.0.there (head_of edge.scid edge'.scid (ids rest) (ids rest') e))
-    (λ same. ids_name edges request edge.to rest rest' directions joins.1 (subst (λ d. IsRest edges request d.to rest') (sym same) also.1) simple.1 (tail_of edge.scid edge'.scid (ids rest) (ids rest') e))
+    (λ same. ids_name edges request edge.to rest rest' directions joins.1 (subst (λ d. IsRest edges request
+    d.to rest') (sym same) also.1) simple.1 (tail_of edge.scid edge'.scid (ids rest) (ids rest') e))
   where
     by : (edge ≡ edge') ⊎ ((edge.from ≡ edge'.to) × (edge.to ≡ edge'.from)) → (edge ≡ edge' → rest ≡ rest') → edge ∷ rest ≡ edge' ∷ rest'
     by (inl same) tails = let tail = tails same in cc (same, tail)

@@ -5,7 +5,8 @@ use Rattle.lgm_graph.specs.declared.edge.Edge.{Edge}
 use Rattle.lgm_route.specs.declared.request.Request.{Request}
 use Rattle.lgm_route.specs.declared.route.Hop.{Hop}
 use Rattle.lgm_route.specs.declared.fault.RouteFault.{RouteFault}
-use Rattle.lgm_route.specs.declared.fault.RouteFault.TheVariants.{AmountZero, AmountTooLarge, ExpiryTooLarge, SelfPayment, NoRoute}
+use Rattle.lgm_route.specs.declared.fault.RouteFault.TheVariants.{AmountZero, AmountTooLarge, ExpiryTooLarge}
+use Rattle.lgm_route.specs.declared.fault.RouteFault.TheVariants.{SelfPayment, NoRoute}
 use Rattle.lgm_route.specs.Routes.{IsUsable, IsLeast, hops_of}
 
 -- the first reason to refuse a request, whatever the edges are
@@ -19,8 +20,10 @@ refusal request =
 
 -- the hops of the best walk, or no route if no walk is usable
 abbrev pub IsFoundOver : List Edge → Request → Result (List Hop) RouteFault → Type 0
-IsFoundOver edges request (Ok hops) = (walk : List Edge) × IsLeast edges request walk × (hops ≡ hops_of request walk)
-IsFoundOver edges request (Err fault) = (fault ≡ NoRoute) × ((walk : List Edge) → IsUsable edges request walk → ⊥)
+IsFoundOver edges request (Ok hops) =
+    (walk : List Edge) × IsLeast edges request walk × (hops ≡ hops_of request walk)
+IsFoundOver edges request (Err fault) =
+    (fault ≡ NoRoute) × ((walk : List Edge) → IsUsable edges request walk → ⊥)
 
 -- the refusal, if there is one, else what is found
 abbrev pub IsAnswerBy : Option RouteFault → List Edge → Request → Result (List Hop) RouteFault → Type 0

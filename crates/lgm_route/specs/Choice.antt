@@ -1,5 +1,6 @@
 -- The best walk by exhaustive search: the first of all usable walks.
-use Rattle.std.specs.Prelude.{◌≡◌, ℕ, zero, suc, Bool, ◌&&◌, List, [], ◌∷◌, length, map, filter, nat_le, Option, Some, None, Result, Ok, Err, if◌then◌else◌}
+use Rattle.std.specs.Prelude.{◌≡◌, ℕ, zero, suc, Bool, ◌&&◌, List, [], ◌∷◌, length, map, filter}
+use Rattle.std.specs.Prelude.{nat_le, Option, Some, None, Result, Ok, Err, if◌then◌else◌}
 use Rattle.std.specs.List.{flat_map, fold}
 use Rattle.std.specs.Ordering.{nat_cmp, is_lt}
 use Rattle.std.specs.Cmp.Lexicographic.{slice_cmp}
@@ -23,15 +24,18 @@ lists_of edges (suc more) = [] ∷ flat_map (λ edge. map (λ rest. edge ∷ res
 abbrev pub leads : Request → Point → List Edge → Bool
 leads request node [] = is_point node request.payee
 leads request node (edge ∷ rest) =
-    is_point edge.from node && nat_le edge.min request.amount && nat_le (owed request.amount rest) edge.max && leads request edge.to rest
+    is_point edge.from node && nat_le edge.min request.amount && nat_le (owed request.amount rest) edge.max
+    && leads request edge.to rest
 
 -- the usable walks of 1 to 20 of the edges
 abbrev pub usable_walks : List Edge → Request → List (List Edge)
-usable_walks edges request = filter (λ walk. nat_le 1 (length walk) && leads request request.payer walk) (lists_of edges 20)
+usable_walks edges request =
+    filter (λ walk. nat_le 1 (length walk) && leads request request.payer walk) (lists_of edges 20)
 
 -- the second walk if it precedes the first
 abbrev pub lesser : Request → List Edge → List Edge → List Edge
-lesser request walk other = if is_lt (slice_cmp nat_cmp (walk_key request other) (walk_key request walk)) then other else walk
+lesser request walk other =
+    if is_lt (slice_cmp nat_cmp (walk_key request other) (walk_key request walk)) then other else walk
 
 abbrev pub least_of : Request → List (List Edge) → Option (List Edge)
 least_of request [] = None
@@ -57,5 +61,6 @@ answer_of edges request = answer_by (refusal request) request (least_walk edges 
 -- that one
 pub record AnswerIsOne : Type 0 where
   pub found : (edges : List Edge) (request : Request) → IsAnswer edges request (answer_of edges request)
-  pub one : (edges : List Edge) (request : Request) (answer : Result (List Hop) RouteFault) → AreDirections edges →
+  pub one : (edges : List Edge) (request : Request) (answer : Result (List Hop) RouteFault)
+      → AreDirections edges →
       IsAnswer edges request answer → answer ≡ answer_of edges request

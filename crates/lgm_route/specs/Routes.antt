@@ -1,5 +1,6 @@
 -- Walks over edges between points, what they cost, and the best one.
-use Rattle.std.specs.Prelude.{◌≡◌, ◌≢◌, ◌⊎◌, ℕ, ◌+◌, ◌≤◌, List, [], ◌∷◌, length, map, Contains, Option, Some, None}
+use Rattle.std.specs.Prelude.{◌≡◌, ◌≢◌, ◌⊎◌, ℕ, ◌+◌, ◌≤◌, List, [], ◌∷◌}
+use Rattle.std.specs.Prelude.{length, map, Contains, Option, Some, None}
 use Rattle.std.specs.declared.cmp.Ordering.TheVariants.{Less}
 use Rattle.std.specs.Ordering.{nat_cmp}
 use Rattle.std.specs.Cmp.Lexicographic.{slice_cmp}
@@ -28,7 +29,8 @@ due expiry (edge ∷ rest) = due expiry rest + edge.delta
 
 -- an edge of the list from the node: the amount is at least its minimum, and what it carries, as the edges after it
 -- need it, at most its maximum
-pub record IsStep (edges : List Edge) (request : Request) (node : Point) (edge : Edge) (rest : List Edge) : Type 0 where
+pub record IsStep (edges : List Edge) (request : Request) (node : Point) (edge : Edge)
+    (rest : List Edge) : Type 0 where
   pub there : Contains edges edge
   pub leaves : edge.from ≡ node
   pub above_min : edge.min ≤ request.amount
@@ -37,7 +39,8 @@ pub record IsStep (edges : List Edge) (request : Request) (node : Point) (edge :
 -- consecutive edges, from the node to the payee
 abbrev pub IsRest : List Edge → Request → Point → List Edge → Type 0
 IsRest edges request node [] = node ≡ request.payee
-IsRest edges request node (edge ∷ rest) = IsStep edges request node edge rest × IsRest edges request edge.to rest
+IsRest edges request node (edge ∷ rest) =
+    IsStep edges request node edge rest × IsRest edges request edge.to rest
 
 -- a walk of 1 to 20 edges, from the payer to the payee
 pub record IsUsable (edges : List Edge) (request : Request) (walk : List Edge) : Type 0 where
@@ -66,13 +69,20 @@ pub record IsLeast (edges : List Edge) (request : Request) (walk : List Edge) : 
 abbrev pub hops_of : Request → List Edge → List Hop
 hops_of request [] = []
 hops_of request (edge ∷ rest) =
-    record { scid = edge.scid; from = edge.from; to = edge.to; amount = owed request.amount rest; expiry = due request.expiry rest }
+    record {
+      scid = edge.scid;
+      from = edge.from;
+      to = edge.to;
+      amount = owed request.amount rest;
+      expiry = due request.expiry rest;
+    }
     ∷ hops_of request rest
 
 -- the hops of the best walk, or none if no walk is usable
 abbrev pub IsBest : List Edge → Request → Option (List Hop) → Type 0
 IsBest edges request None = (walk : List Edge) → IsUsable edges request walk → ⊥
-IsBest edges request (Some hops) = (walk : List Edge) × IsLeast edges request walk × (hops ≡ hops_of request walk)
+IsBest edges request (Some hops) =
+    (walk : List Edge) × IsLeast edges request walk × (hops ≡ hops_of request walk)
 
 -- some edge of the walk ends at the node
 abbrev pub Visits : Point → List Edge → Type 0
@@ -88,5 +98,6 @@ IsSimple node (edge ∷ rest) = (Visits node (edge ∷ rest) → ⊥) × IsSimpl
 -- best walk, which visits no node twice
 abbrev pub LeastIsOne : Type 0
 LeastIsOne =
-    (edges : List Edge) (request : Request) (walk other : List Edge) → AreDirections edges → request.payer ≢ request.payee →
+    (edges : List Edge) (request : Request) (walk other : List Edge) → AreDirections edges
+    → request.payer ≢ request.payee →
     IsLeast edges request walk → IsLeast edges request other → (walk ≡ other) × IsSimple request.payer walk

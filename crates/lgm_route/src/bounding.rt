@@ -1,10 +1,12 @@
 //! The pass from the payer, which computes lower bounds on the fees to each node.
 
-ghost use Rattle.std.specs.Prelude.{◌≡◌, ◌⊎◌, ◌++◌, ◌∷◌, [], ◌^◌, ◌-◌, ◌<◌, ◌≤◌, ℕ, length, IfOk, false, slice_index_or};
+ghost use Rattle.std.specs.Prelude.{◌≡◌, ◌⊎◌, ◌++◌, ◌∷◌, [], ◌^◌, ◌-◌, ◌<◌, ◌≤◌};
+ghost use Rattle.std.specs.Prelude.{ℕ, length, IfOk, false, slice_index_or};
 ghost use Rattle.lgm_graph.specs.Fee.{fee_of};
 ghost use Rattle.lgm_graph.specs.Graph.{links, AreLinked};
 ghost use Rattle.lgm_route.specs.inner.Searching.{number_at};
-ghost use Rattle.lgm_route.specs.inner.Bounding.{AreLow, AreReached, IsLowered, IsSpread, IsLooked, IsRadius, bounds_in, is_closed};
+ghost use Rattle.lgm_route.specs.inner.Bounding.{AreLow, AreReached, IsLowered, IsSpread, IsLooked};
+ghost use Rattle.lgm_route.specs.inner.Bounding.{IsRadius, bounds_in, is_closed};
 
 use crate::bounds::Bounds;
 use crate::entry::Entry;
@@ -101,8 +103,10 @@ fn look(
     trail: &mut Trail,
 ) -> Result<(), AllocError>
     requires { length closed.old ≡ length dist.old }
-    ensures looked { IfOk result (λ _. IsLooked request.now start edge.now dist.old closed.old dist.new closed.new) }
-    ensures reached { IfOk result (λ _. AreReached dist.old trail.old.reached.items → AreReached dist.new trail.new.reached.items) }
+    ensures looked { IfOk result
+        (λ _. IsLooked request.now start edge.now dist.old closed.old dist.new closed.new) }
+    ensures reached { IfOk result
+        (λ _. AreReached dist.old trail.old.reached.items → AreReached dist.new trail.new.reached.items) }
 {
     let to = edge.to as usize;
     if request.amount < edge.min || edge.max < request.amount || dist.len() <= to {
@@ -130,7 +134,8 @@ fn spread(
     requires linked { AreLinked view.now }
     requires spread { IsSpread (links view.now) request.now dist.old closed.old }
     ensures spread { IfOk result (λ _. IsSpread (links view.now) request.now dist.new closed.new) }
-    ensures reached { IfOk result (λ _. AreReached dist.old trail.old.reached.items → AreReached dist.new trail.new.reached.items) }
+    ensures reached { IfOk result
+        (λ _. AreReached dist.old trail.old.reached.items → AreReached dist.new trail.new.reached.items) }
 {
     let start = dist[node as usize];
     for link in view.links_leaving(node) {
@@ -144,7 +149,8 @@ fn spread(
 fn lesser(dist: &[u64], closed: &[bool], node: usize, most: u64) -> u64
     requires { length closed.now ≡ length dist.now }
     ensures low { result ≤ most }
-    ensures least { node < length dist.now → is_closed closed.now node ≡ false → result ≤ number_at dist.now node }
+    ensures least { node < length dist.now → is_closed closed.now node ≡ false
+        → result ≤ number_at dist.now node }
 {
     if node < dist.len() && !closed[node] && dist[node] < most {
         dist[node]
@@ -190,7 +196,8 @@ fn spread_open(
     requires linked { AreLinked view.now }
     requires spread { IsSpread (links view.now) request.now dist.old closed.old }
     ensures spread { IfOk result (λ _. IsSpread (links view.now) request.now dist.new closed.new) }
-    ensures reached { IfOk result (λ _. AreReached dist.old trail.old.reached.items → AreReached dist.new trail.new.reached.items) }
+    ensures reached { IfOk result
+        (λ _. AreReached dist.old trail.old.reached.items → AreReached dist.new trail.new.reached.items) }
 {
     if dist.len() <= node as usize || closed[node as usize] {
         return Ok(());

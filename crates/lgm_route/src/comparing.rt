@@ -1,7 +1,8 @@
 //! Comparison of labels and walks.
 
 ghost use Rattle.std.specs.Prelude.{◌≡◌, ◌^◌, ◌≤◌, true, false, if◌then◌else◌};
-ghost use Rattle.lgm_route.specs.inner.Searching.{IsSpelled, IdsFirst, bound_of, IsFound, DoesServe, SomeWalk, IsBetter};
+ghost use Rattle.lgm_route.specs.inner.Searching.{IsSpelled, IdsFirst, bound_of, IsFound};
+ghost use Rattle.lgm_route.specs.inner.Searching.{DoesServe, SomeWalk, IsBetter};
 
 use crate::label::{Label, first_of};
 use crate::numbered_request::NumberedRequest;
@@ -74,7 +75,8 @@ pub(crate) fn is_better(
 ) -> bool
     requires found { IsFound view.now request.now labels.now start best.now }
     requires new { SomeWalk view.now request.now labels.now new.now }
-    ensures { IsBetter view.now request.now labels.now start best.now new.now (if result then Some new.now else best.now) }
+    ensures { IsBetter view.now request.now labels.now start best.now new.now
+        (if result then Some new.now else best.now) }
 {
     match best {
         None => (new.owed as u128) < start,

@@ -92,7 +92,8 @@ fn all_leads<Rt: Threads + Sync, G: Gate>(
     frontier: &[usize],
 ) -> Result<Vec<Result<Vec<Label>, AllocError>>, AllocError>
     requires { All (λ i. i < length search.now.labels) frontier.now }
-    ensures { IfOk result (λ all. AllZip (λ i leads. IfOk leads (λ leads. AreLeadsAt search.now i leads.items)) frontier.now all.items) }
+    ensures { IfOk result (λ all. AllZip
+        (λ i leads. IfOk leads (λ leads. AreLeadsAt search.now i leads.items)) frontier.now all.items) }
 {
     let alloc = pool.alloc;
     pool.map(frontier, &|i| search.leads(alloc, *i))

@@ -57,9 +57,11 @@ impl<'a> Search<'a> {
     /// Applies a relaxation: a walk, or a rest as a new label.
     #[inline(always)]
     pub(crate) fn take(&mut self, new: Label) -> Result<(), AllocError>
-        requires { IsLed self.old.ground.graph self.old.ground.request self.old.labels new.next (first_of self.old.ground.graph self.old.labels new) new }
+        requires { IsLed self.old.ground.graph self.old.ground.request self.old.labels new.next
+            (first_of self.old.ground.graph self.old.labels new) new }
         ensures extends { IfOk result (λ _. Extends self.old self.new) }
-        ensures passed { IfOk result (λ _. IsPassedOn self.old new.next (first_of self.old.ground.graph self.old.labels new) self.new) }
+        ensures passed { IfOk result (λ _.
+            IsPassedOn self.old new.next (first_of self.old.ground.graph self.old.labels new) self.new) }
     {
         // The contract of `len` says that labels represent rests.
         let _len = self.len();

@@ -20,7 +20,8 @@ pub(crate) fn offer(
     requires labelled { AreLabels view.now request.now labels.old.items }
     requires new { SomeRest view.now request.now labels.old.items new }
     requires few { new.count ≤ 19 }
-    ensures offered { IfOk result (λ _. IsOffered view.now request.now labels.old.items new labels.new.items) }
+    ensures offered { IfOk result
+        (λ _. IsOffered view.now request.now labels.old.items new labels.new.items) }
     ensures stays { OnErr result (labels.new.items ≡ labels.old.items) }
 {
     match fronts.server(view, labels, &new) {
@@ -36,7 +37,8 @@ pub(crate) fn offer(
 /// Marks an index.
 pub(crate) fn mark(done: &mut Vec<bool>, i: usize) -> Result<(), AllocError>
     ensures marked { IfOk result (λ _. IsMarked done.old.items i done.new.items) }
-    ensures stays { OnErr result ((j : ℕ) → slice_index_or done.new.items j false ≡ slice_index_or done.old.items j false) }
+    ensures stays { OnErr result
+        ((j : ℕ) → slice_index_or done.new.items j false ≡ slice_index_or done.old.items j false) }
 {
     while done.len() <= i {
         done.push(false)?;

@@ -15,7 +15,8 @@ pub(crate) fn rebuild(
     found: &Label,
 ) -> Result<Vec<Link>, AllocError>
     requires { IsSpelled view.now labels.now found.now }
-    ensures { IfOk result (λ walk. Spells view.now labels.now found.now walk.items × (length walk.items ≡ found.now.count)) }
+    ensures { IfOk result
+        (λ walk. Spells view.now labels.now found.now walk.items × (length walk.items ≡ found.now.count)) }
 {
     let mut walk = Vec::new(alloc);
     let mut here = *found;

@@ -49,7 +49,8 @@ fn best_walk(
     view: &View,
     request: &NumberedRequest,
 ) -> Result<Option<Vec<Link>>, AllocError>
-    ensures { IfOk result (λ best. IsBestWalk (links view.now) request.now (option_map (λ walk. walk.items) best)) }
+    ensures { IfOk result
+        (λ best. IsBestWalk (links view.now) request.now (option_map (λ walk. walk.items) best)) }
 {
     let mut search = begin(alloc, view, request)?;
     search.settle_best_first(alloc, usize::MAX)?;
@@ -63,7 +64,8 @@ fn best_walk_chunked<Rt: Threads + Sync, G: Gate>(
     view: &View,
     request: &NumberedRequest,
 ) -> Result<Option<Vec<Link>>, AllocError>
-    ensures { IfOk result (λ best. IsBestWalk (links view.now) request.now (option_map (λ walk. walk.items) best)) }
+    ensures { IfOk result
+        (λ best. IsBestWalk (links view.now) request.now (option_map (λ walk. walk.items) best)) }
 {
     let mut search = begin(pool.alloc, view, request)?;
     search.settle_chunked(pool)?;
@@ -101,7 +103,8 @@ fn hops_of(
     requires expiry { request.now.expiry ≤ 498000000 }
     requires numbered { IsNumberingOf view.now request.now (Some numbered.now) }
     requires walk { IsBestWalk (links view.now) numbered.now (option_map (λ walk. walk.items) walk) }
-    ensures { IfOk result (λ best. IsBest (edges view.now) request.now (option_map (λ hops. hops.items) best)) }
+    ensures { IfOk result
+        (λ best. IsBest (edges view.now) request.now (option_map (λ hops. hops.items) best)) }
 {
     // The contract of `nodes` says that the nodes of links are numbered.
     let _nodes = view.nodes();

@@ -3,8 +3,10 @@
 ghost use Rattle.std.specs.Prelude.{◌≡◌, ◌^◌, ◌<◌, ◌≤◌, length, IfOk, false, slice_index_or};
 ghost use Rattle.lgm_graph.specs.Graph.{links, links_into, AreLinked};
 ghost use Rattle.lgm_route.specs.inner.Bounding.{AreLow};
-ghost use Rattle.lgm_route.specs.inner.Searching.{label_at, number_at, SomeRest, SomeWalk, IsOffered, IsBetter, IsStart, StandsIn};
-ghost use Rattle.lgm_route.specs.inner.State.{IsSearch, Extends, IsSettledAt, IsMarkedAt, IsFinished, bound_in};
+ghost use Rattle.lgm_route.specs.inner.Searching.{label_at, number_at, SomeRest, SomeWalk};
+ghost use Rattle.lgm_route.specs.inner.Searching.{IsOffered, IsBetter, IsStart, StandsIn};
+ghost use Rattle.lgm_route.specs.inner.State.{IsSearch, Extends, IsSettledAt, IsMarkedAt};
+ghost use Rattle.lgm_route.specs.inner.State.{IsFinished, bound_in};
 ghost use Rattle.lgm_route.specs.inner.Best.{IsBestWalk};
 ghost use Rattle.std.specs.Option.{option_map};
 
@@ -51,12 +53,14 @@ impl<'a> Model for Search<'a> {
 
     ghost view = { λ s. state_of s.view.now s.request s.low s.start s.labels.items s.best s.done.items };
 
-    ghost invariant = { λ s. IsSearch (state_of s.view.now s.request s.low s.start s.labels.items s.best s.done.items) };
+    ghost invariant = { λ s. IsSearch
+        (state_of s.view.now s.request s.low s.start s.labels.items s.best s.done.items) };
 }
 
 /// The label without edges.
 fn at_payee(request: &NumberedRequest) -> Label
-    ensures { result ≡ record { owed = request.now.amount; next = 0; at = 0; node = request.now.payee; count = 0 } }
+    ensures { result
+        ≡ record { owed = request.now.amount; next = 0; at = 0; node = request.now.payee; count = 0 } }
 {
     Label {
         owed: request.amount,
@@ -80,7 +84,8 @@ impl<'a> Search<'a> {
         requires long { length low ≡ length view.now.points }
         requires low { AreLow (links view.now) request low }
         requires small { start ≤ 2 ^ 64 }
-        ensures { IfOk result (λ search. search.ground ≡ record { graph = view.entry.now; request = request; low = low; start = start }) }
+        ensures { IfOk result (λ search. search.ground
+            ≡ record { graph = view.entry.now; request = request; low = low; start = start }) }
     {
         let fronts = Fronts::new(alloc, low.len())?;
         let mut labels = Vec::new(alloc);
@@ -192,7 +197,8 @@ impl<'a> Search<'a> {
         requires new { SomeRest self.old.ground.graph self.old.ground.request self.old.labels new }
         requires few { new.count ≤ 19 }
         ensures extends { IfOk result (λ _. Extends self.old self.new) }
-        ensures offered { IfOk result (λ _. IsOffered self.old.ground.graph self.old.ground.request self.old.labels new self.new.labels) }
+        ensures offered { IfOk result (λ _.
+            IsOffered self.old.ground.graph self.old.ground.request self.old.labels new self.new.labels) }
         ensures best { IfOk result (λ _. self.new.best ≡ self.old.best) }
     {
         offer(
@@ -210,7 +216,8 @@ impl<'a> Search<'a> {
         requires { SomeWalk self.old.ground.graph self.old.ground.request self.old.labels new }
         ensures extends { Extends self.old self.new }
         ensures labels { self.new.labels ≡ self.old.labels }
-        ensures better { IsBetter self.old.ground.graph self.old.ground.request self.old.labels self.old.ground.start self.old.best new self.new.best }
+        ensures better { IsBetter self.old.ground.graph self.old.ground.request self.old.labels
+            self.old.ground.start self.old.best new self.new.best }
     {
         if is_better(
             self.view,
@@ -242,7 +249,8 @@ impl<'a> Search<'a> {
     pub(crate) fn best_walk(&self, alloc: Global) -> Result<Option<Vec<Link>>, AllocError>
         requires finished { IsFinished self.now }
         requires start { IsStart (links self.now.ground.graph) self.now.ground.request self.now.ground.start }
-        ensures { IfOk result (λ best. IsBestWalk (links self.now.ground.graph) self.now.ground.request (option_map (λ walk. walk.items) best)) }
+        ensures { IfOk result (λ best. IsBestWalk (links self.now.ground.graph) self.now.ground.request
+            (option_map (λ walk. walk.items) best)) }
     {
         match &self.best {
             None => Ok(None),

@@ -12,7 +12,8 @@ impl<'a> Search<'a> {
     /// A lower bound of walks over the label: what is sent, in msat, times 32, plus the number of edges.
     #[inline(always)]
     pub(crate) fn hope(&self, label: &Label) -> u128
-        ensures { result ≡ (label.now.owed + number_at self.now.ground.low label.now.node) * 32 + label.now.count }
+        ensures { result
+            ≡ (label.now.owed + number_at self.now.ground.low label.now.node) * 32 + label.now.count }
     {
         (label.owed as u128 + self.low(label.node) as u128) * 32 + label.count as u128
     }

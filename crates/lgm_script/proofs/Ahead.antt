@@ -11,20 +11,26 @@ take-rewritten : (n len : ℕ) (front rest : List ℕ) → n ≤ length front �
 take-rewritten n len front rest few fits = take-take n len (front ++ rest) (omega arith) ∙ take-append-le n front rest few
 
 -- bytes behind the others, with what was read into the buffer behind a place
-pub read_behind : (front sub whole rest : List ℕ) (start end n len : ℕ) → front ≡ take end whole → start ≤ end → end ≤ length whole → n ≤ length sub → length front + length sub ≤ len
+pub read_behind : (front sub whole rest : List ℕ) (start end n len : ℕ) → front ≡ take end whole → start ≤ end
+    → end ≤ length whole → n ≤ length sub → length front + length sub ≤ len
     → drop start (take (end + n) (take len ((front ++ sub) ++ rest))) ≡ drop start (take end whole) ++ take n sub
 read_behind front sub whole rest start end n len is order within few fits =
     let size : length front ≡ end = omega (arith, ap length is, length-take end whole) in
-    let both : take (end + n) (front ++ sub) ≡ front ++ take n sub = ap (λ (k : ℕ). take (k + n) (front ++ sub)) (sym size) ∙ take-append-add front sub n in
-    ap (drop start) (take-rewritten (end + n) len (front ++ sub) rest (omega (arith, length-append front sub)) (omega (arith, length-append front sub)) ∙ both) ∙ drop-append-le start front (take n sub) (omega arith) ∙ ap (λ (s : List ℕ). drop start s ++ take n sub) is
+    let both : take (end + n) (front ++ sub) ≡ front ++ take n sub =
+    ap (λ (k : ℕ). take (k + n) (front ++ sub)) (sym size) ∙ take-append-add front sub n in
+    ap (drop start) (take-rewritten (end + n) len (front ++ sub) rest (omega (arith, length-append front sub))
+    (omega (arith, length-append front sub)) ∙ both) ∙ drop-append-le start front (take n sub)
+    (omega arith) ∙ ap (λ (s : List ℕ). drop start s ++ take n sub) is
 
 -- what was read stands ahead of what is left
-pub ahead_behind : (old new : Option (List ℕ)) (front sub : List ℕ) (n : ℕ) → new ≡ option_map (drop n) old → IfSome old (λ left. (n ≤ length left) × (take n sub ≡ take n left))
+pub ahead_behind : (old new : Option (List ℕ)) (front sub : List ℕ) (n : ℕ) → new ≡ option_map (drop n) old
+    → IfSome old (λ left. (n ≤ length left) × (take n sub ≡ take n left))
     → ahead (front ++ take n sub) new ≡ ahead front old
 ahead_behind None new front sub n moved same = ap (ahead (front ++ take n sub)) moved
 ahead_behind (Some left) new front sub n moved same =
     ap (ahead (front ++ take n sub)) moved
-    ∙ ap (λ (s : List ℕ). Some s) (append_assoc front (take n sub) (drop n left) ∙ ap (λ (s : List ℕ). front ++ s) (ap (λ (s : List ℕ). s ++ drop n left) same.1 ∙ take-append-drop n left))
+    ∙ ap (λ (s : List ℕ). Some s) (append_assoc front (take n sub) (drop n left) ∙ ap (λ (s : List ℕ). front
+    ++ s) (ap (λ (s : List ℕ). s ++ drop n left) same.1 ∙ take-append-drop n left))
 
 -- the front stays
 pub front_stays : (old new sub : List ℕ) (n : ℕ) → new ≡ old ++ take n sub → take (length old) new ≡ old

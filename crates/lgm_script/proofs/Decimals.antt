@@ -1,5 +1,6 @@
 -- The number that a field is the text of.
-use Rattle.std.proofs.Common.{◌≡◌, ℕ, zero, suc, ◌^◌, ◌<◌, ◌≤◌, Bool, true, false, eqb, ltb, List, length, get_or, Some, None, refl, sym, ap, subst, ◌∙◌, arith, drop, drop-cons, rules, [], ◌∷◌}
+use Rattle.std.proofs.Common.{◌≡◌, ℕ, zero, suc, ◌^◌, ◌<◌, ◌≤◌, Bool, true, false, eqb, ltb, List, length, get_or}
+use Rattle.std.proofs.Common.{Some, None, refl, sym, ap, subst, ◌∙◌, arith, drop, drop-cons, rules, [], ◌∷◌}
 use Rattle.std.specs.Cmp.Lexicographic.{pointwise, same_text, other_text}
 use Rattle.std.specs.Fmt.{decimal}
 use Rattle.std.specs.Str.Parse.{AllDigits, digits_value}
@@ -34,7 +35,8 @@ number_spelled n digits small is =
 pub number_none : (digits : List ℕ) → ((n : ℕ) → n < 2 ^ 64 → decimal n ≡ digits → ⊥) → number_of digits ≡ None
 number_none digits none = by (ltb (digits_value 10 digits) (2 ^ 64)) (pointwise eqb (decimal (digits_value 10 digits)) digits) refl refl
   where
-    by : (small same : Bool) → ltb (digits_value 10 digits) (2 ^ 64) ≡ small → pointwise eqb (decimal (digits_value 10 digits)) digits ≡ same → number_of digits ≡ None
+    by : (small same : Bool) → ltb (digits_value 10 digits) (2 ^ 64) ≡ small
+        → pointwise eqb (decimal (digits_value 10 digits)) digits ≡ same → number_of digits ≡ None
     by false same e f = rw e refl
     by true false e f = rw (e, f) refl
     by true true e f = absurd (none (digits_value 10 digits) (ltb-true _ _ e) (same_text _ _ (sym f)))
@@ -95,7 +97,9 @@ value_is digits some alone = by (list_all is_digit digits) (ltb (with_digits 0 d
   where
     by : (all small : Bool) → list_all is_digit digits ≡ all → ltb (with_digits 0 digits) (2 ^ 64) ≡ small → value_at 0 digits ≡ number_of digits
     by false small e f =
-        let no_number : number_of digits ≡ None = number_none digits (λ n less is. let all : list_all is_digit digits ≡ true = subst (λ (s : List ℕ). list_all is_digit s ≡ true) is (digits_decimal digits_read n less) in absurd cc) in
+        let no_number : number_of digits ≡ None =
+        number_none digits (λ n less is. let all : list_all is_digit digits ≡ true = subst (λ (s : List ℕ).
+        list_all is_digit s ≡ true) is (digits_decimal digits_read n less) in absurd cc) in
         rw e (sym no_number)
     by true false e f =
         let no_number : number_of digits ≡ None = number_none digits (λ n less is.

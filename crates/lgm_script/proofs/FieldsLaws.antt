@@ -19,11 +19,14 @@ one_field c text nowhere =
     (λ j d less. ap (λ (b : ℕ). eqb b c) (get_or_default text j d 0 less) ∙ off (eqb (get_or text j 0) c) (nowhere j (omega arith) less))
 
 -- the field in front of the first separator, and those behind it
-pub first_field : (c : ℕ) (text : List ℕ) (k : ℕ) → IsFirstByte (is_byte c) text (Some k) → fields_of c text ≡ take k text ∷ fields_of c (drop (k + 1) text)
+pub first_field : (c : ℕ) (text : List ℕ) (k : ℕ) → IsFirstByte (is_byte c) text (Some k)
+    → fields_of c text ≡ take k text ∷ fields_of c (drop (k + 1) text)
 first_field c text k first =
     let front = first.0 in
     let high = front.high in
-    let here : position_or_len (λ byte. eqb byte c) text ≡ k = position_or_len_is (λ byte. eqb byte c) text k 0 (omega arith) (λ j lt. off (eqb (get_or text j 0) c) (front.before j (omega arith) lt)) (λ lt. first.1) in
+    let here : position_or_len (λ byte. eqb byte c) text ≡ k =
+    position_or_len_is (λ byte. eqb byte c) text k 0 (omega arith)
+    (λ j lt. off (eqb (get_or text j 0) c) (front.before j (omega arith) lt)) (λ lt. first.1) in
     slice_split_first (λ byte. eqb byte c) text 0 (omega arith) ∙ rw here refl
 
 -- there is a field
@@ -40,7 +43,8 @@ some_field c (byte ∷ bytes) none = by (eqb byte c) refl
     by false e = onto (fields_of c bytes) (rw e at none)
 
 -- a byte in front of the first of several fields, with another behind them
-onto_front : (byte : ℕ) (parts : List (List ℕ)) (last : List ℕ) → (parts ≡ [] → ⊥) → onto_first byte (parts ++ last ∷ []) ≡ onto_first byte parts ++ last ∷ []
+onto_front : (byte : ℕ) (parts : List (List ℕ)) (last : List ℕ) → (parts ≡ [] → ⊥)
+    → onto_first byte (parts ++ last ∷ []) ≡ onto_first byte parts ++ last ∷ []
 onto_front byte [] last some = absurd (some refl)
 onto_front byte (part ∷ parts) last some = refl
 
@@ -49,16 +53,19 @@ fields_and_last : (c : ℕ) (front last : List ℕ) → fields_of c last ≡ las
 fields_and_last c [] last one = slice_split-cons_yes (λ byte. eqb byte c) c last (eq-eqb c c refl) ∙ ap (λ (parts : List (List ℕ)). [] ∷ parts) one
 fields_and_last c (byte ∷ front) last one = by (eqb byte c) refl (fields_and_last c front last one)
   where
-    by : (b : Bool) → eqb byte c ≡ b → fields_of c (front ++ c ∷ last) ≡ fields_of c front ++ last ∷ [] → fields_of c (byte ∷ front ++ c ∷ last) ≡ fields_of c (byte ∷ front) ++ last ∷ []
+    by : (b : Bool) → eqb byte c ≡ b → fields_of c (front ++ c ∷ last) ≡ fields_of c front ++ last ∷ []
+        → fields_of c (byte ∷ front ++ c ∷ last) ≡ fields_of c (byte ∷ front) ++ last ∷ []
     by true e here =
         slice_split-cons_yes (λ b. eqb b c) byte (front ++ c ∷ last) e ∙ ap (λ (parts : List (List ℕ)). [] ∷ parts) here
         ∙ ap (λ (parts : List (List ℕ)). parts ++ last ∷ []) (sym (slice_split-cons_yes (λ b. eqb b c) byte front e))
     by false e here =
-        slice_split-cons_no (λ b. eqb b c) byte (front ++ c ∷ last) e ∙ ap (onto_first byte) here ∙ onto_front byte (fields_of c front) last (some_field c front)
+        slice_split-cons_no (λ b. eqb b c) byte (front ++ c ∷ last) e ∙ ap (onto_first byte) here
+        ∙ onto_front byte (fields_of c front) last (some_field c front)
         ∙ ap (λ (parts : List (List ℕ)). parts ++ last ∷ []) (sym (slice_split-cons_no (λ b. eqb b c) byte front e))
 
 -- the fields in front of the last separator, and the one behind it
-pub last_field : (c : ℕ) (text : List ℕ) (k : ℕ) → IsLastByte (is_byte c) text (Some k) → fields_of c text ≡ fields_of c (take k text) ++ drop (k + 1) text ∷ []
+pub last_field : (c : ℕ) (text : List ℕ) (k : ℕ) → IsLastByte (is_byte c) text (Some k)
+    → fields_of c text ≡ fields_of c (take k text) ++ drop (k + 1) text ∷ []
 last_field c text k last =
     let found = last.0 in
     let high = found.high in
@@ -66,5 +73,6 @@ last_field c text k last =
     let whole : text ≡ take k text ++ c ∷ drop (k + 1) text =
     sym (take-append-drop k text) ∙ ap (λ (s : List ℕ). take k text ++ s) (drop_more text k 0 high ∙ ap (λ (b : ℕ). b ∷ drop (k + 1) text) here) in
     let none : IsFirstByte (is_byte c) (drop (k + 1) text) None = λ j low less is.
-    found.after (k + 1 + j) (omega arith) (omega (arith, length-drop (k + 1) text)) (ap (λ (b : ℕ). eqb b c) (sym (get_or-drop (k + 1) text j 0)) ∙ is) in
+    found.after (k + 1 + j) (omega arith) (omega (arith, length-drop (k + 1) text))
+    (ap (λ (b : ℕ). eqb b c) (sym (get_or-drop (k + 1) text j 0)) ∙ is) in
     ap (fields_of c) whole ∙ fields_and_last c (take k text) (drop (k + 1) text) (one_field c (drop (k + 1) text) none)

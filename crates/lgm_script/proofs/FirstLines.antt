@@ -1,20 +1,24 @@
 -- Lines one behind the other.
-use Rattle.std.proofs.Common.{◌≡◌, ℕ, zero, suc, get_or, ◌<◌, ◌+◌, ◌-◌, ◌≤◌, List, [], ◌∷◌, ◌++◌, length, take, drop, min, Option, sym, ap, subst, ◌∙◌, arith}
+use Rattle.std.proofs.Common.{◌≡◌, ℕ, zero, suc, get_or, ◌<◌, ◌+◌, ◌-◌, ◌≤◌, List, [], ◌∷◌, ◌++◌}
+use Rattle.std.proofs.Common.{length, take, drop, min, Option, sym, ap, subst, ◌∙◌, arith}
 use Rattle.std.specs.List.{AllByRecursion}
 use Rattle.std.proofs.lemmas.List.{length-take-le, length-drop, drop_min, drop-drop}
 use Rattle.lgm_script.specs.Lines.{IsFirstLine}
 use Rattle.lgm_script.specs.Groups.{AreFirstLines}
 
 -- the first one alone
-pub first_line_alone : (bytes line rest : List ℕ) (left : Option (List ℕ)) (n : ℕ) → n ≤ length bytes → line ≡ take n bytes → rest ≡ drop (n + 1) bytes
+pub first_line_alone : (bytes line rest : List ℕ) (left : Option (List ℕ)) (n : ℕ) → n ≤ length bytes
+    → line ≡ take n bytes → rest ≡ drop (n + 1) bytes
     → IsFirstLine bytes left n → AreFirstLines bytes left (line ∷ []) rest
 first_line_alone bytes line rest left n within is rest_is first =
     let len : length line ≡ n = ap length is ∙ length-take-le n bytes within in
     (is ∙ ap (λ k. take k bytes) (sym len), subst (IsFirstLine bytes left) (sym len) first, rest_is ∙ ap (λ k. drop (k + 1) bytes) (sym len))
 
 -- one more behind them
-pub first_lines-push : (bytes : List ℕ) (left : Option (List ℕ)) (lines : List (List ℕ)) (line rest behind : List ℕ) → AreFirstLines bytes left lines rest
-    → line ≡ take (length line) rest → IsFirstLine rest left (length line) → behind ≡ drop (length line + 1) rest → AreFirstLines bytes left (lines ++ line ∷ []) behind
+pub first_lines-push : (bytes : List ℕ) (left : Option (List ℕ)) (lines : List (List ℕ))
+    (line rest behind : List ℕ) → AreFirstLines bytes left lines rest
+    → line ≡ take (length line) rest → IsFirstLine rest left (length line)
+    → behind ≡ drop (length line + 1) rest → AreFirstLines bytes left (lines ++ line ∷ []) behind
 first_lines-push bytes left [] line rest behind is front first behind_is =
     (front ∙ ap (take (length line)) is, subst (λ b. IsFirstLine b left (length line)) is first, behind_is ∙ ap (drop (length line + 1)) is)
 first_lines-push bytes left (l ∷ lines) line rest behind are front first behind_is =
@@ -31,7 +35,8 @@ cut_off n bytes rest is =
     is ∙ sym (drop_min n bytes) ∙ ap (λ k. drop k bytes) (sym at)
 
 -- and so does what is left behind the first of those
-pub cut_again : (n : ℕ) (bytes rest behind : List ℕ) → rest ≡ drop (length bytes - length rest) bytes → behind ≡ drop n rest → behind ≡ drop (length bytes - length behind) bytes
+pub cut_again : (n : ℕ) (bytes rest behind : List ℕ) → rest ≡ drop (length bytes - length rest) bytes
+    → behind ≡ drop n rest → behind ≡ drop (length bytes - length behind) bytes
 cut_again n bytes rest behind is behind_is =
     cut_off (length bytes - length rest + n) bytes behind (behind_is ∙ ap (drop n) is ∙ drop-drop n (length bytes - length rest) bytes)
 

@@ -58,7 +58,8 @@ filter_or_bad route [] = (tt, ((λ _. tt), tt))
 filter_or_bad route (peer ∷ []) = (tt, ((λ _. tt), tt))
 filter_or_bad route (peer ∷ hex ∷ []) = by (number_below 1000 peer) (bytes_of hex) (below 1000 (number_of peer))
   where
-    by : (number : Option ℕ) (bytes : Option (List ℕ)) → IfSome number (λ p. p < 1000) → Asks Question route (unwrap_or (number >>= λ p. bytes >>= λ b. Some (requests.Filter p b)) requests.Bad)
+    by : (number : Option ℕ) (bytes : Option (List ℕ)) → IfSome number (λ p. p < 1000) → Asks Question route
+        (unwrap_or (number >>= λ p. bytes >>= λ b. Some (requests.Filter p b)) requests.Bad)
     by None bytes small = (tt, ((λ _. tt), tt))
     by (Some number) None small = (tt, ((λ _. tt), tt))
     by (Some number) (Some bytes) small = (tt, ((λ _. tt), small))
@@ -69,10 +70,13 @@ route_or_bad None = (tt, ((λ _. tt), tt))
 route_or_bad (Some payment) = (tt, ((λ is. absurd cc), tt))
 
 -- each form is of the kind of its first word
-form_asks : (m close q filter route commit : Bool) (gossip closed : Option Item) (bytes : Option (List ℕ)) (fields : List (List ℕ)) (payment : Option Payment)
+form_asks : (m close q filter route commit : Bool) (gossip closed : Option Item) (bytes : Option (List ℕ))
+    (fields : List (List ℕ)) (payment : Option Payment)
     → Asks (cond (m || close) ItemKind (cond (q || filter || route) Question Other)) route
-    (unwrap_or (cond m (option_map (λ i. requests.Offer i) gossip) (cond close (option_map (λ i. requests.Offer i) closed) (cond q (option_map (λ b. requests.Query b) bytes)
-    (cond filter (filter_of fields) (cond route (option_map (λ p. requests.Route p) payment) (cond commit (Some requests.Commit) None)))))) requests.Bad)
+    (unwrap_or (cond m (option_map (λ i. requests.Offer i) gossip) (cond close
+    (option_map (λ i. requests.Offer i) closed) (cond q (option_map (λ b. requests.Query b) bytes)
+    (cond filter (filter_of fields) (cond route (option_map (λ p. requests.Route p) payment)
+    (cond commit (Some requests.Commit) None)))))) requests.Bad)
 form_asks true close q filter route commit gossip closed bytes fields payment = offer_or_bad route gossip
 form_asks false true q filter route commit gossip closed bytes fields payment = offer_or_bad route closed
 form_asks false false true filter route commit gossip closed bytes fields payment = query_or_bad route bytes
@@ -83,11 +87,14 @@ form_asks false false false false false false gossip closed bytes fields payment
 
 line_asks : (line : List ℕ) → Asks (kind_of line) (has_route_word line) (request_of line)
 line_asks line = by (is_quiet line) refl
-    (form_asks (pointwise nat_eq (take 2 line) (codes "m ")) (pointwise nat_eq (take 6 line) (codes "close ")) (pointwise nat_eq (take 2 line) (codes "q "))
-    (pointwise nat_eq (take 7 line) (codes "filter ")) (has_route_word line) (pointwise nat_eq line (codes "commit")) (gossip_of (fields_of 32 (drop 2 line)))
+    (form_asks (pointwise nat_eq (take 2 line) (codes "m ")) (pointwise nat_eq (take 6 line) (codes "close "))
+    (pointwise nat_eq (take 2 line) (codes "q "))
+    (pointwise nat_eq (take 7 line) (codes "filter ")) (has_route_word line)
+    (pointwise nat_eq line (codes "commit")) (gossip_of (fields_of 32 (drop 2 line)))
     (close_of (fields_of 32 (drop 6 line))) (bytes_of (drop 2 line)) (fields_of 32 (drop 7 line)) (payment_of (fields_of 32 (drop 6 line))))
   where
-    by : (quiet : Bool) → is_quiet line ≡ quiet → Asks (kind_of line) (has_route_word line) (unwrap_or (form_of line) requests.Bad) → Asks (kind_of line) (has_route_word line) (request_of line)
+    by : (quiet : Bool) → is_quiet line ≡ quiet → Asks (kind_of line) (has_route_word line)
+        (unwrap_or (form_of line) requests.Bad) → Asks (kind_of line) (has_route_word line) (request_of line)
     by true is form = rw (quiet_is_other line is, is) (tt, ((λ _. tt), tt))
     by false is form = rw is form
 
@@ -100,11 +107,13 @@ pub request_is_lawful : (line : List ℕ) → HasLawfulPeer (request_of line)
 request_is_lawful line = let asks = line_asks line in asks.1.1
 
 -- where no line has the word, none asks for a route
-pub no_routes : {T : Type 0} (text : T → List ℕ) (lines : List T) → list_any (λ line. has_route_word (text line)) lines ≡ false → AllByRecursion (λ line. IsNoRoute (request_of (text line))) lines
+pub no_routes : {T : Type 0} (text : T → List ℕ) (lines : List T) → list_any (λ line. has_route_word
+    (text line)) lines ≡ false → AllByRecursion (λ line. IsNoRoute (request_of (text line))) lines
 no_routes text [] none = tt
 no_routes {T} text (line ∷ lines) none = by (has_route_word (text line)) refl none (no_routes text lines)
   where
     by : (route : Bool) → has_route_word (text line) ≡ route → (route || list_any (λ l. has_route_word (text l)) lines) ≡ false
-        → (list_any (λ l. has_route_word (text l)) lines ≡ false → AllByRecursion (λ l. IsNoRoute (request_of (text l))) lines) → AllByRecursion (λ l. IsNoRoute (request_of (text l))) (line ∷ lines)
+        → (list_any (λ l. has_route_word (text l)) lines ≡ false → AllByRecursion (λ l. IsNoRoute
+        (request_of (text l))) lines) → AllByRecursion (λ l. IsNoRoute (request_of (text l))) (line ∷ lines)
     by true is none others = absurd cc
     by false is none others = (let asks = line_asks (text line) in asks.1.0 is, others none)

@@ -1,5 +1,6 @@
 -- Lines of items: a message's fields, found from the end, and a line's first word.
-use Rattle.std.proofs.Common.{◌≡◌, ℕ, ◌+◌, ◌*◌, ◌%◌, Bool, true, false, cond, eqb, List, [], ◌∷◌, ◌++◌, length, take, drop, Option, Some, None, Result, Ok, Err, refl, sym, ap, ◌∙◌, arith}
+use Rattle.std.proofs.Common.{◌≡◌, ℕ, ◌+◌, ◌*◌, ◌%◌, Bool, true, false, cond, eqb, List, [], ◌∷◌, ◌++◌, length}
+use Rattle.std.proofs.Common.{take, drop, Option, Some, None, Result, Ok, Err, refl, sym, ap, ◌∙◌, arith}
 use Rattle.std.specs.Prelude.{◌↔◌, codes, nat_eq, ◌==◌, ◌&&◌, unwrap_or}
 use Rattle.std.specs.Option.{option_map}
 use Rattle.std.specs.List.{join_with_byte}
@@ -29,7 +30,8 @@ record IsRefused (decoded : Result (List ℕ) FromHexError) : Type 0 where
   pub error : FromHexError
   pub is : decoded ≡ Err error
 
-refused_pair : (byte : Result ℕ FromHexError) (rest : Result (List ℕ) FromHexError) → IsRefused rest → IsRefused (byte >>=ᵣ λ b. rest >>=ᵣ λ bytes. Ok (b ∷ bytes))
+refused_pair : (byte : Result ℕ FromHexError) (rest : Result (List ℕ) FromHexError) → IsRefused rest
+    → IsRefused (byte >>=ᵣ λ b. rest >>=ᵣ λ bytes. Ok (b ∷ bytes))
 refused_pair (Ok b) rest refused = record { error = refused.error; is = rw (refused.is) refl }
 refused_pair (Err e) rest refused = record { error = e; is = refl }
 
@@ -43,7 +45,9 @@ unfolding decode_pairs
 space_refused i [] [] = record { error = _; is = refl }
 space_refused i [] (low ∷ back) = record { error = _; is = refl }
 space_refused i (high ∷ []) back = refused_low (value_at high i) (i + 1) (decode_pairs (i + 2) back)
-space_refused i (high ∷ low ∷ front) back = refused_pair (pair_value high low i) (decode_pairs (i + 2) (front ++ 32 ∷ back)) (space_refused (i + 2) front back)
+space_refused i (high ∷ low ∷ front) back =
+    refused_pair (pair_value high low i) (decode_pairs (i + 2) (front ++ 32 ∷ back))
+    (space_refused (i + 2) front back)
 
 no_bytes : (text : List ℕ) → IsRefused (decode_pairs 0 text) → bytes_of text ≡ None
 no_bytes [] refused = refl
@@ -74,22 +78,30 @@ no_message (Some b) = refl
 pub too_few : (text : List ℕ) → fields_of 32 text ≡ text ∷ [] → gossip_of (fields_of 32 text) ≡ None
 too_few text one = ap gossip_of one ∙ no_message (bytes_of text)
 
-pub too_few_still : (text front output : List ℕ) → fields_of 32 text ≡ fields_of 32 front ++ output ∷ [] → fields_of 32 front ≡ front ∷ [] → gossip_of (fields_of 32 text) ≡ None
-too_few_still text front output cut one = ap gossip_of (cut ∙ ap (λ (fields : List (List ℕ)). fields ++ output ∷ []) one) ∙ no_message (bytes_of front)
+pub too_few_still : (text front output : List ℕ) → fields_of 32 text ≡ fields_of 32 front ++ output ∷ []
+    → fields_of 32 front ≡ front ∷ [] → gossip_of (fields_of 32 text) ≡ None
+too_few_still text front output cut one =
+    ap gossip_of (cut ∙ ap (λ (fields : List (List ℕ)). fields ++ output ∷ []) one)
+    ∙ no_message (bytes_of front)
 
 -- where there are more, there is none either
-too_many : (hex more : List ℕ) (others : List (List ℕ)) (signer output : List ℕ) → gossip_of ((hex ∷ more ∷ others ++ signer ∷ []) ++ output ∷ []) ≡ None
+too_many : (hex more : List ℕ) (others : List (List ℕ)) (signer output : List ℕ)
+    → gossip_of ((hex ∷ more ∷ others ++ signer ∷ []) ++ output ∷ []) ≡ None
 too_many hex more [] signer output = no_message (bytes_of hex)
 too_many hex more (other ∷ []) signer output = no_message (bytes_of hex)
 too_many hex more (other ∷ further ∷ others) signer output = no_message (bytes_of hex)
 
 -- the message that a text spells, cut twice from its end
-pub cut_twice : (text front digits signer output : List ℕ) → fields_of 32 text ≡ fields_of 32 front ++ output ∷ [] → fields_of 32 front ≡ fields_of 32 digits ++ signer ∷ []
+pub cut_twice : (text front digits signer output : List ℕ) → fields_of 32 text
+    ≡ fields_of 32 front ++ output ∷ [] → fields_of 32 front ≡ fields_of 32 digits ++ signer ∷ []
     → gossip_of (fields_of 32 text) ≡ gossip_of (digits ∷ signer ∷ output ∷ [])
 cut_twice text front digits signer output cut again =
-    ap gossip_of (cut ∙ ap (λ (fields : List (List ℕ)). fields ++ output ∷ []) again) ∙ by (fields_of 32 digits) refl (join_with_byte-slice_split 32 digits)
+    ap gossip_of (cut ∙ ap (λ (fields : List (List ℕ)). fields ++ output ∷ []) again)
+    ∙ by (fields_of 32 digits) refl (join_with_byte-slice_split 32 digits)
   where
-    by : (fields : List (List ℕ)) → fields_of 32 digits ≡ fields → join_with_byte 32 (fields_of 32 digits) ≡ digits → gossip_of ((fields ++ signer ∷ []) ++ output ∷ []) ≡ gossip_of (digits ∷ signer ∷ output ∷ [])
+    by : (fields : List (List ℕ)) → fields_of 32 digits ≡ fields
+        → join_with_byte 32 (fields_of 32 digits) ≡ digits
+        → gossip_of ((fields ++ signer ∷ []) ++ output ∷ []) ≡ gossip_of (digits ∷ signer ∷ output ∷ [])
     by [] is whole = absurd (some_field 32 digits is)
     by (hex ∷ []) is whole = let same : hex ≡ digits = rw is at whole in ap (λ (d : List ℕ). gossip_of (d ∷ signer ∷ output ∷ [])) same
     by (hex ∷ more ∷ others) is whole =
@@ -140,8 +152,10 @@ routed None = refl
 routed (Some payment) = refl
 
 form_offers : (m close q filter route commit : Bool) (gossip closed : Option Item) (bytes : Taken) (fields : List (List ℕ)) (payment : Option Payment)
-    → item_in (unwrap_or (cond m (option_map (λ i. requests.Offer i) gossip) (cond close (option_map (λ i. requests.Offer i) closed) (cond q (option_map (λ b. requests.Query b) bytes)
-    (cond filter (filter_of fields) (cond route (option_map (λ p. requests.Route p) payment) (cond commit (Some requests.Commit) None)))))) requests.Bad)
+    → item_in (unwrap_or (cond m (option_map (λ i. requests.Offer i) gossip)
+    (cond close (option_map (λ i. requests.Offer i) closed) (cond q (option_map (λ b. requests.Query b) bytes)
+    (cond filter (filter_of fields) (cond route (option_map (λ p. requests.Route p) payment)
+    (cond commit (Some requests.Commit) None)))))) requests.Bad)
     ≡ cond m gossip (cond close closed None)
 form_offers true close q filter route commit gossip closed bytes fields payment = offered gossip
 form_offers false true q filter route commit gossip closed bytes fields payment = offered closed
@@ -168,11 +182,14 @@ quiet_offers_none (b ∷ bytes) quiet = by (35 == b) refl (rw (ne_eqb (length (b
 -- what a line offers, its first word tells
 item_is_by_word : (line : List ℕ) → item_in (request_of line) ≡ item_by_word line
 item_is_by_word line = by (is_quiet line) refl
-    (form_offers (pointwise nat_eq (take 2 line) (codes "m ")) (pointwise nat_eq (take 6 line) (codes "close ")) (pointwise nat_eq (take 2 line) (codes "q "))
-    (pointwise nat_eq (take 7 line) (codes "filter ")) (pointwise nat_eq (take 6 line) (codes "route ")) (pointwise nat_eq line (codes "commit")) (gossip_of (fields_of 32 (drop 2 line)))
+    (form_offers (pointwise nat_eq (take 2 line) (codes "m "))
+    (pointwise nat_eq (take 6 line) (codes "close ")) (pointwise nat_eq (take 2 line) (codes "q "))
+    (pointwise nat_eq (take 7 line) (codes "filter ")) (pointwise nat_eq (take 6 line) (codes "route "))
+    (pointwise nat_eq line (codes "commit")) (gossip_of (fields_of 32 (drop 2 line)))
     (close_of (fields_of 32 (drop 6 line))) (bytes_of (drop 2 line)) (fields_of 32 (drop 7 line)) (payment_of (fields_of 32 (drop 6 line))))
   where
-    by : (quiet : Bool) → is_quiet line ≡ quiet → item_in (unwrap_or (form_of line) requests.Bad) ≡ item_by_word line → item_in (request_of line) ≡ item_by_word line
+    by : (quiet : Bool) → is_quiet line ≡ quiet → item_in (unwrap_or (form_of line) requests.Bad)
+        ≡ item_by_word line → item_in (request_of line) ≡ item_by_word line
     by true is form = rw is (sym (quiet_offers_none line is))
     by false is form = rw is form
 

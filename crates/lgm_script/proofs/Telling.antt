@@ -1,5 +1,6 @@
 -- Text that is told in several goes.
-use Rattle.std.proofs.Common.{◌≡◌, ℕ, ◌<◌, Result, Ok, Err, List, [], ◌++◌, length, take, drop, Option, refl, sym, ap, subst, ◌∙◌, append_assoc, arith}
+use Rattle.std.proofs.Common.{◌≡◌, ℕ, ◌<◌, Result, Ok, Err, List, [], ◌++◌, length, take, drop}
+use Rattle.std.proofs.Common.{Option, refl, sym, ap, subst, ◌∙◌, append_assoc, arith}
 use Rattle.std.specs.Prelude.{OnOk, IfErr}
 use Rattle.std.proofs.lemmas.List.{append-nil, take-append-drop}
 use Rattle.std.proofs.Math.Seq.{take-append_seam}
@@ -33,7 +34,8 @@ tells_both old mid new a b first then = record {
 }
 
 -- a part of a text behind another one
-pub tells_part_behind : (old mid new : Told) (a b : List ℕ) (fault : SendFault) → Tells old mid a → TellsPart mid new b fault → TellsPart old new (a ++ b) fault
+pub tells_part_behind : (old mid new : Told) (a b : List ℕ) (fault : SendFault) → Tells old mid a
+    → TellsPart mid new b fault → TellsPart old new (a ++ b) fault
 tells_part_behind old mid new a b fault first then = record {
   written = first.written ++ then.written;
   lost = then.lost;
@@ -76,13 +78,16 @@ tells_none told text = record {
 
 -- where memory was refused and nothing was gathered, nothing was told
 pub tells_same : (taken : Option (List ℕ)) (failures : ℕ) (gathered gathered' text : List ℕ) → gathered' ≡ gathered
-    → TellsPart (record { taken = taken; gathered = gathered; failures = failures }) (record { taken = taken; gathered = gathered'; failures = failures }) text NoMemory
+    → TellsPart (record { taken = taken; gathered = gathered; failures = failures })
+    (record { taken = taken; gathered = gathered'; failures = failures }) text NoMemory
 tells_same taken failures gathered gathered' text is =
     rw is (tells_none (record { taken = taken; gathered = gathered; failures = failures }) text)
 
 -- some of what was gathered was taken before the sink failed, and the rest is dropped
-pub tells_some : (taken taken' : Option (List ℕ)) (failures failures' : ℕ) (gathered bytes gathered' : List ℕ) → bytes ≡ gathered → AppendsSome taken taken' bytes → gathered' ≡ [] → failures < failures'
-    → TellsPart (record { taken = taken; gathered = gathered; failures = failures }) (record { taken = taken'; gathered = gathered'; failures = failures' }) [] Write
+pub tells_some : (taken taken' : Option (List ℕ)) (failures failures' : ℕ) (gathered bytes gathered' : List ℕ)
+    → bytes ≡ gathered → AppendsSome taken taken' bytes → gathered' ≡ [] → failures < failures'
+    → TellsPart (record { taken = taken; gathered = gathered; failures = failures })
+    (record { taken = taken'; gathered = gathered'; failures = failures' }) [] Write
 tells_some taken taken' failures failures' gathered bytes gathered' same some dropped rise = record {
   written = take some.0 bytes;
   lost = drop some.0 bytes;
@@ -108,7 +113,8 @@ pub onward_first : (told : Told) (whole rest : List ℕ) → whole ≡ rest → 
 onward_first told whole rest same = record { done = []; told = tells_nothing told; parts = same }
 
 -- one line more
-pub onward_more : (old mid new : Told) (whole rest line others : List ℕ) → Onward old mid whole rest → rest ≡ line ++ others → Tells mid new line → Onward old new whole others
+pub onward_more : (old mid new : Told) (whole rest line others : List ℕ) → Onward old mid whole rest
+    → rest ≡ line ++ others → Tells mid new line → Onward old new whole others
 onward_more old mid new whole rest line others on is told = record {
   done = on.done ++ line;
   told = tells_both old mid new on.done line on.told told;
@@ -116,10 +122,12 @@ onward_more old mid new whole rest line others on is told = record {
 }
 
 -- a part of one line more, and then a fault
-pub onward_stops : (old mid new : Told) (whole rest line others : List ℕ) (fault : SendFault) → Onward old mid whole rest → rest ≡ line ++ others → TellsPart mid new line fault → TellsPart old new whole fault
+pub onward_stops : (old mid new : Told) (whole rest line others : List ℕ) (fault : SendFault) → Onward old mid
+    whole rest → rest ≡ line ++ others → TellsPart mid new line fault → TellsPart old new whole fault
 onward_stops old mid new whole rest line others fault on is part =
     let so_far = tells_part_more old new (on.done ++ line) others fault (tells_part_behind old mid new on.done line fault on.told part) in
-    subst (λ (s : List ℕ). TellsPart old new s fault) (append_assoc on.done line others ∙ ap (λ (s : List ℕ). on.done ++ s) (sym is) ∙ sym on.parts) so_far
+    subst (λ (s : List ℕ). TellsPart old new s fault)
+    (append_assoc on.done line others ∙ ap (λ (s : List ℕ). on.done ++ s) (sym is) ∙ sym on.parts) so_far
 
 -- nothing is left
 pub onward_ends : (old mid : Told) (whole rest : List ℕ) → Onward old mid whole rest → rest ≡ [] → Tells old mid whole
@@ -127,11 +135,13 @@ onward_ends old mid whole rest on none =
     subst (Tells old mid) (sym (append-nil on.done) ∙ ap (λ (s : List ℕ). on.done ++ s) (sym none) ∙ sym on.parts) on.told
 
 -- what a call told behind a text, or the part of it that it told
-pub told_behind : (result : Result (Unit {0}) SendFault) (old mid new : Told) (a b : List ℕ) → Tells old mid a → OnOk result (Tells mid new b) → OnOk result (Tells old new (a ++ b))
+pub told_behind : (result : Result (Unit {0}) SendFault) (old mid new : Told) (a b : List ℕ) → Tells old mid a
+    → OnOk result (Tells mid new b) → OnOk result (Tells old new (a ++ b))
 told_behind (Ok t) old mid new a b first then = tells_both old mid new a b first then
 told_behind (Err fault) old mid new a b first then = tt
 
-pub fault_behind : (result : Result (Unit {0}) SendFault) (old mid new : Told) (a b : List ℕ) → Tells old mid a → IfErr result (TellsPart mid new b) → IfErr result (TellsPart old new (a ++ b))
+pub fault_behind : (result : Result (Unit {0}) SendFault) (old mid new : Told) (a b : List ℕ)
+    → Tells old mid a → IfErr result (TellsPart mid new b) → IfErr result (TellsPart old new (a ++ b))
 fault_behind (Ok t) old mid new a b first then = tt
 fault_behind (Err fault) old mid new a b first then = tells_part_behind old mid new a b fault first then
 
@@ -149,18 +159,21 @@ some_of_all old new text told = record {
 }
 
 -- where all that is gathered is written at the end, the sink has taken the text
-pub taken_all : (old mid new : Told) (text : List ℕ) → old.gathered ≡ [] → Tells old mid text → Tells mid new [] → new.gathered ≡ [] → Appends old.taken new.taken text
+pub taken_all : (old mid new : Told) (text : List ℕ) → old.gathered ≡ [] → Tells old mid text
+    → Tells mid new [] → new.gathered ≡ [] → Appends old.taken new.taken text
 taken_all old mid new text empty told flushed clear =
     let both = tells_both old mid new text [] told flushed in
     let is : both.written ≡ text =
-    sym (append-nil both.written) ∙ ap (λ (s : List ℕ). both.written ++ s) (sym clear) ∙ both.whole ∙ ap (λ (s : List ℕ). s ++ (text ++ [])) empty ∙ append-nil text in
+    sym (append-nil both.written) ∙ ap (λ (s : List ℕ). both.written ++ s) (sym clear) ∙ both.whole
+    ∙ ap (λ (s : List ℕ). s ++ (text ++ [])) empty ∙ append-nil text in
     subst (Appends old.taken new.taken) is both.taken
 
 -- or a first part of it
 pub taken_some : (old new : Told) (text : List ℕ) → old.gathered ≡ [] → TellsSome old new text → AppendsSome old.taken new.taken text
 taken_some old new text empty some =
     let front : take (length some.written) text ≡ some.written =
-    ap (λ (s : List ℕ). take (length some.written) s) (ap (λ (s : List ℕ). s ++ text) (sym empty) ∙ sym some.whole ∙ append_assoc some.written new.gathered some.lost)
+    ap (λ (s : List ℕ). take (length some.written) s) (ap (λ (s : List ℕ). s ++ text) (sym empty)
+    ∙ sym some.whole ∙ append_assoc some.written new.gathered some.lost)
     ∙ take-append_seam some.written (new.gathered ++ some.lost) in
     (length some.written, subst (Appends old.taken new.taken) (sym front) some.taken)
 
@@ -177,7 +190,8 @@ some_flushed old mid new text some flushed = record {
 }
 
 -- a first part, and then a flush that fails
-pub some_flushed_part : (old mid new : Told) (text : List ℕ) (fault : SendFault) → TellsSome old mid text → TellsPart mid new [] fault → TellsSome old new text
+pub some_flushed_part : (old mid new : Told) (text : List ℕ) (fault : SendFault) → TellsSome old mid text
+    → TellsPart mid new [] fault → TellsSome old new text
 some_flushed_part old mid new text fault some flushed = record {
   written = some.written ++ flushed.written;
   lost = flushed.lost ++ some.lost;
@@ -187,7 +201,8 @@ some_flushed_part old mid new text fault some flushed = record {
       ∙ ap (λ (s : List ℕ). s ++ some.lost)
       (append_assoc (some.written ++ flushed.written) new.gathered flushed.lost
       ∙ append_assoc some.written flushed.written (new.gathered ++ flushed.lost)
-      ∙ ap (λ (s : List ℕ). some.written ++ s) (sym (append_assoc flushed.written new.gathered flushed.lost) ∙ flushed.whole ∙ append-nil mid.gathered))
+      ∙ ap (λ (s : List ℕ). some.written ++ s) (sym (append_assoc flushed.written new.gathered flushed.lost)
+      ∙ flushed.whole ∙ append-nil mid.gathered))
       ∙ some.whole;
 }
 

@@ -1,5 +1,6 @@
 -- Writing a slice in several goes.
-use Rattle.std.proofs.Common.{◌≡◌, ℕ, ◌+◌, ◌-◌, ◌<◌, ◌≤◌, List, [], ◌∷◌, ◌++◌, length, take, drop, take-add, Option, Result, Ok, refl, sym, ap, ◌∙◌, arith}
+use Rattle.std.proofs.Common.{◌≡◌, ℕ, ◌+◌, ◌-◌, ◌<◌, ◌≤◌, List, [], ◌∷◌, ◌++◌, length, take}
+use Rattle.std.proofs.Common.{drop, take-add, Option, Result, Ok, refl, sym, ap, ◌∙◌, arith}
 use Rattle.std.proofs.lemmas.List.{drop-drop, length-drop, length-take, take_rest, take_all}
 use Rattle.std.specs.Option.{option_map}
 use Rattle.std.proofs.lemmas.Bool.{ne_eqb}
@@ -21,13 +22,17 @@ pub sent_first : (old : Option (List ℕ)) (bytes : List ℕ) → Sent old old b
 sent_first old bytes = record { count = 0; rest_is = refl; taken = appends_nothing old }
 
 -- a write took more
-pub sent_more : (old mid new : Option (List ℕ)) (bytes rest : List ℕ) (n : ℕ) → Sent old mid bytes rest → Appends mid new (take n rest) → Sent old new bytes (drop n rest)
+pub sent_more : (old mid new : Option (List ℕ)) (bytes rest : List ℕ) (n : ℕ) → Sent old mid bytes rest
+    → Appends mid new (take n rest) → Sent old new bytes (drop n rest)
 sent_more old mid new bytes rest n sent writes = record {
   count = sent.count + n;
   rest_is = ap (drop n) sent.rest_is ∙ drop-drop n sent.count bytes;
   taken =
-      let text : take sent.count bytes ++ take n rest ≡ take (sent.count + n) bytes = ap (λ (s : List ℕ). take sent.count bytes ++ take n s) sent.rest_is ∙ sym (take-add sent.count n bytes) in
-      appends_both old mid new (take sent.count bytes) (take n rest) sent.taken writes ∙ ap (λ (s : List ℕ). option_map (λ taken. taken ++ s) old) text;
+      let text : take sent.count bytes ++ take n rest ≡ take (sent.count + n) bytes =
+      ap (λ (s : List ℕ). take sent.count bytes ++ take n s) sent.rest_is
+      ∙ sym (take-add sent.count n bytes) in
+      appends_both old mid new (take sent.count bytes) (take n rest) sent.taken writes
+      ∙ ap (λ (s : List ℕ). option_map (λ taken. taken ++ s) old) text;
 }
 
 -- what was taken is the front
@@ -40,7 +45,8 @@ sent_all old new bytes rest sent ended =
     sent.taken ∙ ap (λ (s : List ℕ). option_map (λ taken. taken ++ s) old) (take_all sent.count bytes past)
 
 -- the same, in the words of a slice's range
-pub sent_range : (old mid new : Option (List ℕ)) (bytes rest : List ℕ) (n : ℕ) → Sent old mid bytes rest → Appends mid new (take n rest) → Sent old new bytes (take (length rest - n) (drop n rest))
+pub sent_range : (old mid new : Option (List ℕ)) (bytes rest : List ℕ) (n : ℕ) → Sent old mid bytes rest
+    → Appends mid new (take n rest) → Sent old new bytes (take (length rest - n) (drop n rest))
 sent_range old mid new bytes rest n sent writes = rw take_rest (sent_more old mid new bytes rest n sent writes)
 
 pub range_shrinks : (rest : List ℕ) (n : ℕ) → n ≤ length rest → (n ≡ 0 → ⊥) → length (take (length rest - n) (drop n rest)) < length rest

@@ -1,11 +1,13 @@
 -- The effect of a read or a write on the bytes that a device specifies, and on its count of failures.
-use Rattle.std.specs.Prelude.{◌≡◌, ℕ, ◌≤◌, List, [], ◌∷◌, ◌++◌, length, take, drop, Option, Result, Ok, Err, IfSome, ◌==◌, if◌then◌else◌}
+use Rattle.std.specs.Prelude.{◌≡◌, ℕ, ◌≤◌, List, [], ◌∷◌, ◌++◌, length, take, drop}
+use Rattle.std.specs.Prelude.{Option, Result, Ok, Err, IfSome, ◌==◌, if◌then◌else◌}
 use Rattle.std.specs.Option.{option_map}
 use Rattle.lgm_script.specs.declared.device.Failed.{Failed}
 
 -- the first n of the remaining bytes were moved to the start of the buffer; an Err moves nothing
 abbrev pub Reads : Option (List ℕ) → Option (List ℕ) → Result ℕ Failed → List ℕ → Type 0
-Reads old new (Ok n) buffer = (new ≡ option_map (drop n) old) × IfSome old (λ left. (n ≤ length left) × (take n buffer ≡ take n left))
+Reads old new (Ok n) buffer =
+    (new ≡ option_map (drop n) old) × IfSome old (λ left. (n ≤ length left) × (take n buffer ≡ take n left))
 Reads old new (Err e) buffer = new ≡ old
 
 -- no byte is left, if the device specifies that

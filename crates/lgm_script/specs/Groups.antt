@@ -12,7 +12,8 @@ use Rattle.lgm_script.specs.Lines.{IsFirstLine}
 abbrev pub AreFirstLines : List ℕ → Option (List ℕ) → List (List ℕ) → List ℕ → Type 0
 AreFirstLines buffered left [] rest = rest ≡ buffered
 AreFirstLines buffered left (line ∷ lines) rest =
-    (line ≡ take (length line) buffered) × IsFirstLine buffered left (length line) × AreFirstLines (drop (length line + 1) buffered) left lines rest
+    (line ≡ take (length line) buffered) × IsFirstLine buffered left (length line)
+    × AreFirstLines (drop (length line + 1) buffered) left lines rest
 
 -- what a line of that kind can request; whatever its first word is, it may be malformed
 abbrev pub IsOfKind : Kind → Request → Type 0

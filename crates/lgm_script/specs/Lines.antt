@@ -1,5 +1,6 @@
 -- The lines of a script, and how far it was read.
-use Rattle.std.specs.Prelude.{Bool, ◌≡◌, ◌≢◌, ◌⊎◌, ℕ, ◌+◌, ◌<◌, ◌≤◌, List, [], ◌∷◌, ◌++◌, Option, IfSome, All, length, take, drop, ◌==◌, if◌then◌else◌}
+use Rattle.std.specs.Prelude.{Bool, ◌≡◌, ◌≢◌, ◌⊎◌, ℕ, ◌+◌, ◌<◌, ◌≤◌, List, [], ◌∷◌, ◌++◌, Option}
+use Rattle.std.specs.Prelude.{IfSome, All, length, take, drop, ◌==◌, if◌then◌else◌}
 use Rattle.std.specs.Option.{option_map}
 use Rattle.lgm_script.specs.Device.{IsAtEnd}
 
@@ -32,8 +33,11 @@ ahead buffered left = option_map (λ bytes. buffered ++ bytes) left
 pub record IsFirstLine (buffered : List ℕ) (left : Option (List ℕ)) (len : ℕ) : Type 0 where
   pub within : len ≤ length buffered
   pub one : HasNoLineFeed (take len buffered)
-  pub ends : (drop len buffered ≡ line_feed ∷ drop (len + 1) buffered) ⊎ ((len ≡ length buffered) × (0 < len) × IsAtEnd left)
+  pub ends : (drop len buffered ≡ line_feed ∷ drop (len + 1) buffered)
+      ⊎ ((len ≡ length buffered) × (0 < len) × IsAtEnd left)
 
 -- there is a first line, and it is longer than that
 abbrev pub IsLongerThan : ℕ → Option (List ℕ) → Type 0
-IsLongerThan most input = IfSome input (λ bytes. (line : List ℕ) × (others : List (List ℕ)) × (lines_of bytes ≡ line ∷ others) × (most < length line))
+IsLongerThan most input =
+    IfSome input (λ bytes. (line : List ℕ) × (others : List (List ℕ)) × (lines_of bytes ≡ line ∷ others)
+    × (most < length line))

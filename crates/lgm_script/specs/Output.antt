@@ -45,8 +45,10 @@ abbrev pub Sends : {W : Type 0} → (W → Option (List ℕ)) → (W → ℕ) �
 Sends taken failures old new text = Tells (seen taken failures old) (seen taken failures new) text
 
 -- a prefix of a text was written to an output, and then this fault came
-abbrev pub SendsPart : {W : Type 0} → (W → Option (List ℕ)) → (W → ℕ) → Output W → Output W → List ℕ → SendFault → Type 0
-SendsPart taken failures old new text fault = TellsPart (seen taken failures old) (seen taken failures new) text fault
+abbrev pub SendsPart : {W : Type 0} → (W → Option (List ℕ)) → (W → ℕ) → Output W → Output W → List ℕ
+    → SendFault → Type 0
+SendsPart taken failures old new text fault =
+    TellsPart (seen taken failures old) (seen taken failures new) text fault
 
 -- a prefix of a text was written, whatever came then
 pub record TellsSome (old new : Told) (text : List ℕ) : Type 0 where

@@ -1,5 +1,6 @@
 -- What a line requests.
-use Rattle.std.specs.Prelude.{ℕ, ◌<◌, List, [], ◌∷◌, length, take, drop, Option, Some, None, unwrap_or, codes, nat_eq, ◌==◌, ◌||◌, if◌then◌else◌}
+use Rattle.std.specs.Prelude.{ℕ, ◌<◌, List, [], ◌∷◌, length, take, drop, Option, Some, None}
+use Rattle.std.specs.Prelude.{unwrap_or, codes, nat_eq, ◌==◌, ◌||◌, if◌then◌else◌}
 use Rattle.std.specs.List.{starts_with}
 use Rattle.std.specs.Option.{option_map}
 use Rattle.std.specs.Cmp.Lexicographic.{pointwise}
@@ -25,11 +26,15 @@ HasLawfulPeer _ = Unit {0}
 -- the forms of the grammar: a word, and the fields after it
 abbrev pub form_of : List ℕ → Option Request
 form_of line =
-    if pointwise nat_eq (take 2 line) (codes "m ") then option_map (λ item. requests.Offer item) (gossip_of (fields_of 32 (drop 2 line)))
-    else if pointwise nat_eq (take 6 line) (codes "close ") then option_map (λ item. requests.Offer item) (close_of (fields_of 32 (drop 6 line)))
-    else if pointwise nat_eq (take 2 line) (codes "q ") then option_map (λ bytes. requests.Query bytes) (bytes_of (drop 2 line))
+    if pointwise nat_eq (take 2 line) (codes "m ")
+    then option_map (λ item. requests.Offer item) (gossip_of (fields_of 32 (drop 2 line)))
+    else if pointwise nat_eq (take 6 line) (codes "close ")
+    then option_map (λ item. requests.Offer item) (close_of (fields_of 32 (drop 6 line)))
+    else if pointwise nat_eq (take 2 line) (codes "q ")
+    then option_map (λ bytes. requests.Query bytes) (bytes_of (drop 2 line))
     else if pointwise nat_eq (take 7 line) (codes "filter ") then filter_of (fields_of 32 (drop 7 line))
-    else if pointwise nat_eq (take 6 line) (codes "route ") then option_map (λ payment. requests.Route payment) (payment_of (fields_of 32 (drop 6 line)))
+    else if pointwise nat_eq (take 6 line) (codes "route ")
+    then option_map (λ payment. requests.Route payment) (payment_of (fields_of 32 (drop 6 line)))
     else if pointwise nat_eq line (codes "commit") then Some requests.Commit
     else None
 

@@ -23,12 +23,15 @@ message_line number peer message = lead number peer ++ encode_lower message ++ c
 -- N route SENT EXPIRY K
 abbrev pub route_line : ℕ → ℕ → ℕ → ℕ → List ℕ
 route_line number sent expiry count =
-    decimal number ++ codes " route " ++ decimal sent ++ codes " " ++ decimal expiry ++ codes " " ++ decimal count ++ codes "\n"
+    decimal number ++ codes " route " ++ decimal sent ++ codes " " ++ decimal expiry ++ codes " "
+    ++ decimal count ++ codes "\n"
 
 -- a channel id, from its number: BLOCKxINDEXxOUTPUT
 abbrev pub scid_text : ℕ → List ℕ
-scid_text id = decimal (id / 2 ^ 40) ++ codes "x" ++ decimal (id / 2 ^ 16 % 2 ^ 24) ++ codes "x" ++ decimal (id % 2 ^ 16)
+scid_text id =
+    decimal (id / 2 ^ 40) ++ codes "x" ++ decimal (id / 2 ^ 16 % 2 ^ 24) ++ codes "x" ++ decimal (id % 2 ^ 16)
 
 -- N hop SCID HEX
 abbrev pub hop_line : ℕ → ℕ → List ℕ → List ℕ
-hop_line number id payload = decimal number ++ codes " hop " ++ scid_text id ++ codes " " ++ encode_lower payload ++ codes "\n"
+hop_line number id payload =
+    decimal number ++ codes " hop " ++ scid_text id ++ codes " " ++ encode_lower payload ++ codes "\n"

@@ -1,7 +1,8 @@
 //! Devices: where a script is read from, and where answers are written to.
 
 ghost use Rattle.std.specs.Prelude.{◌≡◌, ℕ, ◌+◌, ◌≤◌, ◌<◌, ◌^◌, List, Option, length, IfOk, OnOk, OnErr};
-ghost use Rattle.lgm_script.specs.Device.{Reads, IsAtEnd, Writes, Appends, AppendsSome, read_failures, write_failures};
+ghost use Rattle.lgm_script.specs.Device.{Reads, IsAtEnd, Writes, Appends, AppendsSome};
+ghost use Rattle.lgm_script.specs.Device.{read_failures, write_failures};
 
 use thiserror::Error;
 

@@ -61,7 +61,8 @@ impl<'a> Fields<'a> {
 
 /// The text before the last separator, and the field after it.
 pub fn cut_last(separator: u8, text: &[u8]) -> Option<(&[u8], &[u8])>
-    ensures some { IfSome result (λ parts. fields_of separator text.now ≡ fields_of separator parts.0.now ++ parts.1.now ∷ []) }
+    ensures some { IfSome result
+        (λ parts. fields_of separator text.now ≡ fields_of separator parts.0.now ++ parts.1.now ∷ []) }
     ensures none { IfNone result (fields_of separator text.now ≡ text.now ∷ []) }
 {
     let Some(end) = memrchr(separator, text) else {

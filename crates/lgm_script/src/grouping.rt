@@ -1,6 +1,7 @@
 //! Lines that are answered together.
 
-ghost use Rattle.std.specs.Prelude.{◌≡◌, ◌+◌, ◌≤◌, ◌<◌, ℕ, List, Option, length, map, take, drop, false, IfOk, IfSome};
+ghost use Rattle.std.specs.Prelude.{◌≡◌, ◌+◌, ◌≤◌, ◌<◌, ℕ, List, Option, length};
+ghost use Rattle.std.specs.Prelude.{map, take, drop, false, IfOk, IfSome};
 ghost use Rattle.std.specs.List.{AllByRecursion, list_any};
 ghost use Rattle.lgm_script.specs.Lines.{IsFirstLine};
 ghost use Rattle.lgm_script.specs.Request.{request_of};
@@ -81,7 +82,8 @@ fn cut(bytes: &[u8], count: usize) -> (&[u8], &[u8])
 
 /// The next line and the bytes after it, if it is complete, within the limit, and of this kind.
 fn next_of_kind(bytes: &[u8], kind: Kind) -> Option<(&[u8], &[u8])>
-    ensures line { IfSome result (λ next. (left : Option (List ℕ)) → IsFirstLine bytes.now left (length next.0.now)) }
+    ensures line { IfSome result
+        (λ next. (left : Option (List ℕ)) → IsFirstLine bytes.now left (length next.0.now)) }
     ensures front { IfSome result (λ next. next.0.now ≡ take (length next.0.now) bytes.now) }
     ensures rest { IfSome result (λ next. next.1.now ≡ drop (length next.0.now + 1) bytes.now) }
     ensures short { IfSome result (λ next. length next.0.now ≤ MAX_LINE) }
@@ -107,8 +109,10 @@ pub fn next_group(
     requires short { first ≤ MAX_LINE }
     requires most { 0 < most }
     ensures lines { IfOk result (λ group. (left : Option (List ℕ)) → IsFirstLine buffered.now left first
-        → AreFirstLines buffered.now left (map (λ line. line.now) group.lines.items) (drop group.len buffered.now)) }
-    ensures short { IfOk result (λ group. AllByRecursion (λ line. length line ≤ MAX_LINE) (map (λ line. line.now) group.lines.items)) }
+        → AreFirstLines buffered.now left (map (λ line. line.now) group.lines.items)
+        (drop group.len buffered.now)) }
+    ensures short { IfOk result (λ group.
+        AllByRecursion (λ line. length line ≤ MAX_LINE) (map (λ line. line.now) group.lines.items)) }
     ensures alike { IfOk result (λ group. AreAlike group.kind (map (λ line. line.now) group.lines.items)) }
     ensures few { IfOk result (λ group. length group.lines.items ≤ most) }
     ensures within { IfOk result (λ group. group.len ≤ length buffered.now) }

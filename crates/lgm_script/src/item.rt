@@ -5,7 +5,8 @@ ghost use Rattle.lgm_script.specs.Field.{fields_of};
 ghost use Rattle.lgm_script.specs.Request.{request_of};
 ghost use Rattle.lgm_script.specs.declared.item.Item.{Item};
 ghost use Rattle.lgm_script.specs.declared.request.Request.TheVariants.{Offer};
-ghost use Rattle.lgm_script.specs.Item.{bytes_of, sig_of, funding_of, evidence_of, gossip_of, scid_of, close_of};
+ghost use Rattle.lgm_script.specs.Item.{bytes_of, sig_of, funding_of, evidence_of};
+ghost use Rattle.lgm_script.specs.Item.{gossip_of, scid_of, close_of};
 
 use crate::field::{number, number_below, point};
 use crate::fields::{Fields, cut_last};
@@ -127,7 +128,8 @@ pub fn close(mut fields: Fields<'_>) -> Option<Item>
 /// The only error is out of memory for the bytes of a message, the only allocation.
 #[tactic(auto, using(crate::proofs::Items::offers_what_its_word_tells))]
 pub fn parse_item(alloc: Global, line: &[u8]) -> Result<Option<Item>, AllocError>
-    ensures { IfOk result (λ offered. (item : Item) → (offered ≡ Some item) ↔ (request_of line.now ≡ Offer item)) }
+    ensures { IfOk result
+        (λ offered. (item : Item) → (offered ≡ Some item) ↔ (request_of line.now ≡ Offer item)) }
 {
     if let Some(text) = line.strip_prefix(b"m ") {
         return gossip(alloc, text);

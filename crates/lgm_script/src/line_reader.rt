@@ -1,6 +1,7 @@
 //! The lines of a script, however its bytes arrive.
 
-ghost use Rattle.std.specs.Prelude.{◌≡◌, ◌+◌, ◌≤◌, ◌<◌, ◌^◌, ◌-◌, [], true, false, List, ℕ, Option, length, take, drop, IfOk, IfSome, IfNone, OnOk, OnErr};
+ghost use Rattle.std.specs.Prelude.{◌≡◌, ◌+◌, ◌≤◌, ◌<◌, ◌^◌, ◌-◌, [], true, false, List, ℕ, Option};
+ghost use Rattle.std.specs.Prelude.{length, take, drop, IfOk, IfSome, IfNone, OnOk, OnErr};
 ghost use Rattle.lgm_script.specs.Device.{IsAtEnd};
 ghost use Rattle.lgm_script.specs.Lines.{ahead, HasNoLineFeed, IsFirstLine};
 

@@ -93,7 +93,8 @@ impl<'a, W: Sink> Output<'a, W> {
         requires { W.failures self.old.writer.now + 1 < 2 ^ 64 }
         ensures writer { self.new.writer.ghost_name ≡ self.old.writer.ghost_name }
         ensures told { OnOk result (Sends W.taken W.failures self.old self.new (word_line number word.now)) }
-        ensures fault { IfErr result (SendsPart W.taken W.failures self.old self.new (word_line number word.now)) }
+        ensures fault { IfErr result
+            (SendsPart W.taken W.failures self.old self.new (word_line number word.now)) }
     {
         append_word(self.gathered, number, word)?;
         self.flush_block()
@@ -104,7 +105,8 @@ impl<'a, W: Sink> Output<'a, W> {
         requires { W.failures self.old.writer.now + 1 < 2 ^ 64 }
         ensures writer { self.new.writer.ghost_name ≡ self.old.writer.ghost_name }
         ensures told { OnOk result (Sends W.taken W.failures self.old self.new (commit_line number count)) }
-        ensures fault { IfErr result (SendsPart W.taken W.failures self.old self.new (commit_line number count)) }
+        ensures fault { IfErr result
+            (SendsPart W.taken W.failures self.old self.new (commit_line number count)) }
     {
         append_count(self.gathered, number, count)?;
         self.flush_block()
@@ -119,8 +121,10 @@ impl<'a, W: Sink> Output<'a, W> {
     ) -> Result<(), SendFault>
         requires { W.failures self.old.writer.now + 1 < 2 ^ 64 }
         ensures writer { self.new.writer.ghost_name ≡ self.old.writer.ghost_name }
-        ensures told { OnOk result (Sends W.taken W.failures self.old self.new (message_line number peer message.now)) }
-        ensures fault { IfErr result (SendsPart W.taken W.failures self.old self.new (message_line number peer message.now)) }
+        ensures told { OnOk result
+            (Sends W.taken W.failures self.old self.new (message_line number peer message.now)) }
+        ensures fault { IfErr result
+            (SendsPart W.taken W.failures self.old self.new (message_line number peer message.now)) }
     {
         append_message(self.gathered, number, peer, message)?;
         self.flush_block()
@@ -137,8 +141,10 @@ impl<'a, W: Sink> Output<'a, W> {
     ) -> Result<(), SendFault>
         requires { W.failures self.old.writer.now + 1 < 2 ^ 64 }
         ensures writer { self.new.writer.ghost_name ≡ self.old.writer.ghost_name }
-        ensures told { OnOk result (Sends W.taken W.failures self.old self.new (route_line number sent expiry count)) }
-        ensures fault { IfErr result (SendsPart W.taken W.failures self.old self.new (route_line number sent expiry count)) }
+        ensures told { OnOk result
+            (Sends W.taken W.failures self.old self.new (route_line number sent expiry count)) }
+        ensures fault { IfErr result
+            (SendsPart W.taken W.failures self.old self.new (route_line number sent expiry count)) }
     {
         append_route(self.gathered, number, sent, expiry, count)?;
         self.flush_block()
@@ -148,8 +154,10 @@ impl<'a, W: Sink> Output<'a, W> {
     pub fn send_hop(&mut self, number: u64, scid: Scid, payload: &[u8]) -> Result<(), SendFault>
         requires { W.failures self.old.writer.now + 1 < 2 ^ 64 }
         ensures writer { self.new.writer.ghost_name ≡ self.old.writer.ghost_name }
-        ensures told { OnOk result (Sends W.taken W.failures self.old self.new (hop_line number scid payload.now)) }
-        ensures fault { IfErr result (SendsPart W.taken W.failures self.old self.new (hop_line number scid payload.now)) }
+        ensures told { OnOk result
+            (Sends W.taken W.failures self.old self.new (hop_line number scid payload.now)) }
+        ensures fault { IfErr result
+            (SendsPart W.taken W.failures self.old self.new (hop_line number scid payload.now)) }
     {
         append_hop(self.gathered, number, scid, payload)?;
         self.flush_block()

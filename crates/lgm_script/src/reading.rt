@@ -1,6 +1,7 @@
 //! The next line of a script. All answers are written before the source is read.
 
-ghost use Rattle.std.specs.Prelude.{◌≡◌, ◌≢◌, ◌+◌, ◌≤◌, ◌<◌, ◌^◌, [], true, false, length, take, IfOk, IfErr, IfSome, IsErrOf, OnOk};
+ghost use Rattle.std.specs.Prelude.{◌≡◌, ◌≢◌, ◌+◌, ◌≤◌, ◌<◌, ◌^◌, [], true, false, length};
+ghost use Rattle.std.specs.Prelude.{take, IfOk, IfErr, IfSome, IsErrOf, OnOk};
 ghost use Rattle.lgm_script.specs.Device.{IsAtEnd};
 ghost use Rattle.lgm_script.specs.Lines.{ahead, IsFirstLine, IsLongerThan};
 ghost use Rattle.lgm_script.specs.Output.{Sends, SendsPart};
@@ -36,7 +37,8 @@ fn read_on<R: Source, W: Sink>(
     ensures same { result ≡ Ok false → lines.new ≡ lines.old }
     ensures end { result ≡ Ok false → IsAtEnd (R.left source.new) }
     ensures told { result ≢ Err LineFault.Write → Sends W.taken W.failures output.old output.new [] }
-    ensures write { result ≡ Err LineFault.Write → SendsPart W.taken W.failures output.old output.new [] SendFault.Write }
+    ensures write { result ≡ Err LineFault.Write
+        → SendsPart W.taken W.failures output.old output.new [] SendFault.Write }
     ensures read { result ≡ Err LineFault.Read → R.failures source.old < R.failures source.new }
     ensures well { result ≢ Err LineFault.Read → R.failures source.new ≡ R.failures source.old }
     ensures short { result ≢ Err LineFault.TooLong }
@@ -66,9 +68,11 @@ pub fn next_line<R: Source, W: Sink>(
     ensures line { IfOk result (λ found. IfSome found (IsFirstLine lines.new (R.left source.new))) }
     ensures short { IfOk result (λ found. IfSome found (λ count. count ≤ MAX_LINE)) }
     ensures end { result ≡ Ok None → IsAtEnd (ahead lines.new (R.left source.new)) }
-    ensures too_long { result ≡ Err LineFault.TooLong → IsLongerThan MAX_LINE (ahead lines.new (R.left source.new)) }
+    ensures too_long { result ≡ Err LineFault.TooLong
+        → IsLongerThan MAX_LINE (ahead lines.new (R.left source.new)) }
     ensures told { result ≢ Err LineFault.Write → Sends W.taken W.failures output.old output.new [] }
-    ensures write { result ≡ Err LineFault.Write → SendsPart W.taken W.failures output.old output.new [] SendFault.Write }
+    ensures write { result ≡ Err LineFault.Write
+        → SendsPart W.taken W.failures output.old output.new [] SendFault.Write }
     ensures read { result ≡ Err LineFault.Read → R.failures source.old < R.failures source.new }
     ensures well { result ≢ Err LineFault.Read → R.failures source.new ≡ R.failures source.old }
 {
@@ -105,7 +109,8 @@ pub fn more_begins<R: Source, W: Sink>(
     ensures more { result ≡ Ok true → 0 < length lines.new }
     ensures end { result ≡ Ok false → IsAtEnd (ahead lines.new (R.left source.new)) }
     ensures told { result ≢ Err LineFault.Write → Sends W.taken W.failures output.old output.new [] }
-    ensures write { result ≡ Err LineFault.Write → SendsPart W.taken W.failures output.old output.new [] SendFault.Write }
+    ensures write { result ≡ Err LineFault.Write
+        → SendsPart W.taken W.failures output.old output.new [] SendFault.Write }
     ensures read { result ≡ Err LineFault.Read → R.failures source.old < R.failures source.new }
     ensures well { result ≢ Err LineFault.Read → R.failures source.new ≡ R.failures source.old }
     ensures short { result ≢ Err LineFault.TooLong }

@@ -3,7 +3,8 @@
 ghost use Rattle.std.specs.Prelude.{◌≡◌, ◌++◌, List, ℕ, codes, OnOk, OnErr};
 ghost use Rattle.std.specs.Fmt.{decimal};
 ghost use Rattle.hex.specs.Hex.{encode_lower};
-ghost use Rattle.lgm_script.specs.Text.{word_line, commit_line, lead, message_line, route_line, scid_text, hop_line};
+ghost use Rattle.lgm_script.specs.Text.{word_line, commit_line, lead, message_line};
+ghost use Rattle.lgm_script.specs.Text.{route_line, scid_text, hop_line};
 ghost use Rattle.lgm_script.specs.inner.Front.{IsFront};
 
 use lgm_gossip::Scid;

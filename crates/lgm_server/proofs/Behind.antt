@@ -13,18 +13,22 @@ use Rattle.lgm_script.proofs.FirstLines.{each-push}
 use Rattle.lgm_server.proofs.Keeping.{turn_tells}
 
 -- an operation more
-accepted_behind : (rows new committed : Rows) (pending pushed : List Op) (op : Op) → new ≡ absorbed rows op → pushed ≡ pending ++ op ∷ [] → TellsKey op
+accepted_behind : (rows new committed : Rows) (pending pushed : List Op) (op : Op) → new ≡ absorbed rows op
+    → pushed ≡ pending ++ op ∷ [] → TellsKey op
     → IsBehind rows committed pending → IsBehind new committed pushed
 accepted_behind rows new committed pending pushed op absorbs pushes tells old =
     let tell = each-push TellsKey pending op old.pending_tells tells in
     record {
-      behind = absorbs ∙ ap (λ before. absorbed before op) old.behind ∙ sym (fold_from-push committed pending op) ∙ ap (fold_from committed) (sym pushes);
+      behind =
+          absorbs ∙ ap (λ before. absorbed before op) old.behind ∙ sym (fold_from-push committed pending op)
+          ∙ ap (fold_from committed) (sym pushes);
       committed_tells = old.committed_tells;
       pending_tells = rw pushes tell;
     }
 
 -- an item was offered
-pub offered_behind : (item : Offered) → WasChecked item → (rows new committed : Rows) (pending pushed : List Op) → Keeps (outcome_on rows item) rows new pending pushed
+pub offered_behind : (item : Offered) → WasChecked item → (rows new committed : Rows)
+    (pending pushed : List Op) → Keeps (outcome_on rows item) rows new pending pushed
     → IsBehind rows committed pending → IsBehind new committed pushed
 offered_behind item was rows new committed pending pushed keeps old = by (outcome_on rows item) refl keeps
   where

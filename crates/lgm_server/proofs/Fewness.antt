@@ -22,12 +22,15 @@ kept_few p (x ∷ xs) = by (p x) (kept_few p xs)
     by false few = omega (arith, few)
 
 -- those before and those behind
-sides_few : {X : Type 0} (order : X → Ordering) (xs : List X) → length (filter (λ x. is_lt (order x)) xs) + length (filter (λ x. is_gt (order x)) xs) ≤ length xs
+sides_few : {X : Type 0} (order : X → Ordering) (xs : List X)
+    → length (filter (λ x. is_lt (order x)) xs) + length (filter (λ x. is_gt (order x)) xs) ≤ length xs
 sides_few order [] = omega arith
 sides_few order (x ∷ xs) = by (order x) (sides_few order xs)
   where
     by : (o : Ordering) → length (filter (λ y. is_lt (order y)) xs) + length (filter (λ y. is_gt (order y)) xs) ≤ length xs
-        → length (cond (is_lt o) (x ∷ filter (λ y. is_lt (order y)) xs) (filter (λ y. is_lt (order y)) xs)) + length (cond (is_gt o) (x ∷ filter (λ y. is_gt (order y)) xs) (filter (λ y. is_gt (order y)) xs)) ≤ length (x ∷ xs)
+        → length (cond (is_lt o) (x ∷ filter (λ y. is_lt (order y)) xs) (filter (λ y. is_lt (order y)) xs))
+        + length (cond (is_gt o) (x ∷ filter (λ y. is_gt (order y)) xs) (filter (λ y. is_gt (order y)) xs))
+        ≤ length (x ∷ xs)
     by Less few = omega (arith, few)
     by Equal few = omega (arith, few)
     by Greater few = omega (arith, few)
@@ -36,20 +39,25 @@ put_few : {X : Type 0} (order : X → X → Ordering) (xs : List X) (x : X) → 
 put_few order xs x =
     omega (arith, sides_few (λ y. order y x) xs, length-append (filter (λ y. is_lt (order y x)) xs) (x ∷ filter (λ y. is_gt (order y x)) xs))
 
-either_few : (b : Bool) (rows others : Rows) (most : ℕ) → length rows.channels ≤ most → length others.channels ≤ most → length (cond b rows others).channels ≤ most
+either_few : (b : Bool) (rows others : Rows) (most : ℕ) → length rows.channels ≤ most
+    → length others.channels ≤ most → length (cond b rows others).channels ≤ most
 either_few true rows others most few fewer = few
 either_few false rows others most few fewer = fewer
 
 -- an operation adds one channel at most
 absorbed_few : (rows : Rows) (op : Op) → length (absorbed rows op).channels ≤ length rows.channels + 1
 absorbed_few rows (ops.Channel row) =
-    either_few (is_some (channel_of rows.channels row.message.short_channel_id) || ends_banned rows.banned row) rows (record rows { channels = put by_id rows.channels row })
+    either_few (is_some (channel_of rows.channels row.message.short_channel_id)
+    || ends_banned rows.banned row) rows (record rows { channels = put by_id rows.channels row })
     (length rows.channels + 1) (omega arith) (put_few by_id rows.channels row)
 absorbed_few rows (ops.Update row) =
-    either_few (is_some (channel_of rows.channels row.message.short_channel_id)) (record rows { updates = put by_direction rows.updates row }) rows (length rows.channels + 1)
+    either_few (is_some (channel_of rows.channels row.message.short_channel_id))
+    (record rows { updates = put by_direction rows.updates row }) rows (length rows.channels + 1)
     (omega arith) (omega arith)
 absorbed_few rows (ops.Node row) =
-    either_few (ends_channel rows.channels row.message.node_id) (record rows { nodes = put by_node rows.nodes row }) rows (length rows.channels + 1) (omega arith) (omega arith)
+    either_few (ends_channel rows.channels row.message.node_id) (record rows {
+      nodes = put by_node rows.nodes row;
+    }) rows (length rows.channels + 1) (omega arith) (omega arith)
 absorbed_few rows (ops.Close id) =
     either_few (is_some (channel_of rows.channels id))
     (record {

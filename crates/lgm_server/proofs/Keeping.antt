@@ -37,7 +37,8 @@ offers_gives answer (Ok op) offers = elim offers [ inl e ↦ rw e refl | inr e �
 offers_gives answer (Err refusal) offers = rw offers (inr refl)
 
 -- a message in its turn
-pub message_offers : (rows : Rows) (item : Offered) (checked : Checked) (answer : Result Op Refusal) → item ≡ Message checked → Offers answer (admitted rows checked)
+pub message_offers : (rows : Rows) (item : Offered) (checked : Checked) (answer : Result Op Refusal)
+    → item ≡ Message checked → Offers answer (admitted rows checked)
     → Gives refusals.NoMemory (λ op. op) answer (outcome_on rows item)
 unfolding outcome_on
 message_offers rows item checked answer is offers = rw is (offers_gives answer (admitted rows checked) offers)

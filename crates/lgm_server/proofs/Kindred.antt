@@ -21,7 +21,8 @@ use Rattle.lgm_server.proofs.Keeping.{outcome_checked}
 
 -- ---- items
 
-pub item_leaves : (chain : ChainHash) (state : State) (request : Request) → IsOfKind kinds.Item request → state_by state (offered_in chain request) ≡ state_after chain state request
+pub item_leaves : (chain : ChainHash) (state : State) (request : Request) → IsOfKind kinds.Item request
+    → state_by state (offered_in chain request) ≡ state_after chain state request
 item_leaves chain state requests.Bad kind = refl
 item_leaves chain state (requests.Offer item) kind = ap (state_behind state) (sym (outcome_checked chain state.rows item))
 item_leaves chain state requests.Quiet kind = absurd kind
@@ -30,9 +31,11 @@ item_leaves chain state (requests.Query bytes) kind = absurd kind
 item_leaves chain state (requests.Filter peer bytes) kind = absurd kind
 item_leaves chain state (requests.Route payment) kind = absurd kind
 
-pub item_is_told : (chain : ChainHash) (number : ℕ) (state : State) (request : Request) → IsOfKind kinds.Item request → offered_text number state.rows (offered_in chain request) ≡ text_for chain number state request
+pub item_is_told : (chain : ChainHash) (number : ℕ) (state : State) (request : Request) → IsOfKind kinds.Item
+    request → offered_text number state.rows (offered_in chain request) ≡ text_for chain number state request
 item_is_told chain number state requests.Bad kind = refl
-item_is_told chain number state (requests.Offer item) kind = ap (λ outcome. outcome_text number (result_err outcome)) (sym (outcome_checked chain state.rows item))
+item_is_told chain number state (requests.Offer item) kind =
+    ap (λ outcome. outcome_text number (result_err outcome)) (sym (outcome_checked chain state.rows item))
 item_is_told chain number state requests.Quiet kind = absurd kind
 item_is_told chain number state requests.Commit kind = absurd kind
 item_is_told chain number state (requests.Query bytes) kind = absurd kind
@@ -54,7 +57,8 @@ was_checked_if chain request (Some item) is = was_checked chain request item (sy
 
 -- ---- questions
 
-question_leaves : (chain : ChainHash) (state : State) (request : Request) → IsOfKind kinds.Question request → record state { filters = filters_after chain state.filters request } ≡ state_after chain state request
+question_leaves : (chain : ChainHash) (state : State) (request : Request) → IsOfKind kinds.Question request
+    → record state { filters = filters_after chain state.filters request } ≡ state_after chain state request
 question_leaves chain state requests.Bad kind = refl
 question_leaves chain state (requests.Query bytes) kind = refl
 question_leaves chain state (requests.Filter peer bytes) kind = refl
@@ -63,7 +67,9 @@ question_leaves chain state requests.Quiet kind = absurd kind
 question_leaves chain state requests.Commit kind = absurd kind
 question_leaves chain state (requests.Offer item) kind = absurd kind
 
-question_is_told : (chain : ChainHash) (number : ℕ) (state : State) (request : Request) → IsOfKind kinds.Question request → question_text chain state.known state.committed number request ≡ text_for chain number state request
+question_is_told : (chain : ChainHash) (number : ℕ) (state : State) (request : Request)
+    → IsOfKind kinds.Question request
+    → question_text chain state.known state.committed number request ≡ text_for chain number state request
 question_is_told chain number state requests.Bad kind = refl
 question_is_told chain number state (requests.Query bytes) kind = refl
 question_is_told chain number state (requests.Filter peer bytes) kind = refl
@@ -84,14 +90,16 @@ pub questions_are_told : (chain : ChainHash) (number : ℕ) (state : State) (ask
     → questions_text chain state.known state.committed number state.filters asked ≡ text_from chain number state asked
 questions_are_told chain number state [] kind = refl
 questions_are_told chain number state (request ∷ asked) kind =
-    ap (λ text. text ++ questions_text chain state.known state.committed (number + 1) (filters_after chain state.filters request) asked) (question_is_told chain number state request kind.0)
+    ap (λ text. text ++ questions_text chain state.known state.committed (number + 1) (filters_after chain
+    state.filters request) asked) (question_is_told chain number state request kind.0)
     ∙ ap (λ text. text_for chain number state request ++ text)
     (questions_are_told chain (number + 1) (record state { filters = filters_after chain state.filters request }) asked kind.1
     ∙ ap (λ s. text_from chain (number + 1) s asked) (question_leaves chain state request kind.0))
 
 -- ---- lines that stand alone
 
-pub alone_leaves : (chain : ChainHash) (state : State) (request : Request) → IsOfKind kinds.Other request → state_alone state request ≡ state_after chain state request
+pub alone_leaves : (chain : ChainHash) (state : State) (request : Request) → IsOfKind kinds.Other request
+    → state_alone state request ≡ state_after chain state request
 alone_leaves chain state requests.Quiet kind = refl
 alone_leaves chain state requests.Bad kind = refl
 alone_leaves chain state requests.Commit kind = refl
@@ -100,7 +108,8 @@ alone_leaves chain state (requests.Query bytes) kind = absurd kind
 alone_leaves chain state (requests.Filter peer bytes) kind = absurd kind
 alone_leaves chain state (requests.Route payment) kind = absurd kind
 
-pub alone_is_told : (chain : ChainHash) (number : ℕ) (state : State) (request : Request) → IsOfKind kinds.Other request → text_alone number state request ≡ text_for chain number state request
+pub alone_is_told : (chain : ChainHash) (number : ℕ) (state : State) (request : Request)
+    → IsOfKind kinds.Other request → text_alone number state request ≡ text_for chain number state request
 alone_is_told chain number state requests.Quiet kind = refl
 alone_is_told chain number state requests.Bad kind = refl
 alone_is_told chain number state requests.Commit kind = refl
@@ -117,7 +126,8 @@ asked_texts [] = refl
 asked_texts (line ∷ lines) = ap (λ asked. request_of line.now ∷ asked) (asked_texts lines)
 
 -- lines of a kind ask for what that kind can ask
-pub kinds_of : (kind : Kind) (lines : List (Bor (List ℕ))) → AllByRecursion (λ line. IsOfKind kind (request_of line)) (map (λ line. line.now) lines) → AllByRecursion (IsOfKind kind) (asked_in lines)
+pub kinds_of : (kind : Kind) (lines : List (Bor (List ℕ))) → AllByRecursion (λ line. IsOfKind kind
+    (request_of line)) (map (λ line. line.now) lines) → AllByRecursion (IsOfKind kind) (asked_in lines)
 kinds_of kind [] all = tt
 kinds_of kind (line ∷ lines) all = (all.0, kinds_of kind lines all.1)
 
@@ -128,15 +138,21 @@ asked_alone (line ∷ []) d one = refl
 asked_alone (line ∷ other ∷ lines) d one = absurd (omega (arith, one))
 
 -- what a line that stands alone leaves, and is told
-module _ {T E : Type 0} (result : Result T E) (chain : ChainHash) (number : ℕ) (state : State) (request : Request) (asked : List Request) (one : asked ≡ request ∷ []) (kind : IsOfKind kinds.Other request) where
+module _ {T E : Type 0} (result : Result T E) (chain : ChainHash) (number : ℕ) (state : State)
+    (request : Request) (asked : List Request) (one : asked ≡ request ∷ [])
+    (kind : IsOfKind kinds.Other request) where
   pub other_leaves : (new : State) → OnOk result (new ≡ state_alone state request) → OnOk result (new ≡ state_from chain state asked)
   other_leaves new is = subst (λ s. OnOk result (new ≡ s)) (alone_leaves chain state request kind ∙ ap (state_from chain state) (sym one)) is
 
   text_is : text_alone number state request ≡ text_from chain number state asked
-  text_is = alone_is_told chain number state request kind ∙ sym (append-nil (text_for chain number state request)) ∙ ap (text_from chain number state) (sym one)
+  text_is =
+      alone_is_told chain number state request kind ∙ sym (append-nil (text_for chain number state request))
+      ∙ ap (text_from chain number state) (sym one)
 
-  pub other_is_told : (Tells : List ℕ → Type 0) → OnOk result (Tells (text_alone number state request)) → OnOk result (Tells (text_from chain number state asked))
+  pub other_is_told : (Tells : List ℕ → Type 0) → OnOk result (Tells (text_alone number state request))
+      → OnOk result (Tells (text_from chain number state asked))
   other_is_told Tells told = subst (λ t. OnOk result (Tells t)) text_is told
 
-  pub other_begins : (Tells : List ℕ → E → Type 0) → IfErr result (Tells (text_alone number state request)) → IfErr result (Tells (text_from chain number state asked))
+  pub other_begins : (Tells : List ℕ → E → Type 0) → IfErr result (Tells (text_alone number state request))
+      → IfErr result (Tells (text_from chain number state asked))
   other_begins Tells told = subst (λ t. IfErr result (Tells t)) text_is told

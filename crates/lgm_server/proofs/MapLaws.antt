@@ -36,20 +36,23 @@ goes_on-trans (views.Behind view) (views.Behind other) (views.Beside third) firs
 goes_on-trans (views.Behind view) (views.Beside other) c first then = absurd first
 
 -- and so where nothing is due
-pub shows_none_due : (known : Option (List ℕ)) (rows committed : Rows) (due : List Op) (kept : Kept) → ShowsAs known rows due committed kept → due ≡ []
+pub shows_none_due : (known : Option (List ℕ)) (rows committed : Rows) (due : List Op) (kept : Kept)
+    → ShowsAs known rows due committed kept → due ≡ []
     → ShowsAs known committed [] committed kept
 shows_none_due known rows committed due views.Blank shows none = tt
 shows_none_due known rows committed due (views.Behind view) shows none = absurd (shows.1 none)
 shows_none_due known rows committed due (views.Beside view) shows none = shows
 
 -- a view of the committed rows, whatever is due
-pub committed_shows : (known : Option (List ℕ)) (rows committed : Rows) (due : List Op) (kept : Kept) → ShowsAs known committed [] committed kept → ShowsAs known rows due committed kept
+pub committed_shows : (known : Option (List ℕ)) (rows committed : Rows) (due : List Op) (kept : Kept)
+    → ShowsAs known committed [] committed kept → ShowsAs known rows due committed kept
 committed_shows known rows committed due views.Blank shows = tt
 committed_shows known rows committed due (views.Behind view) shows = absurd (shows.1 refl)
 committed_shows known rows committed due (views.Beside view) shows = shows
 
 -- beside the committed map any question can be answered, and without a view all but routes
-pub ready_for : (known : Option (List ℕ)) (rows committed : Rows) (due : List Op) (kept : Kept) (request : Request) → ShowsAs known rows due committed kept
+pub ready_for : (known : Option (List ℕ)) (rows committed : Rows) (due : List Op) (kept : Kept)
+    (request : Request) → ShowsAs known rows due committed kept
     → IsBeside kept ⊎ IsNoRoute request → IsReadyAs known committed kept request
 ready_for known rows committed due views.Blank request shows (inl beside) = absurd beside
 ready_for known rows committed due views.Blank request shows (inr none) = none
@@ -60,7 +63,8 @@ ready_for known rows committed due (views.Beside view) request shows either = sh
 -- ---- both maps
 
 -- the map that is behind did some of what is due
-pub leveled_kept : (map map' committed : Rows) (due due' pending : List Op) (chart chart' : Chart) → AreKept map due committed pending chart → fold_from map' due' ≡ fold_from map due
+pub leveled_kept : (map map' committed : Rows) (due due' pending : List Op) (chart chart' : Chart)
+    → AreKept map due committed pending chart → fold_from map' due' ≡ fold_from map due
     → ShowsAs chart'.known map' due' committed chart'.kept → (due' ≡ []) ⊎ (pending ≡ []) → AreKept map' due' committed pending chart'
 leveled_kept map map' committed due due' pending chart chart' old rows shows one = record {
   behind = subst (λ r. IsBehind r committed pending) (sym rows) old.behind;
@@ -69,9 +73,13 @@ leveled_kept map map' committed due due' pending chart chart' old rows shows one
 }
 
 -- the maps change places
-pub committed_kept : (map map' committed committed' : Rows) (due due' pending pending' : List Op) (chart chart' : Chart) → AreKept map due committed pending chart → pending ≢ []
-    → map' ≡ committed → committed' ≡ map → due' ≡ pending → pending' ≡ due → chart'.known ≡ chart.known → chart'.kept ≡ turned_behind chart.kept → AreKept map' due' committed' pending' chart'
-committed_kept map map' committed committed' due due' pending pending' chart chart' old some map_is committed_is due_is pending_is known_is kept_is = by old.one
+pub committed_kept : (map map' committed committed' : Rows) (due due' pending pending' : List Op)
+    (chart chart' : Chart) → AreKept map due committed pending chart → pending ≢ []
+    → map' ≡ committed → committed' ≡ map → due' ≡ pending → pending' ≡ due → chart'.known ≡ chart.known
+    → chart'.kept ≡ turned_behind chart.kept → AreKept map' due' committed' pending' chart'
+committed_kept map map' committed committed' due due' pending pending' chart chart' old some map_is
+    committed_is due_is pending_is known_is kept_is =
+    by old.one
   where
     by : (due ≡ []) ⊎ (pending ≡ []) → AreKept map' due' committed' pending' chart'
     by (inr none) = absurd (some none)
@@ -100,10 +108,12 @@ offered_kept item was map new committed due pending pushed chart none keeps old 
   shows = committed_shows chart.known new committed due chart.kept (shows_none_due chart.known map committed due chart.kept old.shows none);
 }
 
-pub after_offer : {T E : Type 0} (result : Result T E) (item : Offered) → WasChecked item → (map new committed : Rows) (due pending pushed : List Op) (chart : Chart) → due ≡ []
+pub after_offer : {T E : Type 0} (result : Result T E) (item : Offered) → WasChecked item
+    → (map new committed : Rows) (due pending pushed : List Op) (chart : Chart) → due ≡ []
     → OnOk result (Keeps (outcome_on map item) map new pending pushed) → OnErr result (new ≡ map) → OnErr result (pushed ≡ pending)
     → AreKept map due committed pending chart → AreKept new due committed pushed chart
-after_offer (Ok refusal) item was map new committed due pending pushed chart none keeps same still old = offered_kept item was map new committed due pending pushed chart none keeps old
+after_offer (Ok refusal) item was map new committed due pending pushed chart none keeps same still old =
+    offered_kept item was map new committed due pending pushed chart none keeps old
 after_offer (Err e) item was map new committed due pending pushed chart none keeps same still old = rw (same, still) old
 
 -- it failed, so that something is due

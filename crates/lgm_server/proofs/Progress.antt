@@ -1,8 +1,10 @@
 -- How far a script was answered.
-use Rattle.std.proofs.Common.{◌≡◌, ◌⊎◌, inl, inr, ℕ, suc, ◌+◌, ◌<◌, ◌≤◌, Bool, true, false, cond, eqb, List, [], ◌∷◌, ◌++◌, length, get_or, take, drop, min, Option, Some, None, Result, Err, refl, sym, ap, subst, ◌∙◌, append_assoc, add-one, arith}
+use Rattle.std.proofs.Common.{◌≡◌, ◌⊎◌, inl, inr, ℕ, suc, ◌+◌, ◌<◌, ◌≤◌, Bool, true, false, cond, eqb, List, [], ◌∷◌, ◌++◌, length, get_or}
+use Rattle.std.proofs.Common.{take, drop, min, Option, Some, None, Result, Err, refl, sym, ap, subst, ◌∙◌, append_assoc, add-one, arith}
 use Rattle.std.specs.Prelude.{◌≢◌, IfSome, filter, map}
 use Rattle.std.specs.List.{AllByRecursion}
-use Rattle.std.proofs.lemmas.List.{append-nil, length-append, length-drop, length-take-le, drop_min, take_all, take_more, drop_more, drop-map, take-map, nil_from_length}
+use Rattle.std.proofs.lemmas.List.{append-nil, length-append, length-drop, length-take-le, drop_min, take_all}
+use Rattle.std.proofs.lemmas.List.{take_more, drop_more, drop-map, take-map, nil_from_length}
 use Rattle.std.proofs.lemmas.List.Elements.{filter-append}
 use Rattle.lgm_wire.specs.declared.chain_hash.ChainHash.{ChainHash}
 use Rattle.lgm_script.specs.declared.request.Request.{Request}
@@ -40,20 +42,23 @@ pub record IsAtLine (chain : ChainHash) (known : Option (List ℕ)) (script : Li
   pub state_is : state ≡ state_of chain known (take k (requests_of script))
 
 -- and they were answered
-pub record IsSoFar (chain : ChainHash) (known : Option (List ℕ)) (script : List ℕ) (k : ℕ) (state : State) (input : Option (List ℕ)) (old mid : Told) : Type 0 where
+pub record IsSoFar (chain : ChainHash) (known : Option (List ℕ)) (script : List ℕ) (k : ℕ) (state : State)
+    (input : Option (List ℕ)) (old mid : Told) : Type 0 where
   pub rest : List ℕ
   pub input_is : input ≡ Some rest
   pub at : IsAtLine chain known script k state rest
   pub text : Tells old mid (text_before chain known (requests_of script) k)
 
-told_so_far : (chain : ChainHash) (known : Option (List ℕ)) (script : List ℕ) (k : ℕ) (state : State) (input : Option (List ℕ)) (old mid : Told) → IsSoFar chain known script k state input old mid
+told_so_far : (chain : ChainHash) (known : Option (List ℕ)) (script : List ℕ) (k : ℕ) (state : State)
+    (input : Option (List ℕ)) (old mid : Told) → IsSoFar chain known script k state input old mid
     → IsTold chain known (Tells old mid) script k
 told_so_far chain known script k state input old mid so_far = record { few = so_far.at.few; short = so_far.at.short; text = so_far.text }
 
 abbrev pub SoFar : ChainHash → Option (List ℕ) → Option (List ℕ) → ℕ → State → Option (List ℕ) → Told → Told → Type 0
 SoFar chain known script k state input old mid = IfSome script (λ s. IsSoFar chain known s k state input old mid)
 
-pub starts : (chain : ChainHash) (known : Option (List ℕ)) (script : Option (List ℕ)) (told : Told) → SoFar chain known script 0 (opening known) (ahead [] script) told told
+pub starts : (chain : ChainHash) (known : Option (List ℕ)) (script : Option (List ℕ)) (told : Told)
+    → SoFar chain known script 0 (opening known) (ahead [] script) told told
 unfolding text_before
 starts chain known None told = tt
 starts chain known (Some script) told = record {
@@ -95,14 +100,18 @@ behind {X} xs k d x others e =
     let lt : k < length xs = omega (arith, ap length e, length-drop k xs) in
     ap (drop 1) (sym (drop_more xs k d lt) ∙ e)
 
-text_before-suc : (chain : ChainHash) (known : Option (List ℕ)) (asked : List Request) (k : ℕ) → text_before chain known asked (suc k) ≡ text_before chain known asked k ++ text_at chain known asked k
+text_before-suc : (chain : ChainHash) (known : Option (List ℕ)) (asked : List Request) (k : ℕ)
+    → text_before chain known asked (suc k) ≡ text_before chain known asked k ++ text_at chain known asked k
 unfolding text_before
 text_before-suc chain known asked k = refl
 
-text_before-more : (chain : ChainHash) (known : Option (List ℕ)) (asked : List Request) (k : ℕ) → text_before chain known asked (k + 1) ≡ text_before chain known asked k ++ text_at chain known asked k
+text_before-more : (chain : ChainHash) (known : Option (List ℕ)) (asked : List Request) (k : ℕ)
+    → text_before chain known asked (k + 1) ≡ text_before chain known asked k ++ text_at chain known asked k
 text_before-more chain known asked k = rw add-one (text_before-suc chain known asked k)
 
-text_is : (chain : ChainHash) (known : Option (List ℕ)) (asked : List Request) (k : ℕ) (state : State) (request : Request) → state ≡ state_of chain known (take k asked) → get_or asked k requests.Quiet ≡ request
+text_is : (chain : ChainHash) (known : Option (List ℕ)) (asked : List Request) (k : ℕ) (state : State)
+    (request : Request) → state ≡ state_of chain known (take k asked)
+    → get_or asked k requests.Quiet ≡ request
     → text_at chain known asked k ≡ text_for chain (k + 1) state request
 unfolding text_at
 text_is chain known asked k state request s r = rw (s, ← r) refl
@@ -116,7 +125,9 @@ some_is : (a b : List ℕ) → some_bytes a ≡ some_bytes b → a ≡ b
 some_is a b e = cc
 
 nothing_behind : (a b : List ℕ) (n : ℕ) → a ++ b ≡ [] → drop n a ++ b ≡ []
-nothing_behind a b n none = nil_from_length (drop n a ++ b) (omega (arith, ap length none, length-append a b, length-append (drop n a) b, length-drop n a))
+nothing_behind a b n none =
+    nil_from_length (drop n a ++ b)
+    (omega (arith, ap length none, length-append a b, length-append (drop n a) b, length-drop n a))
 
 nothing_behind_left : (a b : List ℕ) → a ++ b ≡ [] → b ≡ []
 nothing_behind_left a b none = nil_from_length b (omega (arith, ap length none, length-append a b))
@@ -128,7 +139,8 @@ record NextOf (script : List ℕ) (k len : ℕ) (buffered left front : List ℕ)
   pub read : (k + 1 ≤ length (filter ends_line (front ++ take (len + 1) buffered))) ⊎ (drop (len + 1) buffered ++ left ≡ [])
 
 next_line_of : (chain : ChainHash) (known : Option (List ℕ)) (script : List ℕ) (k len : ℕ) (state : State) (buffered left : List ℕ)
-    → (at : IsAtLine chain known script k state (buffered ++ left)) → IsFirstLine buffered (Some left) len → NextOf script k len buffered left at.front
+    → (at : IsAtLine chain known script k state (buffered ++ left)) → IsFirstLine buffered (Some left) len
+    → NextOf script k len buffered left at.front
 next_line_of chain known script k len state buffered left at first =
     let next = next_of buffered left len first in
     let split : buffered ++ left ≡ take (len + 1) buffered ++ (drop (len + 1) buffered ++ left) =
@@ -139,7 +151,16 @@ next_line_of chain known script k len state buffered left at first =
           at.parts ∙ ap (λ (s : List ℕ). at.front ++ s) split
           ∙ sym (append_assoc at.front (take (len + 1) buffered) (drop (len + 1) buffered ++ left));
       read = elim next.feed [
-        | inl feed ↦ elim at.read [ inl few ↦ inl (omega (arith, ap length (filter-append ends_line at.front (take (len + 1) buffered)), length-append (filter ends_line at.front) (filter ends_line (take (len + 1) buffered)), feed, few)) | inr none ↦ inr (nothing_behind buffered left (len + 1) none) ]
+        | inl feed ↦ elim at.read [
+          | inl few ↦ inl (omega (
+            arith,
+            ap length (filter-append ends_line at.front (take (len + 1) buffered)),
+            length-append (filter ends_line at.front) (filter ends_line (take (len + 1) buffered)),
+            feed,
+            few,
+          ))
+          | inr none ↦ inr (nothing_behind buffered left (len + 1) none)
+        ]
         | inr ended ↦ inr ended
       ];
     }
@@ -150,9 +171,11 @@ record Steps (chain : ChainHash) (known : Option (List ℕ)) (script : List ℕ)
   pub text_is : text_before chain known (requests_of script) n ≡ text_before chain known (requests_of script) k ++ text
 
 -- one line
-line_step : (chain : ChainHash) (known : Option (List ℕ)) (script : List ℕ) (k : ℕ) (state : State) (buffered left line : List ℕ) → IsAtLine chain known script k state (buffered ++ left)
+line_step : (chain : ChainHash) (known : Option (List ℕ)) (script : List ℕ) (k : ℕ) (state : State)
+    (buffered left line : List ℕ) → IsAtLine chain known script k state (buffered ++ left)
     → line ≡ take (length line) buffered → IsFirstLine buffered (Some left) (length line) → length line ≤ 140000
-    → Steps chain known script k (k + 1) (state_after chain state (request_of line)) (drop (length line + 1) buffered ++ left) (text_for chain (k + 1) state (request_of line))
+    → Steps chain known script k (k + 1) (state_after chain state (request_of line))
+    (drop (length line + 1) buffered ++ left) (text_for chain (k + 1) state (request_of line))
 line_step chain known script k state buffered left line at line_is first small =
     let len = length line in
     let asked = requests_of script in
@@ -169,53 +192,81 @@ line_step chain known script k state buffered left line at line_is first small =
         left = sym (behind (lines_of script) k [] line others here);
         read = next.read;
         few = let lt = stand.within in omega arith;
-        short = subst (λ (ls : List (List ℕ)). AllByRecursion (λ l. length l ≤ 140000) ls) (sym stand.front) (each-push (λ l. length l ≤ 140000) (take k (lines_of script)) line at.short small);
+        short =
+            subst (λ (ls : List (List ℕ)). AllByRecursion (λ l. length l ≤ 140000) ls) (sym stand.front)
+            (each-push (λ l. length l ≤ 140000) (take k (lines_of script)) line at.short small);
         state_is =
             ap (λ (x : State). state_after chain x (request_of line)) at.state_is
             ∙ state_after-request chain known (take k asked) (request_of line) (request_is_lawful line) ∙ ap (state_of chain known) (sym of.front);
       };
-      text_is = text_before-more chain known asked k ∙ ap (λ (t : List ℕ). text_before chain known asked k ++ t) (text_is chain known asked k state (request_of line) at.state_is of.here);
+      text_is =
+          text_before-more chain known asked k ∙ ap (λ (t : List ℕ). text_before chain known asked k
+          ++ t) (text_is chain known asked k state (request_of line) at.state_is of.here);
     }
 
 -- several
-lines_step : (chain : ChainHash) (known : Option (List ℕ)) (script : List ℕ) (k : ℕ) (state : State) (buffered left rest : List ℕ) (lines : List (List ℕ)) → IsAtLine chain known script k state (buffered ++ left)
+lines_step : (chain : ChainHash) (known : Option (List ℕ)) (script : List ℕ) (k : ℕ) (state : State)
+    (buffered left rest : List ℕ) (lines : List (List ℕ))
+    → IsAtLine chain known script k state (buffered ++ left)
     → AreFirstLines buffered (Some left) lines rest → AllByRecursion (λ line. length line ≤ 140000) lines
-    → Steps chain known script k (k + length lines) (state_from chain state (map request_of lines)) (rest ++ left) (text_from chain (k + 1) state (map request_of lines))
+    → Steps chain known script k (k + length lines) (state_from chain state (map request_of lines))
+    (rest ++ left) (text_from chain (k + 1) state (map request_of lines))
 lines_step chain known script k state buffered left rest [] at first short =
     subst (λ n. Steps chain known script k n state (rest ++ left) []) (omega arith)
-    (record { at = subst (λ (s : List ℕ). IsAtLine chain known script k state (s ++ left)) (sym first) at; text_is = sym (append-nil (text_before chain known (requests_of script) k)) })
+    (record {
+      at = subst (λ (s : List ℕ). IsAtLine chain known script k state (s ++ left)) (sym first) at;
+      text_is = sym (append-nil (text_before chain known (requests_of script) k));
+    })
 lines_step chain known script k state buffered left rest (line ∷ lines) at first short =
     let one = line_step chain known script k state buffered left line at first.0 first.1 short.0 in
-    let more = lines_step chain known script (k + 1) (state_after chain state (request_of line)) (drop (length line + 1) buffered) left rest lines one.at first.2 short.1 in
-    subst (λ n. Steps chain known script k n (state_from chain state (map request_of (line ∷ lines))) (rest ++ left) (text_from chain (k + 1) state (map request_of (line ∷ lines)))) (omega arith)
+    let more =
+    lines_step chain known script (k + 1) (state_after chain state (request_of line))
+    (drop (length line + 1) buffered) left rest lines one.at first.2 short.1 in
+    subst (λ n. Steps chain known script k n (state_from chain state (map request_of (line ∷ lines)))
+    (rest ++ left) (text_from chain (k + 1) state (map request_of (line ∷ lines)))) (omega arith)
     (record {
       at = more.at;
-      text_is = more.text_is ∙ ap (λ (t : List ℕ). t ++ text_from chain (k + 1 + 1) (state_after chain state (request_of line)) (map request_of lines)) one.text_is
-          ∙ append_assoc (text_before chain known (requests_of script) k) (text_for chain (k + 1) state (request_of line)) (text_from chain (k + 1 + 1) (state_after chain state (request_of line)) (map request_of lines));
+      text_is =
+          more.text_is ∙ ap (λ (t : List ℕ). t ++ text_from chain (k + 1
+          + 1) (state_after chain state (request_of line)) (map request_of lines)) one.text_is
+          ∙ append_assoc (text_before chain known (requests_of script) k)
+          (text_for chain (k + 1) state (request_of line))
+          (text_from chain (k + 1 + 1) (state_after chain state (request_of line)) (map request_of lines));
     })
 
 -- the next lines of what was read ahead
-next_steps : (chain : ChainHash) (known : Option (List ℕ)) (script : List ℕ) (k first len : ℕ) (state : State) (buffered left : List ℕ) (lines : List (List ℕ)) (input : Option (List ℕ)) (old mid : Told)
-    → IsSoFar chain known script k state input old mid → ahead buffered (Some left) ≡ input → IsFirstLine buffered (Some left) first → AreNext buffered first len lines
-    → Steps chain known script k (k + length lines) (state_from chain state (map request_of lines)) (drop len buffered ++ left) (text_from chain (k + 1) state (map request_of lines))
+next_steps : (chain : ChainHash) (known : Option (List ℕ)) (script : List ℕ) (k first len : ℕ) (state : State)
+    (buffered left : List ℕ) (lines : List (List ℕ)) (input : Option (List ℕ)) (old mid : Told)
+    → IsSoFar chain known script k state input old mid → ahead buffered (Some left) ≡ input
+    → IsFirstLine buffered (Some left) first → AreNext buffered first len lines
+    → Steps chain known script k (k + length lines) (state_from chain state (map request_of lines))
+    (drop len buffered ++ left) (text_from chain (k + 1) state (map request_of lines))
 next_steps chain known script k first len state buffered left lines input old mid so_far kept line next =
     lines_step chain known script k state buffered left (drop len buffered) lines
-    (subst (IsAtLine chain known script k state) (sym (some_is (buffered ++ left) so_far.rest (kept ∙ so_far.input_is))) so_far.at) (next.front (Some left) line) next.short
+    (subst (IsAtLine chain known script k state) (sym (some_is (buffered ++ left) so_far.rest
+    (kept ∙ so_far.input_is))) so_far.at) (next.front (Some left) line) next.short
 
 -- the first line alone
-pub first_alone : (buffered : List ℕ) (first : ℕ) → first ≤ length buffered → first ≤ 140000 → AreNext buffered first (min (first + 1) (length buffered)) (take first buffered ∷ [])
+pub first_alone : (buffered : List ℕ) (first : ℕ) → first ≤ length buffered → first ≤ 140000
+    → AreNext buffered first (min (first + 1) (length buffered)) (take first buffered ∷ [])
 first_alone buffered first within small = record {
   some = omega arith;
   few = omega arith;
   short = (omega (arith, length-take-le first buffered within), tt);
-  front = λ left line. first_line_alone buffered (take first buffered) (drop (min (first + 1) (length buffered)) buffered) left first within refl (drop_min (first + 1) buffered) line;
+  front =
+      λ left line. first_line_alone buffered (take first buffered) (drop (min (first + 1) (length buffered))
+      buffered) left first within refl (drop_min (first + 1) buffered) line;
 }
 
-pub step : (chain : ChainHash) (known : Option (List ℕ)) (script : Option (List ℕ)) (k first count len : ℕ) (state state' : State) (buffered : List ℕ) (left input : Option (List ℕ)) (old mid new : Told)
-    → SoFar chain known script k state input old mid → ahead buffered left ≡ input → IsFirstLine buffered left first → HaveAnswers chain (k + 1) state state' buffered first (Tells mid new) count len
+pub step : (chain : ChainHash) (known : Option (List ℕ)) (script : Option (List ℕ)) (k first count len : ℕ)
+    (state state' : State) (buffered : List ℕ) (left input : Option (List ℕ)) (old mid new : Told)
+    → SoFar chain known script k state input old mid → ahead buffered left ≡ input → IsFirstLine buffered left
+    first → HaveAnswers chain (k + 1) state state' buffered first (Tells mid new) count len
     → SoFar chain known script (k + count) state' (ahead (drop len buffered) left) old new
 step chain known None k first count len state state' buffered left input old mid new so_far kept line answers = tt
-step chain known (Some script) k first count len state state' buffered None input old mid new so_far kept line answers = absurd (let bad = kept ∙ so_far.input_is in cc)
+step chain known (Some script) k first count len state state' buffered None input old mid new so_far kept
+    line answers =
+    absurd (let bad = kept ∙ so_far.input_is in cc)
 step chain known (Some script) k first count len state state' buffered (Some left) input old mid new so_far kept line answers =
     let lines = answers.lines in
     let steps = next_steps chain known script k first len state buffered left lines input old mid so_far kept line answers.next in
@@ -223,24 +274,32 @@ step chain known (Some script) k first count len state state' buffered (Some lef
       rest = drop len buffered ++ left;
       input_is = refl;
       at = steps.at;
-      text = subst (Tells old new) (sym steps.text_is) (tells_both old mid new (text_before chain known (requests_of script) k) (text_from chain (k + 1) state (map request_of lines)) so_far.text answers.text);
+      text =
+          subst (Tells old new) (sym steps.text_is)
+          (tells_both old mid new (text_before chain known (requests_of script) k)
+          (text_from chain (k + 1) state (map request_of lines)) so_far.text answers.text);
     })
 
 -- something more was told than the text so far: nothing
-pub told_on : (chain : ChainHash) (known : Option (List ℕ)) (script : Option (List ℕ)) (k : ℕ) (state : State) (input : Option (List ℕ)) (old mid new : Told)
+pub told_on : (chain : ChainHash) (known : Option (List ℕ)) (script : Option (List ℕ)) (k : ℕ) (state : State)
+    (input : Option (List ℕ)) (old mid new : Told)
     → SoFar chain known script k state input old mid → Tells mid new [] → SoFar chain known script k state input old new
 told_on chain known None k state input old mid new so_far told = tt
 told_on chain known (Some script) k state input old mid new so_far told = record {
   rest = so_far.rest;
   input_is = so_far.input_is;
   at = so_far.at;
-  text = subst (Tells old new) (append-nil (text_before chain known (requests_of script) k)) (tells_both old mid new (text_before chain known (requests_of script) k) [] so_far.text told);
+  text =
+      subst (Tells old new) (append-nil (text_before chain known (requests_of script) k))
+      (tells_both old mid new (text_before chain known (requests_of script) k) [] so_far.text told);
 }
 
 -- ---- how it ends
 
-pub ends : (chain : ChainHash) (known : Option (List ℕ)) (script : Option (List ℕ)) (k : ℕ) (state : State) (input input' : Option (List ℕ)) (old mid : Told)
-    → SoFar chain known script k state input old mid → input' ≡ input → IsAtEnd input' → k ≤ 10000000 → IfSome script (IsAnswered chain known (Tells old mid) (record { lines = k; accepted = state.accepted }))
+pub ends : (chain : ChainHash) (known : Option (List ℕ)) (script : Option (List ℕ)) (k : ℕ) (state : State)
+    (input input' : Option (List ℕ)) (old mid : Told)
+    → SoFar chain known script k state input old mid → input' ≡ input → IsAtEnd input' → k ≤ 10000000
+    → IfSome script (IsAnswered chain known (Tells old mid) (record { lines = k; accepted = state.accepted }))
 ends chain known None k state input input' old mid so_far kept ended limit = tt
 ends chain known (Some script) k state input None old mid so_far kept ended limit = absurd (let bad = kept ∙ so_far.input_is in cc)
 ends chain known (Some script) k state input (Some s) old mid so_far kept ended limit =
@@ -248,7 +307,9 @@ ends chain known (Some script) k state input (Some s) old mid so_far kept ended 
     let none : drop k (lines_of script) ≡ [] = sym so_far.at.left ∙ ap lines_of rest_is in
     let few = so_far.at.few in
     let all : k ≡ length (lines_of script) = omega (arith, ap length none, length-drop k (lines_of script)) in
-    let whole : take k (requests_of script) ≡ requests_of script = take-map request_of k (lines_of script) ∙ ap (map request_of) (take_all k (lines_of script) (omega arith)) in
+    let whole : take k (requests_of script) ≡ requests_of script =
+    take-map request_of k (lines_of script)
+    ∙ ap (map request_of) (take_all k (lines_of script) (omega arith)) in
     record {
       lines = all;
       limit = limit;
@@ -268,18 +329,25 @@ has_line (b ∷ bs) some = by_test (eqb b 10)
     by_test true = omega arith
     by_test false = onto (lines_of bs)
 
-pub many : (chain : ChainHash) (known : Option (List ℕ)) (script : Option (List ℕ)) (state : State) (buffered : List ℕ) (left input : Option (List ℕ)) (old mid : Told)
-    → SoFar chain known script 10000000 state input old mid → ahead buffered left ≡ input → 0 < length buffered → IfSome script (IsTooMany chain known (Tells old mid))
+pub many : (chain : ChainHash) (known : Option (List ℕ)) (script : Option (List ℕ)) (state : State)
+    (buffered : List ℕ) (left input : Option (List ℕ)) (old mid : Told)
+    → SoFar chain known script 10000000 state input old mid → ahead buffered left ≡ input
+    → 0 < length buffered → IfSome script (IsTooMany chain known (Tells old mid))
 many chain known None state buffered left input old mid so_far kept more = tt
 many chain known (Some script) state buffered None input old mid so_far kept more = absurd (let bad = kept ∙ so_far.input_is in cc)
 many chain known (Some script) state buffered (Some left) input old mid so_far kept more =
     let rest_is : so_far.rest ≡ buffered ++ left = sym (some_is (buffered ++ left) so_far.rest (kept ∙ so_far.input_is)) in
     let lines : lines_of (buffered ++ left) ≡ drop 10000000 (lines_of script) = ap lines_of (sym rest_is) ∙ so_far.at.left in
     let some = has_line (buffered ++ left) (omega (arith, length-append buffered left)) in
-    record { more = omega (arith, ap length lines, length-drop 10000000 (lines_of script)); text = told_so_far chain known script 10000000 state input old mid so_far }
+    record {
+      more = omega (arith, ap length lines, length-drop 10000000 (lines_of script));
+      text = told_so_far chain known script 10000000 state input old mid so_far;
+    }
 
-pub long : (chain : ChainHash) (known : Option (List ℕ)) (script : Option (List ℕ)) (k : ℕ) (state : State) (input input' : Option (List ℕ)) (old mid : Told)
-    → SoFar chain known script k state input old mid → input' ≡ input → k < 10000000 → IsLongerThan 140000 input' → IfSome script (IsTooLong chain known (Tells old mid))
+pub long : (chain : ChainHash) (known : Option (List ℕ)) (script : Option (List ℕ)) (k : ℕ) (state : State)
+    (input input' : Option (List ℕ)) (old mid : Told)
+    → SoFar chain known script k state input old mid → input' ≡ input → k < 10000000
+    → IsLongerThan 140000 input' → IfSome script (IsTooLong chain known (Tells old mid))
 long chain known None k state input input' old mid so_far kept limit longer = tt
 long chain known (Some script) k state input None old mid so_far kept limit longer = absurd (let bad = kept ∙ so_far.input_is in cc)
 long chain known (Some script) k state input (Some s) old mid so_far kept limit longer =
@@ -291,21 +359,31 @@ long chain known (Some script) k state input (Some s) old mid so_far kept limit 
 -- ---- where it is cut short
 
 -- what was read ahead was read
-read_at : (chain : ChainHash) (known : Option (List ℕ)) (script : List ℕ) (k : ℕ) (state : State) (buffered left : List ℕ) → IsAtLine chain known script k state (buffered ++ left) → AreRead script (Some left) k
+read_at : (chain : ChainHash) (known : Option (List ℕ)) (script : List ℕ) (k : ℕ) (state : State)
+    (buffered left : List ℕ) → IsAtLine chain known script k state (buffered ++ left)
+    → AreRead script (Some left) k
 read_at chain known script k state buffered left at = record {
   front = at.front ++ buffered;
   rest = left;
   parts = at.parts ∙ sym (append_assoc at.front buffered left);
   left_is = refl;
   whole = elim at.read [
-    | inl few ↦ inl (omega (arith, ap length (filter-append ends_line at.front buffered), length-append (filter ends_line at.front) (filter ends_line buffered), few))
+    | inl few ↦ inl (omega (
+      arith,
+      ap length (filter-append ends_line at.front buffered),
+      length-append (filter ends_line at.front) (filter ends_line buffered),
+      few,
+    ))
     | inr none ↦ inr (nothing_behind_left buffered left none)
   ];
 }
 
 -- a first part of the text of the lines that were read was told
-cut_at : (chain : ChainHash) (known : Option (List ℕ)) (script : List ℕ) (k n : ℕ) (state state' : State) (input : Option (List ℕ)) (buffered left text : List ℕ) (old mid new : Told)
-    → IsSoFar chain known script k state input old mid → n ≤ 10000000 → Steps chain known script k n state' (buffered ++ left) text → TellsSome mid new text → IsCutShort chain known (TellsSome old new) (Some left) script
+cut_at : (chain : ChainHash) (known : Option (List ℕ)) (script : List ℕ) (k n : ℕ) (state state' : State)
+    (input : Option (List ℕ)) (buffered left text : List ℕ) (old mid new : Told)
+    → IsSoFar chain known script k state input old mid → n ≤ 10000000
+    → Steps chain known script k n state' (buffered ++ left) text → TellsSome mid new text
+    → IsCutShort chain known (TellsSome old new) (Some left) script
 cut_at chain known script k n state state' input buffered left text old mid new so_far limit steps some = record {
   answered = n;
   limit = limit;
@@ -313,12 +391,16 @@ cut_at chain known script k n state state' input buffered left text old mid new 
   text = record {
     few = steps.at.few;
     short = steps.at.short;
-    text = subst (TellsSome old new) (sym steps.text_is) (some_behind old mid new (text_before chain known (requests_of script) k) text so_far.text some);
+    text =
+        subst (TellsSome old new) (sym steps.text_is)
+        (some_behind old mid new (text_before chain known (requests_of script) k) text so_far.text some);
   };
 }
 
-pub cut : (chain : ChainHash) (known : Option (List ℕ)) (script : Option (List ℕ)) (k : ℕ) (state : State) (buffered : List ℕ) (left input : Option (List ℕ)) (old mid new : Told)
-    → SoFar chain known script k state input old mid → k ≤ 10000000 → ahead buffered left ≡ input → TellsSome mid new [] → IfSome script (IsCutShort chain known (TellsSome old new) left)
+pub cut : (chain : ChainHash) (known : Option (List ℕ)) (script : Option (List ℕ)) (k : ℕ) (state : State)
+    (buffered : List ℕ) (left input : Option (List ℕ)) (old mid new : Told)
+    → SoFar chain known script k state input old mid → k ≤ 10000000 → ahead buffered left ≡ input
+    → TellsSome mid new [] → IfSome script (IsCutShort chain known (TellsSome old new) left)
 cut chain known None k state buffered left input old mid new so_far limit kept some = tt
 cut chain known (Some script) k state buffered None input old mid new so_far limit kept some = absurd (let bad = kept ∙ so_far.input_is in cc)
 cut chain known (Some script) k state buffered (Some left) input old mid new so_far limit kept some =
@@ -329,14 +411,20 @@ cut chain known (Some script) k state buffered (Some left) input old mid new so_
     }) some
 
 -- while lines that were read are answered
-pub cut_in : (chain : ChainHash) (known : Option (List ℕ)) (script : Option (List ℕ)) (k most first : ℕ) (state : State) (buffered : List ℕ) (left input : Option (List ℕ)) (old mid new : Told)
-    → SoFar chain known script k state input old mid → k + most ≤ 10000000 → ahead buffered left ≡ input → IsFirstLine buffered left first → HaveBegun chain (k + 1) most state buffered first (TellsSome mid new)
+pub cut_in : (chain : ChainHash) (known : Option (List ℕ)) (script : Option (List ℕ)) (k most first : ℕ)
+    (state : State) (buffered : List ℕ) (left input : Option (List ℕ)) (old mid new : Told)
+    → SoFar chain known script k state input old mid → k + most ≤ 10000000 → ahead buffered left ≡ input
+    → IsFirstLine buffered left first → HaveBegun chain (k + 1) most state buffered first (TellsSome mid new)
     → IfSome script (IsCutShort chain known (TellsSome old new) left)
 cut_in chain known None k most first state buffered left input old mid new so_far within kept line begun = tt
-cut_in chain known (Some script) k most first state buffered None input old mid new so_far within kept line begun = absurd (let bad = kept ∙ so_far.input_is in cc)
+cut_in chain known (Some script) k most first state buffered None input old mid new so_far within
+    kept line begun =
+    absurd (let bad = kept ∙ so_far.input_is in cc)
 cut_in chain known (Some script) k most first state buffered (Some left) input old mid new so_far within kept line begun =
     let asked = map request_of begun.lines in
-    cut_at chain known script k (k + length begun.lines) state (state_from chain state asked) input (drop begun.len buffered) left (text_from chain (k + 1) state asked) old mid new so_far (let limit = begun.limit in omega arith)
+    cut_at chain known script k (k + length begun.lines) state (state_from chain state asked) input
+    (drop begun.len buffered) left (text_from chain (k + 1) state asked) old mid new so_far
+    (let limit = begun.limit in omega arith)
     (next_steps chain known script k first begun.len state buffered left begun.lines input old mid so_far kept line begun.next) begun.text
 
 -- ---- faults of lines
@@ -345,7 +433,9 @@ abbrev pub failed : {T : Type 0} → LineFault → Result T LineFault
 failed fault = Err fault
 
 -- whatever the fault, a first part was told
-pub line_some : {T : Type 0} (fault : LineFault) (mid new : Told) → (failed {T = T} fault ≢ failed lines.Write → Tells mid new []) → (failed {T = T} fault ≡ failed lines.Write → TellsPart mid new [] SendWrite) → TellsSome mid new []
+pub line_some : {T : Type 0} (fault : LineFault) (mid new : Told)
+    → (failed {T = T} fault ≢ failed lines.Write → Tells mid new [])
+    → (failed {T = T} fault ≡ failed lines.Write → TellsPart mid new [] SendWrite) → TellsSome mid new []
 line_some lines.Read mid new told part = some_of_all mid new [] (told (λ e. absurd cc))
 line_some lines.Write mid new told part = some_of_part mid new [] SendWrite (part refl)
 line_some lines.TooLong mid new told part = some_of_all mid new [] (told (λ e. absurd cc))

@@ -8,7 +8,8 @@ use Rattle.lgm_server.specs.declared.answer.Answer.{Answer}
 use Rattle.lgm_server.specs.Answer.{answer_text, route_text}
 
 -- what was found is the definition's, unless memory ran out
-pub told_found : {E : Type 0} (result : Result Answer E) (secret : List ℕ) (found found' : Result (List Hop) RouteFault) → (found ≡ Err NoMemory) ⊎ (found ≡ found')
+pub told_found : {E : Type 0} (result : Result Answer E) (secret : List ℕ)
+    (found found' : Result (List Hop) RouteFault) → (found ≡ Err NoMemory) ⊎ (found ≡ found')
     → IfOk result (λ _. found ≢ Err NoMemory) → IfOk result (λ answer. (n : ℕ) → answer_text n answer ≡ route_text n secret found)
     → IfOk result (λ answer. (n : ℕ) → answer_text n answer ≡ route_text n secret found')
 told_found (Err e) secret found found' is decided told = tt

@@ -21,7 +21,8 @@ pub record Stands {A B : Type 0} (R : A → B → Type 0) (xs : List A) (k : ℕ
   pub within : k < length xs
   pub holds : R (get_or xs k d) answer
 
-pub stands : {A B : Type 0} (R : A → B → Type 0) (xs : List A) (ys : List B) (k : ℕ) (d : A) (e answer : B) → AllZip R xs ys → k < length ys → get_or ys k e ≡ answer → Stands R xs k d answer
+pub stands : {A B : Type 0} (R : A → B → Type 0) (xs : List A) (ys : List B) (k : ℕ) (d : A) (e answer : B)
+    → AllZip R xs ys → k < length ys → get_or ys k e ≡ answer → Stands R xs k d answer
 stands R xs ys k d e answer all lt is =
     let within : k < length xs = subst (λ n. k < n) (AllZip-long R xs ys all) lt in
     record { within = within; holds = subst (R (get_or xs k d)) is (zip_at R xs ys k d e all within) }

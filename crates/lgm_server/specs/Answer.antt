@@ -51,11 +51,13 @@ filter_text number peer rows (Err objection) = word_line number (objection_word 
 
 -- the news of a peer in later rows
 abbrev pub news_text : ℕ → Rows → Rows → PeerFilter → List ℕ
-news_text number before after own = flat_map (message_line number (Some own.peer)) (news before after own.filter)
+news_text number before after own =
+    flat_map (message_line number (Some own.peer)) (news before after own.filter)
 
 -- a commit is answered with the number of accepted items, and then the news of each peer
 abbrev pub commit_text : ℕ → ℕ → Rows → Rows → List PeerFilter → List ℕ
-commit_text number accepted before after filters = commit_line number accepted ++ flat_map (news_text number before after) filters
+commit_text number accepted before after filters =
+    commit_line number accepted ++ flat_map (news_text number before after) filters
 
 -- a line for each hop, with the payload of the node at its end
 abbrev pub hops_text : ℕ → List Hop → List (List ℕ) → List ℕ
@@ -63,7 +65,8 @@ hops_text number hops payloads = flat_map (λ told. hop_line number told.0.scid 
 
 -- what the payer sends, when it expires and the number of hops, and then each hop
 abbrev pub routed_text : ℕ → List Hop → List (List ℕ) → List ℕ
-routed_text number hops payloads = route_line number (sent hops) (expiry hops) (length hops) ++ hops_text number hops payloads
+routed_text number hops payloads =
+    route_line number (sent hops) (expiry hops) (length hops) ++ hops_text number hops payloads
 
 -- a payment is answered with its route, or why there is none
 abbrev pub route_text : ℕ → List ℕ → Result (List Hop) RouteFault → List ℕ
@@ -79,6 +82,7 @@ answer_text number (answers.Range asked) = range_text number asked
 answer_text number (answers.Objected objection) = word_line number (objection_word objection)
 answer_text number (answers.Backlog own map) = filter_text number own.peer map.now (Ok own.filter)
 answer_text number (answers.Committed accepted) = commit_line number accepted
-answer_text number (answers.News accepted filters differences) = commit_text number accepted differences.before differences.after filters.now
+answer_text number (answers.News accepted filters differences) =
+    commit_text number accepted differences.before differences.after filters.now
 answer_text number (answers.Routed route payloads) = routed_text number route payloads
 answer_text number (answers.Unrouted fault) = word_line number (route_word fault)

@@ -15,7 +15,8 @@ use Rattle.lgm_script.specs.declared.item.Item.TheVariants.{Gossip, Close}
 
 -- the operation of an item that a map of these rows accepts, or the refusal
 unfoldable pub outcome_of : ChainHash → Rows → Item → Result Op Refusal
-outcome_of chain rows (Gossip bytes evidence) = checked_of chain bytes evidence >>= λ checked. admitted rows checked
+outcome_of chain rows (Gossip bytes evidence) =
+    checked_of chain bytes evidence >>= λ checked. admitted rows checked
 outcome_of chain rows (Close id) = admitted_close rows id
 
 -- a history with the operation of one more item, if it is accepted
@@ -27,7 +28,8 @@ with_outcome history (Err refusal) = history
 abbrev pub outcomes_behind : ChainHash → List Op → List Item → List (Result Op Refusal)
 outcomes_behind chain history [] = []
 outcomes_behind chain history (item ∷ items) =
-    outcome_of chain (fold history) item ∷ outcomes_behind chain (with_outcome history (outcome_of chain (fold history) item)) items
+    outcome_of chain (fold history) item
+    ∷ outcomes_behind chain (with_outcome history (outcome_of chain (fold history) item)) items
 
 -- the outcomes of items that are offered to an empty map, in order
 abbrev pub outcomes : ChainHash → List Item → List (Result Op Refusal)

@@ -10,7 +10,8 @@ use Rattle.lgm_script.specs.declared.payment.Payment.{Payment}
 
 -- the route that is requested
 abbrev pub asked_route : Payment → RouteRequest
-asked_route payment = record { payer = payment.payer; payee = payment.payee; amount = payment.amount; expiry = payment.expiry }
+asked_route payment =
+    record { payer = payment.payer; payee = payment.payee; amount = payment.amount; expiry = payment.expiry }
 
 -- the hops of the best walk over the edges of the rows, or why there is none
 abbrev pub route_answer : Option (List ℕ) → Rows → Payment → Result (List Hop) RouteFault

@@ -1,5 +1,6 @@
 -- The text for the requests of a script, each depending on the requests before it.
-use Rattle.std.specs.Prelude.{ℕ, zero, suc, ◌+◌, ◌==◌, Bool, true, false, List, [], ◌∷◌, ◌++◌, length, take, map, Option, Some, None, slice_index_or, codes, if◌then◌else◌}
+use Rattle.std.specs.Prelude.{ℕ, zero, suc, ◌+◌, ◌==◌, Bool, true, false, List, [], ◌∷◌, ◌++◌, length}
+use Rattle.std.specs.Prelude.{take, map, Option, Some, None, slice_index_or, codes, if◌then◌else◌}
 use Rattle.std.specs.List.{filter_map, last_or, list_any}
 use Rattle.std.specs.Result.{result_ok, result_err}
 use Rattle.lgm_wire.specs.declared.chain_hash.ChainHash.{ChainHash}
@@ -45,7 +46,8 @@ before_commit (request ∷ others) = if list_any is_commit others then request �
 
 -- the filter that a request sets for a peer, if it sets one
 abbrev pub filter_given : ChainHash → ℕ → Request → Option Filter
-filter_given chain peer (requests.Filter other bytes) = if other == peer then result_ok (filter_read chain bytes) else None
+filter_given chain peer (requests.Filter other bytes) =
+    if other == peer then result_ok (filter_read chain bytes) else None
 filter_given chain peer _ = None
 
 -- the filter of a peer: the last one that was set
@@ -85,15 +87,21 @@ state_of chain known asked = record {
 abbrev pub text_for : ChainHash → ℕ → State → Request → List ℕ
 text_for chain number state requests.Quiet = []
 text_for chain number state requests.Bad = word_line number (codes "bad")
-text_for chain number state (requests.Offer item) = outcome_text number (result_err (outcome_of chain state.rows item))
-text_for chain number state requests.Commit = commit_text number state.accepted state.committed state.rows state.filters
-text_for chain number state (requests.Query bytes) = query_text number (query_answer chain state.committed bytes)
-text_for chain number state (requests.Filter peer bytes) = filter_text number peer state.committed (filter_read chain bytes)
-text_for chain number state (requests.Route payment) = route_text number payment.secret (route_answer state.known state.committed payment)
+text_for chain number state (requests.Offer item) =
+    outcome_text number (result_err (outcome_of chain state.rows item))
+text_for chain number state requests.Commit =
+    commit_text number state.accepted state.committed state.rows state.filters
+text_for chain number state (requests.Query bytes) =
+    query_text number (query_answer chain state.committed bytes)
+text_for chain number state (requests.Filter peer bytes) =
+    filter_text number peer state.committed (filter_read chain bytes)
+text_for chain number state (requests.Route payment) =
+    route_text number payment.secret (route_answer state.known state.committed payment)
 
 -- the text for the request at an index, from 0
 unfoldable pub text_at : ChainHash → Option (List ℕ) → List Request → ℕ → List ℕ
-text_at chain known asked k = text_for chain (k + 1) (state_of chain known (take k asked)) (slice_index_or asked k requests.Quiet)
+text_at chain known asked k =
+    text_for chain (k + 1) (state_of chain known (take k asked)) (slice_index_or asked k requests.Quiet)
 
 -- the text for the first k requests
 unfoldable pub text_before : ChainHash → Option (List ℕ) → List Request → ℕ → List ℕ

@@ -63,8 +63,10 @@ impl Answer<'_> {
     ) -> Result<(), SendFault>
         requires { W.failures output.old.writer.now + 1 < 2 ^ 64 }
         ensures writer { output.new.writer.ghost_name ≡ output.old.writer.ghost_name }
-        ensures told { OnOk result (Sends W.taken W.failures output.old output.new (answer_text number self.now)) }
-        ensures fault { IfErr result (SendsPart W.taken W.failures output.old output.new (answer_text number self.now)) }
+        ensures told { OnOk result
+            (Sends W.taken W.failures output.old output.new (answer_text number self.now)) }
+        ensures fault { IfErr result
+            (SendsPart W.taken W.failures output.old output.new (answer_text number self.now)) }
     {
         match self {
             Answer::Bad => output.send_word(number, "bad"),

@@ -32,8 +32,10 @@ fn offer<W: Sink>(
     requires writer { W.failures output.old.writer.now + 1 < 2 ^ 64 }
     ensures writer { output.new.writer.ghost_name ≡ output.old.writer.ghost_name }
     ensures state { OnOk result (engine.new ≡ state_by engine.old item) }
-    ensures told { OnOk result (Sends W.taken W.failures output.old output.new (offered_text number engine.old.rows item)) }
-    ensures fault { IfErr result (SendsPart W.taken W.failures output.old output.new (offered_text number engine.old.rows item)) }
+    ensures told { OnOk result
+        (Sends W.taken W.failures output.old output.new (offered_text number engine.old.rows item)) }
+    ensures fault { IfErr result
+        (SendsPart W.taken W.failures output.old output.new (offered_text number engine.old.rows item)) }
 {
     let Some(item) = item else {
         return Answer::Bad.send(alloc, number, output);
@@ -56,8 +58,10 @@ fn answer_items<Rt: Threads + Sync, G: Gate, W: Sink>(
     requires writer { W.failures output.old.writer.now + 1 < 2 ^ 64 }
     ensures writer { output.new.writer.ghost_name ≡ output.old.writer.ghost_name }
     ensures state { OnOk result (engine.new ≡ state_from context.now.chain engine.old (asked_in lines.now)) }
-    ensures told { OnOk result (Sends W.taken W.failures output.old output.new (text_from context.now.chain first engine.old (asked_in lines.now))) }
-    ensures fault { IfErr result (SendsPart W.taken W.failures output.old output.new (text_from context.now.chain first engine.old (asked_in lines.now))) }
+    ensures told { OnOk result (Sends W.taken W.failures output.old output.new
+        (text_from context.now.chain first engine.old (asked_in lines.now))) }
+    ensures fault { IfErr result (SendsPart W.taken W.failures output.old output.new
+        (text_from context.now.chain first engine.old (asked_in lines.now))) }
 {
     let all = check_lines(context, lines)?;
     let mut number = first;
@@ -95,8 +99,10 @@ fn answer_questions<Rt: Threads + Sync, G: Gate, W: Sink>(
     requires writer { W.failures output.old.writer.now + 1 < 2 ^ 64 }
     ensures writer { output.new.writer.ghost_name ≡ output.old.writer.ghost_name }
     ensures state { OnOk result (engine.new ≡ state_from context.now.chain engine.old (asked_in lines.now)) }
-    ensures told { OnOk result (Sends W.taken W.failures output.old output.new (text_from context.now.chain first engine.old (asked_in lines.now))) }
-    ensures fault { IfErr result (SendsPart W.taken W.failures output.old output.new (text_from context.now.chain first engine.old (asked_in lines.now))) }
+    ensures told { OnOk result (Sends W.taken W.failures output.old output.new
+        (text_from context.now.chain first engine.old (asked_in lines.now))) }
+    ensures fault { IfErr result (SendsPart W.taken W.failures output.old output.new
+        (text_from context.now.chain first engine.old (asked_in lines.now))) }
 {
     if let Some(payment) = lone_payment(context.pool.alloc, lines)? {
         let answer = engine.answer_route(&context.pool, &payment)?;
@@ -117,8 +123,10 @@ fn answer_alone<W: Sink>(
     requires writer { W.failures output.old.writer.now + 1 < 2 ^ 64 }
     ensures writer { output.new.writer.ghost_name ≡ output.old.writer.ghost_name }
     ensures state { OnOk result (engine.new ≡ state_alone engine.old (request_of line.now)) }
-    ensures told { OnOk result (Sends W.taken W.failures output.old output.new (text_alone number engine.old (request_of line.now))) }
-    ensures fault { IfErr result (SendsPart W.taken W.failures output.old output.new (text_alone number engine.old (request_of line.now))) }
+    ensures told { OnOk result (Sends W.taken W.failures output.old output.new
+        (text_alone number engine.old (request_of line.now))) }
+    ensures fault { IfErr result (SendsPart W.taken W.failures output.old output.new
+        (text_alone number engine.old (request_of line.now))) }
 {
     match parse(alloc, line)? {
         Request::Quiet => Ok(()),
@@ -141,9 +149,12 @@ pub fn answer<Rt: Threads + Sync, G: Gate, W: Sink>(
     requires few { engine.old.accepted + length group.now.lines.items ≤ 10000000 }
     requires writer { W.failures output.old.writer.now + 1 < 2 ^ 64 }
     ensures writer { output.new.writer.ghost_name ≡ output.old.writer.ghost_name }
-    ensures state { OnOk result (engine.new ≡ state_from context.now.chain engine.old (asked_in group.now.lines.items)) }
-    ensures told { OnOk result (Sends W.taken W.failures output.old output.new (text_from context.now.chain first engine.old (asked_in group.now.lines.items))) }
-    ensures fault { IfErr result (SendsPart W.taken W.failures output.old output.new (text_from context.now.chain first engine.old (asked_in group.now.lines.items))) }
+    ensures state { OnOk result
+        (engine.new ≡ state_from context.now.chain engine.old (asked_in group.now.lines.items)) }
+    ensures told { OnOk result (Sends W.taken W.failures output.old output.new
+        (text_from context.now.chain first engine.old (asked_in group.now.lines.items))) }
+    ensures fault { IfErr result (SendsPart W.taken W.failures output.old output.new
+        (text_from context.now.chain first engine.old (asked_in group.now.lines.items))) }
 {
     let lines = group.lines.as_slice();
     match group.kind {

@@ -39,7 +39,13 @@ impl Model for Engine {
 
     ghost Value = { State };
 
-    ghost view = { λ e. record { known = e.maps.known; rows = e.maps.rows; committed = e.maps.committed; accepted = e.accepted; filters = e.filters } };
+    ghost view = { λ e. record {
+      known = e.maps.known;
+      rows = e.maps.rows;
+      committed = e.maps.committed;
+      accepted = e.accepted;
+      filters = e.filters;
+    } };
 
     ghost invariant = { λ e. IsFew e.maps e.accepted };
 }
@@ -85,7 +91,8 @@ impl Engine {
     ) -> Result<Answer<'static>, AllocError>
         requires few { self.old.accepted ≤ 2000000000 }
         ensures same { self.new ≡ self.old }
-        ensures answer { IfOk result (λ answer. (n : ℕ) → answer_text n answer ≡ route_text n payment.now.secret (route_answer self.old.known self.old.committed payment.now)) }
+        ensures answer { IfOk result (λ answer. (n : ℕ) → answer_text n answer
+            ≡ route_text n payment.now.secret (route_answer self.old.known self.old.committed payment.now)) }
     {
         let found = self.maps.find_route(pool, &asked_route(payment));
         answer_found(pool.alloc, &payment.secret, found)
@@ -106,9 +113,11 @@ impl Engine {
         ensures state { OnOk result (self.new ≡ record self.old
             { filters = filters_behind context.now.chain self.old.filters (asked_in lines.now) }) }
         ensures told { OnOk result (Sends W.taken W.failures output.old output.new
-            (questions_text context.now.chain self.old.known self.old.committed number self.old.filters (asked_in lines.now))) }
+            (questions_text context.now.chain self.old.known self.old.committed number self.old.filters
+            (asked_in lines.now))) }
         ensures fault { IfErr result (SendsPart W.taken W.failures output.old output.new
-            (questions_text context.now.chain self.old.known self.old.committed number self.old.filters (asked_in lines.now))) }
+            (questions_text context.now.chain self.old.known self.old.committed number self.old.filters
+            (asked_in lines.now))) }
     {
         self.maps
             .answer_questions(context, number, lines, &mut self.filters, output)
@@ -150,7 +159,8 @@ fn committed<'a>(
     maps: &'a Maps,
     filters: &'a Filters,
 ) -> Result<Answer<'a>, AllocError>
-    ensures { IfOk result (λ answer. (n : ℕ) → answer_text n answer ≡ commit_text n accepted maps.now.committed maps.now.rows filters.now) }
+    ensures { IfOk result (λ answer. (n : ℕ)
+        → answer_text n answer ≡ commit_text n accepted maps.now.committed maps.now.rows filters.now) }
 {
     if filters.as_map().is_empty() {
         return Ok(Answer::Committed(accepted));
@@ -169,8 +179,10 @@ fn tell_commit<W: Sink>(
 ) -> Result<(), SendFault>
     requires { W.failures output.old.writer.now + 1 < 2 ^ 64 }
     ensures writer { output.new.writer.ghost_name ≡ output.old.writer.ghost_name }
-    ensures told { OnOk result (Sends W.taken W.failures output.old output.new (commit_text number accepted maps.now.committed maps.now.rows filters.now)) }
-    ensures fault { IfErr result (SendsPart W.taken W.failures output.old output.new (commit_text number accepted maps.now.committed maps.now.rows filters.now)) }
+    ensures told { OnOk result (Sends W.taken W.failures output.old output.new
+        (commit_text number accepted maps.now.committed maps.now.rows filters.now)) }
+    ensures fault { IfErr result (SendsPart W.taken W.failures output.old output.new
+        (commit_text number accepted maps.now.committed maps.now.rows filters.now)) }
 {
     let answer = committed(alloc, accepted, maps, filters)?;
     answer.send(alloc, number, output)

@@ -1,6 +1,7 @@
 //! The map of all accepted items, and the committed one.
 
-ghost use Rattle.std.specs.Prelude.{◌≡◌, ◌⊎◌, ◌+◌, ◌≤◌, ◌<◌, ◌^◌, [], true, length, Err, IfOk, IfErr, OnOk, OnErr};
+ghost use Rattle.std.specs.Prelude.{◌≡◌, ◌⊎◌, ◌+◌, ◌≤◌, ◌<◌, ◌^◌, [], true};
+ghost use Rattle.std.specs.Prelude.{length, Err, IfOk, IfErr, OnOk, OnErr};
 ghost use Rattle.std.specs.Result.{result_err};
 ghost use Rattle.lgm_store.specs.Rows.{empty};
 ghost use Rattle.lgm_store.specs.History.{fold_from};
@@ -56,7 +57,11 @@ impl Model for Maps {
 
     ghost Value = { Growth };
 
-    ghost view = { λ m. record { known = m.chart.known; rows = fold_from m.map m.due.items; committed = m.committed } };
+    ghost view = { λ m. record {
+      known = m.chart.known;
+      rows = fold_from m.map m.due.items;
+      committed = m.committed;
+    } };
 
     ghost invariant = { λ m. AreKept m.map m.due.items m.committed m.pending.items m.chart };
 }
@@ -151,7 +156,8 @@ impl Maps {
 
     /// The differences since the last commit. The cost is that of what was accepted since then.
     pub fn differences(&self, alloc: Global) -> Result<Differences<'_>, AllocError>
-        ensures { IfOk result (λ differences. differences ≡ record { before = self.now.committed; after = self.now.rows }) }
+        ensures { IfOk result
+            (λ differences. differences ≡ record { before = self.now.committed; after = self.now.rows }) }
     {
         let changes = changes_of(alloc, &self.pending)?;
         let grown = if self.pending.is_empty() {
@@ -211,11 +217,14 @@ impl Maps {
         requires writer { W.failures output.old.writer.now + 1 < 2 ^ 64 }
         ensures same { self.new ≡ self.old }
         ensures writer { output.new.writer.ghost_name ≡ output.old.writer.ghost_name }
-        ensures filters { OnOk result (filters.new ≡ filters_behind context.now.chain filters.old (asked_in lines.now)) }
+        ensures filters { OnOk result
+            (filters.new ≡ filters_behind context.now.chain filters.old (asked_in lines.now)) }
         ensures told { OnOk result (Sends W.taken W.failures output.old output.new
-            (questions_text context.now.chain self.old.known self.old.committed number filters.old (asked_in lines.now))) }
+            (questions_text context.now.chain self.old.known self.old.committed number filters.old
+            (asked_in lines.now))) }
         ensures fault { IfErr result (SendsPart W.taken W.failures output.old output.new
-            (questions_text context.now.chain self.old.known self.old.committed number filters.old (asked_in lines.now))) }
+            (questions_text context.now.chain self.old.known self.old.committed number filters.old
+            (asked_in lines.now))) }
     {
         chart_routes(
             context.pool.alloc,

@@ -14,7 +14,7 @@ use std::alloc::{AllocError, Global};
 use std::collections::VecDeque;
 
 /// Admits an item and applies its operation, which is returned. A refusal or out of memory leaves the map unchanged.
-#[tactic(auto, unfolding(crate::specs::Offered::outcome_on))]
+#[tactic(auto, unfolding(crate::specs::inner::Offered::outcome_on))]
 fn admit(alloc: Global, map: &mut Map, item: Offered) -> Result<Op, Refusal>
     ensures outcome { Gives Refusal.NoMemory (λ op. op) result (outcome_on map.old item) }
     ensures accepted { IfOk result (λ op. map.new ≡ absorbed map.old op) }
@@ -40,7 +40,8 @@ pub fn offer(
     item: Offered,
 ) -> Result<Option<Refusal>, AllocError>
     ensures refusal { IfOk result (λ refusal. refusal ≡ result_err (outcome_on map.old item)) }
-    ensures kept { OnOk result (Keeps (outcome_on map.old item) map.old map.new pending.old.items pending.new.items) }
+    ensures kept { OnOk result
+        (Keeps (outcome_on map.old item) map.old map.new pending.old.items pending.new.items) }
     ensures same { OnErr result (map.new ≡ map.old) }
     ensures none { OnErr result (pending.new.items ≡ pending.old.items) }
 {

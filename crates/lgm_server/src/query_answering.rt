@@ -20,8 +20,10 @@ fn answer_message<'a>(
     map: &'a Map,
     message: &Message,
 ) -> Result<Answer<'a>, AllocError>
-    ensures text { IfOk result (λ answer. (n : ℕ) → answer_text n answer ≡ query_text n (answer_to chain.now map.now (Ok message.now))) }
-    ensures filters { IfOk result (λ answer. (filters : List PeerFilter) → filters_by filters answer ≡ filters) }
+    ensures text { IfOk result (λ answer. (n : ℕ)
+        → answer_text n answer ≡ query_text n (answer_to chain.now map.now (Ok message.now))) }
+    ensures filters { IfOk result
+        (λ answer. (filters : List PeerFilter) → filters_by filters answer ≡ filters) }
 {
     match message {
         Message::IdsQuery(query) => Ok(Answer::Messages(answer_ids(alloc, chain, map, query)?)),
@@ -42,8 +44,10 @@ pub fn answer_query<'a>(
     map: &'a Map,
     bytes: &[u8],
 ) -> Result<Answer<'a>, AllocError>
-    ensures text { IfOk result (λ answer. (n : ℕ) → answer_text n answer ≡ query_text n (query_answer chain.now map.now bytes.now)) }
-    ensures filters { IfOk result (λ answer. (filters : List PeerFilter) → filters_by filters answer ≡ filters) }
+    ensures text { IfOk result
+        (λ answer. (n : ℕ) → answer_text n answer ≡ query_text n (query_answer chain.now map.now bytes.now)) }
+    ensures filters { IfOk result
+        (λ answer. (filters : List PeerFilter) → filters_by filters answer ≡ filters) }
 {
     match decode(alloc, bytes) {
         Ok(message) => answer_message(alloc, chain, map, &message),

@@ -1,6 +1,7 @@
 //! Questions about the committed map, answered in parallel.
 
-ghost use Rattle.std.specs.Prelude.{◌≡◌, ◌⊎◌, ◌+◌, ◌≤◌, ◌<◌, ◌^◌, ℕ, List, Err, IfOk, IfErr, OnOk, All, length};
+ghost use Rattle.std.specs.Prelude.{◌≡◌, ◌⊎◌, ◌+◌, ◌≤◌, ◌<◌, ◌^◌, ℕ, List};
+ghost use Rattle.std.specs.Prelude.{Err, IfOk, IfErr, OnOk, All, length};
 ghost use Rattle.std.specs.List.{AllZip};
 ghost use Rattle.lgm_graph.specs.Edges.{edges_of};
 ghost use Rattle.lgm_route.specs.Choice.{answer_of};
@@ -13,7 +14,8 @@ ghost use Rattle.lgm_server.specs.Filtering.{filter_read};
 ghost use Rattle.lgm_server.specs.Routing.{asked_route, route_answer};
 ghost use Rattle.lgm_server.specs.inner.Steps.{filters_with};
 ghost use Rattle.lgm_server.specs.declared.filters.PeerFilter.{PeerFilter};
-ghost use Rattle.lgm_server.specs.inner.Questions.{asked_in, filters_by, filters_behind, questions_text, IsAnswerTo, IsReady};
+ghost use Rattle.lgm_server.specs.inner.Questions.{asked_in, filters_by, filters_behind};
+ghost use Rattle.lgm_server.specs.inner.Questions.{questions_text, IsAnswerTo, IsReady};
 
 use crate::answer::Answer;
 use crate::chart::{Chart, Kept};
@@ -74,8 +76,10 @@ fn answer_route(
     payment: &Payment,
 ) -> Result<Answer<'static>, AllocError>
     requires { IsReady chart.now committed.now (AsksRoute payment.now) }
-    ensures text { IfOk result (λ answer. (n : ℕ) → answer_text n answer ≡ route_text n payment.now.secret (route_answer chart.now.known committed.now payment.now)) }
-    ensures filters { IfOk result (λ answer. (filters : List PeerFilter) → filters_by filters answer ≡ filters) }
+    ensures text { IfOk result (λ answer. (n : ℕ) → answer_text n answer
+        ≡ route_text n payment.now.secret (route_answer chart.now.known committed.now payment.now)) }
+    ensures filters { IfOk result
+        (λ answer. (filters : List PeerFilter) → filters_by filters answer ≡ filters) }
 {
     let found = find(alloc, committed, chart, &asked_route(payment));
     answer_found(alloc, &payment.secret, found)
@@ -89,8 +93,10 @@ fn answer_filter<'a>(
     peer: u16,
     bytes: &[u8],
 ) -> Result<Answer<'a>, AllocError>
-    ensures text { IfOk result (λ answer. (n : ℕ) → answer_text n answer ≡ filter_text n peer committed.now (filter_read chain.now bytes.now)) }
-    ensures filters { IfOk result (λ answer. (filters : List PeerFilter) → filters_by filters answer ≡ filters_with filters peer (filter_read chain.now bytes.now)) }
+    ensures text { IfOk result (λ answer. (n : ℕ)
+        → answer_text n answer ≡ filter_text n peer committed.now (filter_read chain.now bytes.now)) }
+    ensures filters { IfOk result (λ answer. (filters : List PeerFilter)
+        → filters_by filters answer ≡ filters_with filters peer (filter_read chain.now bytes.now)) }
 {
     match read_filter(alloc, chain, bytes)? {
         Ok(filter) => Ok(Answer::Backlog(PeerFilter { peer, filter }, committed)),
@@ -128,7 +134,8 @@ fn decide_all<'a, Rt: Threads + Sync, G: Gate>(
 ) -> Result<Vec<Result<Answer<'a>, AllocError>>, AllocError>
     requires ready { All (λ line. IsReady chart.now committed.now (request_of line.now)) lines.now }
     ensures { IfOk result (λ all. AllZip (λ request answer. IfOk answer
-        (IsAnswerTo context.now.chain chart.now.known committed.now request)) (asked_in lines.now) all.items) }
+        (IsAnswerTo context.now.chain chart.now.known committed.now request))
+        (asked_in lines.now) all.items) }
 {
     let alloc = context.pool.alloc;
     let chain = &context.chain;
@@ -146,8 +153,10 @@ fn tell<W: Sink>(
     requires { W.failures output.old.writer.now + 1 < 2 ^ 64 }
     ensures writer { output.new.writer.ghost_name ≡ output.old.writer.ghost_name }
     ensures filters { OnOk result (filters.new ≡ filters_by filters.old answer.now) }
-    ensures told { OnOk result (Sends W.taken W.failures output.old output.new (answer_text number answer.now)) }
-    ensures fault { IfErr result (SendsPart W.taken W.failures output.old output.new (answer_text number answer.now)) }
+    ensures told { OnOk result
+        (Sends W.taken W.failures output.old output.new (answer_text number answer.now)) }
+    ensures fault { IfErr result
+        (SendsPart W.taken W.failures output.old output.new (answer_text number answer.now)) }
 {
     if let Answer::Backlog(own, _) = answer {
         filters.set(*own)?;
@@ -169,11 +178,14 @@ pub fn answer_questions<Rt: Threads + Sync, G: Gate, W: Sink>(
     requires number { first + length lines.now < 2 ^ 64 }
     requires writer { W.failures output.old.writer.now + 1 < 2 ^ 64 }
     ensures writer { output.new.writer.ghost_name ≡ output.old.writer.ghost_name }
-    ensures filters { OnOk result (filters.new ≡ filters_behind context.now.chain filters.old (asked_in lines.now)) }
+    ensures filters { OnOk result
+        (filters.new ≡ filters_behind context.now.chain filters.old (asked_in lines.now)) }
     ensures told { OnOk result (Sends W.taken W.failures output.old output.new
-        (questions_text context.now.chain chart.now.known committed.now first filters.old (asked_in lines.now))) }
+        (questions_text context.now.chain chart.now.known committed.now first filters.old
+        (asked_in lines.now))) }
     ensures fault { IfErr result (SendsPart W.taken W.failures output.old output.new
-        (questions_text context.now.chain chart.now.known committed.now first filters.old (asked_in lines.now))) }
+        (questions_text context.now.chain chart.now.known committed.now first filters.old
+        (asked_in lines.now))) }
 {
     let all = decide_all(context, committed, chart, lines)?;
     let mut number = first;

@@ -17,8 +17,10 @@ fn send_hops<W: Sink>(
 ) -> Result<(), SendFault>
     requires { W.failures output.old.writer.now + 1 < 2 ^ 64 }
     ensures writer { output.new.writer.ghost_name ≡ output.old.writer.ghost_name }
-    ensures told { OnOk result (Sends W.taken W.failures output.old output.new (hops_text number route.now payloads.now)) }
-    ensures fault { IfErr result (SendsPart W.taken W.failures output.old output.new (hops_text number route.now payloads.now)) }
+    ensures told { OnOk result
+        (Sends W.taken W.failures output.old output.new (hops_text number route.now payloads.now)) }
+    ensures fault { IfErr result
+        (SendsPart W.taken W.failures output.old output.new (hops_text number route.now payloads.now)) }
 {
     let hops = route.as_slice();
     let payloads = payloads.as_slice();
@@ -37,8 +39,10 @@ pub fn send_route<W: Sink>(
 ) -> Result<(), SendFault>
     requires { W.failures output.old.writer.now + 1 < 2 ^ 64 }
     ensures writer { output.new.writer.ghost_name ≡ output.old.writer.ghost_name }
-    ensures told { OnOk result (Sends W.taken W.failures output.old output.new (routed_text number route.now payloads.now)) }
-    ensures fault { IfErr result (SendsPart W.taken W.failures output.old output.new (routed_text number route.now payloads.now)) }
+    ensures told { OnOk result
+        (Sends W.taken W.failures output.old output.new (routed_text number route.now payloads.now)) }
+    ensures fault { IfErr result
+        (SendsPart W.taken W.failures output.old output.new (routed_text number route.now payloads.now)) }
 {
     output.send_route(number, route.sent(), route.expiry(), route.as_slice().len())?;
     send_hops(number, route, payloads, output)

@@ -32,7 +32,8 @@ pub fn answer_found(
 ) -> Result<Answer<'static>, AllocError>
     ensures decided { IfOk result (λ _. found ≢ Err RouteFault.NoMemory) }
     ensures answer { IfOk result (λ answer. (n : ℕ) → answer_text n answer ≡ route_text n secret.now found) }
-    ensures filters { IfOk result (λ answer. (filters : List PeerFilter) → filters_by filters answer ≡ filters) }
+    ensures filters { IfOk result
+        (λ answer. (filters : List PeerFilter) → filters_by filters answer ≡ filters) }
 {
     match found {
         Ok(route) => {

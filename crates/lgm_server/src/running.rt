@@ -62,7 +62,8 @@ fn answer_next<Rt: Threads + Sync, G: Gate, W: Sink>(
     requires few { engine.old.accepted + most ≤ 10000000 }
     requires writer { W.failures output.old.writer.now + 1 < 2 ^ 64 }
     ensures writer { output.new.writer.ghost_name ≡ output.old.writer.ghost_name }
-    ensures answered { IfOk result (λ done. HaveAnswers context.now.chain number engine.old engine.new lines.now first
+    ensures answered { IfOk result
+        (λ done. HaveAnswers context.now.chain number engine.old engine.new lines.now first
         (Sends W.taken W.failures output.old output.new) done.0 done.1) }
     ensures few { IfOk result (λ done. done.0 ≤ most) }
     ensures fault { IfErr result (λ fault. HaveBegun context.now.chain number most engine.old lines.now first
@@ -88,16 +89,20 @@ fn answer_lines<Rt: Threads + Sync, G: Gate, R: Source, W: Sink>(
     requires writer { W.failures output.old.writer.now + 1 < 2 ^ 64 }
     ensures writer { output.new.writer.ghost_name ≡ output.old.writer.ghost_name }
     ensures ok { IfOk result (λ counts. IfSome (R.left source.old)
-        (IsAnswered context.now.chain engine.old.known (Sends W.taken W.failures output.old output.new) counts)) }
+        (IsAnswered context.now.chain engine.old.known
+        (Sends W.taken W.failures output.old output.new) counts)) }
     ensures too_many { result ≡ Err RunFault.TooManyLines → IfSome (R.left source.old)
         (IsTooMany context.now.chain engine.old.known (Sends W.taken W.failures output.old output.new)) }
     ensures too_long { result ≡ Err RunFault.LineTooLong → IfSome (R.left source.old)
         (IsTooLong context.now.chain engine.old.known (Sends W.taken W.failures output.old output.new)) }
     ensures some { IfSome (R.left source.old)
-        (IsCutShort context.now.chain engine.old.known (SendsSome W.taken W.failures output.old output.new) (R.left source.new)) }
+        (IsCutShort context.now.chain engine.old.known (SendsSome W.taken W.failures output.old output.new)
+        (R.left source.new)) }
     ensures read { result ≡ Err RunFault.Read → R.failures source.old < R.failures source.new }
-    ensures write { result ≡ Err RunFault.Write → W.failures output.old.writer.now < W.failures output.new.writer.now }
-    ensures well { result ≢ Err RunFault.Write → W.failures output.new.writer.now ≡ W.failures output.old.writer.now }
+    ensures write { result ≡ Err RunFault.Write
+        → W.failures output.old.writer.now < W.failures output.new.writer.now }
+    ensures well { result ≢ Err RunFault.Write
+        → W.failures output.new.writer.now ≡ W.failures output.old.writer.now }
 {
     let mut number = 0;
     while number < MAX_LINES {
@@ -189,14 +194,18 @@ pub fn run<Rt: Threads + Sync + RandomSource, G: Gate, R: Source, W: Sink>(
     requires writer { W.failures writer.old + 1 < 2 ^ 64 }
 
     // Each line was answered, and nothing else was written.
-    ensures ok { AnswersAll chain.now known.now (R.left reader.old) (W.taken writer.old) (W.taken writer.new) result }
+    ensures ok { AnswersAll chain.now known.now (R.left reader.old) (W.taken writer.old)
+        (W.taken writer.new) result }
 
     // The lines before were answered.
-    ensures too_many { StopsAtLimit chain.now known.now (R.left reader.old) (W.taken writer.old) (W.taken writer.new) result }
-    ensures too_long { StopsAtLongLine chain.now known.now (R.left reader.old) (W.taken writer.old) (W.taken writer.new) result }
+    ensures too_many { StopsAtLimit chain.now known.now (R.left reader.old) (W.taken writer.old)
+        (W.taken writer.new) result }
+    ensures too_long { StopsAtLongLine chain.now known.now (R.left reader.old) (W.taken writer.old)
+        (W.taken writer.new) result }
 
     // At any fault a prefix of the text of lines that were read, all within the limits, was written, and nothing else.
-    ensures fault { StopsShort chain.now known.now (R.left reader.old) (W.taken writer.old) (W.taken writer.new) result (R.left reader.new) }
+    ensures fault { StopsShort chain.now known.now (R.left reader.old) (W.taken writer.old)
+        (W.taken writer.new) result (R.left reader.new) }
 
     // A device failed in this call.
     ensures read { result ≡ Err RunFault.Read → R.failures reader.old < R.failures reader.new }

@@ -22,8 +22,10 @@ pub(crate) fn send_messages<W: Sink>(
 ) -> Result<(), SendFault>
     requires { W.failures output.old.writer.now + 1 < 2 ^ 64 }
     ensures writer { output.new.writer.ghost_name ≡ output.old.writer.ghost_name }
-    ensures told { OnOk result (Sends W.taken W.failures output.old output.new (query_text number (Ok messages.now))) }
-    ensures fault { IfErr result (SendsPart W.taken W.failures output.old output.new (query_text number (Ok messages.now))) }
+    ensures told { OnOk result
+        (Sends W.taken W.failures output.old output.new (query_text number (Ok messages.now))) }
+    ensures fault { IfErr result
+        (SendsPart W.taken W.failures output.old output.new (query_text number (Ok messages.now))) }
 {
     for message in messages {
         output.send_message(number, None, message.as_slice())?;
@@ -40,8 +42,10 @@ pub(crate) fn send_range<W: Sink>(
 ) -> Result<(), SendFault>
     requires { W.failures output.old.writer.now + 1 < 2 ^ 64 }
     ensures writer { output.new.writer.ghost_name ≡ output.old.writer.ghost_name }
-    ensures told { OnOk result (Sends W.taken W.failures output.old output.new (range_text number asked.now)) }
-    ensures fault { IfErr result (SendsPart W.taken W.failures output.old output.new (range_text number asked.now)) }
+    ensures told { OnOk result
+        (Sends W.taken W.failures output.old output.new (range_text number asked.now)) }
+    ensures fault { IfErr result
+        (SendsPart W.taken W.failures output.old output.new (range_text number asked.now)) }
 {
     let replies = answer_range(alloc, &asked.chain, asked.map, &asked.query)?;
     send_messages(number, replies.as_slice(), output)
@@ -76,8 +80,10 @@ pub(crate) fn send_filtered<W: Sink>(
 ) -> Result<(), SendFault>
     requires { W.failures output.old.writer.now + 1 < 2 ^ 64 }
     ensures writer { output.new.writer.ghost_name ≡ output.old.writer.ghost_name }
-    ensures told { OnOk result (Sends W.taken W.failures output.old output.new (filter_text number own.now.peer map.now (Ok own.now.filter))) }
-    ensures fault { IfErr result (SendsPart W.taken W.failures output.old output.new (filter_text number own.now.peer map.now (Ok own.now.filter))) }
+    ensures told { OnOk result (Sends W.taken W.failures output.old output.new
+        (filter_text number own.now.peer map.now (Ok own.now.filter))) }
+    ensures fault { IfErr result (SendsPart W.taken W.failures output.old output.new
+        (filter_text number own.now.peer map.now (Ok own.now.filter))) }
 {
     output.send_word(number, "filter")?;
     send_backlog(number, own, map, output)
@@ -92,8 +98,10 @@ fn send_news_to<W: Sink>(
 ) -> Result<(), SendFault>
     requires { W.failures output.old.writer.now + 1 < 2 ^ 64 }
     ensures writer { output.new.writer.ghost_name ≡ output.old.writer.ghost_name }
-    ensures told { OnOk result (Sends W.taken W.failures output.old output.new (news_text number differences.now.before differences.now.after own.now)) }
-    ensures fault { IfErr result (SendsPart W.taken W.failures output.old output.new (news_text number differences.now.before differences.now.after own.now)) }
+    ensures told { OnOk result (Sends W.taken W.failures output.old output.new
+        (news_text number differences.now.before differences.now.after own.now)) }
+    ensures fault { IfErr result (SendsPart W.taken W.failures output.old output.new
+        (news_text number differences.now.before differences.now.after own.now)) }
 {
     for message in differences.news(&own.filter) {
         output.send_message(number, Some(own.peer), message)?;
@@ -110,8 +118,10 @@ fn send_all_news<W: Sink>(
 ) -> Result<(), SendFault>
     requires { W.failures output.old.writer.now + 1 < 2 ^ 64 }
     ensures writer { output.new.writer.ghost_name ≡ output.old.writer.ghost_name }
-    ensures told { OnOk result (Sends W.taken W.failures output.old output.new (flat_map (news_text number differences.now.before differences.now.after) filters.now)) }
-    ensures fault { IfErr result (SendsPart W.taken W.failures output.old output.new (flat_map (news_text number differences.now.before differences.now.after) filters.now)) }
+    ensures told { OnOk result (Sends W.taken W.failures output.old output.new
+        (flat_map (news_text number differences.now.before differences.now.after) filters.now)) }
+    ensures fault { IfErr result (SendsPart W.taken W.failures output.old output.new
+        (flat_map (news_text number differences.now.before differences.now.after) filters.now)) }
 {
     for (_, own) in filters.as_map() {
         send_news_to(number, own, differences, output)?;
@@ -129,8 +139,10 @@ pub(crate) fn send_news<W: Sink>(
 ) -> Result<(), SendFault>
     requires { W.failures output.old.writer.now + 1 < 2 ^ 64 }
     ensures writer { output.new.writer.ghost_name ≡ output.old.writer.ghost_name }
-    ensures told { OnOk result (Sends W.taken W.failures output.old output.new (commit_text number accepted differences.now.before differences.now.after filters.now)) }
-    ensures fault { IfErr result (SendsPart W.taken W.failures output.old output.new (commit_text number accepted differences.now.before differences.now.after filters.now)) }
+    ensures told { OnOk result (Sends W.taken W.failures output.old output.new
+        (commit_text number accepted differences.now.before differences.now.after filters.now)) }
+    ensures fault { IfErr result (SendsPart W.taken W.failures output.old output.new
+        (commit_text number accepted differences.now.before differences.now.after filters.now)) }
 {
     output.send_count(number, accepted)?;
     send_all_news(number, filters, differences, output)

@@ -26,22 +26,27 @@ use Rattle.lgm_store.proofs.Lists.{direction_total, node_total}
 -- ---- the rows of an ordered map
 
 module _ {K R : Type 0} (cmp : K → K → Ordering) (key : R → K) where
-  above_all : (k : K) (row : R) (entries : List (K × R)) → k ≡ key row → IsKeyed key entries → AllByRecursion (λ other. cmp k other ≡ Less) (keys_of entries)
+  above_all : (k : K) (row : R) (entries : List (K × R)) → k ≡ key row → IsKeyed key entries
+      → AllByRecursion (λ other. cmp k other ≡ Less) (keys_of entries)
       → AllByRecursion (λ other. cmp (key row) (key other) ≡ Less) (values_of entries)
   above_all k row [] own keyed above = tt
   above_all k row (e ∷ es) own keyed above =
       (ap (λ x. cmp x (key e.1)) (sym own) ∙ ap (cmp k) (sym keyed.0) ∙ above.0, above_all k row es own keyed.1 above.1)
 
-  pub ascend-values : (entries : List (K × R)) → IsKeyed key entries → IsStrictlySortedBy cmp (keys_of entries) → IsStrictlySortedBy (λ a b. cmp (key a) (key b)) (values_of entries)
+  pub ascend-values : (entries : List (K × R)) → IsKeyed key entries → IsStrictlySortedBy cmp
+      (keys_of entries) → IsStrictlySortedBy (λ a b. cmp (key a) (key b)) (values_of entries)
   unfolding IsStrictlySortedBy
   ascend-values [] keyed sorted = tt
   ascend-values (e ∷ es) keyed sorted = (above_all e.0 e.1 es keyed.0 keyed.1 sorted.0, ascend-values es keyed.1 sorted.1)
 
-pub ascend-channels : (entries : List (ℕ × ChannelRow)) → IsKeyed id_of entries → IsStrictlySortedBy nat_cmp (keys_of entries) → IsStrictlySortedBy by_id (values_of entries)
+pub ascend-channels : (entries : List (ℕ × ChannelRow)) → IsKeyed id_of entries
+    → IsStrictlySortedBy nat_cmp (keys_of entries) → IsStrictlySortedBy by_id (values_of entries)
 ascend-channels entries keyed sorted = ascend-values nat_cmp id_of entries keyed sorted
 
-pub IsAscending-sound : (channels : List (ℕ × ChannelRow)) (updates : List ((ℕ × Bool) × UpdateRow)) (nodes : List (Point × NodeRow)) (ends : List (Point × List ℕ)) (rows : Rows)
-    → IsSound channels updates nodes ends → IsStrictlySortedBy point_cmp rows.banned → values_of channels ≡ rows.channels → values_of updates ≡ rows.updates → values_of nodes ≡ rows.nodes → IsAscending rows
+pub IsAscending-sound : (channels : List (ℕ × ChannelRow)) (updates : List ((ℕ × Bool) × UpdateRow))
+    (nodes : List (Point × NodeRow)) (ends : List (Point × List ℕ)) (rows : Rows)
+    → IsSound channels updates nodes ends → IsStrictlySortedBy point_cmp rows.banned → values_of channels
+    ≡ rows.channels → values_of updates ≡ rows.updates → values_of nodes ≡ rows.nodes → IsAscending rows
 IsAscending-sound channels updates nodes ends rows sound banned c u n =
     record {
       channels = rw (← c) (ascend-values nat_cmp id_of channels sound.channels_keyed sound.channels_ascend);
@@ -79,8 +84,10 @@ module _ {R : Type 0} (order : R → R → Ordering) where
       → AllByRecursion (λ x. order x row ≡ Less) xs → AllByRecursion (λ y. order row y ≡ Less) ys → IsStrictlySortedBy order (xs ++ row ∷ ys)
   unfolding IsStrictlySortedBy
   ascend-around total [] row ys sorted sorted' below above = (above, sorted')
-  ascend-around total (x ∷ xs) row ys sorted sorted' below above =
-      (All-append (λ y. order x y ≡ Less) xs (row ∷ ys) sorted.0 (below.0, through ys above), ascend-around total xs row ys sorted.1 sorted' below.1 above)
+  ascend-around total (x ∷ xs) row ys sorted sorted' below above = (
+    All-append (λ y. order x y ≡ Less) xs (row ∷ ys) sorted.0 (below.0, through ys above),
+    ascend-around total xs row ys sorted.1 sorted' below.1 above,
+  )
     where
       through : (zs : List R) → AllByRecursion (λ y. order row y ≡ Less) zs → AllByRecursion (λ y. order x y ≡ Less) zs
       through [] a = tt
@@ -91,7 +98,8 @@ module _ {R : Type 0} (order : R → R → Ordering) where
   lesser row (x ∷ xs) = by (lesser row xs) (order x row) refl
     where
       by : AllByRecursion (λ x. order x row ≡ Less) (filter (λ x. is_lt (order x row)) xs) → (o : Ordering) → order x row ≡ o
-          → AllByRecursion (λ x. order x row ≡ Less) (cond (is_lt (order x row)) (x ∷ filter (λ x. is_lt (order x row)) xs) (filter (λ x. is_lt (order x row)) xs))
+          → AllByRecursion (λ x. order x row ≡ Less) (cond (is_lt (order x row)) (x
+          ∷ filter (λ x. is_lt (order x row)) xs) (filter (λ x. is_lt (order x row)) xs))
       by others Less is = rw is (is, others)
       by others Equal is = rw is others
       by others Greater is = rw is others
@@ -101,7 +109,8 @@ module _ {R : Type 0} (order : R → R → Ordering) where
   greater total row (x ∷ xs) = by (greater total row xs) (order x row) refl
     where
       by : AllByRecursion (λ y. order row y ≡ Less) (filter (λ x. is_gt (order x row)) xs) → (o : Ordering) → order x row ≡ o
-          → AllByRecursion (λ y. order row y ≡ Less) (cond (is_gt (order x row)) (x ∷ filter (λ x. is_gt (order x row)) xs) (filter (λ x. is_gt (order x row)) xs))
+          → AllByRecursion (λ y. order row y ≡ Less) (cond (is_gt (order x row)) (x
+          ∷ filter (λ x. is_gt (order x row)) xs) (filter (λ x. is_gt (order x row)) xs))
       by others Less is = rw is others
       by others Equal is = rw is others
       by others Greater is = rw is (total.antisymm row x ∙ ap ordering_reverse is, others)
@@ -120,26 +129,48 @@ by_node_total : IsTotalOrder by_node
 by_node_total = on_total point_of node_total
 
 -- points more
-pub ascend-with_banned : (points : List Point) (ban : BanRow) → IsStrictlySortedBy by_point points → IsStrictlySortedBy by_point (with_banned points ban)
+pub ascend-with_banned : (points : List Point) (ban : BanRow) → IsStrictlySortedBy by_point points
+    → IsStrictlySortedBy by_point (with_banned points ban)
 ascend-with_banned points ban ascend =
-    let put-point : (ps : List Point) (p : Point) → IsStrictlySortedBy by_point ps → IsStrictlySortedBy by_point (put by_point ps p) = λ ps p a. ascend-put by_point node_total ps p a in
+    let put-point : (ps : List Point) (p : Point) → IsStrictlySortedBy by_point ps
+    → IsStrictlySortedBy by_point (put by_point ps p) =
+    λ ps p a. ascend-put by_point node_total ps p a in
     put-point _ ban.new2 (put-point _ ban.new1 (put-point _ ban.held2 (put-point points ban.held1 ascend)))
 
 pub IsAscending-absorbed : (rows : Rows) (op : Op) → IsAscending rows → IsAscending (absorbed rows op)
-IsAscending-absorbed rows (ops.Channel row) ascend = by (is_some (channel_of rows.channels row.message.short_channel_id) || ends_banned rows.banned row)
+IsAscending-absorbed rows (ops.Channel row) ascend =
+    by (is_some (channel_of rows.channels row.message.short_channel_id) || ends_banned rows.banned row)
   where
     by : (b : Bool) → IsAscending (if b then rows else record rows { channels = put by_id rows.channels row })
     by true = ascend
-    by false = record { channels = ascend-put by_id id_total rows.channels row ascend.channels; updates = ascend.updates; nodes = ascend.nodes; banned = ascend.banned }
+    by false =
+        record {
+          channels = ascend-put by_id id_total rows.channels row ascend.channels;
+          updates = ascend.updates;
+          nodes = ascend.nodes;
+          banned = ascend.banned;
+        }
 IsAscending-absorbed rows (ops.Update row) ascend = by (is_some (channel_of rows.channels row.message.short_channel_id))
   where
     by : (b : Bool) → IsAscending (if b then record rows { updates = put by_direction rows.updates row } else rows)
-    by true = record { channels = ascend.channels; updates = ascend-put by_direction by_direction_total rows.updates row ascend.updates; nodes = ascend.nodes; banned = ascend.banned }
+    by true =
+        record {
+          channels = ascend.channels;
+          updates = ascend-put by_direction by_direction_total rows.updates row ascend.updates;
+          nodes = ascend.nodes;
+          banned = ascend.banned;
+        }
     by false = ascend
 IsAscending-absorbed rows (ops.Node row) ascend = by (ends_channel rows.channels row.message.node_id)
   where
     by : (b : Bool) → IsAscending (if b then record rows { nodes = put by_node rows.nodes row } else rows)
-    by true = record { channels = ascend.channels; updates = ascend.updates; nodes = ascend-put by_node by_node_total rows.nodes row ascend.nodes; banned = ascend.banned }
+    by true =
+        record {
+          channels = ascend.channels;
+          updates = ascend.updates;
+          nodes = ascend-put by_node by_node_total rows.nodes row ascend.nodes;
+          banned = ascend.banned;
+        }
     by false = ascend
 IsAscending-absorbed rows (ops.Close id) ascend = by (is_some (channel_of rows.channels id))
   where

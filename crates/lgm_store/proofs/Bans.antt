@@ -1,5 +1,6 @@
 -- Bans: closing the channels that end at banned points, one after the other.
-use Rattle.std.proofs.Common.{◌≡◌, ℕ, Bool, true, false, not, ◌&&◌, ◌||◌, cond, List, [], ◌∷◌, ◌++◌, ◌+◌, ◌<◌, length, take, get_or, map, Some, refl, sym, ap, ◌∙◌, eqb, arith}
+use Rattle.std.proofs.Common.{◌≡◌, ℕ, Bool, true, false, not, ◌&&◌, ◌||◌, cond, List, [], ◌∷◌, ◌++◌, ◌+◌}
+use Rattle.std.proofs.Common.{◌<◌, length, take, get_or, map, Some, refl, sym, ap, ◌∙◌, eqb, arith}
 use Rattle.std.specs.Prelude.{is_some, if◌then◌else◌}
 use Rattle.std.specs.List.{AllByRecursion, filter, list_any}
 use Rattle.std.specs.List.Sorted.{IsStrictlySortedBy}
@@ -19,7 +20,8 @@ use Rattle.lgm_check.specs.declared.row.NodeRow.{NodeRow}
 use Rattle.lgm_store.specs.inner.Keyed.{IsKeyed}
 use Rattle.lgm_store.specs.inner.Ends.{point_cmp}
 use Rattle.lgm_store.specs.Rows.{Rows, put, by_point, by_id, is_point, channel_of, ends_at, ends_channel, is_banned, ends_banned}
-use Rattle.lgm_store.specs.History.{without_channel, channels_without, updates_without, ended_nodes, allowed_channels, banned_channels, updates_beside, banning, with_banned, with_ban}
+use Rattle.lgm_store.specs.History.{without_channel, channels_without, updates_without, ended_nodes, allowed_channels}
+use Rattle.lgm_store.specs.History.{banned_channels, updates_beside, banning, with_banned, with_ban}
 use Rattle.lgm_store.specs.Reading.{ids_at}
 use Rattle.lgm_store.specs.inner.Sound.{AreEnded, AreAllowed, id_of}
 use Rattle.lgm_check.specs.declared.row.BanRow.{BanRow}
@@ -44,7 +46,9 @@ closed_all-push rows (first ∷ ids) id = closed_all-push (without_channel rows 
 -- one more
 pub closed_all-more : (rows : Rows) (ids : List ℕ) (i : ℕ) (id : ℕ) → i < length ids → id ≡ get_or ids i id
     → closed_all rows (take (i + 1) ids) ≡ without_channel (closed_all rows (take i ids)) id
-closed_all-more rows ids i id in_range is = ap (closed_all rows) ((take_at_read ids i id in_range).1) ∙ closed_all-push rows (take i ids) (get_or ids i id) ∙ ap (without_channel (closed_all rows (take i ids))) (sym is)
+closed_all-more rows ids i id in_range is =
+    ap (closed_all rows) ((take_at_read ids i id in_range).1) ∙ closed_all-push rows (take i ids)
+    (get_or ids i id) ∙ ap (without_channel (closed_all rows (take i ids))) (sym is)
 
 -- ---- a channel whose id is the least of those that go
 
@@ -76,13 +80,15 @@ record Going (p : ChannelRow → Bool) (rows : List ChannelRow) (first : Channel
   failing : filter (λ row. not (p row)) (channels_without rows (id_of first)) ≡ filter (λ row. not (p row)) rows
   held : is_some (channel_of rows (id_of first)) ≡ true
 
-going : (p : ChannelRow → Bool) (rows : List ChannelRow) (first : ChannelRow) (rest : List ChannelRow) → IsStrictlySortedBy by_id rows → filter p rows ≡ first ∷ rest
+going : (p : ChannelRow → Bool) (rows : List ChannelRow) (first : ChannelRow) (rest : List ChannelRow)
+    → IsStrictlySortedBy by_id rows → filter p rows ≡ first ∷ rest
     → Going p rows first rest
 unfolding IsStrictlySortedBy
 going p [] first rest sorted is = absurd cc
 going p (x ∷ xs) first rest sorted is = by (going p xs first rest sorted.1) (p x) refl is
   where
-    by : (filter p xs ≡ first ∷ rest → Going p xs first rest) → (b : Bool) → p x ≡ b → cond (p x) (x ∷ filter p xs) (filter p xs) ≡ first ∷ rest → Going p (x ∷ xs) first rest
+    by : (filter p xs ≡ first ∷ rest → Going p xs first rest) → (b : Bool) → p x ≡ b
+        → cond (p x) (x ∷ filter p xs) (filter p xs) ≡ first ∷ rest → Going p (x ∷ xs) first rest
     by others true here is =
         let parts : x ∷ filter p xs ≡ first ∷ rest = rw here at is in
         let first_is : x ≡ first = cc in
@@ -107,7 +113,9 @@ going p (x ∷ xs) first rest sorted is = by (going p xs first rest sorted.1) (p
 -- the updates of channels that go, one of them first
 updates-step : (first : ChannelRow) (rest : List ChannelRow) (updates : List UpdateRow)
     → updates_beside rest (updates_without updates (id_of first)) ≡ updates_beside (first ∷ rest) updates
-updates-step first rest updates = filter-filter _ _ updates ∙ filter-same _ _ (λ row. by row (eqb row.message.short_channel_id (id_of first)) (turned row.message.short_channel_id (id_of first))) updates
+updates-step first rest updates =
+    filter-filter _ _ updates ∙ filter-same _ _ (λ row. by row (eqb row.message.short_channel_id
+    (id_of first)) (turned row.message.short_channel_id (id_of first))) updates
   where
     turned : (a b : ℕ) → eqb b a ≡ eqb a b
     turned a b = grind (arith, nat_tests)
@@ -131,19 +139,24 @@ any-filter p q (x ∷ xs) any = by (any-filter p q xs) (p x) any
     at true others any = refl
     at false others any = others any
 
-    by : (list_any q (filter p xs) ≡ true → list_any q xs ≡ true) → (b : Bool) → list_any q (cond b (x ∷ filter p xs) (filter p xs)) ≡ true → (q x || list_any q xs) ≡ true
+    by : (list_any q (filter p xs) ≡ true → list_any q xs ≡ true) → (b : Bool)
+        → list_any q (cond b (x ∷ filter p xs) (filter p xs)) ≡ true → (q x || list_any q xs) ≡ true
     by others true any = at (q x) others any
     by others false any = rw (others any) (or_true (q x))
 
-nodes-step : (p : ChannelRow → Bool) (channels : List ChannelRow) (nodes : List NodeRow) → ended_nodes (filter p channels) (ended_nodes channels nodes) ≡ ended_nodes (filter p channels) nodes
-nodes-step p channels nodes = filter-filter _ _ nodes ∙ filter-same _ _ (λ row. by row (ends_channel (filter p channels) row.message.node_id) refl) nodes
+nodes-step : (p : ChannelRow → Bool) (channels : List ChannelRow) (nodes : List NodeRow)
+    → ended_nodes (filter p channels) (ended_nodes channels nodes) ≡ ended_nodes (filter p channels) nodes
+nodes-step p channels nodes =
+    filter-filter _ _ nodes
+    ∙ filter-same _ _ (λ row. by row (ends_channel (filter p channels) row.message.node_id) refl) nodes
   where
     and_false : (b : Bool) → (b && false) ≡ false
     and_false true = refl
     and_false false = refl
 
     by : (row : NodeRow) (b : Bool) → ends_channel (filter p channels) row.message.node_id ≡ b
-        → (ends_channel channels row.message.node_id && ends_channel (filter p channels) row.message.node_id) ≡ ends_channel (filter p channels) row.message.node_id
+        → (ends_channel channels row.message.node_id && ends_channel (filter p channels) row.message.node_id)
+        ≡ ends_channel (filter p channels) row.message.node_id
     by row true is = rw (is, any-filter p (ends_at row.message.node_id) channels is) refl
     by row false is = rw is (and_false (ends_channel channels row.message.node_id))
 
@@ -168,7 +181,8 @@ all_ended : (channels : List ChannelRow) (nodes : List NodeRow) → AreEnded cha
 all_ended channels [] ended = refl
 all_ended channels (x ∷ xs) ended = rw (ended.0, all_ended channels xs ended.1) refl
 
-pub banning-none : (rows : Rows) (banned : List Point) → rows.banned ≡ banned → banned_channels banned rows.channels ≡ [] → AreEnded rows.channels rows.nodes → rows ≡ banning rows banned
+pub banning-none : (rows : Rows) (banned : List Point) → rows.banned ≡ banned → banned_channels banned
+    rows.channels ≡ [] → AreEnded rows.channels rows.nodes → rows ≡ banning rows banned
 banning-none rows banned is none ended =
     let channels = nothing banned rows.channels none in
     let updates : updates_beside (banned_channels banned rows.channels) rows.updates ≡ rows.updates = rw none (all_stay rows.updates) in
@@ -177,7 +191,8 @@ banning-none rows banned is none ended =
 -- rows by their lists
 rows_same : (a b : Rows) → a.channels ≡ b.channels → a.updates ≡ b.updates → a.nodes ≡ b.nodes → a.banned ≡ b.banned → a ≡ b
 rows_same a b c u n p =
-    let rows : List ChannelRow → List UpdateRow → List NodeRow → List Point → Rows = λ cs us ns ps. record { channels = cs; updates = us; nodes = ns; banned = ps } in
+    let rows : List ChannelRow → List UpdateRow → List NodeRow → List Point → Rows =
+    λ cs us ns ps. record { channels = cs; updates = us; nodes = ns; banned = ps } in
     ap (λ cs. rows cs a.updates a.nodes a.banned) c ∙ ap (λ us. rows b.channels us a.nodes a.banned) u
     ∙ ap (λ ns. rows b.channels b.updates ns a.banned) n ∙ ap (λ ps. rows b.channels b.updates b.nodes ps) p
 
@@ -190,7 +205,8 @@ closing rows id = record {
   banned = rows.banned;
 }
 
-pub closed_all-bans : (ids : List ℕ) (rows : Rows) (banned : List Point) → rows.banned ≡ banned → ids ≡ map id_of (banned_channels banned rows.channels)
+pub closed_all-bans : (ids : List ℕ) (rows : Rows) (banned : List Point) → rows.banned ≡ banned
+    → ids ≡ map id_of (banned_channels banned rows.channels)
     → IsStrictlySortedBy by_id rows.channels → AreEnded rows.channels rows.nodes → closed_all rows ids ≡ banning rows banned
 closed_all-bans [] rows banned is ids_are ascend ended = by (banned_channels banned rows.channels) refl ids_are
   where
@@ -201,8 +217,10 @@ closed_all-bans (id ∷ ids) rows banned is ids_are ascend ended =
     by (closed_all-bans ids (closing rows id) banned is) (banned_channels banned rows.channels) refl ids_are
   where
     by : (ids ≡ map id_of (banned_channels banned (channels_without rows.channels id)) → IsStrictlySortedBy by_id (channels_without rows.channels id)
-        → AreEnded (channels_without rows.channels id) (ended_nodes (channels_without rows.channels id) rows.nodes) → closed_all (closing rows id) ids ≡ banning (closing rows id) banned)
-        → (gone : List ChannelRow) → banned_channels banned rows.channels ≡ gone → id ∷ ids ≡ map id_of gone → closed_all (without_channel rows id) ids ≡ banning rows banned
+        → AreEnded (channels_without rows.channels id) (ended_nodes (channels_without rows.channels id)
+        rows.nodes) → closed_all (closing rows id) ids ≡ banning (closing rows id) banned)
+        → (gone : List ChannelRow) → banned_channels banned rows.channels ≡ gone → id ∷ ids ≡ map id_of gone
+        → closed_all (without_channel rows id) ids ≡ banning rows banned
     by others [] gone_is ids_are = absurd cc
     by others (first ∷ rest) gone_is ids_are =
         let id_is : id ≡ id_of first = cc in
@@ -212,12 +230,20 @@ closed_all-bans (id ∷ ids) rows banned is ids_are ascend ended =
         let failing : allowed_channels banned (channels_without rows.channels id) ≡ allowed_channels banned rows.channels = rw id_is g.failing in
         let held : is_some (channel_of rows.channels id) ≡ true = rw id_is g.held in
         let closes : without_channel rows id ≡ closing rows id = rw held refl in
-        let later = others (rest_is ∙ ap (map id_of) (sym passing)) (ascend-filter by_id _ rows.channels ascend) (AreEnded-ended_nodes (channels_without rows.channels id) rows.nodes) in
-        let updates : updates_beside (banned_channels banned (channels_without rows.channels id)) (updates_without rows.updates id) ≡ updates_beside (banned_channels banned rows.channels) rows.updates =
-        ap (λ gone. updates_beside gone (updates_without rows.updates id)) passing ∙ ap (λ i. updates_beside rest (updates_without rows.updates i)) id_is
+        let later =
+        others (rest_is ∙ ap (map id_of) (sym passing)) (ascend-filter by_id _ rows.channels ascend)
+        (AreEnded-ended_nodes (channels_without rows.channels id) rows.nodes) in
+        let updates : updates_beside (banned_channels banned (channels_without rows.channels id))
+        (updates_without rows.updates id)
+        ≡ updates_beside (banned_channels banned rows.channels) rows.updates =
+        ap (λ gone. updates_beside gone (updates_without rows.updates id)) passing
+        ∙ ap (λ i. updates_beside rest (updates_without rows.updates i)) id_is
         ∙ updates-step first rest rows.updates ∙ ap (λ gone. updates_beside gone rows.updates) (sym gone_is) in
-        let nodes : ended_nodes (allowed_channels banned (channels_without rows.channels id)) (ended_nodes (channels_without rows.channels id) rows.nodes) ≡ ended_nodes (allowed_channels banned rows.channels) rows.nodes =
-        nodes-step (λ row. not (ends_banned banned row)) (channels_without rows.channels id) rows.nodes ∙ ap (λ channels. ended_nodes channels rows.nodes) failing in
+        let nodes : ended_nodes (allowed_channels banned (channels_without rows.channels id))
+        (ended_nodes (channels_without rows.channels id) rows.nodes)
+        ≡ ended_nodes (allowed_channels banned rows.channels) rows.nodes =
+        nodes-step (λ row. not (ends_banned banned row)) (channels_without rows.channels id) rows.nodes
+        ∙ ap (λ channels. ended_nodes channels rows.nodes) failing in
         ap (λ r. closed_all r ids) closes ∙ later ∙ rows_same (banning (closing rows id) banned) (banning rows banned) failing updates nodes refl
 
 -- ---- closing a channel twice is closing it once
@@ -240,7 +266,8 @@ channels_stay : (rows : List ChannelRow) (id : ℕ) → is_some (channel_of rows
 channels_stay [] id none = refl
 channels_stay (x ∷ xs) id none = by (channels_stay xs id) (eqb (id_of x) id) refl none
   where
-    by : (is_some (channel_of xs id) ≡ false → channels_without xs id ≡ xs) → (b : Bool) → eqb (id_of x) id ≡ b → is_some (cond (eqb (id_of x) id) (Some x) (channel_of xs id)) ≡ false
+    by : (is_some (channel_of xs id) ≡ false → channels_without xs id ≡ xs) → (b : Bool)
+        → eqb (id_of x) id ≡ b → is_some (cond (eqb (id_of x) id) (Some x) (channel_of xs id)) ≡ false
         → cond (not (eqb (id_of x) id)) (x ∷ channels_without xs id) (channels_without xs id) ≡ x ∷ xs
     by others true is none = let never : true ≡ false = rw is at none in absurd cc
     by others false is none = rw (is, others (rw is at none)) refl
@@ -256,7 +283,10 @@ updates_stay channels id (x ∷ xs) none held = by (updates_stay channels id xs 
     by : updates_without xs id ≡ xs → (b : Bool) → eqb x.message.short_channel_id id ≡ b
         → cond (not (eqb x.message.short_channel_id id)) (x ∷ updates_without xs id) (updates_without xs id) ≡ x ∷ xs
     by others true is =
-        let never : true ≡ false = sym held.0 ∙ ap (λ i. is_some (channel_of channels i)) (same_id x.message.short_channel_id id is) ∙ none in absurd cc
+        let never : true ≡ false =
+        sym held.0
+        ∙ ap (λ i. is_some (channel_of channels i)) (same_id x.message.short_channel_id id is) ∙ none in
+        absurd cc
     by others false is = rw (is, others) refl
 
 closing-is : (rows : Rows) (id : ℕ) → AreHeld rows → Lawful.AreEnded rows → without_channel rows id ≡ closing rows id
@@ -271,11 +301,16 @@ closing-is rows id held ended = by (is_some (channel_of rows.channels id)) refl
 dropping-step : (rows : Rows) (id : ℕ) (gone : ℕ → Bool) → dropping (closing rows id) gone ≡ dropping rows (λ i. eqb i id || gone i)
 dropping-step rows id gone =
     let both : (i : ℕ) → (not (eqb i id) && not (gone i)) ≡ not (eqb i id || gone i) = λ i. neither (eqb i id) (gone i) in
-    let channels : filter (λ row. not (gone (id_of row))) (channels_without rows.channels id) ≡ filter (λ row. not (eqb (id_of row) id || gone (id_of row))) rows.channels =
+    let channels : filter (λ row. not (gone (id_of row))) (channels_without rows.channels id)
+    ≡ filter (λ row. not (eqb (id_of row) id || gone (id_of row))) rows.channels =
     filter-filter _ _ rows.channels ∙ filter-same _ _ (λ row. both (id_of row)) rows.channels in
-    let updates : filter (λ row. not (gone row.message.short_channel_id)) (updates_without rows.updates id) ≡ filter (λ row. not (eqb row.message.short_channel_id id || gone row.message.short_channel_id)) rows.updates =
+    let updates : filter (λ row. not (gone row.message.short_channel_id)) (updates_without rows.updates id)
+    ≡ filter (λ row.
+    not (eqb row.message.short_channel_id id || gone row.message.short_channel_id)) rows.updates =
     filter-filter _ _ rows.updates ∙ filter-same _ _ (λ row. both row.message.short_channel_id) rows.updates in
-    let nodes = nodes-step (λ row. not (gone (id_of row))) (channels_without rows.channels id) rows.nodes ∙ ap (λ channels. ended_nodes channels rows.nodes) channels in
+    let nodes =
+    nodes-step (λ row. not (gone (id_of row))) (channels_without rows.channels id) rows.nodes
+    ∙ ap (λ channels. ended_nodes channels rows.nodes) channels in
     rows_same (dropping (closing rows id) gone) (dropping rows (λ i. eqb i id || gone i)) channels updates nodes refl
   where
     neither : (a b : Bool) → (not a && not b) ≡ not (a || b)
@@ -304,7 +339,9 @@ gathers-none rows points allowed id = ap (λ gone. has (map id_of gone) id) (sym
 
 -- a point that is put is there, and others are as they were
 pub is_banned-put : (points : List Point) (p x : Point) → is_banned (put by_point points p) x ≡ (is_point x p || is_banned points x)
-is_banned-put points p x = list_any-append (is_point x) (filter (λ other. is_lt (by_point other p)) points) (p ∷ filter (λ other. is_gt (by_point other p)) points) ∙ parts points
+is_banned-put points p x =
+    list_any-append (is_point x) (filter (λ other. is_lt (by_point other p)) points) (p
+    ∷ filter (λ other. is_gt (by_point other p)) points) ∙ parts points
   where
     last : (a b c : Bool) → (a || (b || c)) ≡ (b || (a || c))
     last true true c = refl
@@ -327,7 +364,8 @@ is_banned-put points p x = list_any-append (is_point x) (filter (λ other. is_lt
     again true b = refl
     again false b = refl
 
-    parts : (qs : List Point) → (is_banned (filter (λ other. is_lt (by_point other p)) qs) x || (is_point x p || is_banned (filter (λ other. is_gt (by_point other p)) qs) x)) ≡ (is_point x p || is_banned qs x)
+    parts : (qs : List Point) → (is_banned (filter (λ other. is_lt (by_point other p)) qs) x || (is_point x p
+        || is_banned (filter (λ other. is_gt (by_point other p)) qs) x)) ≡ (is_point x p || is_banned qs x)
     parts [] = refl
     parts (q ∷ qs) = by (parts qs) (by_point q p) refl (is_point x q) refl
       where
@@ -337,8 +375,11 @@ is_banned-put points p x = list_any-append (is_point x) (filter (λ other. is_lt
         more : List Point
         more = filter (λ other. is_gt (by_point other p)) qs
 
-        by : (is_banned less x || (is_point x p || is_banned more x)) ≡ (is_point x p || is_banned qs x) → (o : Ordering) → by_point q p ≡ o → (b : Bool) → is_point x q ≡ b
-            → (is_banned (cond (is_lt (by_point q p)) (q ∷ less) less) x || (is_point x p || is_banned (cond (is_gt (by_point q p)) (q ∷ more) more) x)) ≡ (is_point x p || (is_point x q || is_banned qs x))
+        by : (is_banned less x || (is_point x p || is_banned more x)) ≡ (is_point x p || is_banned qs x)
+            → (o : Ordering) → by_point q p ≡ o → (b : Bool) → is_point x q ≡ b
+            → (is_banned (cond (is_lt (by_point q p)) (q ∷ less) less) x
+            || (is_point x p || is_banned (cond (is_gt (by_point q p)) (q ∷ more) more) x))
+            ≡ (is_point x p || (is_point x q || is_banned qs x))
         by others Less is true here = rw (is, here) (sym (last (is_point x p) true (is_banned qs x)))
         by others Less is false here = rw (is, here) others
         by others Equal is b here =
@@ -347,10 +388,12 @@ is_banned-put points p x = list_any-append (is_point x) (filter (λ other. is_lt
         by others Greater is true here = rw (is, here) (inside (is_banned less x) (is_point x p) (is_banned more x) (is_banned qs x) others)
         by others Greater is false here = rw (is, here) others
 
-pub ends_banned-put : (points : List Point) (p : Point) (row : ChannelRow) → ends_banned (put by_point points p) row ≡ (ends_banned points row || ends_at p row)
+pub ends_banned-put : (points : List Point) (p : Point) (row : ChannelRow)
+    → ends_banned (put by_point points p) row ≡ (ends_banned points row || ends_at p row)
 ends_banned-put points p row =
     rw (is_banned-put points p row.message.node_id_1, is_banned-put points p row.message.node_id_2)
-    (turned (is_point row.message.node_id_1 p) (is_banned points row.message.node_id_1) (is_point row.message.node_id_2 p) (is_banned points row.message.node_id_2))
+    (turned (is_point row.message.node_id_1 p) (is_banned points row.message.node_id_1)
+    (is_point row.message.node_id_2 p) (is_banned points row.message.node_id_2))
   where
     turned : (a b c d : Bool) → ((a || b) || (c || d)) ≡ ((b || d) || (a || c))
     turned true true c d = refl
@@ -363,7 +406,8 @@ ends_banned-put points p row =
     turned false false false false = refl
 
 -- those of one point more
-pub gathers-more : (rows : List ChannelRow) (points : List Point) (ids : List ℕ) (p : Point) → Gathers rows points ids → Gathers rows (put by_point points p) (ids ++ ids_at rows p)
+pub gathers-more : (rows : List ChannelRow) (points : List Point) (ids : List ℕ) (p : Point)
+    → Gathers rows points ids → Gathers rows (put by_point points p) (ids ++ ids_at rows p)
 gathers-more rows points ids p gathers id =
     list_any-append (λ other. eqb id other) ids (ids_at rows p) ∙ ap (λ (b : Bool). b || has (ids_at rows p) id) (gathers id) ∙ both rows
   where
@@ -376,13 +420,16 @@ gathers-more rows points ids p gathers id =
     swap true false c = refl
     swap false b c = refl
 
-    both : (xs : List ChannelRow) → (has (map id_of (banned_channels points xs)) id || has (ids_at xs p) id) ≡ has (map id_of (banned_channels (put by_point points p) xs)) id
+    both : (xs : List ChannelRow) → (has (map id_of (banned_channels points xs)) id || has (ids_at xs p) id)
+        ≡ has (map id_of (banned_channels (put by_point points p) xs)) id
     both [] = refl
     both (x ∷ xs) = rw (ends_banned-put points p x) (by (both xs) (ends_banned points x) (ends_at p x) (eqb id (id_of x)) refl)
       where
-        by : (has (map id_of (banned_channels points xs)) id || has (ids_at xs p) id) ≡ has (map id_of (banned_channels (put by_point points p) xs)) id
+        by : (has (map id_of (banned_channels points xs)) id || has (ids_at xs p) id)
+            ≡ has (map id_of (banned_channels (put by_point points p) xs)) id
             → (b d e : Bool) → eqb id (id_of x) ≡ e
-            → (has (map id_of (cond b (x ∷ banned_channels points xs) (banned_channels points xs))) id || has (map id_of (cond d (x ∷ filter (ends_at p) xs) (filter (ends_at p) xs))) id)
+            → (has (map id_of (cond b (x ∷ banned_channels points xs) (banned_channels points xs))) id
+            || has (map id_of (cond d (x ∷ filter (ends_at p) xs) (filter (ends_at p) xs))) id)
             ≡ has (map id_of (cond (b || d) (x ∷ banned_channels (put by_point points p) xs) (banned_channels (put by_point points p) xs))) id
         by others true true true is = rw is refl
         by others true true false is = rw is others
@@ -393,7 +440,8 @@ gathers-more rows points ids p gathers id =
         by others false false e is = others
 
 -- closing them all, where the points are set aside meanwhile, bans the points
-pub closed_all-gathered : (rows : Rows) (ids : List ℕ) (banned : List Point) → Gathers rows.channels banned ids → AreHeld rows → Lawful.AreEnded rows → IsStrictlySortedBy by_id rows.channels
+pub closed_all-gathered : (rows : Rows) (ids : List ℕ) (banned : List Point) → Gathers rows.channels banned
+    ids → AreHeld rows → Lawful.AreEnded rows → IsStrictlySortedBy by_id rows.channels
     → record (closed_all (record rows { banned = [] }) ids) { banned = banned } ≡ banning rows banned
 closed_all-gathered rows ids banned gathers held ended ascend =
     let gone = map id_of (banned_channels banned rows.channels) in
@@ -413,20 +461,26 @@ allowed-none [] = tt
 allowed-none (x ∷ xs) = (refl, allowed-none xs)
 
 -- the whole of a ban
-pub banned-all : (rows start end : Rows) (aside points : List Point) (ids : List ℕ) (ban : BanRow) → IsLawful rows → aside ≡ [] → start ≡ record rows { banned = aside }
+pub banned-all : (rows start end : Rows) (aside points : List Point) (ids : List ℕ) (ban : BanRow)
+    → IsLawful rows → aside ≡ [] → start ≡ record rows { banned = aside }
     → ids ≡ ((ids_at rows.channels ban.held1 ++ ids_at rows.channels ban.held2) ++ ids_at rows.channels ban.new1) ++ ids_at rows.channels ban.new2
     → end ≡ closed_all start ids → points ≡ with_banned rows.banned ban → record end { banned = points } ≡ with_ban rows ban
 banned-all rows start end aside points ids ban lawful aside_is start_is ids_are end_is points_are =
-    let gathers : Gathers rows.channels (with_banned rows.banned ban) (((ids_at rows.channels ban.held1 ++ ids_at rows.channels ban.held2) ++ ids_at rows.channels ban.new1) ++ ids_at rows.channels ban.new2) =
-    gathers-more rows.channels _ _ ban.new2 (gathers-more rows.channels _ _ ban.new1 (gathers-more rows.channels _ _ ban.held2 (gathers-more rows.channels _ [] ban.held1 (gathers-none rows.channels rows.banned lawful.allowed)))) in
-    rw (points_are, end_is, start_is, aside_is, ids_are) (closed_all-gathered rows _ (with_banned rows.banned ban) gathers lawful.held lawful.ended lawful.ascend.channels)
+    let gathers : Gathers rows.channels (with_banned rows.banned ban) (((ids_at rows.channels ban.held1
+    ++ ids_at rows.channels ban.held2) ++ ids_at rows.channels ban.new1) ++ ids_at rows.channels ban.new2) =
+    gathers-more rows.channels _ _ ban.new2
+    (gathers-more rows.channels _ _ ban.new1 (gathers-more rows.channels _ _ ban.held2 (gathers-more
+    rows.channels _ [] ban.held1 (gathers-none rows.channels rows.banned lawful.allowed)))) in
+    rw (points_are, end_is, start_is, aside_is, ids_are) (closed_all-gathered rows _
+    (with_banned rows.banned ban) gathers lawful.held lawful.ended lawful.ascend.channels)
 
 -- ---- the set of banned points
 
 -- a point is put where an ordered set keeps it
 pub keys-insert : (points : List Point) (p : Point) → IsStrictlySortedBy by_point points → insert_key by_point points p ≡ put by_point points p
 keys-insert points p sorted =
-    by points ∙ values-insert point_cmp (λ (q : Point). q) node_total p (twice points) (keyed points) (rw (keys points) sorted) ∙ ap (λ ps. put by_point ps p) (values points)
+    by points ∙ values-insert point_cmp (λ (q : Point). q) node_total p (twice points) (keyed points)
+    (rw (keys points) sorted) ∙ ap (λ ps. put by_point ps p) (values points)
   where
     twice : List Point → List (Point × Point)
     twice [] = []

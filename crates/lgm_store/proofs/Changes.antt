@@ -22,39 +22,47 @@ none_from None none = refl
 none_from (Some x) none = absurd cc
 
 -- whether a channel is held, as its map says
-pub is_held : (entries : List (ℕ × Held)) (rows : List ChannelRow) (id : ℕ) → IsKeyed id_of (channel_entries entries) → values_of (channel_entries entries) ≡ rows
+pub is_held : (entries : List (ℕ × Held)) (rows : List ChannelRow) (id : ℕ)
+    → IsKeyed id_of (channel_entries entries) → values_of (channel_entries entries) ≡ rows
     → is_some (lookup (is_at (nat_cmp id)) entries) ≡ is_some (channel_of rows id)
 is_held entries rows id keyed is =
     mapped (lookup (is_at (nat_cmp id)) entries)
-    ∙ ap is_some (sym (lookup-channels (is_at (nat_cmp id)) entries) ∙ lookup-channel (channel_entries entries) id keyed ∙ ap (λ rs. channel_of rs id) is)
+    ∙ ap is_some (sym (lookup-channels (is_at (nat_cmp id)) entries)
+    ∙ lookup-channel (channel_entries entries) id keyed ∙ ap (λ rs. channel_of rs id) is)
   where
     mapped : (o : Option Held) → is_some o ≡ is_some (option_map (λ held. held.channel) o)
     mapped None = refl
     mapped (Some held) = refl
 
 -- a channel that isn't held isn't in its map
-pub not_held : (entries : List (ℕ × Held)) (rows : List ChannelRow) (id : ℕ) → IsKeyed id_of (channel_entries entries) → values_of (channel_entries entries) ≡ rows
+pub not_held : (entries : List (ℕ × Held)) (rows : List ChannelRow) (id : ℕ)
+    → IsKeyed id_of (channel_entries entries) → values_of (channel_entries entries) ≡ rows
     → is_some (channel_of rows id) ≡ false → lookup (is_at (nat_cmp id)) entries ≡ None
 not_held entries rows id keyed is none = none_from (lookup (is_at (nat_cmp id)) entries) (is_held entries rows id keyed is ∙ none)
 
 pub with_channel-new : (rows new : Rows) (row : ChannelRow) → is_some (channel_of rows.channels row.message.short_channel_id) ≡ false
     → ends_banned rows.banned row ≡ false
-    → new.channels ≡ put by_id rows.channels row → new.updates ≡ rows.updates → new.nodes ≡ rows.nodes → new.banned ≡ rows.banned → new ≡ with_channel rows row
+    → new.channels ≡ put by_id rows.channels row → new.updates ≡ rows.updates → new.nodes ≡ rows.nodes
+    → new.banned ≡ rows.banned → new ≡ with_channel rows row
 with_channel-new rows new row none allowed c u n b = rw (none, allowed, ← c, ← u, ← n, ← b) refl
 
 pub with_update-new : (rows new : Rows) (row : UpdateRow) → is_some (channel_of rows.channels row.message.short_channel_id) ≡ true
-    → new.channels ≡ rows.channels → new.updates ≡ put by_direction rows.updates row → new.nodes ≡ rows.nodes → new.banned ≡ rows.banned → new ≡ with_update rows row
+    → new.channels ≡ rows.channels → new.updates ≡ put by_direction rows.updates row → new.nodes ≡ rows.nodes
+    → new.banned ≡ rows.banned → new ≡ with_update rows row
 with_update-new rows new row held c u n b = rw (held, ← c, ← u, ← n, ← b) refl
 
-pub with_update-none : (rows : Rows) (row : UpdateRow) → is_some (channel_of rows.channels row.message.short_channel_id) ≡ false → rows ≡ with_update rows row
+pub with_update-none : (rows : Rows) (row : UpdateRow)
+    → is_some (channel_of rows.channels row.message.short_channel_id) ≡ false → rows ≡ with_update rows row
 with_update-none rows row none = rw none refl
 
 pub with_node-new : (rows new : Rows) (row : NodeRow) → ends_channel rows.channels row.message.node_id ≡ true
-    → new.channels ≡ rows.channels → new.updates ≡ rows.updates → new.nodes ≡ put by_node rows.nodes row → new.banned ≡ rows.banned → new ≡ with_node rows row
+    → new.channels ≡ rows.channels → new.updates ≡ rows.updates → new.nodes ≡ put by_node rows.nodes row
+    → new.banned ≡ rows.banned → new ≡ with_node rows row
 with_node-new rows new row ended c u n b = rw (ended, ← c, ← u, ← n, ← b) refl
 
 pub without_channel-held : (rows new : Rows) (id : ℕ) → is_some (channel_of rows.channels id) ≡ true
-    → new.channels ≡ channels_without rows.channels id → new.updates ≡ updates_without rows.updates id → new.nodes ≡ ended_nodes (channels_without rows.channels id) rows.nodes
+    → new.channels ≡ channels_without rows.channels id → new.updates ≡ updates_without rows.updates id
+    → new.nodes ≡ ended_nodes (channels_without rows.channels id) rows.nodes
     → new.banned ≡ rows.banned → new ≡ without_channel rows id
 without_channel-held rows new id held c u n b = rw (held, ← n, ← c, ← u, ← b) refl
 

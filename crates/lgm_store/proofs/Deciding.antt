@@ -15,12 +15,14 @@ pub channel-decided : (banned : List Point) (held : Option ChannelRow) (row : Ch
     → channel_op row (channel_verdict banned held row.message.node_id_1 row.message.node_id_2) ≡ channel_admission banned held row
 channel-decided banned held row = by held (ends_banned banned row) refl
   where
-    by : (held : Option ChannelRow) (b : Bool) → ends_banned banned row ≡ b → channel_op row (channel_verdict banned held row.message.node_id_1 row.message.node_id_2) ≡ channel_admission banned held row
+    by : (held : Option ChannelRow) (b : Bool) → ends_banned banned row ≡ b → channel_op row (channel_verdict
+        banned held row.message.node_id_1 row.message.node_id_2) ≡ channel_admission banned held row
     by held true is = rw is refl
     by None false is = rw is refl
     by (Some old) false is = same (have_same_nodes old row) refl
       where
-        same : (b : Bool) → have_same_nodes old row ≡ b → channel_op row (channel_verdict banned (Some old) row.message.node_id_1 row.message.node_id_2) ≡ channel_admission banned (Some old) row
+        same : (b : Bool) → have_same_nodes old row ≡ b → channel_op row (channel_verdict banned (Some old)
+            row.message.node_id_1 row.message.node_id_2) ≡ channel_admission banned (Some old) row
         same true same_is = rw (is, same_is) refl
         same false same_is = rw (is, same_is) refl
 
@@ -29,7 +31,8 @@ pub added : (banned : List Point) (held : Option ChannelRow) (row : ChannelRow) 
     → (is_some held ≡ false) × (ends_banned banned row ≡ false)
 added banned held row is = by held (ends_banned banned row) refl is
   where
-    by : (held : Option ChannelRow) (b : Bool) → ends_banned banned row ≡ b → Ok (ops.Channel row) ≡ channel_admission banned held row → (is_some held ≡ false) × (ends_banned banned row ≡ false)
+    by : (held : Option ChannelRow) (b : Bool) → ends_banned banned row ≡ b → Ok (ops.Channel row)
+        ≡ channel_admission banned held row → (is_some held ≡ false) × (ends_banned banned row ≡ false)
     by held true banned_is is = let never : Ok (ops.Channel row) ≡ Err refusals.Banned = rw banned_is at is in absurd cc
     by None false banned_is is = (refl, banned_is)
     by (Some old) false banned_is is = same (have_same_nodes old row) refl
@@ -49,11 +52,13 @@ update-decided channel held row signer = by held (is_point signer (node_by chann
     by (Some old) true is = newer (nat_lt old.message.timestamp row.message.timestamp) refl
       where
         newer : (b : Bool) → nat_lt old.message.timestamp row.message.timestamp ≡ b
-            → update_op row (update_verdict channel (Some old) (is_second row) row.message.timestamp signer) ≡ update_admission (Some channel) (Some old) row signer
+            → update_op row (update_verdict channel (Some old) (is_second row) row.message.timestamp signer)
+            ≡ update_admission (Some channel) (Some old) row signer
         newer true newer_is = rw (is, newer_is) refl
         newer false newer_is = rw (is, newer_is) refl
 
-pub node-decided : (banned ends : Bool) (held : Option NodeRow) (row : NodeRow) → node_op row (node_verdict banned ends held row.message.timestamp) ≡ node_admission banned ends held row
+pub node-decided : (banned ends : Bool) (held : Option NodeRow) (row : NodeRow)
+    → node_op row (node_verdict banned ends held row.message.timestamp) ≡ node_admission banned ends held row
 node-decided true ends held row = refl
 node-decided false false held row = refl
 node-decided false true None row = refl

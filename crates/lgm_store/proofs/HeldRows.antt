@@ -46,7 +46,8 @@ unfolding HasAll
 has_all [] keyed = tt
 has_all (e ∷ es) keyed = (rw (keyed.0, same (id_of e.1.channel)) refl, has_more e.1.channel (values_of (channel_entries es)) es (has_all es keyed.1))
 
-held_one : (rows : List ChannelRow) (k : ℕ) (b : Bool) (o : Option UpdateRow) (us : List ((ℕ × Bool) × UpdateRow)) → is_some (channel_of rows k) ≡ true
+held_one : (rows : List ChannelRow) (k : ℕ) (b : Bool) (o : Option UpdateRow)
+    (us : List ((ℕ × Bool) × UpdateRow)) → is_some (channel_of rows k) ≡ true
     → IsKeyed direction_of (update_entry k b o ++ us)
     → (IsKeyed direction_of us → AllByRecursion (λ row. is_some (channel_of rows row.message.short_channel_id) ≡ true) (values_of us))
     → AllByRecursion (λ row. is_some (channel_of rows row.message.short_channel_id) ≡ true) (values_of (update_entry k b o ++ us))
@@ -60,15 +61,18 @@ updates_held : (rows : List ChannelRow) (es : List (ℕ × Held)) → HasAll row
 unfolding HasAll
 updates_held rows [] all keyed = tt
 updates_held rows (e ∷ es) all keyed =
-    held_one rows e.0 false e.1.first _ all.0 keyed (λ keyed'. held_one rows e.0 true e.1.second _ all.0 keyed' (λ rest. updates_held rows es all.1 rest))
+    held_one rows e.0 false e.1.first _ all.0 keyed
+    (λ keyed'. held_one rows e.0 true e.1.second _ all.0 keyed' (λ rest. updates_held rows es all.1 rest))
 
 pub updates_are_held : (es : List (ℕ × Held)) → IsKeyed id_of (channel_entries es) → IsKeyed direction_of (update_entries es)
-    → AllByRecursion (λ row. is_some (channel_of (values_of (channel_entries es)) row.message.short_channel_id) ≡ true) (values_of (update_entries es))
+    → AllByRecursion (λ row. is_some (channel_of (values_of (channel_entries es))
+    row.message.short_channel_id) ≡ true) (values_of (update_entries es))
 updates_are_held es keyed updates_keyed = updates_held (values_of (channel_entries es)) es (has_all es keyed) updates_keyed
 
 -- ---- what is found has the updates of its id
 
-own_id : (id : ℕ) (es : List (ℕ × Held)) (held : Held) → IsKeyed id_of (channel_entries es) → lookup (is_at (nat_cmp id)) es ≡ Some held → id_of held.channel ≡ id
+own_id : (id : ℕ) (es : List (ℕ × Held)) (held : Held) → IsKeyed id_of (channel_entries es)
+    → lookup (is_at (nat_cmp id)) es ≡ Some held → id_of held.channel ≡ id
 own_id id [] held keyed found = absurd cc
 own_id id (e ∷ es) held keyed found = by (own_id id es held keyed.1) (is_at (nat_cmp id) e.0) refl found
   where
@@ -83,8 +87,10 @@ own_id id (e ∷ es) held keyed found = by (own_id id es held keyed.1) (is_at (n
         ap id_of (ap (λ (h : Held). h.channel) (sym it)) ∙ sym keyed.0 ∙ sym (at id e.0 is)
     by others false is found = others (rw is at found)
 
-pub is_held_at : (es : List (ℕ × Held)) (rows : Rows) (id : ℕ) (held : Held) → IsKeyed id_of (channel_entries es) → IsKeyed direction_of (update_entries es)
-    → IsStrictlySortedBy nat_cmp (keys_of es) → values_of (update_entries es) ≡ rows.updates → lookup (is_at (nat_cmp id)) es ≡ Some held → held ≡ held_at rows held.channel
+pub is_held_at : (es : List (ℕ × Held)) (rows : Rows) (id : ℕ) (held : Held)
+    → IsKeyed id_of (channel_entries es) → IsKeyed direction_of (update_entries es)
+    → IsStrictlySortedBy nat_cmp (keys_of es) → values_of (update_entries es) ≡ rows.updates
+    → lookup (is_at (nat_cmp id)) es ≡ Some held → held ≡ held_at rows held.channel
 is_held_at es rows id held keyed updates_keyed sorted updates_are found =
     let own = own_id id es held keyed found in
     let update : (second : Bool) → update_of rows.updates id second ≡ update_in second held =
@@ -97,9 +103,11 @@ pub found-is_held_at : (es : List (ℕ × Held)) (rows : Rows) (id : ℕ) → Is
     → lookup (is_at (nat_cmp id)) es ≡ option_map (held_at rows) (channel_of rows.channels id)
 found-is_held_at es rows id keyed updates_keyed sorted channels_are updates_are =
     by (lookup (is_at (nat_cmp id)) es) refl
-    ∙ ap (option_map (held_at rows)) (sym (lookup-channels (is_at (nat_cmp id)) es) ∙ lookup-channel (channel_entries es) id keyed ∙ ap (λ rs. channel_of rs id) channels_are)
+    ∙ ap (option_map (held_at rows)) (sym (lookup-channels (is_at (nat_cmp id)) es)
+    ∙ lookup-channel (channel_entries es) id keyed ∙ ap (λ rs. channel_of rs id) channels_are)
   where
-    by : (o : Option Held) → lookup (is_at (nat_cmp id)) es ≡ o → lookup (is_at (nat_cmp id)) es ≡ option_map (held_at rows) (option_map (λ held. held.channel) (lookup (is_at (nat_cmp id)) es))
+    by : (o : Option Held) → lookup (is_at (nat_cmp id)) es ≡ o → lookup (is_at (nat_cmp id)) es
+        ≡ option_map (held_at rows) (option_map (λ held. held.channel) (lookup (is_at (nat_cmp id)) es))
     by None is = rw is refl
     by (Some held) is = rw is (ap (λ (h : Held). Some h) (is_held_at es rows id held keyed updates_keyed sorted updates_are is))
 
@@ -112,7 +120,8 @@ not_at : (a b : ℕ) → nat_cmp a b ≡ Less → is_at (nat_cmp b) a ≡ false
 not_at a b less = grind (arith, nat_tests)
 
 found_past : (k : ℕ) (held : Held) (all es : List (ℕ × Held)) → AllByRecursion (λ j. nat_cmp k j ≡ Less) (keys_of es)
-    → AllByRecursion (λ e. lookup (is_at (nat_cmp e.0)) all ≡ Some e.1) es → AllByRecursion (λ e. lookup (is_at (nat_cmp e.0)) ((k, held) ∷ all) ≡ Some e.1) es
+    → AllByRecursion (λ e. lookup (is_at (nat_cmp e.0)) all ≡ Some e.1) es
+    → AllByRecursion (λ e. lookup (is_at (nat_cmp e.0)) ((k, held) ∷ all) ≡ Some e.1) es
 found_past k held all [] above found = tt
 found_past k held all (e ∷ es) above found = (rw (not_at k e.0 above.0) found.0, found_past k held all es above.1 found.1)
 
@@ -132,15 +141,20 @@ values-held_at es rows keyed updates_keyed sorted channels_are updates_are test 
     along [] keyed' found = refl
     along (x ∷ xs) keyed' found =
         by (along xs keyed'.1 found.1) (test x.0)
-        ∙ ap (λ k. map (held_at rows) (cond (test k) (x.1.channel ∷ filter (λ row. test (id_of row)) (values_of (channel_entries xs))) (filter (λ row. test (id_of row)) (values_of (channel_entries xs))))) keyed'.0
+        ∙ ap (λ k. map (held_at rows)
+        (cond (test k) (x.1.channel ∷ filter (λ row. test (id_of row)) (values_of (channel_entries xs)))
+        (filter (λ row. test (id_of row)) (values_of (channel_entries xs))))) keyed'.0
       where
         here : x.1 ≡ held_at rows x.1.channel
         here = is_held_at es rows x.0 x.1 keyed updates_keyed sorted updates_are found.0
 
         by : values_of (filter (λ e. test e.0) xs) ≡ map (held_at rows) (filter (λ row. test (id_of row)) (values_of (channel_entries xs)))
             → (b : Bool) → values_of (cond b (x ∷ filter (λ e. test e.0) xs) (filter (λ e. test e.0) xs))
-            ≡ map (held_at rows) (cond b (x.1.channel ∷ filter (λ row. test (id_of row)) (values_of (channel_entries xs))) (filter (λ row. test (id_of row)) (values_of (channel_entries xs))))
-        by others true = ap (λ (h : Held). h ∷ values_of (filter (λ e. test e.0) xs)) here ∙ ap (λ (hs : List Held). held_at rows x.1.channel ∷ hs) others
+            ≡ map (held_at rows) (cond b (x.1.channel ∷ filter (λ row. test (id_of row)) (values_of
+            (channel_entries xs))) (filter (λ row. test (id_of row)) (values_of (channel_entries xs))))
+        by others true =
+            ap (λ (h : Held). h ∷ values_of (filter (λ e. test e.0) xs)) here
+            ∙ ap (λ (hs : List Held). held_at rows x.1.channel ∷ hs) others
         by others false = others
 
 -- all entries, by a range without ends
@@ -162,12 +176,15 @@ filter-past {X} p t xs more = filter-filter p t xs ∙ filter-same _ t (λ x. by
 
 -- the ids of the channels of a range of blocks
 pub ids-channels : (rows : Rows) (channels : List ChannelRow) (from to : ℕ)
-    → map (λ held. held.channel.message.short_channel_id) (map (held_at rows) (channels_between_of channels from to)) ≡ ids_between_of channels from to
+    → map (λ held. held.channel.message.short_channel_id)
+    (map (held_at rows) (channels_between_of channels from to)) ≡ ids_between_of channels from to
 ids-channels rows [] from to = refl
 ids-channels rows (x ∷ xs) from to = by (ids-channels rows xs from to) (is_between (id_of x) from to)
   where
     by : map id_in (map (held_at rows) (channels_between_of xs from to)) ≡ ids_between_of xs from to
-        → (b : Bool) → map id_in (map (held_at rows) (cond b (x ∷ channels_between_of xs from to) (channels_between_of xs from to))) ≡ cond b (id_of x ∷ ids_between_of xs from to) (ids_between_of xs from to)
+        → (b : Bool) → map id_in
+        (map (held_at rows) (cond b (x ∷ channels_between_of xs from to) (channels_between_of xs from to)))
+        ≡ cond b (id_of x ∷ ids_between_of xs from to) (ids_between_of xs from to)
     by others true = ap (λ (ids : List ℕ). id_of x ∷ ids) others
     by others false = others
 

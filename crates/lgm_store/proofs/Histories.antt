@@ -11,4 +11,6 @@ fold_from-push rows (first ∷ ops) op = fold_from-push (absorbed rows first) op
 
 -- one operation more
 pub fold-more : (ops : List Op) (i : ℕ) (op : Op) → i < length ops → op ≡ get_or ops i op → fold (take (i + 1) ops) ≡ absorbed (fold (take i ops)) op
-fold-more ops i op in_range is = ap fold ((take_at_read ops i op in_range).1) ∙ fold_from-push empty (take i ops) (get_or ops i op) ∙ ap (absorbed (fold (take i ops))) (sym is)
+fold-more ops i op in_range is =
+    ap fold ((take_at_read ops i op in_range).1) ∙ fold_from-push empty (take i ops) (get_or ops i op)
+    ∙ ap (absorbed (fold (take i ops))) (sym is)

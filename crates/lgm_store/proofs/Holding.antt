@@ -39,7 +39,8 @@ lookup-channels test [] = refl
 lookup-channels test (e ∷ es) = by (lookup-channels test es) (test e.0)
   where
     by : lookup test (channel_entries es) ≡ option_map (λ held. held.channel) (lookup test es)
-        → (b : Bool) → cond b (Some e.1.channel) (lookup test (channel_entries es)) ≡ option_map (λ held. held.channel) (cond b (Some e.1) (lookup test es))
+        → (b : Bool) → cond b (Some e.1.channel) (lookup test (channel_entries es))
+        ≡ option_map (λ held. held.channel) (cond b (Some e.1) (lookup test es))
     by others true = refl
     by others false = others
 
@@ -48,7 +49,9 @@ filter-channels p [] = refl
 filter-channels p (e ∷ es) = by (filter-channels p es) (p e.0)
   where
     by : channel_entries (filter (λ e. p e.0) es) ≡ filter (λ e. p e.0) (channel_entries es)
-        → (b : Bool) → channel_entries (cond b (e ∷ filter (λ e. p e.0) es) (filter (λ e. p e.0) es)) ≡ cond b ((e.0, e.1.channel) ∷ filter (λ e. p e.0) (channel_entries es)) (filter (λ e. p e.0) (channel_entries es))
+        → (b : Bool) → channel_entries (cond b (e ∷ filter (λ e. p e.0) es) (filter (λ e. p e.0) es))
+        ≡ cond b ((e.0, e.1.channel)
+        ∷ filter (λ e. p e.0) (channel_entries es)) (filter (λ e. p e.0) (channel_entries es))
     by others true = rw others refl
     by others false = others
 
@@ -61,13 +64,15 @@ first-filtered p es = first (filter (λ e. p e.0) es) ∙ ap first_value (filter
     first [] = refl
     first (x ∷ xs) = refl
 
-pub insert-channels : (id : ℕ) (held : Held) (es : List (ℕ × Held)) → channel_entries (insert_entry nat_cmp es id held) ≡ insert_entry nat_cmp (channel_entries es) id held.channel
+pub insert-channels : (id : ℕ) (held : Held) (es : List (ℕ × Held)) → channel_entries
+    (insert_entry nat_cmp es id held) ≡ insert_entry nat_cmp (channel_entries es) id held.channel
 insert-channels id held [] = refl
 insert-channels id held (e ∷ es) = by (insert-channels id held es) (nat_cmp id e.0)
   where
     by : channel_entries (insert_entry nat_cmp es id held) ≡ insert_entry nat_cmp (channel_entries es) id held.channel
         → (o : Ordering) → channel_entries (match_ordering o ((id, held) ∷ e ∷ es) ((e.0, held) ∷ es) (e ∷ insert_entry nat_cmp es id held))
-        ≡ match_ordering o ((id, held.channel) ∷ (e.0, e.1.channel) ∷ channel_entries es) ((e.0, held.channel) ∷ channel_entries es) ((e.0, e.1.channel) ∷ insert_entry nat_cmp (channel_entries es) id held.channel)
+        ≡ match_ordering o ((id, held.channel) ∷ (e.0, e.1.channel) ∷ channel_entries es) ((e.0, held.channel)
+        ∷ channel_entries es) ((e.0, e.1.channel) ∷ insert_entry nat_cmp (channel_entries es) id held.channel)
     by others Less = refl
     by others Equal = refl
     by others Greater = rw others refl
@@ -77,7 +82,8 @@ remove-channels test [] = refl
 remove-channels test (e ∷ es) = by (remove-channels test es) (test e.0)
   where
     by : channel_entries (remove_entry test es) ≡ remove_entry test (channel_entries es)
-        → (b : Bool) → channel_entries (cond b es (e ∷ remove_entry test es)) ≡ cond b (channel_entries es) ((e.0, e.1.channel) ∷ remove_entry test (channel_entries es))
+        → (b : Bool) → channel_entries (cond b es (e ∷ remove_entry test es))
+        ≡ cond b (channel_entries es) ((e.0, e.1.channel) ∷ remove_entry test (channel_entries es))
     by others true = refl
     by others false = rw others refl
 
@@ -140,7 +146,8 @@ above-less id other es is = above-from id other es (λ k less. nat_cmp_total.tra
 abbrev Updates : Type 0
 Updates = List ((ℕ × Bool) × UpdateRow)
 
-All-one : (P : ℕ × Bool → Type 0) (k : ℕ) (b : Bool) (o : Option UpdateRow) (us : Updates) → P (k, b) → AllByRecursion P (keys_of us) → AllByRecursion P (keys_of (update_entry k b o ++ us))
+All-one : (P : ℕ × Bool → Type 0) (k : ℕ) (b : Bool) (o : Option UpdateRow) (us : Updates) → P (k, b)
+    → AllByRecursion P (keys_of us) → AllByRecursion P (keys_of (update_entry k b o ++ us))
 All-one P k b None us here above = above
 All-one P k b (Some row) us here above = (here, above)
 
@@ -162,7 +169,8 @@ lookup-one test k b None us none = none ∙ by (test (k, b))
     by false = refl
 lookup-one test k b (Some row) us none = rw none refl
 
-lookup-past : (test : ℕ × Bool → Bool) (k : ℕ) (b : Bool) (o : Option UpdateRow) (us : Updates) → test (k, b) ≡ false → lookup test (update_entry k b o ++ us) ≡ lookup test us
+lookup-past : (test : ℕ × Bool → Bool) (k : ℕ) (b : Bool) (o : Option UpdateRow) (us : Updates)
+    → test (k, b) ≡ false → lookup test (update_entry k b o ++ us) ≡ lookup test us
 lookup-past test k b None us not_here = refl
 lookup-past test k b (Some row) us not_here = rw not_here refl
 
@@ -171,13 +179,15 @@ insert-past : (k : ℕ) (b : Bool) (o : Option UpdateRow) (us : Updates) (key : 
 insert-past k b None us key row past = refl
 insert-past k b (Some other) us key row past = rw past refl
 
-insert-front : (us : Updates) (key : ℕ × Bool) (row : UpdateRow) → AllByRecursion (λ j. direction_cmp key j ≡ Less) (keys_of us) → insert_entry direction_cmp us key row ≡ (key, row) ∷ us
+insert-front : (us : Updates) (key : ℕ × Bool) (row : UpdateRow) → AllByRecursion (λ j. direction_cmp key j
+    ≡ Less) (keys_of us) → insert_entry direction_cmp us key row ≡ (key, row) ∷ us
 insert-front [] key row above = refl
 insert-front (u ∷ us) key row above = rw above.0 refl
 
 -- in place of the update of its own key, or in front
 insert-here : (k : ℕ) (b : Bool) (o : Option UpdateRow) (us : Updates) (row : UpdateRow) → direction_cmp (k, b) (k, b) ≡ Equal
-    → AllByRecursion (λ j. direction_cmp (k, b) j ≡ Less) (keys_of us) → insert_entry direction_cmp (update_entry k b o ++ us) (k, b) row ≡ ((k, b), row) ∷ us
+    → AllByRecursion (λ j. direction_cmp (k, b) j ≡ Less) (keys_of us)
+    → insert_entry direction_cmp (update_entry k b o ++ us) (k, b) row ≡ ((k, b), row) ∷ us
 insert-here k b None us row own above = insert-front us (k, b) row above
 insert-here k b (Some other) us row own above = rw own refl
 
@@ -185,7 +195,8 @@ keyed-rest : (k : ℕ) (b : Bool) (o : Option UpdateRow) (us : Updates) → IsKe
 keyed-rest k b None us keyed = keyed
 keyed-rest k b (Some row) us keyed = keyed.1
 
-keyed-one : (k : ℕ) (b : Bool) (o : Option UpdateRow) (us new : Updates) → IsKeyed direction_of (update_entry k b o ++ us) → IsKeyed direction_of new → IsKeyed direction_of (update_entry k b o ++ new)
+keyed-one : (k : ℕ) (b : Bool) (o : Option UpdateRow) (us new : Updates) → IsKeyed direction_of
+    (update_entry k b o ++ us) → IsKeyed direction_of new → IsKeyed direction_of (update_entry k b o ++ new)
 keyed-one k b None us new keyed keyed' = keyed'
 keyed-one k b (Some row) us new keyed keyed' = (keyed.0, keyed')
 
@@ -198,7 +209,8 @@ without-own id k b (Some row) us keyed own =
     rw (← here, own) refl
 
 without-other : (id k : ℕ) (b : Bool) (o : Option UpdateRow) (us new : Updates) → IsKeyed direction_of (update_entry k b o ++ us) → eqb k id ≡ false
-    → values_of new ≡ updates_without (values_of us) id → values_of (update_entry k b o ++ new) ≡ updates_without (values_of (update_entry k b o ++ us)) id
+    → values_of new ≡ updates_without (values_of us) id
+    → values_of (update_entry k b o ++ new) ≡ updates_without (values_of (update_entry k b o ++ us)) id
 without-other id k b None us new keyed other rest = rest
 without-other id k b (Some row) us new keyed other rest =
     let here : k ≡ row.message.short_channel_id = ap (λ (key : ℕ × Bool). key.0) keyed.0 in
@@ -249,34 +261,41 @@ lookup-updates id second (e ∷ es) sorted = by (lookup-updates id second es sor
         let no : (b : Bool) → is_at (direction_cmp (id, second)) (e.0, b) ≡ false = λ b. rw is refl in
         lookup-past _ e.0 false e.1.first _ (no false) ∙ lookup-past _ e.0 true e.1.second _ (no true) ∙ rw is others
     by others Equal is =
-        let none : lookup (is_at (direction_cmp (id, second))) (update_entries es) ≡ None = rw (lookup-above id es (above-equal id e.0 es is sorted.0)) at others in
+        let none : lookup (is_at (direction_cmp (id, second))) (update_entries es) ≡ None =
+        rw (lookup-above id es (above-equal id e.0 es is sorted.0)) at others in
         rw is (lookup-own id e.0 e.1 (update_entries es) is second none)
     by others Greater is =
         let no : (b : Bool) → is_at (direction_cmp (id, second)) (e.0, b) ≡ false = λ b. rw is refl in
         lookup-past _ e.0 false e.1.first _ (no false) ∙ lookup-past _ e.0 true e.1.second _ (no true) ∙ rw is others
 
 -- another update of a direction
-set-here : (k : ℕ) (held : Held) (us : Updates) (row : UpdateRow) → ((b : Bool) → AllByRecursion (λ j. direction_cmp (k, b) j ≡ Less) (keys_of us)) → (second : Bool)
+set-here : (k : ℕ) (held : Held) (us : Updates) (row : UpdateRow)
+    → ((b : Bool) → AllByRecursion (λ j. direction_cmp (k, b) j ≡ Less) (keys_of us)) → (second : Bool)
     → update_entry k false (with_update_in second held row).first ++ (update_entry k true (with_update_in second held row).second ++ us)
     ≡ insert_entry direction_cmp (update_entry k false held.first ++ (update_entry k true held.second ++ us)) (k, second) row
 set-here k held us row above true =
     let past : direction_cmp (k, true) (k, false) ≡ Greater = rw (self k) refl in
     let own : direction_cmp (k, true) (k, true) ≡ Equal = rw (self k) refl in
-    sym (insert-past k false held.first _ (k, true) row past ∙ ap (λ (xs : Updates). update_entry k false held.first ++ xs) (insert-here k true held.second us row own (above true)))
+    sym (insert-past k false held.first _ (k, true) row past ∙ ap (λ (xs : Updates).
+    update_entry k false held.first ++ xs) (insert-here k true held.second us row own (above true)))
 set-here k held us row above false =
     let less : direction_cmp (k, false) (k, true) ≡ Less = rw (self k) refl in
     let own : direction_cmp (k, false) (k, false) ≡ Equal = rw (self k) refl in
     sym (insert-here k false held.first _ row own (All-one _ k true held.second us less (above false)))
 
-pub set-updates : (id : ℕ) (second : Bool) (row : UpdateRow) (es : List (ℕ × Held)) (old : Held) → IsStrictlySortedBy nat_cmp (keys_of es) → lookup (is_at (nat_cmp id)) es ≡ Some old
-    → update_entries (set_value (is_at (nat_cmp id)) es (with_update_in second old row)) ≡ insert_entry direction_cmp (update_entries es) (id, second) row
+pub set-updates : (id : ℕ) (second : Bool) (row : UpdateRow) (es : List (ℕ × Held)) (old : Held)
+    → IsStrictlySortedBy nat_cmp (keys_of es) → lookup (is_at (nat_cmp id)) es ≡ Some old
+    → update_entries (set_value (is_at (nat_cmp id)) es (with_update_in second old row))
+    ≡ insert_entry direction_cmp (update_entries es) (id, second) row
 unfolding IsStrictlySortedBy
 set-updates id second row [] old sorted found = absurd cc
 set-updates id second row (e ∷ es) old sorted found = by (set-updates id second row es old sorted.1) (nat_cmp id e.0) refl found
   where
-    by : (lookup (is_at (nat_cmp id)) es ≡ Some old → update_entries (set_value (is_at (nat_cmp id)) es (with_update_in second old row)) ≡ insert_entry direction_cmp (update_entries es) (id, second) row)
+    by : (lookup (is_at (nat_cmp id)) es ≡ Some old → update_entries (set_value (is_at (nat_cmp id)) es
+        (with_update_in second old row)) ≡ insert_entry direction_cmp (update_entries es) (id, second) row)
         → (o : Ordering) → nat_cmp id e.0 ≡ o → cond (is_eq (nat_cmp id e.0)) (Some e.1) (lookup (is_at (nat_cmp id)) es) ≡ Some old
-        → update_entries (cond (is_eq (nat_cmp id e.0)) ((e.0, with_update_in second old row) ∷ es) (e ∷ set_value (is_at (nat_cmp id)) es (with_update_in second old row)))
+        → update_entries (cond (is_eq (nat_cmp id e.0)) ((e.0, with_update_in second old row) ∷ es)
+        (e ∷ set_value (is_at (nat_cmp id)) es (with_update_in second old row)))
         ≡ insert_entry direction_cmp (update_entry e.0 false e.1.first ++ (update_entry e.0 true e.1.second ++ update_entries es)) (id, second) row
     by others Less is found =
         let found' : lookup (is_at (nat_cmp id)) es ≡ Some old = rw is at found in
@@ -294,13 +313,15 @@ set-updates id second row (e ∷ es) old sorted found = by (set-updates id secon
         ∙ ap (λ (xs : Updates). update_entry e.0 false e.1.first ++ xs) (insert-past e.0 true e.1.second _ (id, second) row (past true))))
 
 -- a channel without updates leaves them
-pub insert-updates : (id : ℕ) (row : ChannelRow) (es : List (ℕ × Held)) → lookup (is_at (nat_cmp id)) es ≡ None → update_entries (insert_entry nat_cmp es id (alone row)) ≡ update_entries es
+pub insert-updates : (id : ℕ) (row : ChannelRow) (es : List (ℕ × Held)) → lookup (is_at (nat_cmp id)) es
+    ≡ None → update_entries (insert_entry nat_cmp es id (alone row)) ≡ update_entries es
 insert-updates id row [] none = refl
 insert-updates id row (e ∷ es) none = by (insert-updates id row es) (nat_cmp id e.0) refl none
   where
     by : (lookup (is_at (nat_cmp id)) es ≡ None → update_entries (insert_entry nat_cmp es id (alone row)) ≡ update_entries es)
         → (o : Ordering) → nat_cmp id e.0 ≡ o → cond (is_eq (nat_cmp id e.0)) (Some e.1) (lookup (is_at (nat_cmp id)) es) ≡ None
-        → update_entries (match_ordering (nat_cmp id e.0) ((id, alone row) ∷ e ∷ es) ((e.0, alone row) ∷ es) (e ∷ insert_entry nat_cmp es id (alone row)))
+        → update_entries (match_ordering (nat_cmp id e.0) ((id, alone row) ∷ e ∷ es) ((e.0, alone row) ∷ es)
+        (e ∷ insert_entry nat_cmp es id (alone row)))
         ≡ update_entry e.0 false e.1.first ++ (update_entry e.0 true e.1.second ++ update_entries es)
     by others Less is none = rw is refl
     by others Equal is none = let never : Some e.1 ≡ None = rw is at none in absurd cc
@@ -311,7 +332,9 @@ pub values-without : (id : ℕ) (es : List (ℕ × Held)) → IsStrictlySortedBy
     → values_of (update_entries (remove_entry (is_at (nat_cmp id)) es)) ≡ updates_without (values_of (update_entries es)) id
 unfolding IsStrictlySortedBy
 values-without id [] sorted keyed = refl
-values-without id (e ∷ es) sorted keyed = by (values-without id es sorted.1 (keyed-rest e.0 true e.1.second _ (keyed-rest e.0 false e.1.first _ keyed))) (nat_cmp id e.0) refl
+values-without id (e ∷ es) sorted keyed =
+    by (values-without id es sorted.1
+    (keyed-rest e.0 true e.1.second _ (keyed-rest e.0 false e.1.first _ keyed))) (nat_cmp id e.0) refl
   where
     rest : IsKeyed direction_of (update_entry e.0 true e.1.second ++ update_entries es)
     rest = keyed-rest e.0 false e.1.first _ keyed
@@ -331,13 +354,15 @@ values-without id (e ∷ es) sorted keyed = by (values-without id es sorted.1 (k
         let other : eqb e.0 id ≡ false = sym (id_test e.0 id) ∙ rw is refl in
         rw is (without-other id e.0 false e.1.first _ _ keyed other (without-other id e.0 true e.1.second _ _ rest other others))
 
-pub keyed-without : (test : ℕ → Bool) (es : List (ℕ × Held)) → IsKeyed direction_of (update_entries es) → IsKeyed direction_of (update_entries (remove_entry test es))
+pub keyed-without : (test : ℕ → Bool) (es : List (ℕ × Held)) → IsKeyed direction_of (update_entries es)
+    → IsKeyed direction_of (update_entries (remove_entry test es))
 keyed-without test [] keyed = tt
 keyed-without test (e ∷ es) keyed = by (keyed-without test es (keyed-rest e.0 true e.1.second _ (keyed-rest e.0 false e.1.first _ keyed))) (test e.0)
   where
     rest : IsKeyed direction_of (update_entry e.0 true e.1.second ++ update_entries es)
     rest = keyed-rest e.0 false e.1.first _ keyed
 
-    by : IsKeyed direction_of (update_entries (remove_entry test es)) → (b : Bool) → IsKeyed direction_of (update_entries (cond b es (e ∷ remove_entry test es)))
+    by : IsKeyed direction_of (update_entries (remove_entry test es)) → (b : Bool)
+        → IsKeyed direction_of (update_entries (cond b es (e ∷ remove_entry test es)))
     by others true = keyed-rest e.0 true e.1.second _ rest
     by others false = keyed-one e.0 false e.1.first _ _ keyed (keyed-one e.0 true e.1.second _ _ rest others)

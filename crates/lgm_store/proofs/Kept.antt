@@ -23,7 +23,9 @@ rows_of held nodes banned = record {
 pub kept-lawful : (held : List (ℕ × Held)) (nodes : List (Point × NodeRow)) (ends : List (Point × List ℕ)) (banned : List Point) (rows : Rows)
     → rows_of held nodes banned ≡ rows → IsKept (channel_entries held) (update_entries held) nodes ends banned → IsLawful rows
 kept-lawful held nodes ends banned rows is kept = subst IsLawful is (record {
-  ascend = IsAscending-sound (channel_entries held) (update_entries held) nodes ends (rows_of held nodes banned) kept.rows kept.banned_ascend refl refl refl;
+  ascend =
+      IsAscending-sound (channel_entries held) (update_entries held) nodes ends (rows_of held nodes banned)
+      kept.rows kept.banned_ascend refl refl refl;
   held = updates_are_held held kept.rows.channels_keyed kept.rows.updates_keyed;
   ended = kept.rows.nodes_ended;
   allowed = kept.allowed;

@@ -13,7 +13,8 @@ use Rattle.lgm_check.specs.declared.row.ChannelRow.{ChannelRow}
 use Rattle.lgm_store.specs.declared.op.Op.{Op}
 use Rattle.lgm_store.specs.declared.op.Op.TheVariants as ops
 use Rattle.lgm_store.specs.Rows.{Rows, empty, put, by_id, by_direction, by_node, channel_of, ends_at, ends_channel, ends_banned}
-use Rattle.lgm_store.specs.History.{absorbed, fold_from, fold, with_banned, channels_without, updates_without, ended_nodes, allowed_channels, banned_channels}
+use Rattle.lgm_store.specs.History.{absorbed, fold_from, fold, with_banned, channels_without, updates_without}
+use Rattle.lgm_store.specs.History.{ended_nodes, allowed_channels, banned_channels}
 use Rattle.lgm_store.specs.Laws.{IsLawful, AreHeld, AreEnded, AreAllowed}
 use Rattle.lgm_store.specs.inner.Sound.{id_of}
 use Rattle.lgm_store.proofs.Ascending.{fold-ascends}
@@ -21,7 +22,8 @@ use Rattle.lgm_store.proofs.Soundness.{AreEnded-ended_nodes}
 
 -- ---- rows that are put, and rows that a filter keeps
 
-pub All-filtered : {R : Type 0} (P Q : R → Type 0) (p : R → Bool) (rows : List R) → ((x : R) → p x ≡ true → P x → Q x) → AllByRecursion P rows → AllByRecursion Q (filter p rows)
+pub All-filtered : {R : Type 0} (P Q : R → Type 0) (p : R → Bool) (rows : List R)
+    → ((x : R) → p x ≡ true → P x → Q x) → AllByRecursion P rows → AllByRecursion Q (filter p rows)
 All-filtered {R} P Q p [] give all = tt
 All-filtered {R} P Q p (x ∷ xs) give all = by (All-filtered P Q p xs give all.1) (p x) refl
   where
@@ -37,14 +39,18 @@ All-joined : {R : Type 0} (P : R → Type 0) (xs ys : List R) → AllByRecursion
 All-joined {R} P [] ys all all' = all'
 All-joined {R} P (x ∷ xs) ys all all' = (all.0, All-joined P xs ys all.1 all')
 
-pub All-put : {R : Type 0} (P : R → Type 0) (order : R → R → Ordering) (rows : List R) (row : R) → P row → AllByRecursion P rows → AllByRecursion P (put order rows row)
+pub All-put : {R : Type 0} (P : R → Type 0) (order : R → R → Ordering) (rows : List R) (row : R) → P row
+    → AllByRecursion P rows → AllByRecursion P (put order rows row)
 All-put {R} P order rows row here all =
     All-joined P _ _ (All-filtered P P _ rows (λ x is p. p) all) (here, All-filtered P P _ rows (λ x is p. p) all)
 
 -- a test that found a row finds one still, where a row is put
-any-put : {R : Type 0} (p : R → Bool) (order : R → R → Ordering) (row : R) (rows : List R) → AllByRecursion (λ x. order x row ≡ Equal → p x ≡ true → p row ≡ true) rows
+any-put : {R : Type 0} (p : R → Bool) (order : R → R → Ordering) (row : R) (rows : List R)
+    → AllByRecursion (λ x. order x row ≡ Equal → p x ≡ true → p row ≡ true) rows
     → list_any p rows ≡ true → list_any p (put order rows row) ≡ true
-any-put {R} p order row rows alike any = list_any-append p (filter (λ x. is_lt (order x row)) rows) (row ∷ filter (λ x. is_gt (order x row)) rows) ∙ parts rows alike any
+any-put {R} p order row rows alike any =
+    list_any-append p (filter (λ x. is_lt (order x row)) rows) (row ∷ filter (λ x. is_gt (order x row)) rows)
+    ∙ parts rows alike any
   where
     or_true : (b : Bool) → (b || true) ≡ true
     or_true true = refl
@@ -61,13 +67,17 @@ any-put {R} p order row rows alike any = list_any-append p (filter (λ x. is_lt 
     parts [] alike any = absurd cc
     parts (x ∷ xs) alike any = at (parts xs alike.1) (order x row) refl (p x) refl any
       where
-        at : (list_any p xs ≡ true → (list_any p (filter (λ x. is_lt (order x row)) xs) || (p row || list_any p (filter (λ x. is_gt (order x row)) xs))) ≡ true)
+        at : (list_any p xs ≡ true → (list_any p (filter (λ x. is_lt (order x row)) xs)
+            || (p row || list_any p (filter (λ x. is_gt (order x row)) xs))) ≡ true)
             → (o : Ordering) → order x row ≡ o → (b : Bool) → p x ≡ b → (p x || list_any p xs) ≡ true
             → (list_any p (cond (is_lt (order x row)) (x ∷ filter (λ x. is_lt (order x row)) xs) (filter (λ x. is_lt (order x row)) xs))
-            || (p row || list_any p (cond (is_gt (order x row)) (x ∷ filter (λ x. is_gt (order x row)) xs) (filter (λ x. is_gt (order x row)) xs)))) ≡ true
+            || (p row || list_any p (cond (is_gt (order x row)) (x ∷ filter (λ x. is_gt (order x row)) xs)
+            (filter (λ x. is_gt (order x row)) xs)))) ≡ true
         at others Less is true here any = rw (is, here) refl
         at others Less is false here any = rw (is, here) (others (rw here at any))
-        at others Equal is true here any = rw (is, alike.0 is here) (middle (list_any p (filter (λ x. is_lt (order x row)) xs)) (list_any p (filter (λ x. is_gt (order x row)) xs)))
+        at others Equal is true here any =
+            rw (is, alike.0 is here) (middle (list_any p (filter (λ x. is_lt (order x row)) xs))
+            (list_any p (filter (λ x. is_gt (order x row)) xs)))
         at others Equal is false here any = rw is (others (rw here at any))
         at others Greater is true here any = rw (is, here) (last (list_any p (filter (λ x. is_lt (order x row)) xs)) (p row))
         at others Greater is false here any = rw (is, here) (others (rw here at any))
@@ -90,7 +100,8 @@ held_any : (rows : List ChannelRow) (id : ℕ) → is_some (channel_of rows id) 
 held_any rows id = is_some-find (is_of id) rows
 
 -- a row that isn't held has no like
-no_like : (rows : List ChannelRow) (row : ChannelRow) → is_some (channel_of rows (id_of row)) ≡ false → AllByRecursion (λ x. by_id x row ≡ Equal → ⊥) rows
+no_like : (rows : List ChannelRow) (row : ChannelRow) → is_some (channel_of rows (id_of row)) ≡ false
+    → AllByRecursion (λ x. by_id x row ≡ Equal → ⊥) rows
 no_like [] row none = tt
 no_like (x ∷ xs) row none = by (no_like xs row) (eqb (id_of x) (id_of row)) refl none
   where
@@ -98,21 +109,27 @@ no_like (x ∷ xs) row none = by (no_like xs row) (eqb (id_of x) (id_of row)) re
     like a b e = grind (arith, nat_tests)
 
     by : (is_some (channel_of xs (id_of row)) ≡ false → AllByRecursion (λ x. by_id x row ≡ Equal → ⊥) xs) → (b : Bool) → eqb (id_of x) (id_of row) ≡ b
-        → is_some (cond (eqb (id_of x) (id_of row)) (Some x) (channel_of xs (id_of row))) ≡ false → AllByRecursion (λ x. by_id x row ≡ Equal → ⊥) (x ∷ xs)
+        → is_some (cond (eqb (id_of x) (id_of row)) (Some x) (channel_of xs (id_of row))) ≡ false
+        → AllByRecursion (λ x. by_id x row ≡ Equal → ⊥) (x ∷ xs)
     by others true is none = let never : true ≡ false = rw is at none in absurd cc
     by others false is none =
         let rest : is_some (channel_of xs (id_of row)) ≡ false = rw is at none in
         ((λ e. let never : true ≡ false = sym (like (id_of x) (id_of row) e) ∙ is in absurd cc), others rest)
 
 -- a channel more holds what was held
-any-channel : (p : ChannelRow → Bool) (rows : List ChannelRow) (row : ChannelRow) → is_some (channel_of rows (id_of row)) ≡ false → list_any p rows ≡ true → list_any p (put by_id rows row) ≡ true
-any-channel p rows row none any = any-put p by_id row rows (All-more (λ x. by_id x row ≡ Equal → ⊥) _ rows (λ x never e here. absurd (never e)) (no_like rows row none)) any
+any-channel : (p : ChannelRow → Bool) (rows : List ChannelRow) (row : ChannelRow) → is_some
+    (channel_of rows (id_of row)) ≡ false → list_any p rows ≡ true → list_any p (put by_id rows row) ≡ true
+any-channel p rows row none any =
+    any-put p by_id row rows (All-more (λ x. by_id x row ≡ Equal → ⊥) _ rows
+    (λ x never e here. absurd (never e)) (no_like rows row none)) any
 
-held-more : (rows : List ChannelRow) (row : ChannelRow) (id : ℕ) → is_some (channel_of rows (id_of row)) ≡ false → is_some (channel_of rows id) ≡ true → is_some (channel_of (put by_id rows row) id) ≡ true
+held-more : (rows : List ChannelRow) (row : ChannelRow) (id : ℕ) → is_some (channel_of rows (id_of row))
+    ≡ false → is_some (channel_of rows id) ≡ true → is_some (channel_of (put by_id rows row) id) ≡ true
 held-more rows row id none held = held_any (put by_id rows row) id ∙ any-channel (is_of id) rows row none (sym (held_any rows id) ∙ held)
 
 -- another channel less
-held-without : (rows : List ChannelRow) (gone id : ℕ) → not (eqb id gone) ≡ true → is_some (channel_of rows id) ≡ true → is_some (channel_of (channels_without rows gone) id) ≡ true
+held-without : (rows : List ChannelRow) (gone id : ℕ) → not (eqb id gone) ≡ true
+    → is_some (channel_of rows id) ≡ true → is_some (channel_of (channels_without rows gone) id) ≡ true
 held-without rows gone id apart held =
     held_any (channels_without rows gone) id
     ∙ any-filter_same (is_of id) (λ row. not (eqb (id_of row) gone)) true (λ row is. ap (λ k. not (eqb k gone)) (same (id_of row) id is) ∙ apart) rows
@@ -122,23 +139,27 @@ held-without rows gone id apart held =
     same a b e = grind (arith, nat_tests)
 
 -- a test finds a row among those that pass another, or among the others
-any-parts : {R : Type 0} (t q : R → Bool) (rows : List R) → list_any t rows ≡ true → list_any t (filter q rows) ≡ false → list_any t (filter (λ x. not (q x)) rows) ≡ true
+any-parts : {R : Type 0} (t q : R → Bool) (rows : List R) → list_any t rows ≡ true
+    → list_any t (filter q rows) ≡ false → list_any t (filter (λ x. not (q x)) rows) ≡ true
 any-parts {R} t q [] any none = any
 any-parts {R} t q (x ∷ xs) any none = by (any-parts t q xs) (q x) refl (t x) refl any none
   where
     by : (list_any t xs ≡ true → list_any t (filter q xs) ≡ false → list_any t (filter (λ x. not (q x)) xs) ≡ true)
-        → (b : Bool) → q x ≡ b → (d : Bool) → t x ≡ d → (t x || list_any t xs) ≡ true → list_any t (cond (q x) (x ∷ filter q xs) (filter q xs)) ≡ false
+        → (b : Bool) → q x ≡ b → (d : Bool) → t x ≡ d → (t x || list_any t xs) ≡ true
+        → list_any t (cond (q x) (x ∷ filter q xs) (filter q xs)) ≡ false
         → list_any t (cond (not (q x)) (x ∷ filter (λ x. not (q x)) xs) (filter (λ x. not (q x)) xs)) ≡ true
     by others true is true here any none = let never : true ≡ false = rw (is, here) at none in absurd cc
     by others true is false here any none = rw is (others (rw here at any) (rw (is, here) at none))
     by others false is true here any none = rw (is, here) refl
     by others false is false here any none = rw (is, here) (others (rw here at any) (rw is at none))
 
-held-allowed : (banned : List Point) (rows : List ChannelRow) (id : ℕ) → not (is_some (channel_of (banned_channels banned rows) id)) ≡ true → is_some (channel_of rows id) ≡ true
+held-allowed : (banned : List Point) (rows : List ChannelRow) (id : ℕ)
+    → not (is_some (channel_of (banned_channels banned rows) id)) ≡ true → is_some (channel_of rows id) ≡ true
     → is_some (channel_of (allowed_channels banned rows) id) ≡ true
 held-allowed banned rows id gone held =
     held_any (allowed_channels banned rows) id
-    ∙ any-parts (is_of id) (ends_banned banned) rows (sym (held_any rows id) ∙ held) (sym (held_any (banned_channels banned rows) id) ∙ none (is_some (channel_of (banned_channels banned rows) id)) gone)
+    ∙ any-parts (is_of id) (ends_banned banned) rows (sym (held_any rows id) ∙ held) (sym (held_any
+    (banned_channels banned rows) id) ∙ none (is_some (channel_of (banned_channels banned rows) id)) gone)
   where
     none : (b : Bool) → not b ≡ true → b ≡ false
     none true e = absurd cc
@@ -149,13 +170,17 @@ held-allowed banned rows id gone held =
 pub AreHeld-absorbed : (rows : Rows) (op : Op) → AreHeld rows → AreHeld (absorbed rows op)
 AreHeld-absorbed rows (ops.Channel row) held = by (is_some (channel_of rows.channels (id_of row))) refl (ends_banned rows.banned row)
   where
-    by : (b : Bool) → is_some (channel_of rows.channels (id_of row)) ≡ b → (d : Bool) → AreHeld (if b || d then rows else record rows { channels = put by_id rows.channels row })
+    by : (b : Bool) → is_some (channel_of rows.channels (id_of row)) ≡ b → (d : Bool)
+        → AreHeld (if b || d then rows else record rows { channels = put by_id rows.channels row })
     by true is d = held
     by false is true = held
-    by false is false = All-more (λ u. is_some (channel_of rows.channels u.message.short_channel_id) ≡ true) _ rows.updates (λ u h. held-more rows.channels row u.message.short_channel_id is h) held
+    by false is false =
+        All-more (λ u. is_some (channel_of rows.channels u.message.short_channel_id) ≡ true) _ rows.updates
+        (λ u h. held-more rows.channels row u.message.short_channel_id is h) held
 AreHeld-absorbed rows (ops.Update row) held = by (is_some (channel_of rows.channels row.message.short_channel_id)) refl
   where
-    by : (b : Bool) → is_some (channel_of rows.channels row.message.short_channel_id) ≡ b → AreHeld (if b then record rows { updates = put by_direction rows.updates row } else rows)
+    by : (b : Bool) → is_some (channel_of rows.channels row.message.short_channel_id) ≡ b
+        → AreHeld (if b then record rows { updates = put by_direction rows.updates row } else rows)
     by true is = All-put (λ u. is_some (channel_of rows.channels u.message.short_channel_id) ≡ true) by_direction rows.updates row is held
     by false is = held
 AreHeld-absorbed rows (ops.Node row) held = by (ends_channel rows.channels row.message.node_id)
@@ -171,7 +196,9 @@ AreHeld-absorbed rows (ops.Close id) held = by (is_some (channel_of rows.channel
       nodes = ended_nodes (channels_without rows.channels id) rows.nodes;
       banned = rows.banned;
     } else rows)
-    by true = All-filtered (λ u. is_some (channel_of rows.channels u.message.short_channel_id) ≡ true) _ _ rows.updates (λ u apart h. held-without rows.channels id u.message.short_channel_id apart h) held
+    by true =
+        All-filtered (λ u. is_some (channel_of rows.channels u.message.short_channel_id) ≡ true) _ _
+        rows.updates (λ u apart h. held-without rows.channels id u.message.short_channel_id apart h) held
     by false = held
 AreHeld-absorbed rows (ops.Ban ban) held =
     All-filtered (λ u. is_some (channel_of rows.channels u.message.short_channel_id) ≡ true) _ _ rows.updates
@@ -180,10 +207,13 @@ AreHeld-absorbed rows (ops.Ban ban) held =
 pub AreEnded-absorbed : (rows : Rows) (op : Op) → AreEnded rows → AreEnded (absorbed rows op)
 AreEnded-absorbed rows (ops.Channel row) ended = by (is_some (channel_of rows.channels (id_of row))) refl (ends_banned rows.banned row)
   where
-    by : (b : Bool) → is_some (channel_of rows.channels (id_of row)) ≡ b → (d : Bool) → AreEnded (if b || d then rows else record rows { channels = put by_id rows.channels row })
+    by : (b : Bool) → is_some (channel_of rows.channels (id_of row)) ≡ b → (d : Bool)
+        → AreEnded (if b || d then rows else record rows { channels = put by_id rows.channels row })
     by true is d = ended
     by false is true = ended
-    by false is false = All-more (λ n. ends_channel rows.channels n.message.node_id ≡ true) _ rows.nodes (λ n e. any-channel (ends_at n.message.node_id) rows.channels row is e) ended
+    by false is false =
+        All-more (λ n. ends_channel rows.channels n.message.node_id ≡ true) _ rows.nodes
+        (λ n e. any-channel (ends_at n.message.node_id) rows.channels row is e) ended
 AreEnded-absorbed rows (ops.Update row) ended = by (is_some (channel_of rows.channels row.message.short_channel_id))
   where
     by : (b : Bool) → AreEnded (if b then record rows { updates = put by_direction rows.updates row } else rows)
@@ -191,7 +221,8 @@ AreEnded-absorbed rows (ops.Update row) ended = by (is_some (channel_of rows.cha
     by false = ended
 AreEnded-absorbed rows (ops.Node row) ended = by (ends_channel rows.channels row.message.node_id) refl
   where
-    by : (b : Bool) → ends_channel rows.channels row.message.node_id ≡ b → AreEnded (if b then record rows { nodes = put by_node rows.nodes row } else rows)
+    by : (b : Bool) → ends_channel rows.channels row.message.node_id ≡ b
+        → AreEnded (if b then record rows { nodes = put by_node rows.nodes row } else rows)
     by true is = All-put (λ n. ends_channel rows.channels n.message.node_id ≡ true) by_node rows.nodes row is ended
     by false is = ended
 AreEnded-absorbed rows (ops.Close id) ended = by (is_some (channel_of rows.channels id))
@@ -209,7 +240,8 @@ AreEnded-absorbed rows (ops.Ban ban) ended = AreEnded-ended_nodes (allowed_chann
 pub AreAllowed-absorbed : (rows : Rows) (op : Op) → AreAllowed rows → AreAllowed (absorbed rows op)
 AreAllowed-absorbed rows (ops.Channel row) allowed = by (is_some (channel_of rows.channels (id_of row))) (ends_banned rows.banned row) refl
   where
-    by : (b : Bool) (d : Bool) → ends_banned rows.banned row ≡ d → AreAllowed (if b || d then rows else record rows { channels = put by_id rows.channels row })
+    by : (b : Bool) (d : Bool) → ends_banned rows.banned row ≡ d
+        → AreAllowed (if b || d then rows else record rows { channels = put by_id rows.channels row })
     by true d is = allowed
     by false true is = allowed
     by false false is = All-put (λ x. ends_banned rows.banned x ≡ false) by_id rows.channels row is allowed
@@ -242,7 +274,8 @@ AreAllowed-absorbed rows (ops.Ban ban) allowed =
 
 -- ---- histories
 
-pub fold_from-keeps : (P : Rows → Type 0) → ((rows : Rows) (op : Op) → P rows → P (absorbed rows op)) → (rows : Rows) (history : List Op) → P rows → P (fold_from rows history)
+pub fold_from-keeps : (P : Rows → Type 0) → ((rows : Rows) (op : Op) → P rows → P (absorbed rows op))
+    → (rows : Rows) (history : List Op) → P rows → P (fold_from rows history)
 fold_from-keeps P keeps rows [] here = here
 fold_from-keeps P keeps rows (op ∷ others) here = fold_from-keeps P keeps (absorbed rows op) others (keeps rows op here)
 

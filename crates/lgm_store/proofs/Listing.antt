@@ -44,7 +44,8 @@ pub kept-with : (ids : List ℕ) (id : ℕ) → kept (with_id ids id) ≡ Some (
 kept-with [] id = refl
 kept-with (x ∷ xs) id = by (nat_cmp id x)
   where
-    by : (o : Ordering) → kept (match_ordering o (id ∷ x ∷ xs) (x ∷ xs) (x ∷ with_id xs id)) ≡ Some (match_ordering o (id ∷ x ∷ xs) (x ∷ xs) (x ∷ with_id xs id))
+    by : (o : Ordering) → kept (match_ordering o (id ∷ x ∷ xs) (x ∷ xs) (x ∷ with_id xs id))
+        ≡ Some (match_ordering o (id ∷ x ∷ xs) (x ∷ xs) (x ∷ with_id xs id))
     by Less = refl
     by Equal = refl
     by Greater = refl
@@ -73,7 +74,8 @@ Lists-set old new p list ids other sets lists here apart q = by (is_point p q) r
     by false is = sets q ∙ rw is (lists q ∙ ap kept (apart q is))
 
 -- lists are changed at two points that are one
-pub Lists-change_same : (change : List ℕ → List ℕ) (old new : List (Point × List ℕ)) (p other : Point) (ids : Point → List ℕ) → is_point other p ≡ true
+pub Lists-change_same : (change : List ℕ → List ℕ) (old new : List (Point × List ℕ)) (p other : Point)
+    (ids : Point → List ℕ) → is_point other p ≡ true
     → Sets old new p (change (list_at old p)) → Lists old ids → Lists new (changed change ids p other)
 Lists-change_same change old new p other ids same sets lists =
     Lists-set old new p (change (list_at old p)) ids (changed change ids p other) sets lists
@@ -81,8 +83,10 @@ Lists-change_same change old new p other ids same sets lists =
     (λ q is. rw (same_point other p same, is) refl)
 
 -- lists are changed at two points
-pub Lists-change : (change : List ℕ → List ℕ) (old mid new : List (Point × List ℕ)) (first second : Point) (ids : Point → List ℕ) → is_point second first ≡ false
-    → Sets old mid first (change (list_at old first)) → Sets mid new second (change (list_at mid second)) → Lists old ids → Lists new (changed change ids first second)
+pub Lists-change : (change : List ℕ → List ℕ) (old mid new : List (Point × List ℕ)) (first second : Point)
+    (ids : Point → List ℕ) → is_point second first ≡ false
+    → Sets old mid first (change (list_at old first)) → Sets mid new second (change (list_at mid second))
+    → Lists old ids → Lists new (changed change ids first second)
 Lists-change change old mid new first second ids apart sets sets' lists =
     let more : Point → List ℕ = λ q. if is_point first q then change (ids q) else ids q in
     let halfway : Lists mid more = Lists-set old mid first (change (list_at old first)) ids more sets lists
@@ -100,13 +104,15 @@ Lists-change change old mid new first second ids apart sets sets' lists =
 
 -- an id that a list lacked comes in at a point, and goes again
 pub Lists-undo : (id : ℕ) (old mid mid' new : List (Point × List ℕ)) (p : Point) (ids : Point → List ℕ)
-    → Sets old mid p (with_id (list_at old p) id) → IsSame mid mid' → Sets mid' new p (without_id (list_at mid' p) id) → Lacks ids id → Lists old ids → Lists new ids
+    → Sets old mid p (with_id (list_at old p) id) → IsSame mid mid'
+    → Sets mid' new p (without_id (list_at mid' p) id) → Lacks ids id → Lists old ids → Lists new ids
 Lists-undo id old mid mid' new p ids sets same sets' lacks lists q = by (is_point p q) refl
   where
     by : (b : Bool) → is_point p q ≡ b → entry_of new q ≡ kept (ids q)
     by true is =
         let here : list_at mid' p ≡ with_id (ids p) id =
-        ap (λ o. unwrap_or o []) (same p) ∙ list_at-here old mid p (with_id (list_at old p) id) sets ∙ ap (λ l. with_id l id) (list_at-lists old ids p lists) in
+        ap (λ o. unwrap_or o []) (same p) ∙ list_at-here old mid p (with_id (list_at old p) id) sets
+        ∙ ap (λ l. with_id l id) (list_at-lists old ids p lists) in
         let back : without_id (list_at mid' p) id ≡ ids p = ap (λ l. without_id l id) here ∙ without-with (ids p) id (lacks p) in
         sets' q ∙ rw is (ap kept back ∙ ap (λ (x : Point). kept (ids x)) (same_point p q is))
     by false is = sets' q ∙ rw is (same q ∙ sets q ∙ rw is (lists q))

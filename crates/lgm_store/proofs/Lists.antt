@@ -32,7 +32,8 @@ id_test k id = grind (arith, nat_tests)
 pub same_id : (a b : ℕ) → nat_cmp a b ≡ Equal → a ≡ b
 same_id a b e = grind (arith, nat_tests)
 
-pub lookup-channel : (entries : List (ℕ × ChannelRow)) (id : ℕ) → IsKeyed id_of entries → lookup (is_at (nat_cmp id)) entries ≡ channel_of (values_of entries) id
+pub lookup-channel : (entries : List (ℕ × ChannelRow)) (id : ℕ) → IsKeyed id_of entries
+    → lookup (is_at (nat_cmp id)) entries ≡ channel_of (values_of entries) id
 lookup-channel entries id keyed =
     lookup-find nat_cmp id_of (is_at (nat_cmp id)) entries keyed ∙ find-same _ _ (λ row. id_test (id_of row) id) (values_of entries)
 
@@ -92,11 +93,13 @@ lookup-update entries id second keyed =
     lookup-find direction_cmp direction_of (is_at (direction_cmp (id, second))) entries keyed
     ∙ find-same _ _ (λ row. direction_test (direction_of row) id second) (values_of entries)
 
-pub IsKeyed-update : (entries new : List ((ℕ × Bool) × UpdateRow)) (k : ℕ × Bool) (row : UpdateRow) → k ≡ direction_of row → new ≡ insert_entry direction_cmp entries k row
+pub IsKeyed-update : (entries new : List ((ℕ × Bool) × UpdateRow)) (k : ℕ × Bool) (row : UpdateRow)
+    → k ≡ direction_of row → new ≡ insert_entry direction_cmp entries k row
     → IsKeyed direction_of entries → IsKeyed direction_of new
 IsKeyed-update entries new k row own is keyed = rw (is, own) (IsKeyed-insert direction_cmp direction_of row entries same_direction keyed)
 
-pub values-update : (entries new : List ((ℕ × Bool) × UpdateRow)) (k : ℕ × Bool) (row : UpdateRow) → k ≡ direction_of row → new ≡ insert_entry direction_cmp entries k row
+pub values-update : (entries new : List ((ℕ × Bool) × UpdateRow)) (k : ℕ × Bool) (row : UpdateRow)
+    → k ≡ direction_of row → new ≡ insert_entry direction_cmp entries k row
     → IsKeyed direction_of entries → IsStrictlySortedBy direction_cmp (keys_of entries) → values_of new ≡ put by_direction (values_of entries) row
 values-update entries new k row own is keyed sorted = rw (is, own) (values-insert direction_cmp direction_of direction_total row entries keyed sorted)
 
@@ -110,7 +113,8 @@ same_node a b e =
     let bytes : a.0 ≡ b.0 = exact_bytes a.0 b.0 e in
     ap (λ (x : List ℕ). let point : Point = record { 0 = x } in point) bytes
 
-pub lookup-node : (entries : List (Point × NodeRow)) (node : Point) → IsKeyed point_of entries → lookup (is_at (point_cmp node)) entries ≡ node_of (values_of entries) node
+pub lookup-node : (entries : List (Point × NodeRow)) (node : Point) → IsKeyed point_of entries
+    → lookup (is_at (point_cmp node)) entries ≡ node_of (values_of entries) node
 lookup-node entries node keyed =
     lookup-find point_cmp point_of (is_at (point_cmp node)) entries keyed
     ∙ find-same _ _ (λ row. is_at-point node (point_of row) ∙ nat_list_eq_equiv.symm node.0 row.message.node_id.0) (values_of entries)
@@ -124,7 +128,8 @@ pub values-node : (entries new : List (Point × NodeRow)) (k : Point) (row : Nod
 values-node entries new k row own is keyed sorted = rw (is, own) (values-insert point_cmp point_of node_total row entries keyed sorted)
 
 pub values-no_node : (entries new : List (Point × NodeRow)) (node : Point) → new ≡ remove_entry (is_at (point_cmp node)) entries
-    → IsKeyed point_of entries → IsStrictlySortedBy point_cmp (keys_of entries) → values_of new ≡ filter (λ row. not (is_point node row.message.node_id)) (values_of entries)
+    → IsKeyed point_of entries → IsStrictlySortedBy point_cmp (keys_of entries)
+    → values_of new ≡ filter (λ row. not (is_point node row.message.node_id)) (values_of entries)
 values-no_node entries new node is keyed sorted =
     ap values_of is ∙ values-remove point_cmp point_of node_total node entries keyed sorted
     ∙ filter-same _ _ (λ row. ap not (is_at-point node (point_of row))) (values_of entries)

@@ -13,7 +13,8 @@ use Rattle.lgm_store.specs.Rows.{put}
 
 module _ {K R : Type 0} (cmp : K → K → Ordering) (key : R → K) where
   -- the row of a key, found among the rows
-  pub lookup-find : (test : K → Bool) (entries : List (K × R)) → IsKeyed key entries → lookup test entries ≡ find (λ row. test (key row)) (values_of entries)
+  pub lookup-find : (test : K → Bool) (entries : List (K × R)) → IsKeyed key entries
+      → lookup test entries ≡ find (λ row. test (key row)) (values_of entries)
   lookup-find test [] keyed = refl
   lookup-find test (e ∷ es) keyed = rw (keyed.0, lookup-find test es keyed.1) refl
 
@@ -26,18 +27,23 @@ module _ {K R : Type 0} (cmp : K → K → Ordering) (key : R → K) where
     lesser : filter (λ other. is_lt (by_key other row)) rows ≡ []
     greater : filter (λ other. is_gt (by_key other row)) rows ≡ rows
 
-  are_above : IsTotalOrder cmp → (row : R) (entries : List (K × R)) → IsKeyed key entries → AllByRecursion (λ k. cmp (key row) k ≡ Less) (keys_of entries) → AreAbove row (values_of entries)
+  are_above : IsTotalOrder cmp → (row : R) (entries : List (K × R)) → IsKeyed key entries
+      → AllByRecursion (λ k. cmp (key row) k ≡ Less) (keys_of entries) → AreAbove row (values_of entries)
   are_above total row [] keyed above = record { lesser = refl; greater = refl }
   are_above total row (e ∷ es) keyed above =
       let others = are_above total row es keyed.1 above.1 in
-      let here : cmp (key e.1) (key row) ≡ Greater = total.antisymm (key e.1) (key row) ∙ ap (λ (k : K). ordering_reverse (cmp (key row) k)) (sym keyed.0) ∙ ap ordering_reverse above.0 in
+      let here : cmp (key e.1) (key row) ≡ Greater =
+      total.antisymm (key e.1) (key row) ∙ ap (λ (k : K). ordering_reverse (cmp (key row) k)) (sym keyed.0)
+      ∙ ap ordering_reverse above.0 in
       record {
         lesser = rw here others.lesser;
         greater = rw (here, others.greater) refl;
       }
 
   -- a row is put where an ordered map keeps it
-  pub values-insert : IsTotalOrder cmp → (row : R) (entries : List (K × R)) → IsKeyed key entries → IsStrictlySortedBy cmp (keys_of entries) → values_of (insert_entry cmp entries (key row) row) ≡ put by_key (values_of entries) row
+  pub values-insert : IsTotalOrder cmp → (row : R) (entries : List (K × R)) → IsKeyed key entries
+      → IsStrictlySortedBy cmp (keys_of entries)
+      → values_of (insert_entry cmp entries (key row) row) ≡ put by_key (values_of entries) row
   unfolding IsStrictlySortedBy
   values-insert total row [] keyed sorted = refl
   values-insert total row (e ∷ es) keyed sorted = by (values-insert total row es keyed.1 sorted.1) (cmp (key row) e.0) refl
@@ -45,21 +51,27 @@ module _ {K R : Type 0} (cmp : K → K → Ordering) (key : R → K) where
       turned : (o : Ordering) → cmp (key row) e.0 ≡ o → cmp (key e.1) (key row) ≡ ordering_reverse o
       turned o is = total.antisymm (key e.1) (key row) ∙ ap (λ (k : K). ordering_reverse (cmp (key row) k)) (sym keyed.0) ∙ ap ordering_reverse is
 
-      below : cmp (key row) e.0 ≡ Less → AllByRecursion (λ k. cmp e.0 k ≡ Less) (keys_of es) → AllByRecursion (λ k. cmp (key row) k ≡ Less) (keys_of es)
+      below : cmp (key row) e.0 ≡ Less → AllByRecursion (λ k. cmp e.0 k ≡ Less) (keys_of es)
+          → AllByRecursion (λ k. cmp (key row) k ≡ Less) (keys_of es)
       below is above = along es above
         where
-          along : (fs : List (K × R)) → AllByRecursion (λ k. cmp e.0 k ≡ Less) (keys_of fs) → AllByRecursion (λ k. cmp (key row) k ≡ Less) (keys_of fs)
+          along : (fs : List (K × R)) → AllByRecursion (λ k. cmp e.0 k ≡ Less) (keys_of fs)
+              → AllByRecursion (λ k. cmp (key row) k ≡ Less) (keys_of fs)
           along [] a = tt
           along (f ∷ fs) a = (total.trans (key row) e.0 f.0 is a.0, along fs a.1)
 
-      level : cmp (key row) e.0 ≡ Equal → AllByRecursion (λ k. cmp e.0 k ≡ Less) (keys_of es) → AllByRecursion (λ k. cmp (key row) k ≡ Less) (keys_of es)
+      level : cmp (key row) e.0 ≡ Equal → AllByRecursion (λ k. cmp e.0 k ≡ Less) (keys_of es)
+          → AllByRecursion (λ k. cmp (key row) k ≡ Less) (keys_of es)
       level is above = along es above
         where
-          along : (fs : List (K × R)) → AllByRecursion (λ k. cmp e.0 k ≡ Less) (keys_of fs) → AllByRecursion (λ k. cmp (key row) k ≡ Less) (keys_of fs)
+          along : (fs : List (K × R)) → AllByRecursion (λ k. cmp e.0 k ≡ Less) (keys_of fs)
+              → AllByRecursion (λ k. cmp (key row) k ≡ Less) (keys_of fs)
           along [] a = tt
           along (f ∷ fs) a = (total.congr (key row) e.0 f.0 is ∙ a.0, along fs a.1)
 
-      by : values_of (insert_entry cmp es (key row) row) ≡ put by_key (values_of es) row → (o : Ordering) → cmp (key row) e.0 ≡ o → values_of (match_ordering o ((key row, row) ∷ e ∷ es) ((e.0, row) ∷ es) (e ∷ insert_entry cmp es (key row) row)) ≡ put by_key (e.1 ∷ values_of es) row
+      by : values_of (insert_entry cmp es (key row) row) ≡ put by_key (values_of es) row → (o : Ordering)
+          → cmp (key row) e.0 ≡ o → values_of (match_ordering o ((key row, row) ∷ e ∷ es) ((e.0, row) ∷ es) (e
+          ∷ insert_entry cmp es (key row) row)) ≡ put by_key (e.1 ∷ values_of es) row
       by others Less is =
           let t = turned Less is in
           let a = are_above total row es keyed.1 (below is sorted.0) in
@@ -73,11 +85,14 @@ module _ {K R : Type 0} (cmp : K → K → Ordering) (key : R → K) where
           rw (t, others) refl
 
   -- the map is keyed still
-  pub IsKeyed-insert : (row : R) (entries : List (K × R)) → ((a b : K) → cmp a b ≡ Equal → a ≡ b) → IsKeyed key entries → IsKeyed key (insert_entry cmp entries (key row) row)
+  pub IsKeyed-insert : (row : R) (entries : List (K × R)) → ((a b : K) → cmp a b ≡ Equal → a ≡ b)
+      → IsKeyed key entries → IsKeyed key (insert_entry cmp entries (key row) row)
   IsKeyed-insert row [] same keyed = (refl, tt)
   IsKeyed-insert row (e ∷ es) same keyed = by (IsKeyed-insert row es same keyed.1) (cmp (key row) e.0) refl
     where
-      by : IsKeyed key (insert_entry cmp es (key row) row) → (o : Ordering) → cmp (key row) e.0 ≡ o → IsKeyed key (match_ordering o ((key row, row) ∷ e ∷ es) ((e.0, row) ∷ es) (e ∷ insert_entry cmp es (key row) row))
+      by : IsKeyed key (insert_entry cmp es (key row) row) → (o : Ordering) → cmp (key row) e.0 ≡ o
+          → IsKeyed key (match_ordering o ((key row, row) ∷ e ∷ es) ((e.0, row) ∷ es)
+          (e ∷ insert_entry cmp es (key row) row))
       by others Less is = (refl, keyed)
       by others Equal is = (sym (same (key row) e.0 is), keyed.1)
       by others Greater is = (keyed.0, others)
@@ -100,12 +115,15 @@ module _ {K R : Type 0} (cmp : K → K → Ordering) (key : R → K) where
       here : (o : Ordering) → cmp k e.0 ≡ o → cmp k (key e.1) ≡ o
       here o is = ap (cmp k) (sym keyed.0) ∙ is
 
-      above : cmp k e.0 ≡ Equal → (fs : List (K × R)) → AllByRecursion (λ other. cmp e.0 other ≡ Less) (keys_of fs) → AllByRecursion (λ other. cmp k other ≡ Less) (keys_of fs)
+      above : cmp k e.0 ≡ Equal → (fs : List (K × R)) → AllByRecursion (λ other. cmp e.0 other
+          ≡ Less) (keys_of fs) → AllByRecursion (λ other. cmp k other ≡ Less) (keys_of fs)
       above is [] a = tt
       above is (f ∷ fs) a = (total.congr k e.0 f.0 is ∙ a.0, above is fs a.1)
 
       by : values_of (remove_entry (is_at (cmp k)) es) ≡ filter (λ row. not (is_eq (cmp k (key row)))) (values_of es)
-          → (o : Ordering) → cmp k e.0 ≡ o → values_of (cond (is_eq (cmp k e.0)) es (e ∷ remove_entry (is_at (cmp k)) es)) ≡ filter (λ row. not (is_eq (cmp k (key row)))) (e.1 ∷ values_of es)
+          → (o : Ordering) → cmp k e.0 ≡ o
+          → values_of (cond (is_eq (cmp k e.0)) es (e ∷ remove_entry (is_at (cmp k)) es))
+          ≡ filter (λ row. not (is_eq (cmp k (key row)))) (e.1 ∷ values_of es)
       by others Less is = rw (is, here Less is, others) refl
       by others Equal is = rw (is, here Equal is, stay k es keyed.1 (above is es sorted.0)) refl
       by others Greater is = rw (is, here Greater is, others) refl
@@ -140,6 +158,7 @@ filter-filter p q [] = refl
 filter-filter p q (x ∷ xs) = by (filter-filter p q xs) (p x)
   where
     by : filter q (filter p xs) ≡ filter (λ x. p x && q x) xs
-        → (b : Bool) → filter q (cond b (x ∷ filter p xs) (filter p xs)) ≡ cond (b && q x) (x ∷ filter (λ x. p x && q x) xs) (filter (λ x. p x && q x) xs)
+        → (b : Bool) → filter q (cond b (x ∷ filter p xs) (filter p xs))
+        ≡ cond (b && q x) (x ∷ filter (λ x. p x && q x) xs) (filter (λ x. p x && q x) xs)
     by others true = rw others refl
     by others false = others

@@ -31,18 +31,23 @@ module _ (held : List (ℕ × Held)) (nodes : List (Point × NodeRow)) (ends : L
   written old = set_value (is_at (nat_cmp id)) held (with_update_in (is_second row) old row)
 
   same_channels : (old : Held) → lookup (is_at (nat_cmp id)) held ≡ Some old → channel_entries (written old) ≡ channel_entries held
-  same_channels old found = set-channels (is_at (nat_cmp id)) held old (with_update_in (is_second row) old row) found (channel-with (is_second row) old row)
+  same_channels old found =
+      set-channels (is_at (nat_cmp id)) held old (with_update_in (is_second row) old row) found
+      (channel-with (is_second row) old row)
 
   pub put-kept : IsKept (channel_entries (with_update_at held row)) (update_entries (with_update_at held row)) nodes ends banned
   put-kept = by (lookup (is_at (nat_cmp id)) held) refl
     where
-      by : (o : Option Held) → lookup (is_at (nat_cmp id)) held ≡ o → IsKept (channel_entries (with_update_for o held row)) (update_entries (with_update_for o held row)) nodes ends banned
+      by : (o : Option Held) → lookup (is_at (nat_cmp id)) held ≡ o → IsKept (channel_entries
+          (with_update_for o held row)) (update_entries (with_update_for o held row)) nodes ends banned
       by None found = kept
       by (Some old) found =
           let same = same_channels old found in
           let ascend : IsStrictlySortedBy nat_cmp (keys_of (written old)) = ascend-held (written old) (rw same kept.rows.channels_ascend) in
           record {
-            rows = IsSound-put held (written old) nodes ends id (is_second row) row old refl found refl (ascend-held held kept.rows.channels_ascend) ascend kept.rows;
+            rows =
+                IsSound-put held (written old) nodes ends id (is_second row) row old refl found refl
+                (ascend-held held kept.rows.channels_ascend) ascend kept.rows;
             banned_ascend = kept.banned_ascend;
             allowed = rw same kept.allowed;
           }
@@ -55,11 +60,15 @@ module _ (held : List (ℕ × Held)) (nodes : List (Point × NodeRow)) (ends : L
 
       by : (o : Option Held) → lookup (is_at (nat_cmp id)) held ≡ o → rows_of (with_update_for o held row) nodes banned ≡ with_update rows row
       by None found =
-          let none : is_some (channel_of rows.channels id) ≡ false = ap is_some channel_is ∙ ap (λ o. is_some (option_map (λ h. h.channel) o)) found in
+          let none : is_some (channel_of rows.channels id) ≡ false =
+          ap is_some channel_is ∙ ap (λ o. is_some (option_map (λ h. h.channel) o)) found in
           view_is ∙ with_update-none rows row none
       by (Some old) found =
           let updates_are = set-updates id (is_second row) row held old (ascend-held held kept.rows.channels_ascend) found in
-          with_update-new rows (rows_of (written old) nodes banned) row (ap is_some channel_is ∙ ap (λ o. is_some (option_map (λ h. h.channel) o)) found)
+          with_update-new rows (rows_of (written old) nodes banned) row
+          (ap is_some channel_is ∙ ap (λ o. is_some (option_map (λ h. h.channel) o)) found)
           (ap values_of (same_channels old found) ∙ ap (λ rs. rs.channels) view_is)
-          (values-update (update_entries held) (update_entries (written old)) (id, is_second row) row refl updates_are kept.rows.updates_keyed kept.rows.updates_ascend ∙ ap (λ rs. put by_direction rs.updates row) view_is)
+          (values-update (update_entries held) (update_entries (written old)) (id, is_second row) row refl
+          updates_are kept.rows.updates_keyed kept.rows.updates_ascend
+          ∙ ap (λ rs. put by_direction rs.updates row) view_is)
           (ap (λ rs. rs.nodes) view_is) (ap (λ rs. rs.banned) view_is)

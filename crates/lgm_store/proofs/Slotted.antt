@@ -1,5 +1,6 @@
 -- Channels in slots, as an ordered map has them.
-use Rattle.std.proofs.Common.{◌≡◌, ◌≢◌, ℕ, Bool, true, false, cond, List, [], ◌∷◌, ◌++◌, Option, Some, None, length, refl, sym, ap, ◌∙◌, inl, inr, arith}
+use Rattle.std.proofs.Common.{◌≡◌, ◌≢◌, ℕ, Bool, true, false, cond, List, [], ◌∷◌, ◌++◌, Option}
+use Rattle.std.proofs.Common.{Some, None, length, refl, sym, ap, ◌∙◌, inl, inr, arith}
 use Rattle.std.specs.Prelude.{is_some}
 use Rattle.std.specs.Option.{option_map, option_and_then}
 use Rattle.std.specs.List.{AllByRecursion, filter}
@@ -68,7 +69,8 @@ other_apart slots number id (e ∷ es) here others own = (
     at_self k = grind (arith, nat_tests)
 
 -- ids above an id are others
-above_others : (id k : ℕ) (ks : List ℕ) → is_at (nat_cmp id) k ≡ true → AllByRecursion (λ j. nat_cmp k j ≡ Less) ks → AllByRecursion (λ j. is_at (nat_cmp id) j ≡ false) ks
+above_others : (id k : ℕ) (ks : List ℕ) → is_at (nat_cmp id) k ≡ true
+    → AllByRecursion (λ j. nat_cmp k j ≡ Less) ks → AllByRecursion (λ j. is_at (nat_cmp id) j ≡ false) ks
 above_others id k [] here above = tt
 above_others id k (j ∷ js) here above = (other id k j here above.0, above_others id k js here above.1)
   where
@@ -78,7 +80,8 @@ above_others id k (j ∷ js) here above = (other id k j here above.0, above_othe
 -- ---- what is found
 
 module _ (slots : List (Option Held)) where
-  pub lookup-slots : (test : ℕ → Bool) (es : List (ℕ × ℕ)) → HaveOwn slots es → lookup test (entries_in slots es) ≡ option_and_then (slot_at slots) (lookup test es)
+  pub lookup-slots : (test : ℕ → Bool) (es : List (ℕ × ℕ)) → HaveOwn slots es
+      → lookup test (entries_in slots es) ≡ option_and_then (slot_at slots) (lookup test es)
   lookup-slots test [] own = refl
   lookup-slots test (e ∷ es) own =
       let here = in_slot (slot_at slots e.1) e.0 own.0 in
@@ -86,20 +89,24 @@ module _ (slots : List (Option Held)) where
     where
       by : (held : Held) → slot_at slots e.1 ≡ Some held → lookup test (entries_in slots es) ≡ option_and_then (slot_at slots) (lookup test es)
           → (b : Bool) → test e.0 ≡ b
-          → lookup test (entry_in e.0 (slot_at slots e.1) ++ entries_in slots es) ≡ option_and_then (slot_at slots) (cond (test e.0) (Some e.1) (lookup test es))
+          → lookup test (entry_in e.0 (slot_at slots e.1) ++ entries_in slots es)
+          ≡ option_and_then (slot_at slots) (cond (test e.0) (Some e.1) (lookup test es))
       by held is others true test_is = rw (is, test_is) (sym is)
       by held is others false test_is = rw (is, test_is) others
 
   -- an entry's own slot is found
-  pub found-own : (id number : ℕ) (es : List (ℕ × ℕ)) → HaveOwn slots es → lookup (is_at (nat_cmp id)) es ≡ Some number → option_map id_in (slot_at slots number) ≡ Some id
+  pub found-own : (id number : ℕ) (es : List (ℕ × ℕ)) → HaveOwn slots es
+      → lookup (is_at (nat_cmp id)) es ≡ Some number → option_map id_in (slot_at slots number) ≡ Some id
   found-own id number [] own found = absurd cc
   found-own id number (e ∷ es) own found = by (found-own id number es own.1) (is_at (nat_cmp id) e.0) refl found
     where
       at : (a b : ℕ) → is_at (nat_cmp a) b ≡ true → b ≡ a
       at a b e = grind (arith, nat_tests)
 
-      by : (lookup (is_at (nat_cmp id)) es ≡ Some number → option_map id_in (slot_at slots number) ≡ Some id) → (b : Bool) → is_at (nat_cmp id) e.0 ≡ b
-          → cond (is_at (nat_cmp id) e.0) (Some e.1) (lookup (is_at (nat_cmp id)) es) ≡ Some number → option_map id_in (slot_at slots number) ≡ Some id
+      by : (lookup (is_at (nat_cmp id)) es ≡ Some number → option_map id_in (slot_at slots number) ≡ Some id)
+          → (b : Bool) → is_at (nat_cmp id) e.0 ≡ b
+          → cond (is_at (nat_cmp id) e.0) (Some e.1) (lookup (is_at (nat_cmp id)) es) ≡ Some number
+          → option_map id_in (slot_at slots number) ≡ Some id
       by others true is found =
           let here : Some e.1 ≡ Some number = rw is at found in
           let number_is : e.1 ≡ number = cc in
@@ -107,7 +114,8 @@ module _ (slots : List (Option Held)) where
       by others false is found = others (rw is at found)
 
   -- a walk along the numbers is one along the channels
-  pub filter-slots : (test : ℕ → Bool) (es : List (ℕ × ℕ)) → HaveOwn slots es → entries_in slots (filter (λ e. test e.0) es) ≡ filter (λ e. test e.0) (entries_in slots es)
+  pub filter-slots : (test : ℕ → Bool) (es : List (ℕ × ℕ)) → HaveOwn slots es
+      → entries_in slots (filter (λ e. test e.0) es) ≡ filter (λ e. test e.0) (entries_in slots es)
   filter-slots test [] own = refl
   filter-slots test (e ∷ es) own =
       let here = in_slot (slot_at slots e.1) e.0 own.0 in
@@ -115,7 +123,8 @@ module _ (slots : List (Option Held)) where
     where
       by : (held : Held) → slot_at slots e.1 ≡ Some held → entries_in slots (filter (λ e. test e.0) es) ≡ filter (λ e. test e.0) (entries_in slots es)
           → (b : Bool) → test e.0 ≡ b
-          → entries_in slots (cond (test e.0) (e ∷ filter (λ e. test e.0) es) (filter (λ e. test e.0) es)) ≡ filter (λ e. test e.0) (entry_in e.0 (slot_at slots e.1) ++ entries_in slots es)
+          → entries_in slots (cond (test e.0) (e ∷ filter (λ e. test e.0) es) (filter (λ e. test e.0) es))
+          ≡ filter (λ e. test e.0) (entry_in e.0 (slot_at slots e.1) ++ entries_in slots es)
       by held is others true test_is = rw (is, test_is, is, others) refl
       by held is others false test_is = rw (is, test_is) others
 
@@ -144,7 +153,8 @@ module _ (slots : List (Option Held)) where
       let here = in_slot (slot_at slots e.1) e.0 own.0 in
       by here.0 here.1 (insert-entries id number held es is own.1) (nat_cmp id e.0) refl
     where
-      by : (first : Held) → slot_at slots e.1 ≡ Some first → entries_in slots (insert_entry nat_cmp es id number) ≡ insert_entry nat_cmp (entries_in slots es) id held
+      by : (first : Held) → slot_at slots e.1 ≡ Some first → entries_in slots
+          (insert_entry nat_cmp es id number) ≡ insert_entry nat_cmp (entries_in slots es) id held
           → (o : Ordering) → nat_cmp id e.0 ≡ o
           → entries_in slots (match_ordering (nat_cmp id e.0) ((id, number) ∷ e ∷ es) ((e.0, number) ∷ es) (e ∷ insert_entry nat_cmp es id number))
           ≡ insert_entry nat_cmp (entry_in e.0 (slot_at slots e.1) ++ entries_in slots es) id held
@@ -152,7 +162,8 @@ module _ (slots : List (Option Held)) where
       by first first_is others Equal order = rw (order, first_is, is, order) refl
       by first first_is others Greater order = rw (order, first_is, others, order) refl
 
-  own-insert : (id number : ℕ) (es : List (ℕ × ℕ)) → option_map id_in (slot_at slots number) ≡ Some id → HaveOwn slots es → HaveOwn slots (insert_entry nat_cmp es id number)
+  own-insert : (id number : ℕ) (es : List (ℕ × ℕ)) → option_map id_in (slot_at slots number) ≡ Some id
+      → HaveOwn slots es → HaveOwn slots (insert_entry nat_cmp es id number)
   own-insert id number [] here own = (here, tt)
   own-insert id number (e ∷ es) here own = by (own-insert id number es here own.1) (nat_cmp id e.0) refl
     where
@@ -162,7 +173,8 @@ module _ (slots : List (Option Held)) where
       by others Equal order = rw order (here ∙ ap (λ (k : ℕ). Some k) (same_id id e.0 order), own.1)
       by others Greater order = rw order (own.0, others)
 
-  remove-entries : (test : ℕ → Bool) (es : List (ℕ × ℕ)) → HaveOwn slots es → entries_in slots (remove_entry test es) ≡ remove_entry test (entries_in slots es)
+  remove-entries : (test : ℕ → Bool) (es : List (ℕ × ℕ)) → HaveOwn slots es
+      → entries_in slots (remove_entry test es) ≡ remove_entry test (entries_in slots es)
   remove-entries test [] own = refl
   remove-entries test (e ∷ es) own =
       let here = in_slot (slot_at slots e.1) e.0 own.0 in
@@ -170,7 +182,8 @@ module _ (slots : List (Option Held)) where
     where
       by : (held : Held) → slot_at slots e.1 ≡ Some held → entries_in slots (remove_entry test es) ≡ remove_entry test (entries_in slots es)
           → (b : Bool) → test e.0 ≡ b
-          → entries_in slots (cond (test e.0) es (e ∷ remove_entry test es)) ≡ remove_entry test (entry_in e.0 (slot_at slots e.1) ++ entries_in slots es)
+          → entries_in slots (cond (test e.0) es (e ∷ remove_entry test es))
+          ≡ remove_entry test (entry_in e.0 (slot_at slots e.1) ++ entries_in slots es)
       by held is others true test_is = rw (is, test_is) refl
       by held is others false test_is = rw (is, test_is, is, others) refl
 
@@ -183,7 +196,8 @@ module _ (slots : List (Option Held)) where
       by others false = (own.0, others)
 
 -- those that are left have other ids
-left_others : (id : ℕ) (es : List (ℕ × ℕ)) → IsStrictlySortedBy nat_cmp (keys_of es) → AllByRecursion (λ k. is_at (nat_cmp id) k ≡ false) (keys_of (remove_entry (is_at (nat_cmp id)) es))
+left_others : (id : ℕ) (es : List (ℕ × ℕ)) → IsStrictlySortedBy nat_cmp (keys_of es)
+    → AllByRecursion (λ k. is_at (nat_cmp id) k ≡ false) (keys_of (remove_entry (is_at (nat_cmp id)) es))
 unfolding IsStrictlySortedBy
 left_others id [] sorted = tt
 left_others id (e ∷ es) sorted = by (left_others id es sorted.1) (is_at (nat_cmp id) e.0) refl
@@ -204,10 +218,12 @@ module _ (old new : List (Option Held)) (number : ℕ) (same : (other : ℕ) →
       insert-entries new id number held es is (same_own old new number same es apart own)
       ∙ ap (λ (xs : List (ℕ × Held)). insert_entry nat_cmp xs id held) (same_entries old new number same es apart)
 
-  inserted-own : (id : ℕ) (held : Held) (es : List (ℕ × ℕ)) → slot_at old number ≡ None → slot_at new number ≡ Some held → id_in held ≡ id → HaveOwn old es
+  inserted-own : (id : ℕ) (held : Held) (es : List (ℕ × ℕ)) → slot_at old number ≡ None
+      → slot_at new number ≡ Some held → id_in held ≡ id → HaveOwn old es
       → HaveOwn new (insert_entry nat_cmp es id number)
   inserted-own id held es vacant is id_is own =
-      own-insert new id number es (ap (option_map id_in) is ∙ ap (λ (k : ℕ). Some k) id_is) (same_own old new number same es (vacant_apart old number es vacant own) own)
+      own-insert new id number es (ap (option_map id_in) is ∙ ap (λ (k : ℕ). Some k) id_is)
+      (same_own old new number same es (vacant_apart old number es vacant own) own)
 
   left_apart : (id : ℕ) (es : List (ℕ × ℕ)) → lookup (is_at (nat_cmp id)) es ≡ Some number → HaveOwn old es → IsStrictlySortedBy nat_cmp (keys_of es)
       → Apart number (remove_entry (is_at (nat_cmp id)) es)
@@ -237,11 +253,14 @@ module _ (old new : List (Option Held)) (number : ℕ) (same : (other : ℕ) →
       by : (first : Held) → slot_at old e.1 ≡ Some first
           → (lookup (is_at (nat_cmp id)) es ≡ Some number → entries_in new es ≡ set_value (is_at (nat_cmp id)) (entries_in old es) held)
           → (b : Bool) → is_at (nat_cmp id) e.0 ≡ b → cond (is_at (nat_cmp id) e.0) (Some e.1) (lookup (is_at (nat_cmp id)) es) ≡ Some number
-          → entry_in e.0 (slot_at new e.1) ++ entries_in new es ≡ set_value (is_at (nat_cmp id)) (entry_in e.0 (slot_at old e.1) ++ entries_in old es) held
+          → entry_in e.0 (slot_at new e.1) ++ entries_in new es
+          ≡ set_value (is_at (nat_cmp id)) (entry_in e.0 (slot_at old e.1) ++ entries_in old es) held
       by first first_is others true at_is found =
           let here : Some e.1 ≡ Some number = rw at_is at found in
           let number_is : e.1 ≡ number = cc in
-          let apart = other_apart old number id es (found-own old id number (e ∷ es) own found) (above_others id e.0 (keys_of es) at_is sorted.0) own.1 in
+          let apart =
+          other_apart old number id es (found-own old id number (e ∷ es) own found)
+          (above_others id e.0 (keys_of es) at_is sorted.0) own.1 in
           rw (first_is, at_is, number_is, is, same_entries old new number same es apart) refl
       by first first_is others false at_is found =
           let later : lookup (is_at (nat_cmp id)) es ≡ Some number = rw at_is at found in
@@ -253,7 +272,9 @@ module _ (old new : List (Option Held)) (number : ℕ) (same : (other : ℕ) →
 
           never : e.1 ≡ number → lookup (is_at (nat_cmp id)) es ≡ Some number → ⊥
           never number_is later =
-              let key : Some id ≡ Some e.0 = sym (found-own old id number es own.1 later) ∙ ap (λ n. option_map id_in (slot_at old n)) (sym number_is) ∙ own.0 in
+              let key : Some id ≡ Some e.0 =
+              sym (found-own old id number es own.1 later)
+              ∙ ap (λ n. option_map id_in (slot_at old n)) (sym number_is) ∙ own.0 in
               let id_is : id ≡ e.0 = cc in
               let no : is_at (nat_cmp id) id ≡ false = ap (is_at (nat_cmp id)) id_is ∙ at_is in
               absurd (not_self id no)
@@ -302,7 +323,9 @@ numbered-remove old new numbers numbers' id number updates found is ascend finds
   own = rw is (removed-own old.slots new.slots number updates.others id numbers found sound.own sound.ascend);
   listed = λ n k here. elim (cases_eq n number) [
     | inl same ↦
-        let never : None ≡ Some k = ap (option_map id_in) (sym updates.changed) ∙ ap (λ m. option_map id_in (slot_at new.slots m)) (sym same) ∙ here in
+        let never : None ≡ Some k =
+        ap (option_map id_in) (sym updates.changed)
+        ∙ ap (λ m. option_map id_in (slot_at new.slots m)) (sym same) ∙ here in
         absurd cc
     | inr apart ↦
         let before : lookup (is_at (nat_cmp k)) numbers ≡ Some n = sound.listed n k (ap (option_map id_in) (sym (updates.others n apart)) ∙ here) in
@@ -322,7 +345,8 @@ numbered-remove old new numbers numbers' id number updates found is ascend finds
         absurd (apart same)
     other k n apart before false here = rw here before
 
-module _ (s : Slab Held) (numbers : List (ℕ × ℕ)) (number : ℕ) (held written : Held) (sound : IsNumbered s.slots numbers) (is : slot_at s.slots number ≡ Some held)
+module _ (s : Slab Held) (numbers : List (ℕ × ℕ)) (number : ℕ) (held written : Held)
+    (sound : IsNumbered s.slots numbers) (is : slot_at s.slots number ≡ Some held)
     (same_id_in : id_in written ≡ id_in held) where
   abbrev after : List (Option Held)
   after = (with_value s number written).slots
@@ -352,11 +376,13 @@ module _ (s : Slab Held) (numbers : List (ℕ × ℕ)) (number : ℕ) (held writ
   entries-put id found = set s.slots after number updates.others id written numbers found updates.changed sound.own sound.ascend
 
 -- the channel of an id
-pub found-held : (slots : List (Option Held)) (numbers : List (ℕ × ℕ)) (entries : List (ℕ × Held)) (id number : ℕ) (held : Held) → HaveOwn slots numbers
+pub found-held : (slots : List (Option Held)) (numbers : List (ℕ × ℕ)) (entries : List (ℕ × Held))
+    (id number : ℕ) (held : Held) → HaveOwn slots numbers
     → entries_in slots numbers ≡ entries → lookup (is_at (nat_cmp id)) numbers ≡ Some number → slot_at slots number ≡ Some held
     → lookup (is_at (nat_cmp id)) entries ≡ Some held
 found-held slots numbers entries id number held own view_is found is =
-    ap (lookup (is_at (nat_cmp id))) (sym view_is) ∙ lookup-slots slots (is_at (nat_cmp id)) numbers own ∙ ap (option_and_then (slot_at slots)) found ∙ is
+    ap (lookup (is_at (nat_cmp id))) (sym view_is) ∙ lookup-slots slots (is_at (nat_cmp id)) numbers own
+    ∙ ap (option_and_then (slot_at slots)) found ∙ is
 
 pub found-none : (slots : List (Option Held)) (numbers : List (ℕ × ℕ)) (entries : List (ℕ × Held)) (id : ℕ) → HaveOwn slots numbers
     → entries_in slots numbers ≡ entries → lookup (is_at (nat_cmp id)) numbers ≡ None → lookup (is_at (nat_cmp id)) entries ≡ None
@@ -372,12 +398,17 @@ none-found slots numbers entries id own view_is none = by (lookup (is_at (nat_cm
     by None is = refl
     by (Some number) is =
         let here = found-own slots id number numbers own is in
-        let never : None ≡ Some id = ap (option_map id_in) (sym none ∙ ap (lookup (is_at (nat_cmp id))) (sym view_is) ∙ lookup-slots slots (is_at (nat_cmp id)) numbers own ∙ ap (option_and_then (slot_at slots)) is) ∙ here in
+        let never : None ≡ Some id =
+        ap (option_map id_in) (sym none ∙ ap (lookup (is_at (nat_cmp id))) (sym view_is) ∙ lookup-slots slots
+        (is_at (nat_cmp id)) numbers own ∙ ap (option_and_then (slot_at slots)) is) ∙ here in
         absurd cc
 
-pub has-slot : (slots : List (Option Held)) (numbers : List (ℕ × ℕ)) (id number : ℕ) → HaveOwn slots numbers → lookup (is_at (nat_cmp id)) numbers ≡ Some number
+pub has-slot : (slots : List (Option Held)) (numbers : List (ℕ × ℕ)) (id number : ℕ) → HaveOwn slots numbers
+    → lookup (is_at (nat_cmp id)) numbers ≡ Some number
     → is_some (slot_at slots number) ≡ true
-has-slot slots numbers id number own found = let here = in_slot (slot_at slots number) id (found-own slots id number numbers own found) in rw here.1 refl
+has-slot slots numbers id number own found =
+    let here = in_slot (slot_at slots number) id (found-own slots id number numbers own found) in
+    rw here.1 refl
 
 pub ascend-slots : (slots : List (Option Held)) (numbers : List (ℕ × ℕ)) → HaveOwn slots numbers → IsStrictlySortedBy nat_cmp (keys_of numbers)
     → IsStrictlySortedBy nat_cmp (keys_of (entries_in slots numbers))
@@ -385,7 +416,9 @@ ascend-slots slots numbers own ascend = rw (keys-slots slots numbers own) ascend
 
 -- an update in its place
 pub put-is : (entries : List (ℕ × Held)) (row : UpdateRow) (id : ℕ) (held written : Held) → id ≡ row.message.short_channel_id
-    → lookup (is_at (nat_cmp id)) entries ≡ Some held → written ≡ with_update_in (is_second row) held row → set_value (is_at (nat_cmp id)) entries written ≡ with_update_at entries row
+    → lookup (is_at (nat_cmp id)) entries ≡ Some held → written ≡ with_update_in (is_second row) held row
+    → set_value (is_at (nat_cmp id)) entries written ≡ with_update_at entries row
 put-is entries row id held written id_is found is =
-    ap (set_value (is_at (nat_cmp id)) entries) is ∙ ap (λ (i : ℕ). set_value (is_at (nat_cmp i)) entries (with_update_in (is_second row) held row)) id_is
+    ap (set_value (is_at (nat_cmp id)) entries) is ∙ ap (λ (i : ℕ).
+    set_value (is_at (nat_cmp i)) entries (with_update_in (is_second row) held row)) id_is
     ∙ ap (λ o. with_update_for o entries row) (sym (ap (λ (i : ℕ). lookup (is_at (nat_cmp i)) entries) (sym id_is) ∙ found))

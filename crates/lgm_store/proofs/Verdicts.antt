@@ -20,15 +20,19 @@ use Rattle.lgm_store.specs.Spelled.{IsSpelled}
 use Rattle.lgm_store.specs.inner.Candidate.{Fits, verdict_of, checked_by}
 
 -- its bytes spell a message of its type
-pub accepted_fits : (chain : ChainHash) (bytes : List ℕ) (evidence : Evidence) (made : Checked) → IsAccepted chain bytes evidence made → Fits (verdict_of made) bytes
+pub accepted_fits : (chain : ChainHash) (bytes : List ℕ) (evidence : Evidence) (made : Checked)
+    → IsAccepted chain bytes evidence made → Fits (verdict_of made) bytes
 accepted_fits chain bytes evidence (messages.Channel row) is = (announces.spelled_in row.message bytes is.spelled).0
 accepted_fits chain bytes evidence (messages.Update row signer) is = (updates.spelled_in row.message bytes is.spelled).0
 accepted_fits chain bytes evidence (messages.Node row) is = (nodes.spelled_in row.message bytes is.spelled).0
 
 -- and it is the one that they make
-pub accepted_made : (chain : ChainHash) (bytes : List ℕ) (evidence : Evidence) (made : Checked) → IsAccepted chain bytes evidence made → checked_by (verdict_of made) bytes ≡ made
+pub accepted_made : (chain : ChainHash) (bytes : List ℕ) (evidence : Evidence) (made : Checked)
+    → IsAccepted chain bytes evidence made → checked_by (verdict_of made) bytes ≡ made
 accepted_made chain bytes evidence (messages.Channel row) is =
-    let with : Announce → List ℕ → Checked = λ m raw. let same : ChannelRow = record { message = m; sat = row.sat; raw = raw } in messages.Channel same in
+    let with : Announce → List ℕ → Checked =
+    λ m raw. let same : ChannelRow = record { message = m; sat = row.sat; raw = raw } in
+    messages.Channel same in
     ap (λ m. with m bytes) (announces.spelled_in row.message bytes is.spelled).1 ∙ ap (with row.message) (sym is.raw)
 accepted_made chain bytes evidence (messages.Update row signer) is =
     let with : ChannelUpdate → List ℕ → Checked = λ m raw. let same : UpdateRow = record { message = m; raw = raw } in messages.Update same signer in
@@ -38,7 +42,8 @@ accepted_made chain bytes evidence (messages.Node row) is =
     ap (λ m. with m bytes) (nodes.spelled_in row.message bytes is.spelled).1 ∙ ap (with row.message) (sym is.raw)
 
 -- the bytes of its row spell it
-pub accepted_spelled : (chain : ChainHash) (bytes : List ℕ) (evidence : Evidence) (made : Checked) → IsAccepted chain bytes evidence made → IsSpelled made
+pub accepted_spelled : (chain : ChainHash) (bytes : List ℕ) (evidence : Evidence) (made : Checked)
+    → IsAccepted chain bytes evidence made → IsSpelled made
 accepted_spelled chain bytes evidence (messages.Channel row) is = subst (Wire (wired.Announce row.message)) (sym is.raw) is.spelled
 accepted_spelled chain bytes evidence (messages.Update row signer) is = subst (Wire (wired.ChannelUpdate row.message)) (sym is.raw) is.spelled
 accepted_spelled chain bytes evidence (messages.Node row) is = subst (Wire (wired.NodeAnnounce row.message)) (sym is.raw) is.spelled

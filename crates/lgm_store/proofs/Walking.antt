@@ -1,5 +1,6 @@
 -- Walks along an ordered map, from a key on.
-use Rattle.std.proofs.Common.{◌≡◌, ℕ, ◌*◌, ◌^◌, ◌<◌, ◌≤◌, Bool, true, false, not, ◌&&◌, cond, List, [], ◌∷◌, map, Option, Some, None, refl, sym, ap, ◌∙◌, arith}
+use Rattle.std.proofs.Common.{◌≡◌, ℕ, ◌*◌, ◌^◌, ◌<◌, ◌≤◌, Bool, true, false, not, ◌&&◌, cond, List}
+use Rattle.std.proofs.Common.{[], ◌∷◌, map, Option, Some, None, refl, sym, ap, ◌∙◌, arith}
 use Rattle.std.specs.Prelude.{nat_lt, nat_le}
 use Rattle.std.specs.List.{AllByRecursion, filter, find}
 use Rattle.std.specs.Map.{values_of}
@@ -25,11 +26,13 @@ module _ {K R : Type 0} where
   first_value (e ∷ es) = Some e.1
 
   -- the first value that passes is that of the first entry that does
-  find-filter : (p : K × R → Bool) (q : R → Bool) (entries : List (K × R)) → AllByRecursion (λ e. p e ≡ q e.1) entries → find q (values_of entries) ≡ first_value (filter p entries)
+  find-filter : (p : K × R → Bool) (q : R → Bool) (entries : List (K × R)) → AllByRecursion (λ e. p e
+      ≡ q e.1) entries → find q (values_of entries) ≡ first_value (filter p entries)
   find-filter p q [] alike = refl
   find-filter p q (e ∷ es) alike = by (find-filter p q es alike.1) (q e.1) alike.0
     where
-      by : find q (values_of es) ≡ first_value (filter p es) → (b : Bool) → p e ≡ b → cond b (Some e.1) (find q (values_of es)) ≡ first_value (cond (p e) (e ∷ filter p es) (filter p es))
+      by : find q (values_of es) ≡ first_value (filter p es) → (b : Bool) → p e ≡ b → cond b (Some e.1)
+          (find q (values_of es)) ≡ first_value (cond (p e) (e ∷ filter p es) (filter p es))
       by others true is = rw is refl
       by others false is = rw is others
 
@@ -40,7 +43,8 @@ module _ {K R : Type 0} where
   filter-filter_keys t p more (e ∷ es) = by (filter-filter_keys t p more es) (p e) refl (t e.0) refl
     where
       by : filter t (map (λ e. e.0) (filter p es)) ≡ filter t (map (λ e. e.0) es) → (b : Bool) → p e ≡ b → (d : Bool) → t e.0 ≡ d
-          → filter t (map (λ e. e.0) (cond (p e) (e ∷ filter p es) (filter p es))) ≡ cond (t e.0) (e.0 ∷ filter t (map (λ e. e.0) es)) (filter t (map (λ e. e.0) es))
+          → filter t (map (λ e. e.0) (cond (p e) (e ∷ filter p es) (filter p es)))
+          ≡ cond (t e.0) (e.0 ∷ filter t (map (λ e. e.0) es)) (filter t (map (λ e. e.0) es))
       by others true is d t_is = rw (is, others) refl
       by others false is true t_is = let never : true ≡ false = sym (more e t_is) ∙ is in absurd cc
       by others false is false t_is = rw (is, t_is) others
@@ -63,12 +67,15 @@ next_channel-between entries None keyed = find-filter (λ e. range_contains nat_
     along : (es : List (ℕ × ChannelRow)) → AllByRecursion (λ e. range_contains nat_cmp Unbounded Unbounded e.0 ≡ true) es
     along [] = tt
     along (e ∷ es) = (refl, along es)
-next_channel-between entries (Some id) keyed = find-filter (λ e. range_contains nat_cmp (Excluded id) Unbounded e.0) (λ row. nat_lt id (id_of row)) entries (along entries keyed)
+next_channel-between entries (Some id) keyed =
+    find-filter (λ e. range_contains nat_cmp (Excluded id) Unbounded e.0) (λ row. nat_lt id (id_of row))
+    entries (along entries keyed)
   where
     above : (k : ℕ) → (is_lt (nat_cmp id k) && true) ≡ nat_lt id k
     above k = and_true (is_lt (nat_cmp id k)) ∙ grind (arith, nat_tests)
 
-    along : (es : List (ℕ × ChannelRow)) → IsKeyed id_of es → AllByRecursion (λ e. range_contains nat_cmp (Excluded id) Unbounded e.0 ≡ nat_lt id (id_of e.1)) es
+    along : (es : List (ℕ × ChannelRow)) → IsKeyed id_of es
+        → AllByRecursion (λ e. range_contains nat_cmp (Excluded id) Unbounded e.0 ≡ nat_lt id (id_of e.1)) es
     along [] keyed = tt
     along (e ∷ es) keyed = (above e.0 ∙ ap (nat_lt id) keyed.0, along es keyed.1)
 
@@ -79,9 +86,12 @@ next_node-between entries None keyed = find-filter (λ e. range_contains point_c
     along : (es : List (Point × NodeRow)) → AllByRecursion (λ e. range_contains point_cmp Unbounded Unbounded e.0 ≡ true) es
     along [] = tt
     along (e ∷ es) = (refl, along es)
-next_node-between entries (Some node) keyed = find-filter (λ e. range_contains point_cmp (Excluded node) Unbounded e.0) (λ row. is_lt (point_cmp node (point_of row))) entries (along entries keyed)
+next_node-between entries (Some node) keyed =
+    find-filter (λ e. range_contains point_cmp (Excluded node) Unbounded e.0)
+    (λ row. is_lt (point_cmp node (point_of row))) entries (along entries keyed)
   where
-    along : (es : List (Point × NodeRow)) → IsKeyed point_of es → AllByRecursion (λ e. range_contains point_cmp (Excluded node) Unbounded e.0 ≡ is_lt (point_cmp node (point_of e.1))) es
+    along : (es : List (Point × NodeRow)) → IsKeyed point_of es → AllByRecursion (λ e.
+        range_contains point_cmp (Excluded node) Unbounded e.0 ≡ is_lt (point_cmp node (point_of e.1))) es
     along [] keyed = tt
     along (e ∷ es) keyed = (and_true (is_lt (point_cmp node e.0)) ∙ ap (λ (p : Point). is_lt (point_cmp node p)) keyed.0, along es keyed.1)
 

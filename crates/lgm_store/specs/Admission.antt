@@ -1,5 +1,6 @@
 -- Whether an item is admitted to a map of these rows.
-use Rattle.std.specs.Prelude.{◌≡◌, ◌⊎◌, ℕ, Bool, true, not, ◌&&◌, nat_lt, List, is_some, Option, Some, None, Result, Ok, Err, if◌then◌else◌}
+use Rattle.std.specs.Prelude.{◌≡◌, ◌⊎◌, ℕ, Bool, true, not, ◌&&◌, nat_lt, List, is_some}
+use Rattle.std.specs.Prelude.{Option, Some, None, Result, Ok, Err, if◌then◌else◌}
 use Rattle.lgm_wire.specs.reading.Reading.{◌>>=◌}
 use Rattle.lgm_wire.specs.declared.point.Point.{Point}
 use Rattle.lgm_check.specs.declared.row.ChannelRow.{ChannelRow}
@@ -13,11 +14,13 @@ use Rattle.lgm_check.specs.declared.refusal.Refusal.TheVariants as refusals
 use Rattle.lgm_check.specs.Precheck.{require}
 use Rattle.lgm_store.specs.declared.op.Op.{Op}
 use Rattle.lgm_store.specs.declared.op.Op.TheVariants as ops
-use Rattle.lgm_store.specs.Rows.{Rows, is_point, is_second, channel_of, update_of, node_of, ends_channel, is_banned, ends_banned}
+use Rattle.lgm_store.specs.Rows.{Rows, is_point, is_second, channel_of, update_of}
+use Rattle.lgm_store.specs.Rows.{node_of, ends_channel, is_banned, ends_banned}
 
 -- two rows are between the same nodes
 abbrev pub have_same_nodes : ChannelRow → ChannelRow → Bool
-have_same_nodes a b = is_point a.message.node_id_1 b.message.node_id_1 && is_point a.message.node_id_2 b.message.node_id_2
+have_same_nodes a b =
+    is_point a.message.node_id_1 b.message.node_id_1 && is_point a.message.node_id_2 b.message.node_id_2
 
 -- the nodes of two channels
 abbrev pub ban_of : ChannelRow → ChannelRow → BanRow
@@ -32,7 +35,8 @@ ban_of held row = record {
 -- none, is known if that is between the same nodes, and bans the nodes of both if not
 abbrev pub announced : Option ChannelRow → ChannelRow → Result Op Refusal
 announced None row = Ok (ops.Channel row)
-announced (Some held) row = if have_same_nodes held row then Err refusals.Known else Ok (ops.Ban (ban_of held row))
+announced (Some held) row =
+    if have_same_nodes held row then Err refusals.Known else Ok (ops.Ban (ban_of held row))
 
 -- an announcement of a channel, beside the banned points and the held row of its id
 abbrev pub channel_admission : List Point → Option ChannelRow → ChannelRow → Result Op Refusal
@@ -75,13 +79,16 @@ abbrev pub admitted : Rows → Checked → Result Op Refusal
 admitted rows (messages.Channel row) =
     channel_admission rows.banned (channel_of rows.channels row.message.short_channel_id) row
 admitted rows (messages.Update row signer) =
-    update_admission (channel_of rows.channels row.message.short_channel_id) (update_of rows.updates row.message.short_channel_id (is_second row)) row signer
+    update_admission (channel_of rows.channels row.message.short_channel_id)
+    (update_of rows.updates row.message.short_channel_id (is_second row)) row signer
 admitted rows (messages.Node row) =
-    node_admission (is_banned rows.banned row.message.node_id) (ends_channel rows.channels row.message.node_id) (node_of rows.nodes row.message.node_id) row
+    node_admission (is_banned rows.banned row.message.node_id)
+    (ends_channel rows.channels row.message.node_id) (node_of rows.nodes row.message.node_id) row
 
 -- the operation of an admitted close: that of a channel that is held
 abbrev pub admitted_close : Rows → ℕ → Result Op Refusal
-admitted_close rows id = require (is_some (channel_of rows.channels id)) refusals.UnknownChannel >>= λ _. Ok (ops.Close id)
+admitted_close rows id =
+    require (is_some (channel_of rows.channels id)) refusals.UnknownChannel >>= λ _. Ok (ops.Close id)
 
 -- what a call answers that is to give an operation: that, or want of memory; a refusal is always given
 abbrev pub Offers : Result Op Refusal → Result Op Refusal → Type 0

@@ -7,18 +7,21 @@ use Rattle.lgm_wire.specs.declared.point.Point.{Point}
 use Rattle.lgm_check.specs.declared.row.BanRow.{BanRow}
 use Rattle.lgm_store.specs.declared.op.Op.{Op}
 use Rattle.lgm_store.specs.declared.op.Op.TheVariants as ops
-use Rattle.lgm_store.specs.Rows.{Rows, empty, put, by_id, by_direction, by_node, by_point, channel_of, ends_channel, ends_banned}
+use Rattle.lgm_store.specs.Rows.{Rows, empty, put, by_id, by_direction, by_node, by_point}
+use Rattle.lgm_store.specs.Rows.{channel_of, ends_channel, ends_banned}
 
 -- with a channel more, unless it is held or a node of it is banned
 abbrev pub with_channel : Rows → ChannelRow → Rows
 with_channel rows row =
-    if is_some (channel_of rows.channels row.message.short_channel_id) || ends_banned rows.banned row then rows
+    if is_some (channel_of rows.channels row.message.short_channel_id)
+    || ends_banned rows.banned row then rows
     else record rows { channels = put by_id rows.channels row }
 
 -- with an update, if its channel is held
 abbrev pub with_update : Rows → UpdateRow → Rows
 with_update rows row =
-    if is_some (channel_of rows.channels row.message.short_channel_id) then record rows { updates = put by_direction rows.updates row }
+    if is_some (channel_of rows.channels row.message.short_channel_id)
+    then record rows { updates = put by_direction rows.updates row }
     else rows
 
 -- with a node, if a channel ends at it

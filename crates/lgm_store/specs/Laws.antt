@@ -5,7 +5,9 @@ use Rattle.lgm_store.specs.Rows.{Rows, IsAscending, channel_of, ends_channel, en
 
 -- each update's channel is held
 abbrev pub AreHeld : Rows → Type 0
-AreHeld rows = AllByRecursion (λ row. is_some (channel_of rows.channels row.message.short_channel_id) ≡ true) rows.updates
+AreHeld rows =
+    AllByRecursion
+    (λ row. is_some (channel_of rows.channels row.message.short_channel_id) ≡ true) rows.updates
 
 -- at each node a channel ends
 abbrev pub AreEnded : Rows → Type 0

@@ -1,5 +1,6 @@
 -- What a map's readers give of its rows, which ascend.
-use Rattle.std.specs.Prelude.{ℕ, Bool, ◌/◌, ◌^◌, ◌&&◌, true, nat_le, nat_lt, List, Option, Some, None, filter, find, map}
+use Rattle.std.specs.Prelude.{ℕ, Bool, ◌/◌, ◌^◌, ◌&&◌, true, nat_le, nat_lt}
+use Rattle.std.specs.Prelude.{List, Option, Some, None, filter, find, map}
 use Rattle.std.specs.Cmp.Lexicographic.{slice_cmp}
 use Rattle.std.specs.Ordering.{is_lt, nat_cmp}
 use Rattle.lgm_wire.specs.declared.point.Point.{Point}

@@ -1,5 +1,6 @@
 -- The rows of a map: four lists that ascend, with no key twice.
-use Rattle.std.specs.Prelude.{ℕ, ◌%◌, Bool, ◌||◌, List, [], ◌∷◌, ◌++◌, Option, ◌==◌, ◌&&◌, nat_eq, filter, find}
+use Rattle.std.specs.Prelude.{ℕ, ◌%◌, Bool, ◌||◌, List, [], ◌∷◌, ◌++◌, Option}
+use Rattle.std.specs.Prelude.{◌==◌, ◌&&◌, nat_eq, filter, find}
 use Rattle.std.specs.Bool.{beq}
 use Rattle.std.specs.List.{list_any}
 use Rattle.std.specs.List.Sorted.{IsStrictlySortedBy}
@@ -40,7 +41,8 @@ by_id a b = nat_cmp a.message.short_channel_id b.message.short_channel_id
 
 abbrev pub by_direction : UpdateRow → UpdateRow → Ordering
 by_direction a b =
-    ordering_then (nat_cmp a.message.short_channel_id b.message.short_channel_id) (bool_cmp (is_second a) (is_second b))
+    ordering_then (nat_cmp a.message.short_channel_id b.message.short_channel_id)
+    (bool_cmp (is_second a) (is_second b))
 
 abbrev pub by_node : NodeRow → NodeRow → Ordering
 by_node a b = slice_cmp nat_cmp a.message.node_id.0 b.message.node_id.0
@@ -57,7 +59,8 @@ pub record IsAscending (rows : Rows) : Type 0 where
 
 -- a row in its place: behind the rows of lesser keys, before those of greater ones, and instead of that of its own
 abbrev pub put : {R : Type 0} → (R → R → Ordering) → List R → R → List R
-put order rows row = filter (λ other. is_lt (order other row)) rows ++ row ∷ filter (λ other. is_gt (order other row)) rows
+put order rows row =
+    filter (λ other. is_lt (order other row)) rows ++ row ∷ filter (λ other. is_gt (order other row)) rows
 
 -- ---- what is held
 

@@ -80,7 +80,8 @@ fn find(
     bytes: &[u8],
     evidence: &Evidence,
 ) -> Result<Verdict, Refusal>
-    ensures exact { Gives Refusal.NoMemory (λ verdict. checked_by verdict bytes.now) result (checked_of chain.now bytes.now evidence.now) }
+    ensures exact { Gives Refusal.NoMemory (λ verdict. checked_by verdict bytes.now) result
+        (checked_of chain.now bytes.now evidence.now) }
     ensures fits { IfOk result (λ verdict. Fits verdict bytes.now) }
 {
     let checked = precheck(alloc, chain, bytes, evidence)?;

@@ -2,7 +2,8 @@
 
 ghost use Rattle.std.specs.Prelude.{◌≡◌, ◌++◌, ℕ, [], List, is_some, IfOk, OnOk, OnErr};
 ghost use Rattle.lgm_wire.specs.declared.point.Point.{Point};
-ghost use Rattle.lgm_store.specs.inner.Ends.{entry_of, list_at, with_id, without_id, changed, Lacks, Sets, IsSame, Lists};
+ghost use Rattle.lgm_store.specs.inner.Ends.{entry_of, list_at, with_id, without_id};
+ghost use Rattle.lgm_store.specs.inner.Ends.{changed, Lacks, Sets, IsSame, Lists};
 
 use crate::scid_set::ScidSet;
 use crate::seed::Seed;
@@ -64,7 +65,8 @@ impl Ends {
     pub(crate) fn add(&mut self, first: Point, second: Point, scid: Scid) -> Result<(), AllocError>
         ensures ok { OnOk result ((ids : Point → List ℕ) → Lists self.old ids
             → Lists self.new (changed (λ list. with_id list scid) ids first second)) }
-        ensures err { OnErr result ((ids : Point → List ℕ) → Lists self.old ids → Lacks ids scid → Lists self.new ids) }
+        ensures err { OnErr result
+            ((ids : Point → List ℕ) → Lists self.old ids → Lacks ids scid → Lists self.new ids) }
     {
         self.add_one(first, scid)?;
         if second == first {

@@ -107,7 +107,8 @@ impl Held {
 
     /// Node 2 if `second`, else node 1. It is at hand without the row.
     pub fn node(&self, second: bool) -> &Point
-        ensures { result.now ≡ (if second then self.now.channel.message.node_id_2 else self.now.channel.message.node_id_1) }
+        ensures { result.now
+            ≡ (if second then self.now.channel.message.node_id_2 else self.now.channel.message.node_id_1) }
     {
         &self.side(second).node
     }
@@ -144,7 +145,8 @@ impl Held {
     }
 
     fn side(&self, second: bool) -> &Side
-        ensures side { IsSideOf (if second then self.now.channel.message.node_id_2 else self.now.channel.message.node_id_1) result.now }
+        ensures side { IsSideOf (if second then self.now.channel.message.node_id_2
+            else self.now.channel.message.node_id_1) result.now }
         ensures row { result.now.row ≡ update_in second self.now }
     {
         if second { &self.second } else { &self.first }
@@ -152,20 +154,23 @@ impl Held {
 
     /// Whether an update that this point signed is admitted.
     pub(crate) fn admit_update(&self, row: &UpdateRow, signer: &Point) -> Result<(), Refusal>
-        ensures { update_op row.now result ≡ update_admission (Some self.now.channel) (update_in (is_second row.now) self.now) row.now signer.now }
+        ensures { update_op row.now result ≡ update_admission (Some self.now.channel)
+            (update_in (is_second row.now) self.now) row.now signer.now }
     {
         self.judge_update(row.is_second(), row.message.timestamp, signer)
     }
 
     /// The same of a row that is kept.
     fn admit_kept_update(&self, row: &KeptUpdate, signer: &Point) -> Result<(), Refusal>
-        ensures { update_op row.now result ≡ update_admission (Some self.now.channel) (update_in (is_second row.now) self.now) row.now signer.now }
+        ensures { update_op row.now result ≡ update_admission (Some self.now.channel)
+            (update_in (is_second row.now) self.now) row.now signer.now }
     {
         self.judge_update(row.is_second(), row.timestamp(), signer)
     }
 
     fn judge_update(&self, second: bool, time: u32, signer: &Point) -> Result<(), Refusal>
-        ensures { result ≡ update_verdict self.now.channel (update_in second self.now) second time signer.now }
+        ensures { result
+            ≡ update_verdict self.now.channel (update_in second self.now) second time signer.now }
     {
         if *signer != *self.node(second) {
             return Err(Refusal::Signature);
@@ -182,7 +187,8 @@ impl Held {
         row: &Shared<KeptUpdate>,
         signer: &Point,
     ) -> Result<(), Refusal>
-        ensures admission { Offers (update_op row.now result) (update_admission (Some self.old.channel) (update_in (is_second row.now) self.old) row.now signer.now) }
+        ensures admission { Offers (update_op row.now result) (update_admission (Some self.old.channel)
+            (update_in (is_second row.now) self.old) row.now signer.now) }
         ensures accepted { OnOk result (self.new ≡ with_update_in (is_second row.now) self.old row.now) }
         ensures refused { OnErr result (self.new ≡ self.old) }
         ensures channel { self.new.channel ≡ self.old.channel }

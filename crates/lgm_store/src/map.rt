@@ -55,7 +55,8 @@ impl Model for Map {
       banned = m.banned;
     } };
 
-    ghost invariant = { λ m. IsKept (channel_entries m.channels) (update_entries m.channels) m.nodes.entries m.ends m.banned };
+    ghost invariant = { λ m. IsKept (channel_entries m.channels) (update_entries m.channels) m.nodes.entries
+        m.ends m.banned };
 }
 
 impl Map {

@@ -131,7 +131,8 @@ impl Slots {
         signer: &Point,
     ) -> Result<(), Refusal>
         ensures admission { let held = lookup (is_at (nat_cmp row.now.message.short_channel_id)) self.old in
-            Offers (update_op row.now result) (update_admission (option_map (λ h. h.channel) held) (option_and_then (update_in (is_second row.now)) held) row.now signer.now) }
+            Offers (update_op row.now result) (update_admission (option_map (λ h. h.channel) held)
+            (option_and_then (update_in (is_second row.now)) held) row.now signer.now) }
         ensures accepted { OnOk result (self.new ≡ with_update_at self.old row.now) }
         ensures refused { OnErr result (self.new ≡ self.old) }
     {

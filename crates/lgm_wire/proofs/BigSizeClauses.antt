@@ -1,5 +1,6 @@
 -- The clauses of read_bigsize, and the law that no spelling begins another, as facts about lists.
-use Rattle.std.proofs.Common.{◌≡◌, ℕ, ◌+◌, ◌-◌, ◌<◌, ◌≤◌, ◌⊎◌, ◌↔◌, List, ◌++◌, length, take, drop, Result, Ok, Err, refl, sym, ap, subst, ◌∙◌, arith, inl, inr}
+use Rattle.std.proofs.Common.{◌≡◌, ℕ, ◌+◌, ◌-◌, ◌<◌, ◌≤◌, ◌⊎◌, ◌↔◌, List, ◌++◌, length, take, drop}
+use Rattle.std.proofs.Common.{Result, Ok, Err, refl, sym, ap, subst, ◌∙◌, arith, inl, inr}
 use Rattle.std.specs.Prelude.{IfErr}
 use Rattle.std.proofs.lemmas.List.{take_at, take-append-drop, length-append, length-drop}
 use Rattle.lgm_wire.proofs.ReadingLaws.{bind_ok, ok_is}
@@ -17,7 +18,8 @@ shorter bytes rest v fits e =
     omega (arith, ap length parts, length-append (bigsize_bytes v) rest)
 
 -- a number and how many bytes it takes, exactly where so many bytes spell it
-bigsize_with_len-value : (bytes : List ℕ) → IsBytes bytes → (v n : ℕ) → (bigsize_with_len bytes ≡ Ok (v, n)) ↔ ((n ≤ length bytes) × IsBigSize v (take n bytes))
+bigsize_with_len-value : (bytes : List ℕ) → IsBytes bytes → (v n : ℕ)
+    → (bigsize_with_len bytes ≡ Ok (v, n)) ↔ ((n ≤ length bytes) × IsBigSize v (take n bytes))
 bigsize_with_len-value bytes fits v n = (
   λ e.
       let s = bind_ok (bigsize_at bytes) (λ x. Ok (x.0, length bytes - length x.1)) (v, n) e in
@@ -54,7 +56,8 @@ bigsize_with_len-cut bytes fits =
       | found le ge x e ↦ (λ h. let f = bigsize_with_len-ok bytes x e in absurd cc, λ h. absurd (omega arith))
     ]
 
-bigsize_with_len-not_minimal : (bytes : List ℕ) → IsBytes bytes → (bigsize_with_len bytes ≡ Err NotMinimal) ↔ ((form_len bytes ≤ length bytes) × (length (bigsize_bytes (form_value bytes)) < form_len bytes))
+bigsize_with_len-not_minimal : (bytes : List ℕ) → IsBytes bytes → (bigsize_with_len bytes ≡ Err NotMinimal) ↔
+    ((form_len bytes ≤ length bytes) × (length (bigsize_bytes (form_value bytes)) < form_len bytes))
 bigsize_with_len-not_minimal bytes fits =
     elim (outcome bytes fits) [
       | cut lt e ↦ (λ h. let f = bigsize_with_len-err bytes Cut e in absurd cc, λ h. absurd (omega (arith, lt, h.0)))

@@ -1,5 +1,6 @@
 -- BigSize: what is read is so spelled, what is so spelled is read, and which fault comes else.
-use Rattle.std.proofs.Common.{◌≡◌, ℕ, suc, ◌^◌, ◌<◌, ◌≤◌, false, cond, ltb, List, [], ◌∷◌, ◌++◌, length, take, drop, Ok, Err, refl, sym, ap, ◌∙◌, arith, inl, inr}
+use Rattle.std.proofs.Common.{◌≡◌, ℕ, suc, ◌^◌, ◌<◌, ◌≤◌, false, cond, ltb, List, [], ◌∷◌, ◌++◌}
+use Rattle.std.proofs.Common.{length, take, drop, Ok, Err, refl, sym, ap, ◌∙◌, arith, inl, inr}
 use Rattle.std.specs.Int.{Width, w16, w32, w64, byte_len, from_be_bytes, to_be_bytes}
 use Rattle.std.proofs.lemmas.Bool.{cases_lt, cases_eq, ltb-false, lt-ltb, le-ltb}
 use Rattle.std.proofs.lemmas.List.{take_at, drop_at, length-append}
@@ -19,10 +20,13 @@ pub record LongFormSpelled (w : Width) (least limit : ℕ) (bytes : List ℕ) (v
   pub rest_fits : IsBytes rest
 
 -- what is read is so spelled, and what is so spelled is read
-pub long_form_spelled : (w : Width) (least limit : ℕ) (wide : IsWide w limit) (bytes : List ℕ) (v : ℕ) (rest : List ℕ) → IsBytes bytes → long_form_at w least bytes ≡ Ok (v, rest) → LongFormSpelled w least limit bytes v rest
+pub long_form_spelled : (w : Width) (least limit : ℕ) (wide : IsWide w limit) (bytes : List ℕ) (v : ℕ)
+    (rest : List ℕ) → IsBytes bytes → long_form_at w least bytes ≡ Ok (v, rest)
+    → LongFormSpelled w least limit bytes v rest
 long_form_spelled w least limit wide bytes v rest fits e =
     let n : ℕ = from_be_bytes w (take (byte_len w) bytes) in
-    elim (chosen (ltb (length bytes) (byte_len w)) (Err Cut) (cond (ltb n least) (Err NotMinimal) (Ok (n, drop (byte_len w) bytes))) (Ok (v, rest)) e) [
+    elim (chosen (ltb (length bytes) (byte_len w)) (Err Cut)
+    (cond (ltb n least) (Err NotMinimal) (Ok (n, drop (byte_len w) bytes))) (Ok (v, rest)) e) [
       | inl short ↦ absurd cc
       | inr long ↦ elim (chosen (ltb n least) (Err NotMinimal) (Ok (n, drop (byte_len w) bytes)) (Ok (v, rest)) long.1) [
         | inl small ↦ absurd cc
@@ -41,20 +45,30 @@ long_form_spelled w least limit wide bytes v rest fits e =
       ]
     ]
 
-pub long_form_at-to_be_bytes : (w : Width) (least limit : ℕ) (wide : IsWide w limit) (v : ℕ) (rest : List ℕ) → least ≤ v → v < limit → long_form_at w least (to_be_bytes w v ++ rest) ≡ Ok (v, rest)
+pub long_form_at-to_be_bytes : (w : Width) (least limit : ℕ) (wide : IsWide w limit) (v : ℕ) (rest : List ℕ)
+    → least ≤ v → v < limit → long_form_at w least (to_be_bytes w v ++ rest) ≡ Ok (v, rest)
 long_form_at-to_be_bytes w least limit wide v rest le lt =
     let len = wide.len v in
     let long : ltb (length (to_be_bytes w v ++ rest)) (byte_len w) ≡ false = le-ltb _ _ (omega (arith, length-append (to_be_bytes w v) rest)) in
-    rw (long, take_at (to_be_bytes w v) rest (byte_len w) len, drop_at (to_be_bytes w v) rest (byte_len w) len, wide.again v lt, le-ltb v least le) refl
+    rw (
+      long,
+      take_at (to_be_bytes w v) rest (byte_len w) len,
+      drop_at (to_be_bytes w v) rest (byte_len w) len,
+      wide.again v lt,
+      le-ltb v least le,
+    ) refl
 
 -- the two faults, and the rest
 pub long_form_at-cut : (w : Width) (least : ℕ) (bytes : List ℕ) → length bytes < byte_len w → long_form_at w least bytes ≡ Err Cut
 long_form_at-cut w least bytes lt = rw (lt-ltb (length bytes) (byte_len w) lt) refl
 
-pub long_form_at-not_minimal : (w : Width) (least : ℕ) (bytes : List ℕ) → byte_len w ≤ length bytes → from_be_bytes w (take (byte_len w) bytes) < least → long_form_at w least bytes ≡ Err NotMinimal
+pub long_form_at-not_minimal : (w : Width) (least : ℕ) (bytes : List ℕ) → byte_len w ≤ length bytes
+    → from_be_bytes w (take (byte_len w) bytes) < least → long_form_at w least bytes ≡ Err NotMinimal
 long_form_at-not_minimal w least bytes le lt = rw (le-ltb (length bytes) (byte_len w) le, lt-ltb _ least lt) refl
 
-pub long_form_at-ok : (w : Width) (least : ℕ) (bytes : List ℕ) → byte_len w ≤ length bytes → least ≤ from_be_bytes w (take (byte_len w) bytes) → long_form_at w least bytes ≡ Ok (from_be_bytes w (take (byte_len w) bytes), drop (byte_len w) bytes)
+pub long_form_at-ok : (w : Width) (least : ℕ) (bytes : List ℕ) → byte_len w ≤ length bytes
+    → least ≤ from_be_bytes w (take (byte_len w) bytes)
+    → long_form_at w least bytes ≡ Ok (from_be_bytes w (take (byte_len w) bytes), drop (byte_len w) bytes)
 long_form_at-ok w least bytes le ge = rw (le-ltb (length bytes) (byte_len w) le, le-ltb _ least ge) refl
 
 -- ---- the spelling, form by form
@@ -210,10 +224,14 @@ bigsize_at-bigsize_bytes v rest lt =
     elim (cases_lt v 0xfd) [
       | inl a ↦ ap (λ (s : List ℕ). bigsize_at (s ++ rest)) (bigsize_bytes-one_byte v a) ∙ bigsize_at-one_byte v rest a
       | inr a ↦ elim (cases_lt v 0x10000) [
-        | inl b ↦ ap (λ (s : List ℕ). bigsize_at (s ++ rest)) (bigsize_bytes-three_bytes v a b) ∙ form16.at (to_be_bytes w16 v ++ rest) ∙ long_form_at-to_be_bytes w16 0xfd (2 ^ 16) wide16 v rest a b
+        | inl b ↦ ap (λ (s : List ℕ). bigsize_at (s ++ rest)) (bigsize_bytes-three_bytes v a b) ∙ form16.at
+            (to_be_bytes w16 v ++ rest) ∙ long_form_at-to_be_bytes w16 0xfd (2 ^ 16) wide16 v rest a b
         | inr b ↦ elim (cases_lt v 0x100000000) [
-          | inl c ↦ ap (λ (s : List ℕ). bigsize_at (s ++ rest)) (bigsize_bytes-five_bytes v b c) ∙ form32.at (to_be_bytes w32 v ++ rest) ∙ long_form_at-to_be_bytes w32 0x10000 (2 ^ 32) wide32 v rest b c
-          | inr c ↦ ap (λ (s : List ℕ). bigsize_at (s ++ rest)) (bigsize_bytes-nine_bytes v c) ∙ form64.at (to_be_bytes w64 v ++ rest) ∙ long_form_at-to_be_bytes w64 0x100000000 (2 ^ 64) wide64 v rest c lt
+          | inl c ↦ ap (λ (s : List ℕ). bigsize_at (s ++ rest)) (bigsize_bytes-five_bytes v b c) ∙ form32.at
+              (to_be_bytes w32 v ++ rest) ∙ long_form_at-to_be_bytes w32 0x10000 (2 ^ 32) wide32 v rest b c
+          | inr c ↦ ap (λ (s : List ℕ). bigsize_at (s ++ rest)) (bigsize_bytes-nine_bytes v c)
+              ∙ form64.at (to_be_bytes w64 v ++ rest)
+              ∙ long_form_at-to_be_bytes w64 0x100000000 (2 ^ 64) wide64 v rest c lt
         ]
       ]
     ]
@@ -223,8 +241,10 @@ bigsize_at-bigsize_bytes v rest lt =
 -- what reading gives, by the length of the form and the shortest spelling of its number
 pub data Outcome : List ℕ → Type 0 where
   cut : {bytes : List ℕ} → length bytes < form_len bytes → bigsize_at bytes ≡ Err Cut → Outcome bytes
-  small : {bytes : List ℕ} → form_len bytes ≤ length bytes → length (bigsize_bytes (form_value bytes)) < form_len bytes → bigsize_at bytes ≡ Err NotMinimal → Outcome bytes
-  found : {bytes : List ℕ} → form_len bytes ≤ length bytes → form_len bytes ≤ length (bigsize_bytes (form_value bytes)) → (x : ℕ × List ℕ) → bigsize_at bytes ≡ Ok x → Outcome bytes
+  small : {bytes : List ℕ} → form_len bytes ≤ length bytes → length (bigsize_bytes (form_value bytes))
+      < form_len bytes → bigsize_at bytes ≡ Err NotMinimal → Outcome bytes
+  found : {bytes : List ℕ} → form_len bytes ≤ length bytes → form_len bytes
+      ≤ length (bigsize_bytes (form_value bytes)) → (x : ℕ × List ℕ) → bigsize_at bytes ≡ Ok x → Outcome bytes
 
 -- and it gives one of the three
 pub outcome : (bytes : List ℕ) → IsBytes bytes → Outcome bytes
@@ -234,7 +254,8 @@ outcome (b ∷ bs) fits =
       | one lt ↦
           let len : form_len (b ∷ bs) ≡ 1 = rw (lt-ltb b 0xfd lt) refl in
           let value : form_value (b ∷ bs) ≡ b = rw (lt-ltb b 0xfd lt) refl in
-          let size : length (bigsize_bytes (form_value (b ∷ bs))) ≡ 1 = ap (λ (k : ℕ). length (bigsize_bytes k)) value ∙ ap length (bigsize_bytes-one_byte b lt) in
+          let size : length (bigsize_bytes (form_value (b ∷ bs))) ≡ 1 =
+          ap (λ (k : ℕ). length (bigsize_bytes k)) value ∙ ap length (bigsize_bytes-one_byte b lt) in
           found (omega (arith, len)) (omega (arith, len, size)) (b, bs) (bigsize_at-one_byte b bs lt)
       | more w least limit form ↦
           let len = form.len bs in
@@ -248,7 +269,8 @@ outcome (b ∷ bs) fits =
               | inr ge ↦
                   let below : n < limit = form.wide.below (take (byte_len w) bs) (IsBytes-take (byte_len w) bs (IsBytes-rest b bs fits)) in
                   let spelt : length (bigsize_bytes n) ≡ suc (byte_len w) = ap length (form.spelled n ge below) ∙ ap suc (form.wide.len n) in
-                  found (rw len (omega arith)) (rw (len, size, spelt) (omega arith)) (n, drop (byte_len w) bs) (form.at bs ∙ long_form_at-ok w least bs long ge)
+                  found (rw len (omega arith)) (rw (len, size, spelt) (omega arith)) (n, drop (byte_len w) bs)
+                  (form.at bs ∙ long_form_at-ok w least bs long ge)
             ]
           ]
     ]

@@ -1,5 +1,6 @@
 -- Truncated integers: numbers in base 256, with and without zeros in front.
-use Rattle.std.proofs.Common.{◌≡◌, ℕ, suc, ◌+◌, ◌*◌, ◌^◌, ◌<◌, ◌≤◌, true, eqb, List, [], ◌∷◌, ◌++◌, length, drop, refl, sym, ap, subst, ◌∙◌, arith, add-one, inl, inr}
+use Rattle.std.proofs.Common.{◌≡◌, ℕ, suc, ◌+◌, ◌*◌, ◌^◌, ◌<◌, ◌≤◌, true, eqb, List, [], ◌∷◌, ◌++◌}
+use Rattle.std.proofs.Common.{length, drop, refl, sym, ap, subst, ◌∙◌, arith, add-one, inl, inr}
 use Rattle.std.specs.Prelude.{All}
 use Rattle.std.specs.Int.{w64, from_be_bytes, to_be_bytes}
 use Rattle.std.specs.List.{take_while}
@@ -124,7 +125,8 @@ without-digit : (x : ℕ) (xs : List ℕ) → ¬ (x ≡ 0) → without_leading_z
 without-digit x xs n = rw (ne_eqb x 0 n) refl
 
 -- the bytes behind the zeros in front, as the code finds them
-pub drop-leading : (bytes : List ℕ) (count : ℕ) (spelled : List ℕ) → count ≡ length (take_while (λ b. eqb b 0) bytes) → bytes ≡ spelled → drop count bytes ≡ without_leading_zeros spelled
+pub drop-leading : (bytes : List ℕ) (count : ℕ) (spelled : List ℕ) → count ≡ length
+    (take_while (λ b. eqb b 0) bytes) → bytes ≡ spelled → drop count bytes ≡ without_leading_zeros spelled
 drop-leading bytes count spelled count_is same = rw (count_is, ← same) (behind bytes)
   where
     behind : (xs : List ℕ) → drop (length (take_while (λ b. eqb b 0) xs)) xs ≡ without_leading_zeros xs
@@ -161,7 +163,14 @@ number_of-to_be_bytes : (v : ℕ) → v < 2 ^ 64 → number_of (to_be_bytes w64 
 number_of-to_be_bytes v lt = cells _ _ _ _ _ _ _ _ ∙ from_be_bytes-to_be_bytes_8 v lt
 
 digits-to_be_bytes : (v : ℕ) → AreDigits (to_be_bytes w64 v)
-digits-to_be_bytes v = All-from_recursion IsDigit (to_be_bytes w64 v) (omega arith, (omega arith, (omega arith, (omega arith, (omega arith, (omega arith, (omega arith, (omega arith, tt))))))))
+digits-to_be_bytes v =
+    All-from_recursion IsDigit (to_be_bytes w64 v) (
+      omega arith,
+      (
+        omega arith,
+        (omega arith, (omega arith, (omega arith, (omega arith, (omega arith, (omega arith, tt)))))),
+      ),
+    )
 
 -- which is the one that is written
 pub IsTruncatedInteger-truncated_bytes : (v : ℕ) → v < 2 ^ 64 → IsTruncatedInteger v (truncated_bytes v)

@@ -1,7 +1,8 @@
 //! BigSize: a number of up to 64 bits in one, three, five or nine bytes, whichever is shortest
 //! (BOLT 1, Fundamental Types and Appendix A).
 
-ghost use Rattle.std.specs.Prelude.{◌≡◌, ℕ, ◌≤◌, ◌<◌, ◌↔◌, ◌⊎◌, ◌++◌, ◌+◌, length, take, vec_len, vec_capacity, OnOk, OnErr, IfErr, List};
+ghost use Rattle.std.specs.Prelude.{◌≡◌, ℕ, ◌≤◌, ◌<◌, ◌↔◌, ◌⊎◌, ◌++◌, ◌+◌, length, take};
+ghost use Rattle.std.specs.Prelude.{vec_len, vec_capacity, OnOk, OnErr, IfErr, List};
 ghost use Rattle.std.specs.Int.{w16, w32, w64};
 ghost use Rattle.lgm_wire.specs.BigSize.{IsBigSize, bigsize_bytes, form_len, form_value};
 ghost use Rattle.lgm_wire.specs.reading.Reading.{Sees};
@@ -46,7 +47,7 @@ fn split_u64(bytes: &[u8]) -> Result<(u64, &[u8]), WireFault>
 }
 
 /// The leading number, and the bytes after it.
-#[tactic(auto, unfolding(crate::specs::BigSizeReading::bigsize_at))]
+#[tactic(auto, unfolding(crate::specs::reading::BigSizeReading::bigsize_at))]
 pub(crate) fn split_bigsize(bytes: &[u8]) -> Result<(u64, &[u8]), WireFault>
     ensures { Sees (λ x. (x.0, x.1.now)) result (bigsize_at bytes.now) }
 {

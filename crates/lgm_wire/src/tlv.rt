@@ -1,7 +1,8 @@
 //! TLV streams: records of type, length and value, with strictly increasing types (BOLT 1,
 //! Type-Length-Value Format and Appendix B).
 
-ghost use Rattle.std.specs.Prelude.{◌≡◌, ℕ, ◌+◌, ◌<◌, ◌≤◌, List, ◌++◌, ◌⊎◌, length, slice_index, Ok, vec_len, vec_capacity, OnOk, OnErr, IfOk, IfErr, MatchResult};
+ghost use Rattle.std.specs.Prelude.{◌≡◌, ℕ, ◌+◌, ◌<◌, ◌≤◌, List, ◌++◌, ◌⊎◌, length, slice_index, Ok};
+ghost use Rattle.std.specs.Prelude.{vec_len, vec_capacity, OnOk, OnErr, IfOk, IfErr, MatchResult};
 ghost use Rattle.lgm_wire.specs.reading.Reading.{Sees, Gives};
 ghost use Rattle.lgm_wire.specs.Tlv.{TlvRecord, IsTlvStream, record_bytes};
 ghost use Rattle.lgm_wire.specs.reading.TlvReading.{IsFirstFault, record_at, tlvs_of};
@@ -47,7 +48,7 @@ impl<'a> Tlvs<'a> {
 }
 
 /// The leading record, whose type is above the last one, and the bytes after it.
-#[tactic(auto, unfolding(crate::specs::TlvReading::record_at))]
+#[tactic(auto, unfolding(crate::specs::reading::TlvReading::record_at))]
 fn split_tlv<'a>(last: Option<u64>, bytes: &'a [u8]) -> Result<(Tlv<'a>, &'a [u8]), WireFault>
     ensures { Sees (λ x. (record_of x.0, x.1.now)) result (record_at last bytes.now) }
 {

@@ -1,8 +1,10 @@
 //! Truncated integers, `tu16`, `tu32` and `tu64`: a big-endian number without leading zero bytes,
 //! whose length is known from elsewhere (BOLT 1, Fundamental Types).
 
-ghost use Rattle.std.specs.Prelude.{◌≡◌, ℕ, List, ◌++◌, ◌≤◌, ◌<◌, ◌^◌, ◌↔◌, ◌⊎◌, ◌==◌, ◌+◌, take_while, length, vec_len, vec_capacity, OnOk, OnErr, IfErr};
-ghost use Rattle.lgm_wire.specs.TruncatedInteger.{IsTruncatedInteger, StartsWithZero, number_of, truncated_bytes};
+ghost use Rattle.std.specs.Prelude.{◌≡◌, ℕ, List, ◌++◌, ◌≤◌, ◌<◌, ◌^◌, ◌↔◌, ◌⊎◌, ◌==◌, ◌+◌, take_while};
+ghost use Rattle.std.specs.Prelude.{length, vec_len, vec_capacity, OnOk, OnErr, IfErr};
+ghost use Rattle.lgm_wire.specs.TruncatedInteger.{IsTruncatedInteger, StartsWithZero};
+ghost use Rattle.lgm_wire.specs.TruncatedInteger.{number_of, truncated_bytes};
 ghost use Rattle.lgm_wire.specs.reading.TruncatedIntegerReading.{truncated_of};
 
 use crate::fault::{NoMemory, WireFault};

@@ -10,7 +10,9 @@ use Rattle.lgm_gossip.specs.reading.FieldReading.{fixed_at, number_at}
 
 -- an address of the given length, and its port
 abbrev pub address_at : ℕ → (List ℕ → ℕ → Address) → List ℕ → Result (Address × List ℕ) DecodeFault
-address_at len variant bytes = fixed_at len bytes >>= λ address. number_at w16 address.1 >>= λ port. Ok (variant address.0 port.0, port.1)
+address_at len variant bytes =
+    fixed_at len bytes >>= λ address. number_at w16 address.1 >>= λ port.
+    Ok (variant address.0 port.0, port.1)
 
 unfoldable pub descriptor_at : List ℕ → Result (Address × List ℕ) DecodeFault
 descriptor_at [] = Err Cut
@@ -19,5 +21,6 @@ descriptor_at (kind ∷ left) =
     else if kind == 2 then address_at 16 (λ address port. addresses.V6 address port) left
     else if kind == 3 then address_at 10 (λ address port. addresses.Tor2 address port) left
     else if kind == 4 then address_at 35 (λ address port. addresses.Tor3 address port) left
-    else if kind == 5 then (number_at w8 left >>= λ len. address_at len.0 (λ hostname port. addresses.Name hostname port) len.1)
+    else if kind == 5
+    then (number_at w8 left >>= λ len. address_at len.0 (λ hostname port. addresses.Name hostname port) len.1)
     else Err Cut

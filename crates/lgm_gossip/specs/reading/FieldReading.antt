@@ -22,7 +22,8 @@ counted_at bytes = do
   fixed_at n.0 n.1
 
 -- the same, whose bytes are read in turn
-abbrev pub enclosed_at : {A : Type 0} → (List ℕ → Result A DecodeFault) → List ℕ → Result (A × List ℕ) DecodeFault
+abbrev pub enclosed_at : {A : Type 0} → (List ℕ → Result A DecodeFault) → List ℕ
+    → Result (A × List ℕ) DecodeFault
 enclosed_at read bytes = counted_at bytes >>= λ text. read text.0 >>= λ x. Ok (x, text.1)
 
 -- all remaining bytes
@@ -30,7 +31,8 @@ abbrev pub rest_at : List ℕ → Result (List ℕ × List ℕ) DecodeFault
 rest_at bytes = Ok (bytes, [])
 
 -- a field, and then the others, which may depend on its value
-abbrev pub read_on : {A M : Type 0} → (List ℕ → Result (A × List ℕ) DecodeFault) → (A → List ℕ → Result M DecodeFault) → List ℕ → Result M DecodeFault
+abbrev pub read_on : {A M : Type 0} → (List ℕ → Result (A × List ℕ) DecodeFault)
+    → (A → List ℕ → Result M DecodeFault) → List ℕ → Result M DecodeFault
 read_on field others = λ bytes. field bytes >>= λ x. others x.0 x.1
 
 -- the message that the fields make; remaining bytes are dropped

@@ -11,4 +11,8 @@ filter_msg_at = do
   chain_hash ← fixed_at 32
   first_timestamp ← number_at w32
   timestamp_range ← number_at w32
-  made (record { chain_hash = record { 0 = chain_hash }; first_timestamp = first_timestamp; timestamp_range = timestamp_range })
+  made (record {
+    chain_hash = record { 0 = chain_hash };
+    first_timestamp = first_timestamp;
+    timestamp_range = timestamp_range;
+  })

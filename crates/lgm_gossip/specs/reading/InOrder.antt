@@ -4,5 +4,6 @@ use Rattle.lgm_gossip.specs.declared.fault.DecodeFault.{DecodeFault}
 use Rattle.lgm_gossip.specs.reading.FieldReading.{read_on}
 
 infixl 10 ◌>>=◌
-abbrev pub ◌>>=◌ : {A M : Type 0} → (List ℕ → Result (A × List ℕ) DecodeFault) → (A → List ℕ → Result M DecodeFault) → List ℕ → Result M DecodeFault
+abbrev pub ◌>>=◌ : {A M : Type 0} → (List ℕ → Result (A × List ℕ) DecodeFault)
+    → (A → List ℕ → Result M DecodeFault) → List ℕ → Result M DecodeFault
 field >>= others = read_on field others

@@ -1,5 +1,6 @@
 -- Reading a message, with the first fault in the order that `decode` promises.
-use Rattle.std.specs.Prelude.{ℕ, ◌+◌, ◌*◌, ◌%◌, List, [], ◌∷◌, length, Result, Ok, Err, Option, nat_lt, ◌==◌, if◌then◌else◌}
+use Rattle.std.specs.Prelude.{ℕ, ◌+◌, ◌*◌, ◌%◌, List, [], ◌∷◌, length, Result}
+use Rattle.std.specs.Prelude.{Ok, Err, Option, nat_lt, ◌==◌, if◌then◌else◌}
 use Rattle.std.specs.Result.{result_err}
 use Rattle.lgm_wire.specs.reading.Reading.{◌>>=◌}
 use Rattle.lgm_gossip.specs.declared.fault.DecodeFault.{DecodeFault}

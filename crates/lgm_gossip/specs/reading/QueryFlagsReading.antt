@@ -25,4 +25,5 @@ all_flags_at (suc n) bytes = do
 
 abbrev pub query_flags_at : ℕ → List ℕ → Result (List ℕ) DecodeFault
 query_flags_at count [] = Err Flags
-query_flags_at count (first ∷ left) = if not (first == 0) then Err (Encoding first) else all_flags_at count left
+query_flags_at count (first ∷ left) =
+    if not (first == 0) then Err (Encoding first) else all_flags_at count left

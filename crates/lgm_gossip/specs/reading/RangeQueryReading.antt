@@ -26,4 +26,9 @@ range_query_at = do
   first_blocknum ← number_at w32
   number_of_blocks ← number_at w32
   options ← optional_at options_at
-  made (record { chain_hash = record { 0 = chain_hash }; first_blocknum = first_blocknum; number_of_blocks = number_of_blocks; options = options })
+  made (record {
+    chain_hash = record { 0 = chain_hash };
+    first_blocknum = first_blocknum;
+    number_of_blocks = number_of_blocks;
+    options = options;
+  })

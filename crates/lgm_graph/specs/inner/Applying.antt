@@ -8,7 +8,8 @@ use Rattle.lgm_graph.specs.Graph.{IsGraphOf}
 use Rattle.lgm_graph.specs.inner.Sound.{graph_in}
 
 -- the operation is applied to both, so that the nodes show the new map, or to neither; it numbers at most two points
-pub record IsDoneToBoth {T E : Type 0} (known : Option (List ℕ)) (op : Op) (rows new_rows : Rows) (nodes new_nodes : Nodes) (result : Result T E) : Type 0 where
+pub record IsDoneToBoth {T E : Type 0} (known : Option (List ℕ)) (op : Op) (rows new_rows : Rows)
+    (nodes new_nodes : Nodes) (result : Result T E) : Type 0 where
   pub map : OnOk result (new_rows ≡ absorbed rows op)
   pub beside : OnOk result (IsGraphOf new_rows (graph_in known new_nodes))
   pub few : length new_nodes.points.keys ≤ length nodes.points.keys + 2

@@ -1,5 +1,6 @@
 -- The representation of a view.
-use Rattle.std.specs.Prelude.{◌≡◌, ◌==◌, not, ◌||◌, true, false, slice_get, filter, if◌then◌else◌, ℕ, ◌+◌, ◌<◌, ◌≤◌, ◌^◌, Bool, List, map, length, Option}
+use Rattle.std.specs.Prelude.{◌≡◌, ◌==◌, not, ◌||◌, true, false, slice_get, filter, if◌then◌else◌}
+use Rattle.std.specs.Prelude.{ℕ, ◌+◌, ◌<◌, ◌≤◌, ◌^◌, Bool, List, map, length, Option}
 use Rattle.indexmap.specs.IndexSet.{spare}
 use Rattle.std.specs.Vec.{vec_len, vec_capacity}
 use Rattle.lgm_wire.specs.declared.point.Point.{Point}
@@ -48,7 +49,8 @@ pub record HasPlaces (more : ℕ) (nodes : Nodes) : Type 0 where
 
 -- these edges are in the lists of both of their nodes
 abbrev pub ShowsIn : List Edge → Nodes → Type 0
-ShowsIn edges nodes = Shows edges nodes.points.keys (map links_in nodes.into.items) (map links_in nodes.out.items)
+ShowsIn edges nodes =
+    Shows edges nodes.points.keys (map links_in nodes.into.items) (map links_in nodes.out.items)
 
 -- whether each of the nodes takes payments
 abbrev pub AreFlags : (Point → Bool) → Nodes → Type 0
@@ -71,7 +73,8 @@ is_not_of id link = not (link.scid == id)
 
 -- without a channel's links at one node
 abbrev pub closed_at : Point → ℕ → (Point → List Link) → Point → List Link
-closed_at node id lists point = if is_point node point then filter (is_not_of id) (lists point) else lists point
+closed_at node id lists point =
+    if is_point node point then filter (is_not_of id) (lists point) else lists point
 
 -- whether the point of a number is banned
 abbrev pub banned_at : List Point → List Point → ℕ → Bool
@@ -83,7 +86,8 @@ is_allowed points banned link = not (banned_at points banned link.from || banned
 
 -- without the links of banned nodes at one node
 abbrev pub allowed_at : Point → List Point → List Point → (Point → List Link) → Point → List Link
-allowed_at node points banned lists point = if is_point node point then filter (is_allowed points banned) (lists point) else lists point
+allowed_at node points banned lists point =
+    if is_point node point then filter (is_allowed points banned) (lists point) else lists point
 
 -- whether a point is among some
 abbrev pub is_among : List Point → Point → Bool
@@ -91,4 +95,5 @@ is_among points point = list_any (λ other. is_point other point) points
 
 -- both nodes of a channel are among some points
 abbrev pub HasEnds : List Point → ChannelRow → Type 0
-HasEnds points channel = (is_among points channel.message.node_id_1 ≡ true) × (is_among points channel.message.node_id_2 ≡ true)
+HasEnds points channel =
+    (is_among points channel.message.node_id_1 ≡ true) × (is_among points channel.message.node_id_2 ≡ true)

@@ -1,5 +1,6 @@
 -- How the view of a map is built, channel by channel.
-use Rattle.std.specs.Prelude.{◌≡◌, ◌*◌, ◌≤◌, Bool, false, true, List, [], ◌++◌, map, flat_map, length, Option, option_to_list}
+use Rattle.std.specs.Prelude.{◌≡◌, ◌*◌, ◌≤◌, Bool, false, true, List, [], ◌++◌}
+use Rattle.std.specs.Prelude.{map, flat_map, length, Option, option_to_list}
 use Rattle.std.specs.List.{AllByRecursion}
 use Rattle.std.specs.Option.{option_and_then}
 use Rattle.lgm_wire.specs.declared.point.Point.{Point}
@@ -15,15 +16,20 @@ use Rattle.lgm_graph.specs.Graph.{Graph, Shows, IsJoined, IsNumbered, link_of, n
 
 -- points keep their numbers
 abbrev pub KeepsNumbers : List Point → List Point → Type 0
-KeepsNumbers old new = (point : Point) → IsNumbered old point → (number_of new point ≡ number_of old point) × IsNumbered new point
+KeepsNumbers old new =
+    (point : Point) → IsNumbered old point
+    → (number_of new point ≡ number_of old point) × IsNumbered new point
 
 -- the edge of a direction of a channel
 abbrev pub edge_of_direction : List UpdateRow → ChannelRow → Bool → Option Edge
-edge_of_direction updates channel second = option_and_then (edge_on channel) (update_of updates channel.message.short_channel_id second)
+edge_of_direction updates channel second =
+    option_and_then (edge_on channel) (update_of updates channel.message.short_channel_id second)
 
 -- the edges of a channel
 abbrev pub edges_of_channel : List UpdateRow → ChannelRow → List Edge
-edges_of_channel updates channel = option_to_list (edge_of_direction updates channel false) ++ option_to_list (edge_of_direction updates channel true)
+edges_of_channel updates channel =
+    option_to_list (edge_of_direction updates channel false)
+    ++ option_to_list (edge_of_direction updates channel true)
 
 -- the links of edges between numbered points, in order
 pub record AreLinksOf (edges : List Edge) (points : List Point) (links : List Link) : Type 0 where
@@ -38,7 +44,8 @@ pub record HasWalked (rows : Rows) (left : List Held) (links : List Link) (graph
   pub parts : rows.channels ≡ done ++ rest
   pub left_is : left ≡ map (held_at rows) rest
   pub few : length graph.points ≤ 2 * length done
-  pub ends : AllByRecursion (λ channel. IsNumbered graph.points channel.message.node_id_1 × IsNumbered graph.points channel.message.node_id_2) done
+  pub ends : AllByRecursion (λ channel. IsNumbered graph.points channel.message.node_id_1
+      × IsNumbered graph.points channel.message.node_id_2) done
   pub takes : graph.takes ≡ map (takes_payments graph.known rows.nodes) graph.points
   pub bare : Shows [] graph.points graph.into graph.out
   pub links_are : AreLinksOf (flat_map (edges_of_channel rows.updates) done) graph.points links

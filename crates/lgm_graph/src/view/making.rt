@@ -3,7 +3,8 @@
 //! A first traversal of the channels numbers their nodes and lists the links one after the other. Only then are the
 //! lists per node made, each of its final length.
 
-ghost use Rattle.std.specs.Prelude.{◌≡◌, ℕ, ◌+◌, ◌*◌, ◌<◌, ◌≤◌, ◌^◌, ◌++◌, [], List, length, IfOk, OnOk, option_to_list, Option};
+ghost use Rattle.std.specs.Prelude.{◌≡◌, ℕ, ◌+◌, ◌*◌, ◌<◌, ◌≤◌, ◌^◌, ◌++◌, [], List};
+ghost use Rattle.std.specs.Prelude.{length, IfOk, OnOk, option_to_list, Option};
 ghost use Rattle.std.specs.Option.{option_and_then, option_map};
 ghost use Rattle.lgm_store.specs.Held.{update_in};
 ghost use Rattle.lgm_store.specs.Held.{held_at};
@@ -65,10 +66,13 @@ fn add_channel(
     ensures kept { OnOk result (KeepsNumbers nodes.old.points.keys nodes.new.points.keys) }
     ensures first { OnOk result (IsNumbered nodes.new.points.keys held.now.channel.message.node_id_1) }
     ensures second { OnOk result (IsNumbered nodes.new.points.keys held.now.channel.message.node_id_2) }
-    ensures takes { OnOk result (AreLookedAt known.now map.now.nodes nodes.old → AreLookedAt known.now map.now.nodes nodes.new) }
+    ensures takes { OnOk result
+        (AreLookedAt known.now map.now.nodes nodes.old → AreLookedAt known.now map.now.nodes nodes.new) }
     ensures bare { OnOk result (ShowsIn [] nodes.old → ShowsIn [] nodes.new) }
-    ensures links { OnOk result ((edges : List AnEdge) → AreLinksOf edges nodes.old.points.keys links.old.items
-        → AreLinksOf (edges ++ edges_of_channel map.now.updates held.now.channel) nodes.new.points.keys links.new.items) }
+    ensures links { OnOk result
+        ((edges : List AnEdge) → AreLinksOf edges nodes.old.points.keys links.old.items
+        → AreLinksOf (edges ++ edges_of_channel map.now.updates held.now.channel) nodes.new.points.keys
+        links.new.items) }
 {
     let first = number_end(alloc, nodes, hints, known, map, *held.node(false))?;
     let second = number_end(alloc, nodes, hints, known, map, *held.node(true))?;
@@ -90,7 +94,8 @@ fn number_end(
     ensures few { OnOk result (length nodes.new.points.keys ≤ length nodes.old.points.keys + 1) }
     ensures kept { OnOk result (KeepsNumbers nodes.old.points.keys nodes.new.points.keys) }
     ensures numbered { OnOk result (IsNumbered nodes.new.points.keys point) }
-    ensures takes { OnOk result (AreLookedAt known.now map.now.nodes nodes.old → AreLookedAt known.now map.now.nodes nodes.new) }
+    ensures takes { OnOk result
+        (AreLookedAt known.now map.now.nodes nodes.old → AreLookedAt known.now map.now.nodes nodes.new) }
     ensures shows { OnOk result ((edges : List AnEdge) → ShowsIn edges nodes.old
         → ShowsIn edges nodes.new) }
 {
@@ -114,7 +119,8 @@ fn number(
     ensures few { OnOk result (length nodes.new.points.keys ≤ length nodes.old.points.keys + 1) }
     ensures kept { OnOk result (KeepsNumbers nodes.old.points.keys nodes.new.points.keys) }
     ensures numbered { OnOk result (IsNumbered nodes.new.points.keys point) }
-    ensures takes { OnOk result (AreLookedAt known.now map.now.nodes nodes.old → AreLookedAt known.now map.now.nodes nodes.new) }
+    ensures takes { OnOk result
+        (AreLookedAt known.now map.now.nodes nodes.old → AreLookedAt known.now map.now.nodes nodes.new) }
     ensures shows { OnOk result ((edges : List AnEdge) → ShowsIn edges nodes.old
         → ShowsIn edges nodes.new) }
 {
@@ -139,7 +145,8 @@ fn add_direction(
     requires from { from < 2 ^ 32 }
     requires to { to < 2 ^ 32 }
     ensures { OnOk result (links.new.items ≡ links.old.items ++ option_to_list
-        (option_map (λ e. linked e from to) (option_and_then (edge_on held.now.channel) (update_in second held.now)))) }
+        (option_map (λ e. linked e from to)
+        (option_and_then (edge_on held.now.channel) (update_in second held.now)))) }
 {
     let Some(update) = held.update(second) else {
         return Ok(());

@@ -20,8 +20,10 @@ fn add_ends(
     node: &Point,
     ends: &mut IndexSet<Point, Seed>,
 ) -> Result<(), AllocError>
-    ensures kept { OnOk result ((q : APoint) → is_among ends.old.keys q ≡ true → is_among ends.new.keys q ≡ true) }
-    ensures ends { OnOk result (AllByRecursion (λ channel. ends_at node.now channel ≡ true → HasEnds ends.new.keys channel) map.now.channels) }
+    ensures kept { OnOk result
+        ((q : APoint) → is_among ends.old.keys q ≡ true → is_among ends.new.keys q ≡ true) }
+    ensures ends { OnOk result (AllByRecursion
+        (λ channel. ends_at node.now channel ≡ true → HasEnds ends.new.keys channel) map.now.channels) }
 {
     map.rows_are_lawful();
     let scids = map.ids_at(alloc, node)?;
@@ -40,7 +42,8 @@ pub(super) fn parted(
     map: &Map,
     ban: &BanRow,
 ) -> Result<IndexSet<Point, Seed>, AllocError>
-    ensures { IfOk result (λ ends. AllByRecursion (λ channel. ends_banned (with_banned map.now.banned ban.now) channel ≡ true → HasEnds ends.keys channel) map.now.channels) }
+    ensures { IfOk result (λ ends. AllByRecursion (λ channel. ends_banned (with_banned map.now.banned ban.now)
+        channel ≡ true → HasEnds ends.keys channel) map.now.channels) }
 {
     map.rows_are_lawful();
     let mut ends = IndexSet::with_hasher(alloc, map.seed());

@@ -42,9 +42,13 @@ with_slot so_far slot = record so_far { slots = so_far.slots ++ slot ∷ [] }
 -- with the request of a line, but for its slot
 abbrev pub with_request : Gathered → Request → Gathered
 with_request so_far (requests.Offer item) = record so_far { batch = so_far.batch ++ item ∷ [] }
-with_request so_far requests.Commit = record so_far { batches = so_far.batches ++ so_far.batch ∷ []; batch = [] }
+with_request so_far requests.Commit =
+    record so_far { batches = so_far.batches ++ so_far.batch ∷ []; batch = [] }
 with_request so_far (requests.Route payment) =
-    record so_far { lists = given so_far.lists (so_far.payments % length so_far.lists) (asked_route payment); payments = so_far.payments + 1 }
+    record so_far {
+      lists = given so_far.lists (so_far.payments % length so_far.lists) (asked_route payment);
+      payments = so_far.payments + 1;
+    }
 with_request so_far _ = so_far
 
 -- with the request of a line

@@ -1,5 +1,6 @@
 -- The same text, slot by slot, as it is written.
-use Rattle.std.specs.Prelude.{ℕ, zero, suc, ◌+◌, ◌<◌, Bool, true, false, List, [], ◌++◌, length, take, Option, Some, None, IsSome, codes, count_by, slice_index_or}
+use Rattle.std.specs.Prelude.{ℕ, zero, suc, ◌+◌, ◌<◌, Bool, true, false, List, [], ◌++◌, length}
+use Rattle.std.specs.Prelude.{take, Option, Some, None, IsSome, codes, count_by, slice_index_or}
 use Rattle.lgm_script.specs.Text.{word_line, commit_line}
 use Rattle.lgm_server.specs.Answer.{outcome_text, route_text}
 use Rattle.lgm_live.specs.declared.report.LiveAnswer.{LiveAnswer}
@@ -23,7 +24,12 @@ is_payment _ = false
 
 -- the indices of the next outcome, end and answer of a report after these slots
 abbrev pub place_behind : List Slot → Place
-place_behind before = record { items = count_by is_item before; ends = count_by is_end before; payments = count_by is_payment before }
+place_behind before =
+    record {
+      items = count_by is_item before;
+      ends = count_by is_end before;
+      payments = count_by is_payment before;
+    }
 
 -- the indices after one more slot
 abbrev pub place_passed : Place → Slot → Place
@@ -35,29 +41,37 @@ place_passed place _ = place
 -- an answer, and that the replay gives the same
 abbrev pub same_text : ℕ → List ℕ → Option LiveAnswer → List ℕ
 same_text number secret None = []
-same_text number secret (Some answer) = at_line number answer.version (codes "same") ++ route_text number secret answer.result
+same_text number secret (Some answer) =
+    at_line number answer.version (codes "same") ++ route_text number secret answer.result
 
 abbrev pub slot_text : ℕ → LiveReport → ℕ → Place → Slot → List ℕ
 slot_text workers report number place slots.Quiet = []
 slot_text workers report number place slots.Bad = word_line number (codes "bad")
-slot_text workers report number place slots.Item = outcome_text number (slice_index_or report.outcomes.items place.items None)
-slot_text workers report number place slots.Commit = commit_line number (slice_index_or report.ends.items place.ends 0)
+slot_text workers report number place slots.Item =
+    outcome_text number (slice_index_or report.outcomes.items place.items None)
+slot_text workers report number place slots.Commit =
+    commit_line number (slice_index_or report.ends.items place.ends 0)
 slot_text workers report number place slots.NotLive = word_line number (codes "not-live")
-slot_text workers report number place (slots.Payment secret) = same_text number secret (answer_at workers report.answers.items place.payments)
+slot_text workers report number place (slots.Payment secret) =
+    same_text number secret (answer_at workers report.answers.items place.payments)
 
 -- the report has what a slot refers to
 abbrev pub IsThere : ℕ → LiveReport → Place → Slot → Type 0
 IsThere workers report place slots.Item = place.items < length report.outcomes.items
 IsThere workers report place slots.Commit = place.ends < length report.ends.items
-IsThere workers report place (slots.Payment secret) = IsSome (answer_at workers report.answers.items place.payments)
+IsThere workers report place (slots.Payment secret) =
+    IsSome (answer_at workers report.answers.items place.payments)
 IsThere workers report place _ = Unit {0}
 
 -- and what each of them refers to
 abbrev pub AreThere : ℕ → LiveReport → List Slot → Type 0
-AreThere workers report all = (k : ℕ) → k < length all → IsThere workers report (place_behind (take k all)) (slice_index_or all k slots.Quiet)
+AreThere workers report all =
+    (k : ℕ) → k < length all
+    → IsThere workers report (place_behind (take k all)) (slice_index_or all k slots.Quiet)
 
 -- the text of the first k slots
 unfoldable pub slots_before : ℕ → LiveReport → List Slot → ℕ → List ℕ
 slots_before workers report all zero = []
 slots_before workers report all (suc k) =
-    slots_before workers report all k ++ slot_text workers report (k + 1) (place_behind (take k all)) (slice_index_or all k slots.Quiet)
+    slots_before workers report all k
+    ++ slot_text workers report (k + 1) (place_behind (take k all)) (slice_index_or all k slots.Quiet)

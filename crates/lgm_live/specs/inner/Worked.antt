@@ -13,7 +13,8 @@ use Rattle.lgm_live.specs.declared.writing.Written.{Written}
 use Rattle.lgm_live.specs.Answers.{AreAnsweredBy, NeverFall, IsAtEnd}
 
 -- a list is answered by what an eye of a board has observed
-pub record HasWorked (book : Book) (known : Option (List ℕ)) (requests : List Request) (worked : Worked) : Type 0 where
+pub record HasWorked (book : Book) (known : Option (List ℕ)) (requests : List Request)
+    (worked : Worked) : Type 0 where
   pub board : worked.eye.board ≡ book
   pub answered : AreAnsweredBy known worked.eye.ops requests worked.answers.items
   pub rising : NeverFall worked.answers.items
@@ -24,13 +25,17 @@ AreOf board known eyes = All (λ eye. (eye.board ≡ board) × (eye.known ≡ kn
 
 -- each list is answered by an eye of its own, if all are of one board
 abbrev pub HaveWorked : List Sight → List (List Request) → List Worked → Type 0
-HaveWorked eyes lists works = (board : Book) (known : Option (List ℕ)) → AreOf board known eyes → AllZip (HasWorked board known) lists works
+HaveWorked eyes lists works =
+    (board : Book) (known : Option (List ℕ)) → AreOf board known eyes
+    → AllZip (HasWorked board known) lists works
 
 -- a worker's answers are those on the published operations
-pub record IsTied (published : List Op) (ends : List ℕ) (worked : Worked) (answers : Vec LiveAnswer) : Type 0 where
+pub record IsTied (published : List Op) (ends : List ℕ) (worked : Worked)
+    (answers : Vec LiveAnswer) : Type 0 where
   pub same : answers.items ≡ worked.answers.items
   pub at_ends : All (IsAtEnd ends) answers.items
-  pub answered : (known : Option (List ℕ)) (requests : List Request) → AreAnsweredBy known worked.eye.ops requests worked.answers.items
+  pub answered : (known : Option (List ℕ)) (requests : List Request)
+      → AreAnsweredBy known worked.eye.ops requests worked.answers.items
       → AreAnsweredBy known published requests answers.items
 
 -- a report has what the writer stored

@@ -7,4 +7,6 @@ piece_start n p k = k * (n / p) + min k (n % p)
 
 -- the items of a chunk
 abbrev pub piece_of : {T : Type 0} → List T → ℕ → ℕ → List T
-piece_of xs p k = take (piece_start (length xs) p (k + 1) - piece_start (length xs) p k) (drop (piece_start (length xs) p k) xs)
+piece_of xs p k =
+    take (piece_start (length xs) p (k + 1) - piece_start (length xs) p k)
+    (drop (piece_start (length xs) p k) xs)

@@ -1,5 +1,6 @@
 -- Reading a payload, with the first fault in the order that `read` promises.
-use Rattle.std.specs.Prelude.{◌≡◌, ◌⊎◌, ℕ, ◌%◌, Bool, List, [], ◌∷◌, length, take, drop, Option, Some, None, Result, Ok, Err, nat_lt, ◌==◌, ◌||◌, ◌&&◌, if◌then◌else◌}
+use Rattle.std.specs.Prelude.{◌≡◌, ◌⊎◌, ℕ, ◌%◌, Bool, List, [], ◌∷◌, length, take, drop, Option, Some}
+use Rattle.std.specs.Prelude.{None, Result, Ok, Err, nat_lt, ◌==◌, ◌||◌, ◌&&◌, if◌then◌else◌}
 use Rattle.std.specs.Int.{w64, from_be_bytes}
 use Rattle.std.specs.Option.{option_map, is_some}
 use Rattle.std.specs.Result.{result_err}
@@ -11,7 +12,8 @@ use Rattle.lgm_wire.specs.Tlv.{TlvRecord}
 use Rattle.lgm_wire.specs.reading.TlvReading.{tlvs_of}
 use Rattle.lgm_wire.specs.declared.fault.WireFault.{WireFault}
 use Rattle.lgm_payload.specs.declared.fault.PayloadFault.{PayloadFault}
-use Rattle.lgm_payload.specs.declared.fault.PayloadFault.TheVariants.{Length, Tlv, Blinded, Kind, Missing, Extra, NoMemory}
+use Rattle.lgm_payload.specs.declared.fault.PayloadFault.TheVariants.{Length, Tlv, Blinded, Kind}
+use Rattle.lgm_payload.specs.declared.fault.PayloadFault.TheVariants.{Missing, Extra, NoMemory}
 use Rattle.lgm_payload.specs.declared.hop_payload.HopPayload.{HopPayload}
 use Rattle.lgm_payload.specs.declared.hop_payload.Payment.{Payment}
 use Rattle.lgm_payload.specs.declared.reading.Known.{Known}
@@ -124,7 +126,8 @@ abbrev pub known_at : List TlvRecord → Result Known PayloadFault
 known_at records = unless (first_fault records) (known_in records)
 
 -- there are an amount and an expiry, and not both a next channel and a payment
-abbrev pub whole_of : Option ℕ → Option ℕ → Option ℕ → Option Payment → Option (List ℕ) → Result HopPayload PayloadFault
+abbrev pub whole_of : Option ℕ → Option ℕ → Option ℕ → Option Payment → Option (List ℕ)
+    → Result HopPayload PayloadFault
 whole_of (Some amount) (Some expiry) next payment metadata =
     if is_some next && is_some payment then Err Extra
     else Ok (record { amount = amount; expiry = expiry; next = next; payment = payment; metadata = metadata })

@@ -46,11 +46,14 @@ Follows first next = (next.known ≡ first.known) × GoesOn first.told next.told
 
 -- what is published is a fold, and follows each edition that a thread observed
 abbrev pub Holds : Contents → List (Option Contents) → Type 0
-Holds shown views = IsFold shown × ((seat : ℕ) (last : Contents) → get_elem? views seat ≡ some (Some last) → Follows last shown)
+Holds shown views =
+    IsFold shown
+    × ((seat : ℕ) (last : Contents) → get_elem? views seat ≡ some (Some last) → Follows last shown)
 
 -- a step that observes what is shown, on a thread that observed `before` last
 abbrev pub Sees : Option Contents → Contents → Option Contents → Type 0
-Sees before shown after = (after ≡ Some shown) × IsFold shown × ((last : Contents) → before ≡ Some last → Follows last shown)
+Sees before shown after =
+    (after ≡ Some shown) × IsFold shown × ((last : Contents) → before ≡ Some last → Follows last shown)
 
 -- what is told is taken over unchanged
 abbrev pub taken : Option Contents → Option Contents → Option Contents
@@ -63,4 +66,5 @@ Publishes done old new pending left =
 
 -- the word and the token of a pen's book, whose list is a prefix of the whole, and the number of operations appended
 abbrev pub IsNoted : Named → History → ℕ → History → Type 0
-IsNoted head noted appended all = (head ≡ head_of noted.board) × GoesOn noted all × (appended ≡ length all.ops) × (appended ≤ 2000000000)
+IsNoted head noted appended all =
+    (head ≡ head_of noted.board) × GoesOn noted all × (appended ≡ length all.ops) × (appended ≤ 2000000000)

@@ -10,10 +10,15 @@ use Rattle.lgm_query.specs.KeyNews.{without_known}
 
 -- what passes of the later rows and didn't of the earlier ones
 abbrev pub news_of_channel_pair : Filter → ChannelPair → List (List ℕ)
-news_of_channel_pair f pair = without_known (option_map_or (passing_channel f) (option_copied pair.before) []) (passing_channel f pair.after.now)
+news_of_channel_pair f pair =
+    without_known (option_map_or (passing_channel f) (option_copied pair.before) [])
+    (passing_channel f pair.after.now)
 
 abbrev pub news_of_node_pair : Filter → NodePair → List (List ℕ)
-news_of_node_pair f pair = without_known (option_map_or (passing_node f) (option_copied pair.before) []) (passing_node f pair.after.now)
+news_of_node_pair f pair =
+    without_known (option_map_or (passing_node f) (option_copied pair.before) [])
+    (passing_node f pair.after.now)
 
 abbrev pub news_of_pairs : Filter → List ChannelPair → List NodePair → List (List ℕ)
-news_of_pairs f channels nodes = flat_map (news_of_channel_pair f) channels ++ flat_map (news_of_node_pair f) nodes
+news_of_pairs f channels nodes =
+    flat_map (news_of_channel_pair f) channels ++ flat_map (news_of_node_pair f) nodes

@@ -20,7 +20,8 @@ is_of_node point piece = false
 -- these pieces were sent
 pub record AreSent (pieces : List Piece) (sent : Sent) : Type 0 where
   pub messages : sent.messages ≡ map bytes_of (with_nodes_once pieces)
-  pub nodes : (point : Point) → list_any (is_at (point_cmp point)) sent.nodes ≡ list_any (is_of_node point) pieces
+  pub nodes : (point : Point)
+      → list_any (is_at (point_cmp point)) sent.nodes ≡ list_any (is_of_node point) pieces
 
 -- these pieces were sent after those before
 abbrev pub Sends : List Piece → Sent → Sent → Type 0

@@ -33,7 +33,8 @@ passes_update f (Some update) = passes f update.message.timestamp
 
 -- whether one of these updates of a channel passes
 abbrev pub passed_with : Filter → Held → SentWith → Bool
-passed_with f held sent = (sent.first && passes_update f held.first) || (sent.second && passes_update f held.second)
+passed_with f held sent =
+    (sent.first && passes_update f held.first) || (sent.second && passes_update f held.second)
 
 -- a message, unless it passed before with one of these updates
 abbrev pub unless_passed : Filter → Option Held → SentWith → Option (List ℕ) → Option (List ℕ)

@@ -36,11 +36,13 @@ hop_over graph link amount expiry = record {
 
 -- both nodes of each link are numbered
 abbrev pub AreNumbered : Graph → List Link → Type 0
-AreNumbered graph walk = AllByRecursion (λ link. (link.from < length graph.points) × (link.to < length graph.points)) walk
+AreNumbered graph walk =
+    AllByRecursion (λ link. (link.from < length graph.points) × (link.to < length graph.points)) walk
 
 -- a request between numbered nodes, or none, if a node has no number and so no walk is usable
 abbrev pub IsNumberingOf : Graph → Request → Option NumberedRequest → Type 0
 IsNumberingOf graph request None = (walk : List Edge) → routes.IsUsable (edges graph) request walk → ⊥
 IsNumberingOf graph request (Some numbered) =
-    (position (is_point request.payer) graph.points ≡ Some numbered.payer) × (position (is_point request.payee) graph.points ≡ Some numbered.payee) ×
+    (position (is_point request.payer) graph.points ≡ Some numbered.payer)
+    × (position (is_point request.payee) graph.points ≡ Some numbered.payee) ×
     (numbered ≡ record { payer = numbered.payer; payee = numbered.payee; amount = request.amount })

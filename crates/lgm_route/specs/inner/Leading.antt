@@ -1,5 +1,6 @@
 -- Relaxation of labels over edges: computed by workers, applied by one thread.
-use Rattle.std.specs.Prelude.{◌≡◌, ◌≢◌, ◌⊎◌, ℕ, ◌+◌, ◌*◌, ◌<◌, ◌≤◌, List, [], ◌∷◌, length, Contains, Option, Some, None}
+use Rattle.std.specs.Prelude.{◌≡◌, ◌≢◌, ◌⊎◌, ℕ, ◌+◌, ◌*◌, ◌<◌, ◌≤◌, List, []}
+use Rattle.std.specs.Prelude.{◌∷◌, length, Contains, Option, Some, None}
 use Rattle.lgm_graph.specs.Fee.{fee_of}
 use Rattle.lgm_graph.specs.Graph.{Graph, links, links_into}
 use Rattle.lgm_graph.specs.declared.link.Link.{Link}
@@ -19,10 +20,12 @@ abbrev pub IsNeedless : NumberedRequest → List ℕ → ℕ → Label → Link 
 IsNeedless request low bound label edge =
     edge.min ≤ request.amount → label.owed ≤ edge.max →
     (edge.from ≢ request.payer) ×
-    (label.count < 19 → bound ≤ (label.owed + fee_of label.owed edge.base edge.millionths + number_at low edge.from) * 32 + (label.count + 1))
+    (label.count < 19 → bound ≤ (label.owed + fee_of label.owed edge.base edge.millionths
+    + number_at low edge.from) * 32 + (label.count + 1))
 
 -- the label at the index, relaxed over the edge: a walk if that is the payer's, else a longer rest
-pub record IsLed (graph : Graph) (request : NumberedRequest) (labels : List Label) (i : ℕ) (edge : Link) (new : Label) : Type 0 where
+pub record IsLed (graph : Graph) (request : NumberedRequest) (labels : List Label) (i : ℕ) (edge : Link)
+    (new : Label) : Type 0 where
   pub within : i < length labels
   pub there : Contains (links graph) edge
   pub to : edge.to ≡ (label_at labels i).node
@@ -35,7 +38,8 @@ pub record IsLed (graph : Graph) (request : NumberedRequest) (labels : List Labe
   pub count : new.count ≡ (label_at labels i).count + 1
   pub whole : edge.from ≡ request.payer → new.owed ≡ (label_at labels i).owed
   pub longer : edge.from ≢ request.payer →
-      (new.count ≤ 19) × (new.owed ≡ (label_at labels i).owed + fee_of (label_at labels i).owed edge.base edge.millionths)
+      (new.count ≤ 19)
+      × (new.owed ≡ (label_at labels i).owed + fee_of (label_at labels i).owed edge.base edge.millionths)
 
 -- the relaxation of the label at the index over the edge, if it is needed
 abbrev pub IsLead : Graph → NumberedRequest → List ℕ → ℕ → List Label → ℕ → Link → Option Label → Type 0
@@ -54,11 +58,15 @@ IsTaken graph request start labels new after now =
 
 -- one of the labels is a relaxation over the edge
 abbrev pub IsAmong : Graph → List Label → List Label → Link → Type 0
-IsAmong graph labels leads edge = (k : ℕ) × (k < length leads) × (first_of graph labels (label_at leads k) ≡ edge)
+IsAmong graph labels leads edge =
+    (k : ℕ) × (k < length leads) × (first_of graph labels (label_at leads k) ≡ edge)
 
 -- all relaxations of the label at the index: over each edge into its node for which that is needed
-pub record AreLeads (graph : Graph) (request : NumberedRequest) (low : List ℕ) (bound : ℕ) (labels : List Label) (i : ℕ) (leads : List Label) : Type 0 where
-  pub led : (k : ℕ) → k < length leads → IsLed graph request labels i (first_of graph labels (label_at leads k)) (label_at leads k)
+pub record AreLeads (graph : Graph) (request : NumberedRequest) (low : List ℕ) (bound : ℕ)
+    (labels : List Label) (i : ℕ) (leads : List Label) : Type 0 where
+  pub led : (k : ℕ) → k < length leads
+      → IsLed graph request labels i (first_of graph labels (label_at leads k)) (label_at leads k)
   pub each : (j : ℕ) → j < length (links_into graph (label_at labels i).node) →
-      IsNeedless request low bound (label_at labels i) (link_at (links_into graph (label_at labels i).node) j) ⊎
+      IsNeedless request low bound (label_at labels i)
+      (link_at (links_into graph (label_at labels i).node) j) ⊎
       IsAmong graph labels leads (link_at (links_into graph (label_at labels i).node) j)

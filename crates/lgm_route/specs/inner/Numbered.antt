@@ -19,7 +19,8 @@ sent amount [] = amount
 sent amount (edge ∷ rest) = owed amount rest
 
 -- an edge of the list from the node that can carry what the edges after it need
-pub record IsStep (edges : List Link) (request : NumberedRequest) (node : ℕ) (edge : Link) (rest : List Link) : Type 0 where
+pub record IsStep (edges : List Link) (request : NumberedRequest) (node : ℕ) (edge : Link)
+    (rest : List Link) : Type 0 where
   pub there : Contains edges edge
   pub leaves : edge.from ≡ node
   pub above_min : edge.min ≤ request.amount
@@ -28,7 +29,8 @@ pub record IsStep (edges : List Link) (request : NumberedRequest) (node : ℕ) (
 -- consecutive edges, from the node to the payee
 abbrev pub IsRest : List Link → NumberedRequest → ℕ → List Link → Type 0
 IsRest edges request node [] = node ≡ request.payee
-IsRest edges request node (edge ∷ rest) = IsStep edges request node edge rest × IsRest edges request edge.to rest
+IsRest edges request node (edge ∷ rest) =
+    IsStep edges request node edge rest × IsRest edges request edge.to rest
 
 -- a walk of 1 to 20 edges, from the payer to the payee
 pub record IsUsable (edges : List Link) (request : NumberedRequest) (walk : List Link) : Type 0 where

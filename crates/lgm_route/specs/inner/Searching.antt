@@ -1,5 +1,6 @@
 -- The state of a search: labels, each of which represents the rest of a walk.
-use Rattle.std.specs.Prelude.{◌≡◌, ◌⊎◌, ℕ, ◌+◌, ◌*◌, ◌^◌, ◌<◌, ◌≤◌, List, [], ◌∷◌, ◌++◌, length, Contains, Option, Some, None, Bool, true, slice_index_or, false}
+use Rattle.std.specs.Prelude.{◌≡◌, ◌⊎◌, ℕ, ◌+◌, ◌*◌, ◌^◌, ◌<◌, ◌≤◌, List, [], ◌∷◌, ◌++◌, length}
+use Rattle.std.specs.Prelude.{Contains, Option, Some, None, Bool, true, slice_index_or, false}
 use Rattle.std.specs.Ordering.{nat_cmp, is_gt}
 use Rattle.std.specs.Cmp.Lexicographic.{slice_cmp}
 use Rattle.lgm_graph.specs.Graph.{Graph, links, links_into}
@@ -25,7 +26,18 @@ pub record Serves (request : NumberedRequest) (rest other : List Link) : Type 0 
 
 -- a placeholder if a list has no link
 abbrev pub no_link : Link
-no_link = record { scid = 0; max = 0; min = 0; from = 0; to = 0; base = 0; millionths = 0; delta = 0; second = false }
+no_link =
+    record {
+      scid = 0;
+      max = 0;
+      min = 0;
+      from = 0;
+      to = 0;
+      base = 0;
+      millionths = 0;
+      delta = 0;
+      second = false;
+    }
 
 abbrev pub link_at : List Link → ℕ → Link
 link_at links i = slice_index_or links i no_link
@@ -52,17 +64,20 @@ pub record Begins (graph : Graph) (labels : List Label) (label : Label) : Type 0
 abbrev pub Spells : Graph → List Label → Label → List Link → Type 0
 Spells graph labels label [] = Unit {0}
 Spells graph labels label (edge ∷ rest) =
-    (first_of graph labels label ≡ edge) × Begins graph labels label × Spells graph labels (label_at labels label.next) rest
+    (first_of graph labels label ≡ edge) × Begins graph labels label
+    × Spells graph labels (label_at labels label.next) rest
 
 -- the rest that a label represents
-pub record IsLabel (graph : Graph) (request : NumberedRequest) (labels : List Label) (label : Label) (rest : List Link) : Type 0 where
+pub record IsLabel (graph : Graph) (request : NumberedRequest) (labels : List Label) (label : Label)
+    (rest : List Link) : Type 0 where
   pub spells : Spells graph labels label rest
   pub long : length rest ≡ label.count
   pub joins : IsRest (links graph) request label.node rest
   pub owes : owed request.amount rest ≡ label.owed
 
 -- the walk that a label represents, which owes what is sent
-pub record IsWalk (graph : Graph) (request : NumberedRequest) (labels : List Label) (label : Label) (walk : List Link) : Type 0 where
+pub record IsWalk (graph : Graph) (request : NumberedRequest) (labels : List Label) (label : Label)
+    (walk : List Link) : Type 0 where
   pub spells : Spells graph labels label walk
   pub long : length walk ≡ label.count
   pub some : 1 ≤ label.count
@@ -72,7 +87,8 @@ pub record IsWalk (graph : Graph) (request : NumberedRequest) (labels : List Lab
 
 -- a label represents as many edges as it counts
 abbrev pub IsSpelled : Graph → List Label → Label → Type 0
-IsSpelled graph labels label = (rest : List Link) × Spells graph labels label rest × (length rest ≡ label.count)
+IsSpelled graph labels label =
+    (rest : List Link) × Spells graph labels label rest × (length rest ≡ label.count)
 
 -- the ids of one label's edges precede or equal those of another's
 abbrev pub IdsFirst : Graph → List Label → Label → Label → Type 0
@@ -84,7 +100,8 @@ IdsFirst graph labels label other =
 abbrev pub DoesServe : Graph → List Label → Label → Label → Type 0
 DoesServe graph labels label other =
     (request : NumberedRequest) (rest also : List Link) →
-    IsLabel graph request labels label rest → IsLabel graph request labels other also → Serves request rest also
+    IsLabel graph request labels label rest → IsLabel graph request labels other also
+    → Serves request rest also
 
 abbrev pub SomeRest : Graph → NumberedRequest → List Label → Label → Type 0
 SomeRest graph request labels label = (rest : List Link) × IsLabel graph request labels label rest
@@ -101,10 +118,12 @@ bound_of start (Some found) = found.owed * 32 + found.count
 abbrev pub IsNoBetter : Graph → NumberedRequest → List Label → ℕ → Option Label → List Link → Type 0
 IsNoBetter graph request labels start None walk = start ≤ sent request.amount walk
 IsNoBetter graph request labels start (Some found) walk =
-    (best : List Link) × IsWalk graph request labels found best × NotAfter (walk_key request best) (walk_key request walk)
+    (best : List Link) × IsWalk graph request labels found best
+    × NotAfter (walk_key request best) (walk_key request walk)
 
 -- a label at the node represents a rest that dominates this one
-pub record Has (graph : Graph) (request : NumberedRequest) (labels : List Label) (node : ℕ) (rest : List Link) : Type 0 where
+pub record Has (graph : Graph) (request : NumberedRequest) (labels : List Label) (node : ℕ)
+    (rest : List Link) : Type 0 where
   pub place : ℕ
   pub within : place < length labels
   pub at : (label_at labels place).node ≡ node
@@ -114,35 +133,41 @@ pub record Has (graph : Graph) (request : NumberedRequest) (labels : List Label)
 
 -- no walk over this rest is better than the best so far: it is pruned
 abbrev pub IsHopeless : NumberedRequest → List ℕ → ℕ → ℕ → List Link → Type 0
-IsHopeless request low bound node rest = bound ≤ (owed request.amount rest + number_at low node) * 32 + length rest
+IsHopeless request low bound node rest =
+    bound ≤ (owed request.amount rest + number_at low node) * 32 + length rest
 
 abbrev pub Reaches : Graph → NumberedRequest → List ℕ → ℕ → List Label → Option Label → ℕ → List Link → Type 0
 Reaches graph request low start labels found node rest =
     Has graph request labels node rest ⊎ IsHopeless request low (bound_of start found) node rest
 
 -- the rest was relaxed over this edge: to a walk, or else to a longer rest
-pub record IsPassed (graph : Graph) (request : NumberedRequest) (low : List ℕ) (start : ℕ) (labels : List Label) (found : Option Label) (edge : Link) (rest : List Link) : Type 0 where
+pub record IsPassed (graph : Graph) (request : NumberedRequest) (low : List ℕ) (start : ℕ)
+    (labels : List Label) (found : Option Label) (edge : Link) (rest : List Link) : Type 0 where
   pub whole : edge.from ≡ request.payer → IsNoBetter graph request labels start found (edge ∷ rest)
   pub longer : length rest < 19 → Reaches graph request low start labels found edge.from (edge ∷ rest)
 
 -- over every edge into the node that can carry it
 abbrev pub IsLeft : Graph → NumberedRequest → List ℕ → ℕ → List Label → Option Label → ℕ → List Link → Type 0
 IsLeft graph request low start labels found node rest =
-    (edge : Link) → Contains (links graph) edge → edge.to ≡ node → edge.min ≤ request.amount → owed request.amount rest ≤ edge.max →
+    (edge : Link) → Contains (links graph) edge → edge.to ≡ node → edge.min ≤ request.amount
+    → owed request.amount rest ≤ edge.max →
     IsPassed graph request low start labels found edge rest
 
 -- a label is pruned, or its rest or one that dominates it was relaxed
-pub record IsSettled (graph : Graph) (request : NumberedRequest) (low : List ℕ) (start : ℕ) (labels : List Label) (found : Option Label) (label : Label) : Type 0 where
+pub record IsSettled (graph : Graph) (request : NumberedRequest) (low : List ℕ) (start : ℕ)
+    (labels : List Label) (found : Option Label) (label : Label) : Type 0 where
   pub rest : List Link
   pub is : IsLabel graph request labels label rest
   pub done : IsHopeless request low (bound_of start found) label.node rest ⊎
-      ((other : List Link) × Serves request other rest × IsLeft graph request low start labels found label.node other)
+      ((other : List Link) × Serves request other rest
+      × IsLeft graph request low start labels found label.node other)
 
 -- the labels represent rests, the first of them the one without edges
 pub record AreLabels (graph : Graph) (request : NumberedRequest) (labels : List Label) : Type 0 where
   pub some : 1 ≤ length labels
   pub first : ((label_at labels 0).node ≡ request.payee) × ((label_at labels 0).count ≡ 0)
-  pub sound : (i : ℕ) → i < length labels → (rest : List Link) × IsLabel graph request labels (label_at labels i) rest
+  pub sound : (i : ℕ) → i < length labels
+      → (rest : List Link) × IsLabel graph request labels (label_at labels i) rest
   pub few : (i : ℕ) → i < length labels → (label_at labels i).count ≤ 19
 
 -- the best walk so far is one, and sends less than the start of the search
@@ -152,38 +177,47 @@ IsFound graph request labels start (Some found) =
     ((walk : List Link) × IsWalk graph request labels found walk) × (found.owed < start)
 
 -- labels were added, and the best walk so far is no worse
-pub record Grows (graph : Graph) (request : NumberedRequest) (start : ℕ) (labels : List Label) (found : Option Label) (after : List Label) (now : Option Label) : Type 0 where
+pub record Grows (graph : Graph) (request : NumberedRequest) (start : ℕ) (labels : List Label)
+    (found : Option Label) (after : List Label) (now : Option Label) : Type 0 where
   pub more : List Label
   pub is : after ≡ labels ++ more
   pub lower : bound_of start now ≤ bound_of start found
-  pub first : (walk : List Link) → IsNoBetter graph request labels start found walk → IsNoBetter graph request after start now walk
+  pub first : (walk : List Link) → IsNoBetter graph request labels start found walk
+      → IsNoBetter graph request after start now walk
 
 -- the better of the best walk so far and the new one
-pub record IsBetter (graph : Graph) (request : NumberedRequest) (labels : List Label) (start : ℕ) (found : Option Label) (new : Label) (now : Option Label) : Type 0 where
+pub record IsBetter (graph : Graph) (request : NumberedRequest) (labels : List Label) (start : ℕ)
+    (found : Option Label) (new : Label) (now : Option Label) : Type 0 where
   pub found_is : IsFound graph request labels start now
   pub lower : bound_of start now ≤ bound_of start found
   pub below : bound_of start now ≤ new.owed * 32 + new.count
-  pub keeps : (walk : List Link) → IsNoBetter graph request labels start found walk → IsNoBetter graph request labels start now walk
-  pub takes : (walk : List Link) → IsWalk graph request labels new walk → IsNoBetter graph request labels start now walk
+  pub keeps : (walk : List Link) → IsNoBetter graph request labels start found walk
+      → IsNoBetter graph request labels start now walk
+  pub takes : (walk : List Link) → IsWalk graph request labels new walk
+      → IsNoBetter graph request labels start now walk
 
 -- there is a label that dominates the new one
-pub record IsOffered (graph : Graph) (request : NumberedRequest) (labels : List Label) (new : Label) (after : List Label) : Type 0 where
+pub record IsOffered (graph : Graph) (request : NumberedRequest) (labels : List Label) (new : Label)
+    (after : List Label) : Type 0 where
   pub labelled : AreLabels graph request after
   pub more : List Label
   pub is : after ≡ labels ++ more
   pub has : (rest : List Link) → IsLabel graph request labels new rest → Has graph request after new.node rest
 
 -- the label was relaxed over the edge, if that can carry it
-abbrev pub PassesOn : Graph → NumberedRequest → List ℕ → ℕ → List Label → ℕ → List Label → Option Label → Link → Type 0
+abbrev pub PassesOn : Graph → NumberedRequest → List ℕ → ℕ → List Label → ℕ → List Label → Option Label
+    → Link → Type 0
 PassesOn graph request low start labels i after now edge =
     (rest : List Link) → IsLabel graph request labels (label_at labels i) rest →
     edge.to ≡ (label_at labels i).node → edge.min ≤ request.amount → owed request.amount rest ≤ edge.max →
     IsPassed graph request low start after now edge rest
 
 -- the label was relaxed
-abbrev pub LeadsOn : Graph → NumberedRequest → List ℕ → ℕ → List Label → ℕ → List Label → Option Label → Type 0
+abbrev pub LeadsOn : Graph → NumberedRequest → List ℕ → ℕ → List Label → ℕ → List Label
+    → Option Label → Type 0
 LeadsOn graph request low start labels i after now =
-    (rest : List Link) → IsLabel graph request labels (label_at labels i) rest → IsLeft graph request low start after now (label_at labels i).node rest
+    (rest : List Link) → IsLabel graph request labels (label_at labels i) rest
+    → IsLeft graph request low start after now (label_at labels i).node rest
 
 -- the index is marked, and no other that wasn't
 pub record IsMarked (done : List Bool) (i : ℕ) (after : List Bool) : Type 0 where
@@ -208,12 +242,14 @@ StandsIn graph labels i place = IsServer graph labels (label_at labels i) place
 -- if some walk is usable, one sends less than this
 abbrev pub IsStart : List Link → NumberedRequest → ℕ → Type 0
 IsStart edges request start =
-    (walk : List Link) → IsUsable edges request walk → (other : List Link) × IsUsable edges request other × (sent request.amount other < start)
+    (walk : List Link) → IsUsable edges request walk
+    → (other : List Link) × IsUsable edges request other × (sent request.amount other < start)
 
 -- every marked label is settled
 abbrev pub AreSettled : Graph → NumberedRequest → List ℕ → ℕ → List Label → Option Label → List Bool → Type 0
 AreSettled graph request low start labels found done =
-    (i : ℕ) → slice_index_or done i false ≡ true → (i < length labels) × IsSettled graph request low start labels found (label_at labels i)
+    (i : ℕ) → slice_index_or done i false ≡ true
+    → (i < length labels) × IsSettled graph request low start labels found (label_at labels i)
 
 -- what is owed at the edges after each edge fits 64 bits
 abbrev pub AreCarried : ℕ → List Link → Type 0

@@ -6,7 +6,8 @@ use Rattle.lgm_route.specs.declared.numbered_request.NumberedRequest.{NumberedRe
 use Rattle.lgm_route.specs.declared.label.Label.{Label}
 use Rattle.lgm_route.specs.inner.Numbered.{IsUsable}
 use Rattle.lgm_route.specs.inner.Bounding.{AreLow}
-use Rattle.lgm_route.specs.inner.Searching.{label_at, bound_of, IsSettled, AreLabels, IsFound, Grows, PassesOn, LeadsOn, AreSettled, IsNoBetter, IsStart}
+use Rattle.lgm_route.specs.inner.Searching.{label_at, bound_of, IsSettled, AreLabels, IsFound, Grows}
+use Rattle.lgm_route.specs.inner.Searching.{PassesOn, LeadsOn, AreSettled, IsNoBetter, IsStart}
 use Rattle.lgm_route.specs.inner.Leading.{IsInto, IsLead, AreLeads}
 
 -- the edges, the request, lower bounds on the fees from the payer to each node, and more than some usable walk sends
@@ -42,12 +43,14 @@ pub record IsSearch (state : State) : Type 0 where
   pub ground : IsGround state.ground
   pub labelled : AreLabels state.ground.graph state.ground.request state.labels
   pub found : IsFound state.ground.graph state.ground.request state.labels state.ground.start state.best
-  pub settled : AreSettled state.ground.graph state.ground.request state.ground.low state.ground.start state.labels state.best state.done
+  pub settled : AreSettled state.ground.graph state.ground.request state.ground.low state.ground.start
+      state.labels state.best state.done
 
 -- the same search later: labels were added, the best walk is no worse, and what was marked still is
 pub record Extends (before after : State) : Type 0 where
   pub ground : after.ground ≡ before.ground
-  pub grows : Grows before.ground.graph before.ground.request before.ground.start before.labels before.best after.labels after.best
+  pub grows : Grows before.ground.graph before.ground.request before.ground.start before.labels before.best
+      after.labels after.best
   pub still : (i : ℕ) → slice_index_or before.done i false ≡ true → slice_index_or after.done i false ≡ true
 
 -- the bound that a better walk is below
@@ -57,7 +60,8 @@ bound_in state = bound_of state.ground.start state.best
 -- the label at the index is settled
 abbrev pub IsSettledAt : State → ℕ → Type 0
 IsSettledAt state i =
-    IsSettled state.ground.graph state.ground.request state.ground.low state.ground.start state.labels state.best (label_at state.labels i)
+    IsSettled state.ground.graph state.ground.request state.ground.low state.ground.start state.labels
+    state.best (label_at state.labels i)
 
 -- and marked as settled
 abbrev pub IsMarkedAt : State → ℕ → Type 0
@@ -69,16 +73,19 @@ IsIntoAt state i at edge = IsInto state.ground.graph state.labels i at edge
 
 -- the relaxation of the label at the index over the edge, if it is needed
 abbrev pub IsLeadAt : State → ℕ → Link → Option Label → Type 0
-IsLeadAt state i edge lead = IsLead state.ground.graph state.ground.request state.ground.low (bound_in state) state.labels i edge lead
+IsLeadAt state i edge lead =
+    IsLead state.ground.graph state.ground.request state.ground.low (bound_in state) state.labels i edge lead
 
 -- all its relaxations
 abbrev pub AreLeadsAt : State → ℕ → List Label → Type 0
-AreLeadsAt state i leads = AreLeads state.ground.graph state.ground.request state.ground.low (bound_in state) state.labels i leads
+AreLeadsAt state i leads =
+    AreLeads state.ground.graph state.ground.request state.ground.low (bound_in state) state.labels i leads
 
 -- the label was relaxed over the edge, if that can carry it
 abbrev pub IsPassedOn : State → ℕ → Link → State → Type 0
 IsPassedOn before i edge after =
-    PassesOn before.ground.graph before.ground.request before.ground.low before.ground.start before.labels i after.labels after.best edge
+    PassesOn before.ground.graph before.ground.request before.ground.low before.ground.start before.labels i
+    after.labels after.best edge
 
 -- no usable walk is better than the best
 abbrev pub IsFinished : State → Type 0
@@ -89,7 +96,8 @@ IsFinished state =
 -- the label was relaxed over all edges into its node
 abbrev pub IsLeftAt : State → ℕ → State → Type 0
 IsLeftAt before i after =
-    LeadsOn before.ground.graph before.ground.request before.ground.low before.ground.start before.labels i after.labels after.best
+    LeadsOn before.ground.graph before.ground.request before.ground.low before.ground.start before.labels i
+    after.labels after.best
 
 -- a new search over the graph for the request
 pub record IsBegun (graph : Graph) (request : NumberedRequest) (state : State) : Type 0 where

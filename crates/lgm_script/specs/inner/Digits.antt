@@ -1,5 +1,6 @@
 -- Decimal digits, read one after the other.
-use Rattle.std.specs.Prelude.{ℕ, ◌+◌, ◌-◌, ◌*◌, ◌^◌, List, [], ◌∷◌, Option, Some, None, Bool, ◌&&◌, nat_le, nat_lt, if◌then◌else◌}
+use Rattle.std.specs.Prelude.{ℕ, ◌+◌, ◌-◌, ◌*◌, ◌^◌, List, [], ◌∷◌, Option, Some}
+use Rattle.std.specs.Prelude.{None, Bool, ◌&&◌, nat_le, nat_lt, if◌then◌else◌}
 use Rattle.std.specs.List.{list_all}
 
 -- the byte is a decimal digit
@@ -17,9 +18,12 @@ with_digits number (digit ∷ digits) = with_digits (with_digit number digit) di
 
 -- the number with one more digit, if the byte is a digit and the number is below 2^64
 abbrev pub further : ℕ → ℕ → Option ℕ
-further number digit = if is_digit digit && nat_lt (with_digit number digit) (2 ^ 64) then Some (with_digit number digit) else None
+further number digit =
+    if is_digit digit && nat_lt (with_digit number digit) (2 ^ 64)
+    then Some (with_digit number digit) else None
 
 -- the same with several
 abbrev pub value_at : ℕ → List ℕ → Option ℕ
 value_at number digits =
-    if list_all is_digit digits && nat_lt (with_digits number digits) (2 ^ 64) then Some (with_digits number digits) else None
+    if list_all is_digit digits && nat_lt (with_digits number digits) (2 ^ 64)
+    then Some (with_digits number digits) else None

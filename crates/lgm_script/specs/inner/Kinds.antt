@@ -11,6 +11,8 @@ has_route_word line = pointwise nat_eq (take 6 line) (codes "route ")
 -- the kind of a line, by its first word
 abbrev pub kind_of : List ℕ → Kind
 kind_of line =
-    if pointwise nat_eq (take 2 line) (codes "m ") || pointwise nat_eq (take 6 line) (codes "close ") then Item
-    else if pointwise nat_eq (take 2 line) (codes "q ") || pointwise nat_eq (take 7 line) (codes "filter ") || has_route_word line then Question
+    if pointwise nat_eq (take 2 line) (codes "m ")
+    || pointwise nat_eq (take 6 line) (codes "close ") then Item
+    else if pointwise nat_eq (take 2 line) (codes "q ") || pointwise nat_eq (take 7 line) (codes "filter ")
+    || has_route_word line then Question
     else Other

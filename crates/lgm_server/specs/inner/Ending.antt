@@ -24,7 +24,9 @@ pub record HasFailed (old new : Told) (answered result : Result Counts RunFault)
   pub same : result ≡ answered
   pub still : new ≡ old
 
-abbrev pub IsEnded : {W : Type 0} → (W → Option (List ℕ)) → (W → ℕ) → Output W → Output W → Result Counts RunFault → Result Counts RunFault → Type 0
+abbrev pub IsEnded : {W : Type 0} → (W → Option (List ℕ)) → (W → ℕ) → Output W → Output W
+    → Result Counts RunFault → Result Counts RunFault → Type 0
 IsEnded taken failures old new answered result =
     IsFlushed (seen taken failures old) (seen taken failures new) answered result
-    ⊎ (FailsThen (seen taken failures old) (seen taken failures new) result ⊎ HasFailed (seen taken failures old) (seen taken failures new) answered result)
+    ⊎ (FailsThen (seen taken failures old) (seen taken failures new) result
+    ⊎ HasFailed (seen taken failures old) (seen taken failures new) answered result)

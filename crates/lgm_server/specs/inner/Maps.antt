@@ -15,7 +15,8 @@ pub record Growth : Type 0 where
   pub committed : Rows
 
 -- a map with what is due, the committed map with what is pending, and the view
-pub record AreKept (map : Rows) (due : List Op) (committed : Rows) (pending : List Op) (chart : Chart) : Type 0 where
+pub record AreKept (map : Rows) (due : List Op) (committed : Rows) (pending : List Op)
+    (chart : Chart) : Type 0 where
   pub behind : IsBehind (fold_from map due) committed pending
   -- only one of the maps is behind the other
   pub one : (due ≡ []) ⊎ (pending ≡ [])

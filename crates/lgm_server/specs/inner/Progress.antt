@@ -13,10 +13,12 @@ pub record AreNext (buffered : List ℕ) (first len : ℕ) (lines : List (List �
   pub some : 0 < length lines
   pub few : len ≤ length buffered
   pub short : AllByRecursion (λ line. length line ≤ 140000) lines
-  pub front : (left : Option (List ℕ)) → IsFirstLine buffered left first → AreFirstLines buffered left lines (drop len buffered)
+  pub front : (left : Option (List ℕ)) → IsFirstLine buffered left first
+      → AreFirstLines buffered left lines (drop len buffered)
 
 -- this many next lines were answered, which have this many bytes
-pub record HaveAnswers (chain : ChainHash) (number : ℕ) (state state' : State) (buffered : List ℕ) (first : ℕ) (told : List ℕ → Type 0) (count len : ℕ) : Type 0 where
+pub record HaveAnswers (chain : ChainHash) (number : ℕ) (state state' : State) (buffered : List ℕ) (first : ℕ)
+    (told : List ℕ → Type 0) (count len : ℕ) : Type 0 where
   pub lines : List (List ℕ)
   pub next : AreNext buffered first len lines
   pub count_is : count ≡ length lines
@@ -24,7 +26,8 @@ pub record HaveAnswers (chain : ChainHash) (number : ℕ) (state state' : State)
   pub text : told (text_from chain number state (map request_of lines))
 
 -- a prefix of the text of next lines was written, at most this many
-pub record HaveBegun (chain : ChainHash) (number most : ℕ) (state : State) (buffered : List ℕ) (first : ℕ) (told_part : List ℕ → Type 0) : Type 0 where
+pub record HaveBegun (chain : ChainHash) (number most : ℕ) (state : State) (buffered : List ℕ) (first : ℕ)
+    (told_part : List ℕ → Type 0) : Type 0 where
   pub lines : List (List ℕ)
   pub len : ℕ
   pub next : AreNext buffered first len lines

@@ -24,9 +24,12 @@ use Rattle.lgm_server.specs.inner.Turns.{behind_all, texts_of}
 
 -- the text for a question, from the committed rows alone
 abbrev pub question_text : ChainHash → Option (List ℕ) → Rows → ℕ → Request → List ℕ
-question_text chain known committed number (requests.Query bytes) = query_text number (query_answer chain committed bytes)
-question_text chain known committed number (requests.Filter peer bytes) = filter_text number peer committed (filter_read chain bytes)
-question_text chain known committed number (requests.Route payment) = route_text number payment.secret (route_answer known committed payment)
+question_text chain known committed number (requests.Query bytes) =
+    query_text number (query_answer chain committed bytes)
+question_text chain known committed number (requests.Filter peer bytes) =
+    filter_text number peer committed (filter_read chain bytes)
+question_text chain known committed number (requests.Route payment) =
+    route_text number payment.secret (route_answer known committed payment)
 question_text chain known committed number _ = word_line number (codes "bad")
 
 -- the filters after a question
@@ -40,7 +43,8 @@ filters_by filters (answers.Backlog own map) = filters_with filters own.peer (Ok
 filters_by filters _ = filters
 
 -- the answer to a question: its text, and the filters after it
-pub record IsAnswerTo (chain : ChainHash) (known : Option (List ℕ)) (committed : Rows) (request : Request) (answer : Answer) : Type 0 where
+pub record IsAnswerTo (chain : ChainHash) (known : Option (List ℕ)) (committed : Rows) (request : Request)
+    (answer : Answer) : Type 0 where
   pub text : (n : ℕ) → answer_text n answer ≡ question_text chain known committed n request
   pub filters : (filters : List PeerFilter) → filters_by filters answer ≡ filters_after chain filters request
 
@@ -50,7 +54,9 @@ filters_behind chain = behind_all (filters_after chain)
 
 -- their text, for the lines from this number on
 abbrev pub questions_text : ChainHash → Option (List ℕ) → Rows → ℕ → List PeerFilter → List Request → List ℕ
-questions_text chain known committed = texts_of (filters_after chain) (λ number filters request. question_text chain known committed number request)
+questions_text chain known committed =
+    texts_of (filters_after chain)
+    (λ number filters request. question_text chain known committed number request)
 
 -- what lines request
 abbrev pub asked_in : List (Bor (List ℕ)) → List Request

@@ -54,7 +54,8 @@ state_alone state _ = state
 
 abbrev pub text_alone : ℕ → State → Request → List ℕ
 text_alone number state requests.Quiet = []
-text_alone number state requests.Commit = commit_text number state.accepted state.committed state.rows state.filters
+text_alone number state requests.Commit =
+    commit_text number state.accepted state.committed state.rows state.filters
 text_alone number state _ = word_line number (codes "bad")
 
 -- ---- several requests

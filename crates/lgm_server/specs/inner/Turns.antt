@@ -10,4 +10,5 @@ module _ {S Q : Type 0} (after : S → Q → S) where
   -- their texts, for the lines from this number on
   abbrev pub texts_of : (ℕ → S → Q → List ℕ) → ℕ → S → List Q → List ℕ
   texts_of text number state [] = []
-  texts_of text number state (request ∷ asked) = text number state request ++ texts_of text (number + 1) (after state request) asked
+  texts_of text number state (request ∷ asked) =
+      text number state request ++ texts_of text (number + 1) (after state request) asked

@@ -1,5 +1,6 @@
 -- What was decided of a message, as its operation.
-use Rattle.std.specs.Prelude.{ℕ, Bool, ◌||◌, ◌&&◌, nat_lt, List, Option, Some, None, Result, Ok, Err, if◌then◌else◌}
+use Rattle.std.specs.Prelude.{ℕ, Bool, ◌||◌, ◌&&◌, nat_lt, List, Option, Some}
+use Rattle.std.specs.Prelude.{None, Result, Ok, Err, if◌then◌else◌}
 use Rattle.lgm_wire.specs.declared.point.Point.{Point}
 use Rattle.lgm_check.specs.declared.row.ChannelRow.{ChannelRow}
 use Rattle.lgm_check.specs.declared.row.UpdateRow.{UpdateRow}
@@ -32,12 +33,14 @@ abbrev pub beside_channel : Option ChannelRow → Point → Point → Result (Op
 beside_channel None first second = Ok None
 beside_channel (Some held) first second =
     if is_point held.message.node_id_1 first && is_point held.message.node_id_2 second then Err refusals.Known
-    else Ok (Some (record { held1 = held.message.node_id_1; held2 = held.message.node_id_2; new1 = first; new2 = second }))
+    else Ok (Some
+    (record { held1 = held.message.node_id_1; held2 = held.message.node_id_2; new1 = first; new2 = second }))
 
 -- and beside the banned points
 abbrev pub channel_verdict : List Point → Option ChannelRow → Point → Point → Result (Option BanRow) Refusal
 channel_verdict banned held first second =
-    if is_banned banned first || is_banned banned second then Err refusals.Banned else beside_channel held first second
+    if is_banned banned first || is_banned banned second then Err refusals.Banned
+    else beside_channel held first second
 
 -- a timestamp, beside that of a held update
 abbrev pub beside_update : Option UpdateRow → ℕ → Result (Unit {0}) Refusal
@@ -47,7 +50,8 @@ beside_update (Some held) time = if nat_lt held.message.timestamp time then Ok t
 -- an update of a direction, beside its channel's row and the held one of its direction
 abbrev pub update_verdict : ChannelRow → Option UpdateRow → Bool → ℕ → Point → Result (Unit {0}) Refusal
 update_verdict channel held second time signer =
-    if is_point signer (if second then channel.message.node_id_2 else channel.message.node_id_1) then beside_update held time else Err refusals.Signature
+    if is_point signer (if second then channel.message.node_id_2 else channel.message.node_id_1)
+    then beside_update held time else Err refusals.Signature
 
 -- a timestamp, beside that of a held announcement of the node
 abbrev pub beside_node : Option NodeRow → ℕ → Result (Unit {0}) Refusal
@@ -56,4 +60,5 @@ beside_node (Some held) time = if nat_lt held.message.timestamp time then Ok tt 
 
 -- a node's announcement, beside whether the node is banned, whether a channel ends at it, and its held row
 abbrev pub node_verdict : Bool → Bool → Option NodeRow → ℕ → Result (Unit {0}) Refusal
-node_verdict banned ends held time = if banned then Err refusals.Banned else if ends then beside_node held time else Err refusals.UnknownNode
+node_verdict banned ends held time =
+    if banned then Err refusals.Banned else if ends then beside_node held time else Err refusals.UnknownNode

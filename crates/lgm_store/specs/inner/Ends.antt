@@ -1,5 +1,6 @@
 -- The ids of the channels that end at each point, as an index keeps them.
-use Rattle.std.specs.Prelude.{◌≡◌, ℕ, Bool, false, not, ◌||◌, is_some, List, [], ◌∷◌, Option, Some, None, unwrap_or, cond, if◌then◌else◌}
+use Rattle.std.specs.Prelude.{◌≡◌, ℕ, Bool, false, not, ◌||◌, is_some, List, [], ◌∷◌}
+use Rattle.std.specs.Prelude.{Option, Some, None, unwrap_or, cond, if◌then◌else◌}
 use Rattle.std.specs.List.{list_any}
 use Rattle.std.specs.declared.cmp.Ordering.{Ordering}
 use Rattle.std.specs.Ordering.{nat_cmp}
@@ -50,7 +51,8 @@ Lists entries ids = (point : Point) → entry_of entries point ≡ kept (ids poi
 
 -- lists of which those at two points are changed, once where these are one
 abbrev pub changed : (List ℕ → List ℕ) → (Point → List ℕ) → Point → Point → Point → List ℕ
-changed change ids first second point = if is_point first point || is_point second point then change (ids point) else ids point
+changed change ids first second point =
+    if is_point first point || is_point second point then change (ids point) else ids point
 
 -- none of the lists has the id
 abbrev pub Lacks : (Point → List ℕ) → ℕ → Type 0

@@ -36,7 +36,8 @@ HaveOwn slots numbers = AllByRecursion (λ e. option_map id_in (slot_at slots e.
 -- each taken slot is that of the number which its channel's id has
 abbrev pub AreListed : List (Option Held) → List (ℕ × ℕ) → Type 0
 AreListed slots numbers =
-    (number id : ℕ) → option_map id_in (slot_at slots number) ≡ Some id → lookup (is_at (nat_cmp id)) numbers ≡ Some number
+    (number id : ℕ) → option_map id_in (slot_at slots number) ≡ Some id
+    → lookup (is_at (nat_cmp id)) numbers ≡ Some number
 
 -- tree and slots agree one to one
 pub record IsNumbered (slots : List (Option Held)) (numbers : List (ℕ × ℕ)) : Type 0 where
@@ -51,4 +52,5 @@ with_update_for (Some held) entries row =
     set_value (is_at (nat_cmp row.message.short_channel_id)) entries (with_update_in (is_second row) held row)
 
 abbrev pub with_update_at : List (ℕ × Held) → UpdateRow → List (ℕ × Held)
-with_update_at entries row = with_update_for (lookup (is_at (nat_cmp row.message.short_channel_id)) entries) entries row
+with_update_at entries row =
+    with_update_for (lookup (is_at (nat_cmp row.message.short_channel_id)) entries) entries row

@@ -32,7 +32,8 @@ abbrev pub AreEnded : List ChannelRow → List NodeRow → Type 0
 AreEnded channels nodes = AllByRecursion (λ row. ends_channel channels row.message.node_id ≡ true) nodes
 
 -- the maps by id, by id and direction and by point, and the ids of the channels that end at each point
-pub record IsSound (channels : List (ℕ × ChannelRow)) (updates : List ((ℕ × Bool) × UpdateRow)) (nodes : List (Point × NodeRow)) (ends : List (Point × List ℕ)) : Type 0 where
+pub record IsSound (channels : List (ℕ × ChannelRow)) (updates : List ((ℕ × Bool) × UpdateRow))
+    (nodes : List (Point × NodeRow)) (ends : List (Point × List ℕ)) : Type 0 where
   pub channels_keyed : IsKeyed id_of channels
   pub updates_keyed : IsKeyed direction_of updates
   pub nodes_keyed : IsKeyed point_of nodes
@@ -47,7 +48,8 @@ abbrev pub AreAllowed : List Point → List ChannelRow → Type 0
 AreAllowed banned channels = AllByRecursion (λ row. ends_banned banned row ≡ false) channels
 
 -- and the banned points ascend, at none of which a channel ends
-pub record IsKept (channels : List (ℕ × ChannelRow)) (updates : List ((ℕ × Bool) × UpdateRow)) (nodes : List (Point × NodeRow)) (ends : List (Point × List ℕ)) (banned : List Point) : Type 0 where
+pub record IsKept (channels : List (ℕ × ChannelRow)) (updates : List ((ℕ × Bool) × UpdateRow))
+    (nodes : List (Point × NodeRow)) (ends : List (Point × List ℕ)) (banned : List Point) : Type 0 where
   pub rows : IsSound channels updates nodes ends
   pub banned_ascend : IsStrictlySortedBy point_cmp banned
   pub allowed : AreAllowed banned (values_of channels)

@@ -2,8 +2,10 @@
 
 ghost use Rattle.std.specs.Prelude.{◌≡◌};
 ghost use Rattle.lgm_store.specs.Rows.{channel_of, update_of, node_of, ends_channel, is_banned, is_second};
-ghost use Rattle.lgm_store.specs.Admission.{channel_admission, update_admission, node_admission, admitted, admitted_close, Offers};
-ghost use Rattle.lgm_store.specs.inner.Decided.{channel_op, update_op, node_op, channel_verdict, node_verdict};
+ghost use Rattle.lgm_store.specs.Admission.{channel_admission, update_admission, node_admission};
+ghost use Rattle.lgm_store.specs.Admission.{admitted, admitted_close, Offers};
+ghost use Rattle.lgm_store.specs.inner.Decided.{channel_op, update_op, node_op};
+ghost use Rattle.lgm_store.specs.inner.Decided.{channel_verdict, node_verdict};
 ghost use Rattle.lgm_store.specs.Spelled.{IsSpelled};
 
 use super::Map;
@@ -57,14 +59,16 @@ impl Map {
 
     /// The ban that an announcement of a channel asks for, if it doesn't add the channel.
     pub(crate) fn admit_channel(&self, row: &ChannelRow) -> Result<Option<BanRow>, Refusal>
-        ensures { channel_op row.now result ≡ channel_admission self.now.banned (channel_of self.now.channels row.now.message.short_channel_id) row.now }
+        ensures { channel_op row.now result ≡ channel_admission self.now.banned
+            (channel_of self.now.channels row.now.message.short_channel_id) row.now }
     {
         self.judge_channel(row.scid(), &row.node(false), &row.node(true))
     }
 
     /// The same of a row that is kept.
     pub(crate) fn admit_kept_channel(&self, row: &KeptChannel) -> Result<Option<BanRow>, Refusal>
-        ensures { channel_op row.now result ≡ channel_admission self.now.banned (channel_of self.now.channels row.now.message.short_channel_id) row.now }
+        ensures { channel_op row.now result ≡ channel_admission self.now.banned
+            (channel_of self.now.channels row.now.message.short_channel_id) row.now }
     {
         self.judge_channel(row.scid(), &row.node(false), &row.node(true))
     }
@@ -75,7 +79,8 @@ impl Map {
         first: &Point,
         second: &Point,
     ) -> Result<Option<BanRow>, Refusal>
-        ensures { result ≡ channel_verdict self.now.banned (channel_of self.now.channels scid) first.now second.now }
+        ensures { result
+            ≡ channel_verdict self.now.banned (channel_of self.now.channels scid) first.now second.now }
     {
         if self.banned.ends(first, second) {
             return Err(Refusal::Banned);
@@ -96,7 +101,8 @@ impl Map {
 
     pub(crate) fn admit_update(&self, row: &UpdateRow, signer: &Point) -> Result<(), Refusal>
         ensures { let id = row.now.message.short_channel_id in
-            update_op row.now result ≡ update_admission (channel_of self.now.channels id) (update_of self.now.updates id (is_second row.now)) row.now signer.now }
+            update_op row.now result ≡ update_admission (channel_of self.now.channels id)
+            (update_of self.now.updates id (is_second row.now)) row.now signer.now }
     {
         match self.held(row.scid()) {
             Some(held) => held.admit_update(row, signer),
@@ -106,7 +112,8 @@ impl Map {
 
     pub(crate) fn admit_node(&self, row: &NodeRow) -> Result<(), Refusal>
         ensures { let node = row.now.message.node_id in
-            node_op row.now result ≡ node_admission (is_banned self.now.banned node) (ends_channel self.now.channels node) (node_of self.now.nodes node) row.now }
+            node_op row.now result ≡ node_admission (is_banned self.now.banned node)
+            (ends_channel self.now.channels node) (node_of self.now.nodes node) row.now }
     {
         self.judge_node(&row.node(), row.message.timestamp)
     }
@@ -114,13 +121,15 @@ impl Map {
     /// The same of a row that is kept.
     pub(crate) fn admit_kept_node(&self, row: &KeptNode) -> Result<(), Refusal>
         ensures { let node = row.now.message.node_id in
-            node_op row.now result ≡ node_admission (is_banned self.now.banned node) (ends_channel self.now.channels node) (node_of self.now.nodes node) row.now }
+            node_op row.now result ≡ node_admission (is_banned self.now.banned node)
+            (ends_channel self.now.channels node) (node_of self.now.nodes node) row.now }
     {
         self.judge_node(&row.node(), row.timestamp())
     }
 
     fn judge_node(&self, node: &Point, time: u32) -> Result<(), Refusal>
-        ensures { result ≡ node_verdict (is_banned self.now.banned node.now) (ends_channel self.now.channels node.now) (node_of self.now.nodes node.now) time }
+        ensures { result ≡ node_verdict (is_banned self.now.banned node.now)
+            (ends_channel self.now.channels node.now) (node_of self.now.nodes node.now) time }
     {
         if self.banned(node) {
             return Err(Refusal::Banned);

@@ -30,7 +30,9 @@ impl Map {
 
     /// The ids of the channels that end at the four points, and for each point anew.
     fn ids_of(&self, ban: &BanRow) -> Result<Vec<Scid>, AllocError>
-        ensures { IfOk result (λ scids. scids.items ≡ ((ids_at self.now.channels ban.now.held1 ++ ids_at self.now.channels ban.now.held2) ++ ids_at self.now.channels ban.now.new1) ++ ids_at self.now.channels ban.now.new2) }
+        ensures { IfOk result (λ scids. scids.items
+            ≡ ((ids_at self.now.channels ban.now.held1 ++ ids_at self.now.channels ban.now.held2)
+            ++ ids_at self.now.channels ban.now.new1) ++ ids_at self.now.channels ban.now.new2) }
     {
         let mut scids = Vec::new(self.alloc);
         self.ends.gather(&ban.held1, &mut scids)?;

@@ -2,7 +2,8 @@
 
 ghost use Rattle.std.specs.Prelude.{◌≡◌, IfOk, OnErr};
 ghost use Rattle.lgm_store.specs.Rows.{channel_of, update_of, node_of, ends_channel, is_banned, is_second};
-ghost use Rattle.lgm_store.specs.Admission.{channel_admission, update_admission, node_admission, admitted, Offers};
+ghost use Rattle.lgm_store.specs.Admission.{channel_admission, update_admission};
+ghost use Rattle.lgm_store.specs.Admission.{node_admission, admitted, Offers};
 ghost use Rattle.lgm_store.specs.History.{absorbed};
 ghost use Rattle.lgm_store.specs.Spelled.{IsSpelled};
 
@@ -59,7 +60,8 @@ impl Map {
     }
 
     fn offer_channel(&mut self, alloc: Global, row: Shared<KeptChannel>) -> Result<Op, Refusal>
-        ensures admission { Offers result (channel_admission self.old.banned (channel_of self.old.channels row.message.short_channel_id) row) }
+        ensures admission { Offers result (channel_admission self.old.banned
+            (channel_of self.old.channels row.message.short_channel_id) row) }
         ensures accepted { IfOk result (λ op. self.new ≡ absorbed self.old op) }
         ensures refused { OnErr result (self.new ≡ self.old) }
     {
@@ -74,7 +76,8 @@ impl Map {
 
     fn offer_update(&mut self, row: Shared<KeptUpdate>, signer: &Point) -> Result<Op, Refusal>
         ensures admission { let id = row.message.short_channel_id in
-            Offers result (update_admission (channel_of self.old.channels id) (update_of self.old.updates id (is_second row)) row signer.now) }
+            Offers result (update_admission (channel_of self.old.channels id)
+            (update_of self.old.updates id (is_second row)) row signer.now) }
         ensures accepted { IfOk result (λ op. self.new ≡ absorbed self.old op) }
         ensures refused { OnErr result (self.new ≡ self.old) }
     {
@@ -86,7 +89,8 @@ impl Map {
 
     fn offer_node(&mut self, row: Shared<KeptNode>) -> Result<Op, Refusal>
         ensures admission { let node = row.message.node_id in
-            Offers result (node_admission (is_banned self.old.banned node) (ends_channel self.old.channels node) (node_of self.old.nodes node) row) }
+            Offers result (node_admission (is_banned self.old.banned node)
+            (ends_channel self.old.channels node) (node_of self.old.nodes node) row) }
         ensures accepted { IfOk result (λ op. self.new ≡ absorbed self.old op) }
         ensures refused { OnErr result (self.new ≡ self.old) }
     {

@@ -6,7 +6,8 @@ ghost use Rattle.lgm_store.specs.Held.{update_in};
 ghost use Rattle.lgm_store.specs.Held.{held_at};
 ghost use Rattle.lgm_store.specs.Laws.{IsLawful};
 ghost use Rattle.lgm_store.specs.Rows.{IsAscending, channel_of, update_of, node_of, ends_channel, is_banned};
-ghost use Rattle.lgm_store.specs.Reading.{next_channel_of, next_node_of, ids_at, block_of, ids_between_of, channels_between_of};
+ghost use Rattle.lgm_store.specs.Reading.{next_channel_of, next_node_of, ids_at, block_of};
+ghost use Rattle.lgm_store.specs.Reading.{ids_between_of, channels_between_of};
 ghost use Rattle.lgm_store.specs.inner.Start.{start_after, IsEndBefore};
 
 use super::Map;
@@ -29,9 +30,12 @@ impl Map {
 
     /// A channel with its updates, if it is held.
     pub fn held(&self, scid: Scid) -> Option<&Held>
-        ensures channel { option_map (λ held. held.channel) (option_copied result) ≡ channel_of self.now.channels scid }
-        ensures update { (second : Bool) → option_and_then (update_in second) (option_copied result) ≡ update_of self.now.updates scid second }
-        ensures held { option_copied result ≡ option_map (held_at self.now) (channel_of self.now.channels scid) }
+        ensures channel { option_map (λ held. held.channel) (option_copied result)
+            ≡ channel_of self.now.channels scid }
+        ensures update { (second : Bool) → option_and_then (update_in second) (option_copied result)
+            ≡ update_of self.now.updates scid second }
+        ensures held { option_copied result
+            ≡ option_map (held_at self.now) (channel_of self.now.channels scid) }
     {
         self.channels.get(scid)
     }

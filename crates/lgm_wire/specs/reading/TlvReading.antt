@@ -1,6 +1,7 @@
 -- How a TLV stream is read (exact, for readers built on it): record by record, up to the first
 -- fault.
-use Rattle.std.specs.Prelude.{◌≡◌, ℕ, zero, suc, ◌<◌, ◌++◌, Option, Some, None, nat_le, nat_lt, false, Bool, List, [], ◌∷◌, length, take, drop, Result, Ok, Err, if◌then◌else◌}
+use Rattle.std.specs.Prelude.{◌≡◌, ℕ, zero, suc, ◌<◌, ◌++◌, Option, Some, None, nat_le, nat_lt, false}
+use Rattle.std.specs.Prelude.{Bool, List, [], ◌∷◌, length, take, drop, Result, Ok, Err, if◌then◌else◌}
 use Rattle.std.specs.List.{flat_map, AllByRecursion}
 use Rattle.lgm_wire.specs.declared.fault.WireFault.{WireFault}
 use Rattle.lgm_wire.specs.declared.fault.WireFault.TheVariants.{Cut, Order}

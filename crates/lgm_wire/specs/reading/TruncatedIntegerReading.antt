@@ -1,5 +1,6 @@
 -- How a truncated integer is read (exact, for readers built on it), with the order of its faults.
-use Rattle.std.specs.Prelude.{ℕ, Bool, false, List, [], ◌∷◌, length, Result, Ok, Err, nat_lt, ◌==◌, if◌then◌else◌}
+use Rattle.std.specs.Prelude.{ℕ, Bool, false, List, [], ◌∷◌, length, Result}
+use Rattle.std.specs.Prelude.{Ok, Err, nat_lt, ◌==◌, if◌then◌else◌}
 use Rattle.lgm_wire.specs.declared.fault.WireFault.{WireFault}
 use Rattle.lgm_wire.specs.declared.fault.WireFault.TheVariants.{TooLong, NotMinimal}
 use Rattle.lgm_wire.specs.TruncatedInteger.{number_of}

@@ -4,5 +4,7 @@ use Rattle.lgm_graph.proofs.Places.{links_edit}
 use Rattle.lgm_graph.proofs.lists.drop_at.Goals as goal
 
 pub returns-clause-links : goal.returns-clause-links
-returns-clause-links c = links_edit c.args.lists.now.items c.args.number c.index_mut.result.now c.drop_channel.new.self c.requires c.index_mut.ensures.value
+returns-clause-links c =
+    links_edit c.args.lists.now.items c.args.number c.index_mut.result.now c.drop_channel.new.self c.requires
+    c.index_mut.ensures.value
     (filter (is_not_of c.args.scid)) c.drop_channel.ensures

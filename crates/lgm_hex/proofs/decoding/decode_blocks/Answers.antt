@@ -9,6 +9,8 @@ loop-i-preserved c valid =
 
 pub returns : goal.returns
 returns c good =
-    let both = both_valid c.loop-i.seen c.decode_block-seen-2.result c.loop-i.auto.seen.0 c.decode_block-seen-2.ensures.len (c.are_valid.ensures good) in
+    let both =
+    both_valid c.loop-i.seen c.decode_block-seen-2.result c.loop-i.auto.seen.0
+    c.decode_block-seen-2.ensures.len (c.are_valid.ensures good) in
     all_decoded c.args.digits.now c.decode_block-seen-2.new.out (omega arith)
     (λ k h. c.decode_block-seen-2.ensures.bytes both.1 (λ j g. c.loop-i.invariant both.0 j (omega arith)) k (omega arith))

@@ -16,7 +16,8 @@ use Rattle.lgm_server.proofs.Keeping.{offers_gives}
 use Rattle.lgm_live.proofs.admitting.admit.Goals as goal
 
 -- a message that is lawful by itself has the outcome of its admission
-offers_outcome : (chain : ChainHash) (rows : Rows) (item : Item) (bytes : List ℕ) (evidence : Evidence) (checked : Checked) (answer : Result Op Refusal)
+offers_outcome : (chain : ChainHash) (rows : Rows) (item : Item) (bytes : List ℕ) (evidence : Evidence)
+    (checked : Checked) (answer : Result Op Refusal)
     → item ≡ Gossip bytes evidence → checked_of chain bytes evidence ≡ Ok checked → Offers answer (admitted rows checked)
     → Gives NoMemory (λ op. op) answer (outcome_of chain rows item)
 unfolding outcome_of

@@ -14,8 +14,12 @@ returns-clause-answers g c =
     let known = c.args.known.now in
     let are = are_of made.0.board known made.1.items c.in-Ok.ensures.board c.in-Ok.ensures.known in
     let both = c.run_both-written in
-    let all = are_reported made.0.board known made.1.items c.args.lists.now both.new.pen.published both.result.1 c.gather-report.result are (rw (← c.as_slice-lists.ensures) both.ensures.worked) c.gather-report.ensures.tied in
-    reported_answers known c.args.lists.now both.new.pen.published both.result.0 c.gather-report.result all c.gather-report.ensures.written both.ensures.published
+    let all =
+    are_reported made.0.board known made.1.items c.args.lists.now both.new.pen.published both.result.1
+    c.gather-report.result are (rw (← c.as_slice-lists.ensures) both.ensures.worked)
+    c.gather-report.ensures.tied in
+    reported_answers known c.args.lists.now both.new.pen.published both.result.0 c.gather-report.result all
+    c.gather-report.ensures.written both.ensures.published
 
 pub returns-clause-at_ends : goal.returns-clause-at_ends
 returns-clause-at_ends g c =
@@ -23,7 +27,9 @@ returns-clause-at_ends g c =
     let known = c.args.known.now in
     let are = are_of made.0.board known made.1.items c.in-Ok.ensures.board c.in-Ok.ensures.known in
     let both = c.run_both-written in
-    let all = are_reported made.0.board known made.1.items c.as_slice-lists.result.now both.new.pen.published both.result.1 c.gather-report.result are both.ensures.worked c.gather-report.ensures.tied in
+    let all =
+    are_reported made.0.board known made.1.items c.as_slice-lists.result.now both.new.pen.published
+    both.result.1 c.gather-report.result are both.ensures.worked c.gather-report.ensures.tied in
     reported_ends known c.as_slice-lists.result.now both.new.pen.published c.gather-report.result all
 
 pub returns-clause-rising : goal.returns-clause-rising
@@ -32,5 +38,7 @@ returns-clause-rising g c =
     let known = c.args.known.now in
     let are = are_of made.0.board known made.1.items c.in-Ok.ensures.board c.in-Ok.ensures.known in
     let both = c.run_both-written in
-    let all = are_reported made.0.board known made.1.items c.as_slice-lists.result.now both.new.pen.published both.result.1 c.gather-report.result are both.ensures.worked c.gather-report.ensures.tied in
+    let all =
+    are_reported made.0.board known made.1.items c.as_slice-lists.result.now both.new.pen.published
+    both.result.1 c.gather-report.result are both.ensures.worked c.gather-report.ensures.tied in
     reported_rising known c.as_slice-lists.result.now both.new.pen.published c.gather-report.result all

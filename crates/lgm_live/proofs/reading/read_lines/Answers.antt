@@ -23,7 +23,9 @@ pub returns-in_err-count-clause-gathered : goal.returns-in_err-count-clause-gath
 returns-in_err-count-clause-gathered g c =
     let mid = seen g.W.Sink.taken g.W.Sink.failures c.loop-number.output in
     let new = seen g.W.Sink.taken g.W.Sink.failures c.next_line.new.output in
-    let quiet = silent_fault {T = Option ℕ} c.in_err-count.field-0.0 mid new c.loop-number.invariant.gathered c.in_err-count.ensures.told c.in_err-count.ensures.write in
+    let quiet =
+    silent_fault {T = Option ℕ} c.in_err-count.field-0.0 mid new c.loop-number.invariant.gathered
+    c.in_err-count.ensures.told c.in_err-count.ensures.write in
     quiet.clear
 
 pub returns-in_default-clause-ok : goal.returns-in_default-clause-ok
@@ -35,7 +37,9 @@ returns-in_default-clause-ok g c =
       asked = inv.asked;
       few = omega (arith, inv.count, inv.within);
       noted = inv.noted;
-      whole = ends script inv.asked input (ahead c.next_line.new.lines (g.R.Source.left c.next_line.new.source)) inv.so_far c.in_ok-count.ensures.kept (c.in_ok-count.ensures.end (search rules))
+      whole =
+          ends script inv.asked input (ahead c.next_line.new.lines (g.R.Source.left c.next_line.new.source))
+          inv.so_far c.in_ok-count.ensures.kept (c.in_ok-count.ensures.end (search rules))
           (omega (arith, inv.count, inv.within));
     }
 
@@ -47,7 +51,14 @@ note_line-requires-clause-some g c =
 pub note_line-requires-clause-few : goal.note_line-requires-clause-few
 note_line-requires-clause-few g c =
     let inv = c.loop-number.invariant in
-    omega (arith, c.requires.none, payments_few c.args.agenda.now inv.asked, ap (λ agenda. agenda.payments) inv.noted, inv.count, c.loop-number-test.true)
+    omega (
+      arith,
+      c.requires.none,
+      payments_few c.args.agenda.now inv.asked,
+      ap (λ agenda. agenda.payments) inv.noted,
+      inv.count,
+      c.loop-number-test.true,
+    )
 
 pub loop-number-preserved : goal.loop-number-preserved
 loop-number-preserved g c =
@@ -73,16 +84,21 @@ loop-number-preserved g c =
       gathered = quiet.clear;
       within = omega (arith, c.loop-number-test.true);
       count = omega (arith, inv.count, length-append inv.asked (request ∷ []));
-      noted = c.in_ok-note_line.ensures.agenda ∙ ap (λ agenda. with_line agenda request) inv.noted ∙ sym (with_lines-push c.args.agenda.now inv.asked request);
+      noted =
+          c.in_ok-note_line.ensures.agenda ∙ ap (λ agenda. with_line agenda request) inv.noted
+          ∙ sym (with_lines-push c.args.agenda.now inv.asked request);
       so_far = subst (λ lines. SoFar script (inv.asked ++ request ∷ []) (ahead lines left)) (sym c.in_ok-note_line.ensures.lines)
-          (step script inv.asked count buffered left input inv.so_far c.in_ok-count.ensures.kept first small (omega (arith, small, length-take count buffered)));
+          (step script inv.asked count buffered left input inv.so_far c.in_ok-count.ensures.kept first small
+          (omega (arith, small, length-take count buffered)));
     }
 
 pub returns-in_err-more_begins-clause-gathered : goal.returns-in_err-more_begins-clause-gathered
 returns-in_err-more_begins-clause-gathered g c =
     let mid = seen g.W.Sink.taken g.W.Sink.failures c.loop-number.output in
     let new = seen g.W.Sink.taken g.W.Sink.failures c.more_begins.new.output in
-    let quiet = silent_fault {T = Bool} c.in_err-more_begins.field-0.0 mid new c.loop-number.invariant.gathered c.in_err-more_begins.ensures.told c.in_err-more_begins.ensures.write in
+    let quiet =
+    silent_fault {T = Bool} c.in_err-more_begins.field-0.0 mid new c.loop-number.invariant.gathered
+    c.in_err-more_begins.ensures.told c.in_err-more_begins.ensures.write in
     quiet.clear
 
 pub returns-then-branch-clause-too_many : goal.returns-then-branch-clause-too_many
@@ -90,7 +106,8 @@ returns-then-branch-clause-too_many g c = λ _.
     let inv = c.loop-number.invariant in
     let script = g.R.Source.left c.args.source.now in
     let input = ahead c.loop-number.lines (g.R.Source.left c.loop-number.source) in
-    many script inv.asked c.more_begins.new.lines (g.R.Source.left c.more_begins.new.source) input inv.so_far c.in_ok-more_begins.ensures.kept (c.in_ok-more_begins.ensures.more (search rules))
+    many script inv.asked c.more_begins.new.lines (g.R.Source.left c.more_begins.new.source) input inv.so_far
+    c.in_ok-more_begins.ensures.kept (c.in_ok-more_begins.ensures.more (search rules))
     (omega (arith, inv.count, inv.within, c.loop-number-test.false))
 
 pub returns-clause-ok : goal.returns-clause-ok
@@ -102,6 +119,9 @@ returns-clause-ok g c =
       asked = inv.asked;
       few = omega (arith, inv.count, inv.within);
       noted = inv.noted;
-      whole = ends script inv.asked input (ahead c.more_begins.new.lines (g.R.Source.left c.more_begins.new.source)) inv.so_far c.in_ok-more_begins.ensures.kept (c.in_ok-more_begins.ensures.end (search rules))
+      whole =
+          ends script inv.asked input
+          (ahead c.more_begins.new.lines (g.R.Source.left c.more_begins.new.source)) inv.so_far
+          c.in_ok-more_begins.ensures.kept (c.in_ok-more_begins.ensures.end (search rules))
           (omega (arith, inv.count, inv.within));
     }

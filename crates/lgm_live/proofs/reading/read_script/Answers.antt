@@ -11,6 +11,9 @@ returns-clause-ok g c =
     record {
       asked = noted.asked;
       few = noted.few;
-      is_agenda = agenda_is c.args.workers noted.asked c.end_batch.new.self (c.in_ok-end_batch.ensures ∙ ap (λ (agenda : Gathered). record agenda { batches = agenda.batches ++ agenda.batch ∷ []; batch = [] }) all);
+      is_agenda =
+          agenda_is c.args.workers noted.asked c.end_batch.new.self
+          (c.in_ok-end_batch.ensures ∙ ap (λ (agenda : Gathered).
+          record agenda { batches = agenda.batches ++ agenda.batch ∷ []; batch = [] }) all);
       whole = noted.whole;
     }

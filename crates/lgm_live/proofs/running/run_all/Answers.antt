@@ -16,7 +16,13 @@ live-requires-clause-items g c =
 pub live-requires-clause-few : goal.live-requires-clause-few
 live-requires-clause-few g c =
     let read = c.in_ok-agenda.ensures.ok in
-    omega (arith, c.args.pool.now.few, length-map-range_with_len (list_for c.args.pool.now.workers (payments_of read.asked)) 0 c.args.pool.now.workers, ap length (c.lists.ensures ∙ read.is_agenda.lists))
+    omega (
+      arith,
+      c.args.pool.now.few,
+      length-map-range_with_len (list_for c.args.pool.now.workers (payments_of read.asked)) 0
+          c.args.pool.now.workers,
+      ap length (c.lists.ensures ∙ read.is_agenda.lists),
+    )
 
 pub tell-requires-clause-there : goal.tell-requires-clause-there
 tell-requires-clause-there g c =
@@ -25,8 +31,12 @@ tell-requires-clause-there g c =
     let report = c.in_ok-report.report in
     let reported : IsReport c.args.chain.now c.args.known.now c.batches.result.now c.lists.result.now report =
     record { outcomes = done.outcomes; ops = done.ops; ends = done.ends; answers = done.answers; at_ends = done.at_ends; rising = done.rising } in
-    let is = on_agenda c.args.chain.now c.args.known.now c.args.pool.now.workers read.asked c.in_ok-agenda.agenda c.batches.result.now c.lists.result.now report read.is_agenda c.batches.ensures c.lists.ensures reported in
-    there c.args.chain.now c.args.known.now c.args.pool.now.workers read.asked report c.slots.result.now c.args.pool.now.some is (c.slots.ensures ∙ read.is_agenda.slots)
+    let is =
+    on_agenda c.args.chain.now c.args.known.now c.args.pool.now.workers read.asked c.in_ok-agenda.agenda
+    c.batches.result.now c.lists.result.now report read.is_agenda c.batches.ensures
+    c.lists.ensures reported in
+    there c.args.chain.now c.args.known.now c.args.pool.now.workers read.asked report c.slots.result.now
+    c.args.pool.now.some is (c.slots.ensures ∙ read.is_agenda.slots)
 
 pub returns-in_err-tell-clause-fault : goal.returns-in_err-tell-clause-fault
 returns-in_err-tell-clause-fault g c =
@@ -36,8 +46,12 @@ returns-in_err-tell-clause-fault g c =
     let report = c.in_ok-report.report in
     let reported : IsReport c.args.chain.now c.args.known.now c.batches.result.now c.lists.result.now report =
     record { outcomes = done.outcomes; ops = done.ops; ends = done.ends; answers = done.answers; at_ends = done.at_ends; rising = done.rising } in
-    let is = on_agenda c.args.chain.now c.args.known.now c.args.pool.now.workers read.asked c.in_ok-agenda.agenda c.batches.result.now c.lists.result.now report read.is_agenda c.batches.ensures c.lists.ensures reported in
-    rw p.1 (inr (in_part c.args.chain.now c.args.known.now c.args.pool.now.workers (g.R.Source.left c.args.source.now) read.asked report c.slots.result.now
+    let is =
+    on_agenda c.args.chain.now c.args.known.now c.args.pool.now.workers read.asked c.in_ok-agenda.agenda
+    c.batches.result.now c.lists.result.now report read.is_agenda c.batches.ensures
+    c.lists.ensures reported in
+    rw p.1 (inr (in_part c.args.chain.now c.args.known.now c.args.pool.now.workers
+    (g.R.Source.left c.args.source.now) read.asked report c.slots.result.now
     (g.W.Sink.taken c.args.output.now.writer.now) (g.W.Sink.taken c.read_script.new.output.writer.now) (g.W.Sink.taken c.tell.new.output.writer.now)
     c.args.pool.now.some read.whole is (c.slots.ensures ∙ read.is_agenda.slots) c.in_ok-agenda.ensures.silent c.in_err-tell.ensures.part))
 
@@ -48,7 +62,10 @@ returns-clause-ok g c =
     let report = c.in_ok-report.report in
     let reported : IsReport c.args.chain.now c.args.known.now c.batches.result.now c.lists.result.now report =
     record { outcomes = done.outcomes; ops = done.ops; ends = done.ends; answers = done.answers; at_ends = done.at_ends; rising = done.rising } in
-    let is = on_agenda c.args.chain.now c.args.known.now c.args.pool.now.workers read.asked c.in_ok-agenda.agenda c.batches.result.now c.lists.result.now report read.is_agenda c.batches.ensures c.lists.ensures reported in
+    let is =
+    on_agenda c.args.chain.now c.args.known.now c.args.pool.now.workers read.asked c.in_ok-agenda.agenda
+    c.batches.result.now c.lists.result.now report read.is_agenda c.batches.ensures
+    c.lists.ensures reported in
     whole c.args.chain.now c.args.known.now c.args.pool.now.workers (g.R.Source.left c.args.source.now) read.asked report c.slots.result.now
     (g.W.Sink.taken c.args.output.now.writer.now) (g.W.Sink.taken c.read_script.new.output.writer.now) (g.W.Sink.taken c.tell.new.output.writer.now)
     c.args.pool.now.some read.whole is (c.slots.ensures ∙ read.is_agenda.slots) c.in_ok-agenda.ensures.silent c.in_ok-tell.ensures.told

@@ -7,19 +7,23 @@ use Rattle.lgm_live.proofs.telling.tell.Goals as goal
 pub returns-in-Err-Write-clause-part : goal.returns-in-Err-Write-clause-part
 returns-in-Err-Write-clause-part g c =
     let all = c.args.slots.now in
-    part_written c.tell_slots-told.result (seen g.W.Sink.taken g.W.Sink.failures c.args.output.now) (seen g.W.Sink.taken g.W.Sink.failures c.tell_slots-told.new.output)
+    part_written c.tell_slots-told.result (seen g.W.Sink.taken g.W.Sink.failures c.args.output.now)
+    (seen g.W.Sink.taken g.W.Sink.failures c.tell_slots-told.new.output)
     (slots_before c.args.workers c.args.report.now all (length all)) c.requires.gathered c.tell_slots-told.ensures.fault
 
 pub returns-in-Ok-clause-part : goal.returns-in-Ok-clause-part
 returns-in-Ok-clause-part g c =
     let all = c.args.slots.now in
-    part_flushed c.tell_slots-told.result (seen g.W.Sink.taken g.W.Sink.failures c.args.output.now) (seen g.W.Sink.taken g.W.Sink.failures c.tell_slots-told.new.output)
+    part_flushed c.tell_slots-told.result (seen g.W.Sink.taken g.W.Sink.failures c.args.output.now)
+    (seen g.W.Sink.taken g.W.Sink.failures c.tell_slots-told.new.output)
     (seen g.W.Sink.taken g.W.Sink.failures c.flush.new.self)
     (slots_before c.args.workers c.args.report.now all (length all)) c.requires.gathered c.tell_slots-told.ensures.fault c.in-Ok.ensures.told
 
 pub returns-in-Err-clause-part : goal.returns-in-Err-clause-part
 returns-in-Err-clause-part g c =
     let all = c.args.slots.now in
-    part_fails c.tell_slots-told.result (seen g.W.Sink.taken g.W.Sink.failures c.args.output.now) (seen g.W.Sink.taken g.W.Sink.failures c.tell_slots-told.new.output)
+    part_fails c.tell_slots-told.result (seen g.W.Sink.taken g.W.Sink.failures c.args.output.now)
+    (seen g.W.Sink.taken g.W.Sink.failures c.tell_slots-told.new.output)
     (seen g.W.Sink.taken g.W.Sink.failures c.flush.new.self)
-    (slots_before c.args.workers c.args.report.now all (length all)) c.requires.gathered c.tell_slots-told.ensures.told c.tell_slots-told.ensures.fault c.in-Err.ensures.fault
+    (slots_before c.args.workers c.args.report.now all (length all)) c.requires.gathered
+    c.tell_slots-told.ensures.told c.tell_slots-told.ensures.fault c.in-Err.ensures.fault

@@ -15,20 +15,23 @@ pub returns-in_err-send_word-clause-fault : goal.returns-in_err-send_word-clause
 returns-in_err-send_word-clause-fault g c =
     let p = err_from_is_err_and c.from_residual-in_err-send_word.result c.from_residual-in_err-send_word.ensures.1 in
     let is = version_line c.args.number c.args.answer.now.version c.as_str.result.now (c.as_str.ensures.value ∙ c.in_ok-word.ensures.ok) in
-    let line : SendsPart g.W.Sink.taken g.W.Sink.failures c.args.output.now c.send_word.new.self (at_line c.args.number c.args.answer.now.version (codes "same")) c.in_err-send_word.field-0.0 =
+    let line : SendsPart g.W.Sink.taken g.W.Sink.failures c.args.output.now c.send_word.new.self
+    (at_line c.args.number c.args.answer.now.version (codes "same")) c.in_err-send_word.field-0.0 =
     rw (← is) c.in_err-send_word.ensures.fault in
     rw (p.1, p.2) (tells_part_more _ _ _ _ _ line)
 
 pub returns-clause-told : goal.returns-clause-told
 returns-clause-told g c =
     let is = version_line c.args.number c.args.answer.now.version c.as_str.result.now (c.as_str.ensures.value ∙ c.in_ok-word.ensures.ok) in
-    let line : Sends g.W.Sink.taken g.W.Sink.failures c.args.output.now c.send_word.new.self (at_line c.args.number c.args.answer.now.version (codes "same")) =
+    let line : Sends g.W.Sink.taken g.W.Sink.failures c.args.output.now c.send_word.new.self
+    (at_line c.args.number c.args.answer.now.version (codes "same")) =
     rw (← is) c.in_ok-send_word.ensures.told in
     told_behind c.tell_result.result _ _ _ _ _ line c.tell_result.ensures.told
 
 pub returns-clause-fault : goal.returns-clause-fault
 returns-clause-fault g c =
     let is = version_line c.args.number c.args.answer.now.version c.as_str.result.now (c.as_str.ensures.value ∙ c.in_ok-word.ensures.ok) in
-    let line : Sends g.W.Sink.taken g.W.Sink.failures c.args.output.now c.send_word.new.self (at_line c.args.number c.args.answer.now.version (codes "same")) =
+    let line : Sends g.W.Sink.taken g.W.Sink.failures c.args.output.now c.send_word.new.self
+    (at_line c.args.number c.args.answer.now.version (codes "same")) =
     rw (← is) c.in_ok-send_word.ensures.told in
     fault_behind c.tell_result.result _ _ _ _ _ line c.tell_result.ensures.fault

@@ -25,7 +25,9 @@ returns-in_err-tell_slot-clause-fault g c =
     let mid = seen g.W.Sink.taken g.W.Sink.failures c.loop-slot.output in
     let new = seen g.W.Sink.taken g.W.Sink.failures c.tell_slot.new.output in
     let fault = c.in_err-tell_slot.field-0.0 in
-    let is = text_here c.args.workers c.args.report.now all k c.loop-slot.number c.loop-slot.place c.loop-slot.invariant.number c.loop-slot.invariant.place in
+    let is =
+    text_here c.args.workers c.args.report.now all k c.loop-slot.number c.loop-slot.place
+    c.loop-slot.invariant.number c.loop-slot.invariant.place in
     rw (p.1, p.2)
     (stops c.args.workers c.args.report.now all k old mid new fault c.loop-slot-test.true c.loop-slot.invariant.told
     (subst (λ text. TellsPart mid new text fault) is c.in_err-tell_slot.ensures.fault))
@@ -38,7 +40,9 @@ loop-slot-preserved g c =
     let mid = seen g.W.Sink.taken g.W.Sink.failures c.loop-slot.output in
     let new = seen g.W.Sink.taken g.W.Sink.failures c.tell_slot.new.output in
     let told : Tells mid new (text_at c.args.workers c.args.report.now all k) =
-    subst (Tells mid new) (text_here c.args.workers c.args.report.now all k c.loop-slot.number c.loop-slot.place c.loop-slot.invariant.number c.loop-slot.invariant.place) c.in_ok-tell_slot.ensures.told in
+    subst (Tells mid new) (text_here c.args.workers c.args.report.now all k c.loop-slot.number
+    c.loop-slot.place c.loop-slot.invariant.number c.loop-slot.invariant.place)
+    c.in_ok-tell_slot.ensures.told in
     record {
       writer = c.in_ok-tell_slot.ensures.writer ∙ c.loop-slot.invariant.writer;
       failures = told.well ∙ c.loop-slot.invariant.failures;

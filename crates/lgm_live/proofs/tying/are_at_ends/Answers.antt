@@ -13,4 +13,6 @@ loop-answer-preserved c =
     (subst (IsAtEnd c.args.ends.now) c.answer-item.is (c.is_at_end.ensures at_end))
 
 pub returns : goal.returns
-returns c = λ t. subst (All (IsAtEnd c.args.ends.now)) (take_all c.loop-answer.answer-index c.args.answers.now c.loop-answer-test.false) c.loop-answer.invariant
+returns c =
+    λ t. subst (All (IsAtEnd c.args.ends.now))
+    (take_all c.loop-answer.answer-index c.args.answers.now c.loop-answer-test.false) c.loop-answer.invariant

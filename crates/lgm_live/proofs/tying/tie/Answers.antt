@@ -17,5 +17,7 @@ returns-clause-tied c =
     record {
       same = refl;
       at_ends = at_ends;
-      answered = λ known requests all. answers_published known c.learn.new.self.ops worked.eye.ops published ends requests worked.answers.items longest c.requires.within at_ends all;
+      answered =
+          λ known requests all. answers_published known c.learn.new.self.ops worked.eye.ops published ends
+          requests worked.answers.items longest c.requires.within at_ends all;
     }

@@ -12,5 +12,7 @@ loop-worked-preserved c =
     let tied = subst (λ (pen : Writing). IsTied pen.published ends c.in-Some.worked c.in_ok-tie.field-0) before.same c.in_ok-tie.ensures.tied in
     record {
       same = c.tie.ensures.same ∙ before.same;
-      tied = rw c.in_ok-push.ensures.items (all_zipped_more (IsTied published ends) c.loop-worked.yielded c.loop-worked.answers.items c.in-Some.worked c.in_ok-tie.field-0 before.tied tied);
+      tied =
+          rw c.in_ok-push.ensures.items (all_zipped_more (IsTied published ends) c.loop-worked.yielded
+          c.loop-worked.answers.items c.in-Some.worked c.in_ok-tie.field-0 before.tied tied);
     }

@@ -15,8 +15,12 @@ returns g t c =
     let far = c.split_at.result.1.now in
     let first : IfOk c.join-done.result.0 (λ (works : Vec Worked). HaveWorked c.split_off.new.self.items near works.items) = search rules in
     let second : IfOk c.join-done.result.1 (λ (works : Vec Worked). HaveWorked c.in_ok-rest.rest.items far works.items) = search rules in
-    let done = subst (λ (r : Result (Vec Worked) LiveFault). IfOk r (λ works. HaveWorked c.split_off.new.self.items near works.items)) c.in_ok-works.was first in
-    let others = subst (λ (r : Result (Vec Worked) LiveFault). IfOk r (λ works. HaveWorked c.in_ok-rest.rest.items far works.items)) c.in_ok-others.was second in
+    let done =
+    subst (λ (r : Result (Vec Worked) LiveFault).
+    IfOk r (λ works. HaveWorked c.split_off.new.self.items near works.items)) c.in_ok-works.was first in
+    let others =
+    subst (λ (r : Result (Vec Worked) LiveFault).
+    IfOk r (λ works. HaveWorked c.in_ok-rest.rest.items far works.items)) c.in_ok-others.was second in
     rw c.in_ok-append.ensures.items
     (parts_worked c.args.eyes.items _ c.args.lists.now near far c.in_ok-works.works.items c.in_ok-others.field-0.items
     (ap₂ ◌++◌ c.split_at.ensures.front c.split_at.ensures.back ∙ take-append-drop _ c.args.lists.now)

@@ -26,7 +26,13 @@ take_batch-requires-clause-few g c κs within =
     let batches = c.args.batches.now in
     let i = c.loop-batch.batch-index in
     let below : i < length batches = c.loop-batch-test.true in
-    omega (arith, c.requires.few, c.loop-batch.invariant.few, length-flat_map-take (λ (b : List Item). b) batches i c.batch-item.result below, ap length (c.as_slice.ensures ∙ c.batch-item.is))
+    omega (
+      arith,
+      c.requires.few,
+      c.loop-batch.invariant.few,
+      length-flat_map-take (λ (b : List Item). b) batches i c.batch-item.result below,
+      ap length (c.as_slice.ensures ∙ c.batch-item.is),
+    )
 
 pub loop-batch-preserved : goal.loop-batch-preserved
 loop-batch-preserved g c =
@@ -37,7 +43,9 @@ loop-batch-preserved g c =
     let after = c.in_ok-take_batch.ensures in
     let written = c.take_batch.new.self in
     let below : i < length batches = c.loop-batch-test.true in
-    let more = ap (λ (b : List Item). items_of (take i batches) ++ b) c.as_slice.ensures ∙ sym (items_more batches i c.batch-item.result below c.batch-item.is) in
+    let more =
+    ap (λ (b : List Item). items_of (take i batches) ++ b) c.as_slice.ensures
+    ∙ sym (items_more batches i c.batch-item.result below c.batch-item.is) in
     let done = subst (λ (items : List Item). IsWritten chain items written) more (after.written (items_of (take i batches)) before.written) in
     record {
       written = done;
@@ -46,7 +54,9 @@ loop-batch-preserved g c =
           ∙ sym (ends_more chain batches i c.batch-item.result below c.batch-item.is);
       within = subst (All (λ end. end ≤ length written.ops.items)) (sym after.ends)
           (All-push (λ end. end ≤ length written.ops.items) c.loop-batch.written.ends.items (length written.ops.items)
-          (All-weaker (λ end. end ≤ length c.loop-batch.written.ops.items) (λ end. end ≤ length written.ops.items) (λ end le. omega (arith, le, after.grows)) c.loop-batch.written.ends.items before.within)
+          (All-weaker (λ end. end ≤ length c.loop-batch.written.ops.items)
+          (λ end. end ≤ length written.ops.items) (λ end le. omega (arith, le, after.grows))
+          c.loop-batch.written.ends.items before.within)
           (omega arith));
       few = omega (arith, after.few, before.few, ap length more, length-append (items_of (take i batches)) c.as_slice.result.now);
       board = after.board ∙ before.board;

@@ -22,11 +22,13 @@ returns-clause-payloads c =
     let last = c.index-hops-hops.result in
     let text : c.in_ok-write-2.field-0 ≡ payload_bytes (arrival secret (get_or hops (length hops - 1) last)) =
     c.in_ok-write-2.ensures ∙ ap payload_bytes c.arrival.ensures ∙ ap (λ hop. payload_bytes (arrival secret hop)) c.index-hops-hops.is in
-    c.from_vec.ensures ∙ rw (← c.as_slice-hops.ensures.hops) (payloads_all secret hops c.loop-next.next-index last c.loop-next.payloads.items c.push-2.new.self.items c.in_ok-write-2.field-0
+    c.from_vec.ensures ∙ rw (← c.as_slice-hops.ensures.hops) (payloads_all secret hops c.loop-next.next-index
+    last c.loop-next.payloads.items c.push-2.new.self.items c.in_ok-write-2.field-0
     c.as_slice-hops.ensures.some c.loop-next-test.false c.loop-next.invariant text c.in_ok-push-2.ensures.items)
 
 pub returns-clause-fits : goal.returns-clause-fits
 returns-clause-fits c =
     let is = returns-clause-payloads c in
     let same = ap length c.as_slice-hops.ensures.hops in
-    rw is (onion_fits c.args.secret.now c.args.route.now (search rules) (omega (arith, c.as_slice-hops.ensures.some, same)) (omega (arith, c.as_slice-hops.ensures.few, same)))
+    rw is (onion_fits c.args.secret.now c.args.route.now (search rules) (omega
+    (arith, c.as_slice-hops.ensures.some, same)) (omega (arith, c.as_slice-hops.ensures.few, same)))

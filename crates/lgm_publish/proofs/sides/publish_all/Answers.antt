@@ -4,7 +4,9 @@ use Rattle.lgm_publish.proofs.Boards.{publishes, told_after, known_after}
 use Rattle.lgm_publish.proofs.sides.publish_all.Goals as goal
 
 pub publish_as-next-requires : goal.publish_as-next-requires
-publish_as-next-requires g c next is = publishes _ _ c.args.writer.desk.shown.value next (drop c.args.writer.behind c.args.writer.log.items) c.requires.complete c.requires.few is
+publish_as-next-requires g c next is =
+    publishes _ _ c.args.writer.desk.shown.value next (drop c.args.writer.behind c.args.writer.log.items)
+    c.requires.complete c.requires.few is
 
 pub returns-in-Ok-clause-told : goal.returns-in-Ok-clause-told
 returns-in-Ok-clause-told g c =

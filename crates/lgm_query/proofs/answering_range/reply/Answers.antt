@@ -22,13 +22,15 @@ encoded-requires c =
     } in
     length-reply m c.if-prove.false
     (rw (own, c.ids_at-own.ensures) (length-ids_at c.args.ids.now c.args.place))
-    (rw (own, c.ids_at-own.ensures) (ForSome-piece c.args.query.now c.args.times.now c.args.ids.now c.args.place _ c.requires.times c.in_ok-timestamps_at.ensures))
+    (rw (own, c.ids_at-own.ensures) (ForSome-piece c.args.query.now c.args.times.now c.args.ids.now
+    c.args.place _ c.requires.times c.in_ok-timestamps_at.ensures))
 
 pub returns : goal.returns
 returns c = λ rows are.
     let own : c.from_vec.result ≡ ids_at c.args.ids.now c.args.place = c.from_vec.ensures ∙ c.in_ok-from_slice.ensures.items ∙ c.ids_at-own.ensures in
     let pairs : c.in_ok-timestamps_at.field-0 ≡ timestamps_asked_for rows c.args.query.now (ids_at c.args.ids.now c.args.place) =
-    c.in_ok-timestamps_at.ensures ∙ ap (λ (times : List Timestamps). if asks_for_timestamps c.args.query.now then Some (piece_at times c.args.place) else None) are
+    c.in_ok-timestamps_at.ensures ∙ ap (λ (times : List Timestamps). if asks_for_timestamps c.args.query.now
+    then Some (piece_at times c.args.place) else None) are
     ∙ timestamps-piece rows c.args.query.now c.args.ids.now c.args.place in
     let m : Reply = record {
       chain_hash = c.args.query.now.chain_hash;
@@ -39,8 +41,10 @@ returns c = λ rows are.
       timestamps = c.in_ok-timestamps_at.field-0;
     } in
     let same : m ≡ reply rows c.args.query.now c.args.ids.now c.args.place =
-    reply-parts rows c.args.query.now c.args.ids.now c.args.place c.reply_start.result c.number_of_blocks.result c.from.result c.from_vec.result c.in_ok-timestamps_at.field-0
-    c.reply_start.ensures c.number_of_blocks.ensures (complete c.is_last.result refl ∙ ap (λ (b : Bool). if b then 1 else 0) c.is_last.ensures) own pairs in
+    reply-parts rows c.args.query.now c.args.ids.now c.args.place c.reply_start.result
+    c.number_of_blocks.result c.from.result c.from_vec.result c.in_ok-timestamps_at.field-0
+    c.reply_start.ensures c.number_of_blocks.ensures (complete c.is_last.result refl
+    ∙ ap (λ (b : Bool). if b then 1 else 0) c.is_last.ensures) own pairs in
     IfOk-same c.encoded.result (spelling (messages.RangeReply m)) (reply_bytes rows c.args.query.now c.args.ids.now c.args.place) c.encoded.ensures
     (ap (λ (r : Reply). spelling (messages.RangeReply r)) same)
   where

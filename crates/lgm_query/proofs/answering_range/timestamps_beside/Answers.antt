@@ -12,5 +12,7 @@ returns c =
     let asks : asks_for_timestamps c.args.query.now ≡ true = search rules in
     let known : pointwise nat_eq c.args.query.now.chain_hash.0 c.args.chain.now.0 ≡ true = search rules in
     timestamps-all c.args.chain.now c.args.map.now c.args.query.now c.loop-held.times.items asks known
-    (sym (append-nil c.loop-held.times.items) ∙ ap (λ (left : List Held). c.loop-held.times.items ++ map timestamps_in left) (sym c.in-None.ensures.steps.0)
-    ∙ c.loop-held.invariant ∙ ap (map timestamps_in) (rw (c.from.ensures, c.range_end.ensures.value) at (c.into_iter-held-iterator.ensures.into_iter_gives ∙ c.channels_between-held-items.ensures)))
+    (sym (append-nil c.loop-held.times.items) ∙ ap (λ (left : List Held). c.loop-held.times.items
+    ++ map timestamps_in left) (sym c.in-None.ensures.steps.0)
+    ∙ c.loop-held.invariant ∙ ap (map timestamps_in) (rw (c.from.ensures, c.range_end.ensures.value) at
+    (c.into_iter-held-iterator.ensures.into_iter_gives ∙ c.channels_between-held-items.ensures)))

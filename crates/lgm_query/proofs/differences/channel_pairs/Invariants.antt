@@ -7,4 +7,6 @@ use Rattle.lgm_query.proofs.differences.channel_pairs.Given as goal
 
 -- what the pairs tell and what is left make the whole
 abbrev pub invariant-loop-scid : goal.invariant-loop-scid
-invariant-loop-scid l = (f : Filter) → flat_map (news_of_channel_pair f) l.pairs.items ++ flat_map (news_of_channel f l.before l.after) l.scid-iterator ≡ flat_map (news_of_channel f l.before l.after) l.scids.keys
+invariant-loop-scid l =
+    (f : Filter) → flat_map (news_of_channel_pair f) l.pairs.items ++ flat_map (news_of_channel f l.before
+    l.after) l.scid-iterator ≡ flat_map (news_of_channel f l.before l.after) l.scids.keys

@@ -7,4 +7,6 @@ use Rattle.lgm_query.proofs.differences.node_pairs.Given as goal
 
 -- what the pairs tell and what is left make the whole
 abbrev pub invariant-loop-node : goal.invariant-loop-node
-invariant-loop-node l = (f : Filter) → flat_map (news_of_node_pair f) l.pairs.items ++ flat_map (news_of_node f l.before l.after) l.node-iterator ≡ flat_map (news_of_node f l.before l.after) l.nodes.keys
+invariant-loop-node l =
+    (f : Filter) → flat_map (news_of_node_pair f) l.pairs.items ++ flat_map (news_of_node f l.before l.after)
+    l.node-iterator ≡ flat_map (news_of_node f l.before l.after) l.nodes.keys

@@ -9,7 +9,11 @@ pub returns : goal.returns
 returns c =
     let unknown : List ℕ → Bool = λ message. not (is_known c.in_ok-known.known.keys message) in
     let fresh : List ℕ → Bool = λ message. not (is_among (backlog c.args.before.now c.args.filter.now) message) in
-    let kept : c.retain.new.self.items ≡ filter unknown c.into_vec-news.result.items = filter_same _ unknown _ (λ x b f' k. search rules) _ _ c.retain.ensures.filtered in
+    let kept : c.retain.new.self.items ≡ filter unknown c.into_vec-news.result.items =
+    filter_same _ unknown _ (λ x b f' k. search rules) _ _ c.retain.ensures.filtered in
     let earlier = c.as_slice.ensures ∙ c.in_ok-earlier.ensures in
-    let agree : (message : List ℕ) → unknown message ≡ fresh message = λ message. ap not (c.in_ok-known.ensures message ∙ ap (λ (ms : List (List ℕ)). is_among ms message) earlier) in
-    c.from_vec.ensures ∙ kept ∙ filter_agree unknown fresh agree c.into_vec-news.result.items ∙ ap (filter fresh) (c.into_vec-news.ensures ∙ c.in_ok-backlog.ensures)
+    let agree : (message : List ℕ) → unknown message ≡ fresh message =
+    λ message.
+    ap not (c.in_ok-known.ensures message ∙ ap (λ (ms : List (List ℕ)). is_among ms message) earlier) in
+    c.from_vec.ensures ∙ kept ∙ filter_agree unknown fresh agree c.into_vec-news.result.items
+    ∙ ap (filter fresh) (c.into_vec-news.ensures ∙ c.in_ok-backlog.ensures)

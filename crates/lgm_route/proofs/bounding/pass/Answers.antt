@@ -12,5 +12,8 @@ returns c =
     let long = c.take_up.auto.dist in
     let also = c.begin.auto.dist in
     low_of (links c.args.view.now) c.args.request.now dist closed most (bounds_in most dist)
-    (λ edge there. (omega (arith, (c.requires.linked.each edge there).from, c.requires.nodes, long, also), omega (arith, (c.requires.linked.each edge there).to, c.requires.nodes, long, also)))
+    (λ edge there. (
+      omega (arith, (c.requires.linked.each edge there).from, c.requires.nodes, long, also),
+      omega (arith, (c.requires.linked.each edge there).to, c.requires.nodes, long, also),
+    ))
     c.in_ok-take_up.ensures.spread c.radius.ensures (cut_bounds most dist)

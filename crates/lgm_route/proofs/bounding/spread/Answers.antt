@@ -31,7 +31,9 @@ returns-clause-spread c =
     let start = number_at c.args.dist.now c.args.node in
     spread_closed c.args.view.now c.args.request.now dist c.loop-link.closed c.args.node start
     c.requires.linked (c.requires.nodes ∙ same)
-    (omega (arith, c.requires.within, c.requires.long, c.loop-link.auto.closed)) (λ e. ap (λ n. number_at c.args.dist.now n) e ∙ c.requires.spread.payer) c.loop-link.invariant.start
+    (omega (arith, c.requires.within, c.requires.long, c.loop-link.auto.closed))
+    (λ e. ap (λ n. number_at c.args.dist.now n) e ∙ c.requires.spread.payer) c.loop-link.invariant.start
     (subst (λ r. (j : ℕ) → j < length r → IsNear c.args.request.now start (length dist) dist (link_at r j)) c.links_leaving-link-items.ensures
-    (λ j to. subst (λ n. IsNear c.args.request.now start n dist (link_at c.links_leaving-link-items.result.now j)) same (c.loop-link.invariant.near j (omega (arith, to, c.loop-link-test.false)))))
+    (λ j to. subst (λ n. IsNear c.args.request.now start n dist (link_at c.links_leaving-link-items.result.now
+    j)) same (c.loop-link.invariant.near j (omega (arith, to, c.loop-link-test.false)))))
     c.loop-link.invariant.spread

@@ -5,11 +5,13 @@ use Rattle.lgm_route.proofs.offering.offer.Goals as goal
 
 pub server-requires-clause-spelled : goal.server-requires-clause-spelled
 server-requires-clause-spelled c =
-    subst (AreSpelled c.args.view.now) (sym c.deref.ensures.value) (spelled_labels c.args.view.now c.args.request.now c.args.labels.now.items c.requires.labelled)
+    subst (AreSpelled c.args.view.now) (sym c.deref.ensures.value)
+    (spelled_labels c.args.view.now c.args.request.now c.args.labels.now.items c.requires.labelled)
 
 pub add-requires-clause-spelled : goal.add-requires-clause-spelled
 add-requires-clause-spelled c =
-    subst (AreSpelled c.args.view.now) (sym c.deref-in-None.ensures.value) (spelled_labels c.args.view.now c.args.request.now c.args.labels.now.items c.requires.labelled)
+    subst (AreSpelled c.args.view.now) (sym c.deref-in-None.ensures.value)
+    (spelled_labels c.args.view.now c.args.request.now c.args.labels.now.items c.requires.labelled)
 
 pub returns-in-Some-clause-offered : goal.returns-in-Some-clause-offered
 returns-in-Some-clause-offered c =
@@ -17,7 +19,8 @@ returns-in-Some-clause-offered c =
     let labels = c.args.labels.now.items in
     let place = c.in-Some._place in
     let there : IsServer graph labels c.args.new place =
-    subst (λ ls. IsServer graph ls c.args.new place) c.deref.ensures.value (subst (λ o. IfSome o (IsServer graph c.deref.result.now c.args.new)) c.in-Some.is c.server.ensures) in
+    subst (λ ls. IsServer graph ls c.args.new place) c.deref.ensures.value (subst
+    (λ o. IfSome o (IsServer graph c.deref.result.now c.args.new)) c.in-Some.is c.server.ensures) in
     offered_there graph c.args.request.now labels c.args.new place c.requires.labelled there.within there.node there.serves
 
 pub returns-in_ok-push-in-None-clause-offered : goal.returns-in_ok-push-in-None-clause-offered

@@ -6,4 +6,5 @@ use Rattle.lgm_route.proofs.routing.best_walk_chunked.Goals as goal
 
 pub best_walk-requires-clause-start : goal.best_walk-requires-clause-start
 best_walk-requires-clause-start g c =
-    subst (λ (g : Ground). IsStart (links g.graph) g.request g.start) (sym (c.in_ok-sweep.ensures.0 ∙ c.in_ok-settle_chunked.ensures.ground)) c.in_ok-search.ensures.start
+    subst (λ (g : Ground). IsStart (links g.graph) g.request g.start)
+    (sym (c.in_ok-sweep.ensures.0 ∙ c.in_ok-settle_chunked.ensures.ground)) c.in_ok-search.ensures.start

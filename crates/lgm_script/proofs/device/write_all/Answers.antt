@@ -15,7 +15,9 @@ loop-rest-preserved g c =
     let n = c.in_ok-written.written in
     record {
       same = omega (arith, c.in_ok-written.ensures.failures, no_failure n rest c.if-written-eq0.false, c.loop-rest.invariant.same);
-      sent = sent_range (g.W.Sink.taken c.args.sink.now) (g.W.Sink.taken c.loop-rest.sink) (g.W.Sink.taken c.write.new.self) c.args.bytes.now rest n c.loop-rest.invariant.sent c.in_ok-written.ensures.bytes;
+      sent =
+          sent_range (g.W.Sink.taken c.args.sink.now) (g.W.Sink.taken c.loop-rest.sink) (g.W.Sink.taken
+          c.write.new.self) c.args.bytes.now rest n c.loop-rest.invariant.sent c.in_ok-written.ensures.bytes;
     }
 
 pub returns-in_err-written : goal.returns-in_err-written
@@ -23,14 +25,19 @@ returns-in_err-written g c =
     let p = err_from_is_err_and c.from_residual.result c.from_residual.ensures.1 in
     rw p.1 (record {
       ok = tt;
-      err = sent_some (g.W.Sink.taken c.args.sink.now) (g.W.Sink.taken c.loop-rest.sink) (g.W.Sink.taken c.write.new.self) c.args.bytes.now c.loop-rest.rest.now c.loop-rest.invariant.sent c.in_err-written.ensures.bytes;
+      err =
+          sent_some (g.W.Sink.taken c.args.sink.now) (g.W.Sink.taken c.loop-rest.sink)
+          (g.W.Sink.taken c.write.new.self) c.args.bytes.now c.loop-rest.rest.now c.loop-rest.invariant.sent
+          c.in_err-written.ensures.bytes;
       cause = omega (arith, c.in_err-written.ensures.failures, c.loop-rest.invariant.same);
       same = tt;
     })
 
 pub returns : goal.returns
 returns g c = record {
-  ok = sent_all (g.W.Sink.taken c.args.sink.now) (g.W.Sink.taken c.loop-rest.sink) c.args.bytes.now c.loop-rest.rest.now c.loop-rest.invariant.sent (search rules);
+  ok =
+      sent_all (g.W.Sink.taken c.args.sink.now) (g.W.Sink.taken c.loop-rest.sink) c.args.bytes.now
+      c.loop-rest.rest.now c.loop-rest.invariant.sent (search rules);
   err = tt;
   cause = tt;
   same = c.loop-rest.invariant.same;

@@ -4,7 +4,9 @@ use Rattle.lgm_script.proofs.field.value.Goals as goal
 
 pub returns-in_err-value : goal.returns-in_err-value
 returns-in_err-value c =
-    let none = value_at-drop c.loop-byte.value c.loop-byte.byte-index c.args.digits.now c.loop-byte-test.true (sym c.further.ensures ∙ c.in_err-value.was) in
+    let none =
+    value_at-drop c.loop-byte.value c.loop-byte.byte-index c.args.digits.now c.loop-byte-test.true
+    (sym c.further.ensures ∙ c.in_err-value.was) in
     c.from_residual.ensures ∙ sym (c.loop-byte.invariant.goes_on ∙ none)
 
 pub returns : goal.returns

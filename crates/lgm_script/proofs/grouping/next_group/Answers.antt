@@ -17,7 +17,9 @@ loop-count-init c =
     record {
       within = omega (arith, ap length rest_is, length-drop (c.args.first + 1) bytes);
       rest = cut_off (c.args.first + 1) bytes c.cut.result.1.now rest_is;
-      lines = λ left first. rw texts (first_line_alone bytes line.now c.cut.result.1.now left c.args.first c.requires.within c.cut.ensures.line rest_is first);
+      lines =
+          λ left first. rw texts (first_line_alone bytes line.now c.cut.result.1.now left c.args.first
+          c.requires.within c.cut.ensures.line rest_is first);
       short = rw texts (omega (arith, c.requires.short, ap length c.cut.ensures.line ∙ length-take-le c.args.first bytes c.requires.within), tt);
       each = rw texts (c.kind_of-kind.ensures.asks, tt);
       count = ap length items;
@@ -33,10 +35,14 @@ loop-count-preserved c =
     record {
       within = omega (arith, inv.within, ap length c.in-Some.ensures.rest, length-drop (length line.now + 1) c.loop-count.rest.now);
       rest = cut_again (length line.now + 1) bytes c.loop-count.rest.now c.in-Some.behind.now inv.rest c.in-Some.ensures.rest;
-      lines = λ left first. rw texts (first_lines-push bytes left (map (λ l. l.now) c.loop-count.lines.items) line.now c.loop-count.rest.now c.in-Some.behind.now (inv.lines left first)
+      lines =
+          λ left first. rw texts (first_lines-push bytes left (map (λ l. l.now) c.loop-count.lines.items)
+          line.now c.loop-count.rest.now c.in-Some.behind.now (inv.lines left first)
           c.in-Some.ensures.front (c.in-Some.ensures.line left) c.in-Some.ensures.rest);
       short = rw texts (each-push (λ l. length l ≤ 140000) _ line.now inv.short c.in-Some.ensures.short);
-      each = rw texts (each-push (λ l. IsOfKind c.kind_of-kind.result (request_of l)) _ line.now inv.each (subst (λ k. IsOfKind k (request_of line.now)) c.in-Some.ensures.kind (request_is_of_kind line.now)));
+      each =
+          rw texts (each-push (λ l. IsOfKind c.kind_of-kind.result (request_of l)) _ line.now inv.each (subst
+          (λ k. IsOfKind k (request_of line.now)) c.in-Some.ensures.kind (request_is_of_kind line.now)));
       count = ap length c.in_ok-push-2.ensures.items ∙ length_push c.loop-count.lines.items line ∙ omega (arith, inv.count);
     }
 
@@ -44,7 +50,9 @@ pub overflow_sub-len : goal.overflow_sub-len
 overflow_sub-len c = c.loop-count.invariant.within
 
 pub returns-clause-lines : goal.returns-clause-lines
-returns-clause-lines c = λ left first. subst (AreFirstLines c.args.buffered.now left (map (λ l. l.now) c.loop-count.lines.items)) c.loop-count.invariant.rest (c.loop-count.invariant.lines left first)
+returns-clause-lines c =
+    λ left first. subst (AreFirstLines c.args.buffered.now left (map (λ l. l.now) c.loop-count.lines.items))
+    c.loop-count.invariant.rest (c.loop-count.invariant.lines left first)
 
 pub returns-clause-short : goal.returns-clause-short
 returns-clause-short c = c.loop-count.invariant.short
@@ -57,7 +65,16 @@ returns-clause-alike c =
     record {
       some = omega (arith, count, length_is, c.loop-count.auto._count);
       each = c.loop-count.invariant.each;
-      alone = λ other. let one = c.most_of.ensures.alone other in omega (arith, one, count, length_is, most, c.loop-count.auto._count, c.loop-count.auto._count-end (omega (arith, most, one, c.requires.most)));
+      alone =
+          λ other. let one = c.most_of.ensures.alone other in omega (
+            arith,
+            one,
+            count,
+            length_is,
+            most,
+            c.loop-count.auto._count,
+            c.loop-count.auto._count-end (omega (arith, most, one, c.requires.most)),
+          );
     }
 
 pub returns-clause-few : goal.returns-clause-few

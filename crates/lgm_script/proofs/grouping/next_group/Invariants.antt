@@ -10,7 +10,8 @@ abbrev pub invariant-loop-count : goal.invariant-loop-count
 invariant-loop-count l = record {
   within : length l.rest ≤ length l.buffered;
   rest : l.rest ≡ drop (length l.buffered - length l.rest) l.buffered;
-  lines : (left : Option (List ℕ)) → IsFirstLine l.buffered left l.first → AreFirstLines l.buffered left (map (λ line. line.now) l.lines.items) l.rest;
+  lines : (left : Option (List ℕ)) → IsFirstLine l.buffered left l.first
+      → AreFirstLines l.buffered left (map (λ line. line.now) l.lines.items) l.rest;
   short : AllByRecursion (λ line. length line ≤ 140000) (map (λ line. line.now) l.lines.items);
   each : AllByRecursion (λ line. IsOfKind l.kind (request_of line)) (map (λ line. line.now) l.lines.items);
   count : length l.lines.items ≡ l._count;

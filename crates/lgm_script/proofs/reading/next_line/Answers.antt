@@ -30,12 +30,14 @@ returns-then-searched-gt-MAX_LINE-clause-too_long g c = λ e.
 pub returns-in_err-read_on-clause-told : goal.returns-in_err-read_on-clause-told
 returns-in_err-read_on-clause-told g c = λ other.
     let p = err_from_is_err_and c.from_residual.result c.from_residual.ensures.1 in
-    tells_both _ _ _ [] [] c.loop-count.invariant.told (c.in_err-read_on.ensures.told (λ e. other (p.1 ∙ ap (λ (f : LineFault). Err f) (p.2 ∙ failed_is {T = Bool} c.in_err-read_on.field-0.0 Write e))))
+    tells_both _ _ _ [] [] c.loop-count.invariant.told (c.in_err-read_on.ensures.told (λ e. other (p.1
+    ∙ ap (λ (f : LineFault). Err f) (p.2 ∙ failed_is {T = Bool} c.in_err-read_on.field-0.0 Write e))))
 
 pub returns-in_err-read_on-clause-write : goal.returns-in_err-read_on-clause-write
 returns-in_err-read_on-clause-write g c = λ e.
     let p = err_from_is_err_and c.from_residual.result c.from_residual.ensures.1 in
-    let same : failed {T = Bool} c.in_err-read_on.field-0.0 ≡ failed Write = ap (λ (f : LineFault). Err f) (sym p.2 ∙ failed_is p.0 Write (sym p.1 ∙ e)) in
+    let same : failed {T = Bool} c.in_err-read_on.field-0.0 ≡ failed Write =
+    ap (λ (f : LineFault). Err f) (sym p.2 ∙ failed_is p.0 Write (sym p.1 ∙ e)) in
     tells_part_behind _ _ _ [] [] SendWrite c.loop-count.invariant.told (c.in_err-read_on.ensures.write same)
 
 pub returns-then-searched-gt0-clause-told : goal.returns-then-searched-gt0-clause-told
@@ -55,7 +57,9 @@ loop-count-preserved g c =
       writer = c.in_ok-read_on.ensures.writer ∙ c.loop-count.invariant.writer;
       kept = c.in_ok-read_on.ensures.kept ∙ c.loop-count.invariant.kept;
       within = let grown = c.in_ok-read_on.ensures.more (ap (λ (b : Bool). Ok b) c.if-not-branch.false) in omega (arith, size);
-      one = rw size (All-same EndsNoLine (take (length lines) c.read_on.new.lines) lines c.in_ok-read_on.ensures.front (rw c.buffered.ensures at c.in_default.ensures.none));
+      one =
+          rw size (All-same EndsNoLine (take (length lines) c.read_on.new.lines) lines
+          c.in_ok-read_on.ensures.front (rw c.buffered.ensures at c.in_default.ensures.none));
       told = tells_both _ _ _ [] [] c.loop-count.invariant.told (c.in_ok-read_on.ensures.told (λ e. cc));
       well = c.in_ok-read_on.ensures.well (λ e. cc) ∙ c.loop-count.invariant.well;
     }

@@ -13,42 +13,69 @@ use Rattle.lgm_server.proofs.answering.answer.Goals as goal
 pub answer_items-requires-clause-items : goal.answer_items-requires-clause-items
 answer_items-requires-clause-items g c = λ κs bounded.
     subst (λ lines. AllByRecursion (IsOfKind Item) (asked_in lines)) (sym c.as_slice-lines.ensures.value)
-    (kinds_of Item c.args.group.now.lines.items (subst (λ kind. AllByRecursion (λ line. IsOfKind kind (request_of line)) (map (λ line. line.now) c.args.group.now.lines.items)) c.in-Item.is c.requires.alike.each))
+    (kinds_of Item c.args.group.now.lines.items
+    (subst (λ kind. AllByRecursion (λ line. IsOfKind kind (request_of line))
+    (map (λ line. line.now) c.args.group.now.lines.items)) c.in-Item.is c.requires.alike.each))
 
 pub answer_questions-requires-clause-questions : goal.answer_questions-requires-clause-questions
 answer_questions-requires-clause-questions g c = λ κs bounded.
     subst (λ lines. AllByRecursion (IsOfKind Question) (asked_in lines)) (sym c.as_slice-lines.ensures.value)
-    (kinds_of Question c.args.group.now.lines.items (subst (λ kind. AllByRecursion (λ line. IsOfKind kind (request_of line)) (map (λ line. line.now) c.args.group.now.lines.items)) c.in-Question.is c.requires.alike.each))
+    (kinds_of Question c.args.group.now.lines.items
+    (subst (λ kind. AllByRecursion (λ line. IsOfKind kind (request_of line))
+    (map (λ line. line.now) c.args.group.now.lines.items)) c.in-Question.is c.requires.alike.each))
 
 pub returns-in-Other-clause-state : goal.returns-in-Other-clause-state
 returns-in-Other-clause-state g c =
     let items = c.args.group.now.lines.items in
     let lines = c.as_slice-lines.result.now in
     let first = (get_or lines 0 (record { ref_ptr = (0, 0); now = [] })).now in
-    let one : length lines ≡ 1 = ap length c.as_slice-lines.ensures.value ∙ sym (length-map items (λ line. line.now)) ∙ c.requires.alike.alone c.in-Other.is in
-    let asked : asked_in items ≡ request_of first ∷ [] = ap asked_in (sym c.as_slice-lines.ensures.value) ∙ asked_alone lines (record { ref_ptr = (0, 0); now = [] }) one in
-    let each = kinds_of Other items (subst (λ kind. AllByRecursion (λ line. IsOfKind kind (request_of line)) (map (λ line. line.now) items)) c.in-Other.is c.requires.alike.each) in
+    let one : length lines ≡ 1 =
+    ap length c.as_slice-lines.ensures.value ∙ sym (length-map items (λ line. line.now))
+    ∙ c.requires.alike.alone c.in-Other.is in
+    let asked : asked_in items ≡ request_of first ∷ [] =
+    ap asked_in (sym c.as_slice-lines.ensures.value)
+    ∙ asked_alone lines (record { ref_ptr = (0, 0); now = [] }) one in
+    let each =
+    kinds_of Other items (subst (λ kind. AllByRecursion (λ line. IsOfKind kind (request_of line))
+    (map (λ line. line.now) items)) c.in-Other.is c.requires.alike.each) in
     let kind = subst (AllByRecursion (IsOfKind Other)) asked each in
-    other_leaves c.answer_alone.result c.args.context.now.chain c.args.first c.args.engine.now (request_of first) (asked_in items) asked kind.0 c.answer_alone.new.engine c.answer_alone.ensures.state
+    other_leaves c.answer_alone.result c.args.context.now.chain c.args.first c.args.engine.now (request_of
+    first) (asked_in items) asked kind.0 c.answer_alone.new.engine c.answer_alone.ensures.state
 
 pub returns-in-Other-clause-told : goal.returns-in-Other-clause-told
 returns-in-Other-clause-told g c =
     let items = c.args.group.now.lines.items in
     let lines = c.as_slice-lines.result.now in
     let first = (get_or lines 0 (record { ref_ptr = (0, 0); now = [] })).now in
-    let one : length lines ≡ 1 = ap length c.as_slice-lines.ensures.value ∙ sym (length-map items (λ line. line.now)) ∙ c.requires.alike.alone c.in-Other.is in
-    let asked : asked_in items ≡ request_of first ∷ [] = ap asked_in (sym c.as_slice-lines.ensures.value) ∙ asked_alone lines (record { ref_ptr = (0, 0); now = [] }) one in
-    let each = kinds_of Other items (subst (λ kind. AllByRecursion (λ line. IsOfKind kind (request_of line)) (map (λ line. line.now) items)) c.in-Other.is c.requires.alike.each) in
+    let one : length lines ≡ 1 =
+    ap length c.as_slice-lines.ensures.value ∙ sym (length-map items (λ line. line.now))
+    ∙ c.requires.alike.alone c.in-Other.is in
+    let asked : asked_in items ≡ request_of first ∷ [] =
+    ap asked_in (sym c.as_slice-lines.ensures.value)
+    ∙ asked_alone lines (record { ref_ptr = (0, 0); now = [] }) one in
+    let each =
+    kinds_of Other items (subst (λ kind. AllByRecursion (λ line. IsOfKind kind (request_of line))
+    (map (λ line. line.now) items)) c.in-Other.is c.requires.alike.each) in
     let kind = subst (AllByRecursion (IsOfKind Other)) asked each in
-    other_is_told c.answer_alone.result c.args.context.now.chain c.args.first c.args.engine.now (request_of first) (asked_in items) asked kind.0 (Sends g.W.Sink.taken g.W.Sink.failures c.args.output.now c.answer_alone.new.output) c.answer_alone.ensures.told
+    other_is_told c.answer_alone.result c.args.context.now.chain c.args.first c.args.engine.now
+    (request_of first) (asked_in items) asked kind.0 (Sends g.W.Sink.taken g.W.Sink.failures
+    c.args.output.now c.answer_alone.new.output) c.answer_alone.ensures.told
 
 pub returns-in-Other-clause-fault : goal.returns-in-Other-clause-fault
 returns-in-Other-clause-fault g c =
     let items = c.args.group.now.lines.items in
     let lines = c.as_slice-lines.result.now in
     let first = (get_or lines 0 (record { ref_ptr = (0, 0); now = [] })).now in
-    let one : length lines ≡ 1 = ap length c.as_slice-lines.ensures.value ∙ sym (length-map items (λ line. line.now)) ∙ c.requires.alike.alone c.in-Other.is in
-    let asked : asked_in items ≡ request_of first ∷ [] = ap asked_in (sym c.as_slice-lines.ensures.value) ∙ asked_alone lines (record { ref_ptr = (0, 0); now = [] }) one in
-    let each = kinds_of Other items (subst (λ kind. AllByRecursion (λ line. IsOfKind kind (request_of line)) (map (λ line. line.now) items)) c.in-Other.is c.requires.alike.each) in
+    let one : length lines ≡ 1 =
+    ap length c.as_slice-lines.ensures.value ∙ sym (length-map items (λ line. line.now))
+    ∙ c.requires.alike.alone c.in-Other.is in
+    let asked : asked_in items ≡ request_of first ∷ [] =
+    ap asked_in (sym c.as_slice-lines.ensures.value)
+    ∙ asked_alone lines (record { ref_ptr = (0, 0); now = [] }) one in
+    let each =
+    kinds_of Other items (subst (λ kind. AllByRecursion (λ line. IsOfKind kind (request_of line))
+    (map (λ line. line.now) items)) c.in-Other.is c.requires.alike.each) in
     let kind = subst (AllByRecursion (IsOfKind Other)) asked each in
-    other_begins c.answer_alone.result c.args.context.now.chain c.args.first c.args.engine.now (request_of first) (asked_in items) asked kind.0 (SendsPart g.W.Sink.taken g.W.Sink.failures c.args.output.now c.answer_alone.new.output) c.answer_alone.ensures.fault
+    other_begins c.answer_alone.result c.args.context.now.chain c.args.first c.args.engine.now
+    (request_of first) (asked_in items) asked kind.0 (SendsPart g.W.Sink.taken g.W.Sink.failures
+    c.args.output.now c.answer_alone.new.output) c.answer_alone.ensures.fault

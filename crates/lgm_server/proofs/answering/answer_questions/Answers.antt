@@ -19,15 +19,18 @@ returns-in_err-answer-clause-fault g c =
 
 pub returns-clause-state : goal.returns-clause-state
 returns-clause-state g c =
-    subst (λ s. OnOk c.answer_questions.result (c.answer_questions.new.self ≡ s)) (questions_leave c.args.context.now.chain c.args.engine.now (asked_in c.args.lines.now) c.requires.questions)
+    subst (λ s. OnOk c.answer_questions.result (c.answer_questions.new.self ≡ s)) (questions_leave
+    c.args.context.now.chain c.args.engine.now (asked_in c.args.lines.now) c.requires.questions)
     c.answer_questions.ensures.state
 
 pub returns-clause-told : goal.returns-clause-told
 returns-clause-told g c =
     subst (λ t. OnOk c.answer_questions.result (Sends g.W.Sink.taken g.W.Sink.failures c.args.output.now c.answer_questions.new.output t))
-    (questions_are_told c.args.context.now.chain c.args.first c.args.engine.now (asked_in c.args.lines.now) c.requires.questions) c.answer_questions.ensures.told
+    (questions_are_told c.args.context.now.chain c.args.first c.args.engine.now (asked_in c.args.lines.now)
+    c.requires.questions) c.answer_questions.ensures.told
 
 pub returns-clause-fault : goal.returns-clause-fault
 returns-clause-fault g c =
     subst (λ t. IfErr c.answer_questions.result (SendsPart g.W.Sink.taken g.W.Sink.failures c.args.output.now c.answer_questions.new.output t))
-    (questions_are_told c.args.context.now.chain c.args.first c.args.engine.now (asked_in c.args.lines.now) c.requires.questions) c.answer_questions.ensures.fault
+    (questions_are_told c.args.context.now.chain c.args.first c.args.engine.now (asked_in c.args.lines.now)
+    c.requires.questions) c.answer_questions.ensures.fault

@@ -8,5 +8,7 @@ use Rattle.lgm_server.proofs.checking.check_lines.Goals as goal
 
 pub returns : goal.returns
 returns g c =
-    zip_of_ok (λ line. request_of line.now) (λ request offered. IfOk offered (λ o. o ≡ offered_in c.args.context.now.chain request)) c.args.lines.now c.map.result
-    (zip_weaker_ok _ (λ line offered. IfOk offered (λ o. o ≡ offered_in c.args.context.now.chain (request_of line.now))) (λ x y h. search rules) c.args.lines.now c.map.result c.map.ensures)
+    zip_of_ok (λ line. request_of line.now) (λ request offered.
+    IfOk offered (λ o. o ≡ offered_in c.args.context.now.chain request)) c.args.lines.now c.map.result
+    (zip_weaker_ok _ (λ line offered. IfOk offered (λ o. o ≡ offered_in c.args.context.now.chain
+    (request_of line.now))) (λ x y h. search rules) c.args.lines.now c.map.result c.map.ensures)

@@ -8,5 +8,9 @@ use Rattle.lgm_server.proofs.questions.decide_all.Goals as goal
 
 pub returns : goal.returns
 returns g c =
-    zip_of_ok (λ line. request_of line.now) (λ request answer. IfOk answer (IsAnswerTo c.args.context.now.chain c.args.chart.now.known c.args.committed.now request)) c.args.lines.now c.map.result
-    (zip_weaker_ok _ (λ line answer. IfOk answer (IsAnswerTo c.args.context.now.chain c.args.chart.now.known c.args.committed.now (request_of line.now))) (λ x y h. search rules) c.args.lines.now c.map.result c.map.ensures)
+    zip_of_ok (λ line. request_of line.now) (λ request answer.
+    IfOk answer (IsAnswerTo c.args.context.now.chain c.args.chart.now.known c.args.committed.now request))
+    c.args.lines.now c.map.result
+    (zip_weaker_ok _ (λ line answer. IfOk answer (IsAnswerTo c.args.context.now.chain c.args.chart.now.known
+    c.args.committed.now (request_of line.now))) (λ x y h. search rules) c.args.lines.now c.map.result
+    c.map.ensures)

@@ -9,11 +9,14 @@ use Rattle.lgm_server.proofs.route_sending.send_hops.Goals as goal
 
 pub loop-place-preserved : goal.loop-place-preserved
 loop-place-preserved g c =
-    let line : Sends g.W.Sink.taken g.W.Sink.failures c.loop-place.output c.send_hop.new.self (hop_line c.args.number c.index-hops-place.result.scid c.as_slice.result.now) = rw c.index-hops-place.is c.in_ok-send_hop.ensures.told in
+    let line : Sends g.W.Sink.taken g.W.Sink.failures c.loop-place.output c.send_hop.new.self
+    (hop_line c.args.number c.index-hops-place.result.scid c.as_slice.result.now) =
+    rw c.index-hops-place.is c.in_ok-send_hop.ensures.told in
     record {
       writer = c.in_ok-send_hop.ensures.writer ∙ c.loop-place.invariant.writer;
       told = onward_more _ _ _ _ _ _ _ c.loop-place.invariant.told
-          (hop_there c.args.number c.loop-place.place c.args.route.now c.args.payloads.now c.index-hops-place.result c.index-payloads-place.result c.as_slice.result.now
+          (hop_there c.args.number c.loop-place.place c.args.route.now c.args.payloads.now
+          c.index-hops-place.result c.index-payloads-place.result c.as_slice.result.now
           (search rules) (search rules) (search rules) (search rules) c.as_slice.ensures)
           line;
     }
@@ -21,10 +24,12 @@ loop-place-preserved g c =
 pub returns-in_err-send_hop-clause-fault : goal.returns-in_err-send_hop-clause-fault
 returns-in_err-send_hop-clause-fault g c =
     let p = err_from_is_err_and c.from_residual.result c.from_residual.ensures.1 in
-    let line : SendsPart g.W.Sink.taken g.W.Sink.failures c.loop-place.output c.send_hop.new.self (hop_line c.args.number c.index-hops-place.result.scid c.as_slice.result.now) c.in_err-send_hop.field-0.0 =
+    let line : SendsPart g.W.Sink.taken g.W.Sink.failures c.loop-place.output c.send_hop.new.self (hop_line
+    c.args.number c.index-hops-place.result.scid c.as_slice.result.now) c.in_err-send_hop.field-0.0 =
     rw c.index-hops-place.is c.in_err-send_hop.ensures.fault in
     rw (p.1, p.2) (onward_stops _ _ _ _ _ _ _ _ c.loop-place.invariant.told
-    (hop_there c.args.number c.loop-place.place c.args.route.now c.args.payloads.now c.index-hops-place.result c.index-payloads-place.result c.as_slice.result.now
+    (hop_there c.args.number c.loop-place.place c.args.route.now c.args.payloads.now c.index-hops-place.result
+    c.index-payloads-place.result c.as_slice.result.now
     (search rules) (search rules) (search rules) (search rules) c.as_slice.ensures)
     line)
 

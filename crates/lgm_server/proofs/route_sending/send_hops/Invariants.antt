@@ -9,5 +9,6 @@ use Rattle.lgm_server.proofs.route_sending.send_hops.Given as goal
 abbrev pub invariant-loop-place : goal.invariant-loop-place
 invariant-loop-place g l = record {
   writer : l.output.writer.ghost_name ≡ l.fn.output.writer.ghost_name;
-  told : Onward (seen g.W.Sink.taken g.W.Sink.failures l.fn.output) (seen g.W.Sink.taken g.W.Sink.failures l.output) (hops_text l.number l.route l.fn.payloads) (hops_from l.number l.route l.fn.payloads l.place);
+  told : Onward (seen g.W.Sink.taken g.W.Sink.failures l.fn.output) (seen g.W.Sink.taken g.W.Sink.failures
+      l.output) (hops_text l.number l.route l.fn.payloads) (hops_from l.number l.route l.fn.payloads l.place);
 }

@@ -10,20 +10,23 @@ pub returns-in_err-send_route-clause-fault : goal.returns-in_err-send_route-clau
 returns-in_err-send_route-clause-fault g c =
     let p = err_from_is_err_and c.from_residual.result c.from_residual.ensures.1 in
     let hops = c.args.route.now in
-    let line : SendsPart g.W.Sink.taken g.W.Sink.failures c.args.output.now c.send_route.new.self (route_line c.args.number (sent hops) (expiry hops) (length hops)) c.in_err-send_route.field-0.0 =
+    let line : SendsPart g.W.Sink.taken g.W.Sink.failures c.args.output.now c.send_route.new.self
+    (route_line c.args.number (sent hops) (expiry hops) (length hops)) c.in_err-send_route.field-0.0 =
     rw (← c.sent.ensures, ← c.expiry.ensures, ← c.as_slice.ensures.hops) c.in_err-send_route.ensures.fault in
     rw (p.1, p.2) (tells_part_more _ _ _ _ _ line)
 
 pub returns-clause-told : goal.returns-clause-told
 returns-clause-told g c =
     let hops = c.args.route.now in
-    let line : Sends g.W.Sink.taken g.W.Sink.failures c.args.output.now c.send_route.new.self (route_line c.args.number (sent hops) (expiry hops) (length hops)) =
+    let line : Sends g.W.Sink.taken g.W.Sink.failures c.args.output.now c.send_route.new.self
+    (route_line c.args.number (sent hops) (expiry hops) (length hops)) =
     rw (← c.sent.ensures, ← c.expiry.ensures, ← c.as_slice.ensures.hops) c.in_ok-send_route.ensures.told in
     told_behind c.send_hops.result _ _ _ _ _ line c.send_hops.ensures.told
 
 pub returns-clause-fault : goal.returns-clause-fault
 returns-clause-fault g c =
     let hops = c.args.route.now in
-    let line : Sends g.W.Sink.taken g.W.Sink.failures c.args.output.now c.send_route.new.self (route_line c.args.number (sent hops) (expiry hops) (length hops)) =
+    let line : Sends g.W.Sink.taken g.W.Sink.failures c.args.output.now c.send_route.new.self
+    (route_line c.args.number (sent hops) (expiry hops) (length hops)) =
     rw (← c.sent.ensures, ← c.expiry.ensures, ← c.as_slice.ensures.hops) c.in_ok-send_route.ensures.told in
     fault_behind c.send_hops.result _ _ _ _ _ line c.send_hops.ensures.fault

@@ -10,7 +10,8 @@ use Rattle.lgm_server.proofs.running.answer_all.Goals as goal
 pub returns-in_err-made-clause-runs : goal.returns-in_err-made-clause-runs
 returns-in_err-made-clause-runs g c =
     let p = err_from_is_err_and c.from_residual-in_err-made.result c.from_residual-in_err-made.ensures.1 in
-    rw (p.1, p.2) (nothing_ran g.R.Source.left g.R.Source.failures g.W.Sink.taken g.W.Sink.failures c.args.context.now.chain c.args.known.now c.args.source.now c.args.output.now.writer.now)
+    rw (p.1, p.2) (nothing_ran g.R.Source.left g.R.Source.failures g.W.Sink.taken g.W.Sink.failures
+    c.args.context.now.chain c.args.known.now c.args.source.now c.args.output.now.writer.now)
 
 pub returns-clause-runs : goal.returns-clause-runs
 returns-clause-runs g c =

@@ -17,7 +17,9 @@ loop-number-init g c = rw (c.requires.engine, c.requires.lines) (record {
   writer = refl;
   within = omega arith;
   few = omega arith;
-  so_far = starts c.args.context.now.chain c.args.engine.now.known (g.R.Source.left c.args.source.now) (seen g.W.Sink.taken g.W.Sink.failures c.args.output.now);
+  so_far =
+      starts c.args.context.now.chain c.args.engine.now.known (g.R.Source.left c.args.source.now)
+      (seen g.W.Sink.taken g.W.Sink.failures c.args.output.now);
 })
 
 pub returns-in_err-count-clause-too_long : goal.returns-in_err-count-clause-too_long
@@ -43,9 +45,12 @@ pub returns-in_err-count-clause-some : goal.returns-in_err-count-clause-some
 returns-in_err-count-clause-some g c =
     let mid = seen g.W.Sink.taken g.W.Sink.failures c.loop-number.output in
     let new = seen g.W.Sink.taken g.W.Sink.failures c.next_line.new.output in
-    (cut c.args.context.now.chain c.args.engine.now.known (g.R.Source.left c.args.source.now) c.loop-number.number c.loop-number.engine c.next_line.new.lines (g.R.Source.left c.next_line.new.source)
+    (cut c.args.context.now.chain c.args.engine.now.known (g.R.Source.left c.args.source.now)
+    c.loop-number.number c.loop-number.engine c.next_line.new.lines
+    (g.R.Source.left c.next_line.new.source)
     (ahead c.loop-number.lines (g.R.Source.left c.loop-number.source)) (seen g.W.Sink.taken g.W.Sink.failures c.args.output.now) mid new
-    c.loop-number.invariant.so_far c.loop-number.invariant.within c.in_err-count.ensures.kept (line_some {T = Option ℕ} c.in_err-count.field-0.0 mid new c.in_err-count.ensures.told c.in_err-count.ensures.write))
+    c.loop-number.invariant.so_far c.loop-number.invariant.within c.in_err-count.ensures.kept (line_some {T =
+    Option ℕ} c.in_err-count.field-0.0 mid new c.in_err-count.ensures.told c.in_err-count.ensures.write))
 
 pub returns-in_default-clause-ok : goal.returns-in_default-clause-ok
 returns-in_default-clause-ok g c =
@@ -79,7 +84,13 @@ returns-in_err-some-clause-some g c =
     cut_in chain known script k (10000000 - k) c.in-Some.count state c.next_line.new.lines (g.R.Source.left c.next_line.new.source) input old own new
     (told_on chain known script k state input old mid own c.loop-number.invariant.so_far (c.in_ok-count.ensures.told (λ e. absurd cc)))
     (omega (arith, c.loop-number-test.true)) c.in_ok-count.ensures.kept first
-    (record { lines = begun.lines; len = begun.len; next = begun.next; limit = begun.limit; text = some_of_part own new _ c.in_err-some.field-0.0 begun.text })
+    (record {
+      lines = begun.lines;
+      len = begun.len;
+      next = begun.next;
+      limit = begun.limit;
+      text = some_of_part own new _ c.in_err-some.field-0.0 begun.text;
+    })
 
 pub loop-number-preserved : goal.loop-number-preserved
 loop-number-preserved g c =
@@ -105,8 +116,17 @@ loop-number-preserved g c =
       writer = let text = answers.text in text.well ∙ told.well ∙ c.loop-number.invariant.writer;
       within = omega (arith, c.in_ok-some.ensures.few, c.loop-number.invariant.within);
       few = let count_is = ap (λ s. s.accepted) answers.state_is in
-          omega (arith, count_is, accepted_from-le chain state asked, length-map answers.lines request_of, answers.count_is, c.loop-number.invariant.few);
-      so_far = rw c.drop_front.ensures (step chain known script k c.in-Some.count c.in_ok-some.some c.in_ok-some.len state c.answer_next.new.engine buffered left input old own new
+          omega (
+            arith,
+            count_is,
+            accepted_from-le chain state asked,
+            length-map answers.lines request_of,
+            answers.count_is,
+            c.loop-number.invariant.few,
+          );
+      so_far =
+          rw c.drop_front.ensures (step chain known script k c.in-Some.count c.in_ok-some.some
+          c.in_ok-some.len state c.answer_next.new.engine buffered left input old own new
           (told_on chain known script k state input old mid own c.loop-number.invariant.so_far told) c.in_ok-count.ensures.kept first answers);
     }
 
@@ -114,9 +134,13 @@ pub returns-in_err-more_begins-clause-some : goal.returns-in_err-more_begins-cla
 returns-in_err-more_begins-clause-some g c =
     let mid = seen g.W.Sink.taken g.W.Sink.failures c.loop-number.output in
     let new = seen g.W.Sink.taken g.W.Sink.failures c.more_begins.new.output in
-    (cut c.args.context.now.chain c.args.engine.now.known (g.R.Source.left c.args.source.now) c.loop-number.number c.loop-number.engine c.more_begins.new.lines (g.R.Source.left c.more_begins.new.source)
+    (cut c.args.context.now.chain c.args.engine.now.known (g.R.Source.left c.args.source.now)
+    c.loop-number.number c.loop-number.engine c.more_begins.new.lines
+    (g.R.Source.left c.more_begins.new.source)
     (ahead c.loop-number.lines (g.R.Source.left c.loop-number.source)) (seen g.W.Sink.taken g.W.Sink.failures c.args.output.now) mid new
-    c.loop-number.invariant.so_far c.loop-number.invariant.within c.in_err-more_begins.ensures.kept (line_some {T = Bool} c.in_err-more_begins.field-0.0 mid new c.in_err-more_begins.ensures.told c.in_err-more_begins.ensures.write))
+    c.loop-number.invariant.so_far c.loop-number.invariant.within c.in_err-more_begins.ensures.kept
+    (line_some {T = Bool} c.in_err-more_begins.field-0.0 mid new c.in_err-more_begins.ensures.told
+    c.in_err-more_begins.ensures.write))
 
 pub returns-then-branch-clause-too_many : goal.returns-then-branch-clause-too_many
 returns-then-branch-clause-too_many g c = λ _.
@@ -129,17 +153,23 @@ returns-then-branch-clause-too_many g c = λ _.
     let old = seen g.W.Sink.taken g.W.Sink.failures c.args.output.now in
     let mid = seen g.W.Sink.taken g.W.Sink.failures c.loop-number.output in
     let new = seen g.W.Sink.taken g.W.Sink.failures c.more_begins.new.output in
-    let so_far = told_on chain known script c.loop-number.number state input old mid new c.loop-number.invariant.so_far (c.in_ok-more_begins.ensures.told (λ e. absurd cc)) in
+    let so_far =
+    told_on chain known script c.loop-number.number state input old mid new c.loop-number.invariant.so_far
+    (c.in_ok-more_begins.ensures.told (λ e. absurd cc)) in
     many chain known script state c.more_begins.new.lines (g.R.Source.left c.more_begins.new.source) input old new
-    (subst (λ (k : ℕ). SoFar chain known script k state input old new) full so_far) c.in_ok-more_begins.ensures.kept (c.in_ok-more_begins.ensures.more (search rules))
+    (subst (λ (k : ℕ). SoFar chain known script k state input old new) full so_far)
+    c.in_ok-more_begins.ensures.kept (c.in_ok-more_begins.ensures.more (search rules))
 
 pub returns-then-branch-clause-some : goal.returns-then-branch-clause-some
 returns-then-branch-clause-some g c =
     let mid = seen g.W.Sink.taken g.W.Sink.failures c.loop-number.output in
     let new = seen g.W.Sink.taken g.W.Sink.failures c.more_begins.new.output in
-    cut c.args.context.now.chain c.args.engine.now.known (g.R.Source.left c.args.source.now) c.loop-number.number c.loop-number.engine c.more_begins.new.lines (g.R.Source.left c.more_begins.new.source)
+    cut c.args.context.now.chain c.args.engine.now.known (g.R.Source.left c.args.source.now)
+    c.loop-number.number c.loop-number.engine c.more_begins.new.lines
+    (g.R.Source.left c.more_begins.new.source)
     (ahead c.loop-number.lines (g.R.Source.left c.loop-number.source)) (seen g.W.Sink.taken g.W.Sink.failures c.args.output.now) mid new
-    c.loop-number.invariant.so_far c.loop-number.invariant.within c.in_ok-more_begins.ensures.kept (some_of_all mid new [] (c.in_ok-more_begins.ensures.told (λ e. absurd cc)))
+    c.loop-number.invariant.so_far c.loop-number.invariant.within c.in_ok-more_begins.ensures.kept
+    (some_of_all mid new [] (c.in_ok-more_begins.ensures.told (λ e. absurd cc)))
 
 pub returns-clause-ok : goal.returns-clause-ok
 returns-clause-ok g c =
@@ -152,22 +182,32 @@ returns-clause-ok g c =
     let old = seen g.W.Sink.taken g.W.Sink.failures c.args.output.now in
     let mid = seen g.W.Sink.taken g.W.Sink.failures c.loop-number.output in
     let new = seen g.W.Sink.taken g.W.Sink.failures c.more_begins.new.output in
-    let so_far = told_on chain known script c.loop-number.number state input old mid new c.loop-number.invariant.so_far (c.in_ok-more_begins.ensures.told (λ e. absurd cc)) in
-    rw c.accepted-2.ensures (ends chain known script 10000000 state input (ahead c.more_begins.new.lines (g.R.Source.left c.more_begins.new.source)) old new
-    (subst (λ (k : ℕ). SoFar chain known script k state input old new) full so_far) c.in_ok-more_begins.ensures.kept (c.in_ok-more_begins.ensures.end (search rules)) (omega arith))
+    let so_far =
+    told_on chain known script c.loop-number.number state input old mid new c.loop-number.invariant.so_far
+    (c.in_ok-more_begins.ensures.told (λ e. absurd cc)) in
+    rw c.accepted-2.ensures (ends chain known script 10000000 state input
+    (ahead c.more_begins.new.lines (g.R.Source.left c.more_begins.new.source)) old new
+    (subst (λ (k : ℕ). SoFar chain known script k state input old new) full so_far)
+    c.in_ok-more_begins.ensures.kept (c.in_ok-more_begins.ensures.end (search rules)) (omega arith))
 
 pub returns-in_default-clause-some : goal.returns-in_default-clause-some
 returns-in_default-clause-some g c =
     let mid = seen g.W.Sink.taken g.W.Sink.failures c.loop-number.output in
     let new = seen g.W.Sink.taken g.W.Sink.failures c.next_line.new.output in
-    cut c.args.context.now.chain c.args.engine.now.known (g.R.Source.left c.args.source.now) c.loop-number.number c.loop-number.engine c.next_line.new.lines (g.R.Source.left c.next_line.new.source)
+    cut c.args.context.now.chain c.args.engine.now.known (g.R.Source.left c.args.source.now)
+    c.loop-number.number c.loop-number.engine c.next_line.new.lines
+    (g.R.Source.left c.next_line.new.source)
     (ahead c.loop-number.lines (g.R.Source.left c.loop-number.source)) (seen g.W.Sink.taken g.W.Sink.failures c.args.output.now) mid new
-    c.loop-number.invariant.so_far c.loop-number.invariant.within c.in_ok-count.ensures.kept (some_of_all mid new [] (c.in_ok-count.ensures.told (λ e. absurd cc)))
+    c.loop-number.invariant.so_far c.loop-number.invariant.within c.in_ok-count.ensures.kept
+    (some_of_all mid new [] (c.in_ok-count.ensures.told (λ e. absurd cc)))
 
 pub returns-clause-some : goal.returns-clause-some
 returns-clause-some g c =
     let mid = seen g.W.Sink.taken g.W.Sink.failures c.loop-number.output in
     let new = seen g.W.Sink.taken g.W.Sink.failures c.more_begins.new.output in
-    cut c.args.context.now.chain c.args.engine.now.known (g.R.Source.left c.args.source.now) c.loop-number.number c.loop-number.engine c.more_begins.new.lines (g.R.Source.left c.more_begins.new.source)
+    cut c.args.context.now.chain c.args.engine.now.known (g.R.Source.left c.args.source.now)
+    c.loop-number.number c.loop-number.engine c.more_begins.new.lines
+    (g.R.Source.left c.more_begins.new.source)
     (ahead c.loop-number.lines (g.R.Source.left c.loop-number.source)) (seen g.W.Sink.taken g.W.Sink.failures c.args.output.now) mid new
-    c.loop-number.invariant.so_far c.loop-number.invariant.within c.in_ok-more_begins.ensures.kept (some_of_all mid new [] (c.in_ok-more_begins.ensures.told (λ e. absurd cc)))
+    c.loop-number.invariant.so_far c.loop-number.invariant.within c.in_ok-more_begins.ensures.kept
+    (some_of_all mid new [] (c.in_ok-more_begins.ensures.told (λ e. absurd cc)))

@@ -11,7 +11,9 @@ invariant-loop-number g l = record {
   writer : g.W.Sink.failures l.output.writer.now ≡ g.W.Sink.failures l.fn.output.writer.now;
   within : l.number ≤ 10000000;
   few : l.engine.accepted ≤ l.number;
-  so_far : SoFar l.context.chain l.fn.engine.known (g.R.Source.left l.fn.source) l.number l.engine (ahead l.lines (g.R.Source.left l.source)) (seen g.W.Sink.taken g.W.Sink.failures l.fn.output) (seen g.W.Sink.taken g.W.Sink.failures l.output);
+  so_far : SoFar l.context.chain l.fn.engine.known (g.R.Source.left l.fn.source) l.number l.engine
+      (ahead l.lines (g.R.Source.left l.source)) (seen g.W.Sink.taken g.W.Sink.failures l.fn.output)
+      (seen g.W.Sink.taken g.W.Sink.failures l.output);
 }
 
 abbrev pub decreases-loop-number : goal.decreases-loop-number

@@ -23,7 +23,9 @@ returns-clause-answered g c =
       };
       count_is = omega (arith, c.len.ensures, c.in_ok-group.group.lines.ok.0, length-map items (λ line. line.now));
       state_is = c.in_ok-answer.ensures.state ∙ ap (state_from c.args.context.now.chain c.args.engine.now) asked;
-      text = subst (λ a. Sends g.W.Sink.taken g.W.Sink.failures c.args.output.now c.answer.new.output (text_from c.args.context.now.chain c.args.number c.args.engine.now a)) asked c.in_ok-answer.ensures.told;
+      text =
+          subst (λ a. Sends g.W.Sink.taken g.W.Sink.failures c.args.output.now c.answer.new.output (text_from
+          c.args.context.now.chain c.args.number c.args.engine.now a)) asked c.in_ok-answer.ensures.told;
     }
 
 pub returns-in_err-group-clause-fault : goal.returns-in_err-group-clause-fault
@@ -52,5 +54,8 @@ returns-in_err-answer-clause-fault g c =
         front = rw c.buffered.ensures at c.in_ok-group.ensures.lines;
       };
       limit = omega (arith, c.in_ok-group.ensures.few, length-map items (λ line. line.now));
-      text = subst (λ a. SendsPart g.W.Sink.taken g.W.Sink.failures c.args.output.now c.answer.new.output (text_from c.args.context.now.chain c.args.number c.args.engine.now a) c.in_err-answer.field-0.0) (asked_texts items) c.in_err-answer.ensures.fault;
+      text =
+          subst (λ a. SendsPart g.W.Sink.taken g.W.Sink.failures c.args.output.now c.answer.new.output
+          (text_from c.args.context.now.chain c.args.number c.args.engine.now a) c.in_err-answer.field-0.0)
+          (asked_texts items) c.in_err-answer.ensures.fault;
     })

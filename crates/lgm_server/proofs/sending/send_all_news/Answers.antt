@@ -9,13 +9,19 @@ use Rattle.lgm_server.proofs.sending.send_all_news.Goals as goal
 pub loop-own-init : goal.loop-own-init
 loop-own-init g c =
     let same : values_of c.into_iter-own-iterator.result ≡ c.args.filters.now = search rules in
-    record { writer = refl; told = onward_first _ _ _ (ap (flat_map (news_text c.args.number c.args.differences.now.before c.args.differences.now.after)) (sym same)) }
+    record {
+      writer = refl;
+      told =
+          onward_first _ _ _ (ap (flat_map (news_text c.args.number c.args.differences.now.before
+          c.args.differences.now.after)) (sym same));
+    }
 
 pub loop-own-preserved : goal.loop-own-preserved
 loop-own-preserved g c = record {
   writer = c.in_ok-send_news_to.ensures.writer ∙ c.loop-own.invariant.writer;
   told = onward_more _ _ _ _ _ _ _ c.loop-own.invariant.told
-      (ap (λ rest. flat_map (news_text c.args.number c.args.differences.now.before c.args.differences.now.after) (values_of rest)) c.in-Some.ensures.steps)
+      (ap (λ rest. flat_map (news_text c.args.number c.args.differences.now.before
+      c.args.differences.now.after) (values_of rest)) c.in-Some.ensures.steps)
       c.in_ok-send_news_to.ensures.told;
 }
 
@@ -23,9 +29,12 @@ pub returns-in_err-send_news_to-clause-fault : goal.returns-in_err-send_news_to-
 returns-in_err-send_news_to-clause-fault g c =
     let p = err_from_is_err_and c.from_residual.result c.from_residual.ensures.1 in
     rw (p.1, p.2) (onward_stops _ _ _ _ _ _ _ _ c.loop-own.invariant.told
-    (ap (λ rest. flat_map (news_text c.args.number c.args.differences.now.before c.args.differences.now.after) (values_of rest)) c.in-Some.ensures.steps)
+    (ap (λ rest. flat_map (news_text c.args.number c.args.differences.now.before c.args.differences.now.after)
+    (values_of rest)) c.in-Some.ensures.steps)
     c.in_err-send_news_to.ensures.fault)
 
 pub returns-clause-told : goal.returns-clause-told
 returns-clause-told g c =
-    onward_ends _ _ _ _ c.loop-own.invariant.told (ap (λ rest. flat_map (news_text c.args.number c.args.differences.now.before c.args.differences.now.after) (values_of rest)) c.in-None.ensures.steps.0)
+    onward_ends _ _ _ _ c.loop-own.invariant.told (ap (λ rest. flat_map
+    (news_text c.args.number c.args.differences.now.before c.args.differences.now.after) (values_of rest))
+    c.in-None.ensures.steps.0)

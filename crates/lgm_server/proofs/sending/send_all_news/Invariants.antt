@@ -10,5 +10,7 @@ use Rattle.lgm_server.proofs.sending.send_all_news.Given as goal
 abbrev pub invariant-loop-own : goal.invariant-loop-own
 invariant-loop-own g l = record {
   writer : l.output.writer.ghost_name ≡ l.fn.output.writer.ghost_name;
-  told : Onward (seen g.W.Sink.taken g.W.Sink.failures l.fn.output) (seen g.W.Sink.taken g.W.Sink.failures l.output) (flat_map (news_text l.number l.differences.before l.differences.after) l.filters) (flat_map (news_text l.number l.differences.before l.differences.after) (values_of l.own-iterator));
+  told : Onward (seen g.W.Sink.taken g.W.Sink.failures l.fn.output) (seen g.W.Sink.taken g.W.Sink.failures
+      l.output) (flat_map (news_text l.number l.differences.before l.differences.after) l.filters)
+      (flat_map (news_text l.number l.differences.before l.differences.after) (values_of l.own-iterator));
 }

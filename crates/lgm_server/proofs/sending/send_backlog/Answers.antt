@@ -7,7 +7,12 @@ use Rattle.lgm_server.proofs.sending.send_backlog.Goals as goal
 
 pub loop-message-init : goal.loop-message-init
 loop-message-init g c =
-    record { writer = refl; told = onward_first _ _ _ (ap (flat_map (message_line c.args.number (Some c.args.own.now.peer))) (sym (c.into_iter-message-iterator.ensures.into_iter_gives ∙ c.of-message-items.ensures))) }
+    record {
+      writer = refl;
+      told =
+          onward_first _ _ _ (ap (flat_map (message_line c.args.number (Some c.args.own.now.peer)))
+          (sym (c.into_iter-message-iterator.ensures.into_iter_gives ∙ c.of-message-items.ensures)));
+    }
 
 pub loop-message-preserved : goal.loop-message-preserved
 loop-message-preserved g c = record {
@@ -25,4 +30,6 @@ returns-in_err-send_message-clause-fault g c =
     c.in_err-send_message.ensures.fault)
 
 pub returns-clause-told : goal.returns-clause-told
-returns-clause-told g c = onward_ends _ _ _ _ c.loop-message.invariant.told (ap (flat_map (message_line c.args.number (Some c.args.own.now.peer))) c.in-None.ensures.steps.0)
+returns-clause-told g c =
+    onward_ends _ _ _ _ c.loop-message.invariant.told
+    (ap (flat_map (message_line c.args.number (Some c.args.own.now.peer))) c.in-None.ensures.steps.0)

@@ -10,5 +10,7 @@ use Rattle.lgm_server.proofs.sending.send_backlog.Given as goal
 abbrev pub invariant-loop-message : goal.invariant-loop-message
 invariant-loop-message g l = record {
   writer : l.output.writer.ghost_name ≡ l.fn.output.writer.ghost_name;
-  told : Onward (seen g.W.Sink.taken g.W.Sink.failures l.fn.output) (seen g.W.Sink.taken g.W.Sink.failures l.output) (flat_map (message_line l.number (Some l.own.peer)) (backlog l.map l.own.filter)) (flat_map (message_line l.number (Some l.own.peer)) l.message-iterator);
+  told : Onward (seen g.W.Sink.taken g.W.Sink.failures l.fn.output) (seen g.W.Sink.taken g.W.Sink.failures
+      l.output) (flat_map (message_line l.number (Some l.own.peer)) (backlog l.map l.own.filter))
+      (flat_map (message_line l.number (Some l.own.peer)) l.message-iterator);
 }

@@ -10,5 +10,6 @@ same a b e = grind (arith, nat_tests)
 pub returns-in-Some-get : goal.returns-in-Some-get
 returns-in-Some-get c =
     let here : option_map id_in (slot_at c.args.slots.now.slots c.in-Some.number) ≡ Some c.args.scid =
-    ap (option_map id_in) (sym c.in-Some-get.ensures) ∙ ap (λ (id : ℕ). Some id) (sym c.scid.ensures ∙ same c.scid.result c.args.scid (sym c.eq.ensures ∙ c.if-eq.true)) in
+    ap (option_map id_in) (sym c.in-Some-get.ensures) ∙ ap (λ (id : ℕ). Some id) (sym c.scid.ensures
+    ∙ same c.scid.result c.args.scid (sym c.eq.ensures ∙ c.if-eq.true)) in
     sym (c.requires.listed c.in-Some.number c.args.scid here)

@@ -6,12 +6,17 @@ use Rattle.lgm_wire.proofs.TlvLaws.{goes_on, shrinks, whole_stream, first_fault,
 use Rattle.lgm_wire.proofs.tlv.read_tlvs.Goals as goal
 
 pub loop-rest-smaller : goal.loop-rest-smaller
-loop-rest-smaller c = shrinks c.args.bytes.now (records_of c.loop-rest.items.items) c.loop-rest.rest.now c.loop-rest.last (record_of c.in_ok-tlv.tlv) c.in_ok-tlv.after.now (λ i. omega (arith, c.type_inv.bytes i)) c.loop-rest.invariant c.in_ok-tlv.ensures
+loop-rest-smaller c =
+    shrinks c.args.bytes.now (records_of c.loop-rest.items.items) c.loop-rest.rest.now c.loop-rest.last
+    (record_of c.in_ok-tlv.tlv) c.in_ok-tlv.after.now (λ i. omega (arith, c.type_inv.bytes i))
+    c.loop-rest.invariant c.in_ok-tlv.ensures
 
 pub loop-rest-preserved : goal.loop-rest-preserved
 loop-rest-preserved c =
     let more = map_push record_of c.loop-rest.items.items c.in_ok-tlv.tlv in
-    rw (c.in_ok-push.ensures.items, more) (goes_on c.args.bytes.now (records_of c.loop-rest.items.items) c.loop-rest.rest.now c.loop-rest.last (record_of c.in_ok-tlv.tlv) c.in_ok-tlv.after.now (λ i. omega (arith, c.type_inv.bytes i)) c.loop-rest.invariant c.in_ok-tlv.ensures)
+    rw (c.in_ok-push.ensures.items, more) (goes_on c.args.bytes.now (records_of c.loop-rest.items.items)
+    c.loop-rest.rest.now c.loop-rest.last (record_of c.in_ok-tlv.tlv) c.in_ok-tlv.after.now
+    (λ i. omega (arith, c.type_inv.bytes i)) c.loop-rest.invariant c.in_ok-tlv.ensures)
 
 pub returns : goal.returns
 returns c =
@@ -29,7 +34,9 @@ pub returns-in_err-tlv : goal.returns-in_err-tlv
 returns-in_err-tlv c =
     let p = err_from_is_err_and c.from_residual.result c.from_residual.ensures.1 in
     let fault = c.in_err-tlv.field-0.0 in
-    let first = first_fault c.args.bytes.now (records_of c.loop-rest.items.items) c.loop-rest.rest.now c.loop-rest.last fault c.loop-rest.invariant (search rules) c.in_err-tlv.ensures in
+    let first =
+    first_fault c.args.bytes.now (records_of c.loop-rest.items.items) c.loop-rest.rest.now c.loop-rest.last
+    fault c.loop-rest.invariant (search rules) c.in_err-tlv.ensures in
     let same : c.from_residual.result ≡ Err fault = p.1 ∙ ap (λ e. Err e) p.2 in
     rw same (record {
       found = tt;
@@ -41,5 +48,8 @@ returns-in_err-tlv c =
 
 pub returns-in_err-push-clause-memory : goal.returns-in_err-push-clause-memory
 returns-in_err-push-clause-memory c few =
-    let some = has_two_bytes c.args.bytes.now (records_of c.loop-rest.items.items) c.loop-rest.rest.now c.loop-rest.last (record_of c.in_ok-tlv.tlv) c.in_ok-tlv.after.now (λ i. omega (arith, c.type_inv.bytes i)) c.loop-rest.invariant c.in_ok-tlv.ensures in
+    let some =
+    has_two_bytes c.args.bytes.now (records_of c.loop-rest.items.items) c.loop-rest.rest.now c.loop-rest.last
+    (record_of c.in_ok-tlv.tlv) c.in_ok-tlv.after.now (λ i. omega (arith, c.type_inv.bytes i))
+    c.loop-rest.invariant c.in_ok-tlv.ensures in
     absurd (omega (arith, some, few))

@@ -7,7 +7,12 @@ pub overflow_mul-number : goal.overflow_mul-number
 overflow_mul-number c = omega (arith, room c.loop-byte.number c.loop-byte.byte-index c.loop-byte.invariant.small (omega arith))
 
 pub overflow_add-number : goal.overflow_add-number
-overflow_add-number c = omega (arith, room c.loop-byte.number c.loop-byte.byte-index c.loop-byte.invariant.small (omega arith), c.type_inv.bytes c.loop-byte.byte-index)
+overflow_add-number c =
+    omega (
+      arith,
+      room c.loop-byte.number c.loop-byte.byte-index c.loop-byte.invariant.small (omega arith),
+      c.type_inv.bytes c.loop-byte.byte-index,
+    )
 
 pub loop-byte-preserved : goal.loop-byte-preserved
 loop-byte-preserved c =

@@ -15,7 +15,8 @@ returns-then-is_none-clause-outcome c =
     let candidate = c.in_ok-candidate.candidate in
     checked_offers chain c.args.self.now.rows c.args.bytes.now evidence candidate c.offer_candidate.result
     (subst (λ (bytes : List ℕ). checked_of chain bytes evidence ≡ Ok candidate) c.in_ok-bytes.ensures.ok c.in_ok-candidate.ensures)
-    (subst (λ (rows : Rows). Offers c.offer_candidate.result (admitted rows candidate)) (ap (λ chart. chart.rows) c.self.view_is) c.offer_candidate.ensures.admission)
+    (subst (λ (rows : Rows). Offers c.offer_candidate.result (admitted rows candidate))
+    (ap (λ chart. chart.rows) c.self.view_is) c.offer_candidate.ensures.admission)
 
 pub returns-clause-outcome : goal.returns-clause-outcome
 returns-clause-outcome c =
@@ -25,7 +26,8 @@ returns-clause-outcome c =
     (subst (λ (rows : Rows). Offers (Ok op) (admitted rows checked)) (ap (λ chart. chart.rows) c.self.view_is) c.in_ok-op.ensures)
 
 -- where there is no view there is nothing to be viewed
-viewless : (known : Option (List ℕ)) (rows : Rows) (view : Option Graph) (is_none : Bool) → is_some view ≡ not is_none → is_none ≡ true → IsViewed known rows view
+viewless : (known : Option (List ℕ)) (rows : Rows) (view : Option Graph) (is_none : Bool)
+    → is_some view ≡ not is_none → is_none ≡ true → IsViewed known rows view
 viewless known rows None is_none is so = tt
 viewless known rows (Some view) is_none is so = absurd (true≢false (is ∙ ap not so))
 

@@ -13,4 +13,5 @@ returns-in_default-clause-news c =
     let result = c.frame_backlog.result in
     let none : held.marked ≡ empty = ap (λ h. h.marked) (sym c.self.view_is) ∙ no_mark c.self.inside.mark c.in_default.not-Some in
     let passing = c.of.ensures ∙ ap (λ rows. backlog rows filter) (c.map.ensures ∙ ap (λ h. h.rows) c.self.view_is) in
-    first_news result (λ written. written.items) held.marked held.rows filter none (subst (λ messages. IfOk result (λ written. written.items ≡ all_framed messages)) passing c.frame_backlog.ensures)
+    first_news result (λ written. written.items) held.marked held.rows filter none (subst
+    (λ messages. IfOk result (λ written. written.items ≡ all_framed messages)) passing c.frame_backlog.ensures)

@@ -9,7 +9,8 @@ pub invariant_of-self-2 : goal.invariant_of-self-2
 invariant_of-self-2 c =
     let since = c.self.inside.since.items in
     let op = c.in_ok-op.op in
-    let pushed : c.push_back.new.self.items ≡ since ++ op ∷ [] = c.in-Ok.ensures.items ∙ ap (λ items. items ++ op ∷ []) c.in_ok-reserve.ensures.items in
+    let pushed : c.push_back.new.self.items ≡ since ++ op ∷ [] =
+    c.in-Ok.ensures.items ∙ ap (λ items. items ++ op ∷ []) c.in_ok-reserve.ensures.items in
     let tells = offered_tells c.args.chain.now c.args.chart.now.rows c.args.bytes.now c.args.evidence.now op c.in_ok-op.ensures.outcome in
     record {
       map_tells = c.self.invariant.map_tells;
@@ -22,6 +23,8 @@ returns-clause-beside c =
     let at_mark = fold_from c.self.inside.map c.self.inside.due.items in
     let since = c.self.inside.since.items in
     let op = c.in_ok-op.op in
-    let pushed : c.push_back.new.self.items ≡ since ++ op ∷ [] = c.in-Ok.ensures.items ∙ ap (λ items. items ++ op ∷ []) c.in_ok-reserve.ensures.items in
-    ap (fold_from at_mark) pushed ∙ fold_from-push at_mark since op ∙ ap (λ rows. absorbed rows op) (ap (λ mark. mark.rows) c.self.view_is ∙ c.requires)
+    let pushed : c.push_back.new.self.items ≡ since ++ op ∷ [] =
+    c.in-Ok.ensures.items ∙ ap (λ items. items ++ op ∷ []) c.in_ok-reserve.ensures.items in
+    ap (fold_from at_mark) pushed ∙ fold_from-push at_mark since op
+    ∙ ap (λ rows. absorbed rows op) (ap (λ mark. mark.rows) c.self.view_is ∙ c.requires)
     ∙ sym (ap (λ chart. chart.rows) c.in_ok-op.ensures.accepted)

@@ -26,5 +26,6 @@ returns c =
     (encodes 261 c.join-2.result
     (then_whole 32 c.whole-2.result m.chain_hash.0 c.whole-2.ensures
     (then_ids c.in_ok-ids_len.ids_len c.as_slice.result m.ids c.as_slice.ensures c.in_ok-ids_len.ensures
-    (says_flags (length m.ids) c.from.result c.as_slice-2.result c.in-Some.flags c.as_slice-2.ensures (c.self.invariant c.in-Some.flags c.in-Some.is) (c.from.ensures ∙ c.in_ok-flags_len.ensures))))
+    (says_flags (length m.ids) c.from.result c.as_slice-2.result c.in-Some.flags c.as_slice-2.ensures
+    (c.self.invariant c.in-Some.flags c.in-Some.is) (c.from.ensures ∙ c.in_ok-flags_len.ensures))))
     (record { too_long = c.join-2.ensures.too_long; text = c.join-2.ensures.text; fits = c.join-2.ensures.fits }))

@@ -21,7 +21,16 @@ unfolding ids_query_at
 returns-in_err-flags c =
     let p = err_from_is_err_and c.from_residual-in_err-flags.result c.from_residual-in_err-flags.ensures.1 in
     rw (p.1, p.2) (elim c.in_err-flags.ensures [
-      | inl none ↦ inl (omega (arith, none.0, fixed_len 32 _ _ c.in_ok-chain_hash.ensures, enclosed_len ids_of c.in_ok-chain_hash.rest.now (c.in_ok-ids.ids, c.in_ok-ids.rest.now) c.in_ok-ids.ensures), none.1)
+      | inl none ↦ inl (
+        omega (
+          arith,
+          none.0,
+          fixed_len 32 _ _ c.in_ok-chain_hash.ensures,
+          enclosed_len ids_of c.in_ok-chain_hash.rest.now (c.in_ok-ids.ids, c.in_ok-ids.rest.now)
+              c.in_ok-ids.ensures,
+        ),
+        none.1,
+      )
       | inr fault ↦
           let flags = same_count c.len.result _ c.in_ok-ids.rest.now _ c.len.ensures fault in
           inr (search rules)

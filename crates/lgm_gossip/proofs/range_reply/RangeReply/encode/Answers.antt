@@ -9,7 +9,15 @@ use Rattle.lgm_gossip.proofs.range_reply.RangeReply.encode.Goals as goal
 pub returns-in_default : goal.returns-in_default
 returns-in_default c =
     let m = c.self.inside in
-    let reply : Option (List Timestamps) → Reply = λ pairs. record { chain_hash = m.chain_hash; first_blocknum = m.first_blocknum; number_of_blocks = m.number_of_blocks; sync_complete = m.sync_complete; ids = m.ids; timestamps = pairs } in
+    let reply : Option (List Timestamps) → Reply =
+    λ pairs. record {
+      chain_hash = m.chain_hash;
+      first_blocknum = m.first_blocknum;
+      number_of_blocks = m.number_of_blocks;
+      sync_complete = m.sync_complete;
+      ids = m.ids;
+      timestamps = pairs;
+    } in
     let same : reply None ≡ c.args.self.now = ap reply (sym c.in_default.is) ∙ c.self.view_is in
     subst (λ (q : Reply). Encodes 264 (fields q) c.join.result) same
     (encodes 264 c.join.result
@@ -24,7 +32,15 @@ returns-in_default c =
 pub returns : goal.returns
 returns c =
     let m = c.self.inside in
-    let reply : Option (List Timestamps) → Reply = λ pairs. record { chain_hash = m.chain_hash; first_blocknum = m.first_blocknum; number_of_blocks = m.number_of_blocks; sync_complete = m.sync_complete; ids = m.ids; timestamps = pairs } in
+    let reply : Option (List Timestamps) → Reply =
+    λ pairs. record {
+      chain_hash = m.chain_hash;
+      first_blocknum = m.first_blocknum;
+      number_of_blocks = m.number_of_blocks;
+      sync_complete = m.sync_complete;
+      ids = m.ids;
+      timestamps = pairs;
+    } in
     let same : reply (Some c.in-Some.timestamps) ≡ c.args.self.now = ap reply (sym c.in-Some.is) ∙ c.self.view_is in
     subst (λ (q : Reply). Encodes 264 (fields q) c.join-2.result) same
     (encodes 264 c.join-2.result
@@ -33,5 +49,7 @@ returns c =
     (then_32 m.number_of_blocks
     (then_8 m.sync_complete
     (then_ids c.in_ok-ids_len.ids_len c.as_slice.result m.ids c.as_slice.ensures c.in_ok-ids_len.ensures
-    (says_pairs (length m.ids) c.from.result c.as_slice-2.result c.in-Some.timestamps c.as_slice-2.ensures (c.self.invariant c.in-Some.timestamps c.in-Some.is) (c.from.ensures ∙ c.in_ok-pairs_len.ensures)))))))
+    (says_pairs (length m.ids) c.from.result c.as_slice-2.result c.in-Some.timestamps c.as_slice-2.ensures
+    (c.self.invariant c.in-Some.timestamps c.in-Some.is)
+    (c.from.ensures ∙ c.in_ok-pairs_len.ensures)))))))
     (record { too_long = c.join-2.ensures.too_long; text = c.join-2.ensures.text; fits = c.join-2.ensures.fits }))

@@ -13,7 +13,17 @@ unfolding range_reply_at
 returns-in_err-ids c =
     let p = err_from_is_err_and c.from_residual-in_err-ids.result c.from_residual-in_err-ids.ensures.1 in
     rw (p.1, p.2) (elim c.in_err-ids.ensures [
-      | inl none ↦ inl (omega (arith, none.0, fixed_len 32 _ _ c.in_ok-chain_hash.ensures, number_len w32 _ _ c.in_ok-first_blocknum.ensures, number_len w32 _ _ c.in_ok-number_of_blocks.ensures, number_len w8 _ _ c.in_ok-sync_complete.ensures), none.1)
+      | inl none ↦ inl (
+        omega (
+          arith,
+          none.0,
+          fixed_len 32 _ _ c.in_ok-chain_hash.ensures,
+          number_len w32 _ _ c.in_ok-first_blocknum.ensures,
+          number_len w32 _ _ c.in_ok-number_of_blocks.ensures,
+          number_len w8 _ _ c.in_ok-sync_complete.ensures,
+        ),
+        none.1,
+      )
       | inr fault ↦ inr (search rules)
     ])
 
@@ -22,7 +32,19 @@ unfolding range_reply_at
 returns-in_err-timestamps c =
     let p = err_from_is_err_and c.from_residual-in_err-timestamps.result c.from_residual-in_err-timestamps.ensures.1 in
     rw (p.1, p.2) (elim c.in_err-timestamps.ensures [
-      | inl none ↦ inl (omega (arith, none.0, fixed_len 32 _ _ c.in_ok-chain_hash.ensures, number_len w32 _ _ c.in_ok-first_blocknum.ensures, number_len w32 _ _ c.in_ok-number_of_blocks.ensures, number_len w8 _ _ c.in_ok-sync_complete.ensures, enclosed_len ids_of c.in_ok-sync_complete.rest.now (c.in_ok-ids.ids, c.in_ok-ids.rest.now) c.in_ok-ids.ensures), none.1)
+      | inl none ↦ inl (
+        omega (
+          arith,
+          none.0,
+          fixed_len 32 _ _ c.in_ok-chain_hash.ensures,
+          number_len w32 _ _ c.in_ok-first_blocknum.ensures,
+          number_len w32 _ _ c.in_ok-number_of_blocks.ensures,
+          number_len w8 _ _ c.in_ok-sync_complete.ensures,
+          enclosed_len ids_of c.in_ok-sync_complete.rest.now (c.in_ok-ids.ids, c.in_ok-ids.rest.now)
+              c.in_ok-ids.ensures,
+        ),
+        none.1,
+      )
       | inr fault ↦
           let timestamps = same_count c.len.result _ c.in_ok-ids.rest.now _ c.len.ensures fault in
           inr (search rules)

@@ -4,4 +4,6 @@ use Rattle.lgm_graph.specs.inner.Sound.{is_not_of}
 use Rattle.lgm_graph.proofs.nodes.Links.drop_channel.Goals as goal
 
 pub returns : goal.returns
-returns c = filter_same _ (is_not_of c.args.scid) _ (λ x b f' k. search rules) c.args.self.now.links.items c.retain.new.self.items c.retain.ensures.filtered
+returns c =
+    filter_same _ (is_not_of c.args.scid) _ (λ x b f' k. search rules) c.args.self.now.links.items
+    c.retain.new.self.items c.retain.ensures.filtered

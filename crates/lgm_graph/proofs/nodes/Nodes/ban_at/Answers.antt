@@ -12,30 +12,35 @@ returns-in-Some-clause-into c = λ before lists.
     let place = number_some c.args.self.now.points.keys c.args.node.now c.in-Some.number (sym c.get_index_of.ensures.index ∙ c.in-Some.is) in
     let there = rw (← place.0) at place.1 in
     rw (c.drop_banned_at.ensures.links, lists, ← place.0)
-    (map_change before (λ q ls. filter (is_allowed c.args.self.now.points.keys c.args.map.now.banned) ls) c.args.self.now.points.keys c.args.node.now [] c.len.ensures.unique there)
+    (map_change before (λ q ls. filter (is_allowed c.args.self.now.points.keys c.args.map.now.banned) ls)
+    c.args.self.now.points.keys c.args.node.now [] c.len.ensures.unique there)
 
 pub returns-in-Some-clause-out : goal.returns-in-Some-clause-out
 returns-in-Some-clause-out c = λ before lists.
     let place = number_some c.args.self.now.points.keys c.args.node.now c.in-Some.number (sym c.get_index_of.ensures.index ∙ c.in-Some.is) in
     let there = rw (← place.0) at place.1 in
     rw (c.drop_banned_at-in-Some.ensures.links, lists, ← place.0)
-    (map_change before (λ q ls. filter (is_allowed c.args.self.now.points.keys c.args.map.now.banned) ls) c.args.self.now.points.keys c.args.node.now [] c.len.ensures.unique there)
+    (map_change before (λ q ls. filter (is_allowed c.args.self.now.points.keys c.args.map.now.banned) ls)
+    c.args.self.now.points.keys c.args.node.now [] c.len.ensures.unique there)
 
 pub returns-in-Some-clause-takes : goal.returns-in-Some-clause-takes
 returns-in-Some-clause-takes c = λ before flags.
     let place = number_some c.args.self.now.points.keys c.args.node.now c.in-Some.number (sym c.get_index_of.ensures.index ∙ c.in-Some.is) in
     let there = rw (← place.0) at place.1 in
     rw (flags, ← place.0, c.takes_payments.ensures)
-    (map_change before (λ q b. takes_payments c.args.known.now c.args.map.now.nodes q) c.args.self.now.points.keys c.args.node.now false c.len.ensures.unique there)
+    (map_change before (λ q b. takes_payments c.args.known.now c.args.map.now.nodes q)
+    c.args.self.now.points.keys c.args.node.now false c.len.ensures.unique there)
 
 pub returns-in_default-clause-into : goal.returns-in_default-clause-into
 returns-in_default-clause-into c = λ before lists.
-    lists ∙ map_absent before (λ q ls. filter (is_allowed c.args.self.now.points.keys c.args.map.now.banned) ls) c.args.self.now.points.keys c.args.node.now
+    lists ∙ map_absent before (λ q ls. filter (is_allowed c.args.self.now.points.keys c.args.map.now.banned)
+    ls) c.args.self.now.points.keys c.args.node.now
     (position_none c.args.self.now.points.keys c.args.node.now (sym c.get_index_of.ensures.index ∙ c.in_default.is))
 
 pub returns-in_default-clause-out : goal.returns-in_default-clause-out
 returns-in_default-clause-out c = λ before lists.
-    lists ∙ map_absent before (λ q ls. filter (is_allowed c.args.self.now.points.keys c.args.map.now.banned) ls) c.args.self.now.points.keys c.args.node.now
+    lists ∙ map_absent before (λ q ls. filter (is_allowed c.args.self.now.points.keys c.args.map.now.banned)
+    ls) c.args.self.now.points.keys c.args.node.now
     (position_none c.args.self.now.points.keys c.args.node.now (sym c.get_index_of.ensures.index ∙ c.in_default.is))
 
 pub returns-in_default-clause-takes : goal.returns-in_default-clause-takes

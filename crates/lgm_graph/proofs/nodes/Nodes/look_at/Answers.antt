@@ -10,7 +10,8 @@ returns-in-Some-clause-takes c = λ before flags.
     let place = number_some c.args.self.now.points.keys c.args.node.now c.in-Some.number (sym c.get_index_of.ensures.index ∙ c.in-Some.is) in
     let there = rw (← place.0) at place.1 in
     rw (flags, ← place.0, c.takes_payments.ensures)
-    (map_change before (λ q b. takes_payments c.args.known.now c.args.map.now.nodes q) c.args.self.now.points.keys c.args.node.now false c.len.ensures.unique there)
+    (map_change before (λ q b. takes_payments c.args.known.now c.args.map.now.nodes q)
+    c.args.self.now.points.keys c.args.node.now false c.len.ensures.unique there)
 
 pub returns-in_default-clause-takes : goal.returns-in_default-clause-takes
 returns-in_default-clause-takes c = λ before flags.

@@ -7,10 +7,12 @@ returns-then-contains-clause-numbered c = any_numbered c.args.self.now.points.ke
 
 pub returns-clause-numbered : goal.returns-clause-numbered
 returns-clause-numbered c =
-    (further_number c.args.self.now c.args.self.now c.add.new.self c.args.point c.takes_payments-takes.result (sym c.contains.ensures ∙ c.if-contains.false) (λ k. refl)
+    (further_number c.args.self.now c.args.self.now c.add.new.self c.args.point c.takes_payments-takes.result
+    (sym c.contains.ensures ∙ c.if-contains.false) (λ k. refl)
     c.add.ensures.points c.add.ensures.takes c.add.ensures.into c.add.ensures.out).1
 
 pub returns-clause-shows : goal.returns-clause-shows
 returns-clause-shows c =
-    further_shows c.args.self.now c.args.self.now c.add.new.self c.args.point c.takes_payments-takes.result (sym c.contains.ensures ∙ c.if-contains.false) (λ k. refl)
+    further_shows c.args.self.now c.args.self.now c.add.new.self c.args.point c.takes_payments-takes.result
+    (sym c.contains.ensures ∙ c.if-contains.false) (λ k. refl)
     c.add.ensures.points c.add.ensures.takes c.add.ensures.into c.add.ensures.out

@@ -20,7 +20,8 @@ edge_between-requires-clause-to c =
 pub returns-then-left-links : goal.returns-then-left-links
 returns-then-left-links c =
     let lt : c.loop-number.number < length c.args.self.now.points = omega (arith, c.nodes-nodes.ensures.count) in
-    ap Some c.edge_between.ensures ∙ sym (edge_here c.args.self.now c.nodes-nodes.ensures.linked c.args.place c.loop-number.left c.loop-number.number c.loop-number.invariant
+    ap Some c.edge_between.ensures ∙ sym (edge_here c.args.self.now c.nodes-nodes.ensures.linked c.args.place
+    c.loop-number.left c.loop-number.number c.loop-number.invariant
     c.links_into-links.result.now c.index-links-left.result lt c.links_into-links.ensures c.if-left-links.true c.index-links-left.is)
 
 pub loop-number-preserved : goal.loop-number-preserved

@@ -7,7 +7,9 @@ pub loop-number-preserved : goal.loop-number-preserved
 loop-number-preserved c =
     let lt : c.loop-number.number < length c.args.self.now.points = omega (arith, c.nodes-nodes.ensures.count) in
     let inv = c.loop-number.invariant in
-    let whole = counted_more c.args.self.now c.nodes-nodes.ensures.linked c.loop-number.number inv.0 c.links_into.result.now lt c.links_into.ensures inv.1 in
+    let whole =
+    counted_more c.args.self.now c.nodes-nodes.ensures.linked c.loop-number.number inv.0
+    c.links_into.result.now lt c.links_into.ensures inv.1 in
     (inv.0 + length c.links_into.result.now, rw add-one whole, omega (arith, c.saturating_add-count.ensures, inv.2))
 
 pub returns : goal.returns

@@ -5,4 +5,6 @@ use Rattle.lgm_graph.proofs.Counted.{links_from}
 use Rattle.lgm_graph.proofs.view.View.edge_count.Given as goal
 
 abbrev pub invariant-loop-number : goal.invariant-loop-number
-invariant-loop-number l = (before : ℕ) × (length (links l.self) ≡ before + length (links_from l.self l.number)) × (l.count ≡ min before 18446744073709551615)
+invariant-loop-number l =
+    (before : ℕ) × (length (links l.self) ≡ before + length (links_from l.self l.number))
+    × (l.count ≡ min before 18446744073709551615)

@@ -24,11 +24,19 @@ loop-node-preserved c =
       takes_long = c.ban_at.ensures.takes_long ∙ c.loop-node.invariant.takes_long;
       into_long = c.ban_at.ensures.into_long ∙ c.loop-node.invariant.into_long;
       out_long = c.ban_at.ensures.out_long ∙ c.loop-node.invariant.out_long;
-      into = λ before lists. next_at change (λ q ls. filter_twice (is_allowed keys c.absorb.new.self.banned) ls) before items i no_point c.loop-node-test.true c.ban_at.new.self.points.keys (map links_in c.ban_at.new.self.into.items)
+      into =
+          λ before lists. next_at change (λ q ls. filter_twice (is_allowed keys c.absorb.new.self.banned) ls)
+          before items i no_point c.loop-node-test.true c.ban_at.new.self.points.keys
+          (map links_in c.ban_at.new.self.into.items)
           (rw same at (c.ban_at.ensures.into (changed_among change (take i items) before) (c.loop-node.invariant.into before lists)));
-      out = λ before lists. next_at change (λ q ls. filter_twice (is_allowed keys c.absorb.new.self.banned) ls) before items i no_point c.loop-node-test.true c.ban_at.new.self.points.keys (map links_in c.ban_at.new.self.out.items)
+      out =
+          λ before lists. next_at change (λ q ls. filter_twice (is_allowed keys c.absorb.new.self.banned) ls)
+          before items i no_point c.loop-node-test.true c.ban_at.new.self.points.keys
+          (map links_in c.ban_at.new.self.out.items)
           (rw same at (c.ban_at.ensures.out (changed_among change (take i items) before) (c.loop-node.invariant.out before lists)));
-      takes = λ before flags. next_at look (λ q b. refl) before items i no_point c.loop-node-test.true c.ban_at.new.self.points.keys c.ban_at.new.self.takes.items
+      takes =
+          λ before flags. next_at look (λ q b. refl) before items i no_point c.loop-node-test.true
+          c.ban_at.new.self.points.keys c.ban_at.new.self.takes.items
           (c.ban_at.ensures.takes (changed_among look (take i items) before) (c.loop-node.invariant.takes before flags));
     }
 
@@ -56,10 +64,12 @@ returns c = record {
   beside =
       let after = c.in_ok-absorb.ensures.ok ∙ ap (absorbed c.args.map.now) c.requires.op in
       let items = c.as_slice-node-items.result.now in
-      let whole : take c.loop-node.node-index items ≡ c.in_ok-parted.parted.keys = take_all c.loop-node.node-index items c.loop-node-test.false ∙ c.as_slice-node-items.ensures.keys in
+      let whole : take c.loop-node.node-index items ≡ c.in_ok-parted.parted.keys =
+      take_all c.loop-node.node-index items c.loop-node-test.false ∙ c.as_slice-node-items.ensures.keys in
       let points = c.args.nodes.now.points.keys in
       let edges = carrying c.args.map.now in
-      node_parted c.args.known.now c.args.map.now (with_banned c.args.map.now.banned c.args.ban.now) c.rows_are_lawful.ensures c.in_ok-parted.parted.keys c.in_ok-parted.ensures c.absorb.new.self after
+      node_parted c.args.known.now c.args.map.now (with_banned c.args.map.now.banned c.args.ban.now)
+      c.rows_are_lawful.ensures c.in_ok-parted.parted.keys c.in_ok-parted.ensures c.absorb.new.self after
       c.args.nodes.now c.loop-node.nodes c.requires.beside c.loop-node.invariant.points
       (rw whole at (c.loop-node.invariant.into (links_at (λ e. e.to) points edges) c.requires.beside.shows.into_is))
       (rw whole at (c.loop-node.invariant.out (links_at (λ e. e.from) points edges) c.requires.beside.shows.out_is))

@@ -14,9 +14,11 @@ invariant-loop-node l = record {
   into_long : length l.nodes.into.items ≡ length l.initial.nodes.into.items;
   out_long : length l.nodes.out.items ≡ length l.initial.nodes.out.items;
   into : (before : Point → List Link) → AreInto before l.initial.nodes
-      → AreInto (changed_among (λ q ls. filter (is_allowed l.initial.nodes.points.keys l.map.banned) ls) (take l.node-index l.node-items) before) l.nodes;
+      → AreInto (changed_among (λ q ls. filter (is_allowed l.initial.nodes.points.keys l.map.banned) ls)
+      (take l.node-index l.node-items) before) l.nodes;
   out : (before : Point → List Link) → AreOut before l.initial.nodes
-      → AreOut (changed_among (λ q ls. filter (is_allowed l.initial.nodes.points.keys l.map.banned) ls) (take l.node-index l.node-items) before) l.nodes;
+      → AreOut (changed_among (λ q ls. filter (is_allowed l.initial.nodes.points.keys l.map.banned) ls)
+      (take l.node-index l.node-items) before) l.nodes;
   takes : (before : Point → Bool) → AreFlags before l.initial.nodes
       → AreFlags (changed_among (λ q b. takes_payments l.known l.map.nodes q) (take l.node-index l.node-items) before) l.nodes;
 }

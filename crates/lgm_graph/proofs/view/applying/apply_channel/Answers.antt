@@ -45,13 +45,18 @@ returns c = record {
       λ p there. let a = one p there in let b = c.number-2.ensures.kept p a.1 in (b.0 ∙ a.0, b.1) in
       let first : IsNumbered c.number.new.self.points.keys row.message.node_id_1 = rw (← c.node.ensures) c.number.ensures.numbered in
       let second : IsNumbered c.number-2.new.self.points.keys row.message.node_id_2 = rw (← c.node-2.ensures) c.number-2.ensures.numbered in
-      let nodes : c.absorb.new.self.nodes ≡ c.args.map.now.nodes = ap (λ (r : Rows). r.nodes) after ∙ nodes_added c.args.known.now c.args.map.now row lawful in
+      let nodes : c.absorb.new.self.nodes ≡ c.args.map.now.nodes =
+      ap (λ (r : Rows). r.nodes) after ∙ nodes_added c.args.known.now c.args.map.now row lawful in
       let base : AreLookedAt c.args.known.now c.absorb.new.self.nodes c.reserve.new.self =
       rw (nodes, same_takes c.args.nodes.now c.reserve.new.self same, same_points c.args.nodes.now c.reserve.new.self same) c.requires.beside.takes in
       node_added c.args.known.now c.args.map.now row lawful c.absorb.new.self after c.args.nodes.now c.number-2.new.self c.requires.beside keeps
       (c.number-2.ensures.kept row.message.node_id_1 first).1 second (c.number-2.ensures.takes (c.number.ensures.takes base))
-      (c.number-2.ensures.shows (carrying c.args.map.now) (c.number.ensures.shows (carrying c.args.map.now) (same_shows c.args.nodes.now c.reserve.new.self same (carrying c.args.map.now) c.requires.beside.shows)));
-  few = let points = ap length (same_points c.args.nodes.now c.reserve.new.self c.reserve.ensures.same) in omega (arith, points, c.number.ensures.few, c.number-2.ensures.few);
+      (c.number-2.ensures.shows (carrying c.args.map.now)
+      (c.number.ensures.shows (carrying c.args.map.now) (same_shows c.args.nodes.now c.reserve.new.self
+      same (carrying c.args.map.now) c.requires.beside.shows)));
+  few =
+      let points = ap length (same_points c.args.nodes.now c.reserve.new.self c.reserve.ensures.same) in
+      omega (arith, points, c.number.ensures.few, c.number-2.ensures.few);
   map_stays = search rules;
   stays = search rules;
 }

@@ -18,8 +18,10 @@ returns c = record {
   map = search rules;
   beside =
       let after = c.in_ok-absorb.ensures.ok ∙ ap (absorbed c.args.map.now) c.requires.op in
-      noded c.args.known.now c.args.map.now c.args.row.now c.absorb.new.self c.node.result c.args.nodes.now c.look_at.new.self after c.node.ensures c.requires.beside
-      c.look_at.ensures.points c.look_at.ensures.into c.look_at.ensures.out (c.look_at.ensures.takes (takes_payments c.args.known.now c.args.map.now.nodes) c.requires.beside.takes);
+      noded c.args.known.now c.args.map.now c.args.row.now c.absorb.new.self c.node.result c.args.nodes.now
+      c.look_at.new.self after c.node.ensures c.requires.beside
+      c.look_at.ensures.points c.look_at.ensures.into c.look_at.ensures.out (c.look_at.ensures.takes
+      (takes_payments c.args.known.now c.args.map.now.nodes) c.requires.beside.takes);
   few = search rules;
   map_stays = search rules;
   stays = search rules;

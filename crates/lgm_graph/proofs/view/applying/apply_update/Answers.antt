@@ -10,65 +10,91 @@ use Rattle.lgm_graph.proofs.view.applying.apply_update.Goals as goal
 
 pub number_of-from-requires : goal.number_of-from-requires
 number_of-from-requires c =
-    rw c.node-from.ensures (ends_numbered c.args.nodes.now.points.keys c.args.map.now.channels c.scid-scid.result c.in-Some.channel c.is_second-second.result c.requires.beside.ends (sym c.in-Some.ensures))
+    rw c.node-from.ensures
+    (ends_numbered c.args.nodes.now.points.keys c.args.map.now.channels c.scid-scid.result
+    c.in-Some.channel c.is_second-second.result c.requires.beside.ends (sym c.in-Some.ensures))
 
 pub number_of-to-requires : goal.number_of-to-requires
 number_of-to-requires c =
-    rw c.node-to.ensures (ends_numbered c.args.nodes.now.points.keys c.args.map.now.channels c.scid-scid.result c.in-Some.channel (not c.is_second-second.result) c.requires.beside.ends (sym c.in-Some.ensures))
+    rw c.node-to.ensures
+    (ends_numbered c.args.nodes.now.points.keys c.args.map.now.channels c.scid-scid.result
+    c.in-Some.channel (not c.is_second-second.result) c.requires.beside.ends (sym c.in-Some.ensures))
 
 pub linked_if-link-requires-clause-from : goal.linked_if-link-requires-clause-from
 linked_if-link-requires-clause-from c =
     let there : IsNumbered c.args.nodes.now.points.keys c.node-from.result =
-    rw c.node-from.ensures (ends_numbered c.args.nodes.now.points.keys c.args.map.now.channels c.scid-scid.result c.in-Some.channel c.is_second-second.result c.requires.beside.ends (sym c.in-Some.ensures)) in
+    rw c.node-from.ensures
+    (ends_numbered c.args.nodes.now.points.keys c.args.map.now.channels c.scid-scid.result
+    c.in-Some.channel c.is_second-second.result c.requires.beside.ends (sym c.in-Some.ensures)) in
     omega (arith, there, c.number_of-from.ensures, c.requires.few)
 
 pub linked_if-link-requires-clause-to : goal.linked_if-link-requires-clause-to
 linked_if-link-requires-clause-to c =
     let there : IsNumbered c.args.nodes.now.points.keys c.node-to.result =
-    rw c.node-to.ensures (ends_numbered c.args.nodes.now.points.keys c.args.map.now.channels c.scid-scid.result c.in-Some.channel (not c.is_second-second.result) c.requires.beside.ends (sym c.in-Some.ensures)) in
+    rw c.node-to.ensures
+    (ends_numbered c.args.nodes.now.points.keys c.args.map.now.channels c.scid-scid.result
+    c.in-Some.channel (not c.is_second-second.result) c.requires.beside.ends (sym c.in-Some.ensures)) in
     omega (arith, there, c.number_of-to.ensures, c.requires.few)
 
 pub reserve_links-requires-clause-from : goal.reserve_links-requires-clause-from
 reserve_links-requires-clause-from c =
     let there : IsNumbered c.args.nodes.now.points.keys c.node-from.result =
-    rw c.node-from.ensures (ends_numbered c.args.nodes.now.points.keys c.args.map.now.channels c.scid-scid.result c.in-Some.channel c.is_second-second.result c.requires.beside.ends (sym c.in-Some.ensures)) in
+    rw c.node-from.ensures
+    (ends_numbered c.args.nodes.now.points.keys c.args.map.now.channels c.scid-scid.result
+    c.in-Some.channel c.is_second-second.result c.requires.beside.ends (sym c.in-Some.ensures)) in
     let long = out_long (carrying c.args.map.now) c.args.nodes.now c.requires.beside.shows in
     omega (arith, there, c.number_of-from.ensures, long)
 
 pub reserve_links-requires-clause-to : goal.reserve_links-requires-clause-to
 reserve_links-requires-clause-to c =
     let there : IsNumbered c.args.nodes.now.points.keys c.node-to.result =
-    rw c.node-to.ensures (ends_numbered c.args.nodes.now.points.keys c.args.map.now.channels c.scid-scid.result c.in-Some.channel (not c.is_second-second.result) c.requires.beside.ends (sym c.in-Some.ensures)) in
+    rw c.node-to.ensures
+    (ends_numbered c.args.nodes.now.points.keys c.args.map.now.channels c.scid-scid.result
+    c.in-Some.channel (not c.is_second-second.result) c.requires.beside.ends (sym c.in-Some.ensures)) in
     let long = into_long (carrying c.args.map.now) c.args.nodes.now c.requires.beside.shows in
     omega (arith, there, c.number_of-to.ensures, long)
 
 pub put_link-requires-clause-from : goal.put_link-requires-clause-from
 put_link-requires-clause-from c =
     let there : IsNumbered c.args.nodes.now.points.keys c.node-from.result =
-    rw c.node-from.ensures (ends_numbered c.args.nodes.now.points.keys c.args.map.now.channels c.scid-scid.result c.in-Some.channel c.is_second-second.result c.requires.beside.ends (sym c.in-Some.ensures)) in
+    rw c.node-from.ensures
+    (ends_numbered c.args.nodes.now.points.keys c.args.map.now.channels c.scid-scid.result
+    c.in-Some.channel c.is_second-second.result c.requires.beside.ends (sym c.in-Some.ensures)) in
     let points = ap length (same_points c.args.nodes.now c.reserve_links.new.self c.reserve_links.ensures.same) in
-    let long = out_long (carrying c.args.map.now) c.reserve_links.new.self (same_shows c.args.nodes.now c.reserve_links.new.self c.reserve_links.ensures.same (carrying c.args.map.now) c.requires.beside.shows) in
+    let long =
+    out_long (carrying c.args.map.now) c.reserve_links.new.self
+    (same_shows c.args.nodes.now c.reserve_links.new.self c.reserve_links.ensures.same
+    (carrying c.args.map.now) c.requires.beside.shows) in
     omega (arith, there, c.number_of-from.ensures, long, points)
 
 pub put_link-requires-clause-to : goal.put_link-requires-clause-to
 put_link-requires-clause-to c =
     let there : IsNumbered c.args.nodes.now.points.keys c.node-to.result =
-    rw c.node-to.ensures (ends_numbered c.args.nodes.now.points.keys c.args.map.now.channels c.scid-scid.result c.in-Some.channel (not c.is_second-second.result) c.requires.beside.ends (sym c.in-Some.ensures)) in
+    rw c.node-to.ensures
+    (ends_numbered c.args.nodes.now.points.keys c.args.map.now.channels c.scid-scid.result
+    c.in-Some.channel (not c.is_second-second.result) c.requires.beside.ends (sym c.in-Some.ensures)) in
     let points = ap length (same_points c.args.nodes.now c.reserve_links.new.self c.reserve_links.ensures.same) in
-    let long = into_long (carrying c.args.map.now) c.reserve_links.new.self (same_shows c.args.nodes.now c.reserve_links.new.self c.reserve_links.ensures.same (carrying c.args.map.now) c.requires.beside.shows) in
+    let long =
+    into_long (carrying c.args.map.now) c.reserve_links.new.self
+    (same_shows c.args.nodes.now c.reserve_links.new.self c.reserve_links.ensures.same
+    (carrying c.args.map.now) c.requires.beside.shows) in
     omega (arith, there, c.number_of-to.ensures, long, points)
 
 pub put_link-requires-clause-cut_into : goal.put_link-requires-clause-cut_into
 put_link-requires-clause-cut_into c =
     let held = ap (channel_of c.args.map.now.channels) (sym c.scid-scid.ensures) ∙ sym c.in-Some.ensures in
-    let place = c.number_of-to.ensures ∙ ap (number_of c.args.nodes.now.points.keys) (c.node-to.ensures ∙ ap (λ b. end_of c.in-Some.channel (not b)) c.is_second-second.ensures) in
+    let place =
+    c.number_of-to.ensures ∙ ap (number_of c.args.nodes.now.points.keys) (c.node-to.ensures
+    ∙ ap (λ b. end_of c.in-Some.channel (not b)) c.is_second-second.ensures) in
     rw (same_into c.args.nodes.now c.reserve_links.new.self c.reserve_links.ensures.same, place, c.scid-scid.ensures, c.is_second-second.ensures)
     (into_cut c.args.known.now c.args.map.now c.args.row.now c.in-Some.channel held c.rows_are_lawful.ensures.ascend _ _ _ _ c.requires.beside)
 
 pub put_link-requires-clause-cut_out : goal.put_link-requires-clause-cut_out
 put_link-requires-clause-cut_out c =
     let held = ap (channel_of c.args.map.now.channels) (sym c.scid-scid.ensures) ∙ sym c.in-Some.ensures in
-    let place = c.number_of-from.ensures ∙ ap (number_of c.args.nodes.now.points.keys) (c.node-from.ensures ∙ ap (end_of c.in-Some.channel) c.is_second-second.ensures) in
+    let place =
+    c.number_of-from.ensures ∙ ap (number_of c.args.nodes.now.points.keys) (c.node-from.ensures
+    ∙ ap (end_of c.in-Some.channel) c.is_second-second.ensures) in
     rw (same_out c.args.nodes.now c.reserve_links.new.self c.reserve_links.ensures.same, place, c.scid-scid.ensures, c.is_second-second.ensures)
     (out_cut c.args.known.now c.args.map.now c.args.row.now c.in-Some.channel held c.rows_are_lawful.ensures.ascend _ _ _ _ c.requires.beside)
 
@@ -107,10 +133,17 @@ returns c = record {
       let after = c.in_ok-absorb.ensures.ok ∙ ap (absorbed c.args.map.now) c.requires.op in
       node_updated c.args.known.now c.args.map.now c.absorb-2.new.self c.args.row.now c.in-Some.channel held c.rows_are_lawful.ensures.ascend after
       c.args.nodes.now c.reserve_links.new.self c.put_link.new.self c.len.ensures.unique c.requires.beside c.reserve_links.ensures.same
-      c.scid-scid.result c.number_of-from.result c.number_of-to.result c.is_second-second.result c.edge_on-edge.result c.linked_if-link.result c.scid-scid.ensures c.is_second-second.ensures
-      (c.number_of-from.ensures ∙ ap (number_of c.args.nodes.now.points.keys) c.node-from.ensures) (c.number_of-to.ensures ∙ ap (number_of c.args.nodes.now.points.keys) c.node-to.ensures)
-      (c.edge_on-edge.ensures ∙ ap (edge_on c.in-Some.channel) c.row.ensures.row) c.linked_if-link.ensures c.put_link.ensures.points c.put_link.ensures.takes c.put_link.ensures.into c.put_link.ensures.out;
-  few = let points = ap length (c.put_link.ensures.points ∙ same_points c.args.nodes.now c.reserve_links.new.self c.reserve_links.ensures.same) in omega (arith, points);
+      c.scid-scid.result c.number_of-from.result c.number_of-to.result c.is_second-second.result
+      c.edge_on-edge.result c.linked_if-link.result c.scid-scid.ensures c.is_second-second.ensures
+      (c.number_of-from.ensures ∙ ap (number_of c.args.nodes.now.points.keys) c.node-from.ensures)
+      (c.number_of-to.ensures ∙ ap (number_of c.args.nodes.now.points.keys) c.node-to.ensures)
+      (c.edge_on-edge.ensures ∙ ap (edge_on c.in-Some.channel) c.row.ensures.row) c.linked_if-link.ensures
+      c.put_link.ensures.points c.put_link.ensures.takes c.put_link.ensures.into c.put_link.ensures.out;
+  few =
+      let points =
+      ap length (c.put_link.ensures.points
+      ∙ same_points c.args.nodes.now c.reserve_links.new.self c.reserve_links.ensures.same) in
+      omega (arith, points);
   map_stays = search rules;
   stays = search rules;
 }

@@ -30,7 +30,8 @@ push_link-requires-clause-from c =
     let same = c.reserve_links.ensures.same in
     (link_within c.args.nodes.now.points.keys c.args.links.now c.loop-link.link-index c.link-item.result c.loop-link-test.true c.link-item.is
     c.requires.links.0 c.reserve_links.new.self c.requires.links.1 (same_points c.loop-link.nodes c.reserve_links.new.self same ∙ inv.points)
-    (same_shows c.loop-link.nodes c.reserve_links.new.self same (take c.loop-link.link-index c.requires.links.0) (inv.shows c.requires.links.0 c.requires.links.1))).0
+    (same_shows c.loop-link.nodes c.reserve_links.new.self same
+    (take c.loop-link.link-index c.requires.links.0) (inv.shows c.requires.links.0 c.requires.links.1))).0
 
 pub push_link-requires-clause-to : goal.push_link-requires-clause-to
 push_link-requires-clause-to c =
@@ -38,7 +39,8 @@ push_link-requires-clause-to c =
     let same = c.reserve_links.ensures.same in
     (link_within c.args.nodes.now.points.keys c.args.links.now c.loop-link.link-index c.link-item.result c.loop-link-test.true c.link-item.is
     c.requires.links.0 c.reserve_links.new.self c.requires.links.1 (same_points c.loop-link.nodes c.reserve_links.new.self same ∙ inv.points)
-    (same_shows c.loop-link.nodes c.reserve_links.new.self same (take c.loop-link.link-index c.requires.links.0) (inv.shows c.requires.links.0 c.requires.links.1))).1
+    (same_shows c.loop-link.nodes c.reserve_links.new.self same
+    (take c.loop-link.link-index c.requires.links.0) (inv.shows c.requires.links.0 c.requires.links.1))).1
 
 pub loop-link-preserved : goal.loop-link-preserved
 loop-link-preserved c =

@@ -16,5 +16,7 @@ returns-clause-links c = λ edges are.
     let second : IsNumbered points channel.message.node_id_2 = rw (← c.node-2.ensures) c.in_ok-second.ensures.numbered in
     channel_written c.args.map.now c.args.held.now points c.requires.own stays.1 second c.in_ok-first.first c.in_ok-second.second edges
     c.args.links.now.items c.add_direction.new.links.items c.add_direction-2.new.links.items
-    (c.in_ok-first.ensures.number ∙ ap (number_of mid) c.node.ensures ∙ sym stays.0) (c.in_ok-second.ensures.number ∙ ap (number_of points) c.node-2.ensures)
-    c.in_ok-add_direction.ensures c.in_ok-add_direction-2.ensures (links_of_more c.args.nodes.now.points.keys points edges c.args.links.now.items keeps are)
+    (c.in_ok-first.ensures.number ∙ ap (number_of mid) c.node.ensures ∙ sym stays.0)
+    (c.in_ok-second.ensures.number ∙ ap (number_of points) c.node-2.ensures)
+    c.in_ok-add_direction.ensures c.in_ok-add_direction-2.ensures
+    (links_of_more c.args.nodes.now.points.keys points edges c.args.links.now.items keeps are)

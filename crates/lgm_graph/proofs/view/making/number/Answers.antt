@@ -12,30 +12,42 @@ add-requires-clause-other c = ap (list_any (is_point c.args.point)) (same_points
 pub returns-clause-number : goal.returns-clause-number
 returns-clause-number c =
     let other = position_none c.args.nodes.now.points.keys c.args.point (sym c.get_index_of.ensures.index ∙ c.in_default.is) in
-    c.len-number.ensures.len ∙ sym (further_number c.args.nodes.now c.reserve.new.self c.add.new.self c.args.point c.takes_payments-takes.result other c.reserve.ensures.same c.add.ensures.points c.add.ensures.takes c.add.ensures.into c.add.ensures.out).0
+    c.len-number.ensures.len ∙ sym (further_number c.args.nodes.now c.reserve.new.self c.add.new.self
+    c.args.point c.takes_payments-takes.result other c.reserve.ensures.same c.add.ensures.points
+    c.add.ensures.takes c.add.ensures.into c.add.ensures.out).0
 
 pub returns-clause-few : goal.returns-clause-few
 returns-clause-few c =
     let other = position_none c.args.nodes.now.points.keys c.args.point (sym c.get_index_of.ensures.index ∙ c.in_default.is) in
-    further_few c.args.nodes.now c.reserve.new.self c.add.new.self c.args.point c.takes_payments-takes.result other c.reserve.ensures.same c.add.ensures.points c.add.ensures.takes c.add.ensures.into c.add.ensures.out
+    further_few c.args.nodes.now c.reserve.new.self c.add.new.self c.args.point c.takes_payments-takes.result
+    other c.reserve.ensures.same c.add.ensures.points c.add.ensures.takes c.add.ensures.into
+    c.add.ensures.out
 
 pub returns-clause-kept : goal.returns-clause-kept
 returns-clause-kept c =
     let other = position_none c.args.nodes.now.points.keys c.args.point (sym c.get_index_of.ensures.index ∙ c.in_default.is) in
-    further_keeps c.args.nodes.now c.reserve.new.self c.add.new.self c.args.point c.takes_payments-takes.result other c.reserve.ensures.same c.add.ensures.points c.add.ensures.takes c.add.ensures.into c.add.ensures.out
+    further_keeps c.args.nodes.now c.reserve.new.self c.add.new.self c.args.point
+    c.takes_payments-takes.result other c.reserve.ensures.same c.add.ensures.points c.add.ensures.takes
+    c.add.ensures.into c.add.ensures.out
 
 pub returns-clause-numbered : goal.returns-clause-numbered
 returns-clause-numbered c =
     let other = position_none c.args.nodes.now.points.keys c.args.point (sym c.get_index_of.ensures.index ∙ c.in_default.is) in
-    (further_number c.args.nodes.now c.reserve.new.self c.add.new.self c.args.point c.takes_payments-takes.result other c.reserve.ensures.same c.add.ensures.points c.add.ensures.takes c.add.ensures.into c.add.ensures.out).1
+    (further_number c.args.nodes.now c.reserve.new.self c.add.new.self c.args.point
+    c.takes_payments-takes.result other c.reserve.ensures.same c.add.ensures.points c.add.ensures.takes
+    c.add.ensures.into c.add.ensures.out).1
 
 pub returns-clause-takes : goal.returns-clause-takes
 returns-clause-takes c =
     let other = position_none c.args.nodes.now.points.keys c.args.point (sym c.get_index_of.ensures.index ∙ c.in_default.is) in
-    further_takes c.args.nodes.now c.reserve.new.self c.add.new.self c.args.point c.takes_payments-takes.result other c.reserve.ensures.same c.add.ensures.points c.add.ensures.takes c.add.ensures.into c.add.ensures.out
+    further_takes c.args.nodes.now c.reserve.new.self c.add.new.self c.args.point
+    c.takes_payments-takes.result other c.reserve.ensures.same c.add.ensures.points c.add.ensures.takes
+    c.add.ensures.into c.add.ensures.out
     c.args.known.now c.args.map.now.nodes c.takes_payments-takes.ensures
 
 pub returns-clause-shows : goal.returns-clause-shows
 returns-clause-shows c =
     let other = position_none c.args.nodes.now.points.keys c.args.point (sym c.get_index_of.ensures.index ∙ c.in_default.is) in
-    further_shows c.args.nodes.now c.reserve.new.self c.add.new.self c.args.point c.takes_payments-takes.result other c.reserve.ensures.same c.add.ensures.points c.add.ensures.takes c.add.ensures.into c.add.ensures.out
+    further_shows c.args.nodes.now c.reserve.new.self c.add.new.self c.args.point
+    c.takes_payments-takes.result other c.reserve.ensures.same c.add.ensures.points c.add.ensures.takes
+    c.add.ensures.into c.add.ensures.out

@@ -21,11 +21,14 @@ loop-scid-preserved c = elim c.match-held.branch [
       let ids = c.as_slice-scid-items.ensures ∙ c.in_ok-scids.ensures in
       rw w.ends-is (record {
         kept = λ q among. rw new (kept_more old channel q (c.loop-scid.invariant.kept q among));
-        done = ends_next rows c.args.node.now c.as_slice-scid-items.result.now c.loop-scid.scid-index c.scid-item.result channel old w.insert-in-Some.new.self.keys
+        done =
+            ends_next rows c.args.node.now c.as_slice-scid-items.result.now c.loop-scid.scid-index
+            c.scid-item.result channel old w.insert-in-Some.new.self.keys
             c.rows_are_lawful.ensures.ascend.channels ids c.loop-scid-test.true c.scid-item.is held new c.loop-scid.invariant.done;
       })
   | in_default w ↦ absurd (ids_held c.args.map.now.channels c.args.node.now c.as_slice-scid-items.result.now c.loop-scid.scid-index c.scid-item.result
-      c.rows_are_lawful.ensures.ascend.channels (c.as_slice-scid-items.ensures ∙ c.in_ok-scids.ensures) c.loop-scid-test.true c.scid-item.is (sym w.in_default.ensures.channel))
+      c.rows_are_lawful.ensures.ascend.channels (c.as_slice-scid-items.ensures ∙ c.in_ok-scids.ensures)
+      c.loop-scid-test.true c.scid-item.is (sym w.in_default.ensures.channel))
 ]
 
 pub returns-clause-ends : goal.returns-clause-ends

@@ -9,6 +9,17 @@ returns-then-room-items c =
     let batches = c.as_slice-batch-items.result.now in
     let same = c.as_slice-batch-items.ensures in
     let i = c.loop-batch.batch-index in
-    let before = subst (λ (bs : List (List Item)). length (items_of (take i bs)) + c.loop-batch.room ≡ 2000000000) (sym same) c.loop-batch.invariant in
-    let within = length-flat_map-take (λ (batch : List Item). batch) batches i c.batch-item.result c.loop-batch-test.true in
-    (λ no. absurd cc, λ few. absurd (omega (arith, subst (λ (bs : List (List Item)). length (items_of bs) ≤ 2000000000) (sym same) few, before, within, ap length (c.as_slice.ensures ∙ c.batch-item.is), c.if-room-items.true)))
+    let before =
+    subst (λ (bs : List (List Item)). length (items_of (take i bs)) + c.loop-batch.room ≡ 2000000000)
+    (sym same) c.loop-batch.invariant in
+    let within = length-flat_map-take (λ (batch : List Item). batch) batches i c.batch-item.result c.loop-batch-test.true in (
+      λ no. absurd cc,
+      λ few. absurd (omega (
+        arith,
+        subst (λ (bs : List (List Item)). length (items_of bs) ≤ 2000000000) (sym same) few,
+        before,
+        within,
+        ap length (c.as_slice.ensures ∙ c.batch-item.is),
+        c.if-room-items.true,
+      )),
+    )

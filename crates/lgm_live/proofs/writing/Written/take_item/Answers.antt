@@ -4,11 +4,15 @@ use Rattle.lgm_live.proofs.writing.Written.take_item.Goals as goal
 
 pub returns-in_ok-push-in-Ok-clause-written : goal.returns-in_ok-push-in-Ok-clause-written
 returns-in_ok-push-in-Ok-clause-written c =
-    λ items w. accepted_written c.args.chain.now items c.args.item.now c.args.self.now _ c.in-Ok.op c.in-Ok.ensures.outcome (c.keep.ensures.map ∙ c.in-Ok.ensures.accepted) (search rules) c.in_ok-keep-in-Ok.ensures.ops w
+    λ items w. accepted_written c.args.chain.now items c.args.item.now c.args.self.now _ c.in-Ok.op
+    c.in-Ok.ensures.outcome (c.keep.ensures.map ∙ c.in-Ok.ensures.accepted) (search rules)
+    c.in_ok-keep-in-Ok.ensures.ops w
 
 pub returns-in_ok-push-in-Err : goal.returns-in_ok-push-in-Err
 returns-in_ok-push-in-Err c = record {
-  written = λ items w. refused_written c.args.chain.now items c.args.item.now c.args.self.now _ c.in-Err.refusal (search rules) c.in-Err.ensures.refused (search rules) refl w;
+  written =
+      λ items w. refused_written c.args.chain.now items c.args.item.now c.args.self.now _ c.in-Err.refusal
+      (search rules) c.in-Err.ensures.refused (search rules) refl w;
   ends = refl;
   few = omega arith;
   grows = omega arith;

@@ -7,5 +7,7 @@ invariant_of-self c =
     let w = c.self.inside.writer in
     let w' = c.absorb.new.writer in
     let inv = c.self.invariant in
-    let a = appends c.self.inside.noted w.desk.shown.value.told (drop w.behind w.log.items) (drop w'.behind w'.log.items) c.args.op c.self.inside.appended c.in-Ok.ensures.appended inv.1 inv.2 in
+    let a =
+    appends c.self.inside.noted w.desk.shown.value.told (drop w.behind w.log.items)
+    (drop w'.behind w'.log.items) c.args.op c.self.inside.appended c.in-Ok.ensures.appended inv.1 inv.2 in
     (inv.0, rw c.absorb.ensures.desk a.0, rw c.absorb.ensures.desk a.1, omega (arith, inv.3, c.if-self-eq-LIMIT.false))

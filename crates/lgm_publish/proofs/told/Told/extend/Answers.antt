@@ -13,7 +13,8 @@ compare_exchange-found-requires g c =
     let offer = c.plain-offer.ensures in
     let pen = c.no_pen-pen.ensures in
     let ask = g.M.Plain.ask c.args.about.now in
-    let head : c.args.head.now ≡ head_of seen.book = subst (λ (k : History). c.args.head.now ≡ head_of k.board) (sym c.self.view_is) c.requires.head in
+    let head : c.args.head.now ≡ head_of seen.book =
+    subst (λ (k : History). c.args.head.now ≡ head_of k.board) (sym c.self.view_is) c.requires.head in
     let more : IsPrefix (joined seen.log) ask = subst (λ (k : History). IsPrefix k.ops ask) (sym c.self.view_is) c.requires.more in
     let book : c.again-seen.result.book ≡ c.args.head.now.book = ap (λ s. s.book) again ∙ sym (ap (λ w. w.book) head) in (
       ap (λ w. w.tracked) head,

@@ -5,7 +5,9 @@ use Rattle.lgm_query.proofs.news_walk.NewsIterator.next.Given as goal
 
 -- what is still to come stays the same
 abbrev pub invariant-rows : goal.invariant-rows
-invariant-rows l = l.self-inside.passing ++ news_of_pairs l.self-inside.filter (iter_rest l.self-inside.channels) (iter_rest l.self-inside.nodes) ≡ l.fn.self
+invariant-rows l =
+    l.self-inside.passing ++ news_of_pairs l.self-inside.filter (iter_rest l.self-inside.channels)
+    (iter_rest l.self-inside.nodes) ≡ l.fn.self
 
 abbrev pub decreases-rows : goal.decreases-rows
 decreases-rows l = length (iter_rest l.self-inside.channels) + length (iter_rest l.self-inside.nodes)

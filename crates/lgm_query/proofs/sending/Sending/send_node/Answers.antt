@@ -9,6 +9,7 @@ returns-then-contains c =
 
 pub returns : goal.returns
 returns c =
-    OnOk-node c.push.result c.args.map.now.nodes c.in-Some.row.now c.raw.result.now c.args.point.now c.self.inside.nodes.keys _ c.args.self.now _ c.push.new.self
+    OnOk-node c.push.result c.args.map.now.nodes c.in-Some.row.now c.raw.result.now c.args.point.now
+    c.self.inside.nodes.keys _ c.args.self.now _ c.push.new.self
     c.in-Some.ensures c.raw.ensures (ap (λ v. v.nodes) (sym c.self.view_is)) (sym c.contains.ensures ∙ c.if-contains.false)
     c.in_ok-insert.ensures.updates.0 (ap (λ v. v.messages) c.self.view_is) refl c.push.ensures.messages c.push.ensures.nodes

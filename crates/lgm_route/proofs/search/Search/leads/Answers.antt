@@ -10,13 +10,18 @@ pub loop-at-preserved : goal.loop-at-preserved
 loop-at-preserved c =
     let s = c.args.self.now in
     let run = c.links_into-edges.result.now in
-    let same : c.index-edges-at.result ≡ link_at run c.loop-at.at = c.index-edges-at.is ∙ get_or_default run c.loop-at.at c.index-edges-at.result no_link c.loop-at-test.true in
+    let same : c.index-edges-at.result ≡ link_at run c.loop-at.at =
+    c.index-edges-at.is
+    ∙ get_or_default run c.loop-at.at c.index-edges-at.result no_link c.loop-at-test.true in
     subst (AreLeadsTo s.ground.graph s.ground.request s.ground.low (bound_in s) s.labels c.args.i run (c.loop-at.at + 1)) (sym c.in_ok-push.ensures)
-    (leads_next s.ground.graph s.ground.request s.ground.low (bound_in s) s.labels c.args.i run c.loop-at.at c.loop-at.leads.items c.lead.result c.loop-at.invariant
+    (leads_next s.ground.graph s.ground.request s.ground.low (bound_in s) s.labels c.args.i run c.loop-at.at
+    c.loop-at.leads.items c.lead.result c.loop-at.invariant
     (subst (λ edge. IsLeadAt s c.args.i edge c.lead.result) same c.lead.ensures))
 
 pub returns : goal.returns
 returns c =
     let s = c.args.self.now in
-    leads_all s.ground.graph s.ground.request s.ground.low (bound_in s) s.labels c.args.i c.links_into-edges.result.now c.loop-at.at c.loop-at.leads.items
-    (c.links_into-edges.ensures ∙ ap (λ l. links_into s.ground.graph l.node) c.label-label.ensures.label) (omega (arith, c.loop-at-test.false)) c.loop-at.invariant
+    leads_all s.ground.graph s.ground.request s.ground.low (bound_in s) s.labels c.args.i
+    c.links_into-edges.result.now c.loop-at.at c.loop-at.leads.items
+    (c.links_into-edges.ensures ∙ ap (λ l. links_into s.ground.graph l.node) c.label-label.ensures.label)
+    (omega (arith, c.loop-at-test.false)) c.loop-at.invariant

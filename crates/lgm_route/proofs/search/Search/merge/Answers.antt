@@ -10,7 +10,8 @@ take-requires c =
     let new : Label = label_at c.args.leads.now c.loop-new.new-index in
     let edge = first_of first.ground.graph first.labels new in
     led_self c.loop-new.self c.args.i edge new
-    (led_at_later first c.loop-new.self c.args.i edge new c.loop-new.invariant.extends c.requires.label (c.requires.leads.led c.loop-new.new-index c.loop-new-test.true))
+    (led_at_later first c.loop-new.self c.args.i edge new c.loop-new.invariant.extends c.requires.label
+    (c.requires.leads.led c.loop-new.new-index c.loop-new-test.true))
 
 pub loop-new-preserved : goal.loop-new-preserved
 loop-new-preserved c =
@@ -19,11 +20,16 @@ loop-new-preserved c =
     let after = c.take.new.self in
     let new : Label = label_at c.args.leads.now c.loop-new.new-index in
     let edge = first_of first.ground.graph first.labels new in
-    let led = led_at_later first before c.args.i edge new c.loop-new.invariant.extends c.requires.label (c.requires.leads.led c.loop-new.new-index c.loop-new-test.true) in
+    let led =
+    led_at_later first before c.args.i edge new c.loop-new.invariant.extends c.requires.label
+    (c.requires.leads.led c.loop-new.new-index c.loop-new-test.true) in
     record {
       extends = extends-trans first before after c.loop-new.invariant.extends c.in_ok-take.ensures.extends;
-      taken = passed_more first before after (λ k. first_of first.ground.graph first.labels (label_at c.args.leads.now k)) c.args.i c.loop-new.new-index c.requires.label
-          c.loop-new.invariant.extends c.in_ok-take.ensures.extends c.loop-new.invariant.taken (passed_self before after c.args.i edge new led c.in_ok-take.ensures.passed);
+      taken =
+          passed_more first before after (λ k. first_of first.ground.graph first.labels
+          (label_at c.args.leads.now k)) c.args.i c.loop-new.new-index c.requires.label
+          c.loop-new.invariant.extends c.in_ok-take.ensures.extends c.loop-new.invariant.taken
+          (passed_self before after c.args.i edge new led c.in_ok-take.ensures.passed);
     }
 
 pub mark-requires-clause-settled : goal.mark-requires-clause-settled

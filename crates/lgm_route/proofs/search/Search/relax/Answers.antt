@@ -12,10 +12,14 @@ loop-at-preserved c =
     let before = c.loop-at.self in
     let after = c.pass.new.self in
     let run = c.links_into-edges.result.now in
-    let same : c.index-edges-at.result ≡ link_at run c.loop-at.at = c.index-edges-at.is ∙ get_or_default run c.loop-at.at c.index-edges-at.result no_link c.loop-at-test.true in
+    let same : c.index-edges-at.result ≡ link_at run c.loop-at.at =
+    c.index-edges-at.is
+    ∙ get_or_default run c.loop-at.at c.index-edges-at.result no_link c.loop-at-test.true in
     record {
       extends = extends-trans first before after c.loop-at.invariant.extends c.in_ok-pass.ensures.extends;
-      passed = passed_more first before after (link_at run) c.args.i c.loop-at.at c.requires c.loop-at.invariant.extends c.in_ok-pass.ensures.extends c.loop-at.invariant.passed
+      passed =
+          passed_more first before after (link_at run) c.args.i c.loop-at.at c.requires
+          c.loop-at.invariant.extends c.in_ok-pass.ensures.extends c.loop-at.invariant.passed
           (subst (λ edge. IsPassedOn before c.args.i edge after) same c.in_ok-pass.ensures.passed);
     }
 
@@ -24,6 +28,8 @@ returns-clause-left c =
     let first = c.args.self.now in
     let last = c.loop-at.self in
     let run = c.links_into-edges.result.now in
-    let same : run ≡ links_into first.ground.graph (label_at first.labels c.args.i).node = c.links_into-edges.ensures ∙ ap (λ l. links_into first.ground.graph l.node) c.label-label.ensures.label in
+    let same : run ≡ links_into first.ground.graph (label_at first.labels c.args.i).node =
+    c.links_into-edges.ensures ∙ ap (λ l. links_into first.ground.graph l.node) c.label-label.ensures.label in
     left_all first last c.args.i c.label-label.ensures.search.ground
-    (subst (λ r. (j : ℕ) → j < length r → IsPassedOn first c.args.i (link_at r j) last) same (λ j to. c.loop-at.invariant.passed j (omega (arith, to, c.loop-at-test.false))))
+    (subst (λ r. (j : ℕ) → j < length r → IsPassedOn first c.args.i (link_at r j) last) same
+    (λ j to. c.loop-at.invariant.passed j (omega (arith, to, c.loop-at-test.false))))

@@ -11,7 +11,8 @@ mark-requires-clause-settled c =
 
 pub mark-requires-2-clause-settled : goal.mark-requires-2-clause-settled
 mark-requires-2-clause-settled c =
-    settled_by c.args.self.now c.close.new.self c.args.i c.stand_in-place.result c.label-label.ensures.search c.is_done-2.ensures.search c.in_ok-close.ensures.extends c.requires
+    settled_by c.args.self.now c.close.new.self c.args.i c.stand_in-place.result c.label-label.ensures.search
+    c.is_done-2.ensures.search c.in_ok-close.ensures.extends c.requires
     c.stand_in-place.ensures c.in_ok-close.ensures.here
 
 pub returns-clause-extends : goal.returns-clause-extends

@@ -18,7 +18,9 @@ merge-requires-clause-leads g c =
     let k = c.loop-k.k in
     let i : ℕ = get_or c.args.frontier.now k 0 in
     let R = λ (i : ℕ) (leads : Result (Vec Label Global) AllocError). IfOk leads (λ leads. AreLeadsAt first i leads.items) in
-    let at = subst (R i) (sym c.index.ensures) (zip_at R c.args.frontier.now c.in_ok-all.all.items k 0 c.index.result.now c.in_ok-all.ensures c.loop-k-test.true) in
+    let at =
+    subst (R i) (sym c.index.ensures) (zip_at R c.args.frontier.now c.in_ok-all.all.items k 0
+    c.index.result.now c.in_ok-all.ensures c.loop-k-test.true) in
     let found : AreLeadsAt first i c.in-Ok.leads.items = subst (R i) c.in-Ok.is at in
     subst (AreLeadsAt c.loop-k.self i) (sym c.deref.ensures.value)
     (leads_at_later first c.loop-k.self i c.in-Ok.leads.items c.loop-k.invariant (c.requires k 0 c.loop-k-test.true) found)

@@ -8,15 +8,21 @@ use Rattle.lgm_route.proofs.search.Search.stand_in.Goals as goal
 
 pub server-requires-clause-spelled : goal.server-requires-clause-spelled
 server-requires-clause-spelled c =
-    let s : State = state_of c.self.inside.view.now c.self.inside.request c.self.inside.low c.self.inside.start c.self.inside.labels.items c.self.inside.best c.self.inside.done.items in
+    let s : State =
+    state_of c.self.inside.view.now c.self.inside.request c.self.inside.low c.self.inside.start
+    c.self.inside.labels.items c.self.inside.best c.self.inside.done.items in
     subst (AreSpelled s.ground.graph) (sym c.deref.ensures.value) (spelled s c.self.invariant)
 
 pub server-requires-clause-label : goal.server-requires-clause-label
 server-requires-clause-label c =
-    let s : State = state_of c.self.inside.view.now c.self.inside.request c.self.inside.low c.self.inside.start c.self.inside.labels.items c.self.inside.best c.self.inside.done.items in
+    let s : State =
+    state_of c.self.inside.view.now c.self.inside.request c.self.inside.low c.self.inside.start
+    c.self.inside.labels.items c.self.inside.best c.self.inside.done.items in
     let within : c.args.i < length s.labels = subst (λ t. c.args.i < length t.labels) (sym c.self.view_is) c.requires in
-    let at : label_at s.labels c.args.i ≡ c.index.result.now = get_or_default s.labels c.args.i no_label c.index.result.now within ∙ sym c.index.ensures in
-    subst (λ ls. IsSpelled s.ground.graph ls c.index.result.now) (sym c.deref.ensures.value) (subst (IsSpelled s.ground.graph s.labels) at (spelled s c.self.invariant c.args.i within))
+    let at : label_at s.labels c.args.i ≡ c.index.result.now =
+    get_or_default s.labels c.args.i no_label c.index.result.now within ∙ sym c.index.ensures in
+    subst (λ ls. IsSpelled s.ground.graph ls c.index.result.now) (sym c.deref.ensures.value)
+    (subst (IsSpelled s.ground.graph s.labels) at (spelled s c.self.invariant c.args.i within))
 
 pub returns-in-None : goal.returns-in-None
 returns-in-None c = record { within = c.requires; node = refl; serves = serves_itself c.args.self.now.ground.graph c.args.self.now.labels _ }

@@ -11,11 +11,14 @@ returns-then-len-i c = (
 pub loop-i-preserved : goal.loop-i-preserved
 loop-i-preserved c = record {
   extends = extends-trans c.args.self.now c.loop-i.self c.settle.new.self c.loop-i.invariant.extends c.in_ok-settle.ensures.extends;
-  marked = marked_more c.loop-i.self c.settle.new.self c.loop-i.i c.in_ok-settle.ensures.extends c.loop-i.invariant.marked c.in_ok-settle.ensures.here;
+  marked =
+      marked_more c.loop-i.self c.settle.new.self c.loop-i.i c.in_ok-settle.ensures.extends
+      c.loop-i.invariant.marked c.in_ok-settle.ensures.here;
 }
 
 pub returns : goal.returns
 returns c = (
   c.loop-i.invariant.extends.ground,
-  finished c.loop-i.self c.len-len.ensures.search (λ i within. c.loop-i.invariant.marked i (omega (arith, within, c.loop-i-test.false, c.len-len.ensures.count, c.len-len.type_inv))),
+  finished c.loop-i.self c.len-len.ensures.search (λ i within. c.loop-i.invariant.marked i
+      (omega (arith, within, c.loop-i-test.false, c.len-len.ensures.count, c.len-len.type_inv))),
 )

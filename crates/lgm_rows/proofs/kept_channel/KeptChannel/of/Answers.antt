@@ -11,4 +11,5 @@ pub returns : goal.returns
 returns c =
     let row = c.args.row.now in
     rw (c.in_ok-from_slice.ensures.ok, c.as_slice.ensures)
-    (ap (λ (m : Announce). let same : ChannelRow = record { message = m; sat = row.sat; raw = row.raw } in same) (spelled_in row.message row.raw c.requires).1)
+    (ap (λ (m : Announce). let same : ChannelRow = record { message = m; sat = row.sat; raw = row.raw } in
+    same) (spelled_in row.message row.raw c.requires).1)

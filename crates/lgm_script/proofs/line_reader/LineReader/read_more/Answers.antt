@@ -14,12 +14,20 @@ returns-clause-kept g c =
     let front = c.split_at_mut-room.result.0.now in
     let within : end ≤ length whole = omega (arith, c.make_room-start.ensures.room, c.make_room-start.ensures.size, c.deref_mut.ensures.len) in
     let few : n ≤ length sub = omega (arith, c.in_ok-count.ensures.bound, c.read.auto.buffer) in
-    let fits : length front + length sub ≤ len = omega (arith, c.split_at_mut-room.ensures.front_len, c.split_at_mut-room.ensures.back_len, c.read.auto.buffer, c.deref_mut.ensures.len) in
+    let fits : length front + length sub ≤ len =
+    omega (
+      arith,
+      c.split_at_mut-room.ensures.front_len,
+      c.split_at_mut-room.ensures.back_len,
+      c.read.auto.buffer,
+      c.deref_mut.ensures.len,
+    ) in
     ap (λ (s : List ℕ). ahead s (g.R.Source.left c.read.new.self))
     (read_behind front sub whole _ start end n len c.split_at_mut-room.ensures.front c.make_room-start.ensures.order within few fits
     ∙ ap (λ (s : List ℕ). drop start (take end s) ++ take n sub) c.deref_mut.ensures.value
     ∙ ap (λ (s : List ℕ). s ++ take n sub) (c.make_room-start.ensures.same ∙ c.self.view_is))
-    ∙ ahead_behind (g.R.Source.left c.args.source.now) (g.R.Source.left c.read.new.self) c.args.self.now sub n c.in_ok-count.ensures.bytes.0 c.in_ok-count.ensures.bytes.1
+    ∙ ahead_behind (g.R.Source.left c.args.source.now) (g.R.Source.left c.read.new.self) c.args.self.now sub n
+    c.in_ok-count.ensures.bytes.0 c.in_ok-count.ensures.bytes.1
 
 pub returns-clause-front : goal.returns-clause-front
 returns-clause-front g c =
@@ -32,7 +40,14 @@ returns-clause-front g c =
     let front = c.split_at_mut-room.result.0.now in
     let within : end ≤ length whole = omega (arith, c.make_room-start.ensures.room, c.make_room-start.ensures.size, c.deref_mut.ensures.len) in
     let few : n ≤ length sub = omega (arith, c.in_ok-count.ensures.bound, c.read.auto.buffer) in
-    let fits : length front + length sub ≤ len = omega (arith, c.split_at_mut-room.ensures.front_len, c.split_at_mut-room.ensures.back_len, c.read.auto.buffer, c.deref_mut.ensures.len) in
+    let fits : length front + length sub ≤ len =
+    omega (
+      arith,
+      c.split_at_mut-room.ensures.front_len,
+      c.split_at_mut-room.ensures.back_len,
+      c.read.auto.buffer,
+      c.deref_mut.ensures.len,
+    ) in
     front_stays c.args.self.now _ sub n
     (read_behind front sub whole _ start end n len c.split_at_mut-room.ensures.front c.make_room-start.ensures.order within few fits
     ∙ ap (λ (s : List ℕ). drop start (take end s) ++ take n sub) c.deref_mut.ensures.value

@@ -12,9 +12,12 @@ same_peer : (a b : ℕ) → nat_cmp a b ≡ Equal → a ≡ b
 same_peer a b e = grind (arith, nat_tests)
 
 pub invariant_of-self-2 : goal.invariant_of-self-2
-invariant_of-self-2 c = rw c.in_ok-insert.ensures.entries (IsKeyed-insert nat_cmp peer_of c.args.own c.self.inside.filters.entries same_peer c.self.invariant)
+invariant_of-self-2 c =
+    rw c.in_ok-insert.ensures.entries
+    (IsKeyed-insert nat_cmp peer_of c.args.own c.self.inside.filters.entries same_peer c.self.invariant)
 
 pub returns-clause-ok : goal.returns-clause-ok
 returns-clause-ok c =
-    rw c.in_ok-insert.ensures.entries (values-insert nat_cmp peer_of nat_cmp_total c.args.own c.self.inside.filters.entries c.self.invariant c.insert.ensures.was_ordered)
+    rw c.in_ok-insert.ensures.entries (values-insert nat_cmp peer_of nat_cmp_total c.args.own
+    c.self.inside.filters.entries c.self.invariant c.insert.ensures.was_ordered)
     ∙ ap (λ owns. put by_peer owns c.args.own) c.self.view_is

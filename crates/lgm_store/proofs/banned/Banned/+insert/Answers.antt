@@ -16,7 +16,8 @@ not_true true e = absurd cc
 not_true false e = cc
 
 -- the first of the points, and the others
-with_points-first : (points ps : List Point) (p : Point) → 1 ≤ length ps → with_points (put by_point points (get_or ps 0 p)) (take (length ps - 1) (drop 1 ps)) ≡ with_points points ps
+with_points-first : (points ps : List Point) (p : Point) → 1 ≤ length ps → with_points
+    (put by_point points (get_or ps 0 p)) (take (length ps - 1) (drop 1 ps)) ≡ with_points points ps
 with_points-first points [] p long = absurd (omega (arith, long))
 with_points-first points (x ∷ xs) p long = ap (with_points (put by_point points x)) (take_all (length (x ∷ xs) - 1) xs (omega arith))
 

@@ -15,13 +15,18 @@ kept_is [] e = absurd cc
 kept_is (id ∷ ids) e = refl
 
 -- the point taken out
-out : (c : Joined-remove) → Sets c.args.self.now c.remove-then-is_empty.new.self.entries c.args.point.now (without_id (list_at c.args.self.now c.args.point.now) c.args.scid)
+out : (c : Joined-remove) → Sets c.args.self.now c.remove-then-is_empty.new.self.entries c.args.point.now
+    (without_id (list_at c.args.self.now c.args.point.now) c.args.scid)
 out c =
     let is = ap (λ o. unwrap_or o []) c.in-Some.ensures.value ∙ ap (λ es. list_at es c.args.point.now) c.self.view_is in
     let list = c.remove.new.self in
     let left = c.remove.ensures ∙ ap (λ l. without_id l c.args.scid) is in
-    Sets-out c.args.self.now c.self.inside.lists.entries (c.get_mut.follows.lender list).entries c.remove-then-is_empty.new.self.entries c.args.point.now list (without_id (list_at c.args.self.now c.args.point.now) c.args.scid)
-    c.self.view_is (sym left ∙ empty_is list (sym c.is_empty.ensures ∙ c.if-is_empty.true)) ((c.get_mut.follows.holds list).3 (sym (ap is_some c.in-Some.ensures.value))).0 c.remove-then-is_empty.ensures.updates.0
+    Sets-out c.args.self.now c.self.inside.lists.entries (c.get_mut.follows.lender list).entries
+    c.remove-then-is_empty.new.self.entries c.args.point.now list
+    (without_id (list_at c.args.self.now c.args.point.now) c.args.scid)
+    c.self.view_is (sym left ∙ empty_is list (sym c.is_empty.ensures ∙ c.if-is_empty.true))
+    ((c.get_mut.follows.holds list).3 (sym (ap is_some c.in-Some.ensures.value))).0
+    c.remove-then-is_empty.ensures.updates.0
 
 pub returns-then-is_empty : goal.returns-then-is_empty
 returns-then-is_empty c = elim c.match-remove.branch [
@@ -33,9 +38,13 @@ pub returns-else-is_empty : goal.returns-else-is_empty
 returns-else-is_empty c =
     let is = ap (λ o. unwrap_or o []) c.in-Some.ensures.value ∙ ap (λ es. list_at es c.args.point.now) c.self.view_is in
     let list = c.remove.new.self in
-    Sets-put c.args.self.now c.self.inside.lists.entries (c.get_mut.follows.lender list).entries c.args.point.now list (without_id (list_at c.args.self.now c.args.point.now) c.args.scid)
-    c.self.view_is (c.remove.ensures ∙ ap (λ l. without_id l c.args.scid) is) (kept_is list (sym c.is_empty.ensures ∙ c.if-is_empty.false)) ((c.get_mut.follows.holds list).3 (sym (ap is_some c.in-Some.ensures.value))).0
+    Sets-put c.args.self.now c.self.inside.lists.entries (c.get_mut.follows.lender list).entries
+    c.args.point.now list (without_id (list_at c.args.self.now c.args.point.now) c.args.scid)
+    c.self.view_is (c.remove.ensures ∙ ap (λ l. without_id l c.args.scid) is)
+    (kept_is list (sym c.is_empty.ensures ∙ c.if-is_empty.false))
+    ((c.get_mut.follows.holds list).3 (sym (ap is_some c.in-Some.ensures.value))).0
 
 pub returns-in_default : goal.returns-in_default
 returns-in_default c =
-    rw (c.get_mut.follows.holds-at-none, c.self.view_is) (Sets-none c.args.scid c.args.self.now c.args.point.now (rw (← c.self.view_is) (sym c.in_default.ensures.value)))
+    rw (c.get_mut.follows.holds-at-none, c.self.view_is) (Sets-none c.args.scid c.args.self.now
+    c.args.point.now (rw (← c.self.view_is) (sym c.in_default.ensures.value)))

@@ -8,4 +8,5 @@ use Rattle.lgm_store.proofs.held.Held.admit_kept_update.Goals as goal
 pub returns : goal.returns
 returns c =
     let verdict = rw (c.is_second.ensures, c.timestamp.ensures) at c.judge_update.ensures in
-    ap (update_op c.args.row.now) verdict ∙ update-decided c.args.self.now.channel (update_in (is_second c.args.row.now) c.args.self.now) c.args.row.now c.args.signer.now
+    ap (update_op c.args.row.now) verdict ∙ update-decided c.args.self.now.channel
+    (update_in (is_second c.args.row.now) c.args.self.now) c.args.row.now c.args.signer.now

@@ -9,4 +9,5 @@ returns c =
     let node = c.args.row.now.message.node_id in
     let rows = c.args.self.now in
     let verdict = rw (c.node.ensures, c.timestamp.ensures) at c.judge_node.ensures in
-    ap (node_op c.args.row.now) verdict ∙ node-decided (is_banned rows.banned node) (ends_channel rows.channels node) (node_of rows.nodes node) c.args.row.now
+    ap (node_op c.args.row.now) verdict ∙ node-decided (is_banned rows.banned node)
+    (ends_channel rows.channels node) (node_of rows.nodes node) c.args.row.now

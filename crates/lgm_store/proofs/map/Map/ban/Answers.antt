@@ -24,25 +24,34 @@ loop-scid-preserved c =
     ∙ sym (closed_all-more _ c.deref-scid-items.result.now c.loop-scid.scid-index c.scid-item.result c.loop-scid-test.true c.scid-item.is)
 
 -- the rows with the points back in their place
-done : (c : After-drop-scids-2) → rows_of c.self-2.inside.channels c.self-2.inside.nodes.entries c.replace-banned.result ≡ with_ban c.args.self.now c.args.ban.now
+done : (c : After-drop-scids-2) → rows_of c.self-2.inside.channels c.self-2.inside.nodes.entries
+    c.replace-banned.result ≡ with_ban c.args.self.now c.args.ban.now
 done c =
     let points : Rows → Rows = λ rows. record rows { banned = c.replace-banned.result } in
     let aside : Rows → Rows = λ rows. record rows { banned = c.replace-banned.new.dest } in
-    let lawful = kept-lawful c.self.inside.channels c.self.inside.nodes.entries c.self.inside.ends c.self.inside.banned c.args.self.now c.self.view_is c.self.invariant in
+    let lawful =
+    kept-lawful c.self.inside.channels c.self.inside.nodes.entries c.self.inside.ends c.self.inside.banned
+    c.args.self.now c.self.view_is c.self.invariant in
     let whole : take c.loop-scid.scid-index c.deref-scid-items.result.now ≡ c.in_ok-scids.scids.items =
     take_all c.loop-scid.scid-index c.deref-scid-items.result.now c.loop-scid-test.false ∙ c.deref-scid-items.ensures.value in
     let start : Rows = rows_of c.self.inside.channels c.self.inside.nodes.entries c.replace-banned.new.dest in
     ap points c.self-2.view_is
-    ∙ banned-all c.args.self.now start c.loop-scid.self c.replace-banned.new.dest c.replace-banned.result c.in_ok-scids.scids.items c.args.ban.now lawful
-    (c.replace-banned.ensures.after ∙ c.new.ensures.none) (ap aside c.self.view_is) c.in_ok-scids.ensures (c.loop-scid.invariant ∙ ap (closed_all start) whole)
+    ∙ banned-all c.args.self.now start c.loop-scid.self c.replace-banned.new.dest c.replace-banned.result
+    c.in_ok-scids.scids.items c.args.ban.now lawful
+    (c.replace-banned.ensures.after ∙ c.new.ensures.none) (ap aside c.self.view_is) c.in_ok-scids.ensures
+    (c.loop-scid.invariant ∙ ap (closed_all start) whole)
     (c.replace-banned.ensures.value ∙ c.in_ok-ban.ensures.ok ∙ ap (λ rows. with_banned rows.banned c.args.ban.now) c.self.view_is)
 
 pub invariant_of-self-3 : goal.invariant_of-self-3
 invariant_of-self-3 c =
-    let lawful = kept-lawful c.self.inside.channels c.self.inside.nodes.entries c.self.inside.ends c.self.inside.banned c.args.self.now c.self.view_is c.self.invariant in
+    let lawful =
+    kept-lawful c.self.inside.channels c.self.inside.nodes.entries c.self.inside.ends c.self.inside.banned
+    c.args.self.now c.self.view_is c.self.invariant in
     record {
       rows = c.self-2.invariant.rows;
-      banned_ascend = rw (c.replace-banned.ensures.value, c.in_ok-ban.ensures.ok) (ascend-with_banned c.self.inside.banned c.args.ban.now c.self.invariant.banned_ascend);
+      banned_ascend =
+          rw (c.replace-banned.ensures.value, c.in_ok-ban.ensures.ok)
+          (ascend-with_banned c.self.inside.banned c.args.ban.now c.self.invariant.banned_ascend);
       allowed = subst AreAllowed (sym (done c)) (AreAllowed-absorbed c.args.self.now (ops.Ban c.args.ban.now) lawful.allowed);
     }
 

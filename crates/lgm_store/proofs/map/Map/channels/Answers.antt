@@ -9,5 +9,6 @@ returns c =
     let sound = c.self.invariant.rows in
     c.range.ensures
     ∙ values-held_at c.self.inside.channels c.args.self.now sound.channels_keyed sound.updates_keyed
-    (ascend-held c.self.inside.channels sound.channels_ascend) (ap (λ rows. rows.channels) c.self.view_is) (ap (λ rows. rows.updates) c.self.view_is) (λ id. true)
+    (ascend-held c.self.inside.channels sound.channels_ascend) (ap (λ rows. rows.channels) c.self.view_is)
+    (ap (λ rows. rows.updates) c.self.view_is) (λ id. true)
     ∙ ap (map (held_at c.args.self.now)) (filter-all c.args.self.now.channels)

@@ -14,7 +14,8 @@ use Rattle.lgm_store.proofs.map.Map.channels_between.Goals.{then-from-to, else-f
 pub range-channels-requires : goal.range-channels-requires
 range-channels-requires c =
     elim c.if-from-to.branch [
-      | then-from-to w ↦ rw w.end-is (forward w.end_before-end.result c.start_of-start.result c.args.from c.args.to c.start_of-start.ensures.least w.if-from-to.true w.end_before-end.ensures)
+      | then-from-to w ↦ rw w.end-is (forward w.end_before-end.result c.start_of-start.result c.args.from
+          c.args.to c.start_of-start.ensures.least w.if-from-to.true w.end_before-end.ensures)
       | else-from-to w ↦ rw w.end-is (backward c.start_of-start.result)
     ]
 
@@ -24,12 +25,15 @@ returns c =
     let start = c.start_of-start.result in
     let ranged : (id : ℕ) → is_between id c.args.from c.args.to ≡ true → range_contains nat_cmp (Included start) c.if-from-to.end id ≡ true =
     λ id between. elim c.if-from-to.branch [
-      | then-from-to w ↦ rw w.end-is (within w.end_before-end.result start c.args.from c.args.to id c.start_of-start.ensures.earlier w.end_before-end.ensures between)
+      | then-from-to w ↦ rw w.end-is (within w.end_before-end.result start c.args.from c.args.to id
+          c.start_of-start.ensures.earlier w.end_before-end.ensures between)
       | else-from-to w ↦ absurd (never id c.args.from c.args.to w.if-from-to.false between)
     ] in
     c.new.ensures ∙ ap (filter (λ held. is_between (id_in held) c.args.from c.args.to)) c.range-channels.ensures
-    ∙ filter-keyed (λ id. is_between id c.args.from c.args.to) (range_contains nat_cmp (Included start) c.if-from-to.end) c.self.inside.channels sound.channels_keyed
-    ∙ ap values_of (filter-past (λ e. range_contains nat_cmp (Included start) c.if-from-to.end e.0) (λ e. is_between e.0 c.args.from c.args.to) c.self.inside.channels (λ e. ranged e.0))
+    ∙ filter-keyed (λ id. is_between id c.args.from c.args.to)
+    (range_contains nat_cmp (Included start) c.if-from-to.end) c.self.inside.channels sound.channels_keyed
+    ∙ ap values_of (filter-past (λ e. range_contains nat_cmp (Included start) c.if-from-to.end e.0)
+    (λ e. is_between e.0 c.args.from c.args.to) c.self.inside.channels (λ e. ranged e.0))
     ∙ values-held_at c.self.inside.channels c.args.self.now sound.channels_keyed sound.updates_keyed
     (ascend-held c.self.inside.channels sound.channels_ascend) (ap (λ rows. rows.channels) c.self.view_is) (ap (λ rows. rows.updates) c.self.view_is)
     (λ id. is_between id c.args.from c.args.to)

@@ -14,46 +14,67 @@ use Rattle.lgm_store.proofs.Changes.{is_held, without_channel-held, without_chan
 use Rattle.lgm_store.proofs.map.Map.close.Goals as goal
 
 -- a channel that isn't held
-unchanged : (held new : List (ℕ × Held)) (id : ℕ) → new ≡ remove_entry (is_at (nat_cmp id)) held → None ≡ lookup (is_at (nat_cmp id)) held → new ≡ held
+unchanged : (held new : List (ℕ × Held)) (id : ℕ) → new ≡ remove_entry (is_at (nat_cmp id)) held
+    → None ≡ lookup (is_at (nat_cmp id)) held → new ≡ held
 unchanged held new id left none = left ∙ remove-none (is_at (nat_cmp id)) held (sym none)
 
 pub invariant_of-self : goal.invariant_of-self
 invariant_of-self c =
     record {
       rows =
-          IsSound-unchanged c.self.inside.channels c.remove.new.self c.self.inside.nodes.entries c.self.inside.ends (unchanged c.self.inside.channels c.remove.new.self c.args.scid c.in_default.ensures.left c.in_default.ensures.value) c.self.invariant.rows;
+          IsSound-unchanged c.self.inside.channels c.remove.new.self c.self.inside.nodes.entries
+          c.self.inside.ends (unchanged c.self.inside.channels c.remove.new.self c.args.scid
+          c.in_default.ensures.left c.in_default.ensures.value) c.self.invariant.rows;
       banned_ascend = c.self.invariant.banned_ascend;
-      allowed = rw (unchanged c.self.inside.channels c.remove.new.self c.args.scid c.in_default.ensures.left c.in_default.ensures.value) c.self.invariant.allowed;
+      allowed =
+          rw (unchanged c.self.inside.channels c.remove.new.self c.args.scid c.in_default.ensures.left
+          c.in_default.ensures.value) c.self.invariant.allowed;
     }
 
 pub returns-in_default : goal.returns-in_default
 returns-in_default c =
-    let held = is_held c.self.inside.channels c.args.self.now.channels c.args.scid c.self.invariant.rows.channels_keyed (ap (λ rows. rows.channels) c.self.view_is) in
-    rw (unchanged c.self.inside.channels c.remove.new.self c.args.scid c.in_default.ensures.left c.in_default.ensures.value) (c.self.view_is ∙ without_channel-none c.args.self.now c.args.scid (sym held ∙ ap is_some (sym c.in_default.ensures.value)))
+    let held =
+    is_held c.self.inside.channels c.args.self.now.channels c.args.scid c.self.invariant.rows.channels_keyed
+    (ap (λ rows. rows.channels) c.self.view_is) in
+    rw (unchanged c.self.inside.channels c.remove.new.self c.args.scid c.in_default.ensures.left
+    c.in_default.ensures.value) (c.self.view_is ∙ without_channel-none c.args.self.now c.args.scid
+    (sym held ∙ ap is_some (sym c.in_default.ensures.value)))
 
 pub invariant_of-self-2 : goal.invariant_of-self-2
 invariant_of-self-2 c =
-    let left = closed c.self.inside.channels c.remove.new.self c.self.inside.nodes.entries c.drop_unless_ended.new.nodes.entries c.drop_unless_ended-2.new.nodes.entries
+    let left =
+    closed c.self.inside.channels c.remove.new.self c.self.inside.nodes.entries
+    c.drop_unless_ended.new.nodes.entries c.drop_unless_ended-2.new.nodes.entries
     c.self.inside.ends c.remove-2.new.self c.args.scid c.in-Some.held c.node.result.now c.node-2.result.now
     c.node.ensures c.node-2.ensures
-    c.remove.ensures.left (sym c.in-Some.ensures.value) (ascend-held c.self.inside.channels c.self.invariant.rows.channels_ascend) c.remove.ensures.ascend
-    c.remove-2.ensures c.drop_unless_ended.ensures.left c.drop_unless_ended-2.ensures.left c.drop_unless_ended-2.ensures.keyed c.drop_unless_ended-2.ensures.ascend c.self.invariant.rows in
+    c.remove.ensures.left (sym c.in-Some.ensures.value)
+    (ascend-held c.self.inside.channels c.self.invariant.rows.channels_ascend) c.remove.ensures.ascend
+    c.remove-2.ensures c.drop_unless_ended.ensures.left c.drop_unless_ended-2.ensures.left
+    c.drop_unless_ended-2.ensures.keyed c.drop_unless_ended-2.ensures.ascend c.self.invariant.rows in
     record {
       rows = left.sound;
       banned_ascend = c.self.invariant.banned_ascend;
-      allowed = rw (left.channels_left) (All-filtered (λ row. ends_banned c.self.inside.banned row ≡ false) (λ row. ends_banned c.self.inside.banned row ≡ false) _ (values_of (channel_entries c.self.inside.channels))
+      allowed =
+          rw (left.channels_left) (All-filtered (λ row. ends_banned c.self.inside.banned row ≡ false) (λ row.
+          ends_banned c.self.inside.banned row ≡ false) _ (values_of (channel_entries c.self.inside.channels))
           (λ row is allowed. allowed) c.self.invariant.allowed);
     }
 
 pub returns : goal.returns
 returns c =
-    let left = closed c.self.inside.channels c.remove.new.self c.self.inside.nodes.entries c.drop_unless_ended.new.nodes.entries c.drop_unless_ended-2.new.nodes.entries
+    let left =
+    closed c.self.inside.channels c.remove.new.self c.self.inside.nodes.entries
+    c.drop_unless_ended.new.nodes.entries c.drop_unless_ended-2.new.nodes.entries
     c.self.inside.ends c.remove-2.new.self c.args.scid c.in-Some.held c.node.result.now c.node-2.result.now
     c.node.ensures c.node-2.ensures
-    c.remove.ensures.left (sym c.in-Some.ensures.value) (ascend-held c.self.inside.channels c.self.invariant.rows.channels_ascend) c.remove.ensures.ascend
-    c.remove-2.ensures c.drop_unless_ended.ensures.left c.drop_unless_ended-2.ensures.left c.drop_unless_ended-2.ensures.keyed c.drop_unless_ended-2.ensures.ascend c.self.invariant.rows in
+    c.remove.ensures.left (sym c.in-Some.ensures.value)
+    (ascend-held c.self.inside.channels c.self.invariant.rows.channels_ascend) c.remove.ensures.ascend
+    c.remove-2.ensures c.drop_unless_ended.ensures.left c.drop_unless_ended-2.ensures.left
+    c.drop_unless_ended-2.ensures.keyed c.drop_unless_ended-2.ensures.ascend c.self.invariant.rows in
     let held : is_some (channel_of c.args.self.now.channels c.args.scid) ≡ true =
-    sym (is_held c.self.inside.channels c.args.self.now.channels c.args.scid c.self.invariant.rows.channels_keyed (ap (λ rows. rows.channels) c.self.view_is)) ∙ ap is_some (sym c.in-Some.ensures.value) in
+    sym (is_held c.self.inside.channels c.args.self.now.channels c.args.scid
+    c.self.invariant.rows.channels_keyed (ap (λ rows. rows.channels) c.self.view_is))
+    ∙ ap is_some (sym c.in-Some.ensures.value) in
     without_channel-held c.args.self.now _ c.args.scid held
     (left.channels_left ∙ ap (λ rows. channels_without rows.channels c.args.scid) c.self.view_is)
     (left.updates_left ∙ ap (λ rows. updates_without rows.updates c.args.scid) c.self.view_is)

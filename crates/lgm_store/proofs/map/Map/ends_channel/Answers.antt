@@ -7,5 +7,6 @@ use Rattle.lgm_store.proofs.map.Map.ends_channel.Goals as goal
 
 pub returns : goal.returns
 returns c =
-    c.contains.ensures ∙ ends-listed c.self.inside.ends (values_of (channel_entries c.self.inside.channels)) c.args.node.now c.self.invariant.rows.listed
+    c.contains.ensures ∙ ends-listed c.self.inside.ends (values_of (channel_entries c.self.inside.channels))
+    c.args.node.now c.self.invariant.rows.listed
     ∙ ap (λ rows. ends_channel rows.channels c.args.node.now) c.self.view_is

@@ -13,12 +13,16 @@ use Rattle.lgm_store.proofs.map.Map.held.Goals as goal
 pub returns-clause-channel : goal.returns-clause-channel
 returns-clause-channel c =
     ap (option_map (λ held. held.channel)) c.get.ensures ∙ sym (lookup-channels (is_at (nat_cmp c.args.scid)) c.self.inside.channels)
-    ∙ lookup-channel (channel_entries c.self.inside.channels) c.args.scid c.self.invariant.rows.channels_keyed ∙ ap (λ rows. channel_of rows.channels c.args.scid) c.self.view_is
+    ∙ lookup-channel (channel_entries c.self.inside.channels) c.args.scid c.self.invariant.rows.channels_keyed
+    ∙ ap (λ rows. channel_of rows.channels c.args.scid) c.self.view_is
 
 pub returns-clause-update : goal.returns-clause-update
 returns-clause-update c second =
-    ap (option_and_then (update_in second)) c.get.ensures ∙ sym (lookup-updates c.args.scid second c.self.inside.channels (ascend-held c.self.inside.channels c.self.invariant.rows.channels_ascend))
-    ∙ lookup-update (update_entries c.self.inside.channels) c.args.scid second c.self.invariant.rows.updates_keyed ∙ ap (λ rows. update_of rows.updates c.args.scid second) c.self.view_is
+    ap (option_and_then (update_in second)) c.get.ensures ∙ sym (lookup-updates c.args.scid second
+    c.self.inside.channels (ascend-held c.self.inside.channels c.self.invariant.rows.channels_ascend))
+    ∙ lookup-update (update_entries c.self.inside.channels) c.args.scid second
+    c.self.invariant.rows.updates_keyed
+    ∙ ap (λ rows. update_of rows.updates c.args.scid second) c.self.view_is
 
 pub returns-clause-held : goal.returns-clause-held
 returns-clause-held c =

@@ -19,41 +19,59 @@ use Rattle.lgm_store.proofs.map.Map.insert_channel.Goals as goal
 pub invariant_of-self : goal.invariant_of-self
 invariant_of-self c =
     let none = rw (← (c.scid-scid.ensures ∙ ap id_in c.new-held.ensures)) at c.requires.new in
-    let lookup_none = not_held c.self.inside.channels c.args.self.now.channels c.scid-scid.result c.self.invariant.rows.channels_keyed (ap (λ rows. rows.channels) c.self.view_is) none in
-    let none_held = lookup-channels (is_at (nat_cmp c.scid-scid.result)) c.self.inside.channels ∙ ap (option_map (λ held. held.channel)) lookup_none in
+    let lookup_none =
+    not_held c.self.inside.channels c.args.self.now.channels c.scid-scid.result
+    c.self.invariant.rows.channels_keyed (ap (λ rows. rows.channels) c.self.view_is) none in
+    let none_held =
+    lookup-channels (is_at (nat_cmp c.scid-scid.result)) c.self.inside.channels
+    ∙ ap (option_map (λ held. held.channel)) lookup_none in
     record {
       rows =
-          IsSound-listed (channel_entries c.self.inside.channels) (update_entries c.self.inside.channels) c.self.inside.nodes.entries c.self.inside.ends c.add.new.self
-          (c.in_err-add.ensures.err _ c.self.invariant.rows.listed (lacks c.scid-scid.result (channel_entries c.self.inside.channels) c.self.invariant.rows.channels_keyed none_held)) c.self.invariant.rows;
+          IsSound-listed (channel_entries c.self.inside.channels) (update_entries c.self.inside.channels)
+          c.self.inside.nodes.entries c.self.inside.ends c.add.new.self
+          (c.in_err-add.ensures.err _ c.self.invariant.rows.listed (lacks c.scid-scid.result (channel_entries
+          c.self.inside.channels) c.self.invariant.rows.channels_keyed none_held)) c.self.invariant.rows;
       banned_ascend = c.self.invariant.banned_ascend;
       allowed = c.self.invariant.allowed;
     }
 
 -- the channel in its place
-entered : (held new : List (ℕ × Held)) (id : ℕ) (one : Held) (row : ChannelRow) → new ≡ insert_entry nat_cmp held (id_in one) one → one ≡ alone row → id ≡ id_of row
+entered : (held new : List (ℕ × Held)) (id : ℕ) (one : Held) (row : ChannelRow)
+    → new ≡ insert_entry nat_cmp held (id_in one) one → one ≡ alone row → id ≡ id_of row
     → new ≡ insert_entry nat_cmp held id (alone row)
 entered held new id one row is one_is id_is =
     is ∙ ap (λ h. insert_entry nat_cmp held (id_in h) h) one_is ∙ ap (λ (k : ℕ). insert_entry nat_cmp held k (alone row)) (sym id_is)
 
 pub insert-requires : goal.insert-requires
 insert-requires c =
-    rw c.new-held.ensures (not_held c.self.inside.channels c.args.self.now.channels c.args.row.message.short_channel_id c.self.invariant.rows.channels_keyed (ap (λ rows. rows.channels) c.self.view_is) c.requires.new)
+    rw c.new-held.ensures
+    (not_held c.self.inside.channels c.args.self.now.channels c.args.row.message.short_channel_id
+    c.self.invariant.rows.channels_keyed (ap (λ rows. rows.channels) c.self.view_is) c.requires.new)
 
 pub invariant_of-self-in-Ok : goal.invariant_of-self-in-Ok
 invariant_of-self-in-Ok c =
     let own = (c.scid-scid.ensures ∙ ap id_in c.new-held.ensures) in
     let none = rw (← own) at c.requires.new in
-    let lookup_none = not_held c.self.inside.channels c.args.self.now.channels c.scid-scid.result c.self.invariant.rows.channels_keyed (ap (λ rows. rows.channels) c.self.view_is) none in
-    let is = entered c.self.inside.channels c.insert.new.self c.scid-scid.result c.new-held.result c.args.row c.in-Ok.ensures.ok c.new-held.ensures (c.scid-scid.ensures ∙ ap id_in c.new-held.ensures) in
+    let lookup_none =
+    not_held c.self.inside.channels c.args.self.now.channels c.scid-scid.result
+    c.self.invariant.rows.channels_keyed (ap (λ rows. rows.channels) c.self.view_is) none in
+    let is =
+    entered c.self.inside.channels c.insert.new.self c.scid-scid.result c.new-held.result c.args.row
+    c.in-Ok.ensures.ok c.new-held.ensures (c.scid-scid.ensures ∙ ap id_in c.new-held.ensures) in
     let put_is = values-channel (channel_entries c.self.inside.channels) (channel_entries c.insert.new.self) c.scid-scid.result c.args.row own
-    (ap channel_entries is ∙ insert-channels c.scid-scid.result (alone c.args.row) c.self.inside.channels) c.self.invariant.rows.channels_keyed c.self.invariant.rows.channels_ascend in
+    (ap channel_entries is ∙ insert-channels c.scid-scid.result (alone c.args.row) c.self.inside.channels)
+    c.self.invariant.rows.channels_keyed c.self.invariant.rows.channels_ascend in
     record {
       rows =
           IsSound-held c.self.inside.channels c.insert.new.self c.self.inside.nodes.entries c.self.inside.ends c.add.new.self
-          c.scid-scid.result c.args.row c.node.result.now c.node-2.result.now (c.scid-scid.ensures ∙ ap id_in c.new-held.ensures) (c.node.ensures ∙ ap (λ h. h.channel.message.node_id_1) c.new-held.ensures) (c.node-2.ensures ∙ ap (λ h. h.channel.message.node_id_2) c.new-held.ensures)
+          c.scid-scid.result c.args.row c.node.result.now c.node-2.result.now (c.scid-scid.ensures ∙ ap id_in
+          c.new-held.ensures) (c.node.ensures ∙ ap (λ h. h.channel.message.node_id_1) c.new-held.ensures)
+          (c.node-2.ensures ∙ ap (λ h. h.channel.message.node_id_2) c.new-held.ensures)
           is lookup_none c.in-Ok.ensures.ascend c.in_ok-add.ensures.ok c.self.invariant.rows;
       banned_ascend = c.self.invariant.banned_ascend;
-      allowed = rw (put_is) (All-put (λ row. ends_banned c.self.inside.banned row ≡ false) by_id (values_of (channel_entries c.self.inside.channels)) c.args.row
+      allowed =
+          rw (put_is) (All-put (λ row. ends_banned c.self.inside.banned row ≡ false) by_id
+          (values_of (channel_entries c.self.inside.channels)) c.args.row
           (ap (λ rows. ends_banned rows.banned c.args.row) c.self.view_is ∙ c.requires.allowed) c.self.invariant.allowed);
     }
 
@@ -63,22 +81,33 @@ returns-in-Ok-clause-ok c =
     let new = c.insert.new.self in
     let own = (c.scid-scid.ensures ∙ ap id_in c.new-held.ensures) in
     let none = rw (← own) at c.requires.new in
-    let lookup_none = not_held entries c.args.self.now.channels c.scid-scid.result c.self.invariant.rows.channels_keyed (ap (λ rows. rows.channels) c.self.view_is) none in
-    let is = entered c.self.inside.channels c.insert.new.self c.scid-scid.result c.new-held.result c.args.row c.in-Ok.ensures.ok c.new-held.ensures (c.scid-scid.ensures ∙ ap id_in c.new-held.ensures) in
-    let put_is = values-channel (channel_entries entries) (channel_entries new) c.scid-scid.result c.args.row own (ap channel_entries is ∙ insert-channels c.scid-scid.result (alone c.args.row) entries)
+    let lookup_none =
+    not_held entries c.args.self.now.channels c.scid-scid.result c.self.invariant.rows.channels_keyed
+    (ap (λ rows. rows.channels) c.self.view_is) none in
+    let is =
+    entered c.self.inside.channels c.insert.new.self c.scid-scid.result c.new-held.result c.args.row
+    c.in-Ok.ensures.ok c.new-held.ensures (c.scid-scid.ensures ∙ ap id_in c.new-held.ensures) in
+    let put_is =
+    values-channel (channel_entries entries) (channel_entries new) c.scid-scid.result c.args.row own
+    (ap channel_entries is ∙ insert-channels c.scid-scid.result (alone c.args.row) entries)
     c.self.invariant.rows.channels_keyed c.self.invariant.rows.channels_ascend in
     let same = ap (λ es. values_of (update_entries es)) is ∙ ap values_of (insert-updates c.scid-scid.result c.args.row entries lookup_none) in
     with_channel-new c.args.self.now _ c.args.row c.requires.new c.requires.allowed
-    (put_is ∙ ap (λ rows. put by_id rows.channels c.args.row) c.self.view_is) (same ∙ ap (λ rows. rows.updates) c.self.view_is) (ap (λ rows. rows.nodes) c.self.view_is) (ap (λ rows. rows.banned) c.self.view_is)
+    (put_is ∙ ap (λ rows. put by_id rows.channels c.args.row) c.self.view_is)
+    (same ∙ ap (λ rows. rows.updates) c.self.view_is) (ap (λ rows. rows.nodes) c.self.view_is)
+    (ap (λ rows. rows.banned) c.self.view_is)
 
 pub invariant_of-self-in-Err : goal.invariant_of-self-in-Err
 invariant_of-self-in-Err c =
     let none = rw (← (c.scid-scid.ensures ∙ ap id_in c.new-held.ensures)) at c.requires.new in
-    let lookup_none = not_held c.self.inside.channels c.args.self.now.channels c.scid-scid.result c.self.invariant.rows.channels_keyed (ap (λ rows. rows.channels) c.self.view_is) none in
+    let lookup_none =
+    not_held c.self.inside.channels c.args.self.now.channels c.scid-scid.result
+    c.self.invariant.rows.channels_keyed (ap (λ rows. rows.channels) c.self.view_is) none in
     record {
       rows =
           IsSound-undone c.self.inside.channels c.insert.new.self c.self.inside.nodes.entries c.self.inside.ends c.add.new.self c.remove.new.self
-          c.scid-scid.result c.node.result.now c.node-2.result.now c.in-Err.ensures.err lookup_none c.in_ok-add.ensures.ok c.remove.ensures c.self.invariant.rows;
+          c.scid-scid.result c.node.result.now c.node-2.result.now c.in-Err.ensures.err lookup_none
+          c.in_ok-add.ensures.ok c.remove.ensures c.self.invariant.rows;
       banned_ascend = c.self.invariant.banned_ascend;
       allowed = rw (c.in-Err.ensures.err) c.self.invariant.allowed;
     }

@@ -10,14 +10,20 @@ pub invariant_of-self-2 : goal.invariant_of-self-2
 invariant_of-self-2 c =
     record {
       rows =
-          IsSound-node (channel_entries c.self.inside.channels) (update_entries c.self.inside.channels) c.self.inside.nodes.entries c.insert.new.self.entries c.self.inside.ends
-          c.args.node c.args.row c.requires.own c.in_ok-insert.ensures.entries c.insert.ensures.ordered (ap (λ rows. ends_channel rows.channels c.args.row.message.node_id) c.self.view_is ∙ c.requires.ended) c.self.invariant.rows;
+          IsSound-node (channel_entries c.self.inside.channels) (update_entries c.self.inside.channels)
+          c.self.inside.nodes.entries c.insert.new.self.entries c.self.inside.ends
+          c.args.node c.args.row c.requires.own c.in_ok-insert.ensures.entries c.insert.ensures.ordered
+          (ap (λ rows. ends_channel rows.channels c.args.row.message.node_id) c.self.view_is
+          ∙ c.requires.ended) c.self.invariant.rows;
       banned_ascend = c.self.invariant.banned_ascend;
       allowed = c.self.invariant.allowed;
     }
 
 pub returns-clause-ok : goal.returns-clause-ok
 returns-clause-ok c =
-    let put_is = values-node c.self.inside.nodes.entries c.insert.new.self.entries c.args.node c.args.row c.requires.own c.in_ok-insert.ensures.entries c.self.invariant.rows.nodes_keyed c.insert.ensures.was_ordered in
+    let put_is =
+    values-node c.self.inside.nodes.entries c.insert.new.self.entries c.args.node c.args.row c.requires.own
+    c.in_ok-insert.ensures.entries c.self.invariant.rows.nodes_keyed c.insert.ensures.was_ordered in
     with_node-new c.args.self.now _ c.args.row c.requires.ended
-    (ap (λ rows. rows.channels) c.self.view_is) (ap (λ rows. rows.updates) c.self.view_is) (put_is ∙ ap (λ rows. put by_node rows.nodes c.args.row) c.self.view_is) (ap (λ rows. rows.banned) c.self.view_is)
+    (ap (λ rows. rows.channels) c.self.view_is) (ap (λ rows. rows.updates) c.self.view_is) (put_is ∙ ap
+    (λ rows. put by_node rows.nodes c.args.row) c.self.view_is) (ap (λ rows. rows.banned) c.self.view_is)

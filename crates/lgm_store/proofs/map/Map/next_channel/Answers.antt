@@ -28,7 +28,8 @@ first_of [] = refl
 first_of (e ∷ es) = refl
 
 next_is : (channels : List Held) (start : Bound ℕ) (entries : List (ℕ × Held)) (after : Option ℕ) (rows : List ChannelRow)
-    → channels ≡ values_of (entries_between nat_cmp start Unbounded entries) → start ≡ start_after after → IsKeyed id_of (channel_entries entries) → values_of (channel_entries entries) ≡ rows
+    → channels ≡ values_of (entries_between nat_cmp start Unbounded entries) → start ≡ start_after after
+    → IsKeyed id_of (channel_entries entries) → values_of (channel_entries entries) ≡ rows
     → first_channel channels ≡ next_channel_of rows after
 next_is channels start entries after rows is start_is keyed rows_are =
     ap first_channel (is ∙ ap (λ s. values_of (entries_between nat_cmp s Unbounded entries)) start_is)
@@ -39,11 +40,15 @@ next_is channels start entries after rows is start_is keyed rows_are =
 pub returns-in_err-held : goal.returns-in_err-held
 returns-in_err-held c =
     c.from_residual.ensures ∙ ap first_channel (sym c.in_err-held.ensures.steps.0)
-    ∙ next_is c.range-channels.result c.start_after.result c.self.inside.channels c.args.after c.args.self.now.channels c.range-channels.ensures c.start_after.ensures c.self.invariant.rows.channels_keyed
+    ∙ next_is c.range-channels.result c.start_after.result c.self.inside.channels c.args.after
+    c.args.self.now.channels c.range-channels.ensures c.start_after.ensures
+    c.self.invariant.rows.channels_keyed
     (ap (λ rows. rows.channels) c.self.view_is)
 
 pub returns : goal.returns
 returns c =
     ap some_row c.row.ensures ∙ ap first_channel (sym c.in_ok-held.ensures.steps)
-    ∙ next_is c.range-channels.result c.start_after.result c.self.inside.channels c.args.after c.args.self.now.channels c.range-channels.ensures c.start_after.ensures c.self.invariant.rows.channels_keyed
+    ∙ next_is c.range-channels.result c.start_after.result c.self.inside.channels c.args.after
+    c.args.self.now.channels c.range-channels.ensures c.start_after.ensures
+    c.self.invariant.rows.channels_keyed
     (ap (λ rows. rows.channels) c.self.view_is)

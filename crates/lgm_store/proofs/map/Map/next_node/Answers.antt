@@ -17,11 +17,15 @@ returns-in_err-row c =
     let start = c.start_after.ensures ∙ ap start_after c.copied.ensures in
     let between = c.range.ensures.between tt ∙ ap (λ start. entries_between point_cmp start Unbounded c.self.inside.nodes.entries) start in
     c.from_residual.ensures ∙ ap first_value (sym c.in_err-row.ensures.steps.0 ∙ between)
-    ∙ sym (next_node-between c.self.inside.nodes.entries (option_copied c.args.after) c.self.invariant.rows.nodes_keyed) ∙ ap (λ rows. next_node_of rows.nodes (option_copied c.args.after)) c.self.view_is
+    ∙ sym (next_node-between c.self.inside.nodes.entries (option_copied c.args.after)
+    c.self.invariant.rows.nodes_keyed)
+    ∙ ap (λ rows. next_node_of rows.nodes (option_copied c.args.after)) c.self.view_is
 
 pub returns : goal.returns
 returns c =
     let start = c.start_after.ensures ∙ ap start_after c.copied.ensures in
     let between = c.range.ensures.between tt ∙ ap (λ start. entries_between point_cmp start Unbounded c.self.inside.nodes.entries) start in
     ap some_row (c.row.ensures.row ∙ c.get.ensures) ∙ ap first_value (sym c.in_ok-row.ensures.steps ∙ between)
-    ∙ sym (next_node-between c.self.inside.nodes.entries (option_copied c.args.after) c.self.invariant.rows.nodes_keyed) ∙ ap (λ rows. next_node_of rows.nodes (option_copied c.args.after)) c.self.view_is
+    ∙ sym (next_node-between c.self.inside.nodes.entries (option_copied c.args.after)
+    c.self.invariant.rows.nodes_keyed)
+    ∙ ap (λ rows. next_node_of rows.nodes (option_copied c.args.after)) c.self.view_is

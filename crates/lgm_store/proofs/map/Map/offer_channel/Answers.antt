@@ -8,4 +8,6 @@ pub insert_channel-requires-clause-new : goal.insert_channel-requires-clause-new
 insert_channel-requires-clause-new c = rw c.in_ok-share.ensures (added _ _ c.args.row (rw (c.in_default.is, c.get.ensures) at c.in_ok-ban.ensures)).0
 
 pub insert_channel-requires-clause-allowed : goal.insert_channel-requires-clause-allowed
-insert_channel-requires-clause-allowed c = rw c.in_ok-share.ensures (added _ _ c.args.row (rw (c.in_default.is, c.get.ensures) at c.in_ok-ban.ensures)).1
+insert_channel-requires-clause-allowed c =
+    rw c.in_ok-share.ensures
+    (added _ _ c.args.row (rw (c.in_default.is, c.get.ensures) at c.in_ok-ban.ensures)).1

@@ -16,17 +16,21 @@ use Rattle.lgm_store.proofs.map.Map.offer_update.Goals.{Joined-offer_update, in-
 -- the rows of the update's channel
 channel_is : (c : Joined-offer_update) → channel_of c.args.self.now.channels c.args.row.message.short_channel_id
     ≡ option_map (λ h. h.channel) (lookup (is_at (nat_cmp c.args.row.message.short_channel_id)) c.self.inside.channels)
-channel_is c = channel_at c.self.inside.channels c.args.self.now.channels c.args.row.message.short_channel_id c.self.invariant.rows.channels_keyed (ap (λ rows. rows.channels) c.self.view_is)
+channel_is c =
+    channel_at c.self.inside.channels c.args.self.now.channels c.args.row.message.short_channel_id
+    c.self.invariant.rows.channels_keyed (ap (λ rows. rows.channels) c.self.view_is)
 
 update_is : (c : Joined-offer_update) → update_of c.args.self.now.updates c.args.row.message.short_channel_id (is_second c.args.row)
     ≡ option_and_then (update_in (is_second c.args.row)) (lookup (is_at (nat_cmp c.args.row.message.short_channel_id)) c.self.inside.channels)
 update_is c =
-    update_at c.self.inside.channels c.args.self.now.updates c.args.row.message.short_channel_id (is_second c.args.row) c.self.invariant.rows.updates_keyed
+    update_at c.self.inside.channels c.args.self.now.updates c.args.row.message.short_channel_id
+    (is_second c.args.row) c.self.invariant.rows.updates_keyed
     (ascend-held c.self.inside.channels c.self.invariant.rows.channels_ascend) (ap (λ rows. rows.updates) c.self.view_is)
 
 pub invariant_of-self : goal.invariant_of-self
 invariant_of-self c = elim c.match-offer_update.branch [
-  | in-Ok w ↦ rw w.in-Ok.ensures.accepted (put-kept c.self.inside.channels c.self.inside.nodes.entries c.self.inside.ends c.self.inside.banned c.args.row c.self.invariant)
+  | in-Ok w ↦ rw w.in-Ok.ensures.accepted (put-kept c.self.inside.channels c.self.inside.nodes.entries
+      c.self.inside.ends c.self.inside.banned c.args.row c.self.invariant)
   | in-Err w ↦ rw w.in-Err.ensures.refused c.self.invariant
 ]
 
@@ -39,6 +43,7 @@ returns-clause-admission c = elim c.match-offer_update.branch [
 pub returns-clause-accepted : goal.returns-clause-accepted
 returns-clause-accepted c = elim c.match-offer_update.branch [
   | in-Ok w ↦ rw w.result-is (ap (λ (es : List (ℕ × Held)). rows_of es c.self.inside.nodes.entries c.self.inside.banned) w.in-Ok.ensures.accepted
-      ∙ put-rows c.self.inside.channels c.self.inside.nodes.entries c.self.inside.ends c.self.inside.banned c.args.row c.self.invariant c.args.self.now c.self.view_is)
+      ∙ put-rows c.self.inside.channels c.self.inside.nodes.entries c.self.inside.ends c.self.inside.banned
+      c.args.row c.self.invariant c.args.self.now c.self.view_is)
   | in-Err w ↦ rw w.result-is tt
 ]

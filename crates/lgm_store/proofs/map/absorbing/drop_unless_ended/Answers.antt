@@ -11,7 +11,8 @@ use Rattle.lgm_store.proofs.Lists.{values-no_node}
 use Rattle.lgm_store.proofs.map.absorbing.drop_unless_ended.Goals as goal
 
 -- all stay beside a node that is in the index
-all_stay : (ends : List (Point × List ℕ)) (node : Point) → is_some (entry_of ends node) ≡ true → (rows : List NodeRow) → rows ≡ filter (stays_beside ends node) rows
+all_stay : (ends : List (Point × List ℕ)) (node : Point) → is_some (entry_of ends node) ≡ true
+    → (rows : List NodeRow) → rows ≡ filter (stays_beside ends node) rows
 all_stay ends node here [] = refl
 all_stay ends node here (row ∷ rows) = rw (here, ← all_stay ends node here rows) refl
 

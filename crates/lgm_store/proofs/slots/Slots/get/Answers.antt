@@ -5,13 +5,16 @@ use Rattle.lgm_store.proofs.slots.Slots.get.Goals as goal
 pub returns-in_err-number : goal.returns-in_err-number
 returns-in_err-number c =
     rw c.from_residual.ensures
-    (sym (found-none c.self.inside.slots.slots c.self.inside.numbers.entries c.args.self.now c.args.scid c.self.invariant.own c.self.view_is (sym c.in_err-number.ensures)))
+    (sym (found-none c.self.inside.slots.slots c.self.inside.numbers.entries c.args.self.now c.args.scid
+    c.self.invariant.own c.self.view_is (sym c.in_err-number.ensures)))
 
 pub index-requires : goal.index-requires
 index-requires c =
-    has-slot c.self.inside.slots.slots c.self.inside.numbers.entries c.args.scid c.in_ok-number.number c.self.invariant.own (sym c.in_ok-number.ensures)
+    has-slot c.self.inside.slots.slots c.self.inside.numbers.entries c.args.scid c.in_ok-number.number
+    c.self.invariant.own (sym c.in_ok-number.ensures)
 
 pub returns : goal.returns
 returns c =
-    sym (found-held c.self.inside.slots.slots c.self.inside.numbers.entries c.args.self.now c.args.scid c.in_ok-number.number c.index.result.now c.self.invariant.own c.self.view_is
+    sym (found-held c.self.inside.slots.slots c.self.inside.numbers.entries c.args.self.now c.args.scid
+    c.in_ok-number.number c.index.result.now c.self.invariant.own c.self.view_is
     (sym c.in_ok-number.ensures) c.index.ensures)

@@ -21,12 +21,16 @@ same_number c = c.insert_reserved.ensures.key ∙ sym c.vacant_key-number.ensure
 
 none : (c : After-note) → lookup (is_at (nat_cmp c.scid-scid.result)) c.self.inside.numbers.entries ≡ None
 none c =
-    rw c.scid-scid.ensures (none-found c.self.inside.slots.slots c.self.inside.numbers.entries c.args.self.now c.args.held.channel.message.short_channel_id c.self.invariant.own c.self.view_is c.requires)
+    rw c.scid-scid.ensures (none-found c.self.inside.slots.slots c.self.inside.numbers.entries c.args.self.now
+    c.args.held.channel.message.short_channel_id c.self.invariant.own c.self.view_is c.requires)
 
 numbered : (c : After-note) → IsNumbered c.insert_reserved.new.self.slots c.insert.new.self.entries
 numbered c =
-    numbered-insert c.reserve.new.self c.insert_reserved.new.self c.self.inside.numbers.entries c.insert.new.self.entries c.scid-scid.result c.vacant_key-number.result c.args.held
-    (rw (same_number c) at c.insert_reserved.ensures.updates) c.vacant_key-number.ensures.vacant (sym c.scid-scid.ensures) (none c) c.in_ok-insert.ensures.entries c.insert.ensures.ordered c.in_ok-insert.ensures.updates.0 (sound c)
+    numbered-insert c.reserve.new.self c.insert_reserved.new.self c.self.inside.numbers.entries
+    c.insert.new.self.entries c.scid-scid.result c.vacant_key-number.result c.args.held
+    (rw (same_number c) at c.insert_reserved.ensures.updates) c.vacant_key-number.ensures.vacant
+    (sym c.scid-scid.ensures) (none c) c.in_ok-insert.ensures.entries c.insert.ensures.ordered
+    c.in_ok-insert.ensures.updates.0 (sound c)
 
 pub invariant_of-self-2 : goal.invariant_of-self-2
 invariant_of-self-2 c = numbered c
@@ -34,9 +38,13 @@ invariant_of-self-2 c = numbered c
 pub returns-clause-ok : goal.returns-clause-ok
 returns-clause-ok c =
     let updates = rw (same_number c) at c.insert_reserved.ensures.updates in
-    let before : entries_in c.reserve.new.self.slots c.self.inside.numbers.entries ≡ c.args.self.now = ap (λ (ss : List (Option Held)). entries_in ss c.self.inside.numbers.entries) (same_slots c) ∙ c.self.view_is in
+    let before : entries_in c.reserve.new.self.slots c.self.inside.numbers.entries ≡ c.args.self.now =
+    ap (λ (ss : List (Option Held)). entries_in ss c.self.inside.numbers.entries) (same_slots c)
+    ∙ c.self.view_is in
     ap (entries_in c.insert_reserved.new.self.slots) c.in_ok-insert.ensures.entries
-    ∙ inserted c.reserve.new.self.slots c.insert_reserved.new.self.slots c.vacant_key-number.result updates.others c.scid-scid.result c.args.held c.self.inside.numbers.entries c.vacant_key-number.ensures.vacant updates.changed (sound c).own
+    ∙ inserted c.reserve.new.self.slots c.insert_reserved.new.self.slots c.vacant_key-number.result
+    updates.others c.scid-scid.result c.args.held c.self.inside.numbers.entries
+    c.vacant_key-number.ensures.vacant updates.changed (sound c).own
     ∙ ap (λ (es : List (ℕ × Held)). insert_entry nat_cmp es c.scid-scid.result c.args.held) before
     ∙ ap (λ (id : ℕ). insert_entry nat_cmp c.args.self.now id c.args.held) c.scid-scid.ensures
 

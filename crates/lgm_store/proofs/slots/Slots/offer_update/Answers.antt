@@ -14,8 +14,11 @@ use Rattle.lgm_store.proofs.slots.Slots.offer_update.Goals.{After-self-1}
 
 pub returns-in_default-clause-admission : goal.returns-in_default-clause-admission
 returns-in_default-clause-admission c =
-    let none = found-none c.self.inside.slots.slots c.self.inside.numbers.entries c.args.self.now c.scid-scid.result c.self.invariant.own c.self.view_is (sym c.in_default.ensures) in
-    let none' : lookup (is_at (nat_cmp c.args.row.now.message.short_channel_id)) c.args.self.now ≡ None = rw (c.scid-scid.ensures ∙ ap (λ row. row.message.short_channel_id) c.get.ensures) at none in
+    let none =
+    found-none c.self.inside.slots.slots c.self.inside.numbers.entries c.args.self.now c.scid-scid.result
+    c.self.invariant.own c.self.view_is (sym c.in_default.ensures) in
+    let none' : lookup (is_at (nat_cmp c.args.row.now.message.short_channel_id)) c.args.self.now ≡ None =
+    rw (c.scid-scid.ensures ∙ ap (λ row. row.message.short_channel_id) c.get.ensures) at none in
     rw none' refl
 
 pub index_mut-held-requires : goal.index_mut-held-requires
@@ -27,35 +30,43 @@ own_id c = c.scid-scid.ensures ∙ ap (λ row. row.message.short_channel_id) c.g
 
 found : (c : After-self-1) → lookup (is_at (nat_cmp c.scid-scid.result)) c.args.self.now ≡ Some c.index_mut-held.result.now
 found c =
-    found-held c.self.inside.slots.slots c.self.inside.numbers.entries c.args.self.now c.scid-scid.result c.in-Some.number c.index_mut-held.result.now c.self.invariant.own c.self.view_is
+    found-held c.self.inside.slots.slots c.self.inside.numbers.entries c.args.self.now c.scid-scid.result
+    c.in-Some.number c.index_mut-held.result.now c.self.invariant.own c.self.view_is
     (sym c.in-Some.ensures) c.index_mut-held.ensures.value
 
 -- the channels with what is left in its slot
 left : (c : After-self-1) → entries_in (with_value c.self.inside.slots c.in-Some.number c.offer_update.new.self).slots c.self.inside.numbers.entries
     ≡ set_value (is_at (nat_cmp c.scid-scid.result)) c.args.self.now c.offer_update.new.self
 left c =
-    entries-put c.self.inside.slots c.self.inside.numbers.entries c.in-Some.number c.index_mut-held.result.now c.offer_update.new.self c.self.invariant c.index_mut-held.ensures.value
+    entries-put c.self.inside.slots c.self.inside.numbers.entries c.in-Some.number c.index_mut-held.result.now
+    c.offer_update.new.self c.self.invariant c.index_mut-held.ensures.value
     (ap id_of c.offer_update.ensures.channel) c.scid-scid.result (sym c.in-Some.ensures)
     ∙ ap (λ (es : List (ℕ × Held)). set_value (is_at (nat_cmp c.scid-scid.result)) es c.offer_update.new.self) c.self.view_is
 
 pub invariant_of-self : goal.invariant_of-self
 invariant_of-self c =
-    numbered-put c.self.inside.slots c.self.inside.numbers.entries c.in-Some.number c.index_mut-held.result.now c.offer_update.new.self c.self.invariant c.index_mut-held.ensures.value
+    numbered-put c.self.inside.slots c.self.inside.numbers.entries c.in-Some.number
+    c.index_mut-held.result.now c.offer_update.new.self c.self.invariant c.index_mut-held.ensures.value
     (ap id_of c.offer_update.ensures.channel)
 
 pub returns-clause-admission : goal.returns-clause-admission
 returns-clause-admission c =
-    let here : lookup (is_at (nat_cmp c.args.row.now.message.short_channel_id)) c.args.self.now ≡ Some c.index_mut-held.result.now = rw (own_id c) at (found c) in
+    let here : lookup (is_at (nat_cmp c.args.row.now.message.short_channel_id)) c.args.self.now
+    ≡ Some c.index_mut-held.result.now =
+    rw (own_id c) at (found c) in
     rw here c.offer_update.ensures.admission
 
 pub returns-clause-accepted : goal.returns-clause-accepted
 returns-clause-accepted c =
     on_ok_weaker c.offer_update.result
-    (λ is. left c ∙ put-is c.args.self.now c.args.row.now c.scid-scid.result c.index_mut-held.result.now c.offer_update.new.self (own_id c) (found c) is)
+    (λ is. left c ∙ put-is c.args.self.now c.args.row.now c.scid-scid.result c.index_mut-held.result.now
+    c.offer_update.new.self (own_id c) (found c) is)
     c.offer_update.ensures.accepted
 
 pub returns-clause-refused : goal.returns-clause-refused
 returns-clause-refused c =
     on_err_weaker c.offer_update.result
-    (λ same. left c ∙ ap (set_value (is_at (nat_cmp c.scid-scid.result)) c.args.self.now) same ∙ set_value-same (is_at (nat_cmp c.scid-scid.result)) c.args.self.now c.index_mut-held.result.now (found c))
+    (λ same. left c ∙ ap (set_value (is_at (nat_cmp c.scid-scid.result)) c.args.self.now) same
+    ∙ set_value-same (is_at (nat_cmp c.scid-scid.result)) c.args.self.now
+    c.index_mut-held.result.now (found c))
     c.offer_update.ensures.refused

@@ -9,10 +9,12 @@ use Rattle.lgm_store.proofs.slots.Slots.range.Goals as goal
 
 pub new-requires : goal.new-requires
 new-requires c =
-    rw (c.range.ensures.between tt) (own-filter c.self.inside.slots.slots (range_contains nat_cmp c.args.start c.args.end) c.self.inside.numbers.entries c.self.invariant.own)
+    rw (c.range.ensures.between tt) (own-filter c.self.inside.slots.slots
+    (range_contains nat_cmp c.args.start c.args.end) c.self.inside.numbers.entries c.self.invariant.own)
 
 pub returns : goal.returns
 returns c =
     c.new.ensures ∙ ap (λ (es : List (ℕ × ℕ)). values_of (entries_in c.self.inside.slots.slots es)) (c.range.ensures.between tt)
-    ∙ ap values_of (filter-slots c.self.inside.slots.slots (range_contains nat_cmp c.args.start c.args.end) c.self.inside.numbers.entries c.self.invariant.own)
+    ∙ ap values_of (filter-slots c.self.inside.slots.slots (range_contains nat_cmp c.args.start c.args.end)
+    c.self.inside.numbers.entries c.self.invariant.own)
     ∙ ap (λ (es : List (ℕ × Held)). values_of (entries_between nat_cmp c.args.start c.args.end es)) c.self.view_is
