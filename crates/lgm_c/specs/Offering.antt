@@ -1,0 +1,44 @@
+-- What offering a message or a close does to what a handle holds.
+use Rattle.std.specs.Prelude.{◌≡◌, ◌⊎◌, ℕ, List, Option, Some, None, Result, Ok, Err}
+use Rattle.lgm_wire.specs.reading.Reading.{◌>>=◌}
+use Rattle.lgm_wire.specs.declared.chain_hash.ChainHash.{ChainHash}
+use Rattle.lgm_check.specs.declared.refusal.Refusal.{Refusal}
+use Rattle.lgm_check.specs.declared.evidence.Evidence.{Evidence}
+use Rattle.lgm_check.specs.Precheck.{checked_of}
+use Rattle.lgm_store.specs.declared.op.Op.{Op}
+use Rattle.lgm_store.specs.Rows.{Rows}
+use Rattle.lgm_store.specs.Admission.{admitted, admitted_close}
+use Rattle.lgm_store.specs.History.{absorbed}
+use Rattle.lgm_c.specs.declared.fault.Fault.TheVariants as faults
+use Rattle.lgm_c.specs.Held.{Held}
+use Rattle.lgm_c.specs.Status.{number_of, no_memory, refused}
+
+-- the operation of a message on these rows, or its first refusal
+abbrev pub offered_to : ChainHash → Rows → List ℕ → Evidence → Result Op Refusal
+offered_to chain rows bytes evidence = checked_of chain bytes evidence >>= admitted rows
+
+-- what is held after an outcome: its operation was applied, and nothing else changed
+abbrev pub held_behind : Held → Result Op Refusal → Held
+held_behind held (Ok op) = record held { rows = absorbed held.rows op }
+held_behind held (Err refusal) = held
+
+abbrev pub outcome_number : Result Op Refusal → ℕ
+outcome_number (Ok op) = 0
+outcome_number (Err refusal) = number_of (refused refusal)
+
+-- a call returns the number of the outcome and applies it, or runs out of memory and changes nothing
+abbrev pub Does : Result Op Refusal → Held → ℕ → Option Held → Type 0
+Does outcome old status new =
+    ((status ≡ outcome_number outcome) × (new ≡ Some (held_behind old outcome)))
+    ⊎ ((status ≡ no_memory) × (new ≡ Some old))
+
+-- a message is offered to a handle, with the verdicts on it if the numbers stand for some
+abbrev pub Offers : List ℕ → Option Evidence → ℕ → Option Held → Option Held → Type 0
+Offers bytes evidence status None new = (status ≡ number_of faults.Closed) × (new ≡ None)
+Offers bytes None status (Some old) new = (status ≡ number_of faults.Argument) × (new ≡ Some old)
+Offers bytes (Some evidence) status (Some old) new = Does (offered_to old.chain old.rows bytes evidence) old status new
+
+-- a channel is closed
+abbrev pub Closes : ℕ → ℕ → Option Held → Option Held → Type 0
+Closes id status None new = (status ≡ number_of faults.Closed) × (new ≡ None)
+Closes id status (Some old) new = Does (admitted_close old.rows id) old status new
