@@ -36,7 +36,8 @@ Does outcome old status new =
 abbrev pub Offers : List ℕ → Option Evidence → ℕ → Option Held → Option Held → Type 0
 Offers bytes evidence status None new = (status ≡ number_of faults.Closed) × (new ≡ None)
 Offers bytes None status (Some old) new = (status ≡ number_of faults.Argument) × (new ≡ Some old)
-Offers bytes (Some evidence) status (Some old) new = Does (offered_to old.chain old.rows bytes evidence) old status new
+Offers bytes (Some evidence) status (Some old) new =
+    Does (offered_to old.chain old.rows bytes evidence) old status new
 
 -- a channel is closed
 abbrev pub Closes : ℕ → ℕ → Option Held → Option Held → Type 0

@@ -28,7 +28,7 @@ abbrev pub found_or_unrouted : Result (List Hop) RouteFault → Result (List Hop
 found_or_unrouted (Ok hops) = Ok hops
 found_or_unrouted (Err reason) = Err (unrouted reason)
 
--- the hops of the best walk over the edges of the rows, or why there is none; `Full` if there are too many channels
+-- the hops of the best walk over the edges of the rows, or why there is none; `Full` with too many channels
 abbrev pub route_for : Request → Held → Result (List Hop) Fault
 route_for request held =
     if nat_lt 2000000000 (length held.rows.channels) then Err faults.Full

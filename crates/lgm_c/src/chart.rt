@@ -77,8 +77,8 @@ impl Chart {
         &self.map
     }
 
-    /// Offers a message, with the verdicts on it, and returns its operation. A refusal or out of memory leaves the map as
-    /// it was. While there is no view, one lookup serves for both admission and insertion.
+    /// Offers a message, with the verdicts on it, and returns its operation. A refusal or out of memory leaves the map
+    /// as it was. While there is no view, one lookup serves for both admission and insertion.
     pub(crate) fn offer(
         &mut self,
         alloc: Global,

@@ -149,7 +149,8 @@ impl Inner {
         }
     }
 
-    /// What has come to pass a filter since the mark, each message after its length; before the first mark, all that passes.
+    /// What has come to pass a filter since the mark, each message after its length. Before the first mark, all that
+    /// passes.
     pub(crate) fn news(&mut self, alloc: Global, filter: &Filter) -> Result<Vec<u8>, AllocError>
         ensures same { self.new ≡ self.old }
         ensures news { IfOk result (λ written.

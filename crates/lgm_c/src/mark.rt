@@ -22,7 +22,8 @@ use std::collections::VecDeque;
 use std::marker::Model;
 use std::mem::swap;
 
-/// A map as it was at a mark, and the operations that were applied to the current map since. Contracts see the rows of both.
+/// A map as it was at a mark, and the operations that were applied to the current map since. Contracts see the rows of
+/// both.
 #[derive(Drop)]
 pub struct Mark {
     /// The map at the mark, except for what is due.

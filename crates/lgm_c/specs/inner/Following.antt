@@ -16,9 +16,12 @@ pub record Advances (outcome : Result Op Refusal) (old new : Charted) : Type 0 w
 -- an accepted operation was applied, or the call returned the refusal or out of memory and changed nothing
 abbrev pub Follows : {T : Type 0} → Result Op Refusal → Result T Refusal → Charted → Charted → Type 0
 Follows outcome (Ok t) old new = Advances outcome old new
-Follows outcome (Err refusal) old new = ((refusal ≡ refusals.NoMemory) ⊎ (outcome ≡ Err refusal)) × (new ≡ old)
+Follows outcome (Err refusal) old new =
+    ((refusal ≡ refusals.NoMemory) ⊎ (outcome ≡ Err refusal)) × (new ≡ old)
 
 -- the same for what is held
 abbrev pub Leads : {T : Type 0} → Result Op Refusal → Result T Refusal → Held → Held → Type 0
-Leads outcome (Ok t) old new = (op : Op) × (outcome ≡ Ok op) × (new ≡ record old { rows = absorbed old.rows op })
-Leads outcome (Err refusal) old new = ((refusal ≡ refusals.NoMemory) ⊎ (outcome ≡ Err refusal)) × (new ≡ old)
+Leads outcome (Ok t) old new =
+    (op : Op) × (outcome ≡ Ok op) × (new ≡ record old { rows = absorbed old.rows op })
+Leads outcome (Err refusal) old new =
+    ((refusal ≡ refusals.NoMemory) ⊎ (outcome ≡ Err refusal)) × (new ≡ old)

@@ -15,7 +15,7 @@ pub record Marked : Type 0 where
   pub marked : Rows
   pub rows : Rows
 
--- the stored map is behind the mark by the operations due, and the mark is behind the current rows by those since
+-- the map is behind the mark by the operations due, and the mark is behind the current rows by those since
 abbrev pub marked_by : Rows → List Op → List Op → Marked
 marked_by map due since = record { marked = fold_from map due; rows = fold_from (fold_from map due) since }
 
@@ -30,7 +30,8 @@ rows_at None = empty
 rows_at (Some mark) = mark.marked
 
 abbrev pub held_in : ChainHash → Charted → Option Marked → Held
-held_in chain chart mark = record { chain = chain; known = chart.known; rows = chart.rows; marked = rows_at mark }
+held_in chain chart mark =
+    record { chain = chain; known = chart.known; rows = chart.rows; marked = rows_at mark }
 
 -- the bytes of the rows are about their keys, and a mark leads to the current rows
 pub record IsFollowed (chart : Charted) (mark : Option Marked) : Type 0 where
