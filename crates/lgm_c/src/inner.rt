@@ -134,7 +134,8 @@ impl Inner {
         Ok(self.close_held(scid)?)
     }
 
-    /// Moves the mark to the map as it is, or sets the first one. The only error is out of memory, which changes nothing.
+    /// Moves the mark to the map as it is, or sets the first one. The only error is out of memory, which changes
+    /// nothing.
     pub(crate) fn renew_mark(&mut self, alloc: Global) -> Result<(), AllocError>
         ensures renewed { OnOk result (self.new ≡ record self.old { marked = self.old.rows }) }
         ensures stays { OnErr result (self.new ≡ self.old) }

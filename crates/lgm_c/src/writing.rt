@@ -31,7 +31,11 @@ pub(crate) fn write_bytes(bytes: &[u8], room: &mut [u8], needed: &mut usize) -> 
 }
 
 /// Writes an answer, or returns the number of its fault.
-pub(crate) fn write_answer(answer: &Result<Vec<u8>, Fault>, room: &mut [u8], needed: &mut usize) -> u32
+pub(crate) fn write_answer(
+    answer: &Result<Vec<u8>, Fault>,
+    room: &mut [u8],
+    needed: &mut usize,
+) -> u32
     ensures { (expected : Result (List ℕ) AFault)
         → Gives Fault.NoMemory (λ written. written.items) answer.now expected
         → Answers expected result (buffer room.old needed.old) (buffer room.new needed.new) }
