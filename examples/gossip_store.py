@@ -112,8 +112,11 @@ def main():
     """Reads the store that is named, and writes its script to standard output."""
     if len(sys.argv) != 2:
         sys.exit(__doc__)
-    with open(sys.argv[1], "rb") as file:
-        sys.stdout.writelines(lines(records(file)))
+    try:
+        with open(sys.argv[1], "rb") as file:
+            sys.stdout.writelines(lines(records(file)))
+    except OSError as fault:
+        fail(fault)
 
 
 if __name__ == "__main__":

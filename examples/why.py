@@ -160,10 +160,13 @@ def main():
     if len(sys.argv) != 2:
         sys.exit(__doc__)
     found = False
-    with sys.stdin.buffer if sys.argv[1] == "-" else open(sys.argv[1], "rb") as script:
-        for count, why in findings(script):
-            found = True
-            print(f"{count}: {why}")
+    try:
+        with sys.stdin.buffer if sys.argv[1] == "-" else open(sys.argv[1], "rb") as script:
+            for count, why in findings(script):
+                found = True
+                print(f"{count}: {why}")
+    except OSError as fault:
+        sys.exit(f"why: {fault}")
     sys.exit(1 if found else 0)
 
 
