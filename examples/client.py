@@ -1,5 +1,5 @@
 #!/usr/bin/env python3
-"""A client of `lgm run`, which asks a running process over its two pipes.
+"""A client that starts `lgm run` and talks to it over two pipes.
 
     from client import Client
 
@@ -8,10 +8,10 @@
         lgm.ask(["commit"])
         [route] = lgm.ask([f"route {payer} {payee} {msat} {expiry} {secret}"])
 
-A pipe holds some 64 KiB. Whoever writes lines and reads no answers waits for good once both pipes are full, and so
-does `lgm`. So a thread of the client reads all the time, and lines are written in batches.
+A pipe holds some 64 KiB. A client that writes lines without reading answers blocks forever once both pipes are full,
+and so does `lgm`. So a thread of the client reads all the time, and lines are written in batches.
 
-Run by itself it announces the channels of examples/payments.txt, commits, asks for a route, and prints the answers:
+Run as a program it announces the channels of examples/payments.txt, commits, asks for a route, and prints the answers:
 
     python3 examples/client.py [PROGRAM]
 """
@@ -23,39 +23,39 @@ import threading
 from pathlib import Path
 
 HERE = Path(__file__).resolve().parent
-LINES = 10_000_000  # as many lines a process answers
-END = "end"  # no form of the grammar, so it is answered `bad`, and nothing else is done
+LINES = 10_000_000  # that a process answers
+END = "end"  # not in the grammar, so it is answered `bad` and has no effect
 
 
 class Ended(Exception):
-    """The process has ended: its exit status, and the line on standard error. Answers that it gave before are lost."""
+    """The process has ended: its exit status, and the line on standard error. Unread answers are lost."""
 
 
 class Client:
-    """A process of `lgm run`. One thread at a time may ask it."""
+    """A process of `lgm run`. One thread at a time may use it."""
 
     def __init__(self, chain, program=HERE.parent / "lgm", options=()):
-        """Starts the process. The chain is 64 hexadecimal digits; `options` are further words, as `--workers`, `1`."""
+        """Starts the process. `chain` has 64 hexadecimal digits; `options` are more arguments: `--workers`, `1`."""
         self._process = subprocess.Popen(
             [program, "run", "--chain", chain, *options],
             stdin=subprocess.PIPE, stdout=subprocess.PIPE, stderr=subprocess.PIPE)
         self._answers = queue.SimpleQueue()
         self._reader = threading.Thread(target=self._read, daemon=True)
         self._reader.start()
-        self.written = 0  # lines, those that mark an end included; the process ends behind LINES
+        self.written = 0  # lines, with those that mark an end; after LINES of them the process ends
 
     def _read(self):
-        """Takes the lines of all answers, and None at the end."""
+        """Queues the lines of all answers, and None at the end."""
         for line in self._process.stdout:
             self._answers.put(line)
         self._answers.put(None)
 
     def ask(self, lines):
-        """Writes lines, without line feeds, and gives a list for each: the lines of its answer, without their number.
+        """Writes lines, given without line feeds, and returns a list for each: the lines of its answer, without number.
 
-        The list of a comment or an empty line is empty. How many lines answer a query, a filter or a commit isn't known
-        before: a last line is written that is answered `bad`, and all that comes before that is the answer. Many lines at
-        once cost less than one line at a time. Raises Ended where the process has ended.
+        The list for a comment or an empty line is empty. The number of lines that answer a query, a filter or a commit
+        isn't known in advance, so a last line is written that is answered `bad`: all lines before that belong to the
+        answers. Many lines at once cost less than one at a time. Raises Ended if the process has ended.
         """
         lines = [*lines, END]
         first = self.written + 1
@@ -75,7 +75,7 @@ class Client:
         return answers[:-1]
 
     def _fail(self):
-        """Raises Ended with what the process said."""
+        """Raises Ended, with the text on standard error."""
         status = self._process.wait()
         raise Ended(status, self._process.stderr.read().decode().strip())
 

@@ -1,16 +1,16 @@
 #!/usr/bin/env python3
-"""Writes the network that a Core Lightning node sees as a script of `lgm run`.
+"""Writes the network that a Core Lightning node knows as a script for `lgm run`.
 
     python3 examples/gossip_store.py ~/.lightning/bitcoin/gossip_store > network.txt
 
-Reads the file `gossip_store` that the node keeps in its folder. The node has checked signatures and funding outputs, so
-each message gets the verdict that it is right. The script announces the channels with their updates, closes those that
-the store takes out, announces the nodes of the channels that are left, and commits.
+Reads the file `gossip_store` in the node's folder. The node has checked signatures and funding outputs, so all verdicts
+are that they are valid. The script announces the channels with their updates, closes those that the store removes,
+announces the nodes of the remaining channels, and commits.
 
-Left out are records that are deleted, zombies or dying channels, and channels that the node doesn't announce to others.
-A store that isn't read to its end, since a record is damaged, the store was replaced or its version isn't known, is a
-failure: a line on standard error, status 1, and a script without `commit`. A last record that the node is still writing
-is left out, with a line on standard error.
+Left out are deleted records, zombies, dying channels, and channels that the node doesn't announce to others. If the
+store can't be read to its end, because a record is damaged, the store was replaced or its version isn't known, the
+program fails: with a line on standard error, status 1, and a script without `commit`. A last record that the node is
+still writing is left out, with a line on standard error.
 """
 
 import struct
@@ -24,7 +24,7 @@ AMOUNT, TAKEN_OUT, REPLACED, IS_DYING = 4101, 4103, 4105, 4106  # the store's ow
 
 
 def crc_table():
-    """What a byte adds to a CRC-32C."""
+    """The table of the CRC-32C, by bytes."""
     for byte in range(256):
         for _ in range(8):
             byte = byte >> 1 ^ (0x82F63B78 if byte & 1 else 0)
@@ -35,7 +35,7 @@ CRC = tuple(crc_table())
 
 
 def crc32c(start, message):
-    """The CRC-32C (Castagnoli) of a message behind bytes whose CRC is `start`."""
+    """The CRC-32C (Castagnoli) of a message after bytes whose CRC is `start`."""
     crc = start ^ 0xFFFFFFFF
     for byte in message:
         crc = CRC[(crc ^ byte) & 0xFF] ^ crc >> 8
@@ -48,7 +48,7 @@ def fail(why):
 
 
 def records(file):
-    """The flags and the message of each record. What is cut off at the end is left out."""
+    """The flags and the message of each record. A record that is cut off at the end is left out."""
     version = file.read(1)
     if not version or version[0] not in VERSIONS:
         found = f"version {version[0] >> 5}.{version[0] & 31}" if version else "an empty file"
@@ -67,7 +67,7 @@ def records(file):
 
 
 def after_counted(message, place):
-    """The place behind bytes whose length stands at `place` in two bytes."""
+    """The place after bytes whose length is at `place`, in two bytes."""
     return place + 2 + int.from_bytes(message[place:place + 2], "big")
 
 
@@ -112,8 +112,11 @@ def main():
     """Reads the store that is named, and writes its script to standard output."""
     if len(sys.argv) != 2:
         sys.exit(__doc__)
-    with open(sys.argv[1], "rb") as file:
-        sys.stdout.writelines(lines(records(file)))
+    try:
+        with open(sys.argv[1], "rb") as file:
+            sys.stdout.writelines(lines(records(file)))
+    except OSError as fault:
+        fail(fault)
 
 
 if __name__ == "__main__":

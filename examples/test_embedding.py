@@ -3,12 +3,12 @@
 
     python3 examples/test_embedding.py [PROGRAM]
 
-PROGRAM is `lgm`; rt, cc and ar are wanted. What cargo or valgrind would be needed for is left out where they aren't
-installed.
+PROGRAM is `lgm`. It needs rt, cc and ar. Tests that need cargo or valgrind are left out if these aren't installed.
 """
 
 import os
 import shutil
+import struct
 import subprocess
 import sys
 import tempfile
@@ -26,14 +26,14 @@ failures = 0
 
 
 def report(what, is_right):
-    """Tells how a test went."""
+    """Prints how a test went."""
     global failures
     failures += not is_right
     print(f"{what}: {'ok' if is_right else 'DIFFERS'}", flush=True)
 
 
 def output(words, script=b""):
-    """What a program writes, or `None` where it fails."""
+    """What a program writes, or `None` if it fails."""
     ran = subprocess.run(words, input=script, stdout=subprocess.PIPE)
     return ran.stdout if ran.returncode == 0 else None
 
@@ -61,7 +61,7 @@ def test_c(out):
 
 
 def test_faults(out):
-    """Calls that aren't done leave all as it was; and nothing is freed twice, lost, or written past its end."""
+    """Calls that fail change nothing; and nothing is freed twice, leaked, or written past its end."""
     program = out / "faults"
     words = ["cc", "-std=c11", "-Wall", "-Wextra", "-g", "-I", TOP / "include", "-Wl,--wrap=malloc,--wrap=realloc"]
     subprocess.run([*words, HERE / "c" / "faults.c", out / "liblgm.a", "-o", program], check=True)
@@ -111,8 +111,51 @@ def test_python():
         report("lgm.py, closed", str(fault) == "closed")
 
 
+def announced(items):
+    """The channels and nodes that messages announce, at the offsets of BOLT 7: what the module has to find."""
+    channels, nodes = {}, {}
+    for message, _, funding in items:
+        kind, features = message[:2], int.from_bytes(message[66:68], "big")
+        if kind == b"\x01\x00":
+            scid, node_1, node_2 = struct.unpack_from(">Q33s33s", message, 292)
+            channels[scid] = [int(funding), node_1, node_2, None, None]
+        elif kind == b"\x01\x02":
+            scid, *terms = struct.unpack_from(">QIBBHQIIQ", message, 98)
+            channels[scid][3 + (terms[2] & 1)] = terms
+        else:
+            timestamp, point, rgb, alias, length = struct.unpack_from(">I33s3s32sH", message, 68 + features)
+            nodes[point] = timestamp, rgb, alias, message[142 + features:142 + features + length]
+    return channels, nodes
+
+
+def test_lookups():
+    """The module has the channels, terms and nodes that the messages of a made network announce."""
+    import lgm
+
+    def terms(direction):
+        return direction and [
+            direction.timestamp, direction.message_flags, direction.channel_flags, direction.cltv_expiry_delta,
+            direction.htlc_minimum_msat, direction.fee_base_msat, direction.fee_proportional_millionths,
+            direction.htlc_maximum_msat]
+
+    lines = (line.split() for line in made_script("sync").decode().splitlines())
+    items = [(bytes.fromhex(line[1]), *line[2:]) for line in lines if line[0] == "m"]
+    channels, nodes = announced(items)
+    with lgm.Map(bytes.fromhex(CHAIN)) as network:
+        for message, sig, funding in items:
+            network.offer(
+                message, sig if sig == "all" else bytes.fromhex(sig), int(funding) if funding.isdigit() else funding)
+        found = {scid: network.channel(scid) for scid in channels}
+        found = {scid: [channel.capacity_sat, channel.node_1, channel.node_2, terms(channel.from_1),
+                        terms(channel.from_2)] for scid, channel in found.items()}
+        report("lgm.py, channels", len(network) == len(channels) == CHANNELS and found == channels)
+        found = {point: network.node(point) for point in nodes}
+        found = {point: (node.timestamp, node.rgb, node.alias, node.addresses) for point, node in found.items()}
+        report("lgm.py, nodes", len(nodes) > 0 and found == nodes)
+
+
 def test_routes(out):
-    """The short examples tell the route that the README works out."""
+    """The short examples find the route that the README works out."""
     found = output([sys.executable, HERE / "python" / "route.py"])
     report("route.py", found is not None and b"\n10006500 msat over 3 channels, until block 700054\n" in found)
     if (out / "route").exists():
@@ -131,6 +174,7 @@ def main():
         test_c(out)
         test_faults(out)
         test_python()
+        test_lookups()
         test_routes(out)
     return 0 if failures == 0 else 1
 

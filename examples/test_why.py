@@ -18,7 +18,7 @@ POINT = "02" + "0a" * 32
 OTHER = "02" + "0b" * 32
 SECRET = "11" * 32
 
-# A line, and the beginning of what is said of it. Lines of no fault have nothing.
+# A line, and the start of the reason for it; empty if the line has no fault.
 TABLE = (
     ("", ""),
     ("# a comment with\ttabs", ""),
@@ -37,7 +37,7 @@ TABLE = (
     ("q  0105", "has two spaces"),
     ("q\t0105", "has a tab"),
     ("Commit", "'Commit' is none of m, close"),
-    ("commit 1", "'1' stands behind the last field"),
+    ("commit 1", "'1' comes after the last field"),
     ("m", "HEX is missing"),
     ("q 0x0105", "HEX begins with 0x"),
     ("q 010", "HEX has an odd number of digits, 3"),
@@ -50,21 +50,21 @@ TABLE = (
     ("m 0100 all 1_000", "FUNDING is none of"),
     ("m 0100 all +1", "FUNDING is none of"),
     (f"m 0100 all {2**64}", "FUNDING is none of"),
-    ("m 0100 all 100000 x", "'x' stands behind the last field"),
-    ("close 800000:12:0", "SCID '800000:12:0' isn't BLOCKxINDEXxOUTPUT"),
+    ("m 0100 all 100000 x", "'x' comes after the last field"),
+    ("close 800000:12:0", "SCID '800000:12:0' isn't of the form BLOCKxINDEXxOUTPUT"),
     ("close 879609302220800", "SCID '879609302220800' isn't"),
     ("close 800000x12x65536", "SCID output: '65536' is 65536 or more"),
     ("close 16777216x1x0", "SCID block: '16777216' is 16777216 or more"),
     ("close 1x01x0", "SCID index: '01' has a leading zero"),
     ("filter 1000 0109", "PEER '1000' is 1000 or more"),
-    ("filter alice 0109", "PEER 'alice' is no decimal number"),
-    (f"route {POINT[2:]} {OTHER} 1000 700000 {SECRET}", "PAYER has 64 digits; 66 are wanted"),
-    (f"route {POINT} {OTHER} 1000.5 700000 {SECRET}", "MSAT '1000.5' is no decimal number of millisatoshi"),
+    ("filter alice 0109", "PEER 'alice' isn't a decimal number"),
+    (f"route {POINT[2:]} {OTHER} 1000 700000 {SECRET}", "PAYER has 64 digits instead of 66"),
+    (f"route {POINT} {OTHER} 1000.5 700000 {SECRET}", "MSAT '1000.5' isn't a decimal number of millisatoshi"),
     (f"route {POINT} {OTHER} {2**64} 700000 {SECRET}", "MSAT"),
     (f"route {POINT} {OTHER} {'9' * 5000} 700000 {SECRET}", "MSAT"),
     (f"route {POINT} {OTHER} 1000 {2**32} {SECRET}", "EXPIRY"),
     (f"route {POINT} {OTHER} 1000 700000", "SECRET is missing"),
-    (f"route {POINT} {OTHER} 1000 700000 {SECRET[2:]}", "SECRET has 62 digits; 64 are wanted"),
+    (f"route {POINT} {OTHER} 1000 700000 {SECRET[2:]}", "SECRET has 62 digits instead of 64"),
 )
 BYTES = (
     (b"commit\xff", "isn't UTF-8, at byte 7"),

@@ -1,11 +1,11 @@
 #!/usr/bin/env python3
-"""Says why lines of a script are answered `bad`: which field isn't a form of the grammar in docs/script.md.
+"""Explains why lines of a script are answered `bad`: which field doesn't match the grammar of docs/script.md.
 
     python3 examples/why.py SCRIPT          (- reads standard input)
 
-Prints `N: reason` for each such line, and for a line that ends the run since it is too long or one too many.
-The exit status is 0 where it found nothing to say, else 1. It reads the text alone: that a message is refused
-with a word, or a payment has no route, is no fault of the grammar (see docs/questions.md).
+Prints `N: reason` for each such line, and for a line that ends the run because it is too long or one too many. The exit
+status is 0 if there are none, else 1. Only the grammar is checked: docs/questions.md explains messages that are refused
+with a word, and payments without a route.
 """
 
 import re
@@ -26,14 +26,14 @@ NUMBER = re.compile(rb"0|[1-9][0-9]*")
 
 
 def hexadecimal(field, length=None):
-    """Why a field isn't an even number of hexadecimal digits, at least two, or not so many; else nothing."""
+    """Why a field isn't an even number of hexadecimal digits, at least two, or not of this length; else nothing."""
     if field[:2].lower() == b"0x":
-        return "begins with 0x; digits stand alone"
+        return "begins with 0x, which isn't part of the digits"
     good = DIGITS.match(field).end()
     if good < len(field):
-        return f"character {good + 1} is {shown(field[good:good + 1])}, which is no hexadecimal digit"
+        return f"character {good + 1} is {shown(field[good:good + 1])}, which isn't a hexadecimal digit"
     if length is not None and len(field) != length:
-        return f"has {len(field)} digits; {length} are wanted"
+        return f"has {len(field)} digits instead of {length}"
     if len(field) % 2:
         return f"has an odd number of digits, {len(field)}"
     return "" if field else "is empty"
@@ -46,12 +46,12 @@ def number(field, below, unit):
     if not NUMBER.fullmatch(field):
         if field.lstrip(b"0").isdigit() or not field.strip(b"0"):
             return f"{shown(field)} has a leading zero"
-        return f"{shown(field)} is no decimal number of {unit}: digits alone, with no unit, sign or separator"
+        return f"{shown(field)} isn't a decimal number of {unit}: only digits, without unit, sign or separators"
     return "" if len(field) <= 20 and int(field) < below else f"{shown(field)} is {below} or more"
 
 
 def signature(field):
-    """Why a field is no SIG."""
+    """Why a field isn't a SIG."""
     if field in (b"all", b"not-all", b"nobody"):
         return ""
     why = hexadecimal(field, 66)
@@ -59,7 +59,7 @@ def signature(field):
 
 
 def funding(field):
-    """Why a field is no FUNDING."""
+    """Why a field isn't a FUNDING."""
     if field in (b"spent", b"wrong", b"-"):
         return ""
     why = number(field, 2**64, "satoshi")
@@ -67,17 +67,17 @@ def funding(field):
 
 
 def scid(field):
-    """Why a field is no SCID."""
+    """Why a field isn't a SCID."""
     parts = field.split(b"x")
     if len(parts) != 3:
-        return f"{shown(field)} isn't BLOCKxINDEXxOUTPUT, as 800000x12x0"
+        return f"{shown(field)} isn't of the form BLOCKxINDEXxOUTPUT, such as 800000x12x0"
     bounds = ((2**24, "block"), (2**24, "index"), (2**16, "output"))
     whys = (number(part, below, name) for part, (below, name) in zip(parts, bounds))
     return next((f"{name}: {why}" for why, (_, name) in zip(whys, bounds) if why), "")
 
 
 def peer(field):
-    """Why a field is no PEER."""
+    """Why a field isn't a PEER."""
     return number(field, 1_000, "a peer")
 
 
@@ -96,24 +96,24 @@ FIELDS = {
 
 
 def shown(field):
-    """A field as it is shown: quoted, and cut where it is long."""
+    """A field for a message: quoted, and shortened if it is long."""
     text = field.decode("utf-8", "backslashreplace")
     return repr(text if len(text) <= 40 else f"{text[:37]}...")
 
 
 def spacing(line):
-    """What is wrong with the spaces and line ends of a line, if anything is."""
+    """What is wrong with the spaces and line ends of a line, if anything."""
     if line.endswith(b"\r"):
         return "ends in a carriage return: the file has Windows line ends"
     if b"\t" in line:
-        return "has a tab; fields stand between single spaces"
+        return "has a tab; fields are separated by single spaces"
     if line.startswith(b" ") or line.endswith(b" "):
         return "begins or ends with a space"
     return "has two spaces side by side" if b"  " in line else ""
 
 
 def reason(line):
-    """Why a line, without its line feed, is answered `bad`; nothing where it isn't."""
+    """Why a line, without its line feed, is answered `bad`; nothing if it isn't."""
     if not line or line.startswith(b"#"):
         return ""
     if line.startswith(b"\xef\xbb\xbf"):
@@ -137,11 +137,11 @@ def reason(line):
             return f"{name} {why}"
     if len(fields) < len(names):
         return f"{names[len(fields)]} is missing: {word.decode()} {' '.join(names)}"
-    return f"{shown(fields[len(names)])} stands behind the last field" if len(fields) > len(names) else ""
+    return f"{shown(fields[len(names)])} comes after the last field" if len(fields) > len(names) else ""
 
 
 def findings(lines):
-    """Each line that is at fault, by its number, with the reason. `lines` are bytes, with their line feeds."""
+    """The number of each faulty line, with the reason. `lines` are bytes, with their line feeds."""
     for count, line in enumerate(lines, 1):
         line = line[:-1] if line.endswith(b"\n") else line
         if count > LINES:
@@ -156,14 +156,17 @@ def findings(lines):
 
 
 def main():
-    """Reads the script that is named, and prints what it finds."""
+    """Reads the script, and prints what it finds."""
     if len(sys.argv) != 2:
         sys.exit(__doc__)
     found = False
-    with sys.stdin.buffer if sys.argv[1] == "-" else open(sys.argv[1], "rb") as script:
-        for count, why in findings(script):
-            found = True
-            print(f"{count}: {why}")
+    try:
+        with sys.stdin.buffer if sys.argv[1] == "-" else open(sys.argv[1], "rb") as script:
+            for count, why in findings(script):
+                found = True
+                print(f"{count}: {why}")
+    except OSError as fault:
+        sys.exit(f"why: {fault}")
     sys.exit(1 if found else 0)
 
 

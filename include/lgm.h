@@ -1,27 +1,26 @@
 /*
- * lgm: a proved map of Lightning gossip, and routes over it, as a library.
+ * lgm: a verified map of Lightning gossip, with routes over it, as a library.
  *
- * A handle (lgm_map) holds the map of one chain. Gossip messages are offered to it, with the caller's verdicts on their
- * signatures and funding outputs; it answers payments with routes and payloads, and peers with what they ask for.
- * docs/embedding.md leads through it; docs/protocol.md has the rules.
+ * A handle (lgm_map) has the map of one chain. The caller offers gossip messages to it, with verdicts on their signatures
+ * and funding outputs. It finds routes for payments, with their payloads, and answers the queries and filters of peers.
+ * docs/embedding.md is a guide; docs/protocol.md has the rules.
  *
- * What is proved holds for callers that keep these duties, which nothing checks:
+ * What is proved holds for callers that meet these conditions, which nothing checks:
  *
- *   - Every pointer points to what its type says, and is never null: also where a length is 0.
- *   - A pointer and the length behind it are those of one block, which is at least so long, and not longer than
- *     PTRDIFF_MAX bytes.
- *   - What a call may write to is neither read nor written meanwhile, nor given to the call twice.
- *   - A handle begins as all zeros, {0}, or is one that a call left. The caller writes nothing to it.
+ *   - Every pointer is valid for its type, and not null, even if a length is 0.
+ *   - A pointer followed by a length points to at least that many items, in one object of at most PTRDIFF_MAX bytes.
+ *   - While a call runs, nothing else reads or writes what it may write to, and no two of its arguments overlap there.
+ *   - A handle is initialized with zeros, {0}, and then only written by calls.
  *   - A handle isn't copied. It may be moved, if the old place isn't used any more.
- *   - A handle is given to one call at a time, and stays on the thread that opened it.
- *   - An open handle is freed by lgm_free before it goes. Otherwise its memory is lost.
+ *   - A handle is used by one call at a time, on the thread that opened it.
+ *   - An open handle is freed by lgm_free before it goes out of scope; otherwise its memory leaks.
  *   - A bool is true or false.
- *   - malloc, realloc and free come from one allocator, and give blocks as the C standard says.
- *   - No call is made from a signal handler, nor in the child of a fork of a process with threads.
+ *   - malloc, realloc and free are those of one allocator, and behave as the C standard says.
+ *   - No call is made from a signal handler, or in the child of a fork of a process with threads.
  *
- * Amounts are in msat (1000 msat are a satoshi), expiries are block heights, timestamps seconds since 1970. A point is
- * the 33 bytes of a compressed public key. A short_channel_id is a number: the block in its upper 24 bits, the index of
- * the transaction in the next 24, the output in the last 16.
+ * Amounts are in msat (1000 msat are a satoshi), expiries are block heights, timestamps are seconds since 1970. A point
+ * is a compressed public key, 33 bytes. A short_channel_id is a number: the block in its upper 24 bits, the index of the
+ * transaction in the next 24, the output in the last 16.
  */
 #ifndef LGM_H
 #define LGM_H
@@ -35,13 +34,13 @@ extern "C" {
 #endif
 
 /*
- * What a call answers: LGM_OK, or the number of the first fault. After a fault the map is what it was, and so is what
- * the call was to write to, but for the lengths that LGM_ROOM tells.
+ * What a call returns: LGM_OK, or the number of the first fault. After a fault the map is unchanged, and so are the
+ * buffers, except for the lengths that are written with LGM_ROOM.
  */
 enum {
     LGM_OK = 0,
 
-    /* Why a message isn't accepted: the first of these (docs/script.md, "Words"). */
+    /* A message or a close is refused, for the first of these reasons (docs/script.md, "Refusals of items"). */
     LGM_MALFORMED = 1,
     LGM_UNKNOWN_EVEN = 2,
     LGM_IGNORED = 3,
@@ -54,38 +53,38 @@ enum {
     LGM_SIGNATURE = 10,
     LGM_UNKNOWN_CHANNEL = 11,
     LGM_KNOWN = 12,
-    /* 13, conflict, is never given: two announcements of one channel ban the nodes of both. */
+    /* 13, conflict, is never returned: contradicting announcements of a channel ban the nodes of both. */
     LGM_UNKNOWN_NODE = 14,
     LGM_NOT_NEWER = 15,
     LGM_BANNED = 16,
 
-    /* Why a payment has no route: the first of these (docs/script.md, "Routes"). */
+    /* A payment has no route, for the first of these reasons (docs/script.md, "Payments without a route"). */
     LGM_AMOUNT_ZERO = 21,
     LGM_AMOUNT_TOO_LARGE = 22,
     LGM_EXPIRY_TOO_LARGE = 23,
     LGM_SELF_PAYMENT = 24,
     LGM_NO_ROUTE = 25,
 
-    /* The message is of another type than 261 and 263; than 265. */
+    /* The message is neither a 261 nor a 263; it isn't a 265. */
     LGM_NOT_QUERY = 31,
     LGM_NOT_FILTER = 32,
-    /* No announcement of the node is held. */
+    /* The map has no announcement of the node. */
     LGM_NOT_ANNOUNCED = 33,
 
-    /* The handle is closed; it is open already. */
+    /* The handle is closed; the handle is open already. */
     LGM_CLOSED = 100,
     LGM_OPEN = 101,
-    /* Memory was refused. It says nothing of what was asked. */
+    /* Out of memory. The same call may be made again. */
     LGM_NO_MEMORY = 102,
-    /* A number of a verdict names none. */
+    /* A number that stands for no verdict. */
     LGM_ARGUMENT = 103,
-    /* A buffer is too short. The lengths that are needed were told. */
+    /* A buffer is too short. The lengths that are needed were written. */
     LGM_ROOM = 104,
-    /* The map has more than 2,000,000,000 channels: no route is searched for. */
+    /* The map has more than 2,000,000,000 channels, too many for a route search. */
     LGM_FULL = 105
 };
 
-/* A handle: a map, or none. All zeros are a closed one. */
+/* A handle: a map, or none. All zeros are a closed handle. */
 typedef struct {
     bool is_open;
     void *at;
@@ -97,49 +96,49 @@ typedef struct {
 /* The version of the library, to be compared with LGM_VERSION. */
 uint32_t lgm_version(void);
 
-/* How long a word is at most, with a zero behind it. */
+/* The size of the longest word, with a zero after it. */
 #define LGM_WORD_LEN 24
 
 /*
- * The word of a number that a call answered, as `lgm run` writes it: "accepted" of 0, "malformed" of 1 and so on. Zeros
- * stand behind it. A number that no call answers has an empty word.
+ * The word of a number that a call returned, as `lgm run` writes it: "accepted" for 0, "malformed" for 1 and so on,
+ * padded with zeros. A number that no call returns has the empty word.
  */
 void lgm_word(uint32_t number, uint8_t word[LGM_WORD_LEN]);
 
 /*
- * Opens a closed handle: it holds a map of this chain with no channels, no nodes and no mark.
+ * Opens a closed handle, with a map of this chain without channels and nodes, and without a mark.
  *
- * Nodes that want features outside `known` aren't paid (BOLT 9): bit 0 is the last bit of the last byte. With
- * `all_known` each feature is known, and `known` isn't looked at. The seed is 16 random bytes that strangers don't know:
- * points are hashed with it.
+ * Routes avoid nodes that require features other than `known`: bit 0 is the least significant bit of the last byte (BOLT
+ * 9). If `all_known`, every feature is known, and `known` is ignored. The seed is 16 random bytes that nobody else knows,
+ * by which points are hashed.
  *
- * LGM_OPEN where the handle is open; LGM_NO_MEMORY.
+ * LGM_OPEN; LGM_NO_MEMORY.
  */
 uint32_t lgm_open(lgm_map *map, const uint8_t chain[32], bool all_known, const uint8_t *known,
                   size_t known_len, const uint8_t seed[16]);
 
-/* Frees what a handle holds, if it is open, and closes it. */
+/* Frees the map of a handle, if it is open, and closes the handle. */
 void lgm_free(lgm_map *map);
 
 /* The verdict on a message's signatures: four of a channel_announcement, one of any other. */
 enum {
-    LGM_SIG_ALL_FOUR = 0,     /* all four are right */
-    LGM_SIG_NOT_ALL_FOUR = 1, /* they aren't all right */
-    LGM_SIG_BY = 2,           /* the one signature is right, and is by `signer` */
-    LGM_SIG_NOBODY = 3        /* it is nobody's */
+    LGM_SIG_ALL_FOUR = 0,     /* all four are valid */
+    LGM_SIG_NOT_ALL_FOUR = 1, /* not all four are valid */
+    LGM_SIG_BY = 2,           /* the one signature is valid for the key `signer` */
+    LGM_SIG_NOBODY = 3        /* it is valid for no key */
 };
 
-/* The verdict on the funding output that a channel_announcement names. Other messages don't need it. */
+/* The verdict on the funding output of a channel_announcement. For other messages it is ignored. */
 enum {
     LGM_FUNDING_NOT_ASKED = 0,
-    LGM_FUNDING_UNSPENT = 1, /* it is unspent, pays to the 2-of-2 of the bitcoin keys, and has `sat` satoshi */
+    LGM_FUNDING_UNSPENT = 1, /* it is unspent, pays to the 2-of-2 of the bitcoin keys, and holds `sat` satoshi */
     LGM_FUNDING_SPENT = 2,
-    LGM_FUNDING_WRONG = 3 /* it isn't there, or pays to something else */
+    LGM_FUNDING_WRONG = 3 /* it doesn't exist, or pays to something else */
 };
 
 /*
- * Offers a gossip message, two bytes of type first, with the verdicts on it (BOLT 7). `signer` is looked at only with
- * LGM_SIG_BY, `sat` only with LGM_FUNDING_UNSPENT.
+ * Offers a gossip message, beginning with the two bytes of its type, with the verdicts on it (BOLT 7). `signer` is used
+ * only with LGM_SIG_BY, `sat` only with LGM_FUNDING_UNSPENT.
  *
  * LGM_CLOSED; LGM_ARGUMENT; 1 to 16; LGM_NO_MEMORY.
  */
@@ -147,20 +146,20 @@ uint32_t lgm_offer(lgm_map *map, const uint8_t *message, size_t message_len, uin
                    const uint8_t signer[33], uint32_t funding, uint64_t sat);
 
 /*
- * Closes a channel, since its funding output is spent: it goes with its updates, and then each node at which no channel
- * ends any more.
+ * Closes a channel, because its funding output was spent: removes it with its updates, and the announcement of each of
+ * its nodes that has no other channel.
  *
  * LGM_CLOSED; LGM_UNKNOWN_CHANNEL; LGM_NO_MEMORY.
  */
 uint32_t lgm_close_channel(lgm_map *map, uint64_t scid);
 
-/* The number of channels: 0 of a closed handle. */
+/* The number of channels, or 0 for a closed handle. */
 size_t lgm_count(lgm_map *map);
 
 /* A payment to be made. */
 typedef struct {
-    uint64_t amount_msat; /* what the payee is to get */
-    uint32_t expiry;      /* at which what the payee is offered expires */
+    uint64_t amount_msat; /* what the payee receives */
+    uint32_t expiry;      /* the expiry of the HTLC to the payee */
     uint8_t payer[33];
     uint8_t payee[33];
     uint8_t secret[32]; /* the payment secret, from the invoice */
@@ -169,28 +168,28 @@ typedef struct {
 /* A hop of a route: one channel, with the HTLC that is offered over it. */
 typedef struct {
     uint64_t scid;
-    uint64_t amount_msat; /* what goes over the channel */
-    size_t payload_len;   /* the length of the payload for the node at its end */
-    uint32_t expiry;      /* at which the HTLC expires */
-    uint8_t from[33];     /* who offers it */
-    uint8_t to[33];       /* to whom */
+    uint64_t amount_msat; /* the amount of the HTLC */
+    size_t payload_len;   /* the length of the payload for the receiving node */
+    uint32_t expiry;      /* the expiry of the HTLC */
+    uint8_t from[33];     /* the node that offers it */
+    uint8_t to[33];       /* the node that receives it */
 } lgm_hop;
 
-/* How long a route is: its hops, and the bytes of their payloads together. */
+/* The size of a route: the number of its hops, and the bytes of all their payloads. */
 typedef struct {
     size_t hops;
     size_t payloads;
 } lgm_lengths;
 
-/* No route is longer: it has 20 hops at most, and its payloads fit an onion packet (BOLT 4). */
+/* A route has at most 20 hops, and its payloads fit an onion packet (BOLT 4). */
 #define LGM_MOST_HOPS 20
 #define LGM_MOST_PAYLOADS 1300
 
 /*
- * The route by which the payer sends the least, of all over 1 to 20 channels of the map as it is (BOLT 7, "HTLC Fees";
- * docs/protocol.md). `hops` gets its hops, from the payer on; `payloads` the payload for the node at the end of each,
- * one behind the other, each with its length in front (BOLT 4, "Payload Format"); `lengths` how many of both. The first
- * call makes the view of the map that routes are searched in, which is kept from then on.
+ * Finds the route by which the payer sends the least, among all of 1 to 20 channels of the map (BOLT 7, "HTLC Fees";
+ * docs/protocol.md). Writes the hops, from the payer on, to `hops`; to `payloads` the payloads for the receiving nodes,
+ * one after the other, each beginning with its length as a BigSize (BOLT 4, "Payload Format"); and the numbers of both to
+ * `lengths`. The first call builds the view of the map in which routes are searched; later calls update it.
  *
  * LGM_CLOSED; LGM_FULL; 21 to 25; LGM_ROOM; LGM_NO_MEMORY.
  */
@@ -198,9 +197,9 @@ uint32_t lgm_route(lgm_map *map, const lgm_payment *payment, lgm_hop *hops, size
                    uint8_t *payloads, size_t payloads_len, lgm_lengths *lengths);
 
 /*
- * The replies to a peer's query_short_channel_ids (261) or query_channel_range (263), whole messages (BOLT 7, "Query
- * Messages"). Each stands in `replies` behind its length, which has eight bytes, the lowest first. `needed` is told how
- * long all are. A query of another chain is answered too, as the BOLT wants.
+ * Answers a peer's query_short_channel_ids (261) or query_channel_range (263) (BOLT 7, "Query Messages"). Writes the
+ * replies to `replies`, whole messages, each after its length in eight bytes, little-endian; and the length of all of
+ * that to `needed`. A query for another chain is answered too, as BOLT 7 says.
  *
  * LGM_CLOSED; 1 to 3; LGM_NOT_QUERY; LGM_ROOM; LGM_NO_MEMORY.
  */
@@ -208,8 +207,8 @@ uint32_t lgm_query(lgm_map *map, const uint8_t *query, size_t query_len, uint8_t
                    size_t replies_len, size_t *needed);
 
 /*
- * What passes a peer's gossip_timestamp_filter (265) of all that the map holds: the messages to be sent when the filter
- * comes. They are written as by lgm_query.
+ * Finds the messages of the map that pass a peer's gossip_timestamp_filter (265), to be sent when the filter arrives.
+ * They are written as by lgm_query.
  *
  * LGM_CLOSED; 1 to 3; LGM_NOT_FILTER; LGM_CHAIN; LGM_ROOM; LGM_NO_MEMORY.
  */
@@ -217,21 +216,21 @@ uint32_t lgm_filter(lgm_map *map, const uint8_t *filter, size_t filter_len, uint
                     size_t messages_len, size_t *needed);
 
 /*
- * What passes the filter of the map as it is and didn't pass of the map at the mark: what is news to a peer. Before the
- * first mark that is all that passes. The answers are those of lgm_filter.
+ * Finds the messages that pass the filter now and didn't at the mark, which are news to a peer. Before the first mark
+ * these are all that pass. They are written as by lgm_query, and the faults are those of lgm_filter.
  */
 uint32_t lgm_news(lgm_map *map, const uint8_t *filter, size_t filter_len, uint8_t *messages,
                   size_t messages_len, size_t *needed);
 
 /*
- * Moves the mark to the map as it is, or sets the first one. From the first on, each operation is kept until a later
- * mark.
+ * Moves the mark to the map as it is now, or sets the first mark. From then on each accepted message and close is kept
+ * until the mark moves.
  *
- * LGM_CLOSED; LGM_NO_MEMORY, which leaves the mark where it was.
+ * LGM_CLOSED; LGM_NO_MEMORY.
  */
 uint32_t lgm_mark(lgm_map *map);
 
-/* The terms of a channel's direction, from its channel_update. Where none is held, all is 0. */
+/* The terms of a channel's direction, from its channel_update. If the map has none, all is 0. */
 typedef struct {
     bool is_held;
     uint8_t message_flags;
@@ -244,17 +243,17 @@ typedef struct {
     uint64_t htlc_maximum_msat;
 } lgm_direction;
 
-/* A channel. Node 1 is the lesser one, byte by byte. */
+/* A channel. Node 1 is the lesser of the two points, compared as bytes. */
 typedef struct {
     uint64_t capacity_sat;
     uint8_t node_1[33];
     uint8_t node_2[33];
-    lgm_direction from_1; /* set by node 1, for what goes from it to node 2 */
+    lgm_direction from_1; /* set by node 1, for payments from it to node 2 */
     lgm_direction from_2;
 } lgm_channel_info;
 
 /*
- * What the map holds of a channel.
+ * Looks up a channel.
  *
  * LGM_CLOSED; LGM_UNKNOWN_CHANNEL.
  */
@@ -268,8 +267,8 @@ typedef struct {
 } lgm_node_info;
 
 /*
- * What the map holds of a node, and its addresses as they were announced: descriptors one behind the other. `needed` is
- * told their length; with LGM_ROOM the rest is told too.
+ * Looks up a node, and writes its addresses as they were announced, descriptors one after the other, and their length to
+ * `needed`. With LGM_ROOM the node is written, but not the addresses.
  *
  * LGM_CLOSED; LGM_NOT_ANNOUNCED; LGM_ROOM.
  */

@@ -6,10 +6,11 @@
 A page names things in `code spans`. Checked are
 
 - links to files of the repository, and to headings in them;
-- paths, as `examples/client.py` or `lgm_wire/specs`, also behind `python3`;
+- paths, as `examples/client.py` or `lgm_wire/specs`, also behind `python3`, and modules of specs, as `inner/Slots`;
 - calls, as `Map::offer`, and definitions of a module, as `Script.text_for`;
 - clauses behind calls, as `decode`: `found`, `only`, each of which one of the calls before the colon has to have;
-- all other names, which have to occur somewhere outside the pages, unless they are those of the kit or of a tool.
+- all other names, which have to occur somewhere outside the pages, unless they are those of the kit or of a tool;
+- that the tables of docs/definitions.md list each module of specs in its folder, and no others.
 
 Prints a line for each thing that isn't there; the exit status is then 1.
 """
@@ -161,13 +162,33 @@ class Checker:
                 if why := self.missing(page, word.strip(",;")):
                     yield why
 
+    def listed(self, page):
+        """Modules of specs that no table of a page lists, in the section of their crate, and listed ones that aren't there."""
+        crates, names, there = [], set(), set()
+        for line in page.read_text().splitlines():
+            if line.startswith("## "):
+                crates = re.findall(r"`(\w+)/specs`", line)
+                for crate in crates:
+                    specs = TOP / "crates" / crate / "specs"
+                    found = {spec.relative_to(specs).with_suffix("").as_posix() for spec in specs.rglob("*.antt")}
+                    there |= {(crate, name) for name in found - {"Lib", "inner", "reading"}}
+            elif crates and line.startswith("| `"):
+                column = line.split(" | ")[0]
+                owners = re.findall(r" of `(\w+)`", column) or crates
+                for name in re.findall(r"`([\w/]+)`", column):
+                    if name not in owners:
+                        names.add(next(((crate, name) for crate in owners if (crate, name) in there), (owners[0], name)))
+        yield from (f"{crate} has no module {name}" for crate, name in sorted(names - there))
+        yield from (f"the module {name} of {crate} isn't listed" for crate, name in sorted(there - names))
+
     def missing(self, page, word):
         """Why a word of a code span names nothing, if so."""
         if word in OUTSIDE or "NAME" in word or word.startswith("~"):
             return ""
         if PATH.fullmatch(word) or FILE.fullmatch(word):
             word = word.rstrip("/")
-            is_there = any(any(TOP.glob(pattern)) for pattern in (word, f"crates/{word}", f"crates/*/{word}"))
+            patterns = (word, f"crates/{word}", f"crates/*/{word}", f"crates/*/specs/{word}.antt")
+            is_there = any(any(TOP.glob(pattern)) for pattern in patterns)
             is_there = is_there or (page.parent / word).exists() or FILE.fullmatch(word) and any(TOP.glob(f"**/{word}"))
             return "" if is_there else f"there is no file {word}"
         if found := re.fullmatch(r"(\w+)::(\w+)", word):
@@ -197,6 +218,8 @@ def main():
     checker = Checker()
     for page in PAGES:
         checker.page(page)
+    definitions_page = TOP / "docs/definitions.md"
+    checker.faults += [f"docs/definitions.md: {why}" for why in checker.listed(definitions_page)]
     print(*checker.faults, sep="\n", end="\n" if checker.faults else "")
     print(f"{len(PAGES)} pages, {len(checker.faults)} faults")
     sys.exit(1 if checker.faults else 0)

@@ -1,9 +1,9 @@
 /*
- * Shows what calls answer that aren't done: the number of the fault, with the map and the buffers as they were. Each
- * request for memory is refused in turn, too. It ends with 0 if all is so. Under valgrind it also shows that nothing is
- * freed twice, written past its end, or lost.
+ * Tests that calls that fail return the number of the fault, and leave the map and the buffers unchanged, also if an
+ * allocation fails: each one in turn. The exit status is 0 if all tests pass. Under valgrind it also shows that nothing
+ * is freed twice, written past its end, or leaked.
  *
- * It is linked with -Wl,--wrap=malloc,--wrap=realloc, so that it can refuse memory.
+ * It is linked with -Wl,--wrap=malloc,--wrap=realloc, so that it can make allocations fail.
  */
 #include "lgm.h"
 
@@ -19,29 +19,29 @@ static void expect(const char *what, uint64_t found, uint64_t wanted) {
     failures++;
 }
 
-/* ---- memory, of which one request may be refused */
+/* ---- allocations, of which one may fail */
 
-/* How many requests there are up to the one that is refused; 0 where none is, or was. */
+/* The number of allocations up to the one that fails, or 0 if none does, or it has failed already. */
 static long left;
-static bool was_refused;
+static bool has_failed;
 
 void *__real_malloc(size_t size);
 void *__real_realloc(void *block, size_t size);
 void *__wrap_malloc(size_t size);
 void *__wrap_realloc(void *block, size_t size);
 
-static bool is_refused(void) {
+static bool fails_now(void) {
     if (left == 0 || --left != 0) return false;
-    was_refused = true;
+    has_failed = true;
     return true;
 }
 
 void *__wrap_malloc(size_t size) {
-    return is_refused() ? NULL : __real_malloc(size);
+    return fails_now() ? NULL : __real_malloc(size);
 }
 
 void *__wrap_realloc(void *block, size_t size) {
-    return is_refused() ? NULL : __real_realloc(block, size);
+    return fails_now() ? NULL : __real_realloc(block, size);
 }
 
 /* ---- messages, as BOLT 7 has them */
@@ -188,9 +188,10 @@ static void looking(lgm_map *map) {
 }
 
 /* Each call with a buffer of each length: nothing is written where it is too short, nor past the answer. */
-typedef uint32_t teller(lgm_map *, const uint8_t *, size_t, uint8_t *, size_t, size_t *);
+typedef uint32_t messages_call(lgm_map *, const uint8_t *, size_t, uint8_t *, size_t, size_t *);
 
-static void telling(const char *what, lgm_map *map, teller *call, const uint8_t *message, size_t len, size_t wanted) {
+static void expect_messages(const char *what, lgm_map *map, messages_call *call, const uint8_t *message, size_t len,
+                            size_t wanted) {
     for (size_t room = 1; room <= wanted + 2; room++) {
         uint8_t *buffer = malloc(room);
         size_t needed = 0;
@@ -208,17 +209,17 @@ static void asking(lgm_map *map) {
     query(range, 263);
     query(other, 265);
     /* One reply: 45 bytes before the ids, the byte of their encoding, and one id. */
-    telling("a range", map, lgm_query, range, QUERY, 8 + 45 + 1 + 8);
-    telling("a filter", map, lgm_filter, other, FILTER, 3 * 8 + ANNOUNCEMENT + UPDATE + NODE);
-    telling("news before a mark", map, lgm_news, other, FILTER, 3 * 8 + ANNOUNCEMENT + UPDATE + NODE);
+    expect_messages("a range", map, lgm_query, range, QUERY, 8 + 45 + 1 + 8);
+    expect_messages("a filter", map, lgm_filter, other, FILTER, 3 * 8 + ANNOUNCEMENT + UPDATE + NODE);
+    expect_messages("news before a mark", map, lgm_news, other, FILTER, 3 * 8 + ANNOUNCEMENT + UPDATE + NODE);
     expect("a mark", lgm_mark(map), LGM_OK);
-    telling("no news", map, lgm_news, other, FILTER, 0);
+    expect_messages("no news", map, lgm_news, other, FILTER, 0);
     uint8_t terms[UPDATE];
     update(terms, 6);
     expect("an update", lgm_offer(map, terms, UPDATE, LGM_SIG_BY, a, LGM_FUNDING_NOT_ASKED, 0), LGM_OK);
-    telling("news", map, lgm_news, other, FILTER, 8 + UPDATE);
+    expect_messages("news", map, lgm_news, other, FILTER, 8 + UPDATE);
     expect("a mark", lgm_mark(map), LGM_OK);
-    telling("no more news", map, lgm_news, other, FILTER, 0);
+    expect_messages("no more news", map, lgm_news, other, FILTER, 0);
     expect("a filter as a query", lgm_query(map, other, FILTER, room, 1, &needed), LGM_NOT_QUERY);
     expect("a query as a filter", lgm_filter(map, range, QUERY, room, 1, &needed), LGM_NOT_FILTER);
     expect("a query as a filter", lgm_news(map, range, QUERY, room, 1, &needed), LGM_NOT_FILTER);
@@ -283,19 +284,19 @@ static void words(void) {
     }
 }
 
-/* A call that memory was refused for is made again. */
+/* Makes a call again if it failed by out of memory. */
 #define AGAIN(what, call, wanted)                 \
     do {                                          \
         uint32_t number = (call);                 \
         if (number == LGM_NO_MEMORY) {            \
-            expect(what, was_refused, true);      \
+            expect(what, has_failed, true);      \
             number = (call);                      \
         }                                         \
         expect(what, number, wanted);             \
     } while (0)
 
-/* Each call once, with one request for memory refused. */
-static void refusing(void) {
+/* Each call once, while one allocation fails. */
+static void out_of_memory(void) {
     lgm_map map = {0};
     lgm_payment payment = {.amount_msat = 1000, .expiry = 700000};
     lgm_hop hops[LGM_MOST_HOPS];
@@ -336,11 +337,11 @@ int main(void) {
     lgm_map map = {0};
     long requests = 0;
     do {
-        was_refused = false;
+        has_failed = false;
         left = ++requests;
-        refusing();
+        out_of_memory();
         left = 0;
-    } while (was_refused);
+    } while (has_failed);
     expect("some memory", requests > 20, true);
     closed_handles();
     words();

@@ -1,10 +1,11 @@
 /*
- * Answers a script as `lgm run` does (docs/script.md), over the library: it keeps two handles, one for the items as they
- * are accepted and one for those that are committed, and asks the second one.
+ * Answers a script as `lgm run` does (docs/script.md), by the library: it has two handles, one with all accepted items
+ * and one with the committed ones, and answers requests from the second one.
  *
  *     run CHAIN < SCRIPT
  *
- * It shows each call of include/lgm.h in use. The program itself shares work between threads, and is the quicker one.
+ * It shows the use of the calls of include/lgm.h. The program itself is faster: it decodes digits in blocks, checks
+ * messages once and not for each map, and shares work between threads.
  */
 #define _POSIX_C_SOURCE 200809L
 
@@ -59,7 +60,7 @@ static int digit(char c) {
     return -1;
 }
 
-/* Reads digits, two at least and an even number of them, and says how many bytes they are: 0 where they are none. */
+/* Decodes digits to at most `most` bytes, and returns their number: 0 if there are none, or they aren't digits. */
 static size_t read_hex(const char *field, uint8_t *bytes, size_t most) {
     size_t len = strlen(field);
     if (len == 0 || len % 2 != 0 || len / 2 > most) return 0;
@@ -75,7 +76,7 @@ static bool read_exactly(const char *field, uint8_t *bytes, size_t len) {
     return read_hex(field, bytes, len) == len;
 }
 
-/* Reads a decimal number without a sign and without leading zeros, that is at most so great. */
+/* Reads a decimal number without a sign and leading zeros, which is at most `most`. */
 static bool read_number(const char *field, uint64_t most, uint64_t *number) {
     if (!isdigit((unsigned char)field[0]) || (field[0] == '0' && field[1] != 0)) return false;
     char *end;
@@ -99,7 +100,7 @@ static bool read_scid(char *field, uint64_t *scid) {
     return true;
 }
 
-/* Splits a line at single spaces into at most `most` fields, and says how many there are: 0 where one is empty. */
+/* Splits a line at single spaces into at most `most` fields, and returns their number: 0 if one is empty. */
 static size_t split(char *line, char **fields, size_t most) {
     size_t count = 0;
     for (char *field = line; field != NULL; count++) {
@@ -118,7 +119,7 @@ static size_t split(char *line, char **fields, size_t most) {
 typedef struct {
     bool is_close;
     uint64_t scid;
-    size_t start, len; /* where its bytes stand among those of all that are pending */
+    size_t start, len; /* of its bytes among those of all pending items */
     uint32_t sig, funding;
     uint64_t sat;
     uint8_t signer[33];
@@ -151,13 +152,13 @@ typedef struct {
     item *pending;
     size_t pending_len, pending_capacity;
     buffer bytes;    /* of the messages that are pending */
-    buffer messages; /* that the library told */
+    buffer messages; /* that the library wrote */
     bool has_filter[MOST_PEERS];
     uint8_t filters[MOST_PEERS][FILTER_LEN];
     size_t filter_lens[MOST_PEERS];
 } session;
 
-static void tell(const session *s, const char *format, ...) {
+static void print_line(const session *s, const char *format, ...) {
     va_list words;
     va_start(words, format);
     printf("%" PRIu64 " ", s->line);
@@ -166,27 +167,27 @@ static void tell(const session *s, const char *format, ...) {
     va_end(words);
 }
 
-static void tell_bytes(const session *s, const char *what, const uint8_t *bytes, size_t len) {
+static void print_bytes(const session *s, const char *what, const uint8_t *bytes, size_t len) {
     printf("%" PRIu64 " %s", s->line, what);
     for (size_t i = 0; i < len; i++) printf("%02x", bytes[i]);
     putchar('\n');
 }
 
-/* Tells the word of a number. What memory was refused for isn't answered. */
-static void tell_word(const session *s, uint32_t number) {
+/* Prints the word of a number. Out of memory ends the program. */
+static void print_word(const session *s, uint32_t number) {
     uint8_t word[LGM_WORD_LEN];
     lgm_word(number, word);
     if (number >= LGM_CLOSED) {
         fprintf(stderr, "run: line %" PRIu64 ": %s\n", s->line, (const char *)word);
         exit(1);
     }
-    tell(s, "%s", (const char *)word);
+    print_line(s, "%s", (const char *)word);
 }
 
-/* The call of the library that tells messages: lgm_query, lgm_filter or lgm_news. */
-typedef uint32_t teller(lgm_map *, const uint8_t *, size_t, uint8_t *, size_t, size_t *);
+/* A call of the library that writes messages: lgm_query, lgm_filter or lgm_news. */
+typedef uint32_t messages_call(lgm_map *, const uint8_t *, size_t, uint8_t *, size_t, size_t *);
 
-static uint32_t ask(session *s, teller *call, const uint8_t *bytes, size_t len) {
+static uint32_t call_for_messages(session *s, messages_call *call, const uint8_t *bytes, size_t len) {
     reserve(&s->messages, 1);
     uint32_t number = call(&s->committed, bytes, len, s->messages.bytes, s->messages.capacity, &s->messages.len);
     if (number == LGM_ROOM) {
@@ -196,26 +197,26 @@ static uint32_t ask(session *s, teller *call, const uint8_t *bytes, size_t len) 
     return number;
 }
 
-static void tell_messages(const session *s, const char *what) {
+static void print_messages(const session *s, const char *what) {
     for (size_t at = 0; at < s->messages.len;) {
         uint64_t len = 0;
         for (size_t i = 8; i-- > 0;) len = len << 8 | s->messages.bytes[at + i];
-        tell_bytes(s, what, s->messages.bytes + at + 8, len);
+        print_bytes(s, what, s->messages.bytes + at + 8, len);
         at += 8 + len;
     }
 }
 
-static void tell_to_peer(const session *s, uint64_t peer) {
+static void print_to_peer(const session *s, uint64_t peer) {
     char what[16];
     snprintf(what, sizeof what, "to %" PRIu64 " ", peer);
-    tell_messages(s, what);
+    print_messages(s, what);
 }
 
 /* ---- the lines */
 
 static void take_item(session *s, item *it, const uint8_t *bytes) {
     uint32_t number = offer(&s->accepted, it, bytes);
-    tell_word(s, number);
+    print_word(s, number);
     if (number != LGM_OK) return;
     s->items++;
     it->start = s->bytes.len;
@@ -231,45 +232,45 @@ static void take_message(session *s, char *hex, char *sig, char *funding) {
     static uint8_t bytes[MOST_BYTES];
     item it = {0};
     it.len = read_hex(hex, bytes, sizeof bytes);
-    if (it.len == 0 || !read_verdicts(sig, funding, &it)) tell(s, "bad");
+    if (it.len == 0 || !read_verdicts(sig, funding, &it)) print_line(s, "bad");
     else take_item(s, &it, bytes);
 }
 
 static void take_close(session *s, char *scid) {
     item it = {.is_close = true};
-    if (!read_scid(scid, &it.scid)) tell(s, "bad");
+    if (!read_scid(scid, &it.scid)) print_line(s, "bad");
     else take_item(s, &it, it.signer);
 }
 
-/* The committed map gets what is pending, and each peer the news of that. */
+/* Offers what is pending to the committed map, and prints the news for each peer. */
 static void commit(session *s) {
     for (size_t i = 0; i < s->pending_len; i++) {
         uint32_t number = offer(&s->committed, &s->pending[i], s->bytes.bytes + s->pending[i].start);
-        if (number != LGM_OK) tell_word(s, number);
+        if (number != LGM_OK) print_word(s, number);
     }
     s->pending_len = 0;
     s->bytes.len = 0;
-    tell(s, "commit %" PRIu64, s->items);
+    print_line(s, "commit %" PRIu64, s->items);
     for (uint64_t peer = 0; peer < MOST_PEERS; peer++) {
         if (!s->has_filter[peer]) continue;
-        uint32_t number = ask(s, lgm_news, s->filters[peer], s->filter_lens[peer]);
-        if (number != LGM_OK) tell_word(s, number);
-        else tell_to_peer(s, peer);
+        uint32_t number = call_for_messages(s, lgm_news, s->filters[peer], s->filter_lens[peer]);
+        if (number != LGM_OK) print_word(s, number);
+        else print_to_peer(s, peer);
     }
     uint32_t number = lgm_mark(&s->committed);
-    if (number != LGM_OK) tell_word(s, number);
+    if (number != LGM_OK) print_word(s, number);
 }
 
 static void query(session *s, char *hex) {
     static uint8_t bytes[MOST_BYTES];
     size_t len = read_hex(hex, bytes, sizeof bytes);
     if (len == 0) {
-        tell(s, "bad");
+        print_line(s, "bad");
         return;
     }
-    uint32_t number = ask(s, lgm_query, bytes, len);
-    if (number != LGM_OK) tell_word(s, number);
-    else tell_messages(s, "");
+    uint32_t number = call_for_messages(s, lgm_query, bytes, len);
+    if (number != LGM_OK) print_word(s, number);
+    else print_messages(s, "");
 }
 
 static void filter(session *s, char *peer_field, char *hex) {
@@ -277,29 +278,29 @@ static void filter(session *s, char *peer_field, char *hex) {
     uint64_t peer;
     size_t len = read_hex(hex, bytes, sizeof bytes);
     if (len == 0 || !read_number(peer_field, MOST_PEERS - 1, &peer)) {
-        tell(s, "bad");
+        print_line(s, "bad");
         return;
     }
-    uint32_t number = ask(s, lgm_filter, bytes, len);
+    uint32_t number = call_for_messages(s, lgm_filter, bytes, len);
     if (number != LGM_OK) {
-        tell_word(s, number);
+        print_word(s, number);
         return;
     }
-    /* What stands behind the fields of a filter says nothing. */
+    /* Bytes after the fields of a filter have no meaning. */
     s->has_filter[peer] = true;
     s->filter_lens[peer] = len < FILTER_LEN ? len : FILTER_LEN;
     memcpy(s->filters[peer], bytes, s->filter_lens[peer]);
-    tell(s, "filter");
-    tell_to_peer(s, peer);
+    print_line(s, "filter");
+    print_to_peer(s, peer);
 }
 
-static void tell_hops(const session *s, const lgm_hop *hops, size_t count, const uint8_t *payload) {
-    tell(s, "route %" PRIu64 " %" PRIu32 " %zu", hops[0].amount_msat, hops[0].expiry, count);
+static void print_hops(const session *s, const lgm_hop *hops, size_t count, const uint8_t *payload) {
+    print_line(s, "route %" PRIu64 " %" PRIu32 " %zu", hops[0].amount_msat, hops[0].expiry, count);
     for (size_t i = 0; i < count; i++) {
         char what[64];
         snprintf(what, sizeof what, "hop %" PRIu64 "x%" PRIu64 "x%" PRIu64 " ", hops[i].scid >> 40,
                  hops[i].scid >> 16 & 0xffffff, hops[i].scid & 0xffff);
-        tell_bytes(s, what, payload, hops[i].payload_len);
+        print_bytes(s, what, payload, hops[i].payload_len);
         payload += hops[i].payload_len;
     }
 }
@@ -313,13 +314,13 @@ static void route(session *s, char **fields) {
     if (!read_exactly(fields[1], payment.payer, 33) || !read_exactly(fields[2], payment.payee, 33)
         || !read_number(fields[3], UINT64_MAX, &payment.amount_msat)
         || !read_number(fields[4], UINT32_MAX, &expiry) || !read_exactly(fields[5], payment.secret, 32)) {
-        tell(s, "bad");
+        print_line(s, "bad");
         return;
     }
     payment.expiry = (uint32_t)expiry;
     uint32_t number = lgm_route(&s->committed, &payment, hops, LGM_MOST_HOPS, payloads, sizeof payloads, &lengths);
-    if (number != LGM_OK) tell_word(s, number);
-    else tell_hops(s, hops, lengths.hops, payloads);
+    if (number != LGM_OK) print_word(s, number);
+    else print_hops(s, hops, lengths.hops, payloads);
 }
 
 static void answer(session *s, char *line) {
@@ -333,7 +334,7 @@ static void answer(session *s, char *line) {
     else if (count == 2 && strcmp(word, "q") == 0) query(s, fields[1]);
     else if (count == 3 && strcmp(word, "filter") == 0) filter(s, fields[1], fields[2]);
     else if (count == 6 && strcmp(word, "route") == 0) route(s, fields);
-    else tell(s, "bad");
+    else print_line(s, "bad");
 }
 
 static void open_map(lgm_map *map, const uint8_t chain[32]) {

@@ -1,11 +1,11 @@
-"""lgm, a proved map of Lightning gossip, from Python: a class `Map` over the shared library of include/lgm.h.
+"""lgm, a verified map of Lightning gossip, from Python: a class `Map` over the shared library of include/lgm.h.
 
     with Map(chain=CHAIN) as network:
         network.offer(message, sig=ALL_FOUR, funding=100_000)
         route = network.route(payer, payee, amount_msat=1_000_000, expiry=900_000, secret=secret)
 
-Messages, points, chains and secrets are `bytes`. A call that isn't done raises the class of its reason, as `NotNewer`;
-all of them are kinds of `Fault`. A `Map` stays on the thread that made it.
+Messages, points, chains and secrets are `bytes`. A call that fails raises the class of its fault, such as `NotNewer`;
+all of these are subclasses of `Fault`. A `Map` stays on the thread that made it.
 
 The library is the file that LGM_LIBRARY names, or `liblgm.so` in the folder `out` beside this one, where
 `examples/build-c` puts it.
@@ -13,6 +13,7 @@ The library is the file that LGM_LIBRARY names, or `liblgm.so` in the folder `ou
 
 import ctypes
 import os
+import struct
 from dataclasses import dataclass
 from pathlib import Path
 
@@ -33,91 +34,58 @@ NOT_ASKED, SPENT, WRONG = "-", "spent", "wrong"
 _UNSPENT = 1
 _FUNDINGS = {NOT_ASKED: 0, SPENT: 2, WRONG: 3}
 
-_Point = ctypes.c_uint8 * 33
 _NO_POINT = bytes(33)
 
+# The structs of the header, in this machine's layout. What C writes is unpacked from buffers that a `Map` keeps.
+_PAYMENT = struct.Struct("@QI33s33s32s0Q")
+_HOP = struct.Struct("@QQNI33s33s0Q")
+_LENGTHS = struct.Struct("@NN")
+_DIRECTION = struct.Struct("@?BBHIIIQQ")
+_CHANNEL = struct.Struct("@Q33s33s0Q")
+_CHANNEL_LEN = _CHANNEL.size + 2 * _DIRECTION.size
+_NODE = struct.Struct("@I3s32s0I")
+_SIZE_OF_HANDLE = struct.calcsize("@?P")
 
-class _Handle(ctypes.Structure):
-    _fields_ = [("is_open", ctypes.c_bool), ("at", ctypes.c_void_p)]
+# Bytes, and the address of a buffer.
+_BYTES, _AT = ctypes.c_char_p, ctypes.c_void_p
+_SIZE, _U32, _U64 = ctypes.c_size_t, ctypes.c_uint32, ctypes.c_uint64
+_ANSWERING = [_AT, _BYTES, _SIZE, _AT, _SIZE, _AT]
 
-
-class _Payment(ctypes.Structure):
-    _fields_ = [
-        ("amount_msat", ctypes.c_uint64), ("expiry", ctypes.c_uint32), ("payer", _Point), ("payee", _Point),
-        ("secret", ctypes.c_uint8 * 32)]
-
-
-class _Hop(ctypes.Structure):
-    _fields_ = [
-        ("scid", ctypes.c_uint64), ("amount_msat", ctypes.c_uint64), ("payload_len", ctypes.c_size_t),
-        ("expiry", ctypes.c_uint32), ("start", _Point), ("end", _Point)]
-
-
-class _Lengths(ctypes.Structure):
-    _fields_ = [("hops", ctypes.c_size_t), ("payloads", ctypes.c_size_t)]
-
-
-class _Direction(ctypes.Structure):
-    _fields_ = [
-        ("is_held", ctypes.c_bool), ("message_flags", ctypes.c_uint8), ("channel_flags", ctypes.c_uint8),
-        ("cltv_expiry_delta", ctypes.c_uint16), ("timestamp", ctypes.c_uint32), ("fee_base_msat", ctypes.c_uint32),
-        ("fee_proportional_millionths", ctypes.c_uint32), ("htlc_minimum_msat", ctypes.c_uint64),
-        ("htlc_maximum_msat", ctypes.c_uint64)]
-
-
-class _Channel(ctypes.Structure):
-    _fields_ = [
-        ("capacity_sat", ctypes.c_uint64), ("node_1", _Point), ("node_2", _Point), ("from_1", _Direction),
-        ("from_2", _Direction)]
-
-
-class _Node(ctypes.Structure):
-    _fields_ = [("timestamp", ctypes.c_uint32), ("rgb", ctypes.c_uint8 * 3), ("alias", ctypes.c_uint8 * 32)]
-
-
-_HANDLE = ctypes.POINTER(_Handle)
-_BYTES = ctypes.c_char_p
-_SIZE = ctypes.c_size_t
-_NEEDED = ctypes.POINTER(ctypes.c_size_t)
-_U32, _U64 = ctypes.c_uint32, ctypes.c_uint64
-_TELLER = [_HANDLE, _BYTES, _SIZE, ctypes.c_void_p, _SIZE, _NEEDED]
-
-# Each call of the library: what it gives and what it takes.
+# Each call of the library: its result and its arguments.
 _CALLS = {
     "lgm_version": (_U32, []),
-    "lgm_word": (None, [_U32, ctypes.c_char_p]),
-    "lgm_open": (_U32, [_HANDLE, _BYTES, ctypes.c_bool, _BYTES, _SIZE, _BYTES]),
-    "lgm_free": (None, [_HANDLE]),
-    "lgm_offer": (_U32, [_HANDLE, _BYTES, _SIZE, _U32, _BYTES, _U32, _U64]),
-    "lgm_close_channel": (_U32, [_HANDLE, _U64]),
-    "lgm_count": (_SIZE, [_HANDLE]),
-    "lgm_route": (_U32, [
-        _HANDLE, ctypes.POINTER(_Payment), ctypes.POINTER(_Hop), _SIZE, ctypes.c_void_p, _SIZE,
-        ctypes.POINTER(_Lengths)]),
-    "lgm_query": (_U32, _TELLER),
-    "lgm_filter": (_U32, _TELLER),
-    "lgm_news": (_U32, _TELLER),
-    "lgm_mark": (_U32, [_HANDLE]),
-    "lgm_channel": (_U32, [_HANDLE, _U64, ctypes.POINTER(_Channel)]),
-    "lgm_node": (_U32, [_HANDLE, _BYTES, ctypes.POINTER(_Node), ctypes.c_void_p, _SIZE, _NEEDED]),
+    "lgm_word": (None, [_U32, _AT]),
+    "lgm_open": (_U32, [_AT, _BYTES, ctypes.c_bool, _BYTES, _SIZE, _BYTES]),
+    "lgm_free": (None, [_AT]),
+    "lgm_offer": (_U32, [_AT, _BYTES, _SIZE, _U32, _BYTES, _U32, _U64]),
+    "lgm_close_channel": (_U32, [_AT, _U64]),
+    "lgm_count": (_SIZE, [_AT]),
+    "lgm_route": (_U32, [_AT, _BYTES, _AT, _SIZE, _AT, _SIZE, _AT]),
+    "lgm_query": (_U32, _ANSWERING),
+    "lgm_filter": (_U32, _ANSWERING),
+    "lgm_news": (_U32, _ANSWERING),
+    "lgm_mark": (_U32, [_AT]),
+    "lgm_channel": (_U32, [_AT, _U64, _AT]),
+    "lgm_node": (_U32, [_AT, _BYTES, _AT, _AT, _SIZE, _AT]),
 }
 
 
 def _load():
     library = ctypes.CDLL(str(_LIBRARY))
-    for name, (gives, takes) in _CALLS.items():
+    for name, (result, arguments) in _CALLS.items():
         call = getattr(library, name)
-        call.restype, call.argtypes = gives, takes
+        call.restype, call.argtypes = result, arguments
     if library.lgm_version() != _VERSION:
         raise ImportError(f"{_LIBRARY} has another version than {_VERSION}")
     return library
 
 
 _library = _load()
+_offer = _library.lgm_offer
 
 
 class Fault(Exception):
-    """A call wasn't done. It has a `number` and a `word`, and left the map as it was."""
+    """A call failed, and left the map unchanged. It has a `number` and a `word`."""
 
     number = None
     word = None
@@ -127,7 +95,7 @@ class Fault(Exception):
 
 
 class Refused(Fault):
-    """A message or a close isn't accepted, or a peer's message isn't read."""
+    """A message or a close is refused, or a peer's message is malformed."""
 
 
 class Unrouted(Fault):
@@ -233,37 +201,53 @@ def short_channel_id(text):
     return block << 40 | index << 16 | output
 
 
-def _direction(held):
-    if not held.is_held:
-        return None
-    return Direction(*(getattr(held, name) for name in Direction.__dataclass_fields__))
+def _direction(buffer, at):
+    is_held, *terms = _DIRECTION.unpack_from(buffer, at)
+    return Direction(*terms) if is_held else None
 
 
 def _sized(name, value, length):
-    """The bytes, which C would read without asking."""
+    """The bytes, whose length C doesn't check."""
     if len(value) != length:
         raise ValueError(f"{name} has {length} bytes")
     return bytes(value)
 
 
+class _Buffer:
+    """Bytes that C writes to, and their address."""
+
+    def __init__(self, length):
+        self.length = length
+        self.bytes = ctypes.create_string_buffer(length)
+        self.at = ctypes.addressof(self.bytes)
+        self._view = memoryview(self.bytes).cast("B")
+
+    def front(self, length):
+        """A copy of the first bytes."""
+        return self._view[:length].tobytes()
+
+
 class Map:
-    """A map of one chain. Leave it by `close`, or use it in a `with`."""
+    """A map of one chain. Free it by `close`, or use it in a `with` statement."""
 
     def __init__(self, chain, known=None, seed=None):
-        """`known` has the feature bits that are known, all where it is `None`; `seed` 16 random bytes."""
-        self._map = _Handle()
-        self._handle = ctypes.byref(self._map)
-        self._room = ctypes.create_string_buffer(4096)
-        self._hops = (_Hop * _MOST_HOPS)()
-        self._payloads = ctypes.create_string_buffer(_MOST_PAYLOADS)
+        """`known` has the feature bits that are known, or is `None` if all are; `seed` is 16 random bytes."""
+        self._map = _Buffer(_SIZE_OF_HANDLE)
+        self._at = self._map.at
+        self._room = _Buffer(4096)
+        self._needed = ctypes.c_size_t()
+        self._needed_at = ctypes.addressof(self._needed)
+        self._hops = _Buffer(_MOST_HOPS * _HOP.size)
+        self._payloads = _Buffer(_MOST_PAYLOADS)
+        self._struct = _Buffer(max(_LENGTHS.size, _CHANNEL_LEN, _NODE.size))
         seed = os.urandom(16) if seed is None else seed
         bits = bytes(known or b"")
         _check(_library.lgm_open(
-            self._handle, _sized("a chain", chain, 32), known is None, bits, len(bits), _sized("a seed", seed, 16)))
+            self._at, _sized("a chain", chain, 32), known is None, bits, len(bits), _sized("a seed", seed, 16)))
 
     def close(self):
-        """Frees the map. Calls after that raise `Closed`."""
-        _library.lgm_free(self._handle)
+        """Frees the map. Later calls raise `Closed`."""
+        _library.lgm_free(self._at)
 
     def __enter__(self):
         return self
@@ -272,88 +256,87 @@ class Map:
         self.close()
 
     def __del__(self):
-        if hasattr(self, "_handle"):
+        if hasattr(self, "_at"):
             self.close()
 
     def __len__(self):
         """The number of channels."""
-        return _library.lgm_count(self._handle)
+        return _library.lgm_count(self._at)
 
     def offer(self, message, sig=NOBODY, funding=NOT_ASKED):
         """Offers a gossip message, with the verdicts on it."""
-        sig, signer = (_SIGS[sig], _NO_POINT) if isinstance(sig, str) else (_BY, _sized("a point", sig, 33))
+        if isinstance(sig, str):
+            sig, signer = _SIGS[sig], _NO_POINT
+        else:
+            sig, signer = _BY, _sized("a point", sig, 33)
         funding, sat = (_UNSPENT, funding) if isinstance(funding, int) else (_FUNDINGS[funding], 0)
-        number = _library.lgm_offer(self._handle, message, len(message), sig, signer, funding, sat)
-        if number != 0:
+        number = _offer(self._at, message, len(message), sig, signer, funding, sat)
+        if number:
             raise _FAULTS[number]()
 
     def close_channel(self, scid):
-        """Forgets a channel, since its funding output is spent."""
-        _check(_library.lgm_close_channel(self._handle, scid))
+        """Removes a channel, because its funding output was spent."""
+        _check(_library.lgm_close_channel(self._at, scid))
 
     def route(self, payer, payee, amount_msat, expiry, secret):
         """The route by which the payer sends the least."""
-        payment = _Payment(
-            amount_msat, expiry, _Point(*_sized("a point", payer, 33)), _Point(*_sized("a point", payee, 33)),
-            (ctypes.c_uint8 * 32)(*_sized("a secret", secret, 32)))
-        lengths = _Lengths()
+        payment = _PAYMENT.pack(
+            amount_msat, expiry, _sized("a point", payer, 33), _sized("a point", payee, 33),
+            _sized("a secret", secret, 32))
         _check(_library.lgm_route(
-            self._handle, payment, self._hops, _MOST_HOPS, self._payloads, _MOST_PAYLOADS, lengths))
-        payloads = ctypes.string_at(self._payloads, lengths.payloads)
-        hops, at = [], 0
-        for hop in self._hops[:lengths.hops]:
-            payload = payloads[at:at + hop.payload_len]
-            hops.append(Hop(hop.scid, hop.amount_msat, hop.expiry, bytes(hop.start), bytes(hop.end), payload))
-            at += hop.payload_len
+            self._at, payment, self._hops.at, _MOST_HOPS, self._payloads.at, _MOST_PAYLOADS, self._struct.at))
+        count, length = _LENGTHS.unpack_from(self._struct.bytes)
+        payloads, end = self._payloads.front(length), 0
+        hops = []
+        for scid, amount, payload_len, hop_expiry, sender, receiver in _HOP.iter_unpack(
+                self._hops.front(count * _HOP.size)):
+            start, end = end, end + payload_len
+            hops.append(Hop(scid, amount, hop_expiry, sender, receiver, payloads[start:end]))
         return Route(tuple(hops))
 
     def query(self, message):
         """The replies to a peer's query, a list of messages."""
-        return self._told(_library.lgm_query, message)
+        return self._messages(_library.lgm_query, message)
 
     def filter(self, message):
         """The messages that pass a peer's filter."""
-        return self._told(_library.lgm_filter, message)
+        return self._messages(_library.lgm_filter, message)
 
     def news(self, message):
-        """The messages that pass a peer's filter, and didn't at the mark."""
-        return self._told(_library.lgm_news, message)
+        """The messages that pass a peer's filter now, and didn't at the mark."""
+        return self._messages(_library.lgm_news, message)
 
     def mark(self):
-        """Moves the mark to the map as it is."""
-        _check(_library.lgm_mark(self._handle))
+        """Moves the mark to the map as it is now."""
+        _check(_library.lgm_mark(self._at))
 
     def channel(self, scid):
-        """What the map holds of a channel."""
-        held = _Channel()
-        _check(_library.lgm_channel(self._handle, scid, held))
+        """What the map has of a channel."""
+        _check(_library.lgm_channel(self._at, scid, self._struct.at))
+        channel = self._struct.bytes
         return Channel(
-            held.capacity_sat, bytes(held.node_1), bytes(held.node_2), _direction(held.from_1), _direction(held.from_2))
+            *_CHANNEL.unpack_from(channel), _direction(channel, _CHANNEL.size),
+            _direction(channel, _CHANNEL.size + _DIRECTION.size))
 
     def node(self, point):
-        """What the map holds of a node."""
-        held = _Node()
-        addresses = self._grown(
-            lambda room, needed: _library.lgm_node(
-                self._handle, _sized("a point", point, 33), held, room, len(room), needed))
-        return Node(held.timestamp, bytes(held.rgb), bytes(held.alias), addresses)
+        """What the map has of a node."""
+        addresses = self._written(_library.lgm_node, _sized("a point", point, 33), self._struct.at)
+        return Node(*_NODE.unpack_from(self._struct.bytes), addresses)
 
-    def _grown(self, call):
-        """The bytes that a call tells, for which the room grows where it is too short."""
-        needed = ctypes.c_size_t()
-        number = call(self._room, needed)
+    def _written(self, call, *arguments):
+        """The bytes that a call writes, to a buffer that grows if it is too short."""
+        number = call(self._at, *arguments, self._room.at, self._room.length, self._needed_at)
         if number == _ROOM:
-            self._room = ctypes.create_string_buffer(2 * needed.value)
-            number = call(self._room, needed)
+            self._room = _Buffer(2 * self._needed.value)
+            number = call(self._at, *arguments, self._room.at, self._room.length, self._needed_at)
         _check(number)
-        return ctypes.string_at(self._room, needed.value)
+        return self._room.front(self._needed.value)
 
-    def _told(self, call, message):
-        told = self._grown(
-            lambda room, needed: call(self._handle, message, len(message), room, len(room), needed))
+    def _messages(self, call, message):
+        written = self._written(call, message, len(message))
         messages, at = [], 0
-        while at < len(told):
-            end = at + 8 + int.from_bytes(told[at:at + 8], "little")
-            messages.append(told[at + 8:end])
+        while at < len(written):
+            end = at + 8 + int.from_bytes(written[at:at + 8], "little")
+            messages.append(written[at + 8:end])
             at = end
         return messages

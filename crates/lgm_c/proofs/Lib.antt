@@ -1,5 +1,5 @@
 mod Values
-mod Doings
+mod Outcomes
 mod Marks
 mod Hops
 mod ShortWords

@@ -8,18 +8,18 @@ use Rattle.lgm_store.specs.Rows.{Rows, empty}
 use Rattle.lgm_query.specs.declared.filter.Filter.{Filter}
 use Rattle.lgm_query.specs.Backlog.{is_among, backlog, news}
 use Rattle.lgm_query.specs.Touched.{TellsKey}
-use Rattle.lgm_c.specs.Held.{Marked, rows_at}
-use Rattle.lgm_c.specs.Telling.{all_framed}
+use Rattle.lgm_c.specs.inner.Marking.{Marked, rows_at}
+use Rattle.lgm_c.specs.Writing.{all_framed}
 
--- the first operation, and those behind it
+-- the first operation, and the others
 pub first_and_rest : (history : List Op) (op : Op) → 0 < length history → history ≡ get_or history 0 op ∷ drop 1 history
 first_and_rest [] op some = absurd (omega arith)
 first_and_rest (o ∷ os) op some = refl
 
 -- one more
-pub told_one_more : (since : List Op) (op : Op) → AllByRecursion TellsKey since → TellsKey op → AllByRecursion TellsKey (since ++ op ∷ [])
-told_one_more [] op all own = (own, tt)
-told_one_more (o ∷ os) op all own = (all.0, told_one_more os op all.1 own)
+pub tells_one_more : (since : List Op) (op : Op) → AllByRecursion TellsKey since → TellsKey op → AllByRecursion TellsKey (since ++ op ∷ [])
+tells_one_more [] op all own = (own, tt)
+tells_one_more (o ∷ os) op all own = (all.0, tells_one_more os op all.1 own)
 
 -- of no messages none is known
 all_news : (messages : List (List ℕ)) → filter (λ message. not (is_among [] message)) messages ≡ messages
@@ -32,6 +32,6 @@ no_mark (Some m) none = absurd (none m refl)
 
 -- before the first mark all that passes is news
 pub first_news : {X E : Type 0} (result : Result X E) (items : X → List ℕ) (marked rows : Rows) (f : Filter) → marked ≡ empty
-    → IfOk result (λ told. items told ≡ all_framed (backlog rows f)) → IfOk result (λ told. items told ≡ all_framed (news marked rows f))
-first_news (Ok told) items marked rows f none is = rw none (is ∙ ap all_framed (sym (all_news (backlog rows f))))
+    → IfOk result (λ written. items written ≡ all_framed (backlog rows f)) → IfOk result (λ written. items written ≡ all_framed (news marked rows f))
+first_news (Ok written) items marked rows f none is = rw none (is ∙ ap all_framed (sym (all_news (backlog rows f))))
 first_news (Err e) items marked rows f none is = tt

@@ -1,4 +1,4 @@
--- What a peer's messages are answered with.
+-- The messages that answer queries and filters of peers.
 use Rattle.std.specs.Prelude.{ℕ, nat_eq, List, Result, Ok, Err, if◌then◌else◌}
 use Rattle.std.specs.Cmp.Lexicographic.{pointwise}
 use Rattle.lgm_wire.specs.reading.Reading.{◌>>=◌}
@@ -17,13 +17,13 @@ use Rattle.lgm_c.specs.declared.fault.Fault.{Fault}
 use Rattle.lgm_c.specs.declared.fault.Fault.TheVariants as faults
 use Rattle.lgm_c.specs.Held.{Held}
 use Rattle.lgm_c.specs.Status.{refused}
-use Rattle.lgm_c.specs.Telling.{all_framed}
+use Rattle.lgm_c.specs.Writing.{all_framed}
 
 abbrev pub framed_answer : Result (List (List ℕ)) Fault → Result (List ℕ) Fault
 framed_answer (Ok messages) = Ok (all_framed messages)
 framed_answer (Err fault) = Err fault
 
--- the replies to each of the two queries
+-- the replies to a query of either kind
 abbrev pub replies_in : Held → Result Message DecodeFault → Result (List (List ℕ)) Fault
 replies_in held (Ok (messages.IdsQuery query)) = Ok (ids_reply held.chain held.rows query)
 replies_in held (Ok (messages.RangeQuery query)) = Ok (range_reply held.chain held.rows query)
@@ -33,7 +33,7 @@ replies_in held (Err fault) = Err (refused (refusal_of fault))
 abbrev pub query_answer : List ℕ → Held → Result (List ℕ) Fault
 query_answer bytes held = framed_answer (replies_in held (message_at bytes))
 
--- the filter of a message, if it is one of this chain
+-- the filter of a message, if it is a filter for this chain
 abbrev pub filter_in : ChainHash → Result Message DecodeFault → Result Filter Fault
 filter_in chain (Ok (messages.FilterMsg filter)) =
     if pointwise nat_eq filter.chain_hash.0 chain.0
@@ -42,7 +42,7 @@ filter_in chain (Ok (messages.FilterMsg filter)) =
 filter_in chain (Ok _) = Err faults.NotFilter
 filter_in chain (Err fault) = Err (refused (refusal_of fault))
 
--- what a filter passes of the map, or of what is new since the mark
+-- the messages of the map that pass a filter; below, those that have come to pass since the mark
 abbrev pub backlog_answer : List ℕ → Held → Result (List ℕ) Fault
 backlog_answer bytes held = do
   filter ← filter_in held.chain (message_at bytes)

@@ -1,4 +1,4 @@
--- The verdicts that numbers name.
+-- The verdicts that numbers stand for.
 use Rattle.std.specs.Prelude.{ℕ, ◌==◌, if◌then◌else◌, true, false, List, Option, Some, None}
 use Rattle.lgm_check.specs.declared.evidence.Evidence.{Evidence}
 use Rattle.lgm_check.specs.declared.evidence.Sig.{Sig}
@@ -6,7 +6,7 @@ use Rattle.lgm_check.specs.declared.evidence.Sig.TheVariants as sigs
 use Rattle.lgm_check.specs.declared.evidence.Funding.{Funding}
 use Rattle.lgm_check.specs.declared.evidence.Funding.TheVariants as fundings
 
--- on signatures, of which one may be by the signer
+-- on signatures; number 2 is the signer's
 abbrev pub sig_of : ℕ → List ℕ → Option Sig
 sig_of number signer =
     if number == 0 then Some (sigs.AllFour true)
@@ -15,7 +15,7 @@ sig_of number signer =
     else if number == 3 then Some sigs.Nobody
     else None
 
--- on a funding output, which may have so many satoshi
+-- on a funding output, which may hold this many satoshi
 abbrev pub funding_of : ℕ → ℕ → Option Funding
 funding_of number sat =
     if number == 0 then Some fundings.NotAsked
@@ -28,6 +28,6 @@ abbrev pub both : Option Sig → Option Funding → Option Evidence
 both (Some sig) (Some funding) = Some (record { sig = sig; funding = funding })
 both _ _ = None
 
--- both verdicts, if the numbers name them
+-- both verdicts, if the numbers stand for some
 abbrev pub evidence_of : ℕ → List ℕ → ℕ → ℕ → Option Evidence
 evidence_of sig signer funding sat = both (sig_of sig signer) (funding_of funding sat)

@@ -1,9 +1,9 @@
 pub mod Held
 pub mod Status
-pub mod Telling
+pub mod Writing
 pub mod Evidence
 pub mod Opening
-pub mod Doing
+pub mod Offering
 pub mod Asking
 pub mod Routing
 pub mod Looking

@@ -1,19 +1,19 @@
--- Handles that are opened, and marks that are moved.
+-- Opening a handle, and moving a mark.
 use Rattle.std.specs.Prelude.{◌≡◌, ◌⊎◌, ℕ, Bool, if◌then◌else◌, List, Option, Some, None}
 use Rattle.lgm_c.specs.declared.fault.Fault.TheVariants as faults
 use Rattle.lgm_c.specs.Held.{Held}
 use Rattle.lgm_c.specs.Status.{number_of, no_memory}
 
--- the known bits of nodes' features: all, or these
+-- the known feature bits of nodes: all, or these
 abbrev pub known_of : Bool → List ℕ → Option (List ℕ)
 known_of all bits = if all then None else Some bits
 
--- a closed handle holds this then, or memory was refused; an open one holds what it did
+-- a closed handle is opened with this, unless memory runs out; an open one is unchanged
 abbrev pub Opens : Held → ℕ → Option Held → Option Held → Type 0
 Opens held status None new = ((status ≡ 0) × (new ≡ Some held)) ⊎ ((status ≡ no_memory) × (new ≡ None))
 Opens held status (Some old) new = (status ≡ number_of faults.Open) × (new ≡ Some old)
 
--- the mark is at the rows, or memory was refused
+-- the mark moves to the rows, unless memory runs out
 abbrev pub MovesMark : ℕ → Option Held → Option Held → Type 0
 MovesMark status None new = (status ≡ number_of faults.Closed) × (new ≡ None)
 MovesMark status (Some old) new =

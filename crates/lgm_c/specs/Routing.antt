@@ -1,4 +1,4 @@
--- What C is told of a payment.
+-- The route of a payment, as C gets it.
 use Rattle.std.specs.Prelude.{◌≡◌, ◌⊎◌, ℕ, ◌<◌, nat_lt, List, map, length, Result, Ok, Err, if◌then◌else◌}
 use Rattle.std.specs.List.{flat_map, zip}
 use Rattle.lgm_graph.specs.Edges.{edges_of}
@@ -14,7 +14,7 @@ use Rattle.lgm_c.specs.declared.fault.Fault.{Fault}
 use Rattle.lgm_c.specs.declared.fault.Fault.TheVariants as faults
 use Rattle.lgm_c.specs.Held.{Held}
 use Rattle.lgm_c.specs.Status.{number_of, no_memory, unrouted}
-use Rattle.lgm_c.specs.Telling.{in_front}
+use Rattle.lgm_c.specs.Writing.{in_front}
 
 abbrev pub request_of : LgmPayment → Request
 request_of payment = record {
@@ -28,7 +28,7 @@ abbrev pub found_or_unrouted : Result (List Hop) RouteFault → Result (List Hop
 found_or_unrouted (Ok hops) = Ok hops
 found_or_unrouted (Err reason) = Err (unrouted reason)
 
--- the hops of the least walk over the edges of the rows, or why there is none; among too many channels none is searched
+-- the hops of the best walk over the edges of the rows, or why there is none; `Full` with too many channels
 abbrev pub route_for : Request → Held → Result (List Hop) Fault
 route_for request held =
     if nat_lt 2000000000 (length held.rows.channels) then Err faults.Full
@@ -37,9 +37,9 @@ route_for request held =
 abbrev pub route_asked : LgmPayment → Held → Result (List Hop) Fault
 route_asked payment held = route_for (request_of payment) held
 
--- a hop, with the payload for the node at its end
-abbrev pub told_hop : Hop → List ℕ → LgmHop
-told_hop hop payload = record {
+-- a hop, with the length of the payload for the node at its end
+abbrev pub c_hop : Hop → List ℕ → LgmHop
+c_hop hop payload = record {
   scid = hop.scid;
   amount_msat = hop.amount;
   payload_len = length payload;
@@ -48,14 +48,14 @@ told_hop hop payload = record {
   to = hop.to.0;
 }
 
-abbrev pub told_hops : List Hop → List (List ℕ) → List LgmHop
-told_hops hops payloads = map (λ (pair : Hop × List ℕ). told_hop pair.0 pair.1) (zip hops payloads)
+abbrev pub c_hops : List Hop → List (List ℕ) → List LgmHop
+c_hops hops payloads = map (λ (pair : Hop × List ℕ). c_hop pair.0 pair.1) (zip hops payloads)
 
--- payloads one behind the other
+-- payloads, one after the other
 abbrev pub all_payloads : List (List ℕ) → List ℕ
 all_payloads payloads = flat_map (λ payload. payload) payloads
 
--- the caller's buffers, and the lengths that it is told
+-- the caller's buffers, and the lengths that are written
 pub record Buffers : Type 0 where
   pub hops : List LgmHop
   pub payloads : List ℕ
@@ -67,23 +67,23 @@ buffers hops payloads lengths = record { hops = hops; payloads = payloads; lengt
 abbrev pub lengths_of : List LgmHop → List ℕ → LgmLengths
 lengths_of hops payloads = record { hops = length hops; payloads = length payloads }
 
--- hops and payloads were told: whole, or their lengths alone where a buffer is shorter
-abbrev pub HasToldRoute : List LgmHop → List ℕ → ℕ → Buffers → Buffers → Type 0
-HasToldRoute hops payloads status old new =
+-- hops and payloads were written, or only their lengths if a buffer is too short
+abbrev pub IsRouteWritten : List LgmHop → List ℕ → ℕ → Buffers → Buffers → Type 0
+IsRouteWritten hops payloads status old new =
     (new.lengths ≡ lengths_of hops payloads)
     × (((status ≡ 0) × (new.hops ≡ in_front hops old.hops) × (new.payloads ≡ in_front payloads old.payloads))
     ⊎ ((status ≡ number_of faults.Room)
     × ((length old.hops < length hops) ⊎ (length old.payloads < length payloads))
     × (new.hops ≡ old.hops) × (new.payloads ≡ old.payloads)))
 
--- a route was told, with its payloads, or its fault
-abbrev pub TellsFound : Result (List Hop) Fault → List ℕ → ℕ → Buffers → Buffers → Type 0
-TellsFound (Ok hops) secret status old new =
-    HasToldRoute (told_hops hops (payloads_of secret hops)) (all_payloads (payloads_of secret hops))
+-- a route was written with its payloads, or the fault was returned
+abbrev pub WritesFound : Result (List Hop) Fault → List ℕ → ℕ → Buffers → Buffers → Type 0
+WritesFound (Ok hops) secret status old new =
+    IsRouteWritten (c_hops hops (payloads_of secret hops)) (all_payloads (payloads_of secret hops))
     status old new
-TellsFound (Err fault) secret status old new = (status ≡ number_of fault) × (new ≡ old)
+WritesFound (Err fault) secret status old new = (status ≡ number_of fault) × (new ≡ old)
 
--- the same, or memory was refused
-abbrev pub TellsRoute : Result (List Hop) Fault → List ℕ → ℕ → Buffers → Buffers → Type 0
-TellsRoute answer secret status old new =
-    TellsFound answer secret status old new ⊎ ((status ≡ no_memory) × (new ≡ old))
+-- the same, or out of memory
+abbrev pub WritesRoute : Result (List Hop) Fault → List ℕ → ℕ → Buffers → Buffers → Type 0
+WritesRoute answer secret status old new =
+    WritesFound answer secret status old new ⊎ ((status ≡ no_memory) × (new ≡ old))

@@ -1,4 +1,4 @@
--- The numbers of what calls answer.
+-- The numbers that calls return.
 use Rattle.std.specs.Prelude.{◌≡◌, ℕ, Option, Some, None, Result, Ok, Err}
 use Rattle.lgm_check.specs.Refusal.{number_of as number_of_refusal}
 use Rattle.lgm_check.specs.declared.refusal.Refusal.{Refusal}
@@ -11,7 +11,7 @@ use Rattle.lgm_c.specs.declared.fault.Fault.TheVariants as faults
 abbrev pub no_memory : ℕ
 no_memory = 102
 
--- a number, or that of want of memory
+-- a number, or that of out of memory
 abbrev pub or_no_memory : Option ℕ → ℕ
 or_no_memory (Some number) = number
 or_no_memory None = no_memory
@@ -37,7 +37,7 @@ number_of faults.Argument = 103
 number_of faults.Room = 104
 number_of faults.Full = 105
 
--- a refusal of an item, and a reason why a payment has no route; want of memory is neither
+-- a refusal of an item, and a reason why a payment has no route; out of memory is neither
 abbrev pub refused : Refusal → Fault
 refused refusals.NoMemory = faults.NoMemory
 refused refusal = faults.Refused refusal
@@ -46,17 +46,17 @@ abbrev pub unrouted : RouteFault → Fault
 unrouted reasons.NoMemory = faults.NoMemory
 unrouted reason = faults.Unrouted reason
 
--- 0 where a call did what it was asked
+-- 0 if the call succeeded
 abbrev pub status_of : {A : Type 0} → Result A Fault → ℕ
 status_of (Ok answer) = 0
 status_of (Err fault) = number_of fault
 
--- the answer of an open handle; a closed one has none
+-- the answer of an open handle; a closed one has only its fault
 abbrev pub if_open : {H A : Type 0} → Option H → (H → Result A Fault) → Result A Fault
 if_open None answer = Err faults.Closed
 if_open (Some held) answer = answer held
 
--- a value was told, or the fault of a call, which leaves what stood in its place
+-- a value was written, or the fault was returned and the old value is unchanged
 abbrev pub Finds : {A : Type 0} → Result A Fault → ℕ → A → A → Type 0
 Finds (Ok found) status old new = (status ≡ 0) × (new ≡ found)
 Finds (Err fault) status old new = (status ≡ number_of fault) × (new ≡ old)

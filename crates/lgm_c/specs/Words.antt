@@ -6,7 +6,7 @@ use Rattle.lgm_check.specs.Refusal.{word_of}
 use Rattle.lgm_route.specs.declared.fault.RouteFault.{RouteFault}
 use Rattle.lgm_route.specs.declared.fault.RouteFault.TheVariants as reasons
 use Rattle.lgm_route.specs.Words.{route_word}
-use Rattle.lgm_c.specs.Telling.{in_front}
+use Rattle.lgm_c.specs.Writing.{in_front}
 
 abbrev pub refusal_at : ℕ → Option Refusal
 refusal_at number =
@@ -56,10 +56,10 @@ word_by (Some refusal) reason number = word_of refusal
 word_by None (Some reason) number = route_word reason
 word_by None None number = word_of_call number
 
--- the word of a refusal, of a reason why there is no route, or of what became of a call
+-- the word of a refusal, of a reason why there is no route, or of another result
 unfoldable pub word_at : ℕ → List ℕ
 word_at number = word_by (refusal_at number) (reason_at number) number
 
--- a word in 24 bytes, with zeros behind it
+-- a word in 24 bytes, padded with zeros
 abbrev pub padded : List ℕ → List ℕ
 padded word = in_front word (replicate 24 0)

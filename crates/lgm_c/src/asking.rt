@@ -1,4 +1,4 @@
-//! What peers ask for, and what they are to be told.
+//! Queries and filters of peers, and the messages that answer them.
 
 ghost use Rattle.std.specs.Prelude.{◌≡◌, Ok};
 ghost use Rattle.lgm_wire.specs.reading.Reading.{Gives};
@@ -7,21 +7,21 @@ ghost use Rattle.lgm_c.specs.Asking.{replies_in, framed_answer, query_answer};
 ghost use Rattle.lgm_c.specs.Asking.{filter_in, backlog_answer, news_answer};
 ghost use Rattle.lgm_c.specs.Opening.{MovesMark};
 ghost use Rattle.lgm_c.specs.Status.{if_open};
-ghost use Rattle.lgm_c.specs.Telling.{Answers, buffer};
+ghost use Rattle.lgm_c.specs.Writing.{Answers, buffer};
 
 use crate::fault::{Fault, status};
 use crate::framing::{frame_backlog, frame_replies};
 use crate::inner::Inner;
 use crate::map::LgmMap;
-use crate::telling::tell;
+use crate::writing::write_answer;
 use lgm_check::Refusal;
 use lgm_gossip::{ChainHash, Message, decode};
 use lgm_query::{Backlog, Filter, answer_ids, answer_range};
 use std::alloc::Global;
 
-/// The replies to a query, each behind its length.
+/// The replies to a query, each after its length.
 fn replies_to(alloc: Global, inner: &Inner, message: &Message) -> Result<Vec<u8>, Fault>
-    ensures { Gives Fault.NoMemory (λ told. told.items) result
+    ensures { Gives Fault.NoMemory (λ written. written.items) result
         (framed_answer (replies_in inner.now (Ok message.now))) }
 {
     let (chain, map) = (inner.chain(), inner.map());
@@ -38,9 +38,9 @@ fn replies_to(alloc: Global, inner: &Inner, message: &Message) -> Result<Vec<u8>
     }
 }
 
-/// The same of the query that bytes spell.
+/// The same for the query that the bytes encode.
 fn answer_query(alloc: Global, inner: &Inner, bytes: &[u8]) -> Result<Vec<u8>, Fault>
-    ensures { Gives Fault.NoMemory (λ told. told.items) result (query_answer bytes.now inner.now) }
+    ensures { Gives Fault.NoMemory (λ written. written.items) result (query_answer bytes.now inner.now) }
 {
     match decode(alloc, bytes) {
         Ok(message) => replies_to(alloc, inner, &message),
@@ -48,7 +48,7 @@ fn answer_query(alloc: Global, inner: &Inner, bytes: &[u8]) -> Result<Vec<u8>, F
     }
 }
 
-/// The filter of a message, if it is one of this chain.
+/// The filter of a message, if it is a filter for this chain.
 fn filter_in(chain: &ChainHash, message: &Message) -> Result<Filter, Fault>
     ensures { result ≡ filter_in chain.now (Ok message.now) }
 {
@@ -64,7 +64,7 @@ fn filter_in(chain: &ChainHash, message: &Message) -> Result<Filter, Fault>
     })
 }
 
-/// The filter that bytes spell.
+/// The filter that the bytes encode.
 fn read_filter(alloc: Global, chain: &ChainHash, bytes: &[u8]) -> Result<Filter, Fault>
     ensures { Gives Fault.NoMemory (λ filter. filter) result
         (filter_in chain.now (message_at bytes.now)) }
@@ -75,19 +75,19 @@ fn read_filter(alloc: Global, chain: &ChainHash, bytes: &[u8]) -> Result<Filter,
     }
 }
 
-/// What passes a filter, each message behind its length.
+/// What passes a filter, each message after its length.
 fn answer_filter(alloc: Global, inner: &Inner, bytes: &[u8]) -> Result<Vec<u8>, Fault>
-    ensures { Gives Fault.NoMemory (λ told. told.items) result
+    ensures { Gives Fault.NoMemory (λ written. written.items) result
         (backlog_answer bytes.now inner.now) }
 {
     let filter = read_filter(alloc, inner.chain(), bytes)?;
     Ok(frame_backlog(alloc, Backlog::of(inner.map(), &filter))?)
 }
 
-/// What is new to a filter since the mark, each message behind its length.
+/// What has come to pass a filter since the mark, each message after its length.
 fn answer_news(alloc: Global, inner: &mut Inner, bytes: &[u8]) -> Result<Vec<u8>, Fault>
     ensures same { inner.new ≡ inner.old }
-    ensures news { Gives Fault.NoMemory (λ told. told.items) result
+    ensures news { Gives Fault.NoMemory (λ written. written.items) result
         (news_answer bytes.now inner.old) }
 {
     let filter = read_filter(alloc, inner.chain(), bytes)?;
@@ -112,10 +112,10 @@ pub extern "C" fn lgm_query(
     };
     let answer = answer_query(alloc, &inner, query);
     *map = LgmMap::open(inner);
-    tell(&answer, replies, needed)
+    write_answer(&answer, replies, needed)
 }
 
-/// What passes a peer's filter of all that the map holds (BOLT 7, "The gossip_timestamp_filter Message").
+/// The messages of the map that pass a peer's filter (BOLT 7, "The gossip_timestamp_filter Message").
 #[unsafe(no_mangle)]
 pub extern "C" fn lgm_filter(
     alloc: Global,
@@ -133,10 +133,10 @@ pub extern "C" fn lgm_filter(
     };
     let answer = answer_filter(alloc, &inner, filter);
     *map = LgmMap::open(inner);
-    tell(&answer, messages, needed)
+    write_answer(&answer, messages, needed)
 }
 
-/// What passes a peer's filter of the map as it is, and didn't at the mark. Before the first mark that is what passes.
+/// The messages that pass a peer's filter now and didn't at the mark. Before the first mark, all that pass.
 #[unsafe(no_mangle)]
 pub extern "C" fn lgm_news(
     alloc: Global,
@@ -154,7 +154,7 @@ pub extern "C" fn lgm_news(
     };
     let answer = answer_news(alloc, &mut inner, filter);
     *map = LgmMap::open(inner);
-    tell(&answer, messages, needed)
+    write_answer(&answer, messages, needed)
 }
 
 /// Moves the mark to the map as it is.

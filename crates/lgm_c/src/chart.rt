@@ -9,7 +9,8 @@ ghost use Rattle.lgm_query.specs.Touched.{TellsKey};
 ghost use Rattle.lgm_graph.specs.Edges.{edges_of};
 ghost use Rattle.lgm_graph.specs.Graph.{IsGraphOf};
 ghost use Rattle.lgm_route.specs.Choice.{answer_of};
-ghost use Rattle.lgm_c.specs.inner.Charted.{IsViewed, offered_to};
+ghost use Rattle.lgm_c.specs.inner.Charted.{IsViewed};
+ghost use Rattle.lgm_c.specs.Offering.{offered_to};
 
 use lgm_check::{Evidence, Refusal, precheck};
 use lgm_gossip::{Bytes, ChainHash, Scid};
@@ -19,7 +20,7 @@ use lgm_store::{Candidate, Map, Op, Seed};
 use std::alloc::{AllocError, Global};
 use std::marker::Model;
 
-/// With more points than these a view is dropped, since their numbers have 32 bits and are never taken back.
+/// With more points than this a view is dropped: their numbers have 32 bits, and are never reused.
 const MOST_POINTS: usize = 4_000_000_000;
 
 /// A map, with its view from the first route on. Contracts see the rows, and the features of nodes that are known.
@@ -40,7 +41,7 @@ impl Model for Chart {
     ghost invariant = { λ c. IsViewed c.known c.map c.view };
 }
 
-/// Does an operation to a map, and to its view if there is one. Want of memory leaves the map as it was.
+/// Applies an operation to a map, and to its view if there is one. Out of memory leaves the map as it was.
 fn absorb(known: &Known, map: &mut Map, view: &mut Option<View>, op: &Op) -> Result<(), AllocError>
     requires { IsViewed known.now map.old view.old }
     ensures viewed { IsViewed known.now map.new view.new }
@@ -58,7 +59,7 @@ fn absorb(known: &Known, map: &mut Map, view: &mut Option<View>, op: &Op) -> Res
 }
 
 impl Chart {
-    /// A map with no rows, whose points are hashed by the seed. The only error is want of memory.
+    /// A map with no rows, whose points are hashed by the seed. The only error is out of memory.
     pub(crate) fn new(alloc: Global, known: Known, seed: Seed) -> Result<Chart, AllocError>
         ensures { IfOk result (λ chart. chart ≡ record { known = known; rows = empty }) }
     {
@@ -76,8 +77,8 @@ impl Chart {
         &self.map
     }
 
-    /// Offers a message, with the verdicts on it, and gives its operation. A refusal or want of memory leaves the map as
-    /// it was. While there is no view, a message goes into the map by one search.
+    /// Offers a message, with the verdicts on it, and returns its operation. A refusal or out of memory leaves the map
+    /// as it was. While there is no view, one lookup serves for both admission and insertion.
     pub(crate) fn offer(
         &mut self,
         alloc: Global,
@@ -102,7 +103,7 @@ impl Chart {
         Ok(op)
     }
 
-    /// Closes a channel, and gives the operation. A refusal or want of memory leaves the map as it was.
+    /// Closes a channel, and returns the operation. A refusal or out of memory leaves the map as it was.
     pub(crate) fn close(&mut self, scid: Scid) -> Result<Op, Refusal>
         ensures outcome { Gives Refusal.NoMemory (λ op. op) result
             (admitted_close self.old.rows scid) }
@@ -115,7 +116,7 @@ impl Chart {
         Ok(op)
     }
 
-    /// The least route of a payment. The first call makes the view.
+    /// The best route of a payment. The first call builds the view.
     pub(crate) fn route(&mut self, alloc: Global, request: &Request) -> Result<Route, RouteFault>
         requires { length self.old.rows.channels ≤ 2000000000 }
         ensures same { self.new ≡ self.old }

@@ -6,8 +6,8 @@ ghost use Rattle.lgm_c.specs.Evidence.{evidence_of};
 use lgm_check::{Evidence, Funding, Sig};
 use lgm_gossip::Point;
 
-/// The verdicts that numbers name, if they name some: on the signatures, of which one may be by the signer, and on the
-/// funding output, which may have so many satoshi.
+/// The verdicts that the numbers stand for, if any: on the signatures, of which one may be the signer's, and on the
+/// funding output, which may hold this many satoshi.
 pub(crate) fn evidence(sig: u32, signer: &[u8; 33], funding: u32, sat: u64) -> Option<Evidence>
     ensures { result ≡ evidence_of sig signer.now funding sat }
 {

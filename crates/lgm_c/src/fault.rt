@@ -1,4 +1,4 @@
-//! Why a call failed, and the numbers that C is told.
+//! Why a call failed, and the number that it returns to C.
 
 ghost use Rattle.std.specs.Prelude.{◌≡◌};
 ghost use Rattle.lgm_c.specs.Status.{number_of, status_of, refused, unrouted};
@@ -8,30 +8,30 @@ use lgm_check::Refusal;
 use lgm_route::RouteFault;
 use std::alloc::AllocError;
 
-/// Why a call failed. It left the map, and what it was to write to, as they were.
+/// Why a call failed. It left the map, and the buffers that it was to write to, unchanged.
 #[derive(Clone, Copy, Debug, PartialEq, Eq)]
 pub(crate) enum Fault {
     /// 1 to 16: an item was refused.
     Refused(Refusal),
     /// 21 to 25: a payment has no route.
     Unrouted(RouteFault),
-    /// 31: the message is no query.
+    /// 31: the message isn't a query.
     NotQuery,
-    /// 32: the message is no filter.
+    /// 32: the message isn't a filter.
     NotFilter,
-    /// 33: the node isn't announced.
+    /// 33: the map has no announcement of the node.
     NotAnnounced,
-    /// 100: the handle holds no map.
+    /// 100: the handle is closed.
     Closed,
-    /// 101: the handle holds a map already.
+    /// 101: the handle is open already.
     Open,
-    /// 102: memory was refused.
+    /// 102: out of memory.
     NoMemory,
-    /// 103: a number of a verdict names none.
+    /// 103: a number that stands for no verdict.
     Argument,
-    /// 104: the answer is longer than the room for it.
+    /// 104: a buffer is too short for the answer.
     Room,
-    /// 105: the map has more channels than a route is searched over.
+    /// 105: the map has too many channels for a route search.
     Full,
 }
 
@@ -64,7 +64,7 @@ impl Fault {
     }
 }
 
-/// The number of how a call went: 0, or that of its fault.
+/// What a call returns: 0, or the number of its fault.
 pub(crate) fn status(outcome: &Result<(), Fault>) -> u32
     ensures { result ≡ status_of outcome.now }
 {

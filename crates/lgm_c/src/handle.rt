@@ -1,4 +1,4 @@
-//! A pointer that C holds.
+//! A pointer that C stores.
 
 ghost use Rattle.std.specs.Prelude.{◌≡◌, Some, None, Option, is_some, true};
 ghost use Rattle.lgm_c.specs.Held.{Held};
@@ -8,7 +8,7 @@ use crate::loose::Loose;
 use std::alloc::Global;
 use std::marker::Model;
 
-/// A pointer to what stands behind an open handle, or null. C holds it, and reads nothing through it.
+/// A pointer to the box of an open handle, or null. C stores it, and doesn't read through it.
 #[repr(C)]
 #[derive(Drop)]
 pub struct Handle {
@@ -23,7 +23,7 @@ impl Model for Handle {
 }
 
 impl Handle {
-    /// The pointer of a box.
+    /// The pointer to a box.
     pub(crate) fn of(loose: Loose<Inner, Global>) -> Handle
         ensures { result.value ≡ Some loose.value }
     {
@@ -40,7 +40,7 @@ impl Handle {
         }
     }
 
-    /// The box of a pointer that isn't null.
+    /// The box that a pointer that isn't null points to.
     pub(crate) fn into_loose(self, alloc: Global) -> Loose<Inner, Global>
         requires { is_some self.value ≡ true }
         ensures { Some result.value ≡ self.value }

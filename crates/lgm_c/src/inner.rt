@@ -1,15 +1,15 @@
-//! What stands behind a handle.
+//! What a handle points to.
 
 ghost use Rattle.std.specs.Prelude.{◌≡◌, Some, IfOk, OnOk, OnErr};
 ghost use Rattle.lgm_wire.specs.reading.Reading.{Gives};
 ghost use Rattle.lgm_store.specs.Admission.{admitted_close};
 ghost use Rattle.lgm_query.specs.Backlog.{news};
-ghost use Rattle.lgm_c.specs.inner.Charted.{offered_to};
-ghost use Rattle.lgm_c.specs.Doing.{Follows, Leads, Offers, Closes};
+ghost use Rattle.lgm_c.specs.inner.Following.{Follows, Leads};
+ghost use Rattle.lgm_c.specs.Offering.{offered_to, Offers, Closes};
 ghost use Rattle.lgm_c.specs.Held.{opened};
 ghost use Rattle.lgm_c.specs.Routing.{route_for};
 ghost use Rattle.lgm_c.specs.Status.{status_of};
-ghost use Rattle.lgm_c.specs.Telling.{all_framed};
+ghost use Rattle.lgm_c.specs.Writing.{all_framed};
 
 use crate::chart::Chart;
 use crate::fault::Fault;
@@ -24,7 +24,7 @@ use lgm_store::{Map, Seed};
 use std::alloc::{AllocError, Global};
 use std::marker::Model;
 
-/// With more channels than these no route is searched for: the points of a view have numbers of 32 bits.
+/// With more channels than this no route is searched for: the points of a view have 32-bit numbers.
 const MOST_CHANNELS: usize = 2_000_000_000;
 
 /// A map of a chain with its view, and a mark where there is one.
@@ -36,7 +36,8 @@ pub struct Inner {
 }
 
 impl Model for Inner {
-    ghost use Rattle.lgm_c.specs.Held.{Held, held_in, IsFollowed};
+    ghost use Rattle.lgm_c.specs.Held.{Held};
+    ghost use Rattle.lgm_c.specs.inner.Marking.{held_in, IsFollowed};
 
     ghost Value = { Held };
 
@@ -69,7 +70,7 @@ fn close_unmarked(chart: &mut Chart, scid: Scid) -> Result<(), Refusal>
 }
 
 impl Inner {
-    /// A map with no rows and no mark, whose points are hashed by the seed. The only error is want of memory.
+    /// A map with no rows and no mark, whose points are hashed by the seed. The only error is out of memory.
     pub(crate) fn new(
         alloc: Global,
         chain: ChainHash,
@@ -85,7 +86,7 @@ impl Inner {
         })
     }
 
-    /// Offers a message, with the verdicts on it. A refusal or want of memory leaves all as it was.
+    /// Offers a message, with the verdicts on it. A refusal or out of memory changes nothing.
     fn offer_judged(
         &mut self,
         alloc: Global,
@@ -101,7 +102,7 @@ impl Inner {
         }
     }
 
-    /// Closes a channel. A refusal or want of memory leaves all as it was.
+    /// Closes a channel. A refusal or out of memory changes nothing.
     fn close_held(&mut self, scid: Scid) -> Result<(), Refusal>
         ensures { Leads (admitted_close self.old.rows scid) result self.old self.new }
     {
@@ -133,7 +134,8 @@ impl Inner {
         Ok(self.close_held(scid)?)
     }
 
-    /// Moves the mark to the map as it is, or sets the first. The only error is want of memory, which leaves it.
+    /// Moves the mark to the map as it is, or sets the first one. The only error is out of memory, which changes
+    /// nothing.
     pub(crate) fn renew_mark(&mut self, alloc: Global) -> Result<(), AllocError>
         ensures renewed { OnOk result (self.new ≡ record self.old { marked = self.old.rows }) }
         ensures stays { OnErr result (self.new ≡ self.old) }
@@ -148,11 +150,12 @@ impl Inner {
         }
     }
 
-    /// What is new to a filter since the mark, each message behind its length: before the first mark, all that passes.
+    /// What has come to pass a filter since the mark, each message after its length. Before the first mark, all that
+    /// passes.
     pub(crate) fn news(&mut self, alloc: Global, filter: &Filter) -> Result<Vec<u8>, AllocError>
         ensures same { self.new ≡ self.old }
-        ensures news { IfOk result (λ told.
-            told.items ≡ all_framed (news self.old.marked self.old.rows filter.now)) }
+        ensures news { IfOk result (λ written.
+            written.items ≡ all_framed (news self.old.marked self.old.rows filter.now)) }
     {
         let Some(mark) = &mut self.mark else {
             return frame_backlog(alloc, Backlog::of(self.chart.map(), filter));
@@ -160,7 +163,7 @@ impl Inner {
         mark.news(alloc, self.chart.map(), filter)
     }
 
-    /// The least route of a payment. The first call makes the view.
+    /// The best route of a payment. The first call builds the view.
     pub(crate) fn route(&mut self, alloc: Global, request: &Request) -> Result<Route, Fault>
         ensures same { self.new ≡ self.old }
         ensures route { Gives Fault.NoMemory (λ route. route) result (route_for request.now self.old) }

@@ -1,9 +1,9 @@
-//! The map inside another program: a static library for C, and for what calls C.
+//! The map inside another program: a static library for C and for languages that can call C.
 //!
-//! The header is `include/lgm.h`. A handle holds a map of channels with the view that routes are searched in, and a mark.
-//! Messages are offered to it, and it is asked for routes, for the replies to peers, and for what is new since the mark.
-//! Each call answers a number: 0 where it did what it was asked, else that of the first fault, which leaves the map and the
-//! buffers as they were.
+//! The header is `include/lgm.h`. A handle has a map of channels, the view in which routes are searched, and a mark.
+//! Messages are offered to it; it answers payments with routes, queries of peers with replies, and filters with what
+//! passes them now or has come to pass since the mark. Each call returns a number: 0 if it succeeded, else that of the
+//! first fault, which leaves the map and the buffers unchanged.
 #![tactic(auto)]
 
 mod asking;
@@ -19,5 +19,5 @@ mod map;
 mod mark;
 mod offering;
 mod routing;
-mod telling;
 mod words;
+mod writing;

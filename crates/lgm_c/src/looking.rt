@@ -1,15 +1,15 @@
-//! What a map holds.
+//! Looking up channels and nodes.
 
 ghost use Rattle.std.specs.Prelude.{◌≡◌};
-ghost use Rattle.lgm_c.specs.Looking.{count_of, told_direction, channel_found};
-ghost use Rattle.lgm_c.specs.Looking.{told_node, node_found, TellsNode};
+ghost use Rattle.lgm_c.specs.Looking.{count_of, c_direction, channel_found};
+ghost use Rattle.lgm_c.specs.Looking.{c_node, node_found, WritesNode};
 ghost use Rattle.lgm_c.specs.Status.{if_open, status_of, Finds};
-ghost use Rattle.lgm_c.specs.Telling.{buffer};
+ghost use Rattle.lgm_c.specs.Writing.{buffer};
 
 use crate::fault::{Fault, status};
 use crate::inner::Inner;
 use crate::map::LgmMap;
-use crate::telling::tell_bytes;
+use crate::writing::write_bytes;
 use lgm_check::{NodeRow, Refusal, UpdateRow};
 use lgm_gossip::{Point, Scid};
 use std::alloc::Global;
@@ -18,23 +18,23 @@ use std::alloc::Global;
 #[repr(C)]
 #[derive(Clone, Copy)]
 pub struct LgmDirection {
-    /// Whether an update is held. Where none is, all else is 0.
+    /// Whether the map has an update. If not, all else is 0.
     pub is_held: bool,
-    /// Its flags.
+    /// The update's message_flags.
     pub message_flags: u8,
-    /// Its flags: bit 0 is the direction, and bit 1 is set where it is disabled.
+    /// The update's channel_flags: bit 0 is the direction, bit 1 disables it.
     pub channel_flags: u8,
-    /// By how many blocks the node that sets the terms wants to be safe.
+    /// The blocks between the expiries of the HTLC that the node receives and the one that it offers.
     pub cltv_expiry_delta: u16,
-    /// When it was made, in seconds since 1970.
+    /// The update's timestamp, in seconds since 1970.
     pub timestamp: u32,
     /// The fixed part of the fee, in msat.
     pub fee_base_msat: u32,
-    /// The millionths of the amount that are added.
+    /// The proportional part, in millionths of the amount.
     pub fee_proportional_millionths: u32,
-    /// The least amount, in msat.
+    /// The least amount that is forwarded, in msat.
     pub htlc_minimum_msat: u64,
-    /// The most, in msat.
+    /// The greatest amount that is forwarded, in msat.
     pub htlc_maximum_msat: u64,
 }
 
@@ -58,11 +58,11 @@ pub struct LgmChannel {
 #[repr(C)]
 #[derive(Clone, Copy)]
 pub struct LgmNode {
-    /// When it was made, in seconds since 1970.
+    /// The announcement's timestamp, in seconds since 1970.
     pub timestamp: u32,
     /// The node's color: red, green and blue.
     pub rgb: [u8; 3],
-    /// Its name: any bytes.
+    /// The alias: any bytes.
     pub alias: [u8; 32],
 }
 
@@ -80,8 +80,8 @@ pub extern "C" fn lgm_count(alloc: Global, map: &mut LgmMap) -> usize
     count
 }
 
-fn told_direction(update: Option<UpdateRow<'_>>) -> LgmDirection
-    ensures { result ≡ told_direction update.entry }
+fn c_direction(update: Option<UpdateRow<'_>>) -> LgmDirection
+    ensures { result ≡ c_direction update.entry }
 {
     match update {
         Some(row) => LgmDirection {
@@ -122,12 +122,12 @@ fn find_channel(inner: &Inner, scid: Scid) -> Result<LgmChannel, Fault>
         capacity_sat: held.row().sat,
         node_1,
         node_2,
-        from_1: told_direction(held.update(false)),
-        from_2: told_direction(held.update(true)),
+        from_1: c_direction(held.update(false)),
+        from_2: c_direction(held.update(true)),
     })
 }
 
-/// What the map holds of a channel.
+/// What the map has of a channel.
 #[unsafe(no_mangle)]
 pub extern "C" fn lgm_channel(
     alloc: Global,
@@ -145,16 +145,16 @@ pub extern "C" fn lgm_channel(
     let found = find_channel(&inner, Scid::from_u64(scid));
     *map = LgmMap::open(inner);
     match found {
-        Ok(told) => {
-            *channel = told;
+        Ok(found) => {
+            *channel = found;
             0
         }
         Err(fault) => fault.number(),
     }
 }
 
-fn told_node(row: &NodeRow<'_>) -> LgmNode
-    ensures { result ≡ told_node row.now }
+fn c_node(row: &NodeRow<'_>) -> LgmNode
+    ensures { result ≡ c_node row.now }
 {
     LgmNode {
         timestamp: row.message.timestamp,
@@ -163,25 +163,25 @@ fn told_node(row: &NodeRow<'_>) -> LgmNode
     }
 }
 
-/// Tells what the map holds of a node.
-fn tell_node(
+/// Writes what the map has of a node.
+fn write_node(
     inner: &Inner,
     point: &Point,
     node: &mut LgmNode,
     addresses: &mut [u8],
     needed: &mut usize,
 ) -> Result<(), Fault>
-    ensures { TellsNode (node_found point.now.0 inner.now) (status_of result) node.old node.new
+    ensures { WritesNode (node_found point.now.0 inner.now) (status_of result) node.old node.new
         (buffer addresses.old needed.old) (buffer addresses.new needed.new) }
 {
     let Some(row) = inner.map().node(point) else {
         return Err(Fault::NotAnnounced);
     };
-    *node = told_node(&row);
-    tell_bytes(row.message.addresses.as_slice(), addresses, needed)
+    *node = c_node(&row);
+    write_bytes(row.message.addresses.as_slice(), addresses, needed)
 }
 
-/// What the map holds of a node, and its addresses as they were announced: descriptors one behind the other.
+/// What the map has of a node, and its addresses as they were announced: descriptors one after the other.
 #[unsafe(no_mangle)]
 pub extern "C" fn lgm_node(
     alloc: Global,
@@ -192,13 +192,13 @@ pub extern "C" fn lgm_node(
     needed: &mut usize,
 ) -> u32
     ensures same { map.new.handle.value ≡ map.old.handle.value }
-    ensures node { TellsNode (if_open map.old.handle.value (node_found point.now)) result
+    ensures node { WritesNode (if_open map.old.handle.value (node_found point.now)) result
         node.old node.new (buffer addresses.old needed.old) (buffer addresses.new needed.new) }
 {
     let Some(inner) = map.take(alloc) else {
         return Fault::Closed.number();
     };
-    let outcome = tell_node(&inner, &Point(*point), node, addresses, needed);
+    let outcome = write_node(&inner, &Point(*point), node, addresses, needed);
     *map = LgmMap::open(inner);
     status(&outcome)
 }

@@ -1,4 +1,4 @@
-//! A map, as C holds it.
+//! A handle, as C stores it.
 
 ghost use Rattle.std.specs.Prelude.{◌≡◌, Some, None, is_some};
 ghost use Rattle.std.specs.Option.{option_map};
@@ -9,7 +9,7 @@ use crate::loose::Loose;
 use std::alloc::Global;
 use std::mem::replace;
 
-/// A handle: a map that C holds, in 16 bytes, or none. All zeros are a closed handle, which holds none.
+/// A handle of 16 bytes, which C stores: a map, or none. All zeros are a closed handle.
 #[repr(C)]
 #[derive(Drop)]
 pub struct LgmMap {
@@ -29,7 +29,7 @@ impl LgmMap {
         }
     }
 
-    /// A handle of a map.
+    /// An open handle of a map.
     pub(crate) fn open(inner: Box<Inner>) -> LgmMap
         ensures { result.handle.value ≡ Some inner.value }
     {
@@ -39,7 +39,7 @@ impl LgmMap {
         }
     }
 
-    /// Takes the map out, if there is one. The handle is closed then.
+    /// Takes the map out, if there is one, and closes the handle.
     pub(crate) fn take(&mut self, alloc: Global) -> Option<Box<Inner>>
         ensures left { self.new.handle.value ≡ None }
         ensures taken { option_map (λ inner. inner.value) result ≡ self.old.handle.value }

@@ -1,4 +1,4 @@
-//! Marks: what is new is what came since.
+//! Marks: news is what came since the mark.
 
 ghost use Rattle.std.specs.Prelude.{◌≡◌, [], drop, IfOk, OnOk, OnErr};
 ghost use Rattle.std.specs.List.{AllByRecursion};
@@ -7,9 +7,9 @@ ghost use Rattle.lgm_store.specs.History.{fold_from};
 ghost use Rattle.lgm_query.specs.KeyNews.{TellKeys};
 ghost use Rattle.lgm_query.specs.Touched.{HasTouched, TellsKey};
 ghost use Rattle.lgm_query.specs.Backlog.{news};
-ghost use Rattle.lgm_c.specs.inner.Charted.{offered_to};
-ghost use Rattle.lgm_c.specs.Doing.{Follows};
-ghost use Rattle.lgm_c.specs.Telling.{all_framed};
+ghost use Rattle.lgm_c.specs.Offering.{offered_to};
+ghost use Rattle.lgm_c.specs.inner.Following.{Follows};
+ghost use Rattle.lgm_c.specs.Writing.{all_framed};
 
 use crate::chart::Chart;
 use crate::framing::frame;
@@ -22,35 +22,36 @@ use std::collections::VecDeque;
 use std::marker::Model;
 use std::mem::swap;
 
-/// A map at a mark, and the operations that were done to a map beside it since. Contracts see the rows of both.
+/// A map as it was at a mark, and the operations that were applied to the current map since. Contracts see the rows of
+/// both.
 #[derive(Drop)]
 pub struct Mark {
-    /// The map at the mark, but for what is due.
+    /// The map at the mark, except for what is due.
     map: Map,
-    /// What it has yet to do, in order.
+    /// Operations from before the mark that have yet to be applied to it, in order.
     due: VecDeque<Op>,
-    /// What was done since the mark.
+    /// Operations since the mark.
     since: VecDeque<Op>,
 }
 
 impl Model for Mark {
-    ghost use Rattle.lgm_c.specs.Held.{Marked, marked_by, AreTold};
+    ghost use Rattle.lgm_c.specs.inner.Marking.{Marked, marked_by, TellTheirKeys};
 
     ghost Value = { Marked };
 
     ghost view = { λ m. marked_by m.map m.due.items m.since.items };
 
-    ghost invariant = { λ m. AreTold m.map m.due.items m.since.items };
+    ghost invariant = { λ m. TellTheirKeys m.map m.due.items m.since.items };
 }
 
-/// Takes the first operation out.
+/// Removes the first operation.
 fn forget_first(due: &mut VecDeque<Op>)
     ensures { due.new.items ≡ drop 1 due.old.items }
 {
     due.pop_front();
 }
 
-/// Does what is due, from the first on. Each operation is due until it is done.
+/// Applies what is due, in order. Each operation stays due until it is applied.
 fn level(map: &mut Map, due: &mut VecDeque<Op>) -> Result<(), AllocError>
     requires map { TellKeys map.old }
     requires due { AllByRecursion TellsKey due.old.items }
@@ -90,8 +91,7 @@ impl Mark {
         }
     }
 
-    /// Offers a message to the map beside it, and keeps its operation. A refusal or want of memory leaves both as they
-    /// were.
+    /// Offers a message to the current map, and keeps its operation. A refusal or out of memory changes neither.
     pub(crate) fn offer(
         &mut self,
         alloc: Global,
@@ -114,7 +114,7 @@ impl Mark {
         }
     }
 
-    /// Closes a channel of the map beside it, and keeps the operation.
+    /// Closes a channel of the current map, and keeps the operation.
     pub(crate) fn close(&mut self, chart: &mut Chart, scid: Scid) -> Result<(), Refusal>
         requires { self.old.rows ≡ chart.old.rows }
         ensures marked { self.new.marked ≡ self.old.marked }
@@ -129,7 +129,7 @@ impl Mark {
         }
     }
 
-    /// Moves the mark to what the map beside it has. Want of memory leaves it where it was.
+    /// Moves the mark to the current map. Out of memory leaves it where it was.
     pub(crate) fn renew(&mut self) -> Result<(), AllocError>
         ensures renewed { OnOk result
             (self.new ≡ record { marked = self.old.rows; rows = self.old.rows }) }
@@ -140,7 +140,7 @@ impl Mark {
         Ok(())
     }
 
-    /// What is new to a filter in the map beside it, each message behind its length.
+    /// What has come to pass a filter since the mark, each message after its length.
     pub(crate) fn news(
         &mut self,
         alloc: Global,
@@ -149,16 +149,16 @@ impl Mark {
     ) -> Result<Vec<u8>, AllocError>
         requires { self.old.rows ≡ map.now }
         ensures same { self.new ≡ self.old }
-        ensures news { IfOk result (λ told.
-            told.items ≡ all_framed (news self.old.marked map.now filter.now)) }
+        ensures news { IfOk result (λ written.
+            written.items ≡ all_framed (news self.old.marked map.now filter.now)) }
     {
         level(&mut self.map, &mut self.due)?;
         let changes = changes_of(alloc, &self.since)?;
         let differences = Differences::between(alloc, &self.map, map, &changes)?;
-        let mut told = Vec::new(alloc);
+        let mut written = Vec::new(alloc);
         for message in differences.news(filter) {
-            frame(&mut told, message)?;
+            frame(&mut written, message)?;
         }
-        Ok(told)
+        Ok(written)
     }
 }

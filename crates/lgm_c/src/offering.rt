@@ -1,7 +1,7 @@
-//! Handles that are opened and freed, and what is offered to their maps.
+//! Opening and freeing handles, and offering messages and closes.
 
 ghost use Rattle.std.specs.Prelude.{◌≡◌, None, IfOk};
-ghost use Rattle.lgm_c.specs.Doing.{Offers, Closes};
+ghost use Rattle.lgm_c.specs.Offering.{Offers, Closes};
 ghost use Rattle.lgm_c.specs.Evidence.{evidence_of};
 ghost use Rattle.lgm_c.specs.Held.{opened};
 ghost use Rattle.lgm_c.specs.Opening.{known_of, Opens};
@@ -15,7 +15,7 @@ use lgm_graph::Known;
 use lgm_store::Seed;
 use std::alloc::{AllocError, Global};
 
-/// The features of nodes that are known: all, or those whose bits are set.
+/// The feature bits of nodes that are known: all, or those that are set.
 fn known_bits(alloc: Global, all: bool, bits: &[u8]) -> Result<Known, AllocError>
     ensures { IfOk result (λ known. known ≡ known_of all bits.now) }
 {
@@ -41,7 +41,7 @@ fn new_map(
     Ok(Box::new(alloc, inner)?)
 }
 
-/// Opens a handle: it holds a map with no channels and no nodes.
+/// Opens a handle, with a map without channels and nodes.
 #[unsafe(no_mangle)]
 pub extern "C" fn lgm_open(
     alloc: Global,
@@ -102,7 +102,7 @@ pub extern "C" fn lgm_close_channel(alloc: Global, map: &mut LgmMap, scid: u64) 
     status(&outcome)
 }
 
-/// Frees the map of a handle, if it holds one, and closes the handle.
+/// Frees the map of a handle, if it is open, and closes the handle.
 #[unsafe(no_mangle)]
 pub extern "C" fn lgm_free(alloc: Global, map: &mut LgmMap)
     ensures { map.new.handle.value ≡ None }

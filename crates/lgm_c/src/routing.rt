@@ -1,14 +1,14 @@
 //! Routes of payments.
 
 ghost use Rattle.std.specs.Prelude.{◌≡◌, Ok, IfOk};
-ghost use Rattle.lgm_c.specs.Routing.{request_of, route_asked, told_hop, told_hops, all_payloads};
-ghost use Rattle.lgm_c.specs.Routing.{TellsRoute, HasToldRoute, buffers};
+ghost use Rattle.lgm_c.specs.Routing.{request_of, route_asked, c_hop, c_hops, all_payloads};
+ghost use Rattle.lgm_c.specs.Routing.{WritesRoute, IsRouteWritten, buffers};
 ghost use Rattle.lgm_c.specs.Status.{if_open, status_of};
 
 use crate::fault::{Fault, status};
 use crate::inner::Inner;
 use crate::map::LgmMap;
-use crate::telling::copy_in_front;
+use crate::writing::copy_in_front;
 use lgm_gossip::{Bytes, Point};
 use lgm_payload::build;
 use lgm_route::{Hop, Request, Route};
@@ -20,7 +20,7 @@ use std::alloc::{AllocError, Global};
 pub struct LgmPayment {
     /// What the payee is to get, in msat.
     pub amount_msat: u64,
-    /// The block height at which what the payee is offered expires.
+    /// The block height at which the HTLC to the payee expires.
     pub expiry: u32,
     /// The node that pays.
     pub payer: [u8; 33],
@@ -69,8 +69,8 @@ fn request_of(payment: &LgmPayment) -> Request
     }
 }
 
-fn told_hop(hop: &Hop, payload: &[u8]) -> LgmHop
-    ensures { result ≡ told_hop hop.now payload.now }
+fn c_hop(hop: &Hop, payload: &[u8]) -> LgmHop
+    ensures { result ≡ c_hop hop.now payload.now }
 {
     LgmHop {
         scid: hop.scid.to_u64(),
@@ -82,19 +82,19 @@ fn told_hop(hop: &Hop, payload: &[u8]) -> LgmHop
     }
 }
 
-/// Hops, each with the length of its payload.
-fn told_hops(alloc: Global, hops: &[Hop], payloads: &[Bytes]) -> Result<Vec<LgmHop>, AllocError>
-    ensures { IfOk result (λ told. told.items ≡ told_hops hops.now payloads.now) }
+/// Hops as C structs, each with the length of its payload.
+fn c_hops(alloc: Global, hops: &[Hop], payloads: &[Bytes]) -> Result<Vec<LgmHop>, AllocError>
+    ensures { IfOk result (λ made. made.items ≡ c_hops hops.now payloads.now) }
 {
     let count = hops.len().min(payloads.len());
-    let mut told = Vec::with_capacity(alloc, count)?;
+    let mut made = Vec::with_capacity(alloc, count)?;
     for place in 0..count {
-        told.push(told_hop(&hops[place], payloads[place].as_slice()))?;
+        made.push(c_hop(&hops[place], payloads[place].as_slice()))?;
     }
-    Ok(told)
+    Ok(made)
 }
 
-/// Payloads, one behind the other.
+/// Payloads, one after the other.
 fn joined(alloc: Global, payloads: &[Bytes]) -> Result<Vec<u8>, AllocError>
     ensures { IfOk result (λ joined. joined.items ≡ all_payloads payloads.now) }
 {
@@ -105,32 +105,32 @@ fn joined(alloc: Global, payloads: &[Bytes]) -> Result<Vec<u8>, AllocError>
     Ok(joined)
 }
 
-/// Tells hops and payloads where the buffers have room for both, and how long they are in any case.
-fn write(
-    told: &[LgmHop],
+/// Writes hops and payloads if the buffers have room for both, and their lengths in any case.
+fn write_hops(
+    found: &[LgmHop],
     joined: &[u8],
     hops: &mut [LgmHop],
     payloads: &mut [u8],
     lengths: &mut LgmLengths,
 ) -> Result<(), Fault>
-    ensures { HasToldRoute told.now joined.now (status_of result)
+    ensures { IsRouteWritten found.now joined.now (status_of result)
         (buffers hops.old payloads.old lengths.old)
         (buffers hops.new payloads.new lengths.new) }
 {
     *lengths = LgmLengths {
-        hops: told.len(),
+        hops: found.len(),
         payloads: joined.len(),
     };
-    if hops.len() < told.len() || payloads.len() < joined.len() {
+    if hops.len() < found.len() || payloads.len() < joined.len() {
         return Err(Fault::Room);
     }
-    copy_in_front(told, hops);
+    copy_in_front(found, hops);
     copy_in_front(joined, payloads);
     Ok(())
 }
 
-/// Tells a route, with its payloads.
-fn tell_route(
+/// Writes a route, with its payloads.
+fn write_route(
     alloc: Global,
     route: &Route,
     secret: &[u8; 32],
@@ -138,17 +138,17 @@ fn tell_route(
     payloads: &mut [u8],
     lengths: &mut LgmLengths,
 ) -> Result<(), Fault>
-    ensures { TellsRoute (Ok route.now) secret.now (status_of result)
+    ensures { WritesRoute (Ok route.now) secret.now (status_of result)
         (buffers hops.old payloads.old lengths.old)
         (buffers hops.new payloads.new lengths.new) }
 {
     let built = build(alloc, route, secret)?;
-    let told = told_hops(alloc, route.as_slice(), built.as_slice())?;
+    let found = c_hops(alloc, route.as_slice(), built.as_slice())?;
     let joined = joined(alloc, built.as_slice())?;
-    write(&told, &joined, hops, payloads, lengths)
+    write_hops(&found, &joined, hops, payloads, lengths)
 }
 
-/// Finds and tells the route of a payment.
+/// Finds and writes the route of a payment.
 fn find(
     alloc: Global,
     inner: &mut Inner,
@@ -158,15 +158,15 @@ fn find(
     lengths: &mut LgmLengths,
 ) -> Result<(), Fault>
     ensures same { inner.new ≡ inner.old }
-    ensures route { TellsRoute (route_asked payment.now inner.old) payment.now.secret (status_of result)
+    ensures route { WritesRoute (route_asked payment.now inner.old) payment.now.secret (status_of result)
         (buffers hops.old payloads.old lengths.old)
         (buffers hops.new payloads.new lengths.new) }
 {
     let route = inner.route(alloc, &request_of(payment))?;
-    tell_route(alloc, &route, &payment.secret, hops, payloads, lengths)
+    write_route(alloc, &route, &payment.secret, hops, payloads, lengths)
 }
 
-/// The route of a payment by which the payer sends the least: its hops, from the payer on, and their payloads one behind
+/// The route of a payment by which the payer sends the least: its hops, from the payer on, and their payloads one after
 /// the other (BOLT 7, "HTLC Fees"; BOLT 4, "Payload Format").
 #[unsafe(no_mangle)]
 pub extern "C" fn lgm_route(
@@ -178,7 +178,7 @@ pub extern "C" fn lgm_route(
     lengths: &mut LgmLengths,
 ) -> u32
     ensures same { map.new.handle.value ≡ map.old.handle.value }
-    ensures route { TellsRoute (if_open map.old.handle.value (route_asked payment.now))
+    ensures route { WritesRoute (if_open map.old.handle.value (route_asked payment.now))
         payment.now.secret result
         (buffers hops.old payloads.old lengths.old)
         (buffers hops.new payloads.new lengths.new) }

@@ -3,11 +3,11 @@
 ghost use Rattle.std.specs.Prelude.{◌≡◌};
 ghost use Rattle.lgm_c.specs.Words.{refusal_at, reason_at, word_of_call, word_at, padded};
 
-use crate::telling::copy_in_front;
+use crate::writing::copy_in_front;
 use lgm_check::Refusal;
 use lgm_route::RouteFault;
 
-/// The refusal of a number.
+/// The refusal with a number.
 fn refusal_at(number: u32) -> Option<Refusal>
     ensures { result ≡ refusal_at number }
 {
@@ -32,7 +32,7 @@ fn refusal_at(number: u32) -> Option<Refusal>
     }
 }
 
-/// The reason of a number why a payment has no route.
+/// The reason why a payment has no route, by its number.
 fn reason_at(number: u32) -> Option<RouteFault>
     ensures { result ≡ reason_at number }
 {
@@ -46,7 +46,7 @@ fn reason_at(number: u32) -> Option<RouteFault>
     }
 }
 
-/// The word of a number that neither a refusal nor a reason has.
+/// The word of a number that stands for neither a refusal nor a reason.
 fn word_of_call(number: u32) -> &'static str
     ensures { result.now ≡ word_of_call number }
 {
@@ -78,7 +78,7 @@ fn word_at(number: u32) -> &'static str
     }
 }
 
-/// The word of a number that a call answered, and zeros behind it. A number that none answers has no word.
+/// The word of a number that a call returned, padded with zeros. A number that no call returns has the empty word.
 #[unsafe(no_mangle)]
 pub extern "C" fn lgm_word(number: u32, word: &mut [u8; 24])
     ensures { word.new ≡ padded (word_at number) }

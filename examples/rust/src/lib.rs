@@ -1,6 +1,6 @@
-//! A proved map of Lightning gossip, and routes over it: a safe wrapper of `include/lgm.h`.
+//! A verified map of Lightning gossip, with routes over it: a safe wrapper of `include/lgm.h`.
 //!
-//! The wrapper keeps the duties that the header lists: its pointers come from references, a handle is in one place, is
+//! The wrapper meets the conditions of the header: its pointers come from references, a handle is in one place, is
 //! borrowed for each call, and is freed when the [`Map`] is dropped. A `Map` is neither `Send` nor `Sync`.
 
 mod raw;
@@ -11,7 +11,7 @@ use std::ptr;
 /// A compressed public key.
 pub type Point = [u8; 33];
 
-/// Why a call wasn't done, by its number (`include/lgm.h`). It left the map as it was.
+/// Why a call failed, by its number (`include/lgm.h`). The map is unchanged.
 #[derive(Clone, Copy, Debug, PartialEq, Eq)]
 pub struct Fault(pub u32);
 
@@ -19,7 +19,7 @@ impl Fault {
     /// A buffer was too short.
     const ROOM: Fault = Fault(104);
 
-    /// Its word, as `not-newer`.
+    /// Its word, such as `not-newer`.
     pub fn word(self) -> String {
         let mut word = [0; 24];
         // SAFETY: the word has 24 bytes.
@@ -43,24 +43,24 @@ fn check(number: u32) -> Result<(), Fault> {
 /// The verdict on a message's signatures: four of a `channel_announcement`, one of any other.
 #[derive(Clone, Copy, Debug, PartialEq, Eq)]
 pub enum Sig {
-    /// Whether all four are right.
+    /// Whether all four are valid.
     AllFour(bool),
-    /// The one signature is right, and is by this node.
+    /// The one signature is valid for this key.
     By(Point),
-    /// It is nobody's.
+    /// It is valid for no key.
     Nobody,
 }
 
-/// The verdict on the funding output that a `channel_announcement` names.
+/// The verdict on the funding output of a `channel_announcement`.
 #[derive(Clone, Copy, Debug, PartialEq, Eq)]
 pub enum Funding {
-    /// It wasn't asked for.
+    /// It wasn't looked up.
     NotAsked,
-    /// It is unspent, pays to the two bitcoin keys, and has so many satoshi.
+    /// It is unspent, pays to the 2-of-2 of the bitcoin keys, and holds this many satoshi.
     Unspent(u64),
     /// It is spent.
     Spent,
-    /// It isn't there, or pays to something else.
+    /// It doesn't exist, or pays to something else.
     Wrong,
 }
 
@@ -71,9 +71,9 @@ pub struct Payment {
     pub payer: Point,
     /// The node that is paid.
     pub payee: Point,
-    /// What the payee is to get, in msat.
+    /// What the payee receives, in msat.
     pub amount_msat: u64,
-    /// The block height at which what the payee is offered expires.
+    /// The block height at which the HTLC to the payee expires.
     pub expiry: u32,
     /// The payment secret, from the invoice.
     pub secret: [u8; 32],
@@ -84,13 +84,13 @@ pub struct Payment {
 pub struct Hop {
     /// The channel.
     pub scid: u64,
-    /// What goes over it, in msat.
+    /// The amount of the HTLC, in msat.
     pub amount_msat: u64,
     /// The block height at which the HTLC expires.
     pub expiry: u32,
     /// The node that offers it.
     pub from: Point,
-    /// The node that it is offered to.
+    /// The node that receives it.
     pub to: Point,
     /// The payload for that node.
     pub payload: Vec<u8>,
@@ -103,8 +103,8 @@ pub struct Map {
 }
 
 impl Map {
-    /// A map with no channels. Where `known` is `None`, all features of nodes are known, else those whose bits it sets. The
-    /// seed is 16 random bytes.
+    /// A map without channels. If `known` is `None`, all features of nodes are known, else those whose bits are set.
+    /// The seed is 16 random bytes.
     pub fn new(chain: &[u8; 32], known: Option<&[u8]>, seed: &[u8; 16]) -> Result<Map, Fault> {
         let mut handle = raw::Handle { is_open: false, at: ptr::null_mut() };
         let bits = known.unwrap_or(&[]);
@@ -132,7 +132,7 @@ impl Map {
         check(unsafe { raw::lgm_offer(&mut self.handle, bytes, len, sig, &signer, funding, sat) })
     }
 
-    /// Forgets a channel, since its funding output is spent.
+    /// Removes a channel, because its funding output was spent.
     pub fn close_channel(&mut self, scid: u64) -> Result<(), Fault> {
         // SAFETY: a handle of this crate.
         check(unsafe { raw::lgm_close_channel(&mut self.handle, scid) })
@@ -169,9 +169,9 @@ impl Map {
             )
         })?;
         let mut rest = &payloads[..lengths.payloads];
-        let told = hops[..lengths.hops].iter().map(|hop| {
-            let (payload, behind) = rest.split_at(hop.payload_len);
-            rest = behind;
+        let found = hops[..lengths.hops].iter().map(|hop| {
+            let (payload, others) = rest.split_at(hop.payload_len);
+            rest = others;
             Hop {
                 scid: hop.scid,
                 amount_msat: hop.amount_msat,
@@ -181,32 +181,32 @@ impl Map {
                 payload: payload.to_vec(),
             }
         });
-        Ok(told.collect())
+        Ok(found.collect())
     }
 
     /// The replies to a peer's query.
     pub fn query(&mut self, message: &[u8]) -> Result<Vec<Vec<u8>>, Fault> {
-        self.told(raw::lgm_query, message)
+        self.messages(raw::lgm_query, message)
     }
 
     /// The messages that pass a peer's filter.
     pub fn filter(&mut self, message: &[u8]) -> Result<Vec<Vec<u8>>, Fault> {
-        self.told(raw::lgm_filter, message)
+        self.messages(raw::lgm_filter, message)
     }
 
-    /// The messages that pass a peer's filter, and didn't at the mark.
+    /// The messages that pass a peer's filter now, and didn't at the mark.
     pub fn news(&mut self, message: &[u8]) -> Result<Vec<Vec<u8>>, Fault> {
-        self.told(raw::lgm_news, message)
+        self.messages(raw::lgm_news, message)
     }
 
-    /// Moves the mark to the map as it is.
+    /// Moves the mark to the map as it is now.
     pub fn mark(&mut self) -> Result<(), Fault> {
         // SAFETY: a handle of this crate.
         check(unsafe { raw::lgm_mark(&mut self.handle) })
     }
 
-    /// What a call tells of a peer's message.
-    fn told(&mut self, call: raw::Teller, message: &[u8]) -> Result<Vec<Vec<u8>>, Fault> {
+    /// The messages that a call writes for a peer's message.
+    fn messages(&mut self, call: raw::MessagesCall, message: &[u8]) -> Result<Vec<Vec<u8>>, Fault> {
         let mut room = vec![0; 4096];
         loop {
             let mut needed = 0;
@@ -230,13 +230,13 @@ impl Drop for Map {
     }
 }
 
-/// Messages that stand one behind the other, each behind its length in eight bytes.
-fn unframed(mut told: &[u8]) -> Vec<Vec<u8>> {
+/// Messages one after the other, each after its length in eight bytes.
+fn unframed(mut written: &[u8]) -> Vec<Vec<u8>> {
     let mut messages = Vec::new();
-    while let Some((len, rest)) = told.split_first_chunk::<8>() {
-        let (message, behind) = rest.split_at(u64::from_le_bytes(*len) as usize);
+    while let Some((len, rest)) = written.split_first_chunk::<8>() {
+        let (message, others) = rest.split_at(u64::from_le_bytes(*len) as usize);
         messages.push(message.to_vec());
-        told = behind;
+        written = others;
     }
     messages
 }

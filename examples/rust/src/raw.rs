@@ -1,4 +1,4 @@
-//! The calls of `include/lgm.h`, as they are.
+//! The declarations of `include/lgm.h`.
 
 use std::ffi::c_void;
 
@@ -18,7 +18,7 @@ pub struct Payment {
     pub secret: [u8; 32],
 }
 
-/// A point, of which arrays can be made.
+/// A point, with a default, so that arrays of hops have one.
 #[repr(transparent)]
 #[derive(Clone, Copy)]
 pub struct Point(pub [u8; 33]);
@@ -47,8 +47,21 @@ pub struct Lengths {
     pub payloads: usize,
 }
 
-/// `lgm_query`, `lgm_filter` or `lgm_news`.
-pub type Teller = unsafe extern "C" fn(*mut Handle, *const u8, usize, *mut u8, usize, *mut usize) -> u32;
+/// Declares calls that answer a peer's message with messages, and their type.
+macro_rules! messages_calls {
+    ($type:ident: $($call:ident),* => $arguments:tt) => {
+        pub type $type = unsafe extern "C" fn $arguments -> u32;
+
+        unsafe extern "C" {
+            $(pub fn $call $arguments -> u32;)*
+        }
+    };
+}
+
+messages_calls! {
+    MessagesCall: lgm_query, lgm_filter, lgm_news =>
+    (map: *mut Handle, message: *const u8, message_len: usize, room: *mut u8, room_len: usize, needed: *mut usize)
+}
 
 unsafe extern "C" {
     pub fn lgm_word(number: u32, word: *mut [u8; 24]);
@@ -80,30 +93,6 @@ unsafe extern "C" {
         payloads: *mut u8,
         payloads_len: usize,
         lengths: *mut Lengths,
-    ) -> u32;
-    pub fn lgm_query(
-        map: *mut Handle,
-        query: *const u8,
-        query_len: usize,
-        replies: *mut u8,
-        replies_len: usize,
-        needed: *mut usize,
-    ) -> u32;
-    pub fn lgm_filter(
-        map: *mut Handle,
-        filter: *const u8,
-        filter_len: usize,
-        messages: *mut u8,
-        messages_len: usize,
-        needed: *mut usize,
-    ) -> u32;
-    pub fn lgm_news(
-        map: *mut Handle,
-        filter: *const u8,
-        filter_len: usize,
-        messages: *mut u8,
-        messages_len: usize,
-        needed: *mut usize,
     ) -> u32;
     pub fn lgm_mark(map: *mut Handle) -> u32;
 }

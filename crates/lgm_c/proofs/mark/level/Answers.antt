@@ -15,9 +15,9 @@ loop-op-preserved c =
     let parts : items ≡ op ∷ rest =
     first_and_rest items op some ∙ ap (λ first. first ∷ drop 1 items) (sym c.in-Some.ensures.lookup)
     ∙ ap (λ others. op ∷ others) (sym c.forget_first.ensures) in
-    let told : AllByRecursion TellsKey (op ∷ rest) = subst (AllByRecursion TellsKey) parts c.loop-op.invariant.due_tells in
+    let keys : AllByRecursion TellsKey (op ∷ rest) = subst (AllByRecursion TellsKey) parts c.loop-op.invariant.due_tells in
     record {
       rows = ap (λ map. fold_from map rest) c.in_ok-absorb.ensures.ok ∙ ap (fold_from c.loop-op.map) (sym parts) ∙ c.loop-op.invariant.rows;
-      map_tells = rw c.in_ok-absorb.ensures.ok (TellKeys-step c.loop-op.map op c.loop-op.invariant.map_tells told.0);
-      due_tells = told.1;
+      map_tells = rw c.in_ok-absorb.ensures.ok (TellKeys-step c.loop-op.map op c.loop-op.invariant.map_tells keys.0);
+      due_tells = keys.1;
     }

@@ -5,7 +5,7 @@ use Rattle.lgm_c.specs.inner.Charted.{IsViewed}
 use Rattle.lgm_check.specs.Precheck.{checked_of}
 use Rattle.lgm_store.specs.Rows.{Rows}
 use Rattle.lgm_store.specs.Admission.{Offers, admitted}
-use Rattle.lgm_c.proofs.Doings.{checked_offers, checked_given}
+use Rattle.lgm_c.proofs.Outcomes.{checked_offers, checked_given}
 use Rattle.lgm_c.proofs.chart.Chart.offer.Goals as goal
 
 pub returns-then-is_none-clause-outcome : goal.returns-then-is_none-clause-outcome

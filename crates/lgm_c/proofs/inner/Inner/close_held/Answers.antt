@@ -1,6 +1,6 @@
 use Rattle.std.proofs.Common.{Some}
 use Rattle.lgm_store.specs.Admission.{admitted_close}
-use Rattle.lgm_c.proofs.Doings.{close_tells, goes_on}
+use Rattle.lgm_c.proofs.Outcomes.{close_tells, goes_on}
 use Rattle.lgm_c.proofs.inner.Inner.close_held.Goals as goal
 
 pub invariant_of-self : goal.invariant_of-self

@@ -1,6 +1,6 @@
 use Rattle.std.proofs.Common.{Some}
-use Rattle.lgm_c.specs.inner.Charted.{offered_to}
-use Rattle.lgm_c.proofs.Doings.{offered_tells, goes_on}
+use Rattle.lgm_c.specs.Offering.{offered_to}
+use Rattle.lgm_c.proofs.Outcomes.{offered_tells, goes_on}
 use Rattle.lgm_c.proofs.inner.Inner.offer_judged.Goals as goal
 
 pub invariant_of-self : goal.invariant_of-self

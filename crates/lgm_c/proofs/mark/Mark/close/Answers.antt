@@ -1,8 +1,8 @@
 use Rattle.std.proofs.Common.{◌≡◌, [], ◌∷◌, ◌++◌, sym, ap, ◌∙◌}
 use Rattle.lgm_store.specs.History.{absorbed, fold_from}
 use Rattle.lgm_store.proofs.Histories.{fold_from-push}
-use Rattle.lgm_c.proofs.Doings.{close_tells}
-use Rattle.lgm_c.proofs.Marks.{told_one_more}
+use Rattle.lgm_c.proofs.Outcomes.{close_tells}
+use Rattle.lgm_c.proofs.Marks.{tells_one_more}
 use Rattle.lgm_c.proofs.mark.Mark.close.Goals as goal
 
 pub invariant_of-self-2 : goal.invariant_of-self-2
@@ -15,7 +15,7 @@ invariant_of-self-2 c =
     record {
       map_tells = c.self.invariant.map_tells;
       due_tells = c.self.invariant.due_tells;
-      since_tells = rw pushed (told_one_more since op c.self.invariant.since_tells tells);
+      since_tells = rw pushed (tells_one_more since op c.self.invariant.since_tells tells);
     }
 
 pub returns-clause-beside : goal.returns-clause-beside

@@ -1,10 +1,10 @@
-//! Answers, as they are written to the caller's buffers.
+//! Writing answers to the caller's buffers.
 
 ghost use Rattle.std.specs.Prelude.{◌≡◌, ◌≤◌, length, ℕ, List, Result};
 ghost use Rattle.lgm_wire.specs.reading.Reading.{Gives};
 ghost use Rattle.lgm_c.specs.declared.fault.Fault.{Fault as AFault};
 ghost use Rattle.lgm_c.specs.Status.{status_of};
-ghost use Rattle.lgm_c.specs.Telling.{in_front, HasTold, Answers, buffer};
+ghost use Rattle.lgm_c.specs.Writing.{in_front, IsWritten, Answers, buffer};
 
 use crate::fault::{Fault, status};
 
@@ -17,9 +17,9 @@ pub(crate) fn copy_in_front<T: Copy>(items: &[T], room: &mut [T])
     room[..n].copy_from_slice(items);
 }
 
-/// Tells bytes where the buffer has room for them, and their length in any case.
-pub(crate) fn tell_bytes(bytes: &[u8], room: &mut [u8], needed: &mut usize) -> Result<(), Fault>
-    ensures { HasTold bytes.now (status_of result)
+/// Writes bytes to the front of the buffer if it has room for them, and their length in any case.
+pub(crate) fn write_bytes(bytes: &[u8], room: &mut [u8], needed: &mut usize) -> Result<(), Fault>
+    ensures { IsWritten bytes.now (status_of result)
         (buffer room.old needed.old) (buffer room.new needed.new) }
 {
     *needed = bytes.len();
@@ -30,14 +30,18 @@ pub(crate) fn tell_bytes(bytes: &[u8], room: &mut [u8], needed: &mut usize) -> R
     Ok(())
 }
 
-/// Tells an answer, or its fault.
-pub(crate) fn tell(answer: &Result<Vec<u8>, Fault>, room: &mut [u8], needed: &mut usize) -> u32
+/// Writes an answer, or returns the number of its fault.
+pub(crate) fn write_answer(
+    answer: &Result<Vec<u8>, Fault>,
+    room: &mut [u8],
+    needed: &mut usize,
+) -> u32
     ensures { (expected : Result (List ℕ) AFault)
-        → Gives Fault.NoMemory (λ told. told.items) answer.now expected
+        → Gives Fault.NoMemory (λ written. written.items) answer.now expected
         → Answers expected result (buffer room.old needed.old) (buffer room.new needed.new) }
 {
     match answer {
-        Ok(bytes) => status(&tell_bytes(bytes, room, needed)),
+        Ok(bytes) => status(&write_bytes(bytes, room, needed)),
         Err(fault) => fault.number(),
     }
 }

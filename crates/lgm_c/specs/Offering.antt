@@ -1,17 +1,23 @@
--- What operations do to what a handle holds.
+-- What offering a message or a close does to what a handle holds.
 use Rattle.std.specs.Prelude.{◌≡◌, ◌⊎◌, ℕ, List, Option, Some, None, Result, Ok, Err}
+use Rattle.lgm_wire.specs.reading.Reading.{◌>>=◌}
+use Rattle.lgm_wire.specs.declared.chain_hash.ChainHash.{ChainHash}
 use Rattle.lgm_check.specs.declared.refusal.Refusal.{Refusal}
-use Rattle.lgm_check.specs.declared.refusal.Refusal.TheVariants as refusals
 use Rattle.lgm_check.specs.declared.evidence.Evidence.{Evidence}
+use Rattle.lgm_check.specs.Precheck.{checked_of}
 use Rattle.lgm_store.specs.declared.op.Op.{Op}
-use Rattle.lgm_store.specs.Admission.{admitted_close}
+use Rattle.lgm_store.specs.Rows.{Rows}
+use Rattle.lgm_store.specs.Admission.{admitted, admitted_close}
 use Rattle.lgm_store.specs.History.{absorbed}
 use Rattle.lgm_c.specs.declared.fault.Fault.TheVariants as faults
-use Rattle.lgm_c.specs.inner.Charted.{Charted, offered_to}
 use Rattle.lgm_c.specs.Held.{Held}
 use Rattle.lgm_c.specs.Status.{number_of, no_memory, refused}
 
--- what an outcome makes of what is held: its operation was done, and nothing else
+-- the operation of a message on these rows, or its first refusal
+abbrev pub offered_to : ChainHash → Rows → List ℕ → Evidence → Result Op Refusal
+offered_to chain rows bytes evidence = checked_of chain bytes evidence >>= admitted rows
+
+-- what is held after an outcome: its operation was applied, and nothing else changed
 abbrev pub held_behind : Held → Result Op Refusal → Held
 held_behind held (Ok op) = record held { rows = absorbed held.rows op }
 held_behind held (Err refusal) = held
@@ -20,15 +26,13 @@ abbrev pub outcome_number : Result Op Refusal → ℕ
 outcome_number (Ok op) = 0
 outcome_number (Err refusal) = number_of (refused refusal)
 
--- a call answers by an outcome, or memory was refused and nothing was done
+-- a call returns the number of the outcome and applies it, or runs out of memory and changes nothing
 abbrev pub Does : Result Op Refusal → Held → ℕ → Option Held → Type 0
 Does outcome old status new =
     ((status ≡ outcome_number outcome) × (new ≡ Some (held_behind old outcome)))
     ⊎ ((status ≡ no_memory) × (new ≡ Some old))
 
--- ---- by a handle
-
--- a message is offered, with the verdicts on it if there are some
+-- a message is offered to a handle, with the verdicts on it if the numbers stand for some
 abbrev pub Offers : List ℕ → Option Evidence → ℕ → Option Held → Option Held → Type 0
 Offers bytes evidence status None new = (status ≡ number_of faults.Closed) × (new ≡ None)
 Offers bytes None status (Some old) new = (status ≡ number_of faults.Argument) × (new ≡ Some old)
@@ -39,23 +43,3 @@ Offers bytes (Some evidence) status (Some old) new =
 abbrev pub Closes : ℕ → ℕ → Option Held → Option Held → Type 0
 Closes id status None new = (status ≡ number_of faults.Closed) × (new ≡ None)
 Closes id status (Some old) new = Does (admitted_close old.rows id) old status new
-
--- ---- on the way
-
--- the rows after an accepted operation
-pub record Advances (outcome : Result Op Refusal) (old new : Charted) : Type 0 where
-  pub op : Op
-  pub accepts : outcome ≡ Ok op
-  pub rows : new ≡ record old { rows = absorbed old.rows op }
-
--- a call did an accepted operation, or gave the refusal and did nothing; or memory was refused
-abbrev pub Follows : {T : Type 0} → Result Op Refusal → Result T Refusal → Charted → Charted → Type 0
-Follows outcome (Ok t) old new = Advances outcome old new
-Follows outcome (Err refusal) old new =
-    ((refusal ≡ refusals.NoMemory) ⊎ (outcome ≡ Err refusal)) × (new ≡ old)
-
--- the same of what is held
-abbrev pub Leads : {T : Type 0} → Result Op Refusal → Result T Refusal → Held → Held → Type 0
-Leads outcome (Ok t) old new =
-    (op : Op) × (outcome ≡ Ok op) × (new ≡ record old { rows = absorbed old.rows op })
-Leads outcome (Err refusal) old new = ((refusal ≡ refusals.NoMemory) ⊎ (outcome ≡ Err refusal)) × (new ≡ old)

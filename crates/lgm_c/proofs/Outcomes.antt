@@ -1,4 +1,4 @@
--- What comes of what is offered.
+-- What offering a message or a close gives.
 use Rattle.std.proofs.Common.{◌≡◌, ℕ, List, Bool, true, false, Option, Result, Ok, Err, refl, inl, inr, sym, ap, subst}
 use Rattle.std.specs.Prelude.{is_some, IfSome}
 use Rattle.lgm_wire.specs.reading.Reading.{◌>>=◌, Gives}
@@ -17,11 +17,12 @@ use Rattle.lgm_query.specs.KeyNews.{TellKeys}
 use Rattle.lgm_query.specs.Touched.{TellsKey}
 use Rattle.lgm_query.proofs.Telling.{operation_tells}
 use Rattle.lgm_query.proofs.Untouched.{TellKeys-step}
-use Rattle.lgm_c.specs.inner.Charted.{Charted, offered_to}
-use Rattle.lgm_c.specs.Held.{Marked, IsFollowed}
-use Rattle.lgm_c.specs.Doing.{Follows}
+use Rattle.lgm_c.specs.inner.Charted.{Charted}
+use Rattle.lgm_c.specs.Offering.{offered_to}
+use Rattle.lgm_c.specs.inner.Marking.{Marked, IsFollowed}
+use Rattle.lgm_c.specs.inner.Following.{Follows}
 
--- what a map answers a message is the definition's, or memory was refused
+-- the answer of a map to a message is that of the definition, or out of memory
 pub offers_gives : (answer admission : Result Op Refusal) → Offers answer admission → Gives refusals.NoMemory (λ op. op) answer admission
 offers_gives answer (Ok op) offers = elim offers [ inl e ↦ rw e refl | inr e ↦ rw e (inl refl) ]
 offers_gives answer (Err refusal) offers = rw offers (inr refl)

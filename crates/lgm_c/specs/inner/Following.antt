@@ -1,0 +1,27 @@
+-- What an outcome does to a map with its view, and to what is held.
+use Rattle.std.specs.Prelude.{◌≡◌, ◌⊎◌, Result, Ok, Err}
+use Rattle.lgm_check.specs.declared.refusal.Refusal.{Refusal}
+use Rattle.lgm_check.specs.declared.refusal.Refusal.TheVariants as refusals
+use Rattle.lgm_store.specs.declared.op.Op.{Op}
+use Rattle.lgm_store.specs.History.{absorbed}
+use Rattle.lgm_c.specs.Held.{Held}
+use Rattle.lgm_c.specs.inner.Charted.{Charted}
+
+-- an accepted operation was applied
+pub record Advances (outcome : Result Op Refusal) (old new : Charted) : Type 0 where
+  pub op : Op
+  pub accepts : outcome ≡ Ok op
+  pub rows : new ≡ record old { rows = absorbed old.rows op }
+
+-- an accepted operation was applied, or the call returned the refusal or out of memory and changed nothing
+abbrev pub Follows : {T : Type 0} → Result Op Refusal → Result T Refusal → Charted → Charted → Type 0
+Follows outcome (Ok t) old new = Advances outcome old new
+Follows outcome (Err refusal) old new =
+    ((refusal ≡ refusals.NoMemory) ⊎ (outcome ≡ Err refusal)) × (new ≡ old)
+
+-- the same for what is held
+abbrev pub Leads : {T : Type 0} → Result Op Refusal → Result T Refusal → Held → Held → Type 0
+Leads outcome (Ok t) old new =
+    (op : Op) × (outcome ≡ Ok op) × (new ≡ record old { rows = absorbed old.rows op })
+Leads outcome (Err refusal) old new =
+    ((refusal ≡ refusals.NoMemory) ⊎ (outcome ≡ Err refusal)) × (new ≡ old)
