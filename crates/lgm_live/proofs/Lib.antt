@@ -6,6 +6,8 @@ pub mod Noting
 pub mod Slots
 pub mod Scripts
 pub mod WholeLines
+pub mod Readings
 pub mod SlotTexts
 pub mod Parts
 pub mod Runs
+pub mod Ends

@@ -1,10 +1,13 @@
 -- A report of what both sides did.
-use Rattle.std.proofs.Common.{◌≡◌, ℕ, List, [], ◌∷◌, Option, Result, Ok, Err, IfOk, ap, subst, sym, ◌∙◌}
+use Rattle.std.proofs.Common.{◌≡◌, ◌≤◌, ℕ, List, [], ◌∷◌, length, Option, Result, Ok, Err, IfOk, ap, subst, sym, ◌∙◌}
 use Rattle.std.specs.Prelude.{All, MatchResult}
 use Rattle.std.specs.List.{AllZip}
 use Rattle.std.specs.Global.{Vec}
 use Rattle.logbook.specs.Pages.{Book}
 use Rattle.lgm_par.proofs.Zipping.{zip_weaker}
+use Rattle.lgm_wire.specs.declared.chain_hash.ChainHash.{ChainHash}
+use Rattle.lgm_check.specs.declared.refusal.Refusal.{Refusal}
+use Rattle.lgm_script.specs.declared.item.Item.{Item}
 use Rattle.lgm_store.specs.declared.op.Op.{Op}
 use Rattle.lgm_route.specs.declared.request.Request.{Request}
 use Rattle.lgm_publish.specs.Handles.{Sight}
@@ -14,7 +17,9 @@ use Rattle.lgm_live.specs.declared.report.LiveReport.{LiveReport}
 use Rattle.lgm_live.specs.declared.working.Worked.{Worked}
 use Rattle.lgm_live.specs.declared.writing.Written.{Written}
 use Rattle.lgm_live.specs.Answers.{AreAnsweredBy, NeverFall, IsAtEnd}
+use Rattle.lgm_live.specs.Running.{IsReport}
 use Rattle.lgm_live.specs.inner.Worked.{HasWorked, AreOf, HaveWorked, IsTied, IsOfWriter}
+use Rattle.lgm_live.specs.inner.Written.{ArePublished}
 use Rattle.lgm_live.proofs.Answers.{zip_second}
 
 -- eyes of one board with the same known features
@@ -74,34 +79,40 @@ are_reported book known eyes lists published (Ok ws) (Ok r) are have tied =
 are_reported book known eyes lists published (Err fault) (Ok r) are have tied = absurd tied
 are_reported book known eyes lists published works (Err fault) are have tied = tt
 
--- the answers, over the reported operations
-pub reported_answers : (known : Option (List ℕ)) (lists : List (List Request)) (published : List Op)
-    (written : Result Written LiveFault) (report : Result LiveReport LiveFault)
-    → IfOk report (AreReported known published lists) → IfOk report
-    (λ r. MatchResult written (IsOfWriter r) (λ _. ⊥)) → IfOk written (λ w. published ≡ w.ops.items)
-    → IfOk report (λ r. AllZip (λ (requests : List Request) (answers : Vec LiveAnswer).
-    AreAnsweredBy known r.ops.items requests answers.items) lists r.answers.items)
-reported_answers known lists published (Ok w) (Ok r) all of is =
-    let ops : published ≡ r.ops.items = is ∙ sym (ap (λ (ops : Vec Op). ops.items) of.ops) in
-    zip_weaker (IsReported known published r.ends.items)
-    (λ (requests : List Request) (answers : Vec LiveAnswer).
-    AreAnsweredBy known r.ops.items requests answers.items)
-    (λ requests answers done. subst (λ ops. AreAnsweredBy known ops requests answers.items) ops done.answered) lists r.answers.items all
-reported_answers known lists published (Err fault) (Ok r) all of is = absurd of
-reported_answers known lists published written (Err fault) all of is = tt
+-- what the writer published bounds where batches end
+pub ends_within : (chain : ChainHash) (batches : List (List Item)) (published : List Op)
+    (written : Result Written LiveFault) → IfOk written (ArePublished chain batches published)
+    → IfOk written (λ w. All (λ end. end ≤ length published) w.ends.items)
+ends_within chain batches published (Ok w) done =
+    subst (λ (ops : List Op). All (λ end. end ≤ length ops) w.ends.items) (sym done.shown) done.within
+ends_within chain batches published (Err fault) done = tt
 
-pub reported_ends : (known : Option (List ℕ)) (lists : List (List Request)) (published : List Op)
-    (report : Result LiveReport LiveFault) → IfOk report (AreReported known published lists)
-    → IfOk report (λ r. All (λ (answers : Vec LiveAnswer). All (IsAtEnd r.ends.items) answers.items) r.answers.items)
-reported_ends known lists published (Ok r) all =
-    zip_second (IsReported known published r.ends.items) (λ (answers : Vec LiveAnswer). All (IsAtEnd
-    r.ends.items) answers.items) (λ requests answers done. done.at_ends) lists r.answers.items all
-reported_ends known lists published (Err fault) all = tt
-
-pub reported_rising : (known : Option (List ℕ)) (lists : List (List Request)) (published : List Op)
-    (report : Result LiveReport LiveFault) → IfOk report (AreReported known published lists)
-    → IfOk report (λ r. All (λ (answers : Vec LiveAnswer). NeverFall answers.items) r.answers.items)
-reported_rising known lists published (Ok r) all =
-    zip_second (IsReported known published r.ends.items) (λ (answers : Vec LiveAnswer).
-    NeverFall answers.items) (λ requests answers done. done.rising) lists r.answers.items all
-reported_rising known lists published (Err fault) all = tt
+-- the report on the work of both sides is as promised
+pub reported : (chain : ChainHash) (known : Option (List ℕ)) (batches : List (List Item))
+    (lists : List (List Request)) (published : List Op) (written : Result Written LiveFault)
+    (report : Result LiveReport LiveFault) → IfOk report (λ r. MatchResult written (IsOfWriter r) (λ _. ⊥))
+    → IfOk written (ArePublished chain batches published) → IfOk report (AreReported known published lists)
+    → IfOk report (IsReport chain known batches lists)
+reported chain known batches lists published (Ok w) (Ok r) of done all =
+    let ops : published ≡ r.ops.items = done.shown ∙ sym (ap (λ (ops : Vec Op). ops.items) of.ops) in
+    record {
+      outcomes = ap (λ (outcomes : Vec (Option Refusal)). outcomes.items) of.outcomes ∙ done.items.outcomes;
+      ops = ap (λ (ops : Vec Op). ops.items) of.ops ∙ done.items.ops;
+      ends = ap (λ (ends : Vec ℕ). ends.items) of.ends ∙ done.ends;
+      answers =
+          zip_weaker (IsReported known published r.ends.items)
+          (λ (requests : List Request) (answers : Vec LiveAnswer).
+          AreAnsweredBy known r.ops.items requests answers.items)
+          (λ requests answers done. subst (λ ops. AreAnsweredBy known ops requests answers.items) ops done.answered)
+          lists r.answers.items all;
+      at_ends =
+          zip_second (IsReported known published r.ends.items)
+          (λ (answers : Vec LiveAnswer). All (IsAtEnd r.ends.items) answers.items)
+          (λ requests answers done. done.at_ends) lists r.answers.items all;
+      rising =
+          zip_second (IsReported known published r.ends.items)
+          (λ (answers : Vec LiveAnswer). NeverFall answers.items) (λ requests answers done. done.rising) lists
+          r.answers.items all;
+    }
+reported chain known batches lists published (Err fault) (Ok r) of done all = absurd of
+reported chain known batches lists published written (Err fault) of done all = tt

@@ -14,9 +14,7 @@ use Rattle.lgm_script.specs.Output.{Told, Tells, TellsPart}
 use Rattle.lgm_script.specs.Request.{request_of}
 use Rattle.lgm_script.proofs.FirstLines.{each-push}
 use Rattle.lgm_script.proofs.Splitting.{next_of}
-use Rattle.lgm_live.specs.declared.run_live_fault.RunLiveFault.{RunLiveFault}
-use Rattle.lgm_live.specs.declared.run_live_fault.RunLiveFault.TheVariants.{LineTooLong}
-use Rattle.lgm_live.specs.Running.{line_fault, AreShort, HasMoreLines, HasLongLine}
+use Rattle.lgm_live.specs.Running.{AreShort, HasMoreLines, HasLongLine}
 use Rattle.lgm_live.specs.inner.Reading.{IsAsked}
 
 -- so many lines were read, and this is left
@@ -190,17 +188,3 @@ pub silent_fault : {T : Type 0} (fault : LineFault) (old new : Told) → old.gat
 silent_fault lines.Read old new clear told part = silent old new clear (told (λ e. absurd cc))
 silent_fault lines.Write old new clear told part = silent_part old new clear (part refl)
 silent_fault lines.TooLong old new clear told part = silent old new clear (told (λ e. absurd cc))
-
-too_long_of : (fault : LineFault) → line_fault fault ≡ LineTooLong → fault ≡ lines.TooLong
-too_long_of lines.Read e = absurd cc
-too_long_of lines.Write e = absurd cc
-too_long_of lines.TooLong e = refl
-
-abbrev ended : RunLiveFault → Result (Unit {0}) RunLiveFault
-ended e = Err e
-
-ended_is : (a b : RunLiveFault) → ended a ≡ ended b → a ≡ b
-ended_is a b e = cc
-
-pub too_long_only : (fault : LineFault) (e : RunLiveFault) → e ≡ line_fault fault → ended e ≡ ended LineTooLong → fault ≡ lines.TooLong
-too_long_only fault e is same = too_long_of fault (sym is ∙ ended_is e LineTooLong same)

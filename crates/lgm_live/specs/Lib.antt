@@ -3,4 +3,5 @@ pub mod Batches
 pub mod Agenda
 pub mod Told
 pub mod Running
+pub mod RunsLive
 pub mod inner

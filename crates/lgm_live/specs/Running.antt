@@ -40,11 +40,14 @@ live_fault live.Versions = faults.Versions
 -- what `live` promises of its report
 pub record IsReport (chain : ChainHash) (known : Option (List ℕ)) (batches : List (List Item))
     (lists : List (List RouteRequest)) (report : LiveReport) : Type 0 where
+  -- the items are judged in order, as if there were no batches and no workers
   pub outcomes : report.outcomes.items ≡ map result_err (outcomes chain (items_of batches))
   pub ops : report.ops.items ≡ history_of chain (items_of batches)
   pub ends : report.ends.items ≡ ends_of chain batches
+  -- each worker has one answer for each payment of its list, in order, on the map of the answer's version
   pub answers : AllZip (λ requests answers. AreAnsweredBy known report.ops.items requests answers.items) lists
       report.answers.items
+  -- that map is empty or that of the end of a batch, and never shrinks
   pub at_ends : All (λ answers. All (IsAtEnd report.ends.items) answers.items) report.answers.items
   pub rising : All (λ answers. NeverFall answers.items) report.answers.items
 

@@ -1,14 +1,12 @@
 //! A map that is queried while it grows.
 
-ghost use Rattle.std.specs.Prelude.{◌≡◌, ◌≤◌, ◌<◌, [], length, map, All, IfSome, IfOk, MatchResult};
+ghost use Rattle.std.specs.Prelude.{◌≡◌, ◌≤◌, ◌<◌, [], length, All, IfSome, IfOk, MatchResult};
 ghost use Rattle.std.specs.List.{AllZip};
-ghost use Rattle.std.specs.Result.{result_err};
 ghost use Rattle.std.specs.Thread.{IsSync};
-ghost use Rattle.lgm_server.specs.Outcomes.{outcomes, history_of};
-ghost use Rattle.lgm_live.specs.Answers.{AreAnsweredBy, NeverFall, IsAtEnd};
-ghost use Rattle.lgm_live.specs.Batches.{items_of, ends_of};
+ghost use Rattle.lgm_live.specs.Batches.{items_of};
+ghost use Rattle.lgm_live.specs.Running.{IsReport};
 ghost use Rattle.lgm_live.specs.inner.Worked.{HaveWorked, IsTied, IsOfWriter};
-ghost use Rattle.lgm_live.specs.inner.Written.{IsWritten};
+ghost use Rattle.lgm_live.specs.inner.Written.{ArePublished};
 
 use crate::batches::{Batch, Batches};
 use crate::fault::LiveFault;
@@ -54,18 +52,12 @@ fn run_both<R: Threads + Wait + Sync + RandomSource, G: Gate>(
     batches: &[Batch],
     lists: &[RequestList],
 ) -> (Result<Written, LiveFault>, Result<Vec<Worked>, LiveFault>)
-    requires published { pen.old.published ≡ [] }
-    requires pending { pen.old.pending ≡ [] }
+    requires pen { (pen.old.published ≡ []) × (pen.old.pending ≡ []) }
     requires items { length (items_of batches.now) ≤ 2000000000 }
     requires eyes { length eyes.items ≡ length lists.now }
-    requires some { 0 < length lists.now }
-    requires few { length lists.now ≤ 64 }
+    requires workers { (1 ≤ length lists.now) × (length lists.now ≤ 64) }
     ensures board { pen.new.board ≡ pen.old.board }
-    ensures written { IfOk result.0 (IsWritten chain.now (items_of batches.now)) }
-    ensures ends { IfOk result.0 (λ written. written.ends.items ≡ ends_of chain.now batches.now) }
-    ensures within { IfOk result.0
-        (λ written. All (λ end. end ≤ length written.ops.items) written.ends.items) }
-    ensures published { IfOk result.0 (λ written. pen.new.published ≡ written.ops.items) }
+    ensures written { IfOk result.0 (ArePublished chain.now batches.now pen.new.published) }
     ensures worked { IfOk result.1 (λ works. HaveWorked eyes.items lists.now works.items) }
 {
     let mut given = Some(eyes);
@@ -78,8 +70,7 @@ fn run_both<R: Threads + Wait + Sync + RandomSource, G: Gate>(
             requires few { length lists.now ≤ 64 }
         { work_given(pool, &mut given, lists) },
         &mut || -> Result<Written, LiveFault>
-            requires published { pen.now.published ≡ [] }
-            requires pending { pen.now.pending ≡ [] }
+            requires pen { (pen.now.published ≡ []) × (pen.now.pending ≡ []) }
             requires items { length (items_of batches.now) ≤ 2000000000 }
         {
             let written = publish_batches(pool, chain, pen, batches);
@@ -142,23 +133,8 @@ pub fn live<R: Threads + Wait + Sync + RandomSource, G: Gate>(
     gate: &G,
 ) -> Result<LiveReport, LiveFault>
     requires items { length (items_of batches.now) ≤ 2000000000 }
-    requires workers { 1 ≤ length lists.now }
-    requires few { length lists.now ≤ 64 }
-
-    // The items are judged in order, as if there were no batches and no workers.
-    ensures outcomes { IfOk result
-        (λ report. report.outcomes.items ≡ map result_err (outcomes chain.now (items_of batches.now))) }
-    ensures ops { IfOk result (λ report. report.ops.items ≡ history_of chain.now (items_of batches.now)) }
-    ensures ends { IfOk result (λ report. report.ends.items ≡ ends_of chain.now batches.now) }
-
-    // Each worker returns one answer for each payment of its list, in order, on the map of the answer's version.
-    ensures answers { IfOk result (λ report. AllZip (λ requests answers.
-        AreAnsweredBy known.now report.ops.items requests answers.items) lists.now report.answers.items) }
-
-    // That map is empty or that of the end of a batch, and never shrinks.
-    ensures at_ends { IfOk result
-        (λ report. All (λ answers. All (IsAtEnd report.ends.items) answers.items) report.answers.items) }
-    ensures rising { IfOk result (λ report. All (λ answers. NeverFall answers.items) report.answers.items) }
+    requires workers { (1 ≤ length lists.now) × (length lists.now ≤ 64) }
+    ensures report { IfOk result (IsReport chain.now known.now batches.now lists.now) }
 {
     let lists = lists.as_slice();
     let (mut pen, eyes) = match board(rt, alloc, lists.len(), known) {

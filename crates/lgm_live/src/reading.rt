@@ -1,11 +1,9 @@
 //! Reading a whole script before any of it is answered.
 
-ghost use Rattle.std.specs.Prelude.{◌≡◌, ◌≢◌, ◌≤◌, ◌+◌, ◌<◌, ◌^◌, [], length};
-ghost use Rattle.std.specs.Prelude.{take, drop, IfSome, IfOk, IfErr, OnOk};
+ghost use Rattle.std.specs.Prelude.{◌≡◌, ◌≤◌, ◌+◌, ◌<◌, ◌^◌, [], length, take, drop, OnOk};
 ghost use Rattle.lgm_script.specs.Request.{request_of};
 ghost use Rattle.lgm_live.specs.inner.Gathered.{with_line};
-ghost use Rattle.lgm_live.specs.inner.Reading.{IsNoted, IsRead};
-ghost use Rattle.lgm_live.specs.Running.{HasMoreLines, HasLongLine};
+ghost use Rattle.lgm_live.specs.inner.Reading.{IsNoted, IsRead, HasRead};
 
 use crate::agenda::Agenda;
 use crate::run_live_fault::RunLiveFault;
@@ -49,16 +47,8 @@ fn read_lines<R: Source, W: Sink>(
     requires source { R.failures source.old + 1 < 2 ^ 64 }
     requires writer { W.failures output.old.writer.now + 1 < 2 ^ 64 }
     ensures writer { output.new.writer.ghost_name ≡ output.old.writer.ghost_name }
-    ensures ok { OnOk result (IsNoted (R.left source.old) agenda.old agenda.new) }
-    ensures too_many { result ≡ Err RunLiveFault.TooManyLines → IfSome (R.left source.old) HasMoreLines }
-    ensures too_long { result ≡ Err RunLiveFault.LineTooLong → IfSome (R.left source.old) HasLongLine }
-    ensures silent { W.taken output.new.writer.now ≡ W.taken output.old.writer.now }
-    ensures gathered { output.new.gathered.now.items ≡ [] }
-    ensures read { result ≡ Err RunLiveFault.Read → R.failures source.old < R.failures source.new }
-    ensures write { result ≡ Err RunLiveFault.Write
-        → W.failures output.old.writer.now < W.failures output.new.writer.now }
-    ensures well { result ≢ Err RunLiveFault.Write
-        → W.failures output.new.writer.now ≡ W.failures output.old.writer.now }
+    ensures read { HasRead R.left R.failures W.taken W.failures source.old source.new output.old output.new
+        (λ _. IsNoted (R.left source.old) agenda.old agenda.new) result }
 {
     let mut number = 0;
     while number < MAX_LINES {
@@ -87,16 +77,8 @@ pub(crate) fn read_script<R: Source, W: Sink>(
     requires source { R.failures source.old + 1 < 2 ^ 64 }
     requires writer { W.failures output.old.writer.now + 1 < 2 ^ 64 }
     ensures writer { output.new.writer.ghost_name ≡ output.old.writer.ghost_name }
-    ensures ok { IfOk result (IsRead workers (R.left source.old)) }
-    ensures too_many { result ≡ Err RunLiveFault.TooManyLines → IfSome (R.left source.old) HasMoreLines }
-    ensures too_long { result ≡ Err RunLiveFault.LineTooLong → IfSome (R.left source.old) HasLongLine }
-    ensures silent { W.taken output.new.writer.now ≡ W.taken output.old.writer.now }
-    ensures gathered { output.new.gathered.now.items ≡ [] }
-    ensures read { result ≡ Err RunLiveFault.Read → R.failures source.old < R.failures source.new }
-    ensures write { result ≡ Err RunLiveFault.Write
-        → W.failures output.old.writer.now < W.failures output.new.writer.now }
-    ensures well { result ≢ Err RunLiveFault.Write
-        → W.failures output.new.writer.now ≡ W.failures output.old.writer.now }
+    ensures read { HasRead R.left R.failures W.taken W.failures source.old source.new output.old output.new
+        (IsRead workers (R.left source.old)) result }
 {
     let mut lines = LineReader::new(alloc)?;
     let mut agenda = Agenda::new(alloc, workers)?;

@@ -1,10 +1,9 @@
 //! Running a script whose payments are answered while its items are admitted.
 
-ghost use Rattle.std.specs.Prelude.{◌≡◌, ◌⊎◌, ◌+◌, ◌<◌, ◌≤◌, ◌^◌, [], length, IfSome, IfOk, IfErr, OnErr};
-ghost use Rattle.lgm_script.specs.Device.{Appends, AppendsSome};
+ghost use Rattle.std.specs.Prelude.{◌≡◌, ◌+◌, ◌<◌, ◌≤◌, ◌^◌, []};
 ghost use Rattle.lgm_live.specs.inner.Gathered.{IsAgenda};
 ghost use Rattle.lgm_live.specs.inner.Reading.{IsRead};
-ghost use Rattle.lgm_live.specs.Running.{IsToldWhole, IsToldInPart, HasMoreLines, HasLongLine, ComesFirst};
+ghost use Rattle.lgm_live.specs.RunsLive.{RunsLive};
 
 use crate::growing::live;
 use crate::pacing::Paced;
@@ -34,20 +33,8 @@ fn run_all<Rt: Threads + Wait + Sync + RandomSource, G: Gate, R: Source, W: Sink
     requires source { R.failures source.old + 1 < 2 ^ 64 }
     requires writer { W.failures output.old.writer.now + 1 < 2 ^ 64 }
     ensures writer { output.new.writer.ghost_name ≡ output.old.writer.ghost_name }
-    ensures ok { IfOk result (λ report. IfSome (R.left source.old)
-        (IsToldWhole chain.now known.now pool.now.workers
-        (Appends (W.taken output.old.writer.now) (W.taken output.new.writer.now)) report)) }
-    ensures too_many { result ≡ Err RunLiveFault.TooManyLines → IfSome (R.left source.old) HasMoreLines }
-    ensures too_long { result ≡ Err RunLiveFault.LineTooLong → IfSome (R.left source.old) HasLongLine }
-    ensures silent { IfErr result
-        (λ fault. ComesFirst fault → W.taken output.new.writer.now ≡ W.taken output.old.writer.now) }
-    ensures fault { OnErr result
-        ((W.taken output.new.writer.now ≡ W.taken output.old.writer.now) ⊎ IfSome (R.left source.old)
-        (IsToldInPart chain.now known.now pool.now.workers
-        (AppendsSome (W.taken output.old.writer.now) (W.taken output.new.writer.now)))) }
-    ensures read { result ≡ Err RunLiveFault.Read → R.failures source.old < R.failures source.new }
-    ensures write { result ≡ Err RunLiveFault.Write
-        → W.failures output.old.writer.now < W.failures output.new.writer.now }
+    ensures runs { RunsLive R.left R.failures W.taken W.failures chain.now known.now pool.now.workers source.old
+        source.new output.old.writer.now output.new.writer.now result }
 {
     let agenda = read_script(pool.alloc, pool.workers, source, output)?;
     let paced = Paced::new(pool.rt, pool.alloc, pool.gate, pool.workers, agenda.above())?;
@@ -88,26 +75,8 @@ pub fn run_live<Rt: Threads + Wait + Sync + RandomSource, G: Gate, R: Source, W:
     requires workers { (1 ≤ workers) × (workers ≤ 64) }
     requires reader { R.failures reader.old + 1 < 2 ^ 64 }
     requires writer { W.failures writer.old + 1 < 2 ^ 64 }
-
-    // The report is one as `live` promises for the whole script, and exactly its text was written.
-    ensures ok { IfOk result (λ report. IfSome (R.left reader.old)
-        (IsToldWhole chain.now known.now workers
-        (Appends (W.taken writer.old) (W.taken writer.new)) report)) }
-
-    // The script exceeds a limit.
-    ensures too_many { result ≡ Err RunLiveFault.TooManyLines → IfSome (R.left reader.old) HasMoreLines }
-    ensures too_long { result ≡ Err RunLiveFault.LineTooLong → IfSome (R.left reader.old) HasLongLine }
-
-    // Nothing is written before everything is answered.
-    ensures silent { IfErr result (λ fault. ComesFirst fault → W.taken writer.new ≡ W.taken writer.old) }
-
-    // At any fault nothing was written, or a prefix of the text of the whole script and a report on it.
-    ensures fault { OnErr result ((W.taken writer.new ≡ W.taken writer.old) ⊎ IfSome (R.left reader.old)
-        (IsToldInPart chain.now known.now workers (AppendsSome (W.taken writer.old) (W.taken writer.new)))) }
-
-    // A device failed in this call.
-    ensures read { result ≡ Err RunLiveFault.Read → R.failures reader.old < R.failures reader.new }
-    ensures write { result ≡ Err RunLiveFault.Write → W.failures writer.old < W.failures writer.new }
+    ensures runs { RunsLive R.left R.failures W.taken W.failures chain.now known.now workers reader.old reader.new
+        writer.old writer.new result }
 {
     let mut block = Vec::with_capacity(alloc, BLOCK)?;
     let mut output = Output::new(&mut block, writer);

@@ -150,8 +150,7 @@ fn tell_slots<W: Sink>(
     output: &mut Output<'_, W>,
 ) -> Result<(), SendFault>
     requires workers { 0 < workers }
-    requires few { length slots.now ≤ 10000000 }
-    requires there { AreThere workers report.now slots.now }
+    requires slots { (length slots.now ≤ 10000000) × AreThere workers report.now slots.now }
     requires writer { W.failures output.old.writer.now + 1 < 2 ^ 64 }
     ensures writer { output.new.writer.ghost_name ≡ output.old.writer.ghost_name }
     ensures told { OnOk result (Sends W.taken W.failures output.old output.new
@@ -183,8 +182,7 @@ pub(crate) fn tell<W: Sink>(
     output: &mut Output<'_, W>,
 ) -> Result<(), SendFault>
     requires workers { 0 < workers }
-    requires few { length slots.now ≤ 10000000 }
-    requires there { AreThere workers report.now slots.now }
+    requires slots { (length slots.now ≤ 10000000) × AreThere workers report.now slots.now }
     requires gathered { output.old.gathered.now.items ≡ [] }
     requires writer { W.failures output.old.writer.now + 1 < 2 ^ 64 }
     ensures writer { output.new.writer.ghost_name ≡ output.old.writer.ghost_name }

@@ -1,9 +1,9 @@
 //! The writer's side.
 
-ghost use Rattle.std.specs.Prelude.{◌≡◌, ◌+◌, ◌<◌, ◌≤◌, List, [], ◌∷◌, ◌++◌, length, All, IfOk, OnOk};
+ghost use Rattle.std.specs.Prelude.{◌≡◌, ◌+◌, ◌<◌, ◌≤◌, List, [], ◌∷◌, ◌++◌, length, IfOk, OnOk};
 ghost use Rattle.lgm_script.specs.declared.item.Item.{Item};
-ghost use Rattle.lgm_live.specs.Batches.{items_of, ends_of};
-ghost use Rattle.lgm_live.specs.inner.Written.{IsWritten};
+ghost use Rattle.lgm_live.specs.Batches.{items_of};
+ghost use Rattle.lgm_live.specs.inner.Written.{IsWritten, ArePublished};
 
 use crate::admitting::admit;
 use crate::batches::Batch;
@@ -80,8 +80,8 @@ impl Written {
         ensures written { (items : List Item) → IsWritten chain.now items self.old
             → OnOk result (IsWritten chain.now (items ++ item.now ∷ []) self.new) }
         ensures ends { self.new.ends ≡ self.old.ends }
-        ensures few { OnOk result (length self.new.ops.items ≤ length self.old.ops.items + 1) }
-        ensures grows { OnOk result (length self.old.ops.items ≤ length self.new.ops.items) }
+        ensures grows { OnOk result ((length self.old.ops.items ≤ length self.new.ops.items)
+            × (length self.new.ops.items ≤ length self.old.ops.items + 1)) }
         ensures board { pen.new.board ≡ pen.old.board }
         ensures published { pen.new.published ≡ pen.old.published }
         ensures appended { OnOk result (pen.new.published ++ pen.new.pending ≡ self.new.ops.items) }
@@ -125,17 +125,15 @@ impl Written {
         batch: &[Item],
     ) -> Result<(), LiveFault>
         requires few { length self.old.ops.items + length batch.now ≤ 2000000000 }
-        requires published { pen.old.published ≡ self.old.ops.items }
-        requires pending { pen.old.pending ≡ [] }
+        requires pen { (pen.old.published ≡ self.old.ops.items) × (pen.old.pending ≡ []) }
         ensures written { (items : List Item) → IsWritten chain.now items self.old
             → OnOk result (IsWritten chain.now (items ++ batch.now) self.new) }
         ensures ends { OnOk result
             (self.new.ends.items ≡ self.old.ends.items ++ length self.new.ops.items ∷ []) }
-        ensures few { OnOk result (length self.new.ops.items ≤ length self.old.ops.items + length batch.now) }
-        ensures grows { OnOk result (length self.old.ops.items ≤ length self.new.ops.items) }
+        ensures grows { OnOk result ((length self.old.ops.items ≤ length self.new.ops.items)
+            × (length self.new.ops.items ≤ length self.old.ops.items + length batch.now)) }
         ensures board { pen.new.board ≡ pen.old.board }
-        ensures published { OnOk result (pen.new.published ≡ self.new.ops.items) }
-        ensures pending { OnOk result (pen.new.pending ≡ []) }
+        ensures published { OnOk result ((pen.new.published ≡ self.new.ops.items) × (pen.new.pending ≡ [])) }
     {
         for item in batch {
             self.take_item(pool.alloc, chain, pen, item)?;
@@ -153,13 +151,9 @@ pub(crate) fn publish_batches<R: Wait + RandomSource, G: Gate>(
     batches: &[Batch],
 ) -> Result<Written, LiveFault>
     requires few { length (items_of batches.now) ≤ 2000000000 }
-    requires published { pen.old.published ≡ [] }
-    requires pending { pen.old.pending ≡ [] }
-    ensures written { IfOk result (IsWritten chain.now (items_of batches.now)) }
-    ensures ends { IfOk result (λ written. written.ends.items ≡ ends_of chain.now batches.now) }
-    ensures within { IfOk result (λ written. All (λ end. end ≤ length written.ops.items) written.ends.items) }
+    requires pen { (pen.old.published ≡ []) × (pen.old.pending ≡ []) }
     ensures board { pen.new.board ≡ pen.old.board }
-    ensures published { IfOk result (λ written. pen.new.published ≡ written.ops.items) }
+    ensures published { IfOk result (ArePublished chain.now batches.now pen.new.published) }
 {
     let mut written = Written::new(pool.alloc, Seed::random(pool.rt))?;
     for batch in batches {

@@ -1,6 +1,6 @@
 //! The lines of answers, each appended to a text completely or not at all.
 
-ghost use Rattle.std.specs.Prelude.{◌≡◌, ◌++◌, List, ℕ, codes, OnOk, OnErr};
+ghost use Rattle.std.specs.Prelude.{◌≡◌, ◌++◌, List, ℕ, codes, take, OnOk, OnErr};
 ghost use Rattle.std.specs.Fmt.{decimal};
 ghost use Rattle.hex.specs.Hex.{encode_lower};
 ghost use Rattle.lgm_script.specs.Text.{word_line, commit_line, lead, message_line};
@@ -120,6 +120,22 @@ fn push_hop(text: &mut Vec<u8>, number: u64, scid: Scid, payload: &[u8]) -> Resu
     Ok(())
 }
 
+/// Drops what was appended behind the first `length` bytes, if it couldn't be appended completely.
+fn keep_if_whole(
+    text: &mut Vec<u8>,
+    length: usize,
+    pushed: Result<(), AllocError>,
+) -> Result<(), AllocError>
+    ensures same { result ≡ pushed }
+    ensures ok { OnOk pushed (text.new.items ≡ text.old.items) }
+    ensures err { OnErr pushed (text.new.items ≡ take length text.old.items) }
+{
+    if pushed.is_err() {
+        text.truncate(length);
+    }
+    pushed
+}
+
 /// Appends the line of a word to the text. If memory runs out the text is unchanged.
 pub(crate) fn append_word(text: &mut Vec<u8>, number: u64, word: &str) -> Result<(), AllocError>
     ensures ok { OnOk result (text.new.items ≡ text.old.items ++ word_line number word.now) }
@@ -127,10 +143,7 @@ pub(crate) fn append_word(text: &mut Vec<u8>, number: u64, word: &str) -> Result
 {
     let length = text.len();
     let pushed = push_word(text, number, word);
-    if pushed.is_err() {
-        text.truncate(length);
-    }
-    pushed
+    keep_if_whole(text, length, pushed)
 }
 
 /// Appends the line of a commit to the text. If memory runs out the text is unchanged.
@@ -140,10 +153,7 @@ pub(crate) fn append_count(text: &mut Vec<u8>, number: u64, count: u64) -> Resul
 {
     let length = text.len();
     let pushed = push_count(text, number, count);
-    if pushed.is_err() {
-        text.truncate(length);
-    }
-    pushed
+    keep_if_whole(text, length, pushed)
 }
 
 /// Appends the line of a message to the text. If memory runs out the text is unchanged.
@@ -158,10 +168,7 @@ pub(crate) fn append_message(
 {
     let length = text.len();
     let pushed = push_message(text, number, peer, message);
-    if pushed.is_err() {
-        text.truncate(length);
-    }
-    pushed
+    keep_if_whole(text, length, pushed)
 }
 
 /// Appends the line of a route to the text. If memory runs out the text is unchanged.
@@ -177,10 +184,7 @@ pub(crate) fn append_route(
 {
     let length = text.len();
     let pushed = push_route(text, number, sent, expiry, count);
-    if pushed.is_err() {
-        text.truncate(length);
-    }
-    pushed
+    keep_if_whole(text, length, pushed)
 }
 
 /// Appends the line of a hop to the text. If memory runs out the text is unchanged.
@@ -195,8 +199,5 @@ pub(crate) fn append_hop(
 {
     let length = text.len();
     let pushed = push_hop(text, number, scid, payload);
-    if pushed.is_err() {
-        text.truncate(length);
-    }
-    pushed
+    keep_if_whole(text, length, pushed)
 }

@@ -21,14 +21,11 @@ use Rattle.lgm_script.proofs.FirstLines.{each-push, first_line_alone}
 use Rattle.lgm_script.proofs.FirstWords.{request_is_lawful}
 use Rattle.lgm_script.proofs.Splitting.{next_of}
 use Rattle.lgm_script.proofs.Telling.{tells_nothing, tells_both, some_behind, some_of_all, some_of_part}
-use Rattle.lgm_server.specs.declared.running.Counts.{Counts}
-use Rattle.lgm_server.specs.declared.run_fault.RunFault.{RunFault}
-use Rattle.lgm_server.specs.declared.run_fault.RunFault.TheVariants.{LineTooLong}
 use Rattle.lgm_server.specs.Outcomes.{history_of}
 use Rattle.lgm_server.specs.Script.{requests_of, items_of, State, state_of, text_for, text_at, text_before}
 use Rattle.lgm_server.specs.inner.Steps.{opening, state_after, state_from, text_from}
 use Rattle.lgm_server.specs.inner.Progress.{AreNext, HaveAnswers, HaveBegun}
-use Rattle.lgm_server.specs.Running.{line_fault, IsTold, IsAnswered, IsTooMany, IsTooLong, AreRead, IsCutShort}
+use Rattle.lgm_server.specs.Running.{IsTold, IsAnswered, IsTooMany, IsTooLong, AreRead, IsCutShort}
 use Rattle.lgm_server.proofs.Stepping.{opening_is, state_after-request}
 
 -- k lines were read, this is left, and this is the state behind them
@@ -439,17 +436,3 @@ pub line_some : {T : Type 0} (fault : LineFault) (mid new : Told)
 line_some lines.Read mid new told part = some_of_all mid new [] (told (λ e. absurd cc))
 line_some lines.Write mid new told part = some_of_part mid new [] SendWrite (part refl)
 line_some lines.TooLong mid new told part = some_of_all mid new [] (told (λ e. absurd cc))
-
-too_long_of : (fault : LineFault) → line_fault fault ≡ LineTooLong → fault ≡ lines.TooLong
-too_long_of lines.Read e = absurd cc
-too_long_of lines.Write e = absurd cc
-too_long_of lines.TooLong e = refl
-
-abbrev ended : RunFault → Result Counts RunFault
-ended e = Err e
-
-ended_is : (a b : RunFault) → ended a ≡ ended b → a ≡ b
-ended_is a b e = cc
-
-pub too_long_only : (fault : LineFault) (e : RunFault) → e ≡ line_fault fault → ended e ≡ ended LineTooLong → fault ≡ lines.TooLong
-too_long_only fault e is same = too_long_of fault (sym is ∙ ended_is e LineTooLong same)

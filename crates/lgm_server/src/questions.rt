@@ -9,7 +9,7 @@ ghost use Rattle.lgm_script.specs.Output.{Sends, SendsPart};
 ghost use Rattle.lgm_script.specs.Request.{request_of};
 ghost use Rattle.lgm_script.specs.declared.request.Request.TheVariants.{Route as AsksRoute};
 ghost use Rattle.lgm_server.specs.Answer.{answer_text, filter_text, route_text};
-ghost use Rattle.lgm_server.specs.inner.Chart.{ShowsCommitted, IsBeside};
+ghost use Rattle.lgm_server.specs.inner.Chart.{ShowsCommitted, IsBeside, IsViewOf};
 ghost use Rattle.lgm_server.specs.Filtering.{filter_read};
 ghost use Rattle.lgm_server.specs.Routing.{asked_route, route_answer};
 ghost use Rattle.lgm_server.specs.inner.Steps.{filters_with};
@@ -25,12 +25,25 @@ use crate::filters::{Filters, PeerFilter};
 use crate::query_answering::answer_query;
 use crate::routing::{answer_found, asked_route};
 use lgm_gossip::ChainHash;
+use lgm_graph::View;
 use lgm_par::{Gate, Pool};
 use lgm_route::{Request as RouteRequest, Route, RouteFault, answer, answer_chunked};
 use lgm_script::{Output, Payment, Request, SendFault, Sink, parse};
 use lgm_store::Map;
 use std::alloc::{AllocError, Global};
 use std::thread::Threads;
+
+/// The view of the committed map.
+fn view_of<'a>(committed: &Map, chart: &'a Chart) -> &'a View
+    requires shows { ShowsCommitted committed.now chart.now }
+    requires beside { IsBeside chart.now.kept }
+    ensures { IsViewOf chart.now.known committed.now result.now }
+{
+    let Kept::Beside(view) = &chart.kept else {
+        unreachable!();
+    };
+    view
+}
 
 /// The best route in the view of the committed map.
 fn find(
@@ -44,10 +57,7 @@ fn find(
     ensures { (result ≡ Err RouteFault.NoMemory) ⊎
         (result ≡ answer_of (edges_of chart.now.known committed.now) request.now) }
 {
-    let Kept::Beside(view) = &chart.kept else {
-        unreachable!();
-    };
-    answer(alloc, committed, view, request)
+    answer(alloc, committed, view_of(committed, chart), request)
 }
 
 /// The same, found by several workers.
@@ -62,10 +72,7 @@ pub fn find_chunked<Rt: Threads + Sync, G: Gate>(
     ensures { (result ≡ Err RouteFault.NoMemory) ⊎
         (result ≡ answer_of (edges_of chart.now.known committed.now) request.now) }
 {
-    let Kept::Beside(view) = &chart.kept else {
-        unreachable!();
-    };
-    answer_chunked(pool, committed, view, request)
+    answer_chunked(pool, committed, view_of(committed, chart), request)
 }
 
 /// The answer to a payment.

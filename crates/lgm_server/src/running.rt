@@ -1,11 +1,10 @@
 //! Running a whole script.
 
-ghost use Rattle.std.specs.Prelude.{◌≡◌, ◌≢◌, ◌+◌, ◌<◌, ◌≤◌, ◌^◌, [], length, IfSome, IfOk, IfErr};
-ghost use Rattle.lgm_script.specs.Output.{Sends, SendsPart, SendsSome};
+ghost use Rattle.std.specs.Prelude.{◌≡◌, ◌≢◌, ◌+◌, ◌<◌, ◌≤◌, ◌^◌, [], length, IfOk, IfErr};
+ghost use Rattle.lgm_script.specs.Output.{Sends, SendsPart};
 ghost use Rattle.lgm_server.specs.inner.Steps.{opening};
-ghost use Rattle.lgm_server.specs.inner.Progress.{HaveAnswers, HaveBegun};
-ghost use Rattle.lgm_server.specs.Running.{IsAnswered, IsTooMany, IsTooLong, IsCutShort};
-ghost use Rattle.lgm_server.specs.Runs.{Runs, AnswersAll, StopsAtLimit, StopsAtLongLine, StopsShort};
+ghost use Rattle.lgm_server.specs.inner.Progress.{HaveAnswers, HaveBegun, HasAnswered};
+ghost use Rattle.lgm_server.specs.Runs.{Runs};
 ghost use Rattle.lgm_server.specs.inner.Ending.{IsEnded};
 
 use crate::answering::answer;
@@ -57,9 +56,8 @@ fn answer_next<Rt: Threads + Sync, G: Gate, W: Sink>(
     output: &mut Output<'_, W>,
 ) -> Result<(u64, usize), SendFault>
     requires line { (first ≤ length lines.now) × (first ≤ MAX_LINE) }
-    requires most { (0 < most) × (most ≤ 10000000) }
+    requires most { (0 < most) × (engine.old.accepted + most ≤ 10000000) }
     requires number { number ≤ 10000000 }
-    requires few { engine.old.accepted + most ≤ 10000000 }
     requires writer { W.failures output.old.writer.now + 1 < 2 ^ 64 }
     ensures writer { output.new.writer.ghost_name ≡ output.old.writer.ghost_name }
     ensures answered { IfOk result
@@ -88,21 +86,8 @@ fn answer_lines<Rt: Threads + Sync, G: Gate, R: Source, W: Sink>(
     requires source { R.failures source.old + 1 < 2 ^ 64 }
     requires writer { W.failures output.old.writer.now + 1 < 2 ^ 64 }
     ensures writer { output.new.writer.ghost_name ≡ output.old.writer.ghost_name }
-    ensures ok { IfOk result (λ counts. IfSome (R.left source.old)
-        (IsAnswered context.now.chain engine.old.known
-        (Sends W.taken W.failures output.old output.new) counts)) }
-    ensures too_many { result ≡ Err RunFault.TooManyLines → IfSome (R.left source.old)
-        (IsTooMany context.now.chain engine.old.known (Sends W.taken W.failures output.old output.new)) }
-    ensures too_long { result ≡ Err RunFault.LineTooLong → IfSome (R.left source.old)
-        (IsTooLong context.now.chain engine.old.known (Sends W.taken W.failures output.old output.new)) }
-    ensures some { IfSome (R.left source.old)
-        (IsCutShort context.now.chain engine.old.known (SendsSome W.taken W.failures output.old output.new)
-        (R.left source.new)) }
-    ensures read { result ≡ Err RunFault.Read → R.failures source.old < R.failures source.new }
-    ensures write { result ≡ Err RunFault.Write
-        → W.failures output.old.writer.now < W.failures output.new.writer.now }
-    ensures well { result ≢ Err RunFault.Write
-        → W.failures output.new.writer.now ≡ W.failures output.old.writer.now }
+    ensures ended { HasAnswered R.left R.failures W.taken W.failures context.now.chain engine.old.known source.old
+        source.new output.old output.new result }
 {
     let mut number = 0;
     while number < MAX_LINES {
@@ -193,24 +178,8 @@ pub fn run<Rt: Threads + Sync + RandomSource, G: Gate, R: Source, W: Sink>(
     requires workers { (1 ≤ workers) × (workers ≤ 64) }
     requires reader { R.failures reader.old + 1 < 2 ^ 64 }
     requires writer { W.failures writer.old + 1 < 2 ^ 64 }
-
-    // Each line was answered, and nothing else was written.
-    ensures ok { AnswersAll chain.now known.now (R.left reader.old) (W.taken writer.old)
-        (W.taken writer.new) result }
-
-    // The lines before were answered.
-    ensures too_many { StopsAtLimit chain.now known.now (R.left reader.old) (W.taken writer.old)
-        (W.taken writer.new) result }
-    ensures too_long { StopsAtLongLine chain.now known.now (R.left reader.old) (W.taken writer.old)
-        (W.taken writer.new) result }
-
-    // At any fault a prefix of the text of lines that were read, all within the limits, was written, and nothing else.
-    ensures fault { StopsShort chain.now known.now (R.left reader.old) (W.taken writer.old)
-        (W.taken writer.new) result (R.left reader.new) }
-
-    // A device failed in this call.
-    ensures read { result ≡ Err RunFault.Read → R.failures reader.old < R.failures reader.new }
-    ensures write { result ≡ Err RunFault.Write → W.failures writer.old < W.failures writer.new }
+    ensures runs { Runs R.left R.failures W.taken W.failures chain.now known.now reader.old reader.new writer.old
+        writer.new result }
 {
     let context = Context {
         pool: Pool {

@@ -1,10 +1,16 @@
 -- How a group of lines advances a script.
-use Rattle.std.specs.Prelude.{◌≡◌, ℕ, ◌<◌, ◌≤◌, List, length, map, drop, Option}
+use Rattle.std.specs.Prelude.{◌≡◌, ◌≢◌, ℕ, ◌<◌, ◌≤◌, List, length, map, drop, Option, Result, Err, IfOk, IfSome}
 use Rattle.std.specs.List.{AllByRecursion}
 use Rattle.lgm_wire.specs.declared.chain_hash.ChainHash.{ChainHash}
 use Rattle.lgm_script.specs.Lines.{IsFirstLine}
 use Rattle.lgm_script.specs.Groups.{AreFirstLines}
 use Rattle.lgm_script.specs.Request.{request_of}
+use Rattle.lgm_script.specs.Output.{Sends, SendsSome}
+use Rattle.lgm_script.specs.declared.output.Output.{Output}
+use Rattle.lgm_server.specs.declared.run_fault.RunFault.{RunFault}
+use Rattle.lgm_server.specs.declared.run_fault.RunFault.TheVariants as faults
+use Rattle.lgm_server.specs.declared.running.Counts.{Counts}
+use Rattle.lgm_server.specs.Running.{IsAnswered, IsTooMany, IsTooLong, IsCutShort}
 use Rattle.lgm_server.specs.Script.{State}
 use Rattle.lgm_server.specs.inner.Steps.{state_from, text_from}
 
@@ -33,3 +39,20 @@ pub record HaveBegun (chain : ChainHash) (number most : ℕ) (state : State) (bu
   pub next : AreNext buffered first len lines
   pub limit : length lines ≤ most
   pub text : told_part (text_from chain number state (map request_of lines))
+
+-- how answering the lines of a script ends: all are answered, or it exceeds a limit, or a device failed. Some of the
+-- text may still be buffered
+pub record HasAnswered {R W : Type 0} (left : R → Option (List ℕ)) (read_failures : R → ℕ)
+    (taken : W → Option (List ℕ)) (write_failures : W → ℕ) (chain : ChainHash) (known : Option (List ℕ))
+    (source source' : R) (output output' : Output W) (result : Result Counts RunFault) : Type 0 where
+  pub ok : IfOk result (λ counts.
+      IfSome (left source) (IsAnswered chain known (Sends taken write_failures output output') counts))
+  pub too_many : result ≡ Err faults.TooManyLines
+      → IfSome (left source) (IsTooMany chain known (Sends taken write_failures output output'))
+  pub too_long : result ≡ Err faults.LineTooLong
+      → IfSome (left source) (IsTooLong chain known (Sends taken write_failures output output'))
+  pub some : IfSome (left source) (IsCutShort chain known (SendsSome taken write_failures output output')
+      (left source'))
+  pub read : result ≡ Err faults.Read → read_failures source < read_failures source'
+  pub write : result ≡ Err faults.Write → write_failures output.writer.now < write_failures output'.writer.now
+  pub well : result ≢ Err faults.Write → write_failures output'.writer.now ≡ write_failures output.writer.now

@@ -1,47 +1,61 @@
-use Rattle.std.proofs.Common.{ℕ, Bool, Option, [], ◌∷◌, ◌++◌, length, take, sym, ap, subst, ◌∙◌, length-append, arith, rules}
+use Rattle.std.proofs.Common.{ℕ, Bool, Option, Ok, Err, [], ◌∷◌, ◌++◌, length, take, sym, ap, subst, ◌∙◌, length-append, arith, rules}
 use Rattle.std.proofs.lemmas.List.{length-take}
 use Rattle.std.proofs.lemmas.Result.{err_from_is_err_and}
 use Rattle.lgm_script.specs.Lines.{ahead}
 use Rattle.lgm_script.specs.Output.{seen, Tells}
 use Rattle.lgm_script.specs.Request.{request_of}
+use Rattle.lgm_live.specs.declared.run_live_fault.RunLiveFault.TheVariants.{NoMemory, TooManyLines}
 use Rattle.lgm_live.specs.inner.Gathered.{with_line}
+use Rattle.lgm_live.specs.inner.Reading.{IsNoted}
 use Rattle.lgm_live.proofs.Noting.{with_lines-push, workers_are, payments_few}
-use Rattle.lgm_live.proofs.WholeLines.{SoFar, step, ends, many, long, silent, silent_fault, failed, too_long_only}
+use Rattle.lgm_live.proofs.WholeLines.{SoFar, step, ends, many, long, silent, failed}
+use Rattle.lgm_live.proofs.Readings.{line_failed, line_read}
 use Rattle.lgm_live.proofs.reading.read_lines.Goals as goal
 
-pub returns-in_err-count-clause-too_long : goal.returns-in_err-count-clause-too_long
-returns-in_err-count-clause-too_long g c = λ e.
+pub returns-in_err-count-clause-read : goal.returns-in_err-count-clause-read
+returns-in_err-count-clause-read g c =
     let p = err_from_is_err_and c.from_residual.result c.from_residual.ensures.1 in
     let inv = c.loop-number.invariant in
     let script = g.R.Source.left c.args.source.now in
+    let line = c.in_err-count.ensures in
     let input = ahead c.loop-number.lines (g.R.Source.left c.loop-number.source) in
-    let is = too_long_only c.in_err-count.field-0.0 p.0 p.2 (sym p.1 ∙ e) in
-    long script inv.asked input (ahead c.next_line.new.lines (g.R.Source.left c.next_line.new.source)) inv.so_far c.in_err-count.ensures.kept
-    (omega (arith, inv.count, c.loop-number-test.true)) (c.in_err-count.ensures.too_long (ap (failed {T = Option ℕ}) is))
+    rw (p.1, p.2) (line_failed g.R.Source.left g.R.Source.failures g.W.Sink.taken g.W.Sink.failures
+    c.args.source.now c.loop-number.source c.next_line.new.source c.args.output.now c.loop-number.output
+    c.next_line.new.output (λ _. IsNoted script c.args.agenda.now c.loop-number.agenda) inv.source inv.writer
+    inv.silent inv.gathered {T = Option ℕ} c.in_err-count.field-0.0 line.told line.write line.read
+    (λ is. long script inv.asked input (ahead c.next_line.new.lines (g.R.Source.left c.next_line.new.source)) inv.so_far
+    line.kept (omega (arith, inv.count, c.loop-number-test.true)) (line.too_long (ap (failed {T = Option ℕ}) is))))
 
-pub returns-in_err-count-clause-gathered : goal.returns-in_err-count-clause-gathered
-returns-in_err-count-clause-gathered g c =
-    let mid = seen g.W.Sink.taken g.W.Sink.failures c.loop-number.output in
-    let new = seen g.W.Sink.taken g.W.Sink.failures c.next_line.new.output in
-    let quiet =
-    silent_fault {T = Option ℕ} c.in_err-count.field-0.0 mid new c.loop-number.invariant.gathered
-    c.in_err-count.ensures.told c.in_err-count.ensures.write in
-    quiet.clear
-
-pub returns-in_default-clause-ok : goal.returns-in_default-clause-ok
-returns-in_default-clause-ok g c =
+pub returns-in_default-clause-read : goal.returns-in_default-clause-read
+returns-in_default-clause-read g c =
     let inv = c.loop-number.invariant in
     let script = g.R.Source.left c.args.source.now in
+    let line = c.in_ok-count.ensures in
     let input = ahead c.loop-number.lines (g.R.Source.left c.loop-number.source) in
-    record {
+    line_read g.R.Source.left g.R.Source.failures g.W.Sink.taken g.W.Sink.failures c.args.source.now
+    c.loop-number.source c.next_line.new.source c.args.output.now c.loop-number.output
+    c.next_line.new.output (λ _. IsNoted script c.args.agenda.now c.loop-number.agenda) inv.source inv.writer
+    inv.silent inv.gathered (Ok tt) (line.told (λ e. absurd cc))
+    (record {
       asked = inv.asked;
       few = omega (arith, inv.count, inv.within);
       noted = inv.noted;
       whole =
           ends script inv.asked input (ahead c.next_line.new.lines (g.R.Source.left c.next_line.new.source))
-          inv.so_far c.in_ok-count.ensures.kept (c.in_ok-count.ensures.end (search rules))
-          (omega (arith, inv.count, inv.within));
-    }
+          inv.so_far line.kept (line.end (search rules)) (omega (arith, inv.count, inv.within));
+    })
+    (λ e. absurd cc) (λ e. absurd cc) (λ e. absurd cc) (λ e. absurd cc)
+
+pub returns-in_err-note_line-clause-read : goal.returns-in_err-note_line-clause-read
+returns-in_err-note_line-clause-read g c =
+    let p = err_from_is_err_and c.from_residual-in_err-note_line.result c.from_residual-in_err-note_line.ensures.1 in
+    let inv = c.loop-number.invariant in
+    rw (p.1, p.2) (line_read g.R.Source.left g.R.Source.failures g.W.Sink.taken g.W.Sink.failures
+    c.args.source.now c.loop-number.source c.next_line.new.source c.args.output.now c.loop-number.output
+    c.next_line.new.output
+    (λ _. IsNoted (g.R.Source.left c.args.source.now) c.args.agenda.now c.note_line.new.agenda) inv.source
+    inv.writer inv.silent inv.gathered (Err NoMemory) (c.in_ok-count.ensures.told (λ e. absurd cc)) tt (λ e. absurd cc)
+    (λ e. absurd cc) (λ e. absurd cc) (λ e. absurd cc))
 
 pub note_line-requires-clause-some : goal.note_line-requires-clause-some
 note_line-requires-clause-some g c =
@@ -92,36 +106,49 @@ loop-number-preserved g c =
           (omega (arith, small, length-take count buffered)));
     }
 
-pub returns-in_err-more_begins-clause-gathered : goal.returns-in_err-more_begins-clause-gathered
-returns-in_err-more_begins-clause-gathered g c =
-    let mid = seen g.W.Sink.taken g.W.Sink.failures c.loop-number.output in
-    let new = seen g.W.Sink.taken g.W.Sink.failures c.more_begins.new.output in
-    let quiet =
-    silent_fault {T = Bool} c.in_err-more_begins.field-0.0 mid new c.loop-number.invariant.gathered
-    c.in_err-more_begins.ensures.told c.in_err-more_begins.ensures.write in
-    quiet.clear
+pub returns-in_err-more_begins-clause-read : goal.returns-in_err-more_begins-clause-read
+returns-in_err-more_begins-clause-read g c =
+    let p = err_from_is_err_and c.from_residual-in_err-more_begins.result c.from_residual-in_err-more_begins.ensures.1 in
+    let inv = c.loop-number.invariant in
+    let more = c.in_err-more_begins.ensures in
+    rw (p.1, p.2) (line_failed g.R.Source.left g.R.Source.failures g.W.Sink.taken g.W.Sink.failures
+    c.args.source.now c.loop-number.source c.more_begins.new.source c.args.output.now c.loop-number.output
+    c.more_begins.new.output
+    (λ _. IsNoted (g.R.Source.left c.args.source.now) c.args.agenda.now c.loop-number.agenda) inv.source
+    inv.writer inv.silent inv.gathered {T = Bool} c.in_err-more_begins.field-0.0 more.told more.write more.read
+    (λ is. absurd (more.short (ap (failed {T = Bool}) is))))
 
-pub returns-then-branch-clause-too_many : goal.returns-then-branch-clause-too_many
-returns-then-branch-clause-too_many g c = λ _.
+pub returns-then-branch-clause-read : goal.returns-then-branch-clause-read
+returns-then-branch-clause-read g c =
     let inv = c.loop-number.invariant in
     let script = g.R.Source.left c.args.source.now in
+    let more = c.in_ok-more_begins.ensures in
     let input = ahead c.loop-number.lines (g.R.Source.left c.loop-number.source) in
-    many script inv.asked c.more_begins.new.lines (g.R.Source.left c.more_begins.new.source) input inv.so_far
-    c.in_ok-more_begins.ensures.kept (c.in_ok-more_begins.ensures.more (search rules))
-    (omega (arith, inv.count, inv.within, c.loop-number-test.false))
+    line_read g.R.Source.left g.R.Source.failures g.W.Sink.taken g.W.Sink.failures c.args.source.now
+    c.loop-number.source c.more_begins.new.source c.args.output.now c.loop-number.output
+    c.more_begins.new.output (λ _. IsNoted script c.args.agenda.now c.loop-number.agenda) inv.source inv.writer
+    inv.silent inv.gathered (Err TooManyLines) (more.told (λ e. absurd cc)) tt
+    (λ _. many script inv.asked c.more_begins.new.lines (g.R.Source.left c.more_begins.new.source) input
+    inv.so_far more.kept (more.more (search rules)) (omega (arith, inv.count, inv.within, c.loop-number-test.false)))
+    (λ e. absurd cc) (λ e. absurd cc) (λ e. absurd cc)
 
-pub returns-clause-ok : goal.returns-clause-ok
-returns-clause-ok g c =
+pub returns-clause-read : goal.returns-clause-read
+returns-clause-read g c =
     let inv = c.loop-number.invariant in
     let script = g.R.Source.left c.args.source.now in
+    let more = c.in_ok-more_begins.ensures in
     let input = ahead c.loop-number.lines (g.R.Source.left c.loop-number.source) in
-    record {
+    line_read g.R.Source.left g.R.Source.failures g.W.Sink.taken g.W.Sink.failures c.args.source.now
+    c.loop-number.source c.more_begins.new.source c.args.output.now c.loop-number.output
+    c.more_begins.new.output (λ _. IsNoted script c.args.agenda.now c.loop-number.agenda) inv.source inv.writer
+    inv.silent inv.gathered (Ok tt) (more.told (λ e. absurd cc))
+    (record {
       asked = inv.asked;
       few = omega (arith, inv.count, inv.within);
       noted = inv.noted;
       whole =
           ends script inv.asked input
-          (ahead c.more_begins.new.lines (g.R.Source.left c.more_begins.new.source)) inv.so_far
-          c.in_ok-more_begins.ensures.kept (c.in_ok-more_begins.ensures.end (search rules))
-          (omega (arith, inv.count, inv.within));
-    }
+          (ahead c.more_begins.new.lines (g.R.Source.left c.more_begins.new.source)) inv.so_far more.kept
+          (more.end (search rules)) (omega (arith, inv.count, inv.within));
+    })
+    (λ e. absurd cc) (λ e. absurd cc) (λ e. absurd cc) (λ e. absurd cc)

@@ -4,16 +4,26 @@ use Rattle.lgm_live.specs.inner.Reading.{with_lines}
 use Rattle.lgm_live.proofs.Noting.{agenda_is}
 use Rattle.lgm_live.proofs.reading.read_script.Goals as goal
 
-pub returns-clause-ok : goal.returns-clause-ok
-returns-clause-ok g c =
-    let noted = c.in_ok-read_lines.ensures.ok in
+pub returns-clause-read : goal.returns-clause-read
+returns-clause-read g c =
+    let read = c.in_ok-read_lines.ensures.read in
+    let noted = read.ok in
     let all = noted.noted ∙ ap (λ (agenda : Gathered). with_lines agenda noted.asked) c.in_ok-agenda.ensures in
     record {
-      asked = noted.asked;
-      few = noted.few;
-      is_agenda =
-          agenda_is c.args.workers noted.asked c.end_batch.new.self
-          (c.in_ok-end_batch.ensures ∙ ap (λ (agenda : Gathered).
-          record agenda { batches = agenda.batches ++ agenda.batch ∷ []; batch = [] }) all);
-      whole = noted.whole;
+      ok = record {
+        asked = noted.asked;
+        few = noted.few;
+        is_agenda =
+            agenda_is c.args.workers noted.asked c.end_batch.new.self
+            (c.in_ok-end_batch.ensures ∙ ap (λ (agenda : Gathered).
+            record agenda { batches = agenda.batches ++ agenda.batch ∷ []; batch = [] }) all);
+        whole = noted.whole;
+      };
+      too_many = λ is. absurd cc;
+      too_long = λ is. absurd cc;
+      silent = read.silent;
+      gathered = read.gathered;
+      read = λ is. absurd cc;
+      write = λ is. absurd cc;
+      well = λ _. read.well (λ e. absurd cc);
     }

@@ -1,71 +1,103 @@
-use Rattle.std.proofs.Common.{inr, length, ap, ◌∙◌, arith}
+use Rattle.std.proofs.Common.{length, ap, ◌∙◌, arith}
+use Rattle.std.proofs.lemmas.List.{length-map}
 use Rattle.std.proofs.lemmas.List.FromFn.{length-map-range_with_len}
 use Rattle.std.proofs.lemmas.Result.{err_from_is_err_and}
 use Rattle.lgm_live.specs.Agenda.{payments_of, list_for}
 use Rattle.lgm_live.specs.Batches.{items_of}
-use Rattle.lgm_live.specs.Running.{IsReport}
+use Rattle.lgm_live.specs.inner.Gathered.{slot_of}
+use Rattle.lgm_live.proofs.Ends.{no_memory, not_answered, not_written, not_read}
 use Rattle.lgm_live.proofs.Runs.{on_agenda, there, whole, in_part}
 use Rattle.lgm_live.proofs.Scripts.{items_few}
 use Rattle.lgm_live.proofs.running.run_all.Goals as goal
 
+pub returns-in_err-agenda-clause-runs : goal.returns-in_err-agenda-clause-runs
+returns-in_err-agenda-clause-runs g c =
+    let p = err_from_is_err_and c.from_residual.result c.from_residual.ensures.1 in
+    rw (p.1, p.2) (not_read g.R.Source.left g.R.Source.failures g.W.Sink.taken g.W.Sink.failures
+    c.args.chain.now c.args.known.now c.args.pool.now.workers c.args.source.now c.read_script.new.source
+    c.args.output.now c.read_script.new.output c.in_err-agenda.field-0.0 c.in_err-agenda.ensures.read)
+
+pub returns-in_err-paced-clause-runs : goal.returns-in_err-paced-clause-runs
+returns-in_err-paced-clause-runs g c =
+    let p = err_from_is_err_and c.from_residual-in_err-paced.result c.from_residual-in_err-paced.ensures.1 in
+    rw (p.1, p.2) (no_memory g.R.Source.left g.R.Source.failures g.W.Sink.taken g.W.Sink.failures
+    c.args.chain.now c.args.known.now c.args.pool.now.workers c.args.source.now c.read_script.new.source
+    c.args.output.now.writer.now c.read_script.new.output.writer.now c.in_ok-agenda.ensures.read.silent)
+
 pub live-requires-clause-items : goal.live-requires-clause-items
 live-requires-clause-items g c =
-    let read = c.in_ok-agenda.ensures.ok in
+    let read = c.in_ok-agenda.ensures.read.ok in
     omega (arith, items_few read.asked, read.few, ap (λ batches. length (items_of batches)) (c.batches.ensures ∙ read.is_agenda.batches))
 
-pub live-requires-clause-few : goal.live-requires-clause-few
-live-requires-clause-few g c =
-    let read = c.in_ok-agenda.ensures.ok in
-    omega (
-      arith,
-      c.args.pool.now.few,
-      length-map-range_with_len (list_for c.args.pool.now.workers (payments_of read.asked)) 0
-          c.args.pool.now.workers,
-      ap length (c.lists.ensures ∙ read.is_agenda.lists),
+pub live-requires-clause-workers : goal.live-requires-clause-workers
+live-requires-clause-workers g c _ _ =
+    let read = c.in_ok-agenda.ensures.read.ok in
+    let workers = c.args.pool.now.workers in
+    let many = length-map-range_with_len (list_for workers (payments_of read.asked)) 0 workers in
+    let lists = ap length (c.lists.ensures ∙ read.is_agenda.lists) in
+    (omega (arith, c.args.pool.now.some, many, lists), omega (arith, c.args.pool.now.few, many, lists))
+
+pub returns-in_err-report-clause-runs : goal.returns-in_err-report-clause-runs
+returns-in_err-report-clause-runs g c =
+    let p = err_from_is_err_and c.from_residual-in_err-report.result c.from_residual-in_err-report.ensures.1 in
+    rw (p.1, p.2) (not_answered g.R.Source.left g.R.Source.failures g.W.Sink.taken g.W.Sink.failures
+    c.args.chain.now c.args.known.now c.args.pool.now.workers c.args.source.now c.read_script.new.source
+    c.args.output.now.writer.now c.read_script.new.output.writer.now c.in_err-report.field-0.0
+    c.in_ok-agenda.ensures.read.silent)
+
+pub tell-requires-clause-slots : goal.tell-requires-clause-slots
+tell-requires-clause-slots g c =
+    let read = c.in_ok-agenda.ensures.read.ok in
+    let report = c.in_ok-report.report in
+    let slots = c.slots.ensures ∙ read.is_agenda.slots in
+    let is =
+    on_agenda c.args.chain.now c.args.known.now c.args.pool.now.workers read.asked c.in_ok-agenda.agenda
+    c.batches.result.now c.lists.result.now report read.is_agenda c.batches.ensures
+    c.lists.ensures c.in_ok-report.ensures.report in (
+      omega (arith, read.few, ap length slots, length-map read.asked slot_of),
+      there c.args.chain.now c.args.known.now c.args.pool.now.workers read.asked report c.slots.result.now
+          c.args.pool.now.some is slots,
     )
 
-pub tell-requires-clause-there : goal.tell-requires-clause-there
-tell-requires-clause-there g c =
-    let read = c.in_ok-agenda.ensures.ok in
-    let done = c.in_ok-report.ensures in
-    let report = c.in_ok-report.report in
-    let reported : IsReport c.args.chain.now c.args.known.now c.batches.result.now c.lists.result.now report =
-    record { outcomes = done.outcomes; ops = done.ops; ends = done.ends; answers = done.answers; at_ends = done.at_ends; rising = done.rising } in
-    let is =
-    on_agenda c.args.chain.now c.args.known.now c.args.pool.now.workers read.asked c.in_ok-agenda.agenda
-    c.batches.result.now c.lists.result.now report read.is_agenda c.batches.ensures
-    c.lists.ensures reported in
-    there c.args.chain.now c.args.known.now c.args.pool.now.workers read.asked report c.slots.result.now
-    c.args.pool.now.some is (c.slots.ensures ∙ read.is_agenda.slots)
-
-pub returns-in_err-tell-clause-fault : goal.returns-in_err-tell-clause-fault
-returns-in_err-tell-clause-fault g c =
+pub returns-in_err-tell-clause-runs : goal.returns-in_err-tell-clause-runs
+returns-in_err-tell-clause-runs g c =
     let p = err_from_is_err_and c.from_residual-in_err-tell.result c.from_residual-in_err-tell.ensures.1 in
-    let read = c.in_ok-agenda.ensures.ok in
-    let done = c.in_ok-report.ensures in
+    let reads = c.in_ok-agenda.ensures.read in
+    let read = reads.ok in
     let report = c.in_ok-report.report in
-    let reported : IsReport c.args.chain.now c.args.known.now c.batches.result.now c.lists.result.now report =
-    record { outcomes = done.outcomes; ops = done.ops; ends = done.ends; answers = done.answers; at_ends = done.at_ends; rising = done.rising } in
     let is =
     on_agenda c.args.chain.now c.args.known.now c.args.pool.now.workers read.asked c.in_ok-agenda.agenda
     c.batches.result.now c.lists.result.now report read.is_agenda c.batches.ensures
-    c.lists.ensures reported in
-    rw p.1 (inr (in_part c.args.chain.now c.args.known.now c.args.pool.now.workers
-    (g.R.Source.left c.args.source.now) read.asked report c.slots.result.now
-    (g.W.Sink.taken c.args.output.now.writer.now) (g.W.Sink.taken c.read_script.new.output.writer.now) (g.W.Sink.taken c.tell.new.output.writer.now)
-    c.args.pool.now.some read.whole is (c.slots.ensures ∙ read.is_agenda.slots) c.in_ok-agenda.ensures.silent c.in_err-tell.ensures.part))
+    c.lists.ensures c.in_ok-report.ensures.report in
+    let part =
+    in_part c.args.chain.now c.args.known.now c.args.pool.now.workers (g.R.Source.left c.args.source.now)
+    read.asked report c.slots.result.now (g.W.Sink.taken c.args.output.now.writer.now)
+    (g.W.Sink.taken c.read_script.new.output.writer.now) (g.W.Sink.taken c.tell.new.output.writer.now)
+    c.args.pool.now.some read.whole is (c.slots.ensures ∙ read.is_agenda.slots) reads.silent c.in_err-tell.ensures.part in
+    rw (p.1, p.2) (not_written g.R.Source.left g.R.Source.failures g.W.Sink.taken g.W.Sink.failures
+    c.args.chain.now c.args.known.now c.args.pool.now.workers c.args.source.now c.read_script.new.source
+    c.args.output.now.writer.now c.tell.new.output.writer.now c.in_err-tell.field-0.0 part
+    (λ is. omega (arith, c.in_err-tell.ensures.write is, reads.well (λ e. absurd cc))))
 
-pub returns-clause-ok : goal.returns-clause-ok
-returns-clause-ok g c =
-    let read = c.in_ok-agenda.ensures.ok in
-    let done = c.in_ok-report.ensures in
+pub returns-clause-runs : goal.returns-clause-runs
+returns-clause-runs g c =
+    let reads = c.in_ok-agenda.ensures.read in
+    let read = reads.ok in
     let report = c.in_ok-report.report in
-    let reported : IsReport c.args.chain.now c.args.known.now c.batches.result.now c.lists.result.now report =
-    record { outcomes = done.outcomes; ops = done.ops; ends = done.ends; answers = done.answers; at_ends = done.at_ends; rising = done.rising } in
     let is =
     on_agenda c.args.chain.now c.args.known.now c.args.pool.now.workers read.asked c.in_ok-agenda.agenda
     c.batches.result.now c.lists.result.now report read.is_agenda c.batches.ensures
-    c.lists.ensures reported in
-    whole c.args.chain.now c.args.known.now c.args.pool.now.workers (g.R.Source.left c.args.source.now) read.asked report c.slots.result.now
-    (g.W.Sink.taken c.args.output.now.writer.now) (g.W.Sink.taken c.read_script.new.output.writer.now) (g.W.Sink.taken c.tell.new.output.writer.now)
-    c.args.pool.now.some read.whole is (c.slots.ensures ∙ read.is_agenda.slots) c.in_ok-agenda.ensures.silent c.in_ok-tell.ensures.told
+    c.lists.ensures c.in_ok-report.ensures.report in
+    record {
+      ok =
+          whole c.args.chain.now c.args.known.now c.args.pool.now.workers (g.R.Source.left c.args.source.now)
+          read.asked report c.slots.result.now (g.W.Sink.taken c.args.output.now.writer.now)
+          (g.W.Sink.taken c.read_script.new.output.writer.now) (g.W.Sink.taken c.tell.new.output.writer.now)
+          c.args.pool.now.some read.whole is (c.slots.ensures ∙ read.is_agenda.slots) reads.silent c.in_ok-tell.ensures.told;
+      too_many = λ is. absurd cc;
+      too_long = λ is. absurd cc;
+      silent = tt;
+      fault = tt;
+      read = λ is. absurd cc;
+      write = λ is. absurd cc;
+    }

@@ -17,8 +17,8 @@ loop-batch-init g c =
       within = subst (All (λ end. end ≤ length c.in_ok-written.written.ops.items)) (sym made.ends) (λ k d below. absurd (omega (arith, below)));
       few = omega (arith, ap length made.none);
       board = refl;
-      published = c.requires.published ∙ sym made.none;
-      pending = c.requires.pending;
+      published = c.requires.pen.0 ∙ sym made.none;
+      pending = c.requires.pen.1;
     }
 
 pub take_batch-requires-clause-few : goal.take_batch-requires-clause-few
@@ -55,11 +55,11 @@ loop-batch-preserved g c =
       within = subst (All (λ end. end ≤ length written.ops.items)) (sym after.ends)
           (All-push (λ end. end ≤ length written.ops.items) c.loop-batch.written.ends.items (length written.ops.items)
           (All-weaker (λ end. end ≤ length c.loop-batch.written.ops.items)
-          (λ end. end ≤ length written.ops.items) (λ end le. omega (arith, le, after.grows))
+          (λ end. end ≤ length written.ops.items) (λ end le. omega (arith, le, after.grows.0))
           c.loop-batch.written.ends.items before.within)
           (omega arith));
-      few = omega (arith, after.few, before.few, ap length more, length-append (items_of (take i batches)) c.as_slice.result.now);
+      few = omega (arith, after.grows.1, before.few, ap length more, length-append (items_of (take i batches)) c.as_slice.result.now);
       board = after.board ∙ before.board;
-      published = after.published;
-      pending = after.pending;
+      published = after.published.0;
+      pending = after.published.1;
     }

@@ -24,7 +24,7 @@ returns-clause-runs g c =
     let new = seen g.W.Sink.taken g.W.Sink.failures c.write_answers.new.output in
     let answered = c.answer_lines-answered.result in
     let result = c.write_answers.result in
-    let told = c.answer_lines-answered.ensures in
+    let told = c.answer_lines-answered.ensures.ended in
     let ended = c.write_answers.ensures.ended in
     let known = ap (λ state. state.known) (c.hold-engine.ensures ∙ c.in_ok-made.ensures) in
     record {

@@ -14,8 +14,7 @@ returns-in_ok-push-in-Err c = record {
       λ items w. refused_written c.args.chain.now items c.args.item.now c.args.self.now _ c.in-Err.refusal
       (search rules) c.in-Err.ensures.refused (search rules) refl w;
   ends = refl;
-  few = omega arith;
-  grows = omega arith;
+  grows = (omega arith, omega arith);
   board = refl;
   published = refl;
   appended = c.requires.appended;
