@@ -81,6 +81,7 @@ fn evidence(signer: &[u8], output: &[u8]) -> Option<Evidence>
 }
 
 /// An offered message: `HEX SIG FUNDING`. Since there are many digits, the text is split from its end.
+#[inline(always)]
 pub fn gossip(alloc: Global, text: &[u8]) -> Result<Option<Item>, AllocError>
     ensures { IfOk result (λ item. item ≡ gossip_of (fields_of 32 text.now)) }
 {

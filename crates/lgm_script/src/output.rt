@@ -89,6 +89,7 @@ impl<'a, W: Sink> Output<'a, W> {
     }
 
     /// Writes a word: `N WORD`.
+    #[inline(always)]
     pub fn send_word(&mut self, number: u64, word: &str) -> Result<(), SendFault>
         requires { W.failures self.old.writer.now + 1 < 2 ^ 64 }
         ensures writer { self.new.writer.ghost_name ≡ self.old.writer.ghost_name }
@@ -113,6 +114,7 @@ impl<'a, W: Sink> Output<'a, W> {
     }
 
     /// Writes a message in hexadecimal digits: `N HEX`, or for a peer `N to PEER HEX`.
+    #[inline(always)]
     pub fn send_message(
         &mut self,
         number: u64,

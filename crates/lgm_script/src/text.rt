@@ -11,6 +11,7 @@ use lgm_gossip::Scid;
 use std::alloc::AllocError;
 
 /// Appends a number in decimal digits.
+#[inline(always)]
 fn push_number(text: &mut Vec<u8>, number: u64) -> Result<(), AllocError>
     ensures ok { OnOk result (text.new.items ≡ text.old.items ++ decimal number) }
     ensures err { OnErr result (IsFront text.old.items text.new.items) }
@@ -20,6 +21,7 @@ fn push_number(text: &mut Vec<u8>, number: u64) -> Result<(), AllocError>
     Ok(())
 }
 
+#[inline(always)]
 fn push_word(text: &mut Vec<u8>, number: u64, word: &str) -> Result<(), AllocError>
     ensures ok { OnOk result (text.new.items ≡ text.old.items ++ word_line number word.now) }
     ensures err { OnErr result (IsFront text.old.items text.new.items) }
@@ -43,6 +45,7 @@ fn push_count(text: &mut Vec<u8>, number: u64, count: u64) -> Result<(), AllocEr
 }
 
 /// Appends what precedes a message, which may be for a peer.
+#[inline(always)]
 fn push_lead(text: &mut Vec<u8>, number: u64, peer: Option<u16>) -> Result<(), AllocError>
     ensures ok { OnOk result (text.new.items ≡ text.old.items ++ lead number peer) }
     ensures err { OnErr result (IsFront text.old.items text.new.items) }
@@ -58,6 +61,7 @@ fn push_lead(text: &mut Vec<u8>, number: u64, peer: Option<u16>) -> Result<(), A
     Ok(())
 }
 
+#[inline(always)]
 fn push_message(
     text: &mut Vec<u8>,
     number: u64,
@@ -137,6 +141,7 @@ fn keep_if_whole(
 }
 
 /// Appends the line of a word to the text. If memory runs out the text is unchanged.
+#[inline(always)]
 pub(crate) fn append_word(text: &mut Vec<u8>, number: u64, word: &str) -> Result<(), AllocError>
     ensures ok { OnOk result (text.new.items ≡ text.old.items ++ word_line number word.now) }
     ensures err { OnErr result (text.new.items ≡ text.old.items) }
@@ -157,6 +162,7 @@ pub(crate) fn append_count(text: &mut Vec<u8>, number: u64, count: u64) -> Resul
 }
 
 /// Appends the line of a message to the text. If memory runs out the text is unchanged.
+#[inline(always)]
 pub(crate) fn append_message(
     text: &mut Vec<u8>,
     number: u64,
