@@ -14,11 +14,8 @@ use std::marker::Model;
 /// The maximum length of a line in bytes, without its line feed.
 pub const MAX_LINE: usize = 140_000;
 
-/// The maximum number of bytes that are read ahead for one worker: more than three of the longest lines.
+/// The maximum number of bytes that are read ahead: more than three of the longest lines.
 const ROOM: usize = 524_288;
-
-/// For more workers than this, no more is read ahead.
-const MOST_WORKERS: usize = 8;
 
 /// What was read ahead of a source. All memory is allocated when it is made.
 ///
@@ -32,31 +29,23 @@ pub struct LineReader {
 }
 
 impl Model for LineReader {
-    ghost use Rattle.std.specs.Prelude.{List, ℕ, length, take, drop, ◌≤◌};
+    ghost use Rattle.std.specs.Prelude.{List, ℕ, length, take, drop, ◌≤◌, ◌≡◌};
     ghost use Rattle.lgm_script.specs.declared.line_reader.TheConstants.{ROOM};
 
     ghost Value = { List ℕ };
 
     ghost view = { λ r. drop r.start (take r.end r.buffer.items) };
 
-    ghost invariant = { λ r. (r.start ≤ r.end) × (r.end ≤ length r.buffer.items) × (ROOM ≤ length r.buffer.items) };
+    ghost invariant = { λ r. (r.start ≤ r.end) × (r.end ≤ ROOM) × (length r.buffer.items ≡ ROOM) };
 }
 
 impl LineReader {
-    /// A reader with nothing read ahead, which will read up to 512 KiB.
+    /// A reader with nothing read ahead.
     pub fn new(alloc: Global) -> Result<LineReader, AllocError>
         ensures { IfOk result (λ reader. reader ≡ []) }
     {
-        LineReader::for_workers(alloc, 1)
-    }
-
-    /// A reader with nothing read ahead, which will read up to 512 KiB for each worker, at most 4 MiB.
-    pub fn for_workers(alloc: Global, workers: usize) -> Result<LineReader, AllocError>
-        ensures { IfOk result (λ reader. reader ≡ []) }
-    {
-        let room = ROOM * workers.max(1).min(MOST_WORKERS);
         Ok(LineReader {
-            buffer: Vec::from_elem(alloc, 0, room)?,
+            buffer: Vec::from_elem(alloc, 0, ROOM)?,
             start: 0,
             end: 0,
         })
@@ -119,15 +108,15 @@ pub(crate) fn find_line(bytes: &[u8], searched: usize) -> Option<usize>
 /// Moves the bytes from `start` to `end` to the front if there is no room after them. Returns their new offsets.
 fn make_room(buffer: &mut Vec<u8>, start: usize, end: usize) -> (usize, usize)
     requires order { start ≤ end }
-    requires within { end ≤ length buffer.old.items }
+    requires within { end ≤ ROOM }
     requires short { end - start ≤ MAX_LINE }
-    requires size { ROOM ≤ length buffer.old.items }
+    requires size { length buffer.old.items ≡ ROOM }
     ensures same { drop result.0 (take result.1 buffer.new.items) ≡ drop start (take end buffer.old.items) }
     ensures order { result.0 ≤ result.1 }
-    ensures room { result.1 < length buffer.new.items }
-    ensures size { length buffer.new.items ≡ length buffer.old.items }
+    ensures room { result.1 < ROOM }
+    ensures size { length buffer.new.items ≡ ROOM }
 {
-    if end < buffer.len() {
+    if end < ROOM {
         return (start, end);
     }
     let count = end - start;

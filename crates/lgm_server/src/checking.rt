@@ -52,29 +52,15 @@ fn check_line(alloc: Global, chain: &ChainHash, line: &[u8]) -> Result<Option<Of
     }
 }
 
-/// How much text one worker checks in the time that it takes to start threads, in bytes.
-const SHARE: usize = 1_048_576;
-
-/// How many workers check these lines: one per line if there are enough, else one per `SHARE` that is begun.
-fn hands(workers: usize, lines: &[&[u8]]) -> usize
+/// How many workers check so many lines: one per line if there are enough, else one, since starting threads takes
+/// longer than checking what was read ahead.
+fn hands(workers: usize, lines: usize) -> usize
     ensures { 1 ≤ result }
 {
-    if lines.len() <= workers {
-        return workers.max(1);
-    }
-    1 + length_of(lines) / SHARE
+    if lines <= workers { workers.max(1) } else { 1 }
 }
 
-/// The length of all lines together.
-fn length_of(lines: &[&[u8]]) -> usize {
-    let mut sum: usize = 0;
-    for line in lines {
-        sum = sum.saturating_add(line.len());
-    }
-    sum
-}
-
-/// Checks the items of lines in chunks, in parallel where that is faster. Each may run out of memory on its own.
+/// Checks the items of lines. Each may run out of memory on its own.
 pub fn check_lines<Rt: Threads + Sync, G: Gate>(
     context: &Context<'_, Rt, G>,
     lines: &[&[u8]],
@@ -84,6 +70,8 @@ pub fn check_lines<Rt: Threads + Sync, G: Gate>(
 {
     let alloc = context.pool.alloc;
     let chain = &context.chain;
-    let pool = context.pool.at_most(hands(context.pool.workers, lines));
+    let pool = context
+        .pool
+        .at_most(hands(context.pool.workers, lines.len()));
     pool.map(lines, &|line| check_line(alloc, chain, line))
 }

@@ -36,14 +36,6 @@ pub struct Counts {
     pub accepted: u64,
 }
 
-/// The maximum number of lines that this many workers process together. What a single worker prepares should still be
-/// in its cache when its turn comes.
-fn most_for(workers: usize) -> usize
-    ensures { 0 < result }
-{
-    if workers == 1 { 32 } else { 1_024 }
-}
-
 /// Answers the next lines, the first of which has this number and `first` bytes. Returns the number of lines, at most
 /// `most`, and of their bytes.
 fn answer_next<Rt: Threads + Sync, G: Gate, W: Sink>(
@@ -67,7 +59,6 @@ fn answer_next<Rt: Threads + Sync, G: Gate, W: Sink>(
     ensures fault { IfErr result (λ fault. HaveBegun context.now.chain number most engine.old lines.now first
         (λ text. SendsPart W.taken W.failures output.old output.new text fault)) }
 {
-    let most = most.min(most_for(context.pool.workers));
     let group = next_group(context.pool.alloc, lines.buffered(), first, most)?;
     answer(context, number, &group, engine, output)?;
     Ok((group.lines.len() as u64, group.len))
@@ -127,7 +118,7 @@ fn answer_all<Rt: Threads + Sync + RandomSource, G: Gate, R: Source, W: Sink>(
         output.old.writer.now output.new.writer.now result }
 {
     let alloc = context.pool.alloc;
-    let mut lines = LineReader::for_workers(alloc, context.pool.workers)?;
+    let mut lines = LineReader::new(alloc)?;
     let made = Engine::new(alloc, Seed::random(context.pool.rt), known)?;
     let engine = remains.hold(made);
     let answered = answer_lines(context, &mut lines, source, engine, output);
@@ -156,9 +147,9 @@ fn write_answers<W: Sink>(
 /// `docs/script.md`). Payments use no node that requires unknown features.
 ///
 /// The work is shared by 1 to 64 workers. Consecutive lines that are completely read ahead are processed together, at
-/// most 1,024 of items or 64 of questions, and 32 by a single worker: they are parsed, checked and answered in chunks,
-/// each of which passes the gate, and written in order. A group of more items than workers is split only if it has a
-/// MiB of text or more: below that starting threads takes longer than checking. Neither the number of workers nor the gate affects what is
+/// most 1,024 of items or 64 of questions: they are parsed, checked and answered in chunks, each of which passes the
+/// gate, and written in order. A group of more items than workers is a single chunk, since starting threads takes longer
+/// than checking it. Neither the number of workers nor the gate affects what is
 /// written, nor do the random bytes from the system, with which points are hashed.
 ///
 /// Answers are written before the source is read again, and in blocks otherwise. At `TooManyLines` and `LineTooLong`
