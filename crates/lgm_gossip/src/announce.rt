@@ -66,7 +66,6 @@ impl<'a> Announce<'a> {
 
     /// Reads the fields, from left to right, from the bytes after the type.
     #[tactic(auto, unfolding(crate::specs::reading::AnnounceReading::announce_at))]
-    #[inline(always)]
     pub(crate) fn read(bytes: &'a [u8]) -> Result<Announce<'a>, DecodeFault>
         ensures { Sees (λ m. m) result (announce_at bytes.now) }
     {

@@ -62,7 +62,6 @@ impl<'a> ChannelUpdate<'a> {
 
     /// Reads the fields, from left to right, from the bytes after the type.
     #[tactic(auto, unfolding(crate::specs::reading::ChannelUpdateReading::channel_update_at))]
-    #[inline(always)]
     pub(crate) fn read(bytes: &'a [u8]) -> Result<ChannelUpdate<'a>, DecodeFault>
         ensures { Sees (λ m. m) result (channel_update_at bytes.now) }
     {

@@ -20,7 +20,6 @@ use crate::range_reply::RangeReply;
 use std::alloc::Global;
 
 #[tactic(auto, unfolding(crate::specs::reading::MessageReading::body_at))]
-#[inline(always)]
 fn body(alloc: Global, kind: u16, bytes: &[u8]) -> Result<Message<'_>, DecodeFault>
     ensures { GivesIf (BodyTakesMemory kind bytes.now) DecodeFault.NoMemory (λ m. m) result
         (body_at kind bytes.now) }
@@ -40,7 +39,6 @@ fn body(alloc: Global, kind: u16, bytes: &[u8]) -> Result<Message<'_>, DecodeFau
 }
 
 #[tactic(auto, unfolding(crate::specs::reading::MessageReading::message_at))]
-#[inline(always)]
 fn message(alloc: Global, bytes: &[u8]) -> Result<Message<'_>, DecodeFault>
     ensures { GivesIf (TakesMemory bytes.now) DecodeFault.NoMemory (λ m. m) result (message_at bytes.now) }
 {
@@ -64,7 +62,6 @@ fn message(alloc: Global, bytes: &[u8]) -> Result<Message<'_>, DecodeFault>
 /// An announcement or an update borrows its signatures, features, addresses and trailing bytes from the input, and
 /// nothing is allocated. Ids, flags and timestamps of a query or a reply are allocated, and a list of its records while
 /// it is read.
-#[inline(always)]
 pub fn decode(alloc: Global, bytes: &[u8]) -> Result<Message<'_>, DecodeFault>
     // A message is returned if and only if the bytes encode it.
     ensures found { IfOk result (λ m. Wire m bytes.now) }

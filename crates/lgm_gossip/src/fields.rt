@@ -9,7 +9,6 @@ use crate::fault::DecodeFault;
 use crate::lent::Signature;
 
 /// A field of `N` bytes.
-#[inline(always)]
 pub fn fixed<const N: usize>(bytes: &[u8]) -> Result<([u8; N], &[u8]), DecodeFault>
     ensures { Sees (λ x. (x.0, x.1.now)) result (fixed_at N bytes.now) }
 {
@@ -20,7 +19,6 @@ pub fn fixed<const N: usize>(bytes: &[u8]) -> Result<([u8; N], &[u8]), DecodeFau
 }
 
 /// A signature, borrowed from the input.
-#[inline(always)]
 pub fn signature(bytes: &[u8]) -> Result<(Signature<'_>, &[u8]), DecodeFault>
     ensures { Sees (λ x. (x.0, x.1.now)) result (fixed_at 64 bytes.now) }
 {
@@ -31,7 +29,6 @@ pub fn signature(bytes: &[u8]) -> Result<(Signature<'_>, &[u8]), DecodeFault>
 }
 
 /// A number of one byte.
-#[inline(always)]
 pub fn number8(bytes: &[u8]) -> Result<(u8, &[u8]), DecodeFault>
     ensures { Sees (λ x. (x.0, x.1.now)) result (number_at w8 bytes.now) }
 {
@@ -40,7 +37,6 @@ pub fn number8(bytes: &[u8]) -> Result<(u8, &[u8]), DecodeFault>
 }
 
 /// A number of two bytes.
-#[inline(always)]
 pub fn number16(bytes: &[u8]) -> Result<(u16, &[u8]), DecodeFault>
     ensures { Sees (λ x. (x.0, x.1.now)) result (number_at w16 bytes.now) }
 {
@@ -49,7 +45,6 @@ pub fn number16(bytes: &[u8]) -> Result<(u16, &[u8]), DecodeFault>
 }
 
 /// A number of four bytes.
-#[inline(always)]
 pub fn number32(bytes: &[u8]) -> Result<(u32, &[u8]), DecodeFault>
     ensures { Sees (λ x. (x.0, x.1.now)) result (number_at w32 bytes.now) }
 {
@@ -58,7 +53,6 @@ pub fn number32(bytes: &[u8]) -> Result<(u32, &[u8]), DecodeFault>
 }
 
 /// A number of eight bytes.
-#[inline(always)]
 pub fn number64(bytes: &[u8]) -> Result<(u64, &[u8]), DecodeFault>
     ensures { Sees (λ x. (x.0, x.1.now)) result (number_at w64 bytes.now) }
 {
@@ -67,7 +61,6 @@ pub fn number64(bytes: &[u8]) -> Result<(u64, &[u8]), DecodeFault>
 }
 
 /// A field of `len` bytes, borrowed from the input.
-#[inline(always)]
 pub fn part(len: usize, bytes: &[u8]) -> Result<(&[u8], &[u8]), DecodeFault>
     ensures { Sees (λ x. (x.0.now, x.1.now)) result (fixed_at len bytes.now) }
 {
@@ -78,7 +71,6 @@ pub fn part(len: usize, bytes: &[u8]) -> Result<(&[u8], &[u8]), DecodeFault>
 }
 
 /// A field after its length of two bytes.
-#[inline(always)]
 pub fn counted(bytes: &[u8]) -> Result<(&[u8], &[u8]), DecodeFault>
     ensures { Sees (λ x. (x.0.now, x.1.now)) result (counted_at bytes.now) }
 {

@@ -55,7 +55,6 @@ impl<'a> NodeAnnounce<'a> {
 
     /// Reads the fields, from left to right, from the bytes after the type.
     #[tactic(auto, unfolding(crate::specs::reading::NodeAnnounceReading::node_announce_at))]
-    #[inline(always)]
     pub(crate) fn read(bytes: &'a [u8]) -> Result<NodeAnnounce<'a>, DecodeFault>
         ensures { Sees (λ m. m) result (node_announce_at bytes.now) }
     {
