@@ -228,13 +228,13 @@ impl Gate for Greatest {
     }
 }
 
-// Lines of items that are read at once are checked in as many pieces as there are workers.
+// Requests that are read at once are answered in as many pieces as there are workers.
 #[test]
 fn as_many_pieces_as_workers(rt: HostRuntime) -> Result<(), Fail> {
     let alloc = rt.alloc();
     let mut script = String::new(alloc);
     for _ in 0..64 {
-        script.push_str("close 1x0x0\n")?;
+        script.push_str("q 00\n")?;
     }
     let all = ["lgm", "run", "--chain", CHAIN, "--workers"];
     for (workers, want) in [("1", 0), ("2", 1), ("3", 2), ("64", 63), ("", 3)] {

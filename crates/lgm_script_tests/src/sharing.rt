@@ -48,17 +48,21 @@ fn network(alloc: Global) -> Result<String, AllocError> {
 }
 
 /// All ways send the same over as many channels, so the ids decide. The nodes between are looked at in two pieces, of
-/// which the first is held until the second has begun.
+/// which the first is held until the second has begun; the pieces of items, and that of the payee, pass alone.
 #[test]
 fn lone_payment(rt: HostRuntime) -> Result<(), Fail> {
     let alloc = rt.alloc();
     let mut script = network(alloc)?;
-    let items = counter(1);
+    let items = counter(255);
     answered(&rt, alloc, script.as_bytes(), 2, &items)?;
     let (payer, payee) = (node_of(alloc, 0)?, node_of(alloc, PAYEE)?);
     let payment = format!(in alloc; "route {payer} {payee} 1000 700000 {SECRET}\n")?;
     script.push_str(payment.as_str())?;
-    let gate = counter(1);
+    let alone = items
+        .of_piece(0)
+        .saturating_sub(items.of_piece(1))
+        .saturating_add(1);
+    let gate = counter(u8::try_from(alone).unwrap_or(255));
     let written = answered(&rt, alloc, script.as_bytes(), 2, &gate)?;
     let answer = format!(in alloc;
         "\n12801 commit 12800\n12802 route 1000 700040 2\n\
