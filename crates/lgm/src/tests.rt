@@ -5,6 +5,7 @@ use lgm_server::Remains;
 use std::alloc::Global;
 use std::env::{Env, FillError};
 use std::marker::Sync;
+use std::process::Abort;
 use std::random::RandomSource;
 use std::sync::Wait;
 use std::test::Fail;
@@ -209,41 +210,43 @@ fn the_chain_comes_before_the_known_bits(rt: HostRuntime) -> Result<(), Fail> {
     Ok(())
 }
 
-#[test]
-fn a_fault_has_its_line(rt: HostRuntime) -> Result<(), Fail> {
-    let alloc = rt.alloc();
-    let mut script = Vec::from_slice(alloc, b"commit\n#")?;
-    script.resize(140_007, b'x')?;
-    let given = ["lgm", "run", "--chain", CHAIN];
-    let (status, writer, errors) = started(&rt, alloc, &given, script.as_slice());
+/// A comment of 140,000 bytes behind these lines is within the limit, and one more byte isn't.
+fn assert_limit<Rt: Abort + Threads + Wait + Sync + RandomSource>(
+    rt: &Rt,
+    alloc: Global,
+    command: &str,
+    lines: &[u8],
+    answers: &[u8],
+    at_fault: &[u8],
+) -> Result<(), Fail> {
+    let mut script = Vec::from_slice(alloc, lines)?;
+    for _ in 0..140_000 {
+        script.push(b'#')?;
+    }
+    let given = ["lgm", command, "--chain", CHAIN];
+    let (status, writer, errors) = started(rt, alloc, &given, script.as_slice());
     assert_eq!(rt; status, 0);
-    assert_eq!(rt; writer.taken(), b"1 commit 0\n".as_slice());
+    assert_eq!(rt; writer.taken(), answers);
     assert!(rt; errors.taken().is_empty());
-    script.push(b'x')?;
-    let (status, writer, errors) = started(&rt, alloc, &given, script.as_slice());
+    script.push(b'#')?;
+    let (status, writer, errors) = started(rt, alloc, &given, script.as_slice());
     assert_eq!(rt; status, 1);
-    assert_eq!(rt; writer.taken(), b"1 commit 0\n".as_slice());
+    assert_eq!(rt; writer.taken(), at_fault);
     assert_eq!(rt; errors.taken(), b"lgm: line too long\n".as_slice());
     Ok(())
+}
+
+#[test]
+fn a_fault_has_its_line(rt: HostRuntime) -> Result<(), Fail> {
+    let answers = b"1 commit 0\n".as_slice();
+    assert_limit(&rt, rt.alloc(), "run", b"commit\n", answers, answers)
 }
 
 // Nothing of a script is written before it was read whole.
 #[test]
 fn a_fault_of_live_has_its_line(rt: HostRuntime) -> Result<(), Fail> {
-    let alloc = rt.alloc();
-    let mut script = Vec::from_slice(alloc, b"commit\nq 00\n#")?;
-    script.resize(140_012, b'x')?;
-    let given = ["lgm", "live", "--chain", CHAIN];
-    let (status, writer, errors) = started(&rt, alloc, &given, script.as_slice());
-    assert_eq!(rt; status, 0);
-    assert_eq!(rt; writer.taken(), b"1 commit 0\n2 not-live\n".as_slice());
-    assert!(rt; errors.taken().is_empty());
-    script.push(b'x')?;
-    let (status, writer, errors) = started(&rt, alloc, &given, script.as_slice());
-    assert_eq!(rt; status, 1);
-    assert!(rt; writer.taken().is_empty());
-    assert_eq!(rt; errors.taken(), b"lgm: line too long\n".as_slice());
-    Ok(())
+    let answers = b"1 commit 0\n2 not-live\n".as_slice();
+    assert_limit(&rt, rt.alloc(), "live", b"commit\nq 00\n", answers, b"")
 }
 
 /// A source that gives a text once, and then fails.
