@@ -170,7 +170,7 @@ def main():
         if any(lower in stale for lower in used[it]) or not is_fresh(used, it):
             stale.append(it)
     at_once = min(at_once, max(1, len(stale)))
-    say(f"proving and building {len(stale) + 1} of {len(crates) + 1} crates, {at_once} at once; all of them take some 20 minutes")
+    say(f"proving and building {len(stale) + 1} of {len(crates) + 1} crates, {at_once} at once; all of them take 20 to 30 minutes")
     begun = time.monotonic()
     try:
         prove_all(used, stale, at_once)
