@@ -1,8 +1,8 @@
 -- What passes the tests in their order is what an accepted message is, and the other way round.
 use Rattle.std.proofs.Common.{◌≡◌, ℕ, ◌/◌, ◌%◌, ◌≤◌, Bool, true, false, List, Result, Ok, Err, not, refl, sym, ap, subst, ◌∙◌, arith, inl, inr}
-use Rattle.std.specs.Prelude.{nat_eq, nat_le, if◌then◌else◌, IfOk, MatchResult, IsTrue}
+use Rattle.std.specs.Prelude.{nat_eq, nat_le, if◌then◌else◌, MatchResult, IsTrue}
 use Rattle.std.specs.Cmp.Lexicographic.{pointwise, bytes_decides}
-use Rattle.lgm_wire.specs.reading.Reading.{◌>>=◌, Sees}
+use Rattle.lgm_wire.specs.reading.Reading.{◌>>=◌}
 use Rattle.lgm_gossip.specs.Memory.{GivesIf}
 use Rattle.lgm_wire.proofs.ReadingLaws.{ok_is}
 use Rattle.lgm_wire.proofs.Bytes.{IsBytes}
@@ -103,7 +103,7 @@ public_test m e = rw e refl
 
 -- ---- type by type
 
-channel_takes : (chain : ChainHash) (m : Announce) (bytes : List ℕ) (evidence : Evidence) (made : Checked) → Wire (messages.Announce m) bytes
+pub channel_takes : (chain : ChainHash) (m : Announce) (bytes : List ℕ) (evidence : Evidence) (made : Checked) → Wire (messages.Announce m) bytes
     → checked_announce chain m bytes evidence ≡ Ok made → IsAccepted chain bytes evidence made
 unfolding checked_announce
 channel_takes chain m bytes evidence made wire e =
@@ -129,7 +129,7 @@ channel_takes chain m bytes evidence made wire e =
       raw = refl;
     })
 
-update_takes : (chain : ChainHash) (m : ChannelUpdate) (bytes : List ℕ) (evidence : Evidence) (made : Checked) → Wire (messages.ChannelUpdate m) bytes
+pub update_takes : (chain : ChainHash) (m : ChannelUpdate) (bytes : List ℕ) (evidence : Evidence) (made : Checked) → Wire (messages.ChannelUpdate m) bytes
     → checked_update chain m bytes evidence ≡ Ok made → IsAccepted chain bytes evidence made
 unfolding checked_update
 update_takes chain m bytes evidence made wire e =
@@ -148,7 +148,7 @@ update_takes chain m bytes evidence made wire e =
       raw = refl;
     })
 
-node_takes : (chain : ChainHash) (m : NodeAnnounce) (bytes : List ℕ) (evidence : Evidence) (made : Checked) → Wire (messages.NodeAnnounce m) bytes
+pub node_takes : (chain : ChainHash) (m : NodeAnnounce) (bytes : List ℕ) (evidence : Evidence) (made : Checked) → Wire (messages.NodeAnnounce m) bytes
     → checked_node m bytes evidence ≡ Ok made → IsAccepted chain bytes evidence made
 unfolding checked_node
 node_takes chain m bytes evidence made wire e =
@@ -223,22 +223,6 @@ only chain bytes evidence (checked.Node row) is =
     rw (message_again bytes (messages.NodeAnnounce row.message) is.spelled) (node_again bytes evidence row is)
 
 -- ---- what was returned
-
-pub channel_accepted : (chain : ChainHash) (m : Announce) (bytes : List ℕ) (evidence : Evidence) (r : Step) → Wire (messages.Announce m) bytes
-    → Sees (λ made. made) r (checked_announce chain m bytes evidence) → IfOk r (λ made. IsAccepted chain bytes evidence made)
-channel_accepted chain m bytes evidence (Ok made) wire given = channel_takes chain m bytes evidence made wire given
-channel_accepted chain m bytes evidence (Err refusal) wire given = tt
-
-pub update_accepted : (chain : ChainHash) (m : ChannelUpdate) (bytes : List ℕ) (evidence : Evidence)
-    (r : Step) → Wire (messages.ChannelUpdate m) bytes
-    → Sees (λ made. made) r (checked_update chain m bytes evidence) → IfOk r (λ made. IsAccepted chain bytes evidence made)
-update_accepted chain m bytes evidence (Ok made) wire given = update_takes chain m bytes evidence made wire given
-update_accepted chain m bytes evidence (Err refusal) wire given = tt
-
-pub node_accepted : (chain : ChainHash) (m : NodeAnnounce) (bytes : List ℕ) (evidence : Evidence) (r : Step) → Wire (messages.NodeAnnounce m) bytes
-    → Sees (λ made. made) r (checked_node m bytes evidence) → IfOk r (λ made. IsAccepted chain bytes evidence made)
-node_accepted chain m bytes evidence (Ok made) wire given = node_takes chain m bytes evidence made wire given
-node_accepted chain m bytes evidence (Err refusal) wire given = tt
 
 pub is_only : (asks : Type 0) (chain : ChainHash) (bytes : List ℕ) (evidence : Evidence) (r : Step) (made : Checked)
     → GivesIf asks refusals.NoMemory (λ made. made) r (checked_of chain bytes evidence) → IsAccepted chain bytes evidence made

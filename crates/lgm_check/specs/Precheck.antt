@@ -21,6 +21,8 @@ use Rattle.lgm_check.specs.declared.evidence.Funding.{Funding}
 use Rattle.lgm_check.specs.declared.evidence.Funding.TheVariants as fundings
 use Rattle.lgm_check.specs.declared.row.Checked.{Checked}
 use Rattle.lgm_check.specs.declared.row.Checked.TheVariants as checked
+use Rattle.lgm_check.specs.declared.row.CheckedKind.{CheckedKind}
+use Rattle.lgm_check.specs.declared.row.CheckedKind.TheVariants as kinds
 use Rattle.lgm_check.specs.declared.refusal.Refusal.{Refusal}
 use Rattle.lgm_check.specs.declared.refusal.Refusal.TheVariants as refusals
 use Rattle.lgm_check.specs.Refusal.{refusal_of}
@@ -47,6 +49,16 @@ abbrev pub is_all_four : Sig → Bool
 is_all_four (sigs.AllFour right) = right
 is_all_four _ = false
 
+-- the rows of messages with these bytes
+abbrev pub channel_of : Announce → ℕ → List ℕ → Checked
+channel_of m sat bytes = checked.Channel (record { message = m; sat = sat; raw = bytes })
+
+abbrev pub update_of : ChannelUpdate → Point → List ℕ → Checked
+update_of m signer bytes = checked.Update (record { message = m; raw = bytes }) signer
+
+abbrev pub node_of : NodeAnnounce → List ℕ → Checked
+node_of m bytes = checked.Node (record { message = m; raw = bytes })
+
 -- a channel_announcement: each line is the next refusal in the order
 unfoldable pub checked_announce : ChainHash → Announce → List ℕ → Evidence → Result Checked Refusal
 checked_announce chain m bytes evidence = do
@@ -55,7 +67,7 @@ checked_announce chain m bytes evidence = do
   node_order ← require (are_in_order m) refusals.NodeOrder
   sat ← capacity_of evidence.funding
   signed ← require (is_all_four evidence.sig) refusals.Signature
-  Ok (checked.Channel (record { message = m; sat = sat; raw = bytes }))
+  Ok (channel_of m sat bytes)
 
 -- bit 1 of the message flags, dont_forward
 abbrev pub is_private : ChannelUpdate → Bool
@@ -72,7 +84,7 @@ checked_update chain m bytes evidence = do
   this_chain ← require (pointwise nat_eq m.chain_hash.0 chain.0) refusals.Chain
   public ← require (not (is_private m)) refusals.Private
   signer ← signer_of evidence.sig
-  Ok (checked.Update (record { message = m; raw = bytes }) signer)
+  Ok (update_of m signer bytes)
 
 -- a node_announcement
 unfoldable pub checked_node : NodeAnnounce → List ℕ → Evidence → Result Checked Refusal
@@ -80,7 +92,7 @@ checked_node m bytes evidence = do
   point ← require (is_lawful m.node_id) refusals.Point
   signer ← signer_of evidence.sig
   signed ← require (pointwise nat_eq signer.0 m.node_id.0) refusals.Signature
-  Ok (checked.Node (record { message = m; raw = bytes }))
+  Ok (node_of m bytes)
 
 -- by type
 abbrev pub checked_message : ChainHash → Message → List ℕ → Evidence → Result Checked Refusal
@@ -96,3 +108,13 @@ checked_read chain (Err fault) bytes evidence = Err (refusal_of fault)
 
 unfoldable pub checked_of : ChainHash → List ℕ → Evidence → Result Checked Refusal
 checked_of chain bytes evidence = checked_read chain (message_at bytes) bytes evidence
+
+-- what a row has beside its bytes
+abbrev pub kind_of : Checked → CheckedKind
+kind_of (checked.Channel row) = kinds.Channel row.sat
+kind_of (checked.Update row signer) = kinds.Update signer
+kind_of (checked.Node row) = kinds.Node
+
+abbrev pub kind_read : Result Checked Refusal → Result CheckedKind Refusal
+kind_read (Ok made) = Ok (kind_of made)
+kind_read (Err refusal) = Err refusal

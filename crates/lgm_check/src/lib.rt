@@ -2,6 +2,7 @@
 //! output that the caller supplies.
 //!
 //! [`precheck`] returns the row that the message would add to a map, or the first [`Refusal`] in a fixed order.
+//! [`precheck_kind`] returns what such a row has beside the bytes of the message.
 //! [`accepted_exactly`] says what an accepted message is, without reference to any order.
 #![tactic(auto)]
 
@@ -11,6 +12,6 @@ mod refusal;
 mod row;
 
 pub use evidence::{Evidence, Funding, Sig};
-pub use prechecking::{MAX_SAT, accepted_exactly, precheck};
+pub use prechecking::{MAX_SAT, accepted_exactly, precheck, precheck_kind};
 pub use refusal::Refusal;
-pub use row::{BanRow, ChannelRow, Checked, NodeRow, UpdateRow};
+pub use row::{BanRow, ChannelRow, Checked, CheckedKind, NodeRow, UpdateRow};

@@ -6,14 +6,15 @@ ghost use Rattle.lgm_gossip.specs.Memory.{GivesIf, TakesMemory};
 ghost use Rattle.lgm_wire.specs.declared.chain_hash.ChainHash.{ChainHash};
 ghost use Rattle.lgm_check.specs.declared.evidence.Evidence.{Evidence};
 ghost use Rattle.lgm_check.specs.declared.row.Checked.{Checked};
-ghost use Rattle.lgm_check.specs.Accepted.{IsAccepted};
+ghost use Rattle.lgm_check.specs.Accepted.{IsAccepted, IsAcceptedAs};
 ghost use Rattle.lgm_check.specs.Precheck.{require as requirement, has_lawful_points, are_in_order};
 ghost use Rattle.lgm_check.specs.Precheck.{capacity_of, is_all_four, is_private, signer_of};
+ghost use Rattle.lgm_check.specs.Precheck.{channel_of, update_of, node_of, kind_read};
 ghost use Rattle.lgm_check.specs.Precheck.{checked_announce, checked_update, checked_node, checked_of};
 
 use crate::evidence::{Evidence, Funding, Sig};
 use crate::refusal::Refusal;
-use crate::row::{ChannelRow, Checked, NodeRow, UpdateRow};
+use crate::row::{ChannelRow, Checked, CheckedKind, NodeRow, UpdateRow};
 use lgm_gossip::{Announce, ChainHash, ChannelUpdate, Lent, Message, NodeAnnounce, Point, decode};
 use std::alloc::Global;
 
@@ -65,25 +66,19 @@ fn is_all_four(sig: Sig) -> bool
     matches!(sig, Sig::AllFour(true))
 }
 
-/// The row of a `channel_announcement`, or its first refusal.
+/// The capacity of a channel in satoshi, from its `channel_announcement`, or the first refusal.
 #[tactic(auto, unfolding(crate::specs::Precheck::checked_announce))]
 #[inline(always)]
-fn announce<'a>(
-    chain: &ChainHash,
-    message: &Announce<'a>,
-    raw: &'a [u8],
-    evidence: &Evidence,
-) -> Result<Checked<'a>, Refusal>
-    ensures { Sees (λ c. c) result (checked_announce chain.now message.now raw.now evidence.now) }
+fn announce(chain: &ChainHash, message: &Announce, evidence: &Evidence) -> Result<u64, Refusal>
+    ensures { (bytes : List ℕ) → Sees (λ sat. channel_of message.now sat bytes) result
+        (checked_announce chain.now message.now bytes evidence.now) }
 {
     require(message.chain_hash == *chain, Refusal::Chain)?;
     require(has_lawful_points(message), Refusal::Point)?;
     require(are_in_order(message), Refusal::NodeOrder)?;
     let sat = capacity(evidence.funding)?;
     require(is_all_four(evidence.sig), Refusal::Signature)?;
-    let message = message.again();
-    let raw = Lent::new(raw);
-    Ok(Checked::Channel(ChannelRow { message, sat, raw }))
+    Ok(sat)
 }
 
 /// Whether an update must not be forwarded: bit 1 of its message flags, `dont_forward`.
@@ -105,41 +100,28 @@ fn signer(sig: Sig) -> Result<Point, Refusal>
     }
 }
 
-/// The row of a `channel_update`, or its first refusal.
+/// The point that signed a `channel_update`, or the first refusal.
 #[tactic(auto, unfolding(crate::specs::Precheck::checked_update))]
 #[inline(always)]
-fn update<'a>(
-    chain: &ChainHash,
-    message: &ChannelUpdate<'a>,
-    raw: &'a [u8],
-    evidence: &Evidence,
-) -> Result<Checked<'a>, Refusal>
-    ensures { Sees (λ c. c) result (checked_update chain.now message.now raw.now evidence.now) }
+fn update(chain: &ChainHash, message: &ChannelUpdate, evidence: &Evidence) -> Result<Point, Refusal>
+    ensures { (bytes : List ℕ) → Sees (λ signer. update_of message.now signer bytes) result
+        (checked_update chain.now message.now bytes evidence.now) }
 {
     require(message.chain_hash == *chain, Refusal::Chain)?;
     require(!is_private(message), Refusal::Private)?;
-    let signer = signer(evidence.sig)?;
-    let message = message.again();
-    let raw = Lent::new(raw);
-    Ok(Checked::Update(UpdateRow { message, raw }, signer))
+    signer(evidence.sig)
 }
 
-/// The row of a `node_announcement`, or its first refusal.
+/// Whether a `node_announcement` is accepted, or the first refusal.
 #[tactic(auto, unfolding(crate::specs::Precheck::checked_node))]
 #[inline(always)]
-fn node<'a>(
-    message: &NodeAnnounce<'a>,
-    raw: &'a [u8],
-    evidence: &Evidence,
-) -> Result<Checked<'a>, Refusal>
-    ensures { Sees (λ c. c) result (checked_node message.now raw.now evidence.now) }
+fn node(message: &NodeAnnounce, evidence: &Evidence) -> Result<(), Refusal>
+    ensures { (bytes : List ℕ) → Sees (λ _. node_of message.now bytes) result
+        (checked_node message.now bytes evidence.now) }
 {
     require(message.node_id.lawful(), Refusal::Point)?;
     let signer = signer(evidence.sig)?;
-    require(signer == message.node_id, Refusal::Signature)?;
-    let message = message.again();
-    let raw = Lent::new(raw);
-    Ok(Checked::Node(NodeRow { message, raw }))
+    require(signer == message.node_id, Refusal::Signature)
 }
 
 /// The row of any message, or its first refusal.
@@ -148,18 +130,64 @@ fn node<'a>(
 fn check<'a>(
     alloc: Global,
     chain: &ChainHash,
-    raw: &'a [u8],
+    bytes: &'a [u8],
     evidence: &Evidence,
 ) -> Result<Checked<'a>, Refusal>
-    ensures exact { GivesIf (TakesMemory raw.now) Refusal.NoMemory (λ c. c) result
-        (checked_of chain.now raw.now evidence.now) }
-    ensures accepted { IfOk result (λ made. IsAccepted chain.now raw.now evidence.now made) }
+    ensures exact { GivesIf (TakesMemory bytes.now) Refusal.NoMemory (λ c. c) result
+        (checked_of chain.now bytes.now evidence.now) }
+    ensures accepted { IfOk result (λ made. IsAccepted chain.now bytes.now evidence.now made) }
 {
-    let message = decode(alloc, raw)?;
+    let message = decode(alloc, bytes)?;
     match &message {
-        Message::Announce(message) => announce(chain, message, raw, evidence),
-        Message::ChannelUpdate(message) => update(chain, message, raw, evidence),
-        Message::NodeAnnounce(message) => node(message, raw, evidence),
+        Message::Announce(message) => {
+            let sat = announce(chain, message, evidence)?;
+            let message = message.again();
+            let raw = Lent::new(bytes);
+            Ok(Checked::Channel(ChannelRow { message, sat, raw }))
+        }
+        Message::ChannelUpdate(message) => {
+            let signer = update(chain, message, evidence)?;
+            let message = message.again();
+            let raw = Lent::new(bytes);
+            Ok(Checked::Update(UpdateRow { message, raw }, signer))
+        }
+        Message::NodeAnnounce(message) => {
+            node(message, evidence)?;
+            let message = message.again();
+            let raw = Lent::new(bytes);
+            Ok(Checked::Node(NodeRow { message, raw }))
+        }
+        _ => Err(Refusal::NotGossip),
+    }
+}
+
+/// What the row of any message has beside the bytes, or the first refusal.
+#[tactic(auto, unfolding(crate::specs::Precheck::checked_of))]
+#[inline(always)]
+fn check_kind(
+    alloc: Global,
+    chain: &ChainHash,
+    bytes: &[u8],
+    evidence: &Evidence,
+) -> Result<CheckedKind, Refusal>
+    ensures exact { GivesIf (TakesMemory bytes.now) Refusal.NoMemory (λ kind. kind) result
+        (kind_read (checked_of chain.now bytes.now evidence.now)) }
+    ensures accepted { IfOk result (λ kind. IsAcceptedAs chain.now bytes.now evidence.now kind) }
+{
+    let message = decode(alloc, bytes)?;
+    match &message {
+        Message::Announce(message) => {
+            let sat = announce(chain, message, evidence)?;
+            Ok(CheckedKind::Channel(sat))
+        }
+        Message::ChannelUpdate(message) => {
+            let signer = update(chain, message, evidence)?;
+            Ok(CheckedKind::Update(signer))
+        }
+        Message::NodeAnnounce(message) => {
+            node(message, evidence)?;
+            Ok(CheckedKind::Node)
+        }
         _ => Err(Refusal::NotGossip),
     }
 }
@@ -196,6 +224,25 @@ pub fn precheck<'a>(
         ⊎ TakesMemory bytes.now }
 {
     check(alloc, chain, bytes, evidence)
+}
+
+/// Validates a message as [`precheck`] does, and returns what its row has beside the bytes.
+///
+/// The refusals are those of `precheck`. No row is made, so this is faster for a caller that has the bytes.
+#[inline(always)]
+pub fn precheck_kind(
+    alloc: Global,
+    chain: &ChainHash,
+    bytes: &[u8],
+    evidence: &Evidence,
+) -> Result<CheckedKind, Refusal>
+    ensures accepted { IfOk result (λ kind. IsAcceptedAs chain.now bytes.now evidence.now kind) }
+    ensures exact { Gives Refusal.NoMemory (λ kind. kind) result
+        (kind_read (checked_of chain.now bytes.now evidence.now)) }
+    ensures memory { Sees (λ kind. kind) result (kind_read (checked_of chain.now bytes.now evidence.now))
+        ⊎ TakesMemory bytes.now }
+{
+    check_kind(alloc, chain, bytes, evidence)
 }
 
 /// A law of acceptance, stated by the contract; the call does nothing.

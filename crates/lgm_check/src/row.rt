@@ -102,3 +102,14 @@ pub enum Checked<'a> {
     /// Of a `node_announcement`.
     Node(NodeRow<'a>),
 }
+
+/// The type of a message that passed validation, and what its row has beside the bytes.
+#[derive(Clone, Copy, Debug, PartialEq, Eq)]
+pub enum CheckedKind {
+    /// Of a `channel_announcement`, and the capacity in satoshi.
+    Channel(u64),
+    /// Of a `channel_update`, and the point that signed it.
+    Update(Point),
+    /// Of a `node_announcement`.
+    Node,
+}

@@ -38,29 +38,19 @@ impl Taker {
         }
     }
 
-    /// Takes a message, and returns its refusal, if it is refused: then the map is unchanged, and the next message can
-    /// be taken. The only error is out of memory, which says nothing about the message.
+    /// Takes a message. At a refusal the map is unchanged, and the next message can be taken. `NoMemory` says nothing
+    /// about the message.
     pub fn take(
         &mut self,
         alloc: Global,
         pen: &mut Pen,
         bytes: Bytes,
         evidence: &Evidence,
-    ) -> Result<Option<Refusal>, AllocError> {
+    ) -> Result<(), Refusal> {
         self.append(pen)?;
-        let candidate = match Candidate::precheck(alloc, &CHAIN, bytes, evidence) {
-            Ok(candidate) => candidate,
-            Err(Refusal::NoMemory) => return Err(AllocError),
-            Err(refusal) => return Ok(Some(refusal)),
-        };
-        match self.map.offer_candidate(alloc, candidate) {
-            Ok(op) => {
-                self.back = Some(op);
-                self.append(pen)?;
-                Ok(None)
-            }
-            Err(Refusal::NoMemory) => Err(AllocError),
-            Err(refusal) => Ok(Some(refusal)),
-        }
+        let candidate = Candidate::precheck(alloc, &CHAIN, bytes, evidence)?;
+        self.back = Some(self.map.offer_candidate(alloc, candidate)?);
+        self.append(pen)?;
+        Ok(())
     }
 }

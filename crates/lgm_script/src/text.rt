@@ -27,9 +27,9 @@ fn push_word(text: &mut Vec<u8>, number: u64, word: &str) -> Result<(), AllocErr
     ensures err { OnErr result (IsFront text.old.items text.new.items) }
 {
     push_number(text, number)?;
-    text.extend_from_slice(b" ")?;
+    text.push(b' ')?;
     text.extend_from_slice(word.as_bytes())?;
-    text.extend_from_slice(b"\n")?;
+    text.push(b'\n')?;
     Ok(())
 }
 
@@ -40,7 +40,7 @@ fn push_count(text: &mut Vec<u8>, number: u64, count: u64) -> Result<(), AllocEr
     push_number(text, number)?;
     text.extend_from_slice(b" commit ")?;
     push_number(text, count)?;
-    text.extend_from_slice(b"\n")?;
+    text.push(b'\n')?;
     Ok(())
 }
 
@@ -52,12 +52,12 @@ fn push_lead(text: &mut Vec<u8>, number: u64, peer: Option<u16>) -> Result<(), A
 {
     push_number(text, number)?;
     let Some(peer) = peer else {
-        text.extend_from_slice(b" ")?;
+        text.push(b' ')?;
         return Ok(());
     };
     text.extend_from_slice(b" to ")?;
     push_number(text, u64::from(peer))?;
-    text.extend_from_slice(b" ")?;
+    text.push(b' ')?;
     Ok(())
 }
 
@@ -73,7 +73,7 @@ fn push_message(
 {
     push_lead(text, number, peer)?;
     lgm_hex::append(text, message)?;
-    text.extend_from_slice(b"\n")?;
+    text.push(b'\n')?;
     Ok(())
 }
 
@@ -90,11 +90,11 @@ fn push_route(
     push_number(text, number)?;
     text.extend_from_slice(b" route ")?;
     push_number(text, sent)?;
-    text.extend_from_slice(b" ")?;
+    text.push(b' ')?;
     push_number(text, u64::from(expiry))?;
-    text.extend_from_slice(b" ")?;
+    text.push(b' ')?;
     push_number(text, count as u64)?;
-    text.extend_from_slice(b"\n")?;
+    text.push(b'\n')?;
     Ok(())
 }
 
@@ -104,9 +104,9 @@ fn push_scid(text: &mut Vec<u8>, scid: Scid) -> Result<(), AllocError>
     ensures err { OnErr result (IsFront text.old.items text.new.items) }
 {
     push_number(text, u64::from(scid.block()))?;
-    text.extend_from_slice(b"x")?;
+    text.push(b'x')?;
     push_number(text, u64::from(scid.index()))?;
-    text.extend_from_slice(b"x")?;
+    text.push(b'x')?;
     push_number(text, u64::from(scid.output()))?;
     Ok(())
 }
@@ -118,9 +118,9 @@ fn push_hop(text: &mut Vec<u8>, number: u64, scid: Scid, payload: &[u8]) -> Resu
     push_number(text, number)?;
     text.extend_from_slice(b" hop ")?;
     push_scid(text, scid)?;
-    text.extend_from_slice(b" ")?;
+    text.push(b' ')?;
     lgm_hex::append(text, payload)?;
-    text.extend_from_slice(b"\n")?;
+    text.push(b'\n')?;
     Ok(())
 }
 

@@ -14,6 +14,7 @@ use crate::answer::Answer;
 use crate::checking::{Offered, check_lines};
 use crate::context::Context;
 use crate::engine::Engine;
+use lgm_check::Refusal;
 use lgm_par::Gate;
 use lgm_script::{Group, Kind, Output, Payment, Request, SendFault, Sink, may_ask_routes, parse};
 use std::alloc::{AllocError, Global};
@@ -40,7 +41,11 @@ fn offer<W: Sink>(
     let Some(item) = item else {
         return Answer::Bad.send(alloc, number, output);
     };
-    let refusal = engine.offer(alloc, item)?;
+    let refusal = match engine.offer(alloc, item) {
+        Ok(()) => None,
+        Err(Refusal::NoMemory) => return Err(SendFault::NoMemory),
+        Err(refusal) => Some(refusal),
+    };
     Answer::Outcome(refusal).send(alloc, number, output)
 }
 

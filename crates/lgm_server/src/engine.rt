@@ -1,10 +1,10 @@
 //! The state between two lines.
 
-ghost use Rattle.std.specs.Prelude.{◌≡◌, ◌+◌, ◌≤◌, ◌<◌, ◌^◌, ℕ, length, IfErr, IfOk, OnOk};
-ghost use Rattle.std.specs.Result.{result_err};
+ghost use Rattle.std.specs.Prelude.{◌≡◌, ◌+◌, ◌≤◌, ◌<◌, ◌^◌, ℕ, length, IfErr, IfOk, OnOk, OnErr};
+ghost use Rattle.lgm_wire.specs.reading.Reading.{Gives};
 ghost use Rattle.lgm_script.specs.Output.{Sends, SendsPart};
 ghost use Rattle.lgm_server.specs.Answer.{commit_text, route_text, answer_text};
-ghost use Rattle.lgm_server.specs.inner.Offered.{outcome_on, WasChecked};
+ghost use Rattle.lgm_server.specs.inner.Offered.{outcome_on, settled, WasChecked};
 ghost use Rattle.lgm_server.specs.inner.Questions.{asked_in, filters_behind, questions_text};
 ghost use Rattle.lgm_server.specs.Routing.{route_answer};
 ghost use Rattle.lgm_server.specs.inner.Steps.{opening, state_behind, state_committed};
@@ -69,18 +69,18 @@ impl Engine {
         self.accepted
     }
 
-    /// Offers a checked item, and returns its refusal, if it is refused.
-    pub fn offer(&mut self, alloc: Global, item: Offered) -> Result<Option<Refusal>, AllocError>
+    /// Offers a checked item. A refusal or out of memory leaves all unchanged.
+    pub fn offer(&mut self, alloc: Global, item: Offered) -> Result<(), Refusal>
         requires checked { WasChecked item }
         requires few { self.old.accepted + 1 < 2 ^ 64 }
-        ensures refusal { IfOk result (λ refusal. refusal ≡ result_err (outcome_on self.old.rows item)) }
+        ensures outcome { Gives Refusal.NoMemory (λ done. done) result
+            (settled (outcome_on self.old.rows item)) }
         ensures state { OnOk result (self.new ≡ state_behind self.old (outcome_on self.old.rows item)) }
+        ensures same { OnErr result (self.new ≡ self.old) }
     {
-        let refusal = self.maps.offer(alloc, item)?;
-        if refusal.is_none() {
-            self.accepted += 1;
-        }
-        Ok(refusal)
+        self.maps.offer(alloc, item)?;
+        self.accepted += 1;
+        Ok(())
     }
 
     /// The answer to a payment on the committed map, found by several workers.

@@ -2,7 +2,7 @@
 
 ghost use Rattle.std.specs.Prelude.{◌≡◌, ◌⊎◌, ◌+◌, ◌≤◌, ◌<◌, ◌^◌, [], true};
 ghost use Rattle.std.specs.Prelude.{length, Err, IfOk, IfErr, OnOk, OnErr};
-ghost use Rattle.std.specs.Result.{result_err};
+ghost use Rattle.lgm_wire.specs.reading.Reading.{Gives};
 ghost use Rattle.lgm_store.specs.Rows.{empty};
 ghost use Rattle.lgm_store.specs.History.{fold_from};
 ghost use Rattle.lgm_graph.specs.Edges.{edges_of};
@@ -11,7 +11,7 @@ ghost use Rattle.lgm_route.specs.Choice.{answer_of};
 ghost use Rattle.lgm_script.specs.Output.{Sends, SendsPart};
 ghost use Rattle.lgm_server.specs.inner.Chart.{Shows, ShowsCommitted, IsBeside};
 ghost use Rattle.lgm_server.specs.inner.Maps.{grown};
-ghost use Rattle.lgm_server.specs.inner.Offered.{outcome_on, WasChecked};
+ghost use Rattle.lgm_server.specs.inner.Offered.{outcome_on, settled, WasChecked};
 ghost use Rattle.lgm_server.specs.inner.Questions.{asked_in, filters_behind, questions_text};
 
 use crate::chart::{Chart, Kept};
@@ -137,10 +137,11 @@ impl Maps {
         })
     }
 
-    /// Offers a checked item, and returns its refusal, if it is refused. Out of memory leaves all unchanged.
-    pub fn offer(&mut self, alloc: Global, item: Offered) -> Result<Option<Refusal>, AllocError>
+    /// Offers a checked item. A refusal or out of memory leaves all unchanged.
+    pub fn offer(&mut self, alloc: Global, item: Offered) -> Result<(), Refusal>
         requires { WasChecked item }
-        ensures refusal { IfOk result (λ refusal. refusal ≡ result_err (outcome_on self.old.rows item)) }
+        ensures outcome { Gives Refusal.NoMemory (λ done. done) result
+            (settled (outcome_on self.old.rows item)) }
         ensures grown { OnOk result (self.new ≡ grown self.old (outcome_on self.old.rows item)) }
         ensures same { OnErr result (self.new ≡ self.old) }
     {

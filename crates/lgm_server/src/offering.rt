@@ -1,16 +1,15 @@
 //! Offering checked items to a map.
 
 ghost use Rattle.std.specs.Prelude.{◌≡◌, IfOk, OnOk, OnErr};
-ghost use Rattle.std.specs.Result.{result_err};
 ghost use Rattle.lgm_wire.specs.reading.Reading.{Gives};
 ghost use Rattle.lgm_store.specs.History.{absorbed};
 ghost use Rattle.lgm_server.specs.inner.Behind.{Keeps};
-ghost use Rattle.lgm_server.specs.inner.Offered.{outcome_on};
+ghost use Rattle.lgm_server.specs.inner.Offered.{outcome_on, settled};
 
 use crate::checking::Offered;
 use lgm_check::Refusal;
 use lgm_store::{Map, Op};
-use std::alloc::{AllocError, Global};
+use std::alloc::Global;
 use std::collections::VecDeque;
 
 /// Admits an item and applies its operation, which is returned. A refusal or out of memory leaves the map unchanged.
@@ -31,27 +30,24 @@ fn admit(alloc: Global, map: &mut Map, item: Offered) -> Result<Op, Refusal>
     }
 }
 
-/// Offers a checked item to a map, and returns its refusal, if it is refused. The operation of an accepted one is
-/// pending from then on. Out of memory leaves all unchanged.
+/// Offers a checked item to a map. The operation of an accepted one is pending from then on. A refusal or out of memory
+/// leaves all unchanged.
 pub fn offer(
     alloc: Global,
     map: &mut Map,
     pending: &mut VecDeque<Op>,
     item: Offered,
-) -> Result<Option<Refusal>, AllocError>
-    ensures refusal { IfOk result (λ refusal. refusal ≡ result_err (outcome_on map.old item)) }
+) -> Result<(), Refusal>
+    ensures outcome { Gives Refusal.NoMemory (λ done. done) result (settled (outcome_on map.old item)) }
     ensures kept { OnOk result
         (Keeps (outcome_on map.old item) map.old map.new pending.old.items pending.new.items) }
     ensures same { OnErr result (map.new ≡ map.old) }
     ensures none { OnErr result (pending.new.items ≡ pending.old.items) }
 {
     pending.reserve(1)?;
-    match admit(alloc, map, item) {
-        Ok(op) => match pending.push_back(op) {
-            Ok(()) => Ok(None),
-            Err(_) => unreachable!(),
-        },
-        Err(Refusal::NoMemory) => Err(AllocError),
-        Err(refusal) => Ok(Some(refusal)),
+    let op = admit(alloc, map, item)?;
+    match pending.push_back(op) {
+        Ok(()) => Ok(()),
+        Err(_) => unreachable!(),
     }
 }

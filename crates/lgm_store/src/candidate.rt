@@ -3,10 +3,10 @@
 ghost use Rattle.std.specs.Prelude.{◌≡◌, IfOk};
 ghost use Rattle.lgm_wire.specs.reading.Reading.{Gives};
 ghost use Rattle.lgm_check.specs.Precheck.{checked_of};
-ghost use Rattle.lgm_store.specs.inner.Candidate.{Fits, checked_by, message_of, verdict_of};
+ghost use Rattle.lgm_store.specs.inner.Candidate.{Fits, checked_by, message_of};
 
 use crate::shared::Shared;
-use lgm_check::{Checked, Evidence, Refusal, precheck};
+use lgm_check::{CheckedKind, Evidence, Refusal, precheck_kind};
 use lgm_gossip::{Bytes, ChainHash, Point};
 use lgm_rows::{KeptChannel, KeptNode, KeptUpdate};
 use std::alloc::{AllocError, Global};
@@ -41,19 +41,8 @@ impl Model for Candidate {
     ghost view = { λ c. message_of c.kind };
 }
 
-/// What is found of a message beside its bytes.
-#[derive(Clone, Copy)]
-pub(crate) enum Verdict {
-    /// The capacity of a channel, in satoshi.
-    Channel(u64),
-    /// The point that signed an update.
-    Update(Point),
-    /// Of a node, nothing.
-    Node,
-}
-
 impl Candidate {
-    /// Checks a message as [`precheck`] does, and makes one that is lawful ready. Its bytes are kept as they are, and not
+    /// Checks a message as [`precheck`](lgm_check::precheck) does, and makes one that is lawful ready. Its bytes are kept as they are, and not
     /// copied.
     ///
     /// The refusals are those of `precheck`. `NoMemory` is no verdict on the message: memory was refused for what decoding
@@ -66,53 +55,42 @@ impl Candidate {
     ) -> Result<Candidate, Refusal>
         ensures { Gives Refusal.NoMemory (λ made. made) result (checked_of chain.now bytes evidence.now) }
     {
-        let verdict = find(alloc, chain, bytes.as_slice(), evidence)?;
+        let checked = find(alloc, chain, bytes.as_slice(), evidence)?;
         Ok(Candidate {
-            kind: keep(alloc, bytes, verdict)?,
+            kind: keep(alloc, bytes, checked)?,
         })
     }
 }
 
-/// What is found of a message, or its first refusal.
+/// What the row of a message has beside the bytes, or its first refusal.
 fn find(
     alloc: Global,
     chain: &ChainHash,
     bytes: &[u8],
     evidence: &Evidence,
-) -> Result<Verdict, Refusal>
-    ensures exact { Gives Refusal.NoMemory (λ verdict. checked_by verdict bytes.now) result
+) -> Result<CheckedKind, Refusal>
+    ensures exact { Gives Refusal.NoMemory (λ kind. checked_by kind bytes.now) result
         (checked_of chain.now bytes.now evidence.now) }
-    ensures fits { IfOk result (λ verdict. Fits verdict bytes.now) }
+    ensures fits { IfOk result (λ kind. Fits kind bytes.now) }
 {
-    let checked = precheck(alloc, chain, bytes, evidence)?;
-    Ok(verdict_of(&checked))
+    precheck_kind(alloc, chain, bytes, evidence)
 }
 
-fn verdict_of(checked: &Checked) -> Verdict
-    ensures { result ≡ verdict_of checked.now }
+/// The row that the bytes and what was found beside them make.
+fn keep(alloc: Global, bytes: Bytes, checked: CheckedKind) -> Result<Kind, AllocError>
+    requires { Fits checked bytes }
+    ensures { IfOk result (λ kind. message_of kind ≡ checked_by checked bytes) }
 {
     match checked {
-        Checked::Channel(row) => Verdict::Channel(row.sat),
-        Checked::Update(_, signer) => Verdict::Update(*signer),
-        Checked::Node(_) => Verdict::Node,
-    }
-}
-
-/// The row that the bytes and what was found make.
-fn keep(alloc: Global, bytes: Bytes, verdict: Verdict) -> Result<Kind, AllocError>
-    requires { Fits verdict bytes }
-    ensures { IfOk result (λ kind. message_of kind ≡ checked_by verdict bytes) }
-{
-    match verdict {
-        Verdict::Channel(sat) => {
+        CheckedKind::Channel(sat) => {
             let row = KeptChannel::of_owned(bytes, sat);
             Ok(Kind::Channel(Shared::new(alloc, row)?))
         }
-        Verdict::Update(signer) => {
+        CheckedKind::Update(signer) => {
             let row = KeptUpdate::of_owned(bytes);
             Ok(Kind::Update(Shared::new(alloc, row)?, signer))
         }
-        Verdict::Node => {
+        CheckedKind::Node => {
             let row = KeptNode::of_owned(bytes);
             Ok(Kind::Node(Shared::new(alloc, row)?))
         }

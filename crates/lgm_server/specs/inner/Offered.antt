@@ -39,6 +39,11 @@ outcome_on rows (Message checked) = admitted rows checked
 outcome_on rows (Close id) = admitted_close rows id
 outcome_on rows (Refused refusal) = Err refusal
 
+-- the outcome without its operation
+abbrev pub settled : Result Op Refusal → Result (Unit {0}) Refusal
+settled (Ok op) = Ok tt
+settled (Err refusal) = Err refusal
+
 -- it results from the check of an item
 abbrev pub WasChecked : Offered → Type 0
 WasChecked offered = (chain : ChainHash) × (item : Item) × (offered ≡ offered_of chain item)

@@ -4,8 +4,8 @@ use Rattle.lgm_server.specs.inner.Offered.{outcome_on}
 use Rattle.lgm_server.proofs.Fewness.{grown_few}
 use Rattle.lgm_server.proofs.engine.Engine.offer.Goals as goal
 
-pub invariant_of-self-then-is_none : goal.invariant_of-self-then-is_none
-invariant_of-self-then-is_none c =
+pub invariant_of-self-2 : goal.invariant_of-self-2
+invariant_of-self-2 c =
     let maps = c.self.inside.maps in
-    subst (λ m. IsFew m (c.self.inside.accepted + 1)) (sym c.in_ok-refusal.ensures.grown)
+    subst (λ m. IsFew m (c.self.inside.accepted + 1)) (sym c.in_ok-offer.ensures.grown)
     (grown_few maps c.self.inside.accepted (outcome_on maps.rows c.args.item) c.self.invariant)
