@@ -23,6 +23,7 @@ PROGRAM = "lgm"
 SOURCES = ("src", "specs", "proofs")
 MOST_AT_ONCE = 4
 MEMORY_OF_ONE = 6 << 30  # bytes, for a check that shares its work among several processors
+MEMORY_OF_JOB = 2 << 30  # bytes, for what one processor does of it
 NO_CHAIN = "00" * 32
 
 
@@ -66,15 +67,29 @@ def is_fresh(used, crate):
                for it in (*files_of(crate), *others, TOP / "crates.txt"))
 
 
-def default_at_once():
-    """How many checks processors and memory allow side by side."""
-    processors = len(os.sched_getaffinity(0)) if hasattr(os, "sched_getaffinity") else os.cpu_count() or 1
+def processors():
+    """How many processors this process may use."""
+    return len(os.sched_getaffinity(0)) if hasattr(os, "sched_getaffinity") else os.cpu_count() or 1
+
+
+def free_memory():
+    """The bytes that are available; 0 if the system doesn't say."""
     try:
         lines = Path("/proc/meminfo").read_text().splitlines()
-        free = next(int(line.split()[1]) << 10 for line in lines if line.startswith("MemAvailable:"))
+        return next(int(line.split()[1]) << 10 for line in lines if line.startswith("MemAvailable:"))
     except (OSError, StopIteration):
-        free = 0
-    return max(1, min(MOST_AT_ONCE, processors // 2, free // MEMORY_OF_ONE))
+        return 0
+
+
+def default_at_once():
+    """How many checks processors and memory allow side by side."""
+    return max(1, min(MOST_AT_ONCE, processors() // 2, free_memory() // MEMORY_OF_ONE))
+
+
+def jobs_of_one(at_once):
+    """Among how many processors each of several checks shares its work. Mostly one of them waits for the other, so each
+    may use all, as far as memory allows."""
+    return max(1, min(processors(), free_memory() // at_once // MEMORY_OF_JOB))
 
 
 def say(text):
@@ -82,20 +97,20 @@ def say(text):
     print(f"lgm: {text}", file=sys.stderr, flush=True)
 
 
-def rt(crate, folder, *words):
-    """Runs `rt` in a crate's folder."""
-    done = subprocess.run(["rt", *words], cwd=folder, stdin=subprocess.DEVNULL, stdout=subprocess.PIPE,
+def rt(crate, folder, jobs, command, *words):
+    """Runs a command of `rt` in a crate's folder."""
+    done = subprocess.run(["rt", command, "--jobs", str(jobs), *words], cwd=folder, stdin=subprocess.DEVNULL, stdout=subprocess.PIPE,
                           stderr=subprocess.STDOUT, check=False)
     if done.returncode:
         raise Failed(crate, done.stdout.decode(errors="replace"))
 
 
-def prove(crate):
+def prove(crate, jobs):
     """Proves and builds a library in its folder."""
-    rt(crate, TOP / "crates" / crate, "lib")
+    rt(crate, TOP / "crates" / crate, jobs, "lib")
 
 
-def prove_apart(used, crate):
+def prove_apart(used, crate, jobs):
     """Proves and builds a library in a copy of it and of those below, and brings back what that leaves."""
     own = TOP / "crates" / crate
     with tempfile.TemporaryDirectory(prefix="lgm-") as name:
@@ -115,13 +130,13 @@ def prove_apart(used, crate):
         if (own / "out").is_dir():
             shutil.move(own / "out", out)
         try:
-            rt(crate, out.parent, "lib")
+            rt(crate, out.parent, jobs, "lib")
         finally:
             if out.is_dir():
                 shutil.move(out, own / "out")
 
 
-def prove_all(used, crates, at_once):
+def prove_all(used, crates, at_once, jobs):
     """Proves and builds libraries, each behind those below it, and first those with most work above them."""
     size = {it: sum(file.stat().st_size for file in files_of(it)) for it in crates}
     work = {it: 0 for it in crates}
@@ -135,7 +150,7 @@ def prove_all(used, crates, at_once):
                 left.remove(it)
                 started[it] = time.monotonic()
                 say(f"{it} ..")
-                call = (prove_apart, used, it) if at_once > 1 else (prove, it)
+                call = (prove_apart, used, it, jobs) if at_once > 1 else (prove, it, jobs)
                 running[pool.submit(*call)] = it
             for ended in wait(running, return_when=FIRST_COMPLETED).done:
                 it = running.pop(ended)
@@ -148,12 +163,12 @@ def prove_all(used, crates, at_once):
                 say(f"{it}: {time.monotonic() - started[it]:.0f} s, {len(done)} of {len(crates) + 1}")
 
 
-def build_program(count):
+def build_program(count, jobs):
     """Proves, builds and runs the program, on an empty script, which writes nothing."""
     program = TOP / "crates" / PROGRAM / "out" / PROGRAM
     started, clock = time.time(), time.monotonic()
     say(f"{PROGRAM} ..")
-    rt(PROGRAM, program.parent.parent, "run", "--", "run", "--chain", NO_CHAIN)
+    rt(PROGRAM, program.parent.parent, jobs, "run", "--", "run", "--chain", NO_CHAIN)
     # As old as the start: a file that was edited meanwhile is newer.
     os.utime(program, (started, started))
     say(f"{PROGRAM}: {time.monotonic() - clock:.0f} s, {count} of {count}")
@@ -170,11 +185,12 @@ def main():
         if any(lower in stale for lower in used[it]) or not is_fresh(used, it):
             stale.append(it)
     at_once = min(at_once, max(1, len(stale)))
-    say(f"proving and building {len(stale) + 1} of {len(crates) + 1} crates, {at_once} at once; all of them take 20 to 30 minutes")
+    jobs = jobs_of_one(at_once)
+    say(f"proving and building {len(stale) + 1} of {len(crates) + 1} crates, {at_once} at once; all of them take 30 to 45 minutes")
     begun = time.monotonic()
     try:
-        prove_all(used, stale, at_once)
-        build_program(len(stale) + 1)
+        prove_all(used, stale, at_once, jobs)
+        build_program(len(stale) + 1, jobs)
     except Failed as failed:
         crate, said = failed.args
         sys.stderr.write(said)

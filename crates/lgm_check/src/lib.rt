@@ -14,4 +14,4 @@ mod row;
 pub use evidence::{Evidence, Funding, Sig};
 pub use prechecking::{MAX_SAT, accepted_exactly, precheck, precheck_kind};
 pub use refusal::Refusal;
-pub use row::{BanRow, ChannelRow, Checked, CheckedKind, NodeRow, UpdateRow};
+pub use row::{BanRow, ChannelRow, Checked, CheckedKind, NodeRow, Signer, UpdateRow};

@@ -3,6 +3,7 @@
 ghost use Rattle.std.specs.Prelude.{◌≡◌, ℕ, ◌<◌, ◌⊎◌, List, Ok, IfOk, MatchResult, slice_index};
 ghost use Rattle.lgm_wire.specs.reading.Reading.{Sees, Gives};
 ghost use Rattle.lgm_gossip.specs.Memory.{GivesIf, TakesMemory};
+ghost use Rattle.lgm_gossip.specs.Message.{Wire};
 ghost use Rattle.lgm_wire.specs.declared.chain_hash.ChainHash.{ChainHash};
 ghost use Rattle.lgm_check.specs.declared.evidence.Evidence.{Evidence};
 ghost use Rattle.lgm_check.specs.declared.row.Checked.{Checked};
@@ -10,11 +11,12 @@ ghost use Rattle.lgm_check.specs.Accepted.{IsAccepted, IsAcceptedAs};
 ghost use Rattle.lgm_check.specs.Precheck.{require as requirement, has_lawful_points, are_in_order};
 ghost use Rattle.lgm_check.specs.Precheck.{capacity_of, is_all_four, is_private, signer_of};
 ghost use Rattle.lgm_check.specs.Precheck.{channel_of, update_of, node_of, kind_read};
-ghost use Rattle.lgm_check.specs.Precheck.{checked_announce, checked_update, checked_node, checked_of};
+ghost use Rattle.lgm_check.specs.Precheck.{checked_announce, checked_update, checked_node};
+ghost use Rattle.lgm_check.specs.Precheck.{checked_message, checked_of};
 
 use crate::evidence::{Evidence, Funding, Sig};
 use crate::refusal::Refusal;
-use crate::row::{ChannelRow, Checked, CheckedKind, NodeRow, UpdateRow};
+use crate::row::{ChannelRow, Checked, CheckedKind, NodeRow, Signer, UpdateRow};
 use lgm_gossip::{Announce, ChainHash, ChannelUpdate, Lent, Message, NodeAnnounce, Point, decode};
 use std::alloc::Global;
 
@@ -91,8 +93,8 @@ fn is_private(message: &ChannelUpdate) -> bool
 
 /// The point that signed.
 #[inline(always)]
-fn signer(sig: Sig) -> Result<Point, Refusal>
-    ensures { result ≡ signer_of sig }
+fn signer(sig: &Sig) -> Result<&Point, Refusal>
+    ensures { Sees (λ point. point.now) result (signer_of sig.now) }
 {
     match sig {
         Sig::By(point) => Ok(point),
@@ -103,13 +105,17 @@ fn signer(sig: Sig) -> Result<Point, Refusal>
 /// The point that signed a `channel_update`, or the first refusal.
 #[tactic(auto, unfolding(crate::specs::Precheck::checked_update))]
 #[inline(always)]
-fn update(chain: &ChainHash, message: &ChannelUpdate, evidence: &Evidence) -> Result<Point, Refusal>
+fn update<'a>(
+    chain: &ChainHash,
+    message: &ChannelUpdate,
+    evidence: &'a Evidence,
+) -> Result<Signer<'a>, Refusal>
     ensures { (bytes : List ℕ) → Sees (λ signer. update_of message.now signer bytes) result
         (checked_update chain.now message.now bytes evidence.now) }
 {
     require(message.chain_hash == *chain, Refusal::Chain)?;
     require(!is_private(message), Refusal::Private)?;
-    signer(evidence.sig)
+    Ok(Signer::new(signer(&evidence.sig)?))
 }
 
 /// Whether a `node_announcement` is accepted, or the first refusal.
@@ -120,8 +126,8 @@ fn node(message: &NodeAnnounce, evidence: &Evidence) -> Result<(), Refusal>
         (checked_node message.now bytes evidence.now) }
 {
     require(message.node_id.lawful(), Refusal::Point)?;
-    let signer = signer(evidence.sig)?;
-    require(signer == message.node_id, Refusal::Signature)
+    let signer = signer(&evidence.sig)?;
+    require(*signer == message.node_id, Refusal::Signature)
 }
 
 /// The row of any message, or its first refusal.
@@ -149,7 +155,7 @@ fn check<'a>(
             let signer = update(chain, message, evidence)?;
             let message = message.again();
             let raw = Lent::new(bytes);
-            Ok(Checked::Update(UpdateRow { message, raw }, signer))
+            Ok(Checked::Update(UpdateRow { message, raw }, *signer.point()))
         }
         Message::NodeAnnounce(message) => {
             node(message, evidence)?;
@@ -161,21 +167,19 @@ fn check<'a>(
     }
 }
 
-/// What the row of any message has beside the bytes, or the first refusal.
-#[tactic(auto, unfolding(crate::specs::Precheck::checked_of))]
+/// What the row of a message has beside the bytes, or the first refusal.
 #[inline(always)]
-fn check_kind(
-    alloc: Global,
+fn message_kind<'a>(
     chain: &ChainHash,
-    bytes: &[u8],
-    evidence: &Evidence,
-) -> Result<CheckedKind, Refusal>
-    ensures exact { GivesIf (TakesMemory bytes.now) Refusal.NoMemory (λ kind. kind) result
-        (kind_read (checked_of chain.now bytes.now evidence.now)) }
-    ensures accepted { IfOk result (λ kind. IsAcceptedAs chain.now bytes.now evidence.now kind) }
+    message: &Message,
+    evidence: &'a Evidence,
+) -> Result<CheckedKind<'a>, Refusal>
+    ensures exact { (bytes : List ℕ) → Sees (λ kind. kind) result
+        (kind_read (checked_message chain.now message.now bytes evidence.now)) }
+    ensures accepted { (bytes : List ℕ) → Wire message.now bytes
+        → IfOk result (λ kind. IsAcceptedAs chain.now bytes evidence.now kind) }
 {
-    let message = decode(alloc, bytes)?;
-    match &message {
+    match message {
         Message::Announce(message) => {
             let sat = announce(chain, message, evidence)?;
             Ok(CheckedKind::Channel(sat))
@@ -189,6 +193,25 @@ fn check_kind(
             Ok(CheckedKind::Node)
         }
         _ => Err(Refusal::NotGossip),
+    }
+}
+
+/// What the row of any bytes has beside them, or the first refusal.
+#[tactic(auto, unfolding(crate::specs::Precheck::checked_of))]
+#[inline(always)]
+fn check_kind<'a>(
+    alloc: Global,
+    chain: &ChainHash,
+    bytes: &[u8],
+    evidence: &'a Evidence,
+) -> Result<CheckedKind<'a>, Refusal>
+    ensures exact { GivesIf (TakesMemory bytes.now) Refusal.NoMemory (λ kind. kind) result
+        (kind_read (checked_of chain.now bytes.now evidence.now)) }
+    ensures accepted { IfOk result (λ kind. IsAcceptedAs chain.now bytes.now evidence.now kind) }
+{
+    match &decode(alloc, bytes) {
+        Ok(message) => message_kind(chain, message, evidence),
+        Err(fault) => Err(Refusal::from(*fault)),
     }
 }
 
@@ -230,12 +253,12 @@ pub fn precheck<'a>(
 ///
 /// The refusals are those of `precheck`. No row is made, so this is faster for a caller that has the bytes.
 #[inline(always)]
-pub fn precheck_kind(
+pub fn precheck_kind<'a>(
     alloc: Global,
     chain: &ChainHash,
     bytes: &[u8],
-    evidence: &Evidence,
-) -> Result<CheckedKind, Refusal>
+    evidence: &'a Evidence,
+) -> Result<CheckedKind<'a>, Refusal>
     ensures accepted { IfOk result (λ kind. IsAcceptedAs chain.now bytes.now evidence.now kind) }
     ensures exact { Gives Refusal.NoMemory (λ kind. kind) result
         (kind_read (checked_of chain.now bytes.now evidence.now)) }

@@ -47,7 +47,6 @@ pub fn number_below(limit: u64, digits: &[u8]) -> Option<u64>
 }
 
 /// A point: any 33 bytes, each as two hexadecimal digits.
-#[inline(always)]
 pub fn point(digits: &[u8]) -> Option<Point>
     ensures { result ≡ point_of digits.now }
 {

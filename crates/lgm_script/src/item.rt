@@ -39,7 +39,6 @@ pub fn bytes(alloc: Global, digits: &[u8]) -> Result<Option<Bytes>, AllocError>
 }
 
 /// A verdict on signatures: `all`, `not-all`, `nobody` or the point that signed.
-#[inline(always)]
 fn sig(word: &[u8]) -> Option<Sig>
     ensures { result ≡ sig_of word.now }
 {
@@ -56,7 +55,6 @@ fn sig(word: &[u8]) -> Option<Sig>
 }
 
 /// A verdict on a funding output: `spent`, `wrong`, `-` or its satoshi.
-#[inline(always)]
 fn funding(word: &[u8]) -> Option<Funding>
     ensures { result ≡ funding_of word.now }
 {
@@ -73,7 +71,6 @@ fn funding(word: &[u8]) -> Option<Funding>
 }
 
 /// The verdicts on a message: `SIG` and `FUNDING`.
-#[inline(always)]
 fn evidence(signer: &[u8], output: &[u8]) -> Option<Evidence>
     ensures { result ≡ evidence_of (signer.now ∷ output.now ∷ []) }
 {

@@ -63,12 +63,12 @@ impl Candidate {
 }
 
 /// What the row of a message has beside the bytes, or its first refusal.
-fn find(
+fn find<'a>(
     alloc: Global,
     chain: &ChainHash,
     bytes: &[u8],
-    evidence: &Evidence,
-) -> Result<CheckedKind, Refusal>
+    evidence: &'a Evidence,
+) -> Result<CheckedKind<'a>, Refusal>
     ensures exact { Gives Refusal.NoMemory (λ kind. checked_by kind bytes.now) result
         (checked_of chain.now bytes.now evidence.now) }
     ensures fits { IfOk result (λ kind. Fits kind bytes.now) }
@@ -77,9 +77,9 @@ fn find(
 }
 
 /// The row that the bytes and what was found beside them make.
-fn keep(alloc: Global, bytes: Bytes, checked: CheckedKind) -> Result<Kind, AllocError>
+fn keep(alloc: Global, bytes: Bytes, checked: CheckedKind<'_>) -> Result<Kind, AllocError>
     requires { Fits checked bytes }
-    ensures { IfOk result (λ kind. message_of kind ≡ checked_by checked bytes) }
+    ensures { IfOk result (λ kind. message_of kind ≡ checked_by checked.entry bytes) }
 {
     match checked {
         CheckedKind::Channel(sat) => {
@@ -88,7 +88,7 @@ fn keep(alloc: Global, bytes: Bytes, checked: CheckedKind) -> Result<Kind, Alloc
         }
         CheckedKind::Update(signer) => {
             let row = KeptUpdate::of_owned(bytes);
-            Ok(Kind::Update(Shared::new(alloc, row)?, signer))
+            Ok(Kind::Update(Shared::new(alloc, row)?, *signer.point()))
         }
         CheckedKind::Node => {
             let row = KeptNode::of_owned(bytes);

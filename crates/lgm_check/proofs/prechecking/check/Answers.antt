@@ -16,7 +16,7 @@ returns-in-ChannelUpdate-clause-accepted c =
     let bytes = c.args.bytes.now in
     let wire = rw c.in-ChannelUpdate.is at c.in_ok-message.ensures.found in
     let made = update_of c.in-ChannelUpdate.message c.in_ok-signer-in-ChannelUpdate.signer bytes in
-    rw (c.again-message-in-ChannelUpdate.ensures, c.new-raw-in-ChannelUpdate.ensures)
+    rw (c.again-message-in-ChannelUpdate.ensures, c.new-raw-in-ChannelUpdate.ensures, c.point.ensures)
     (update_takes c.args.chain.now c.in-ChannelUpdate.message bytes c.args.evidence.now made wire
     (c.in_ok-signer-in-ChannelUpdate.ensures bytes))
 
