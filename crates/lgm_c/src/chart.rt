@@ -13,7 +13,7 @@ ghost use Rattle.lgm_c.specs.inner.Charted.{IsViewed};
 ghost use Rattle.lgm_c.specs.Offering.{offered_to};
 
 use lgm_check::{Evidence, Refusal, precheck};
-use lgm_gossip::{Bytes, ChainHash, Scid};
+use lgm_gossip::{ChainHash, Scid};
 use lgm_graph::{Known, View};
 use lgm_route::{Request, Route, RouteFault, answer};
 use lgm_store::{Candidate, Map, Op, Seed};
@@ -93,7 +93,6 @@ impl Chart {
         ensures refused { OnErr result (self.new ≡ self.old) }
     {
         if self.view.is_none() {
-            let bytes = Bytes::from_slice(alloc, bytes)?;
             let candidate = Candidate::precheck(alloc, chain, bytes, evidence)?;
             return self.map.offer_candidate(alloc, candidate);
         }

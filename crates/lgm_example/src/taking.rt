@@ -2,7 +2,6 @@
 
 use crate::messages::CHAIN;
 use lgm_check::{Evidence, Refusal};
-use lgm_gossip::Bytes;
 use lgm_publish::Pen;
 use lgm_store::{Candidate, Map, Op, Seed};
 use std::alloc::{AllocError, Global};
@@ -44,7 +43,7 @@ impl Taker {
         &mut self,
         alloc: Global,
         pen: &mut Pen,
-        bytes: Bytes,
+        bytes: &[u8],
         evidence: &Evidence,
     ) -> Result<(), Refusal> {
         self.append(pen)?;

@@ -13,7 +13,7 @@ use Rattle.lgm_live.specs.inner.Gathered.{Gathered, slot_of, IsAgenda}
 use Rattle.lgm_live.specs.inner.Reading.{IsAsked}
 use Rattle.lgm_live.specs.Running.{IsReport, IsReportOn, IsToldWhole, IsToldInPart}
 use Rattle.lgm_live.specs.inner.Telling.{slots_before, AreThere}
-use Rattle.lgm_live.specs.Told.{told_all, AreSame}
+use Rattle.lgm_live.specs.Text.{live_text, AreSame}
 use Rattle.lgm_live.proofs.Slots.{text_is, all_there}
 use Rattle.lgm_live.proofs.Scripts.{are_same, is_full}
 
@@ -42,13 +42,13 @@ pub whole : (chain : ChainHash) (known : Option (List ℕ)) (workers : ℕ) (scr
 whole chain known workers None asked report all old mid new some read is slots_are same told = tt
 whole chain known workers (Some script) asked report all old mid new some read is slots_are same told =
     let same_answers = are_same chain known workers asked report some is in
-    let text : Appends old new (told_all workers known report asked) =
-    subst (λ o. Appends o new (told_all workers known report asked)) same (subst (Appends mid new)
+    let text : Appends old new (live_text workers known report asked) =
+    subst (λ o. Appends o new (live_text workers known report asked)) same (subst (Appends mid new)
     (sym (text_is workers known report asked all same_answers slots_are)) told) in
     record {
       limits = read.limits;
       is_report = subst (λ rs. IsReportOn chain known workers rs report) read.all is;
-      text = subst (λ rs. Appends old new (told_all workers known report rs)) read.all text;
+      text = subst (λ rs. Appends old new (live_text workers known report rs)) read.all text;
       same = subst (λ rs. AreSame workers known report (payments_of rs)) read.all same_answers;
     }
 
@@ -61,12 +61,12 @@ pub in_part : (chain : ChainHash) (known : Option (List ℕ)) (workers : ℕ) (s
 in_part chain known workers None asked report all old mid new some read is slots_are same told = tt
 in_part chain known workers (Some script) asked report all old mid new some read is slots_are same told =
     let same_answers = are_same chain known workers asked report some is in
-    let text : AppendsSome old new (told_all workers known report asked) =
-    subst (λ o. AppendsSome o new (told_all workers known report asked)) same (subst (AppendsSome mid new)
+    let text : AppendsSome old new (live_text workers known report asked) =
+    subst (λ o. AppendsSome o new (live_text workers known report asked)) same (subst (AppendsSome mid new)
     (sym (text_is workers known report asked all same_answers slots_are)) told) in
     record {
       limits = read.limits;
       report = report;
       is_report = subst (λ rs. IsReportOn chain known workers rs report) read.all is;
-      text = subst (λ rs. AppendsSome old new (told_all workers known report rs)) read.all text;
+      text = subst (λ rs. AppendsSome old new (live_text workers known report rs)) read.all text;
     }

@@ -34,7 +34,7 @@ use Rattle.lgm_live.specs.Agenda.{batches_behind, batches_of, payments_of, dealt
 use Rattle.lgm_live.specs.Answers.{IsAnsweredBy, AreAnsweredBy}
 use Rattle.lgm_live.specs.Batches.{items_of as all_items, ends_behind}
 use Rattle.lgm_live.specs.Running.{IsReportOn}
-use Rattle.lgm_live.specs.Told.{same_hop, same_answer, replay_word, AreSame}
+use Rattle.lgm_live.specs.Text.{same_hop, same_answer, replay_word, AreSame}
 use Rattle.lgm_live.proofs.Dealing.{dealt_in_turn}
 use Rattle.lgm_live.proofs.Slots.{IsFull}
 

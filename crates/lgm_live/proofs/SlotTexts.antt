@@ -6,14 +6,14 @@ use Rattle.std.specs.Fmt.{decimal}
 use Rattle.std.proofs.lemmas.List.{append-nil, take_more}
 use Rattle.std.proofs.lemmas.List.Sums.{sum_by-append}
 use Rattle.lgm_script.specs.declared.output.SendFault.{SendFault}
-use Rattle.lgm_script.specs.Output.{Told, Tells, TellsPart}
+use Rattle.lgm_script.specs.Output.{OutputState, Tells, TellsPart}
 use Rattle.lgm_script.specs.Text.{word_line}
 use Rattle.lgm_script.proofs.Telling.{tells_both, tells_part_behind, tells_part_more}
 use Rattle.lgm_live.specs.declared.report.LiveReport.{LiveReport}
 use Rattle.lgm_live.specs.declared.slot.Slot.{Slot}
 use Rattle.lgm_live.specs.declared.slot.Slot.TheVariants as slots
 use Rattle.lgm_live.specs.declared.telling.Place.{Place}
-use Rattle.lgm_live.specs.Told.{at_line}
+use Rattle.lgm_live.specs.Text.{at_line}
 use Rattle.lgm_live.specs.inner.Telling.{is_item, is_end, is_payment, place_behind, place_passed, slot_text, slots_before}
 
 -- ---- the line of a version
@@ -97,7 +97,7 @@ text_here workers report all k number place number_is place_is =
     ∙ ap (λ (p : Place). slot_text workers report (k + 1) p (get_or all k slots.Quiet)) place_is
 
 -- one more slot was told
-pub one_more : (workers : ℕ) (report : LiveReport) (all : List Slot) (k : ℕ) (old mid new : Told)
+pub one_more : (workers : ℕ) (report : LiveReport) (all : List Slot) (k : ℕ) (old mid new : OutputState)
     → Tells old mid (slots_before workers report all k) → Tells mid new (text_at workers report all k)
     → Tells old new (slots_before workers report all (k + 1))
 one_more workers report all k old mid new so_far told =
@@ -105,7 +105,7 @@ one_more workers report all k old mid new so_far told =
     (slots_before workers report all k) (text_at workers report all k) so_far told)
 
 -- a part of it, and then a fault
-pub stops : (workers : ℕ) (report : LiveReport) (all : List Slot) (k : ℕ) (old mid new : Told)
+pub stops : (workers : ℕ) (report : LiveReport) (all : List Slot) (k : ℕ) (old mid new : OutputState)
     (fault : SendFault) → k < length all → Tells old mid (slots_before workers report all k)
     → TellsPart mid new (text_at workers report all k) fault → TellsPart old new (slots_before workers report all (length all)) fault
 stops workers report all k old mid new fault below so_far part =

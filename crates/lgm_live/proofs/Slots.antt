@@ -19,7 +19,7 @@ use Rattle.lgm_live.specs.declared.slot.Slot.{Slot}
 use Rattle.lgm_live.specs.declared.slot.Slot.TheVariants as slots
 use Rattle.lgm_live.specs.Agenda.{payment_in, payments_of}
 use Rattle.lgm_live.specs.inner.Gathered.{slot_of}
-use Rattle.lgm_live.specs.Told.{answer_at, at_line, replay_word, payment_text, told_for, told_before, told_all, AreSame}
+use Rattle.lgm_live.specs.Text.{answer_at, at_line, replay_word, payment_text, live_text_for, live_text_before, live_text, AreSame}
 use Rattle.lgm_live.specs.inner.Telling.{is_item, is_end, is_payment, place_behind, same_text, slot_text, slots_before, IsThere, AreThere}
 
 pub count_by-cons : {X : Type 0} (p : X → Bool) (x : X) (xs : List X) → count_by p (x ∷ xs) ≡ cond (p x) 1 0 + count_by p xs
@@ -109,7 +109,7 @@ paid_text : (workers : ℕ) (known : Option (List ℕ)) (report : LiveReport) (n
     (payment : Payment) (answer : LiveAnswer)
     → answer_at workers report.answers.items (length (payments_of before)) ≡ Some answer
     → replay_word known report.ops.items payment answer ≡ codes "same"
-    → told_for workers known report number before (requests.Route payment)
+    → live_text_for workers known report number before (requests.Route payment)
     ≡ slot_text workers report number (place_behind (map slot_of before)) (slots.Payment payment.secret)
 paid_text workers known report number before payment answer at same =
     ap (payment_text known report.ops.items number payment) at
@@ -119,7 +119,7 @@ paid_text workers known report number before payment answer at same =
 
 one_told : (workers : ℕ) (known : Option (List ℕ)) (report : LiveReport) (number : ℕ) (before : List Request)
     (request : Request) → IsPaid workers known report before request
-    → told_for workers known report number before request ≡ slot_text workers report number (place_behind (map slot_of before)) (slot_of request)
+    → live_text_for workers known report number before request ≡ slot_text workers report number (place_behind (map slot_of before)) (slot_of request)
 one_told workers known report number before requests.Quiet paid = refl
 one_told workers known report number before requests.Bad paid = refl
 one_told workers known report number before (requests.Offer item) paid =
@@ -140,13 +140,13 @@ paid_at workers known report asked k same below =
 
 text_before : (workers : ℕ) (known : Option (List ℕ)) (report : LiveReport) (asked : List Request) (k : ℕ)
     → AreSame workers known report (payments_of asked) → k ≤ length asked
-    → told_before workers known report asked k ≡ slots_before workers report (map slot_of asked) k
-unfolding told_before slots_before
+    → live_text_before workers known report asked k ≡ slots_before workers report (map slot_of asked) k
+unfolding live_text_before slots_before
 text_before workers known report asked zero same within = refl
 text_before workers known report asked (suc k) same within =
     let below : k < length asked = omega (arith, within) in
     let request = get_or asked k requests.Quiet in
-    ap (λ (text : List ℕ). text ++ told_for workers known report (k + 1) (take k asked) request)
+    ap (λ (text : List ℕ). text ++ live_text_for workers known report (k + 1) (take k asked) request)
     (text_before workers known report asked k same (omega (arith, within)))
     ∙ ap (λ (text : List ℕ). slots_before workers report (map slot_of asked) k ++ text)
     (one_told workers known report (k + 1) (take k asked) request (paid_at workers known report asked k same below)
@@ -156,7 +156,7 @@ text_before workers known report asked (suc k) same within =
 -- the text of a script is that of its slots
 pub text_is : (workers : ℕ) (known : Option (List ℕ)) (report : LiveReport) (asked : List Request)
     (all : List Slot) → AreSame workers known report (payments_of asked) → all ≡ map slot_of asked
-    → told_all workers known report asked ≡ slots_before workers report all (length all)
+    → live_text workers known report asked ≡ slots_before workers report all (length all)
 text_is workers known report asked all same is =
     rw is (text_before workers known report asked (length asked) same (omega arith)
     ∙ ap (slots_before workers report (map slot_of asked)) (sym (length-map asked slot_of)))

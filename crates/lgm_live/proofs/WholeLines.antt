@@ -10,7 +10,7 @@ use Rattle.lgm_script.specs.declared.reading.LineFault.TheVariants as lines
 use Rattle.lgm_script.specs.declared.output.SendFault.TheVariants.{Write as SendWrite}
 use Rattle.lgm_script.specs.Device.{IsAtEnd, Appends}
 use Rattle.lgm_script.specs.Lines.{lines_of, onto_first, ahead, IsFirstLine, IsLongerThan}
-use Rattle.lgm_script.specs.Output.{Told, Tells, TellsPart}
+use Rattle.lgm_script.specs.Output.{OutputState, Tells, TellsPart}
 use Rattle.lgm_script.specs.Request.{request_of}
 use Rattle.lgm_script.proofs.FirstLines.{each-push}
 use Rattle.lgm_script.proofs.Splitting.{next_of}
@@ -149,7 +149,7 @@ long (Some script) asked input (Some s) so_far kept limit longer =
 -- ---- nothing is written
 
 -- what a text of no bytes leaves
-pub record IsSilent (old new : Told) : Type 0 where
+pub record IsSilent (old new : OutputState) : Type 0 where
   pub taken : new.taken ≡ old.taken
   pub clear : new.gathered ≡ []
 
@@ -157,7 +157,7 @@ nothing_taken : (old new : Option (List ℕ)) (written : List ℕ) → written �
 nothing_taken None new written none taken = taken
 nothing_taken (Some bytes) new written none taken = taken ∙ ap (λ (w : List ℕ). some_bytes (bytes ++ w)) none ∙ ap some_bytes (append-nil bytes)
 
-pub silent : (old new : Told) → old.gathered ≡ [] → Tells old new [] → IsSilent old new
+pub silent : (old new : OutputState) → old.gathered ≡ [] → Tells old new [] → IsSilent old new
 silent old new clear told =
     let size = ap length told.whole ∙ ap (λ (g : List ℕ). length (g ++ [])) clear in
     record {
@@ -167,7 +167,7 @@ silent old new clear told =
       clear = nil_from_length new.gathered (omega (arith, size, length-append told.written new.gathered));
     }
 
-silent_part : (old new : Told) → old.gathered ≡ [] → TellsPart old new [] SendWrite → IsSilent old new
+silent_part : (old new : OutputState) → old.gathered ≡ [] → TellsPart old new [] SendWrite → IsSilent old new
 silent_part old new clear part =
     let size = ap length part.whole ∙ ap (λ (g : List ℕ). length (g ++ [])) clear in
     let parts = length-append (part.written ++ new.gathered) part.lost in
@@ -181,7 +181,7 @@ abbrev pub failed : {T : Type 0} → LineFault → Result T LineFault
 failed fault = Err fault
 
 -- whatever the fault
-pub silent_fault : {T : Type 0} (fault : LineFault) (old new : Told) → old.gathered ≡ []
+pub silent_fault : {T : Type 0} (fault : LineFault) (old new : OutputState) → old.gathered ≡ []
     → (failed {T = T} fault ≢ failed lines.Write → Tells old new [])
     → (failed {T = T} fault ≡ failed lines.Write → TellsPart old new [] SendWrite)
     → IsSilent old new

@@ -1,7 +1,7 @@
 pub mod Answers
 pub mod Batches
 pub mod Agenda
-pub mod Told
+pub mod Text
 pub mod Running
 pub mod RunsLive
 pub mod inner

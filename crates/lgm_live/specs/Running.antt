@@ -21,7 +21,7 @@ use Rattle.lgm_live.specs.declared.run_live_fault.RunLiveFault.TheVariants as fa
 use Rattle.lgm_live.specs.Answers.{AreAnsweredBy, NeverFall, IsAtEnd}
 use Rattle.lgm_live.specs.Batches.{items_of, ends_of}
 use Rattle.lgm_live.specs.Agenda.{batches_of, payments_of, lists_of}
-use Rattle.lgm_live.specs.Told.{told_all, AreSame}
+use Rattle.lgm_live.specs.Text.{live_text, AreSame}
 
 abbrev pub line_fault : LineFault → RunLiveFault
 line_fault lines.Read = faults.Read
@@ -66,7 +66,7 @@ pub record IsToldWhole (chain : ChainHash) (known : Option (List ℕ)) (workers 
     (report : LiveReport) (script : List ℕ) : Type 0 where
   pub limits : IsWithin script
   pub is_report : IsReportOn chain known workers (requests_of script) report
-  pub text : told (told_all workers known report (requests_of script))
+  pub text : told (live_text workers known report (requests_of script))
   pub same : AreSame workers known report (payments_of (requests_of script))
 
 -- a prefix of the text of the whole script and of some report on it was written
@@ -75,7 +75,7 @@ pub record IsToldInPart (chain : ChainHash) (known : Option (List ℕ)) (workers
   pub limits : IsWithin script
   pub report : LiveReport
   pub is_report : IsReportOn chain known workers (requests_of script) report
-  pub text : told_part (told_all workers known report (requests_of script))
+  pub text : told_part (live_text workers known report (requests_of script))
 
 -- none of the first n lines is too long
 abbrev pub AreShort : List ℕ → ℕ → Type 0

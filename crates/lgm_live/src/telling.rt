@@ -1,11 +1,11 @@
 //! Writing the text of a script and of the report on it.
 
-ghost use Rattle.std.specs.Prelude.{◌≡◌, ◌≤◌, ◌+◌, ◌<◌, ◌^◌, [], length, IsSome, IfErr, OnOk, OnErr};
+ghost use Rattle.std.specs.Prelude.{◌≡◌, ◌≤◌, ◌+◌, ◌<◌, ◌^◌, [], length, IsSome, OnOk, OnErr};
 ghost use Rattle.std.specs.Option.{option_map};
 ghost use Rattle.lgm_script.specs.Device.{Appends, AppendsSome};
-ghost use Rattle.lgm_script.specs.Output.{Sends, SendsPart};
+ghost use Rattle.lgm_script.specs.Output.{Writes};
 ghost use Rattle.lgm_server.specs.Answer.{route_text};
-ghost use Rattle.lgm_live.specs.Told.{answer_at};
+ghost use Rattle.lgm_live.specs.Text.{answer_at};
 ghost use Rattle.lgm_live.specs.inner.Telling.{place_passed, same_text, slot_text};
 ghost use Rattle.lgm_live.specs.inner.Telling.{slots_before, IsThere, AreThere};
 ghost use Rattle.lgm_live.specs.declared.report.LiveAnswer.{LiveAnswer};
@@ -71,10 +71,8 @@ fn tell_result<W: Sink>(
 ) -> Result<(), SendFault>
     requires { W.failures output.old.writer.now + 1 < 2 ^ 64 }
     ensures writer { output.new.writer.ghost_name ≡ output.old.writer.ghost_name }
-    ensures told { OnOk result
-        (Sends W.taken W.failures output.old output.new (route_text number secret.now found.now)) }
-    ensures fault { IfErr result
-        (SendsPart W.taken W.failures output.old output.new (route_text number secret.now found.now)) }
+    ensures written { Writes W.taken W.failures output.old output.new
+        (route_text number secret.now found.now) result }
 {
     match found {
         Ok(route) => {
@@ -96,10 +94,8 @@ fn tell_answer<W: Sink>(
 ) -> Result<(), SendFault>
     requires { W.failures output.old.writer.now + 1 < 2 ^ 64 }
     ensures writer { output.new.writer.ghost_name ≡ output.old.writer.ghost_name }
-    ensures told { OnOk result
-        (Sends W.taken W.failures output.old output.new (same_text number secret.now (Some answer.now))) }
-    ensures fault { IfErr result
-        (SendsPart W.taken W.failures output.old output.new (same_text number secret.now (Some answer.now))) }
+    ensures written { Writes W.taken W.failures output.old output.new
+        (same_text number secret.now (Some answer.now)) result }
 {
     let version = answer.version;
     let word = format!(in alloc; "at {version} same")?;
@@ -121,10 +117,8 @@ fn tell_slot<W: Sink>(
     requires there { IsThere workers report.now place slot }
     requires writer { W.failures output.old.writer.now + 1 < 2 ^ 64 }
     ensures writer { output.new.writer.ghost_name ≡ output.old.writer.ghost_name }
-    ensures told { OnOk result
-        (Sends W.taken W.failures output.old output.new (slot_text workers report.now number place slot)) }
-    ensures fault { IfErr result (SendsPart W.taken W.failures output.old output.new
-        (slot_text workers report.now number place slot)) }
+    ensures written { Writes W.taken W.failures output.old output.new
+        (slot_text workers report.now number place slot) result }
 {
     match slot {
         Slot::Quiet => Ok(()),
@@ -153,10 +147,8 @@ fn tell_slots<W: Sink>(
     requires slots { (length slots.now ≤ 10000000) × AreThere workers report.now slots.now }
     requires writer { W.failures output.old.writer.now + 1 < 2 ^ 64 }
     ensures writer { output.new.writer.ghost_name ≡ output.old.writer.ghost_name }
-    ensures told { OnOk result (Sends W.taken W.failures output.old output.new
-        (slots_before workers report.now slots.now (length slots.now))) }
-    ensures fault { IfErr result (SendsPart W.taken W.failures output.old output.new
-        (slots_before workers report.now slots.now (length slots.now))) }
+    ensures written { Writes W.taken W.failures output.old output.new
+        (slots_before workers report.now slots.now (length slots.now)) result }
 {
     let mut number = 0;
     let mut place = Place {

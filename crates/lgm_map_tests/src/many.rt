@@ -25,7 +25,7 @@ fn offer(alloc: Global, map: &mut Map, item: &Item, mark: u16) -> Result<Op, Ref
     match offer_of(alloc, item, mark)? {
         Offer::Gossip(message, evidence) => {
             let chain = ChainHash([0xc1; 32]);
-            let candidate = Candidate::precheck(alloc, &chain, message, &evidence)?;
+            let candidate = Candidate::precheck(alloc, &chain, message.as_slice(), &evidence)?;
             map.offer_candidate(alloc, candidate)
         }
         Offer::Close(scid) => {

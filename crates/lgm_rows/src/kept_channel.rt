@@ -8,7 +8,7 @@ ghost use Rattle.lgm_rows.specs.Announce.{features_len, announce_in, channel_row
 use crate::places::{array, lent, number16, number64, point, rest, signature};
 use crate::raw::Raw;
 use lgm_check::ChannelRow;
-use lgm_gossip::{Announce, Bytes, ChainHash, Lent, Point, Scid};
+use lgm_gossip::{Announce, ChainHash, Lent, Point, Scid};
 use std::alloc::{AllocError, Global};
 use std::marker::Model;
 
@@ -73,15 +73,15 @@ impl KeptChannel {
         })
     }
 
-    /// Stores the row that these bytes encode. It allocates nothing.
-    pub fn of_owned(raw: Bytes, sat: u64) -> KeptChannel
-        requires { IsAnnounce raw }
-        ensures { result ≡ channel_row sat raw }
+    /// Stores the row that these bytes encode, by a copy of them.
+    pub fn of_bytes(alloc: Global, raw: &[u8], sat: u64) -> Result<KeptChannel, AllocError>
+        requires { IsAnnounce raw.now }
+        ensures { IfOk result (λ kept. kept ≡ channel_row sat raw.now) }
     {
-        KeptChannel {
+        Ok(KeptChannel {
             sat,
-            raw: Raw::new(raw),
-        }
+            raw: Raw::copied(alloc, raw)?,
+        })
     }
 
     /// The row, read from the bytes.

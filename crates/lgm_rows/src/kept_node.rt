@@ -67,12 +67,14 @@ impl KeptNode {
         })
     }
 
-    /// Stores the row that these bytes encode, without a copy.
-    pub fn of_owned(raw: Bytes) -> KeptNode
-        requires { IsNodeAnnounce raw }
-        ensures { result ≡ node_row raw }
+    /// Stores the row that these bytes encode, by a copy of them.
+    pub fn of_bytes(alloc: Global, raw: &[u8]) -> Result<KeptNode, AllocError>
+        requires { IsNodeAnnounce raw.now }
+        ensures { IfOk result (λ kept. kept ≡ node_row raw.now) }
     {
-        KeptNode { raw }
+        Ok(KeptNode {
+            raw: Bytes::from_slice(alloc, raw)?,
+        })
     }
 
     /// The row, read from the bytes.

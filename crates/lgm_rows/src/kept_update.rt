@@ -8,7 +8,7 @@ ghost use Rattle.lgm_rows.specs.Update.{update_in, update_row, IsUpdate};
 use crate::places::{array, number8, number16, number32, number64, rest, signature};
 use crate::raw::Raw;
 use lgm_check::UpdateRow;
-use lgm_gossip::{Bytes, ChainHash, ChannelUpdate, Lent, Scid};
+use lgm_gossip::{ChainHash, ChannelUpdate, Lent, Scid};
 use std::alloc::{AllocError, Global};
 use std::marker::Model;
 
@@ -62,12 +62,14 @@ impl KeptUpdate {
         })
     }
 
-    /// Stores the row that these bytes encode. It allocates nothing.
-    pub fn of_owned(raw: Bytes) -> KeptUpdate
-        requires { IsUpdate raw }
-        ensures { result ≡ update_row raw }
+    /// Stores the row that these bytes encode, by a copy of them.
+    pub fn of_bytes(alloc: Global, raw: &[u8]) -> Result<KeptUpdate, AllocError>
+        requires { IsUpdate raw.now }
+        ensures { IfOk result (λ kept. kept ≡ update_row raw.now) }
     {
-        KeptUpdate { raw: Raw::new(raw) }
+        Ok(KeptUpdate {
+            raw: Raw::copied(alloc, raw)?,
+        })
     }
 
     /// The row, read from the bytes.

@@ -43,17 +43,6 @@ impl<const N: usize> Raw<N> {
         Ok(Raw { place })
     }
 
-    /// These bytes. It allocates nothing.
-    pub(crate) fn new(bytes: Bytes) -> Raw<N>
-        ensures { result ≡ bytes }
-    {
-        let place = match inline(bytes.as_slice()) {
-            Some(array) => Place::Inline(array),
-            None => Place::Heap(bytes),
-        };
-        Raw { place }
-    }
-
     /// The bytes.
     pub(crate) fn as_slice(&self) -> &[u8]
         ensures { result.now ≡ self.now }

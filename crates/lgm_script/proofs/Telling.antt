@@ -1,17 +1,17 @@
 -- Text that is told in several goes.
 use Rattle.std.proofs.Common.{◌≡◌, ℕ, ◌<◌, Result, Ok, Err, List, [], ◌++◌, length, take, drop}
 use Rattle.std.proofs.Common.{Option, refl, sym, ap, subst, ◌∙◌, append_assoc, arith}
-use Rattle.std.specs.Prelude.{OnOk, IfErr}
+use Rattle.std.specs.Prelude.{MatchResult}
 use Rattle.std.proofs.lemmas.List.{append-nil, take-append-drop}
 use Rattle.std.proofs.Math.Seq.{take-append_seam}
 use Rattle.lgm_script.specs.declared.output.SendFault.{SendFault}
 use Rattle.lgm_script.specs.declared.output.SendFault.TheVariants.{Write, NoMemory}
 use Rattle.lgm_script.specs.Device.{Appends, AppendsSome}
-use Rattle.lgm_script.specs.Output.{Told, Tells, TellsPart, TellsSome}
+use Rattle.lgm_script.specs.Output.{OutputState, Tells, TellsPart, TellsSome}
 use Rattle.lgm_script.proofs.Appending.{appends_nothing, appends_both}
 
 -- nothing was told
-pub tells_nothing : (told : Told) → Tells told told []
+pub tells_nothing : (told : OutputState) → Tells told told []
 tells_nothing told = record {
   written = [];
   taken = appends_nothing told.taken;
@@ -20,7 +20,7 @@ tells_nothing told = record {
 }
 
 -- a text behind another one
-pub tells_both : (old mid new : Told) (a b : List ℕ) → Tells old mid a → Tells mid new b → Tells old new (a ++ b)
+pub tells_both : (old mid new : OutputState) (a b : List ℕ) → Tells old mid a → Tells mid new b → Tells old new (a ++ b)
 tells_both old mid new a b first then = record {
   written = first.written ++ then.written;
   taken = appends_both old.taken mid.taken new.taken first.written then.written first.taken then.taken;
@@ -34,7 +34,7 @@ tells_both old mid new a b first then = record {
 }
 
 -- a part of a text behind another one
-pub tells_part_behind : (old mid new : Told) (a b : List ℕ) (fault : SendFault) → Tells old mid a
+pub tells_part_behind : (old mid new : OutputState) (a b : List ℕ) (fault : SendFault) → Tells old mid a
     → TellsPart mid new b fault → TellsPart old new (a ++ b) fault
 tells_part_behind old mid new a b fault first then = record {
   written = first.written ++ then.written;
@@ -52,7 +52,7 @@ tells_part_behind old mid new a b fault first then = record {
 }
 
 -- a part of a text is a part of a longer one
-pub tells_part_more : (old new : Told) (a b : List ℕ) (fault : SendFault) → TellsPart old new a fault → TellsPart old new (a ++ b) fault
+pub tells_part_more : (old new : OutputState) (a b : List ℕ) (fault : SendFault) → TellsPart old new a fault → TellsPart old new (a ++ b) fault
 tells_part_more old new a b fault part = record {
   written = part.written;
   lost = part.lost ++ b;
@@ -66,7 +66,7 @@ tells_part_more old new a b fault part = record {
 }
 
 -- where memory was refused, nothing was told
-pub tells_none : (told : Told) (text : List ℕ) → TellsPart told told text NoMemory
+pub tells_none : (told : OutputState) (text : List ℕ) → TellsPart told told text NoMemory
 tells_none told text = record {
   written = [];
   lost = text;
@@ -103,17 +103,17 @@ tells_some taken taken' failures failures' gathered bytes gathered' same some dr
 -- ---- a text that is told line by line
 
 -- a first part of the whole text was told, and this is the rest
-pub record Onward (old mid : Told) (whole rest : List ℕ) : Type 0 where
+pub record Onward (old mid : OutputState) (whole rest : List ℕ) : Type 0 where
   pub done : List ℕ
   pub told : Tells old mid done
   pub parts : whole ≡ done ++ rest
 
 -- nothing was told yet
-pub onward_first : (told : Told) (whole rest : List ℕ) → whole ≡ rest → Onward told told whole rest
+pub onward_first : (told : OutputState) (whole rest : List ℕ) → whole ≡ rest → Onward told told whole rest
 onward_first told whole rest same = record { done = []; told = tells_nothing told; parts = same }
 
 -- one line more
-pub onward_more : (old mid new : Told) (whole rest line others : List ℕ) → Onward old mid whole rest
+pub onward_more : (old mid new : OutputState) (whole rest line others : List ℕ) → Onward old mid whole rest
     → rest ≡ line ++ others → Tells mid new line → Onward old new whole others
 onward_more old mid new whole rest line others on is told = record {
   done = on.done ++ line;
@@ -122,7 +122,7 @@ onward_more old mid new whole rest line others on is told = record {
 }
 
 -- a part of one line more, and then a fault
-pub onward_stops : (old mid new : Told) (whole rest line others : List ℕ) (fault : SendFault) → Onward old mid
+pub onward_stops : (old mid new : OutputState) (whole rest line others : List ℕ) (fault : SendFault) → Onward old mid
     whole rest → rest ≡ line ++ others → TellsPart mid new line fault → TellsPart old new whole fault
 onward_stops old mid new whole rest line others fault on is part =
     let so_far = tells_part_more old new (on.done ++ line) others fault (tells_part_behind old mid new on.done line fault on.told part) in
@@ -130,27 +130,23 @@ onward_stops old mid new whole rest line others fault on is part =
     (append_assoc on.done line others ∙ ap (λ (s : List ℕ). on.done ++ s) (sym is) ∙ sym on.parts) so_far
 
 -- nothing is left
-pub onward_ends : (old mid : Told) (whole rest : List ℕ) → Onward old mid whole rest → rest ≡ [] → Tells old mid whole
+pub onward_ends : (old mid : OutputState) (whole rest : List ℕ) → Onward old mid whole rest → rest ≡ [] → Tells old mid whole
 onward_ends old mid whole rest on none =
     subst (Tells old mid) (sym (append-nil on.done) ∙ ap (λ (s : List ℕ). on.done ++ s) (sym none) ∙ sym on.parts) on.told
 
--- what a call told behind a text, or the part of it that it told
-pub told_behind : (result : Result (Unit {0}) SendFault) (old mid new : Told) (a b : List ℕ) → Tells old mid a
-    → OnOk result (Tells mid new b) → OnOk result (Tells old new (a ++ b))
-told_behind (Ok t) old mid new a b first then = tells_both old mid new a b first then
-told_behind (Err fault) old mid new a b first then = tt
-
-pub fault_behind : (result : Result (Unit {0}) SendFault) (old mid new : Told) (a b : List ℕ)
-    → Tells old mid a → IfErr result (TellsPart mid new b) → IfErr result (TellsPart old new (a ++ b))
-fault_behind (Ok t) old mid new a b first then = tt
-fault_behind (Err fault) old mid new a b first then = tells_part_behind old mid new a b fault first then
+-- what a call writes behind a text
+pub written_behind : (result : Result (Unit {0}) SendFault) (old mid new : OutputState) (a b : List ℕ) → Tells old mid a
+    → MatchResult result (λ _. Tells mid new b) (λ fault. TellsPart mid new b fault)
+    → MatchResult result (λ _. Tells old new (a ++ b)) (λ fault. TellsPart old new (a ++ b) fault)
+written_behind (Ok t) old mid new a b first then = tells_both old mid new a b first then
+written_behind (Err fault) old mid new a b first then = tells_part_behind old mid new a b fault first then
 
 -- ---- a first part, whatever came then
 
-pub some_of_part : (old new : Told) (text : List ℕ) (fault : SendFault) → TellsPart old new text fault → TellsSome old new text
+pub some_of_part : (old new : OutputState) (text : List ℕ) (fault : SendFault) → TellsPart old new text fault → TellsSome old new text
 some_of_part old new text fault part = record { written = part.written; lost = part.lost; taken = part.taken; whole = part.whole }
 
-pub some_of_all : (old new : Told) (text : List ℕ) → Tells old new text → TellsSome old new text
+pub some_of_all : (old new : OutputState) (text : List ℕ) → Tells old new text → TellsSome old new text
 some_of_all old new text told = record {
   written = told.written;
   lost = [];
@@ -159,7 +155,7 @@ some_of_all old new text told = record {
 }
 
 -- where all that is gathered is written at the end, the sink has taken the text
-pub taken_all : (old mid new : Told) (text : List ℕ) → old.gathered ≡ [] → Tells old mid text
+pub taken_all : (old mid new : OutputState) (text : List ℕ) → old.gathered ≡ [] → Tells old mid text
     → Tells mid new [] → new.gathered ≡ [] → Appends old.taken new.taken text
 taken_all old mid new text empty told flushed clear =
     let both = tells_both old mid new text [] told flushed in
@@ -169,7 +165,7 @@ taken_all old mid new text empty told flushed clear =
     subst (Appends old.taken new.taken) is both.taken
 
 -- or a first part of it
-pub taken_some : (old new : Told) (text : List ℕ) → old.gathered ≡ [] → TellsSome old new text → AppendsSome old.taken new.taken text
+pub taken_some : (old new : OutputState) (text : List ℕ) → old.gathered ≡ [] → TellsSome old new text → AppendsSome old.taken new.taken text
 taken_some old new text empty some =
     let front : take (length some.written) text ≡ some.written =
     ap (λ (s : List ℕ). take (length some.written) s) (ap (λ (s : List ℕ). s ++ text) (sym empty)
@@ -178,7 +174,7 @@ taken_some old new text empty some =
     (length some.written, subst (Appends old.taken new.taken) (sym front) some.taken)
 
 -- a first part, and then a flush
-pub some_flushed : (old mid new : Told) (text : List ℕ) → TellsSome old mid text → Tells mid new [] → TellsSome old new text
+pub some_flushed : (old mid new : OutputState) (text : List ℕ) → TellsSome old mid text → Tells mid new [] → TellsSome old new text
 some_flushed old mid new text some flushed = record {
   written = some.written ++ flushed.written;
   lost = some.lost;
@@ -190,7 +186,7 @@ some_flushed old mid new text some flushed = record {
 }
 
 -- a first part, and then a flush that fails
-pub some_flushed_part : (old mid new : Told) (text : List ℕ) (fault : SendFault) → TellsSome old mid text
+pub some_flushed_part : (old mid new : OutputState) (text : List ℕ) (fault : SendFault) → TellsSome old mid text
     → TellsPart mid new [] fault → TellsSome old new text
 some_flushed_part old mid new text fault some flushed = record {
   written = some.written ++ flushed.written;
@@ -207,7 +203,7 @@ some_flushed_part old mid new text fault some flushed = record {
 }
 
 -- a first part behind a text
-pub some_behind : (old mid new : Told) (a b : List ℕ) → Tells old mid a → TellsSome mid new b → TellsSome old new (a ++ b)
+pub some_behind : (old mid new : OutputState) (a b : List ℕ) → Tells old mid a → TellsSome mid new b → TellsSome old new (a ++ b)
 some_behind old mid new a b first then = record {
   written = first.written ++ then.written;
   lost = then.lost;

@@ -13,7 +13,7 @@ use crate::fields::{Fields, cut_last};
 use hex::FromHexError;
 use lgm_check::{Evidence, Funding, Sig};
 use lgm_gossip::{Bytes, Scid};
-use std::alloc::{AllocError, Global};
+use std::alloc::AllocError;
 
 /// What is offered to the map, with the caller's verdicts on it.
 #[derive(Debug, Drop)]
@@ -24,15 +24,15 @@ pub enum Item {
     Close(Scid),
 }
 
-/// Decodes hexadecimal digits, at least two.
-pub fn bytes(alloc: Global, digits: &[u8]) -> Result<Option<Bytes>, AllocError>
+/// Decodes hexadecimal digits, at least two, into a vector whose contents are dropped.
+pub fn bytes(mut room: Vec<u8>, digits: &[u8]) -> Result<Option<Bytes>, AllocError>
     ensures { IfOk result (λ bytes. bytes ≡ bytes_of digits.now) }
 {
     if digits.is_empty() {
         return Ok(None);
     }
-    match lgm_hex::decode(alloc, digits) {
-        Ok(bytes) => Ok(Some(Bytes::from_vec(bytes))),
+    match lgm_hex::decode_into(&mut room, digits) {
+        Ok(()) => Ok(Some(Bytes::from_vec(room))),
         Err(FromHexError::OutOfMemory) => Err(AllocError),
         Err(_) => Ok(None),
     }
@@ -82,7 +82,7 @@ fn evidence(signer: &[u8], output: &[u8]) -> Option<Evidence>
 
 /// An offered message: `HEX SIG FUNDING`. Since there are many digits, the text is split from its end.
 #[inline(always)]
-pub fn gossip(alloc: Global, text: &[u8]) -> Result<Option<Item>, AllocError>
+pub fn gossip(room: Vec<u8>, text: &[u8]) -> Result<Option<Item>, AllocError>
     ensures { IfOk result (λ item. item ≡ gossip_of (fields_of 32 text.now)) }
 {
     let Some((front, output)) = cut_last(b' ', text) else {
@@ -94,7 +94,7 @@ pub fn gossip(alloc: Global, text: &[u8]) -> Result<Option<Item>, AllocError>
     let Some(evidence) = evidence(signer, output) else {
         return Ok(None);
     };
-    match bytes(alloc, digits)? {
+    match bytes(room, digits)? {
         Some(bytes) => Ok(Some(Item::Gossip(bytes, evidence))),
         None => Ok(None),
     }
@@ -126,14 +126,15 @@ pub fn close(mut fields: Fields<'_>) -> Option<Item>
 /// The item that a line offers, which is that of its request (see [`parse`](crate::parse)); none if the request is
 /// another one.
 ///
-/// The only error is out of memory for the bytes of a message, the only allocation.
+/// The bytes of a message are decoded into `room`, whose contents are dropped. The only allocation is where its capacity
+/// doesn't suffice, and the only error is out of memory for it.
 #[tactic(auto, using(crate::proofs::Items::offers_what_its_word_tells))]
-pub fn parse_item(alloc: Global, line: &[u8]) -> Result<Option<Item>, AllocError>
+pub fn parse_item(room: Vec<u8>, line: &[u8]) -> Result<Option<Item>, AllocError>
     ensures { IfOk result
         (λ offered. (item : Item) → (offered ≡ Some item) ↔ (request_of line.now ≡ Offer item)) }
 {
     if let Some(text) = line.strip_prefix(b"m ") {
-        return gossip(alloc, text);
+        return gossip(room, text);
     }
     if let Some(text) = line.strip_prefix(b"close ") {
         return Ok(close(Fields::new(b' ', text)));

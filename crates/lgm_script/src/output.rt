@@ -1,7 +1,7 @@
 //! Buffered text for a sink.
 
-ghost use Rattle.std.specs.Prelude.{◌≡◌, ◌+◌, ◌<◌, ◌^◌, ◌++◌, [], length, List, ℕ, IfErr, OnOk, OnErr};
-ghost use Rattle.lgm_script.specs.Output.{Sends, SendsPart};
+ghost use Rattle.std.specs.Prelude.{◌≡◌, ◌+◌, ◌<◌, ◌^◌, ◌++◌, [], length, List, ℕ, OnOk, MatchResult};
+ghost use Rattle.lgm_script.specs.Output.{Sends, SendsPart, Writes};
 ghost use Rattle.lgm_script.specs.Text.{word_line, commit_line, message_line, route_line, hop_line};
 ghost use Rattle.lgm_script.specs.declared.output.SendFault.TheVariants.{NoMemory};
 
@@ -59,8 +59,8 @@ impl<'a, W: Sink> Output<'a, W> {
     pub fn flush(&mut self) -> Result<(), Failed>
         requires { W.failures self.old.writer.now + 1 < 2 ^ 64 }
         ensures writer { self.new.writer.ghost_name ≡ self.old.writer.ghost_name }
-        ensures told { OnOk result (Sends W.taken W.failures self.old self.new []) }
-        ensures fault { OnErr result (SendsPart W.taken W.failures self.old self.new [] SendFault.Write) }
+        ensures written { MatchResult result (λ _. Sends W.taken W.failures self.old self.new [])
+            (λ _. SendsPart W.taken W.failures self.old self.new [] SendFault.Write) }
         ensures empty { self.new.gathered.now.items ≡ [] }
     {
         let written = write_all(self.writer, self.gathered.as_slice());
@@ -75,9 +75,8 @@ impl<'a, W: Sink> Output<'a, W> {
     fn flush_block(&mut self) -> Result<(), SendFault>
         requires { W.failures self.old.writer.now + 1 < 2 ^ 64 }
         ensures writer { self.new.writer.ghost_name ≡ self.old.writer.ghost_name }
-        ensures told { OnOk result (Sends W.taken W.failures self.old self.new []) }
+        ensures written { Writes W.taken W.failures self.old self.new [] result }
         ensures short { OnOk result (length self.new.gathered.now.items < BLOCK) }
-        ensures fault { IfErr result (SendsPart W.taken W.failures self.old self.new []) }
     {
         if self.gathered.len() < BLOCK {
             return Ok(());
@@ -93,9 +92,8 @@ impl<'a, W: Sink> Output<'a, W> {
     pub fn send_word(&mut self, number: u64, word: &str) -> Result<(), SendFault>
         requires { W.failures self.old.writer.now + 1 < 2 ^ 64 }
         ensures writer { self.new.writer.ghost_name ≡ self.old.writer.ghost_name }
-        ensures told { OnOk result (Sends W.taken W.failures self.old self.new (word_line number word.now)) }
-        ensures fault { IfErr result
-            (SendsPart W.taken W.failures self.old self.new (word_line number word.now)) }
+        ensures written { Writes W.taken W.failures self.old self.new
+            (word_line number word.now) result }
     {
         append_word(self.gathered, number, word)?;
         self.flush_block()
@@ -105,9 +103,8 @@ impl<'a, W: Sink> Output<'a, W> {
     pub fn send_count(&mut self, number: u64, count: u64) -> Result<(), SendFault>
         requires { W.failures self.old.writer.now + 1 < 2 ^ 64 }
         ensures writer { self.new.writer.ghost_name ≡ self.old.writer.ghost_name }
-        ensures told { OnOk result (Sends W.taken W.failures self.old self.new (commit_line number count)) }
-        ensures fault { IfErr result
-            (SendsPart W.taken W.failures self.old self.new (commit_line number count)) }
+        ensures written { Writes W.taken W.failures self.old self.new
+            (commit_line number count) result }
     {
         append_count(self.gathered, number, count)?;
         self.flush_block()
@@ -123,10 +120,8 @@ impl<'a, W: Sink> Output<'a, W> {
     ) -> Result<(), SendFault>
         requires { W.failures self.old.writer.now + 1 < 2 ^ 64 }
         ensures writer { self.new.writer.ghost_name ≡ self.old.writer.ghost_name }
-        ensures told { OnOk result
-            (Sends W.taken W.failures self.old self.new (message_line number peer message.now)) }
-        ensures fault { IfErr result
-            (SendsPart W.taken W.failures self.old self.new (message_line number peer message.now)) }
+        ensures written { Writes W.taken W.failures self.old self.new
+            (message_line number peer message.now) result }
     {
         append_message(self.gathered, number, peer, message)?;
         self.flush_block()
@@ -143,10 +138,8 @@ impl<'a, W: Sink> Output<'a, W> {
     ) -> Result<(), SendFault>
         requires { W.failures self.old.writer.now + 1 < 2 ^ 64 }
         ensures writer { self.new.writer.ghost_name ≡ self.old.writer.ghost_name }
-        ensures told { OnOk result
-            (Sends W.taken W.failures self.old self.new (route_line number sent expiry count)) }
-        ensures fault { IfErr result
-            (SendsPart W.taken W.failures self.old self.new (route_line number sent expiry count)) }
+        ensures written { Writes W.taken W.failures self.old self.new
+            (route_line number sent expiry count) result }
     {
         append_route(self.gathered, number, sent, expiry, count)?;
         self.flush_block()
@@ -156,10 +149,8 @@ impl<'a, W: Sink> Output<'a, W> {
     pub fn send_hop(&mut self, number: u64, scid: Scid, payload: &[u8]) -> Result<(), SendFault>
         requires { W.failures self.old.writer.now + 1 < 2 ^ 64 }
         ensures writer { self.new.writer.ghost_name ≡ self.old.writer.ghost_name }
-        ensures told { OnOk result
-            (Sends W.taken W.failures self.old self.new (hop_line number scid payload.now)) }
-        ensures fault { IfErr result
-            (SendsPart W.taken W.failures self.old self.new (hop_line number scid payload.now)) }
+        ensures written { Writes W.taken W.failures self.old self.new
+            (hop_line number scid payload.now) result }
     {
         append_hop(self.gathered, number, scid, payload)?;
         self.flush_block()

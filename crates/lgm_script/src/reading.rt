@@ -36,7 +36,7 @@ fn read_on<R: Source, W: Sink>(
     ensures more { result ≡ Ok true → length lines.old < length lines.new }
     ensures same { result ≡ Ok false → lines.new ≡ lines.old }
     ensures end { result ≡ Ok false → IsAtEnd (R.left source.new) }
-    ensures told { result ≢ Err LineFault.Write → Sends W.taken W.failures output.old output.new [] }
+    ensures written { result ≢ Err LineFault.Write → Sends W.taken W.failures output.old output.new [] }
     ensures write { result ≡ Err LineFault.Write
         → SendsPart W.taken W.failures output.old output.new [] SendFault.Write }
     ensures read { result ≡ Err LineFault.Read → R.failures source.old < R.failures source.new }
@@ -70,7 +70,7 @@ pub fn next_line<R: Source, W: Sink>(
     ensures end { result ≡ Ok None → IsAtEnd (ahead lines.new (R.left source.new)) }
     ensures too_long { result ≡ Err LineFault.TooLong
         → IsLongerThan MAX_LINE (ahead lines.new (R.left source.new)) }
-    ensures told { result ≢ Err LineFault.Write → Sends W.taken W.failures output.old output.new [] }
+    ensures written { result ≢ Err LineFault.Write → Sends W.taken W.failures output.old output.new [] }
     ensures write { result ≡ Err LineFault.Write
         → SendsPart W.taken W.failures output.old output.new [] SendFault.Write }
     ensures read { result ≡ Err LineFault.Read → R.failures source.old < R.failures source.new }
@@ -108,7 +108,7 @@ pub fn more_begins<R: Source, W: Sink>(
     ensures kept { ahead lines.new (R.left source.new) ≡ ahead lines.old (R.left source.old) }
     ensures more { result ≡ Ok true → 0 < length lines.new }
     ensures end { result ≡ Ok false → IsAtEnd (ahead lines.new (R.left source.new)) }
-    ensures told { result ≢ Err LineFault.Write → Sends W.taken W.failures output.old output.new [] }
+    ensures written { result ≢ Err LineFault.Write → Sends W.taken W.failures output.old output.new [] }
     ensures write { result ≡ Err LineFault.Write
         → SendsPart W.taken W.failures output.old output.new [] SendFault.Write }
     ensures read { result ≡ Err LineFault.Read → R.failures source.old < R.failures source.new }

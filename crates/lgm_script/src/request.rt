@@ -40,7 +40,7 @@ fn filter(alloc: Global, mut fields: Fields<'_>) -> Result<Option<Request>, Allo
     let Some(peer) = number_below(1_000, peer) else {
         return Ok(None);
     };
-    match bytes(alloc, digits)? {
+    match bytes(Vec::new(alloc), digits)? {
         Some(bytes) => Ok(Some(Request::Filter(peer as u16, bytes))),
         None => Ok(None),
     }
@@ -52,13 +52,13 @@ fn form(alloc: Global, line: &[u8]) -> Result<Option<Request>, AllocError>
     ensures peer { IfOk result (λ request. IfSome request HasLawfulPeer) }
 {
     if let Some(text) = line.strip_prefix(b"m ") {
-        return Ok(gossip(alloc, text)?.map(Request::Offer));
+        return Ok(gossip(Vec::new(alloc), text)?.map(Request::Offer));
     }
     if let Some(text) = line.strip_prefix(b"close ") {
         return Ok(close(Fields::new(b' ', text)).map(Request::Offer));
     }
     if let Some(text) = line.strip_prefix(b"q ") {
-        return Ok(bytes(alloc, text)?.map(Request::Query));
+        return Ok(bytes(Vec::new(alloc), text)?.map(Request::Query));
     }
     if let Some(text) = line.strip_prefix(b"filter ") {
         return filter(alloc, Fields::new(b' ', text));

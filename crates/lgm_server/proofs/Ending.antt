@@ -4,7 +4,7 @@ use Rattle.std.specs.Prelude.{IfSome, IfOk, IfErr}
 use Rattle.lgm_wire.specs.declared.chain_hash.ChainHash.{ChainHash}
 use Rattle.lgm_script.specs.declared.output.SendFault.TheVariants.{Write as SendWrite}
 use Rattle.lgm_script.specs.Device.{Appends, AppendsSome}
-use Rattle.lgm_script.specs.Output.{Told, Tells, TellsPart, TellsSome}
+use Rattle.lgm_script.specs.Output.{OutputState, Tells, TellsPart, TellsSome}
 use Rattle.lgm_script.proofs.Appending.{appends_nothing}
 use Rattle.lgm_script.proofs.Telling.{taken_all, taken_some, some_flushed, some_flushed_part}
 use Rattle.lgm_server.specs.declared.run_fault.RunFault.{RunFault}
@@ -15,10 +15,10 @@ use Rattle.lgm_server.specs.Runs.{Runs}
 use Rattle.lgm_server.specs.inner.Ending.{IsFlushed, FailsThen, HasFailed}
 
 -- how it ended: flushed, failed then, or failed before
-abbrev Ended : Told → Told → Result Counts RunFault → Result Counts RunFault → Type 0
+abbrev Ended : OutputState → OutputState → Result Counts RunFault → Result Counts RunFault → Type 0
 Ended mid new answered result = IsFlushed mid new answered result ⊎ (FailsThen mid new result ⊎ HasFailed mid new answered result)
 
-told_as : (chain : ChainHash) (known : Option (List ℕ)) (script : List ℕ) (n : ℕ) (old mid new : Told)
+told_as : (chain : ChainHash) (known : Option (List ℕ)) (script : List ℕ) (n : ℕ) (old mid new : OutputState)
     → old.gathered ≡ [] → Tells mid new [] → new.gathered ≡ [] → IsTold chain known (Tells old mid) script n
     → IsTold chain known (Appends old.taken new.taken) script n
 told_as chain known script n old mid new empty flushed clear told =
@@ -31,7 +31,7 @@ told_as chain known script n old mid new empty flushed clear told =
 abbrev fails : RunFault → Result Counts RunFault
 fails fault = Err fault
 
-pub ok_written : (chain : ChainHash) (known : Option (List ℕ)) (script : Option (List ℕ)) (old mid new : Told)
+pub ok_written : (chain : ChainHash) (known : Option (List ℕ)) (script : Option (List ℕ)) (old mid new : OutputState)
     (answered result : Result Counts RunFault) → old.gathered ≡ []
     → Ended mid new answered result
     → IfOk answered (λ counts. IfSome script (IsAnswered chain known (Tells old mid) counts))
@@ -57,7 +57,7 @@ ok_written chain known script old mid new answered result empty ended told =
     by (Err fault) s flushed told = tt
 
 pub many_written : (chain : ChainHash) (known : Option (List ℕ)) (script : Option (List ℕ))
-    (old mid new : Told) (answered result : Result Counts RunFault) → old.gathered ≡ []
+    (old mid new : OutputState) (answered result : Result Counts RunFault) → old.gathered ≡ []
     → Ended mid new answered result
     → (answered ≡ fails faults.TooManyLines → IfSome script (IsTooMany chain known (Tells old mid)))
     → result ≡ fails faults.TooManyLines → IfSome script (IsTooMany chain known (Appends old.taken new.taken))
@@ -80,7 +80,7 @@ many_written chain known script old mid new answered result empty ended told is 
         }
 
 pub long_written : (chain : ChainHash) (known : Option (List ℕ)) (script : Option (List ℕ))
-    (old mid new : Told) (answered result : Result Counts RunFault) → old.gathered ≡ []
+    (old mid new : OutputState) (answered result : Result Counts RunFault) → old.gathered ≡ []
     → Ended mid new answered result
     → (answered ≡ fails faults.LineTooLong → IfSome script (IsTooLong chain known (Tells old mid)))
     → result ≡ fails faults.LineTooLong → IfSome script (IsTooLong chain known (Appends old.taken new.taken))
@@ -111,7 +111,7 @@ told_by : {chain : ChainHash} {known : Option (List ℕ)} {told told' : List ℕ
 told_by by is = record { few = is.few; short = is.short; text = by _ is.text }
 
 -- a first part of what was told was written
-cut_written : (chain : ChainHash) (known : Option (List ℕ)) (left script : Option (List ℕ)) (old new : Told)
+cut_written : (chain : ChainHash) (known : Option (List ℕ)) (left script : Option (List ℕ)) (old new : OutputState)
     → old.gathered ≡ [] → IfSome script (IsCutShort chain known (TellsSome old new) left)
     → IfSome script (IsCutShort chain known (AppendsSome old.taken new.taken) left)
 cut_written chain known left None old new empty told = tt
@@ -125,7 +125,7 @@ cut_written chain known left (Some s) old new empty told =
 
 -- and a flush behind it writes no more than that
 cut_flushed : (chain : ChainHash) (known : Option (List ℕ)) (left script : Option (List ℕ))
-    (old mid new : Told) → Tells mid new [] → IfSome script (IsCutShort chain known (TellsSome old mid) left)
+    (old mid new : OutputState) → Tells mid new [] → IfSome script (IsCutShort chain known (TellsSome old mid) left)
     → IfSome script (IsCutShort chain known (TellsSome old new) left)
 cut_flushed chain known left None old mid new flushed told = tt
 cut_flushed chain known left (Some s) old mid new flushed told =
@@ -137,7 +137,7 @@ cut_flushed chain known left (Some s) old mid new flushed told =
     }
 
 cut_flushed_part : (chain : ChainHash) (known : Option (List ℕ)) (left script : Option (List ℕ))
-    (old mid new : Told) → TellsPart mid new [] SendWrite → IfSome script (IsCutShort chain known
+    (old mid new : OutputState) → TellsPart mid new [] SendWrite → IfSome script (IsCutShort chain known
     (TellsSome old mid) left) → IfSome script (IsCutShort chain known (TellsSome old new) left)
 cut_flushed_part chain known left None old mid new flushed told = tt
 cut_flushed_part chain known left (Some s) old mid new flushed told =
@@ -150,7 +150,7 @@ cut_flushed_part chain known left (Some s) old mid new flushed told =
 
 -- what was told at a fault, or a whole text that couldn't be written
 pub fault_written : (chain : ChainHash) (known : Option (List ℕ)) (left script : Option (List ℕ))
-    (old mid new : Told) (answered result : Result Counts RunFault) → old.gathered ≡ []
+    (old mid new : OutputState) (answered result : Result Counts RunFault) → old.gathered ≡ []
     → Ended mid new answered result → IfSome script (IsCutShort chain known (TellsSome old mid) left)
     → IfErr result (λ _. IfSome script (IsCutShort chain known (AppendsSome old.taken new.taken) left))
 fault_written chain known left script old mid new answered result empty ended told =
@@ -160,7 +160,7 @@ fault_written chain known left script old mid new answered result empty ended to
       | inr other ↦ elim other [
         | inl failed ↦ either result (cut_written chain known left script old new empty
             (cut_flushed_part chain known left script old mid new failed.part told))
-        | inr before ↦ either result (cut_written chain known left script old new empty (subst (λ (t : Told).
+        | inr before ↦ either result (cut_written chain known left script old new empty (subst (λ (t : OutputState).
             IfSome script (IsCutShort chain known (TellsSome old t) left)) (sym before.still) told))
       ]
     ]

@@ -1,6 +1,6 @@
 -- Requests of one kind, and what they leave and are told.
 use Rattle.std.proofs.Common.{◌≡◌, ℕ, ◌+◌, List, [], ◌∷◌, ◌++◌, length, get_or, Bor, Option, Some, None, Result, refl, sym, ap, subst, ◌∙◌, arith}
-use Rattle.std.specs.Prelude.{map, IfSome, OnOk, IfErr}
+use Rattle.std.specs.Prelude.{map, IfSome, OnOk}
 use Rattle.std.proofs.lemmas.List.{append-nil}
 use Rattle.std.specs.List.{AllByRecursion}
 use Rattle.std.specs.Result.{result_err}
@@ -138,21 +138,15 @@ asked_alone (line ∷ []) d one = refl
 asked_alone (line ∷ other ∷ lines) d one = absurd (omega (arith, one))
 
 -- what a line that stands alone leaves, and is told
-module _ {T E : Type 0} (result : Result T E) (chain : ChainHash) (number : ℕ) (state : State)
-    (request : Request) (asked : List Request) (one : asked ≡ request ∷ [])
-    (kind : IsOfKind kinds.Other request) where
-  pub other_leaves : (new : State) → OnOk result (new ≡ state_alone state request) → OnOk result (new ≡ state_from chain state asked)
-  other_leaves new is = subst (λ s. OnOk result (new ≡ s)) (alone_leaves chain state request kind ∙ ap (state_from chain state) (sym one)) is
+module _ (chain : ChainHash) (number : ℕ) (state : State) (request : Request) (asked : List Request)
+    (one : asked ≡ request ∷ []) (kind : IsOfKind kinds.Other request) where
+  pub other_leaves : {T E : Type 0} (result : Result T E) (new : State) → OnOk result (new ≡ state_alone state request)
+      → OnOk result (new ≡ state_from chain state asked)
+  other_leaves result new is =
+      subst (λ s. OnOk result (new ≡ s)) (alone_leaves chain state request kind ∙ ap (state_from chain state) (sym one)) is
 
-  text_is : text_alone number state request ≡ text_from chain number state asked
-  text_is =
-      alone_is_told chain number state request kind ∙ sym (append-nil (text_for chain number state request))
-      ∙ ap (text_from chain number state) (sym one)
-
-  pub other_is_told : (Tells : List ℕ → Type 0) → OnOk result (Tells (text_alone number state request))
-      → OnOk result (Tells (text_from chain number state asked))
-  other_is_told Tells told = subst (λ t. OnOk result (Tells t)) text_is told
-
-  pub other_begins : (Tells : List ℕ → E → Type 0) → IfErr result (Tells (text_alone number state request))
-      → IfErr result (Tells (text_from chain number state asked))
-  other_begins Tells told = subst (λ t. IfErr result (Tells t)) text_is told
+  pub other_is_told : (Told : List ℕ → Type 0) → Told (text_alone number state request)
+      → Told (text_from chain number state asked)
+  other_is_told Told told =
+      subst Told (alone_is_told chain number state request kind ∙ sym (append-nil (text_for chain number state request))
+      ∙ ap (text_from chain number state) (sym one)) told

@@ -16,7 +16,7 @@ use Rattle.lgm_script.specs.Request.{request_of}
 use Rattle.lgm_script.specs.declared.reading.LineFault.{LineFault}
 use Rattle.lgm_script.specs.declared.reading.LineFault.TheVariants as lines
 use Rattle.lgm_script.specs.declared.output.SendFault.TheVariants.{Write as SendWrite}
-use Rattle.lgm_script.specs.Output.{Told, Tells, TellsPart, TellsSome}
+use Rattle.lgm_script.specs.Output.{OutputState, Tells, TellsPart, TellsSome}
 use Rattle.lgm_script.proofs.FirstLines.{each-push, first_line_alone}
 use Rattle.lgm_script.proofs.FirstWords.{request_is_lawful}
 use Rattle.lgm_script.proofs.Splitting.{next_of}
@@ -40,21 +40,21 @@ pub record IsAtLine (chain : ChainHash) (known : Option (List ℕ)) (script : Li
 
 -- and they were answered
 pub record IsSoFar (chain : ChainHash) (known : Option (List ℕ)) (script : List ℕ) (k : ℕ) (state : State)
-    (input : Option (List ℕ)) (old mid : Told) : Type 0 where
+    (input : Option (List ℕ)) (old mid : OutputState) : Type 0 where
   pub rest : List ℕ
   pub input_is : input ≡ Some rest
   pub at : IsAtLine chain known script k state rest
   pub text : Tells old mid (text_before chain known (requests_of script) k)
 
 told_so_far : (chain : ChainHash) (known : Option (List ℕ)) (script : List ℕ) (k : ℕ) (state : State)
-    (input : Option (List ℕ)) (old mid : Told) → IsSoFar chain known script k state input old mid
+    (input : Option (List ℕ)) (old mid : OutputState) → IsSoFar chain known script k state input old mid
     → IsTold chain known (Tells old mid) script k
 told_so_far chain known script k state input old mid so_far = record { few = so_far.at.few; short = so_far.at.short; text = so_far.text }
 
-abbrev pub SoFar : ChainHash → Option (List ℕ) → Option (List ℕ) → ℕ → State → Option (List ℕ) → Told → Told → Type 0
+abbrev pub SoFar : ChainHash → Option (List ℕ) → Option (List ℕ) → ℕ → State → Option (List ℕ) → OutputState → OutputState → Type 0
 SoFar chain known script k state input old mid = IfSome script (λ s. IsSoFar chain known s k state input old mid)
 
-pub starts : (chain : ChainHash) (known : Option (List ℕ)) (script : Option (List ℕ)) (told : Told)
+pub starts : (chain : ChainHash) (known : Option (List ℕ)) (script : Option (List ℕ)) (told : OutputState)
     → SoFar chain known script 0 (opening known) (ahead [] script) told told
 unfolding text_before
 starts chain known None told = tt
@@ -233,7 +233,7 @@ lines_step chain known script k state buffered left rest (line ∷ lines) at fir
 
 -- the next lines of what was read ahead
 next_steps : (chain : ChainHash) (known : Option (List ℕ)) (script : List ℕ) (k first len : ℕ) (state : State)
-    (buffered left : List ℕ) (lines : List (List ℕ)) (input : Option (List ℕ)) (old mid : Told)
+    (buffered left : List ℕ) (lines : List (List ℕ)) (input : Option (List ℕ)) (old mid : OutputState)
     → IsSoFar chain known script k state input old mid → ahead buffered (Some left) ≡ input
     → IsFirstLine buffered (Some left) first → AreNext buffered first len lines
     → Steps chain known script k (k + length lines) (state_from chain state (map request_of lines))
@@ -256,7 +256,7 @@ first_alone buffered first within small = record {
 }
 
 pub step : (chain : ChainHash) (known : Option (List ℕ)) (script : Option (List ℕ)) (k first count len : ℕ)
-    (state state' : State) (buffered : List ℕ) (left input : Option (List ℕ)) (old mid new : Told)
+    (state state' : State) (buffered : List ℕ) (left input : Option (List ℕ)) (old mid new : OutputState)
     → SoFar chain known script k state input old mid → ahead buffered left ≡ input → IsFirstLine buffered left
     first → HaveAnswers chain (k + 1) state state' buffered first (Tells mid new) count len
     → SoFar chain known script (k + count) state' (ahead (drop len buffered) left) old new
@@ -279,7 +279,7 @@ step chain known (Some script) k first count len state state' buffered (Some lef
 
 -- something more was told than the text so far: nothing
 pub told_on : (chain : ChainHash) (known : Option (List ℕ)) (script : Option (List ℕ)) (k : ℕ) (state : State)
-    (input : Option (List ℕ)) (old mid new : Told)
+    (input : Option (List ℕ)) (old mid new : OutputState)
     → SoFar chain known script k state input old mid → Tells mid new [] → SoFar chain known script k state input old new
 told_on chain known None k state input old mid new so_far told = tt
 told_on chain known (Some script) k state input old mid new so_far told = record {
@@ -294,7 +294,7 @@ told_on chain known (Some script) k state input old mid new so_far told = record
 -- ---- how it ends
 
 pub ends : (chain : ChainHash) (known : Option (List ℕ)) (script : Option (List ℕ)) (k : ℕ) (state : State)
-    (input input' : Option (List ℕ)) (old mid : Told)
+    (input input' : Option (List ℕ)) (old mid : OutputState)
     → SoFar chain known script k state input old mid → input' ≡ input → IsAtEnd input' → k ≤ 10000000
     → IfSome script (IsAnswered chain known (Tells old mid) (record { lines = k; accepted = state.accepted }))
 ends chain known None k state input input' old mid so_far kept ended limit = tt
@@ -327,7 +327,7 @@ has_line (b ∷ bs) some = by_test (eqb b 10)
     by_test false = onto (lines_of bs)
 
 pub many : (chain : ChainHash) (known : Option (List ℕ)) (script : Option (List ℕ)) (state : State)
-    (buffered : List ℕ) (left input : Option (List ℕ)) (old mid : Told)
+    (buffered : List ℕ) (left input : Option (List ℕ)) (old mid : OutputState)
     → SoFar chain known script 10000000 state input old mid → ahead buffered left ≡ input
     → 0 < length buffered → IfSome script (IsTooMany chain known (Tells old mid))
 many chain known None state buffered left input old mid so_far kept more = tt
@@ -342,7 +342,7 @@ many chain known (Some script) state buffered (Some left) input old mid so_far k
     }
 
 pub long : (chain : ChainHash) (known : Option (List ℕ)) (script : Option (List ℕ)) (k : ℕ) (state : State)
-    (input input' : Option (List ℕ)) (old mid : Told)
+    (input input' : Option (List ℕ)) (old mid : OutputState)
     → SoFar chain known script k state input old mid → input' ≡ input → k < 10000000
     → IsLongerThan 140000 input' → IfSome script (IsTooLong chain known (Tells old mid))
 long chain known None k state input input' old mid so_far kept limit longer = tt
@@ -377,7 +377,7 @@ read_at chain known script k state buffered left at = record {
 
 -- a first part of the text of the lines that were read was told
 cut_at : (chain : ChainHash) (known : Option (List ℕ)) (script : List ℕ) (k n : ℕ) (state state' : State)
-    (input : Option (List ℕ)) (buffered left text : List ℕ) (old mid new : Told)
+    (input : Option (List ℕ)) (buffered left text : List ℕ) (old mid new : OutputState)
     → IsSoFar chain known script k state input old mid → n ≤ 10000000
     → Steps chain known script k n state' (buffered ++ left) text → TellsSome mid new text
     → IsCutShort chain known (TellsSome old new) (Some left) script
@@ -395,7 +395,7 @@ cut_at chain known script k n state state' input buffered left text old mid new 
 }
 
 pub cut : (chain : ChainHash) (known : Option (List ℕ)) (script : Option (List ℕ)) (k : ℕ) (state : State)
-    (buffered : List ℕ) (left input : Option (List ℕ)) (old mid new : Told)
+    (buffered : List ℕ) (left input : Option (List ℕ)) (old mid new : OutputState)
     → SoFar chain known script k state input old mid → k ≤ 10000000 → ahead buffered left ≡ input
     → TellsSome mid new [] → IfSome script (IsCutShort chain known (TellsSome old new) left)
 cut chain known None k state buffered left input old mid new so_far limit kept some = tt
@@ -409,7 +409,7 @@ cut chain known (Some script) k state buffered (Some left) input old mid new so_
 
 -- while lines that were read are answered
 pub cut_in : (chain : ChainHash) (known : Option (List ℕ)) (script : Option (List ℕ)) (k most first : ℕ)
-    (state : State) (buffered : List ℕ) (left input : Option (List ℕ)) (old mid new : Told)
+    (state : State) (buffered : List ℕ) (left input : Option (List ℕ)) (old mid new : OutputState)
     → SoFar chain known script k state input old mid → k + most ≤ 10000000 → ahead buffered left ≡ input
     → IsFirstLine buffered left first → HaveBegun chain (k + 1) most state buffered first (TellsSome mid new)
     → IfSome script (IsCutShort chain known (TellsSome old new) left)
@@ -430,7 +430,7 @@ abbrev pub failed : {T : Type 0} → LineFault → Result T LineFault
 failed fault = Err fault
 
 -- whatever the fault, a first part was told
-pub line_some : {T : Type 0} (fault : LineFault) (mid new : Told)
+pub line_some : {T : Type 0} (fault : LineFault) (mid new : OutputState)
     → (failed {T = T} fault ≢ failed lines.Write → Tells mid new [])
     → (failed {T = T} fault ≡ failed lines.Write → TellsPart mid new [] SendWrite) → TellsSome mid new []
 line_some lines.Read mid new told part = some_of_all mid new [] (told (λ e. absurd cc))

@@ -2,7 +2,7 @@
 use Rattle.std.proofs.Common.{◌≡◌, ℕ, ◌+◌, ◌<◌, List, [], ◌∷◌, ◌++◌, length, get_or, take, drop, refl, sym, ap, subst, ◌∙◌, append_assoc, arith}
 use Rattle.std.proofs.lemmas.List.{append-nil, take_all, take_more, take-append-drop, length-take-le}
 use Rattle.lgm_script.specs.declared.output.SendFault.{SendFault}
-use Rattle.lgm_script.specs.Output.{Told, Tells, TellsPart}
+use Rattle.lgm_script.specs.Output.{OutputState, Tells, TellsPart}
 use Rattle.lgm_script.proofs.Telling.{tells_nothing, tells_both, tells_part_behind, tells_part_more}
 use Rattle.lgm_server.specs.inner.Turns.{behind_all, texts_of}
 
@@ -25,16 +25,16 @@ module _ {S Q : Type 0} (after : S → Q → S) where
         ∙ sym (append_assoc (text number state request) _ _)
 
     -- so many had their turn
-    pub record IsAt (first : ℕ) (start : S) (asked : List Q) (old : Told) (k number : ℕ) (state : S) (mid : Told) : Type 0 where
+    pub record IsAt (first : ℕ) (start : S) (asked : List Q) (old : OutputState) (k number : ℕ) (state : S) (mid : OutputState) : Type 0 where
       pub number_is : number ≡ first + k
       pub state_is : state ≡ behind_all after start (take k asked)
       pub told : Tells old mid (texts_of after text first start (take k asked))
 
-    pub at_first : (first : ℕ) (start : S) (asked : List Q) (old : Told) → IsAt first start asked old 0 first start old
+    pub at_first : (first : ℕ) (start : S) (asked : List Q) (old : OutputState) → IsAt first start asked old 0 first start old
     at_first first start asked old = record { number_is = omega arith; state_is = refl; told = tells_nothing old }
 
     -- the text up to the next one, and that of the next one
-    next_text : (first : ℕ) (start : S) (asked : List Q) (old : Told) (k number : ℕ) (state : S) (mid : Told)
+    next_text : (first : ℕ) (start : S) (asked : List Q) (old : OutputState) (k number : ℕ) (state : S) (mid : OutputState)
         (d request : Q) → IsAt first start asked old k number state mid → k < length asked
         → get_or asked k d ≡ request → texts_of after text first start (take (k + 1) asked)
         ≡ texts_of after text first start (take k asked) ++ text number state request
@@ -47,8 +47,8 @@ module _ {S Q : Type 0} (after : S → Q → S) where
         (ap (λ l. first + l) (length-take-le k asked (omega arith)) ∙ sym at.number_is)
         ∙ ap (λ s. text number s request) (sym at.state_is))
 
-    pub at_next : (first : ℕ) (start : S) (asked : List Q) (old : Told) (k number : ℕ) (state state' : S)
-        (mid new : Told) (d request : Q) → IsAt first start asked old k number state mid → k < length asked
+    pub at_next : (first : ℕ) (start : S) (asked : List Q) (old : OutputState) (k number : ℕ) (state state' : S)
+        (mid new : OutputState) (d request : Q) → IsAt first start asked old k number state mid → k < length asked
         → get_or asked k d ≡ request → state' ≡ after state request → Tells mid new
         (text number state request) → IsAt first start asked old (k + 1) (number + 1) state' new
     at_next first start asked old k number state state' mid new d request at lt is goes told = record {
@@ -62,16 +62,16 @@ module _ {S Q : Type 0} (after : S → Q → S) where
     }
 
     -- all had it
-    pub at_last : (first : ℕ) (start : S) (asked : List Q) (old : Told) (k number : ℕ) (state : S)
-        (mid : Told) → IsAt first start asked old k number state mid → k ≡ length asked
+    pub at_last : (first : ℕ) (start : S) (asked : List Q) (old : OutputState) (k number : ℕ) (state : S)
+        (mid : OutputState) → IsAt first start asked old k number state mid → k ≡ length asked
         → (state ≡ behind_all after start asked) × Tells old mid (texts_of after text first start asked)
     at_last first start asked old k number state mid at all =
         let whole : take k asked ≡ asked = take_all k asked (omega (arith, all)) in
         (at.state_is ∙ ap (behind_all after start) whole, subst (λ xs. Tells old mid (texts_of after text first start xs)) whole at.told)
 
     -- a first part of it was told when a fault came in the next turn
-    pub at_fault : (first : ℕ) (start : S) (asked : List Q) (old : Told) (k number : ℕ) (state : S)
-        (mid new : Told) (d request : Q) (fault : SendFault) → IsAt first start asked old k number state mid
+    pub at_fault : (first : ℕ) (start : S) (asked : List Q) (old : OutputState) (k number : ℕ) (state : S)
+        (mid new : OutputState) (d request : Q) (fault : SendFault) → IsAt first start asked old k number state mid
         → k < length asked → get_or asked k d ≡ request → TellsPart mid new (text number state request) fault
         → TellsPart old new (texts_of after text first start asked) fault
     at_fault first start asked old k number state mid new d request fault at lt is part =

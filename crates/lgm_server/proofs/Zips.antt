@@ -5,7 +5,7 @@ use Rattle.std.proofs.lemmas.Slice.Zip.{AllZip-long}
 use Rattle.lgm_par.proofs.Zipping.{zip_at}
 
 -- a relation of what a function makes of the first list
-zip_of : {A B C : Type 0} (f : A → C) (R : C → B → Type 0) (xs : List A) (ys : List B) → AllZip (λ x y. R (f x) y) xs ys → AllZip R (map f xs) ys
+pub zip_of : {A B C : Type 0} (f : A → C) (R : C → B → Type 0) (xs : List A) (ys : List B) → AllZip (λ x y. R (f x) y) xs ys → AllZip R (map f xs) ys
 zip_of f R [] [] all = all
 zip_of f R [] (y ∷ ys) all = absurd all
 zip_of f R (x ∷ xs) [] all = absurd all

@@ -1,7 +1,7 @@
 //! Answers to lines.
 
-ghost use Rattle.std.specs.Prelude.{◌≡◌, ◌+◌, ◌<◌, ◌^◌, IfErr, OnOk};
-ghost use Rattle.lgm_script.specs.Output.{Sends, SendsPart};
+ghost use Rattle.std.specs.Prelude.{◌≡◌, ◌+◌, ◌<◌, ◌^◌};
+ghost use Rattle.lgm_script.specs.Output.{Writes};
 ghost use Rattle.lgm_server.specs.Answer.{answer_text, outcome_word};
 
 use crate::filters::{Filters, PeerFilter};
@@ -63,10 +63,8 @@ impl Answer<'_> {
     ) -> Result<(), SendFault>
         requires { W.failures output.old.writer.now + 1 < 2 ^ 64 }
         ensures writer { output.new.writer.ghost_name ≡ output.old.writer.ghost_name }
-        ensures told { OnOk result
-            (Sends W.taken W.failures output.old output.new (answer_text number self.now)) }
-        ensures fault { IfErr result
-            (SendsPart W.taken W.failures output.old output.new (answer_text number self.now)) }
+        ensures written { Writes W.taken W.failures output.old output.new
+            (answer_text number self.now) result }
     {
         match self {
             Answer::Bad => output.send_word(number, "bad"),

@@ -1,9 +1,9 @@
 //! Answering lines in groups.
 
-ghost use Rattle.std.specs.Prelude.{◌≡◌, ◌≤◌, ◌+◌, ◌<◌, ◌^◌, [], ◌∷◌, length, map, IfOk, IfErr, IfSome, OnOk};
+ghost use Rattle.std.specs.Prelude.{◌≡◌, ◌≤◌, ◌+◌, ◌<◌, ◌^◌, [], ◌∷◌, length, map, IfOk, IfSome, OnOk};
 ghost use Rattle.std.specs.List.{AllByRecursion};
 ghost use Rattle.lgm_script.specs.Groups.{IsOfKind, AreAlike};
-ghost use Rattle.lgm_script.specs.Output.{Sends, SendsPart};
+ghost use Rattle.lgm_script.specs.Output.{Writes};
 ghost use Rattle.lgm_script.specs.Request.{request_of};
 ghost use Rattle.lgm_script.specs.declared.request.Request.TheVariants.{Route as AsksRoute};
 ghost use Rattle.lgm_server.specs.inner.Offered.{WasChecked, state_by, offered_text};
@@ -33,10 +33,8 @@ fn offer<W: Sink>(
     requires writer { W.failures output.old.writer.now + 1 < 2 ^ 64 }
     ensures writer { output.new.writer.ghost_name ≡ output.old.writer.ghost_name }
     ensures state { OnOk result (engine.new ≡ state_by engine.old item) }
-    ensures told { OnOk result
-        (Sends W.taken W.failures output.old output.new (offered_text number engine.old.rows item)) }
-    ensures fault { IfErr result
-        (SendsPart W.taken W.failures output.old output.new (offered_text number engine.old.rows item)) }
+    ensures written { Writes W.taken W.failures output.old output.new
+        (offered_text number engine.old.rows item) result }
 {
     let Some(item) = item else {
         return Answer::Bad.send(alloc, number, output);
@@ -63,10 +61,8 @@ fn answer_items<Rt: Threads + Sync, G: Gate, W: Sink>(
     requires writer { W.failures output.old.writer.now + 1 < 2 ^ 64 }
     ensures writer { output.new.writer.ghost_name ≡ output.old.writer.ghost_name }
     ensures state { OnOk result (engine.new ≡ state_from context.now.chain engine.old (asked_in lines.now)) }
-    ensures told { OnOk result (Sends W.taken W.failures output.old output.new
-        (text_from context.now.chain first engine.old (asked_in lines.now))) }
-    ensures fault { IfErr result (SendsPart W.taken W.failures output.old output.new
-        (text_from context.now.chain first engine.old (asked_in lines.now))) }
+    ensures written { Writes W.taken W.failures output.old output.new
+        (text_from context.now.chain first engine.old (asked_in lines.now)) result }
 {
     let all = check_lines(context, lines)?;
     let mut number = first;
@@ -104,10 +100,8 @@ fn answer_questions<Rt: Threads + Sync, G: Gate, W: Sink>(
     requires writer { W.failures output.old.writer.now + 1 < 2 ^ 64 }
     ensures writer { output.new.writer.ghost_name ≡ output.old.writer.ghost_name }
     ensures state { OnOk result (engine.new ≡ state_from context.now.chain engine.old (asked_in lines.now)) }
-    ensures told { OnOk result (Sends W.taken W.failures output.old output.new
-        (text_from context.now.chain first engine.old (asked_in lines.now))) }
-    ensures fault { IfErr result (SendsPart W.taken W.failures output.old output.new
-        (text_from context.now.chain first engine.old (asked_in lines.now))) }
+    ensures written { Writes W.taken W.failures output.old output.new
+        (text_from context.now.chain first engine.old (asked_in lines.now)) result }
 {
     if let Some(payment) = lone_payment(context.pool.alloc, lines)? {
         let answer = engine.answer_route(&context.pool, &payment)?;
@@ -128,10 +122,8 @@ fn answer_alone<W: Sink>(
     requires writer { W.failures output.old.writer.now + 1 < 2 ^ 64 }
     ensures writer { output.new.writer.ghost_name ≡ output.old.writer.ghost_name }
     ensures state { OnOk result (engine.new ≡ state_alone engine.old (request_of line.now)) }
-    ensures told { OnOk result (Sends W.taken W.failures output.old output.new
-        (text_alone number engine.old (request_of line.now))) }
-    ensures fault { IfErr result (SendsPart W.taken W.failures output.old output.new
-        (text_alone number engine.old (request_of line.now))) }
+    ensures written { Writes W.taken W.failures output.old output.new
+        (text_alone number engine.old (request_of line.now)) result }
 {
     match parse(alloc, line)? {
         Request::Quiet => Ok(()),
@@ -156,10 +148,8 @@ pub fn answer<Rt: Threads + Sync, G: Gate, W: Sink>(
     ensures writer { output.new.writer.ghost_name ≡ output.old.writer.ghost_name }
     ensures state { OnOk result
         (engine.new ≡ state_from context.now.chain engine.old (asked_in group.now.lines.items)) }
-    ensures told { OnOk result (Sends W.taken W.failures output.old output.new
-        (text_from context.now.chain first engine.old (asked_in group.now.lines.items))) }
-    ensures fault { IfErr result (SendsPart W.taken W.failures output.old output.new
-        (text_from context.now.chain first engine.old (asked_in group.now.lines.items))) }
+    ensures written { Writes W.taken W.failures output.old output.new
+        (text_from context.now.chain first engine.old (asked_in group.now.lines.items)) result }
 {
     let lines = group.lines.as_slice();
     match group.kind {

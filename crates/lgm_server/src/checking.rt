@@ -1,18 +1,20 @@
 //! Checking items in parallel.
 
-ghost use Rattle.std.specs.Prelude.{◌≡◌, ◌≤◌, IfOk};
+ghost use Rattle.std.specs.Prelude.{◌≡◌, IfOk};
 ghost use Rattle.std.specs.List.{AllZip};
+ghost use Rattle.lgm_check.specs.Precheck.{checked_of};
 ghost use Rattle.lgm_script.specs.Request.{request_of};
-ghost use Rattle.lgm_server.specs.inner.Offered.{offered_of, offered_in};
+ghost use Rattle.lgm_server.specs.inner.Offered.{offered_by, offered_of, offered_in};
 ghost use Rattle.lgm_server.specs.inner.Questions.{asked_in};
 
 use crate::context::Context;
-use lgm_check::Refusal;
+use lgm_check::{Evidence, Refusal};
 use lgm_gossip::{ChainHash, Scid};
 use lgm_par::Gate;
 use lgm_script::{Item, parse_item};
 use lgm_store::Candidate;
 use std::alloc::{AllocError, Global};
+use std::mem::replace;
 use std::thread::Threads;
 
 /// An item after its check, which needs no map.
@@ -26,41 +28,79 @@ pub enum Offered {
     Refused(Refusal),
 }
 
-/// Checks an item.
-fn check(alloc: Global, chain: &ChainHash, item: Item) -> Result<Offered, AllocError>
+/// Checks a message.
+fn check(
+    alloc: Global,
+    chain: &ChainHash,
+    bytes: &[u8],
+    evidence: &Evidence,
+) -> Result<Offered, AllocError>
+    ensures { IfOk result
+        (λ offered. offered ≡ offered_by (checked_of chain.now bytes.now evidence.now)) }
+{
+    match Candidate::precheck(alloc, chain, bytes, evidence) {
+        Ok(candidate) => Ok(Offered::Message(candidate)),
+        Err(Refusal::NoMemory) => Err(AllocError),
+        Err(refusal) => Ok(Offered::Refused(refusal)),
+    }
+}
+
+/// Checks an item. The vector of a message is left in `room`.
+fn check_item(
+    alloc: Global,
+    chain: &ChainHash,
+    item: Item,
+    room: &mut Vec<u8>,
+) -> Result<Offered, AllocError>
     ensures { IfOk result (λ offered. offered ≡ offered_of chain.now item) }
 {
     match item {
         Item::Gossip(bytes, evidence) => {
-            match Candidate::precheck(alloc, chain, bytes, &evidence) {
-                Ok(candidate) => Ok(Offered::Message(candidate)),
-                Err(Refusal::NoMemory) => Err(AllocError),
-                Err(refusal) => Ok(Offered::Refused(refusal)),
-            }
+            let checked = check(alloc, chain, bytes.as_slice(), &evidence);
+            *room = bytes.into_vec();
+            checked
         }
         Item::Close(scid) => Ok(Offered::Close(scid)),
     }
 }
 
-/// Parses a line and checks the item that it offers, if any.
-fn check_line(alloc: Global, chain: &ChainHash, line: &[u8]) -> Result<Option<Offered>, AllocError>
+/// Parses a line and checks the item that it offers, if any. A message is decoded into `room`, which is left for that
+/// of the next line.
+fn check_line(
+    alloc: Global,
+    chain: &ChainHash,
+    line: &[u8],
+    room: &mut Vec<u8>,
+) -> Result<Option<Offered>, AllocError>
     ensures { IfOk result (λ offered. offered ≡ offered_in chain.now (request_of line.now)) }
 {
-    match parse_item(alloc, line)? {
-        Some(item) => Ok(Some(check(alloc, chain, item)?)),
+    match parse_item(replace(room, Vec::new(alloc)), line)? {
+        Some(item) => Ok(Some(check_item(alloc, chain, item, room)?)),
         None => Ok(None),
     }
 }
 
-/// How many workers check so many lines: one per line if there are enough, else one, since starting threads takes
-/// longer than checking what was read ahead.
-fn hands(workers: usize, lines: usize) -> usize
-    ensures { 1 ≤ result }
+/// Checks the items of lines on this thread.
+fn check_here(
+    alloc: Global,
+    chain: &ChainHash,
+    lines: &[&[u8]],
+) -> Result<Vec<Result<Option<Offered>, AllocError>>, AllocError>
+    ensures { IfOk result (λ all. AllZip (λ request offered. IfOk offered
+        (λ o. o ≡ offered_in chain.now request)) (asked_in lines.now) all.items) }
 {
-    if lines <= workers { workers.max(1) } else { 1 }
+    let mut all = Vec::with_capacity(alloc, lines.len())?;
+    let mut room = Vec::new(alloc);
+    for line in lines {
+        all.push(check_line(alloc, chain, line, &mut room))?;
+    }
+    Ok(all)
 }
 
 /// Checks the items of lines. Each may run out of memory on its own.
+///
+/// If there are as many workers as lines, each checks one. Else all are checked on this thread, since starting others
+/// takes longer than checking what was read ahead.
 pub fn check_lines<Rt: Threads + Sync, G: Gate>(
     context: &Context<'_, Rt, G>,
     lines: &[&[u8]],
@@ -70,8 +110,8 @@ pub fn check_lines<Rt: Threads + Sync, G: Gate>(
 {
     let alloc = context.pool.alloc;
     let chain = &context.chain;
-    let pool = context
-        .pool
-        .at_most(hands(context.pool.workers, lines.len()));
-    pool.map(lines, &|line| check_line(alloc, chain, line))
+    if context.pool.workers < lines.len() {
+        return check_here(alloc, chain, lines);
+    }
+    context.pool.map(lines, &|line| check_line(alloc, chain, line, &mut Vec::new(alloc)))
 }

@@ -1,8 +1,8 @@
 //! The state between two lines.
 
-ghost use Rattle.std.specs.Prelude.{◌≡◌, ◌+◌, ◌≤◌, ◌<◌, ◌^◌, ℕ, length, IfErr, IfOk, OnOk, OnErr};
+ghost use Rattle.std.specs.Prelude.{◌≡◌, ◌+◌, ◌≤◌, ◌<◌, ◌^◌, ℕ, length, IfOk, OnOk, OnErr};
 ghost use Rattle.lgm_wire.specs.reading.Reading.{Gives};
-ghost use Rattle.lgm_script.specs.Output.{Sends, SendsPart};
+ghost use Rattle.lgm_script.specs.Output.{Writes};
 ghost use Rattle.lgm_server.specs.Answer.{commit_text, route_text, answer_text};
 ghost use Rattle.lgm_server.specs.inner.Offered.{outcome_on, settled, WasChecked};
 ghost use Rattle.lgm_server.specs.inner.Questions.{asked_in, filters_behind, questions_text};
@@ -112,12 +112,9 @@ impl Engine {
         ensures writer { output.new.writer.ghost_name ≡ output.old.writer.ghost_name }
         ensures state { OnOk result (self.new ≡ record self.old
             { filters = filters_behind context.now.chain self.old.filters (asked_in lines.now) }) }
-        ensures told { OnOk result (Sends W.taken W.failures output.old output.new
-            (questions_text context.now.chain self.old.known self.old.committed number self.old.filters
-            (asked_in lines.now))) }
-        ensures fault { IfErr result (SendsPart W.taken W.failures output.old output.new
-            (questions_text context.now.chain self.old.known self.old.committed number self.old.filters
-            (asked_in lines.now))) }
+        ensures written { Writes W.taken W.failures output.old output.new
+            (questions_text context.now.chain self.old.known self.old.committed number
+                self.old.filters (asked_in lines.now)) result }
     {
         self.maps
             .answer_questions(context, number, lines, &mut self.filters, output)
@@ -134,10 +131,9 @@ impl Engine {
         requires { W.failures output.old.writer.now + 1 < 2 ^ 64 }
         ensures writer { output.new.writer.ghost_name ≡ output.old.writer.ghost_name }
         ensures state { OnOk result (self.new ≡ state_committed self.old) }
-        ensures told { OnOk result (Sends W.taken W.failures output.old output.new
-            (commit_text number self.old.accepted self.old.committed self.old.rows self.old.filters)) }
-        ensures fault { IfErr result (SendsPart W.taken W.failures output.old output.new
-            (commit_text number self.old.accepted self.old.committed self.old.rows self.old.filters)) }
+        ensures written { Writes W.taken W.failures output.old output.new
+            (commit_text number self.old.accepted self.old.committed self.old.rows
+                self.old.filters) result }
     {
         tell_commit(
             alloc,
@@ -179,10 +175,8 @@ fn tell_commit<W: Sink>(
 ) -> Result<(), SendFault>
     requires { W.failures output.old.writer.now + 1 < 2 ^ 64 }
     ensures writer { output.new.writer.ghost_name ≡ output.old.writer.ghost_name }
-    ensures told { OnOk result (Sends W.taken W.failures output.old output.new
-        (commit_text number accepted maps.now.committed maps.now.rows filters.now)) }
-    ensures fault { IfErr result (SendsPart W.taken W.failures output.old output.new
-        (commit_text number accepted maps.now.committed maps.now.rows filters.now)) }
+    ensures written { Writes W.taken W.failures output.old output.new
+        (commit_text number accepted maps.now.committed maps.now.rows filters.now) result }
 {
     let answer = committed(alloc, accepted, maps, filters)?;
     answer.send(alloc, number, output)

@@ -1,14 +1,14 @@
 //! The map of all accepted items, and the committed one.
 
 ghost use Rattle.std.specs.Prelude.{◌≡◌, ◌⊎◌, ◌+◌, ◌≤◌, ◌<◌, ◌^◌, [], true};
-ghost use Rattle.std.specs.Prelude.{length, Err, IfOk, IfErr, OnOk, OnErr};
+ghost use Rattle.std.specs.Prelude.{length, Err, IfOk, OnOk, OnErr};
 ghost use Rattle.lgm_wire.specs.reading.Reading.{Gives};
 ghost use Rattle.lgm_store.specs.Rows.{empty};
 ghost use Rattle.lgm_store.specs.History.{fold_from};
 ghost use Rattle.lgm_graph.specs.Edges.{edges_of};
 ghost use Rattle.lgm_query.specs.Touched.{HasTouched};
 ghost use Rattle.lgm_route.specs.Choice.{answer_of};
-ghost use Rattle.lgm_script.specs.Output.{Sends, SendsPart};
+ghost use Rattle.lgm_script.specs.Output.{Writes};
 ghost use Rattle.lgm_server.specs.inner.Chart.{Shows, ShowsCommitted, IsBeside};
 ghost use Rattle.lgm_server.specs.inner.Maps.{grown};
 ghost use Rattle.lgm_server.specs.inner.Offered.{outcome_on, settled, WasChecked};
@@ -220,12 +220,9 @@ impl Maps {
         ensures writer { output.new.writer.ghost_name ≡ output.old.writer.ghost_name }
         ensures filters { OnOk result
             (filters.new ≡ filters_behind context.now.chain filters.old (asked_in lines.now)) }
-        ensures told { OnOk result (Sends W.taken W.failures output.old output.new
-            (questions_text context.now.chain self.old.known self.old.committed number filters.old
-            (asked_in lines.now))) }
-        ensures fault { IfErr result (SendsPart W.taken W.failures output.old output.new
-            (questions_text context.now.chain self.old.known self.old.committed number filters.old
-            (asked_in lines.now))) }
+        ensures written { Writes W.taken W.failures output.old output.new
+            (questions_text context.now.chain self.old.known self.old.committed number
+                filters.old (asked_in lines.now)) result }
     {
         chart_routes(
             context.pool.alloc,

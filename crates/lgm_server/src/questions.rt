@@ -1,11 +1,11 @@
 //! Questions about the committed map, answered in parallel.
 
 ghost use Rattle.std.specs.Prelude.{◌≡◌, ◌⊎◌, ◌+◌, ◌≤◌, ◌<◌, ◌^◌, ℕ, List};
-ghost use Rattle.std.specs.Prelude.{Err, IfOk, IfErr, OnOk, All, length};
+ghost use Rattle.std.specs.Prelude.{Err, IfOk, OnOk, All, length};
 ghost use Rattle.std.specs.List.{AllZip};
 ghost use Rattle.lgm_graph.specs.Edges.{edges_of};
 ghost use Rattle.lgm_route.specs.Choice.{answer_of};
-ghost use Rattle.lgm_script.specs.Output.{Sends, SendsPart};
+ghost use Rattle.lgm_script.specs.Output.{Writes};
 ghost use Rattle.lgm_script.specs.Request.{request_of};
 ghost use Rattle.lgm_script.specs.declared.request.Request.TheVariants.{Route as AsksRoute};
 ghost use Rattle.lgm_server.specs.Answer.{answer_text, filter_text, route_text};
@@ -160,10 +160,8 @@ fn tell<W: Sink>(
     requires { W.failures output.old.writer.now + 1 < 2 ^ 64 }
     ensures writer { output.new.writer.ghost_name ≡ output.old.writer.ghost_name }
     ensures filters { OnOk result (filters.new ≡ filters_by filters.old answer.now) }
-    ensures told { OnOk result
-        (Sends W.taken W.failures output.old output.new (answer_text number answer.now)) }
-    ensures fault { IfErr result
-        (SendsPart W.taken W.failures output.old output.new (answer_text number answer.now)) }
+    ensures written { Writes W.taken W.failures output.old output.new
+        (answer_text number answer.now) result }
 {
     if let Answer::Backlog(own, _) = answer {
         filters.set(*own)?;
@@ -187,12 +185,9 @@ pub fn answer_questions<Rt: Threads + Sync, G: Gate, W: Sink>(
     ensures writer { output.new.writer.ghost_name ≡ output.old.writer.ghost_name }
     ensures filters { OnOk result
         (filters.new ≡ filters_behind context.now.chain filters.old (asked_in lines.now)) }
-    ensures told { OnOk result (Sends W.taken W.failures output.old output.new
+    ensures written { Writes W.taken W.failures output.old output.new
         (questions_text context.now.chain chart.now.known committed.now first filters.old
-        (asked_in lines.now))) }
-    ensures fault { IfErr result (SendsPart W.taken W.failures output.old output.new
-        (questions_text context.now.chain chart.now.known committed.now first filters.old
-        (asked_in lines.now))) }
+            (asked_in lines.now)) result }
 {
     let all = decide_all(context, committed, chart, lines)?;
     let mut number = first;

@@ -1,7 +1,7 @@
 //! Writing routes.
 
-ghost use Rattle.std.specs.Prelude.{◌≡◌, ◌+◌, ◌<◌, ◌^◌, IfErr, OnOk};
-ghost use Rattle.lgm_script.specs.Output.{Sends, SendsPart};
+ghost use Rattle.std.specs.Prelude.{◌≡◌, ◌+◌, ◌<◌, ◌^◌};
+ghost use Rattle.lgm_script.specs.Output.{Writes};
 ghost use Rattle.lgm_server.specs.Answer.{hops_text, routed_text};
 
 use lgm_payload::Payloads;
@@ -17,10 +17,8 @@ fn send_hops<W: Sink>(
 ) -> Result<(), SendFault>
     requires { W.failures output.old.writer.now + 1 < 2 ^ 64 }
     ensures writer { output.new.writer.ghost_name ≡ output.old.writer.ghost_name }
-    ensures told { OnOk result
-        (Sends W.taken W.failures output.old output.new (hops_text number route.now payloads.now)) }
-    ensures fault { IfErr result
-        (SendsPart W.taken W.failures output.old output.new (hops_text number route.now payloads.now)) }
+    ensures written { Writes W.taken W.failures output.old output.new
+        (hops_text number route.now payloads.now) result }
 {
     let hops = route.as_slice();
     let payloads = payloads.as_slice();
@@ -39,10 +37,8 @@ pub fn send_route<W: Sink>(
 ) -> Result<(), SendFault>
     requires { W.failures output.old.writer.now + 1 < 2 ^ 64 }
     ensures writer { output.new.writer.ghost_name ≡ output.old.writer.ghost_name }
-    ensures told { OnOk result
-        (Sends W.taken W.failures output.old output.new (routed_text number route.now payloads.now)) }
-    ensures fault { IfErr result
-        (SendsPart W.taken W.failures output.old output.new (routed_text number route.now payloads.now)) }
+    ensures written { Writes W.taken W.failures output.old output.new
+        (routed_text number route.now payloads.now) result }
 {
     output.send_route(number, route.sent(), route.expiry(), route.as_slice().len())?;
     send_hops(number, route, payloads, output)

@@ -1,9 +1,9 @@
 //! Writing messages, one per line.
 
-ghost use Rattle.std.specs.Prelude.{◌≡◌, ◌+◌, ◌<◌, ◌^◌, Ok, Some, IfErr, OnOk};
+ghost use Rattle.std.specs.Prelude.{◌≡◌, ◌+◌, ◌<◌, ◌^◌, Ok, Some};
 ghost use Rattle.std.specs.List.{flat_map};
 ghost use Rattle.lgm_query.specs.Backlog.{backlog};
-ghost use Rattle.lgm_script.specs.Output.{Sends, SendsPart};
+ghost use Rattle.lgm_script.specs.Output.{Writes};
 ghost use Rattle.lgm_script.specs.Text.{message_line};
 ghost use Rattle.lgm_server.specs.Answer.{query_text, range_text, filter_text, news_text, commit_text};
 
@@ -22,10 +22,8 @@ pub(crate) fn send_messages<W: Sink>(
 ) -> Result<(), SendFault>
     requires { W.failures output.old.writer.now + 1 < 2 ^ 64 }
     ensures writer { output.new.writer.ghost_name ≡ output.old.writer.ghost_name }
-    ensures told { OnOk result
-        (Sends W.taken W.failures output.old output.new (query_text number (Ok messages.now))) }
-    ensures fault { IfErr result
-        (SendsPart W.taken W.failures output.old output.new (query_text number (Ok messages.now))) }
+    ensures written { Writes W.taken W.failures output.old output.new
+        (query_text number (Ok messages.now)) result }
 {
     for message in messages {
         output.send_message(number, None, message.as_slice())?;
@@ -42,10 +40,8 @@ pub(crate) fn send_range<W: Sink>(
 ) -> Result<(), SendFault>
     requires { W.failures output.old.writer.now + 1 < 2 ^ 64 }
     ensures writer { output.new.writer.ghost_name ≡ output.old.writer.ghost_name }
-    ensures told { OnOk result
-        (Sends W.taken W.failures output.old output.new (range_text number asked.now)) }
-    ensures fault { IfErr result
-        (SendsPart W.taken W.failures output.old output.new (range_text number asked.now)) }
+    ensures written { Writes W.taken W.failures output.old output.new
+        (range_text number asked.now) result }
 {
     let replies = answer_range(alloc, &asked.chain, asked.map, &asked.query)?;
     send_messages(number, replies.as_slice(), output)
@@ -60,10 +56,9 @@ fn send_backlog<W: Sink>(
 ) -> Result<(), SendFault>
     requires { W.failures output.old.writer.now + 1 < 2 ^ 64 }
     ensures writer { output.new.writer.ghost_name ≡ output.old.writer.ghost_name }
-    ensures told { OnOk result (Sends W.taken W.failures output.old output.new
-        (flat_map (message_line number (Some own.now.peer)) (backlog map.now own.now.filter))) }
-    ensures fault { IfErr result (SendsPart W.taken W.failures output.old output.new
-        (flat_map (message_line number (Some own.now.peer)) (backlog map.now own.now.filter))) }
+    ensures written { Writes W.taken W.failures output.old output.new
+        (flat_map (message_line number (Some own.now.peer)) (backlog map.now own.now.filter))
+        result }
 {
     for message in Backlog::of(map, &own.filter) {
         output.send_message(number, Some(own.peer), message)?;
@@ -80,10 +75,8 @@ pub(crate) fn send_filtered<W: Sink>(
 ) -> Result<(), SendFault>
     requires { W.failures output.old.writer.now + 1 < 2 ^ 64 }
     ensures writer { output.new.writer.ghost_name ≡ output.old.writer.ghost_name }
-    ensures told { OnOk result (Sends W.taken W.failures output.old output.new
-        (filter_text number own.now.peer map.now (Ok own.now.filter))) }
-    ensures fault { IfErr result (SendsPart W.taken W.failures output.old output.new
-        (filter_text number own.now.peer map.now (Ok own.now.filter))) }
+    ensures written { Writes W.taken W.failures output.old output.new
+        (filter_text number own.now.peer map.now (Ok own.now.filter)) result }
 {
     output.send_word(number, "filter")?;
     send_backlog(number, own, map, output)
@@ -98,10 +91,8 @@ fn send_news_to<W: Sink>(
 ) -> Result<(), SendFault>
     requires { W.failures output.old.writer.now + 1 < 2 ^ 64 }
     ensures writer { output.new.writer.ghost_name ≡ output.old.writer.ghost_name }
-    ensures told { OnOk result (Sends W.taken W.failures output.old output.new
-        (news_text number differences.now.before differences.now.after own.now)) }
-    ensures fault { IfErr result (SendsPart W.taken W.failures output.old output.new
-        (news_text number differences.now.before differences.now.after own.now)) }
+    ensures written { Writes W.taken W.failures output.old output.new
+        (news_text number differences.now.before differences.now.after own.now) result }
 {
     for message in differences.news(&own.filter) {
         output.send_message(number, Some(own.peer), message)?;
@@ -118,10 +109,9 @@ fn send_all_news<W: Sink>(
 ) -> Result<(), SendFault>
     requires { W.failures output.old.writer.now + 1 < 2 ^ 64 }
     ensures writer { output.new.writer.ghost_name ≡ output.old.writer.ghost_name }
-    ensures told { OnOk result (Sends W.taken W.failures output.old output.new
-        (flat_map (news_text number differences.now.before differences.now.after) filters.now)) }
-    ensures fault { IfErr result (SendsPart W.taken W.failures output.old output.new
-        (flat_map (news_text number differences.now.before differences.now.after) filters.now)) }
+    ensures written { Writes W.taken W.failures output.old output.new
+        (flat_map (news_text number differences.now.before differences.now.after) filters.now)
+        result }
 {
     for (_, own) in filters.as_map() {
         send_news_to(number, own, differences, output)?;
@@ -139,10 +129,9 @@ pub(crate) fn send_news<W: Sink>(
 ) -> Result<(), SendFault>
     requires { W.failures output.old.writer.now + 1 < 2 ^ 64 }
     ensures writer { output.new.writer.ghost_name ≡ output.old.writer.ghost_name }
-    ensures told { OnOk result (Sends W.taken W.failures output.old output.new
-        (commit_text number accepted differences.now.before differences.now.after filters.now)) }
-    ensures fault { IfErr result (SendsPart W.taken W.failures output.old output.new
-        (commit_text number accepted differences.now.before differences.now.after filters.now)) }
+    ensures written { Writes W.taken W.failures output.old output.new
+        (commit_text number accepted differences.now.before differences.now.after filters.now)
+        result }
 {
     output.send_count(number, accepted)?;
     send_all_news(number, filters, differences, output)

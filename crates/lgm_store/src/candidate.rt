@@ -7,7 +7,7 @@ ghost use Rattle.lgm_store.specs.inner.Candidate.{Fits, checked_by, message_of};
 
 use crate::shared::Shared;
 use lgm_check::{CheckedKind, Evidence, Refusal, precheck_kind};
-use lgm_gossip::{Bytes, ChainHash, Point};
+use lgm_gossip::{ChainHash, Point};
 use lgm_rows::{KeptChannel, KeptNode, KeptUpdate};
 use std::alloc::{AllocError, Global};
 use std::marker::Model;
@@ -42,20 +42,21 @@ impl Model for Candidate {
 }
 
 impl Candidate {
-    /// Checks a message as [`precheck`](lgm_check::precheck) does, and makes one that is lawful ready. Its bytes are kept as they are, and not
-    /// copied.
+    /// Checks a message as [`precheck`](lgm_check::precheck) does, and makes one that is lawful ready, with a copy of
+    /// its bytes.
     ///
     /// The refusals are those of `precheck`. `NoMemory` is no verdict on the message: memory was refused for what decoding
     /// keeps of it, or for the row that is shared.
     pub fn precheck(
         alloc: Global,
         chain: &ChainHash,
-        bytes: Bytes,
+        bytes: &[u8],
         evidence: &Evidence,
     ) -> Result<Candidate, Refusal>
-        ensures { Gives Refusal.NoMemory (λ made. made) result (checked_of chain.now bytes evidence.now) }
+        ensures { Gives Refusal.NoMemory (λ made. made) result
+            (checked_of chain.now bytes.now evidence.now) }
     {
-        let checked = find(alloc, chain, bytes.as_slice(), evidence)?;
+        let checked = find(alloc, chain, bytes, evidence)?;
         Ok(Candidate {
             kind: keep(alloc, bytes, checked)?,
         })
@@ -77,21 +78,21 @@ fn find<'a>(
 }
 
 /// The row that the bytes and what was found beside them make.
-fn keep(alloc: Global, bytes: Bytes, checked: CheckedKind<'_>) -> Result<Kind, AllocError>
-    requires { Fits checked bytes }
-    ensures { IfOk result (λ kind. message_of kind ≡ checked_by checked.entry bytes) }
+fn keep(alloc: Global, bytes: &[u8], checked: CheckedKind<'_>) -> Result<Kind, AllocError>
+    requires { Fits checked bytes.now }
+    ensures { IfOk result (λ kind. message_of kind ≡ checked_by checked.entry bytes.now) }
 {
     match checked {
         CheckedKind::Channel(sat) => {
-            let row = KeptChannel::of_owned(bytes, sat);
+            let row = KeptChannel::of_bytes(alloc, bytes, sat)?;
             Ok(Kind::Channel(Shared::new(alloc, row)?))
         }
         CheckedKind::Update(signer) => {
-            let row = KeptUpdate::of_owned(bytes);
+            let row = KeptUpdate::of_bytes(alloc, bytes)?;
             Ok(Kind::Update(Shared::new(alloc, row)?, *signer.point()))
         }
         CheckedKind::Node => {
-            let row = KeptNode::of_owned(bytes);
+            let row = KeptNode::of_bytes(alloc, bytes)?;
             Ok(Kind::Node(Shared::new(alloc, row)?))
         }
     }

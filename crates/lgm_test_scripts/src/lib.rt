@@ -6,7 +6,7 @@ mod line;
 mod messages;
 mod numbers;
 mod runs;
-mod told;
+mod transcript;
 
 pub use devices::{FailingSink, FailingSource};
 pub use line::{FREE, Line, SECRET, Terms, script_of};
@@ -16,4 +16,4 @@ pub use messages::{
 };
 pub use numbers::Numbers;
 pub use runs::{Differing, find_differing, run_by, written};
-pub use told::text_of;
+pub use transcript::text_of;

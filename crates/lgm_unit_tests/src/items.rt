@@ -35,10 +35,10 @@ fn items(rt: HostRuntime) -> Result<(), Fail> {
     ] {
         let verdicts = fields.replace(alloc, "SIGNER", SIGNER)?;
         let line = format!(in alloc; "m 01fF {verdicts}")?;
-        let item = parse_item(alloc, line.as_bytes())?;
+        let item = parse_item(Vec::new(alloc), line.as_bytes())?;
         assert!(rt; offers(&item, sig, funding), "{line}");
     }
-    let close = parse_item(alloc, b"close 539268x845x1")?;
+    let close = parse_item(Vec::new(alloc), b"close 539268x845x1")?;
     let is_named = matches!(&close, Some(Item::Close(scid)) if *scid == Scid::new(539_268, 845, 1));
     assert!(rt; is_named, "close");
     Ok(())
@@ -79,7 +79,7 @@ fn no_items(rt: HostRuntime) -> Result<(), Fail> {
         "close 1x2x3 ",
         "close 1 2 3",
     ] {
-        let item = parse_item(alloc, line.as_bytes())?;
+        let item = parse_item(Vec::new(alloc), line.as_bytes())?;
         assert!(rt; item.is_none(), "{line}");
     }
     Ok(())

@@ -8,7 +8,7 @@ use Rattle.lgm_live.specs.declared.report.LiveReport.{LiveReport}
 use Rattle.lgm_live.specs.declared.slot.Slot.{Slot}
 use Rattle.lgm_live.specs.declared.slot.Slot.TheVariants as slots
 use Rattle.lgm_live.specs.declared.telling.Place.{Place}
-use Rattle.lgm_live.specs.Told.{answer_at, at_line}
+use Rattle.lgm_live.specs.Text.{answer_at, at_line}
 
 abbrev pub is_item : Slot → Bool
 is_item slots.Item = true

@@ -22,7 +22,7 @@ returns-in_err-count-clause-read g c =
     rw (p.1, p.2) (line_failed g.R.Source.left g.R.Source.failures g.W.Sink.taken g.W.Sink.failures
     c.args.source.now c.loop-number.source c.next_line.new.source c.args.output.now c.loop-number.output
     c.next_line.new.output (λ _. IsNoted script c.args.agenda.now c.loop-number.agenda) inv.source inv.writer
-    inv.silent inv.gathered {T = Option ℕ} c.in_err-count.field-0.0 line.told line.write line.read
+    inv.silent inv.gathered {T = Option ℕ} c.in_err-count.field-0.0 line.written line.write line.read
     (λ is. long script inv.asked input (ahead c.next_line.new.lines (g.R.Source.left c.next_line.new.source)) inv.so_far
     line.kept (omega (arith, inv.count, c.loop-number-test.true)) (line.too_long (ap (failed {T = Option ℕ}) is))))
 
@@ -35,7 +35,7 @@ returns-in_default-clause-read g c =
     line_read g.R.Source.left g.R.Source.failures g.W.Sink.taken g.W.Sink.failures c.args.source.now
     c.loop-number.source c.next_line.new.source c.args.output.now c.loop-number.output
     c.next_line.new.output (λ _. IsNoted script c.args.agenda.now c.loop-number.agenda) inv.source inv.writer
-    inv.silent inv.gathered (Ok tt) (line.told (λ e. absurd cc))
+    inv.silent inv.gathered (Ok tt) (line.written (λ e. absurd cc))
     (record {
       asked = inv.asked;
       few = omega (arith, inv.count, inv.within);
@@ -54,7 +54,7 @@ returns-in_err-note_line-clause-read g c =
     c.args.source.now c.loop-number.source c.next_line.new.source c.args.output.now c.loop-number.output
     c.next_line.new.output
     (λ _. IsNoted (g.R.Source.left c.args.source.now) c.args.agenda.now c.note_line.new.agenda) inv.source
-    inv.writer inv.silent inv.gathered (Err NoMemory) (c.in_ok-count.ensures.told (λ e. absurd cc)) tt (λ e. absurd cc)
+    inv.writer inv.silent inv.gathered (Err NoMemory) (c.in_ok-count.ensures.written (λ e. absurd cc)) tt (λ e. absurd cc)
     (λ e. absurd cc) (λ e. absurd cc) (λ e. absurd cc))
 
 pub note_line-requires-clause-some : goal.note_line-requires-clause-some
@@ -84,7 +84,7 @@ loop-number-preserved g c =
     let count = c.in-Some.count in
     let mid = seen g.W.Sink.taken g.W.Sink.failures c.loop-number.output in
     let new = seen g.W.Sink.taken g.W.Sink.failures c.next_line.new.output in
-    let told : Tells mid new [] = c.in_ok-count.ensures.told (λ e. absurd cc) in
+    let told : Tells mid new [] = c.in_ok-count.ensures.written (λ e. absurd cc) in
     let quiet = silent mid new inv.gathered told in
     let request = request_of (take count buffered) in
     let first = rw c.in-Some.is at c.in_ok-count.ensures.line in
@@ -115,7 +115,7 @@ returns-in_err-more_begins-clause-read g c =
     c.args.source.now c.loop-number.source c.more_begins.new.source c.args.output.now c.loop-number.output
     c.more_begins.new.output
     (λ _. IsNoted (g.R.Source.left c.args.source.now) c.args.agenda.now c.loop-number.agenda) inv.source
-    inv.writer inv.silent inv.gathered {T = Bool} c.in_err-more_begins.field-0.0 more.told more.write more.read
+    inv.writer inv.silent inv.gathered {T = Bool} c.in_err-more_begins.field-0.0 more.written more.write more.read
     (λ is. absurd (more.short (ap (failed {T = Bool}) is))))
 
 pub returns-then-branch-clause-read : goal.returns-then-branch-clause-read
@@ -127,7 +127,7 @@ returns-then-branch-clause-read g c =
     line_read g.R.Source.left g.R.Source.failures g.W.Sink.taken g.W.Sink.failures c.args.source.now
     c.loop-number.source c.more_begins.new.source c.args.output.now c.loop-number.output
     c.more_begins.new.output (λ _. IsNoted script c.args.agenda.now c.loop-number.agenda) inv.source inv.writer
-    inv.silent inv.gathered (Err TooManyLines) (more.told (λ e. absurd cc)) tt
+    inv.silent inv.gathered (Err TooManyLines) (more.written (λ e. absurd cc)) tt
     (λ _. many script inv.asked c.more_begins.new.lines (g.R.Source.left c.more_begins.new.source) input
     inv.so_far more.kept (more.more (search rules)) (omega (arith, inv.count, inv.within, c.loop-number-test.false)))
     (λ e. absurd cc) (λ e. absurd cc) (λ e. absurd cc)
@@ -141,7 +141,7 @@ returns-clause-read g c =
     line_read g.R.Source.left g.R.Source.failures g.W.Sink.taken g.W.Sink.failures c.args.source.now
     c.loop-number.source c.more_begins.new.source c.args.output.now c.loop-number.output
     c.more_begins.new.output (λ _. IsNoted script c.args.agenda.now c.loop-number.agenda) inv.source inv.writer
-    inv.silent inv.gathered (Ok tt) (more.told (λ e. absurd cc))
+    inv.silent inv.gathered (Ok tt) (more.written (λ e. absurd cc))
     (record {
       asked = inv.asked;
       few = omega (arith, inv.count, inv.within);

@@ -9,7 +9,7 @@ returns-in-Err-Write-clause-part g c =
     let all = c.args.slots.now in
     part_written c.tell_slots-told.result (seen g.W.Sink.taken g.W.Sink.failures c.args.output.now)
     (seen g.W.Sink.taken g.W.Sink.failures c.tell_slots-told.new.output)
-    (slots_before c.args.workers c.args.report.now all (length all)) c.requires.gathered c.tell_slots-told.ensures.fault
+    (slots_before c.args.workers c.args.report.now all (length all)) c.requires.gathered c.tell_slots-told.ensures.written
 
 pub returns-in-Ok-clause-part : goal.returns-in-Ok-clause-part
 returns-in-Ok-clause-part g c =
@@ -17,7 +17,7 @@ returns-in-Ok-clause-part g c =
     part_flushed c.tell_slots-told.result (seen g.W.Sink.taken g.W.Sink.failures c.args.output.now)
     (seen g.W.Sink.taken g.W.Sink.failures c.tell_slots-told.new.output)
     (seen g.W.Sink.taken g.W.Sink.failures c.flush.new.self)
-    (slots_before c.args.workers c.args.report.now all (length all)) c.requires.gathered c.tell_slots-told.ensures.fault c.in-Ok.ensures.told
+    (slots_before c.args.workers c.args.report.now all (length all)) c.requires.gathered c.tell_slots-told.ensures.written c.in-Ok.ensures.written
 
 pub returns-in-Err-clause-part : goal.returns-in-Err-clause-part
 returns-in-Err-clause-part g c =
@@ -26,4 +26,4 @@ returns-in-Err-clause-part g c =
     (seen g.W.Sink.taken g.W.Sink.failures c.tell_slots-told.new.output)
     (seen g.W.Sink.taken g.W.Sink.failures c.flush.new.self)
     (slots_before c.args.workers c.args.report.now all (length all)) c.requires.gathered
-    c.tell_slots-told.ensures.told c.tell_slots-told.ensures.fault c.in-Err.ensures.fault
+    c.tell_slots-told.ensures.written c.in-Err.ensures.written

@@ -1,37 +1,29 @@
 use Rattle.std.proofs.Common.{◌∙◌, codes}
 use Rattle.std.proofs.lemmas.Result.{err_from_is_err_and}
 use Rattle.lgm_script.specs.Output.{Sends, SendsPart}
-use Rattle.lgm_script.proofs.Telling.{tells_none, tells_part_more, told_behind, fault_behind}
-use Rattle.lgm_live.specs.Told.{at_line}
+use Rattle.lgm_script.proofs.Telling.{tells_none, tells_part_more, written_behind}
+use Rattle.lgm_live.specs.Text.{at_line}
 use Rattle.lgm_live.proofs.SlotTexts.{version_line}
 use Rattle.lgm_live.proofs.telling.tell_answer.Goals as goal
 
-pub returns-in_err-word-clause-fault : goal.returns-in_err-word-clause-fault
-returns-in_err-word-clause-fault g c =
+pub returns-in_err-word-clause-written : goal.returns-in_err-word-clause-written
+returns-in_err-word-clause-written g c =
     let p = err_from_is_err_and c.from_residual.result c.from_residual.ensures.1 in
     rw (p.1, p.2) (tells_none _ _)
 
-pub returns-in_err-send_word-clause-fault : goal.returns-in_err-send_word-clause-fault
-returns-in_err-send_word-clause-fault g c =
+pub returns-in_err-send_word-clause-written : goal.returns-in_err-send_word-clause-written
+returns-in_err-send_word-clause-written g c =
     let p = err_from_is_err_and c.from_residual-in_err-send_word.result c.from_residual-in_err-send_word.ensures.1 in
     let is = version_line c.args.number c.args.answer.now.version c.as_str.result.now (c.as_str.ensures.value ∙ c.in_ok-word.ensures.ok) in
     let line : SendsPart g.W.Sink.taken g.W.Sink.failures c.args.output.now c.send_word.new.self
     (at_line c.args.number c.args.answer.now.version (codes "same")) c.in_err-send_word.field-0.0 =
-    rw (← is) c.in_err-send_word.ensures.fault in
+    rw (← is) c.in_err-send_word.ensures.written in
     rw (p.1, p.2) (tells_part_more _ _ _ _ _ line)
 
-pub returns-clause-told : goal.returns-clause-told
-returns-clause-told g c =
+pub returns-clause-written : goal.returns-clause-written
+returns-clause-written g c =
     let is = version_line c.args.number c.args.answer.now.version c.as_str.result.now (c.as_str.ensures.value ∙ c.in_ok-word.ensures.ok) in
     let line : Sends g.W.Sink.taken g.W.Sink.failures c.args.output.now c.send_word.new.self
     (at_line c.args.number c.args.answer.now.version (codes "same")) =
-    rw (← is) c.in_ok-send_word.ensures.told in
-    told_behind c.tell_result.result _ _ _ _ _ line c.tell_result.ensures.told
-
-pub returns-clause-fault : goal.returns-clause-fault
-returns-clause-fault g c =
-    let is = version_line c.args.number c.args.answer.now.version c.as_str.result.now (c.as_str.ensures.value ∙ c.in_ok-word.ensures.ok) in
-    let line : Sends g.W.Sink.taken g.W.Sink.failures c.args.output.now c.send_word.new.self
-    (at_line c.args.number c.args.answer.now.version (codes "same")) =
-    rw (← is) c.in_ok-send_word.ensures.told in
-    fault_behind c.tell_result.result _ _ _ _ _ line c.tell_result.ensures.fault
+    rw (← is) c.in_ok-send_word.ensures.written in
+    written_behind c.tell_result.result _ _ _ _ _ line c.tell_result.ensures.written

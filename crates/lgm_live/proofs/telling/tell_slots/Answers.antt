@@ -16,8 +16,8 @@ loop-slot-init g c = record {
   told = rw (no_text c.args.workers c.args.report.now c.args.slots.now) (tells_nothing (seen g.W.Sink.taken g.W.Sink.failures c.args.output.now));
 }
 
-pub returns-in_err-tell_slot-clause-fault : goal.returns-in_err-tell_slot-clause-fault
-returns-in_err-tell_slot-clause-fault g c =
+pub returns-in_err-tell_slot-clause-written : goal.returns-in_err-tell_slot-clause-written
+returns-in_err-tell_slot-clause-written g c =
     let p = err_from_is_err_and c.from_residual.result c.from_residual.ensures.1 in
     let all = c.args.slots.now in
     let k = c.loop-slot.slot-index in
@@ -30,7 +30,7 @@ returns-in_err-tell_slot-clause-fault g c =
     c.loop-slot.invariant.number c.loop-slot.invariant.place in
     rw (p.1, p.2)
     (stops c.args.workers c.args.report.now all k old mid new fault c.loop-slot-test.true c.loop-slot.invariant.told
-    (subst (λ text. TellsPart mid new text fault) is c.in_err-tell_slot.ensures.fault))
+    (subst (λ text. TellsPart mid new text fault) is c.in_err-tell_slot.ensures.written))
 
 pub loop-slot-preserved : goal.loop-slot-preserved
 loop-slot-preserved g c =
@@ -42,7 +42,7 @@ loop-slot-preserved g c =
     let told : Tells mid new (text_at c.args.workers c.args.report.now all k) =
     subst (Tells mid new) (text_here c.args.workers c.args.report.now all k c.loop-slot.number
     c.loop-slot.place c.loop-slot.invariant.number c.loop-slot.invariant.place)
-    c.in_ok-tell_slot.ensures.told in
+    c.in_ok-tell_slot.ensures.written in
     record {
       writer = c.in_ok-tell_slot.ensures.writer ∙ c.loop-slot.invariant.writer;
       failures = told.well ∙ c.loop-slot.invariant.failures;

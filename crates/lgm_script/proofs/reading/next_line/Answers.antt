@@ -27,10 +27,10 @@ returns-then-searched-gt-MAX_LINE-clause-too_long g c = λ e.
     let long : 140000 < length c.loop-count.lines = omega (arith, c.if-searched-gt-MAX_LINE.true, ap length c.buffered-searched.ensures) in
     has_longer 140000 c.loop-count.lines (g.R.Source.left c.loop-count.source) (rw c.buffered.ensures at c.in_default.ensures.none) long
 
-pub returns-in_err-read_on-clause-told : goal.returns-in_err-read_on-clause-told
-returns-in_err-read_on-clause-told g c = λ other.
+pub returns-in_err-read_on-clause-written : goal.returns-in_err-read_on-clause-written
+returns-in_err-read_on-clause-written g c = λ other.
     let p = err_from_is_err_and c.from_residual.result c.from_residual.ensures.1 in
-    tells_both _ _ _ [] [] c.loop-count.invariant.told (c.in_err-read_on.ensures.told (λ e. other (p.1
+    tells_both _ _ _ [] [] c.loop-count.invariant.written (c.in_err-read_on.ensures.written (λ e. other (p.1
     ∙ ap (λ (f : LineFault). Err f) (p.2 ∙ failed_is {T = Bool} c.in_err-read_on.field-0.0 Write e))))
 
 pub returns-in_err-read_on-clause-write : goal.returns-in_err-read_on-clause-write
@@ -38,15 +38,15 @@ returns-in_err-read_on-clause-write g c = λ e.
     let p = err_from_is_err_and c.from_residual.result c.from_residual.ensures.1 in
     let same : failed {T = Bool} c.in_err-read_on.field-0.0 ≡ failed Write =
     ap (λ (f : LineFault). Err f) (sym p.2 ∙ failed_is p.0 Write (sym p.1 ∙ e)) in
-    tells_part_behind _ _ _ [] [] SendWrite c.loop-count.invariant.told (c.in_err-read_on.ensures.write same)
+    tells_part_behind _ _ _ [] [] SendWrite c.loop-count.invariant.written (c.in_err-read_on.ensures.write same)
 
-pub returns-then-searched-gt0-clause-told : goal.returns-then-searched-gt0-clause-told
-returns-then-searched-gt0-clause-told g c = λ other.
-    tells_both _ _ _ [] [] c.loop-count.invariant.told (c.in_ok-read_on.ensures.told (λ e. cc))
+pub returns-then-searched-gt0-clause-written : goal.returns-then-searched-gt0-clause-written
+returns-then-searched-gt0-clause-written g c = λ other.
+    tells_both _ _ _ [] [] c.loop-count.invariant.written (c.in_ok-read_on.ensures.written (λ e. cc))
 
-pub returns-else-searched-gt0-clause-told : goal.returns-else-searched-gt0-clause-told
-returns-else-searched-gt0-clause-told g c = λ other.
-    tells_both _ _ _ [] [] c.loop-count.invariant.told (c.in_ok-read_on.ensures.told (λ e. cc))
+pub returns-else-searched-gt0-clause-written : goal.returns-else-searched-gt0-clause-written
+returns-else-searched-gt0-clause-written g c = λ other.
+    tells_both _ _ _ [] [] c.loop-count.invariant.written (c.in_ok-read_on.ensures.written (λ e. cc))
 
 pub loop-count-preserved : goal.loop-count-preserved
 loop-count-preserved g c =
@@ -60,6 +60,6 @@ loop-count-preserved g c =
       one =
           rw size (All-same EndsNoLine (take (length lines) c.read_on.new.lines) lines
           c.in_ok-read_on.ensures.front (rw c.buffered.ensures at c.in_default.ensures.none));
-      told = tells_both _ _ _ [] [] c.loop-count.invariant.told (c.in_ok-read_on.ensures.told (λ e. cc));
+      written = tells_both _ _ _ [] [] c.loop-count.invariant.written (c.in_ok-read_on.ensures.written (λ e. cc));
       well = c.in_ok-read_on.ensures.well (λ e. cc) ∙ c.loop-count.invariant.well;
     }

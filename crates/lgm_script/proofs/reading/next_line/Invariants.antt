@@ -9,7 +9,7 @@ invariant-loop-count g l = record {
   kept : ahead l.lines (g.R.Source.left l.source) ≡ ahead l.fn.lines (g.R.Source.left l.fn.source);
   within : l.searched ≤ length l.lines;
   one : HasNoLineFeed (take l.searched l.lines);
-  told : Sends g.W.Sink.taken g.W.Sink.failures l.fn.output l.output [];
+  written : Sends g.W.Sink.taken g.W.Sink.failures l.fn.output l.output [];
   well : g.R.Source.failures l.source ≡ g.R.Source.failures l.fn.source;
 }
 

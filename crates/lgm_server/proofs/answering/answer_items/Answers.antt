@@ -23,13 +23,13 @@ use Rattle.lgm_server.proofs.Turning.{IsAt, at_next, at_last, at_fault}
 use Rattle.lgm_server.proofs.Zips.{stands}
 use Rattle.lgm_server.proofs.answering.answer_items.Goals as goal
 
-pub returns-in_err-all-clause-fault : goal.returns-in_err-all-clause-fault
-returns-in_err-all-clause-fault g c =
+pub returns-in_err-all-clause-written : goal.returns-in_err-all-clause-written
+returns-in_err-all-clause-written g c =
     let p = err_from_is_err_and c.from_residual.result c.from_residual.ensures.1 in
     rw (p.1, p.2) (tells_none _ _)
 
-pub returns-in_err-item-clause-fault : goal.returns-in_err-item-clause-fault
-returns-in_err-item-clause-fault g c =
+pub returns-in_err-item-clause-written : goal.returns-in_err-item-clause-written
+returns-in_err-item-clause-written g c =
     let chain = c.args.context.now.chain in
     let asked = asked_in c.args.lines.now in
     let all = c.in_ok-all.all.items in
@@ -72,8 +72,8 @@ offer-requires-clause-checked g c =
     (Ok c.in_ok-item.field-0) c.in_ok-all.ensures t.0 (sym t.1 ∙ c.in_ok-item.was) in
     was_checked_if chain request c.in_ok-item.field-0 stand.holds
 
-pub returns-in_err-offer-clause-fault : goal.returns-in_err-offer-clause-fault
-returns-in_err-offer-clause-fault g c =
+pub returns-in_err-offer-clause-written : goal.returns-in_err-offer-clause-written
+returns-in_err-offer-clause-written g c =
     let chain = c.args.context.now.chain in
     let asked = asked_in c.args.lines.now in
     let all = c.in_ok-all.all.items in
@@ -98,7 +98,7 @@ returns-in_err-offer-clause-fault g c =
     (at_fault (state_after chain) (text_for chain) c.args.first c.args.engine.now asked old k
     c.loop-item.number state mid new Quiet request c.in_err-offer.field-0.0 c.loop-item.invariant.at
     stand.within refl
-    (subst (λ t. TellsPart mid new t c.in_err-offer.field-0.0) text c.in_err-offer.ensures.fault))
+    (subst (λ t. TellsPart mid new t c.in_err-offer.field-0.0) text c.in_err-offer.ensures.written))
 
 pub overflow_add-number : goal.overflow_add-number
 overflow_add-number g c =
@@ -153,7 +153,7 @@ loop-item-preserved g c =
           (at_next (state_after chain) (text_for chain) c.args.first c.args.engine.now asked old k
           c.loop-item.number state c.offer.new.engine mid new Quiet request c.loop-item.invariant.at
           stand.within refl goes
-          (subst (Tells mid new) text c.in_ok-offer.ensures.told));
+          (subst (Tells mid new) text c.in_ok-offer.ensures.written));
     }
 
 pub returns-clause-state : goal.returns-clause-state
@@ -176,8 +176,8 @@ returns-clause-state g c =
     state mid c.loop-item.invariant.at done in
     last.0
 
-pub returns-clause-told : goal.returns-clause-told
-returns-clause-told g c =
+pub returns-clause-written : goal.returns-clause-written
+returns-clause-written g c =
     let chain = c.args.context.now.chain in
     let asked = asked_in c.args.lines.now in
     let all = c.in_ok-all.all.items in

@@ -16,10 +16,10 @@ none_offered chain (requests.Query bytes) none = refl
 none_offered chain (requests.Filter peer bytes) none = refl
 none_offered chain (requests.Route payment) none = refl
 
-pub returns-in_ok-check-in-Some : goal.returns-in_ok-check-in-Some
-returns-in_ok-check-in-Some c =
+pub returns-in_ok-check_item-in-Some : goal.returns-in_ok-check_item-in-Some
+returns-in_ok-check_item-in-Some c =
     let offer = (c.in_ok-item.ensures c.in-Some.item).0 c.in-Some.is in
-    ap Some c.in_ok-check-in-Some.ensures ∙ ap (offered_in c.args.chain.now) (sym offer)
+    ap Some c.in_ok-check_item-in-Some.ensures ∙ ap (offered_in c.args.chain.now) (sym offer)
 
 pub returns-in-None : goal.returns-in-None
 returns-in-None c =

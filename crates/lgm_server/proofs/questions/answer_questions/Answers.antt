@@ -24,8 +24,8 @@ loop-answer-init g c = record {
       (seen g.W.Sink.taken g.W.Sink.failures c.args.output.now);
 }
 
-pub returns-in_err-all-clause-fault : goal.returns-in_err-all-clause-fault
-returns-in_err-all-clause-fault g c =
+pub returns-in_err-all-clause-written : goal.returns-in_err-all-clause-written
+returns-in_err-all-clause-written g c =
     let p = err_from_is_err_and c.from_residual.result c.from_residual.ensures.1 in
     rw (p.1, p.2) (tells_none _ _)
 
@@ -55,11 +55,11 @@ loop-answer-preserved g c =
           c.tell.new.filters mid new Quiet (get_or asked k Quiet)
           c.loop-answer.invariant.at stand.within refl
           (c.in_ok-tell.ensures.filters ∙ stand.holds.filters c.loop-answer.filters)
-          (subst (Tells mid new) (stand.holds.text c.loop-answer.number) c.in_ok-tell.ensures.told);
+          (subst (Tells mid new) (stand.holds.text c.loop-answer.number) c.in_ok-tell.ensures.written);
     }
 
-pub returns-in_default-clause-fault : goal.returns-in_default-clause-fault
-returns-in_default-clause-fault g c =
+pub returns-in_default-clause-written : goal.returns-in_default-clause-written
+returns-in_default-clause-written g c =
     let chain = c.args.context.now.chain in
     let known = c.args.chart.now.known in
     let rows = c.args.committed.now in
@@ -80,8 +80,8 @@ returns-in_default-clause-fault g c =
     (get_or asked k Quiet) NoMemory
     c.loop-answer.invariant.at stand.within refl (tells_none mid _)
 
-pub returns-in_err-tell-clause-fault : goal.returns-in_err-tell-clause-fault
-returns-in_err-tell-clause-fault g c =
+pub returns-in_err-tell-clause-written : goal.returns-in_err-tell-clause-written
+returns-in_err-tell-clause-written g c =
     let chain = c.args.context.now.chain in
     let known = c.args.chart.now.known in
     let rows = c.args.committed.now in
@@ -104,7 +104,7 @@ returns-in_err-tell-clause-fault g c =
     c.args.first c.args.filters.now asked old k c.loop-answer.number c.loop-answer.filters mid new Quiet
     (get_or asked k Quiet) c.in_err-tell.field-0.0
     c.loop-answer.invariant.at stand.within refl (subst (λ t. TellsPart mid new t c.in_err-tell.field-0.0)
-    (stand.holds.text c.loop-answer.number) c.in_err-tell.ensures.fault))
+    (stand.holds.text c.loop-answer.number) c.in_err-tell.ensures.written))
 
 pub overflow_add-number : goal.overflow_add-number
 overflow_add-number g c =
@@ -147,8 +147,8 @@ returns-clause-filters g c =
     c.loop-answer.invariant.at whole in
     done.0
 
-pub returns-clause-told : goal.returns-clause-told
-returns-clause-told g c =
+pub returns-clause-written : goal.returns-clause-written
+returns-clause-written g c =
     let chain = c.args.context.now.chain in
     let known = c.args.chart.now.known in
     let rows = c.args.committed.now in

@@ -11,7 +11,7 @@ pub loop-place-preserved : goal.loop-place-preserved
 loop-place-preserved g c =
     let line : Sends g.W.Sink.taken g.W.Sink.failures c.loop-place.output c.send_hop.new.self
     (hop_line c.args.number c.index-hops-place.result.scid c.as_slice.result.now) =
-    rw c.index-hops-place.is c.in_ok-send_hop.ensures.told in
+    rw c.index-hops-place.is c.in_ok-send_hop.ensures.written in
     record {
       writer = c.in_ok-send_hop.ensures.writer ∙ c.loop-place.invariant.writer;
       told = onward_more _ _ _ _ _ _ _ c.loop-place.invariant.told
@@ -21,19 +21,19 @@ loop-place-preserved g c =
           line;
     }
 
-pub returns-in_err-send_hop-clause-fault : goal.returns-in_err-send_hop-clause-fault
-returns-in_err-send_hop-clause-fault g c =
+pub returns-in_err-send_hop-clause-written : goal.returns-in_err-send_hop-clause-written
+returns-in_err-send_hop-clause-written g c =
     let p = err_from_is_err_and c.from_residual.result c.from_residual.ensures.1 in
     let line : SendsPart g.W.Sink.taken g.W.Sink.failures c.loop-place.output c.send_hop.new.self (hop_line
     c.args.number c.index-hops-place.result.scid c.as_slice.result.now) c.in_err-send_hop.field-0.0 =
-    rw c.index-hops-place.is c.in_err-send_hop.ensures.fault in
+    rw c.index-hops-place.is c.in_err-send_hop.ensures.written in
     rw (p.1, p.2) (onward_stops _ _ _ _ _ _ _ _ c.loop-place.invariant.told
     (hop_there c.args.number c.loop-place.place c.args.route.now c.args.payloads.now c.index-hops-place.result
     c.index-payloads-place.result c.as_slice.result.now
     (search rules) (search rules) (search rules) (search rules) c.as_slice.ensures)
     line)
 
-pub returns-clause-told : goal.returns-clause-told
-returns-clause-told g c =
+pub returns-clause-written : goal.returns-clause-written
+returns-clause-written g c =
     let past : min (length c.args.route.now) (length c.args.payloads.now) ≤ c.loop-place.place = search rules in
     onward_ends _ _ _ _ c.loop-place.invariant.told (hops_end c.args.number c.loop-place.place c.args.route.now c.args.payloads.now past)

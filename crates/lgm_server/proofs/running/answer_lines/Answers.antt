@@ -41,14 +41,14 @@ returns-in_err-count-clause-ended g c =
     let fault = c.in_err-count.field-0.0 in
     let some =
     cut chain known script k state c.next_line.new.lines (g.R.Source.left c.next_line.new.source) input old mid new
-    inv.so_far inv.within line.kept (line_some {T = Option ℕ} fault mid new line.told line.write) in
+    inv.so_far inv.within line.kept (line_some {T = Option ℕ} fault mid new line.written line.write) in
     rw (p.1, p.2) (line_failed g.R.Source.left g.R.Source.failures g.W.Sink.taken g.W.Sink.failures chain known
     c.args.source.now c.loop-number.source c.next_line.new.source c.args.output.now c.loop-number.output
-    c.next_line.new.output inv.source inv.writer some {T = Option ℕ} fault line.told line.write line.read
+    c.next_line.new.output inv.source inv.writer some {T = Option ℕ} fault line.written line.write line.read
     (λ is. long chain known script k state input
     (ahead c.next_line.new.lines (g.R.Source.left c.next_line.new.source)) old new
     (told_on chain known script k state input old mid new inv.so_far
-    (line.told (λ same. absurd (let here = sym (ap (failed {T = Option ℕ}) is) ∙ same in cc))))
+    (line.written (λ same. absurd (let here = sym (ap (failed {T = Option ℕ}) is) ∙ same in cc))))
     line.kept c.loop-number-test.true (line.too_long (ap (failed {T = Option ℕ}) is))))
 
 pub returns-in_default-clause-ended : goal.returns-in_default-clause-ended
@@ -64,7 +64,7 @@ returns-in_default-clause-ended g c =
     let mid = seen g.W.Sink.taken g.W.Sink.failures c.loop-number.output in
     let new = seen g.W.Sink.taken g.W.Sink.failures c.next_line.new.output in
     let line = c.in_ok-count.ensures in
-    let told : Tells mid new [] = line.told (λ e. absurd cc) in
+    let told : Tells mid new [] = line.written (λ e. absurd cc) in
     let some =
     cut chain known script k state c.next_line.new.lines (g.R.Source.left c.next_line.new.source) input old mid new
     inv.so_far inv.within line.kept (some_of_all mid new [] told) in
@@ -93,7 +93,7 @@ returns-in_err-some-clause-ended g c =
     let own = seen g.W.Sink.taken g.W.Sink.failures c.next_line.new.output in
     let new = seen g.W.Sink.taken g.W.Sink.failures c.answer_next.new.output in
     let line = c.in_ok-count.ensures in
-    let told : Tells mid own [] = line.told (λ e. absurd cc) in
+    let told : Tells mid own [] = line.written (λ e. absurd cc) in
     let first = rw c.in-Some.is at line.line in
     let fault = c.in_err-some.field-0.0 in
     let begun = c.in_err-some.ensures.fault in
@@ -129,7 +129,7 @@ loop-number-preserved g c =
     let own = seen g.W.Sink.taken g.W.Sink.failures c.next_line.new.output in
     let new = seen g.W.Sink.taken g.W.Sink.failures c.answer_next.new.output in
     let first = rw c.in-Some.is at c.in_ok-count.ensures.line in
-    let told : Tells mid own [] = c.in_ok-count.ensures.told (λ e. absurd cc) in
+    let told : Tells mid own [] = c.in_ok-count.ensures.written (λ e. absurd cc) in
     let answers = c.in_ok-some.ensures.answered in
     let asked = map request_of answers.lines in
     record {
@@ -169,10 +169,10 @@ returns-in_err-more_begins-clause-ended g c =
     let fault = c.in_err-more_begins.field-0.0 in
     let some =
     cut chain known script k state c.more_begins.new.lines (g.R.Source.left c.more_begins.new.source) input old mid new
-    inv.so_far inv.within more.kept (line_some {T = Bool} fault mid new more.told more.write) in
+    inv.so_far inv.within more.kept (line_some {T = Bool} fault mid new more.written more.write) in
     rw (p.1, p.2) (line_failed g.R.Source.left g.R.Source.failures g.W.Sink.taken g.W.Sink.failures chain known
     c.args.source.now c.loop-number.source c.more_begins.new.source c.args.output.now c.loop-number.output
-    c.more_begins.new.output inv.source inv.writer some {T = Bool} fault more.told more.write more.read
+    c.more_begins.new.output inv.source inv.writer some {T = Bool} fault more.written more.write more.read
     (λ is. absurd (more.short (ap (failed {T = Bool}) is))))
 
 pub returns-then-branch-clause-ended : goal.returns-then-branch-clause-ended
@@ -189,7 +189,7 @@ returns-then-branch-clause-ended g c =
     let mid = seen g.W.Sink.taken g.W.Sink.failures c.loop-number.output in
     let new = seen g.W.Sink.taken g.W.Sink.failures c.more_begins.new.output in
     let more = c.in_ok-more_begins.ensures in
-    let told : Tells mid new [] = more.told (λ e. absurd cc) in
+    let told : Tells mid new [] = more.written (λ e. absurd cc) in
     let some =
     cut chain known script k state c.more_begins.new.lines (g.R.Source.left c.more_begins.new.source) input old mid new
     inv.so_far inv.within more.kept (some_of_all mid new [] told) in
@@ -217,7 +217,7 @@ returns-clause-ended g c =
     let mid = seen g.W.Sink.taken g.W.Sink.failures c.loop-number.output in
     let new = seen g.W.Sink.taken g.W.Sink.failures c.more_begins.new.output in
     let more = c.in_ok-more_begins.ensures in
-    let told : Tells mid new [] = more.told (λ e. absurd cc) in
+    let told : Tells mid new [] = more.written (λ e. absurd cc) in
     let some =
     cut chain known script k state c.more_begins.new.lines (g.R.Source.left c.more_begins.new.source) input old mid new
     inv.so_far inv.within more.kept (some_of_all mid new [] told) in

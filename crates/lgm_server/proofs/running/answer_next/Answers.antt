@@ -25,7 +25,7 @@ returns-clause-answered g c =
       state_is = c.in_ok-answer.ensures.state ∙ ap (state_from c.args.context.now.chain c.args.engine.now) asked;
       text =
           subst (λ a. Sends g.W.Sink.taken g.W.Sink.failures c.args.output.now c.answer.new.output (text_from
-          c.args.context.now.chain c.args.number c.args.engine.now a)) asked c.in_ok-answer.ensures.told;
+          c.args.context.now.chain c.args.number c.args.engine.now a)) asked c.in_ok-answer.ensures.written;
     }
 
 pub returns-in_err-group-clause-fault : goal.returns-in_err-group-clause-fault
@@ -57,5 +57,5 @@ returns-in_err-answer-clause-fault g c =
       text =
           subst (λ a. SendsPart g.W.Sink.taken g.W.Sink.failures c.args.output.now c.answer.new.output
           (text_from c.args.context.now.chain c.args.number c.args.engine.now a) c.in_err-answer.field-0.0)
-          (asked_texts items) c.in_err-answer.ensures.fault;
+          (asked_texts items) c.in_err-answer.ensures.written;
     })

@@ -22,19 +22,19 @@ loop-own-preserved g c = record {
   told = onward_more _ _ _ _ _ _ _ c.loop-own.invariant.told
       (ap (λ rest. flat_map (news_text c.args.number c.args.differences.now.before
       c.args.differences.now.after) (values_of rest)) c.in-Some.ensures.steps)
-      c.in_ok-send_news_to.ensures.told;
+      c.in_ok-send_news_to.ensures.written;
 }
 
-pub returns-in_err-send_news_to-clause-fault : goal.returns-in_err-send_news_to-clause-fault
-returns-in_err-send_news_to-clause-fault g c =
+pub returns-in_err-send_news_to-clause-written : goal.returns-in_err-send_news_to-clause-written
+returns-in_err-send_news_to-clause-written g c =
     let p = err_from_is_err_and c.from_residual.result c.from_residual.ensures.1 in
     rw (p.1, p.2) (onward_stops _ _ _ _ _ _ _ _ c.loop-own.invariant.told
     (ap (λ rest. flat_map (news_text c.args.number c.args.differences.now.before c.args.differences.now.after)
     (values_of rest)) c.in-Some.ensures.steps)
-    c.in_err-send_news_to.ensures.fault)
+    c.in_err-send_news_to.ensures.written)
 
-pub returns-clause-told : goal.returns-clause-told
-returns-clause-told g c =
+pub returns-clause-written : goal.returns-clause-written
+returns-clause-written g c =
     onward_ends _ _ _ _ c.loop-own.invariant.told (ap (λ rest. flat_map
     (news_text c.args.number c.args.differences.now.before c.args.differences.now.after) (values_of rest))
     c.in-None.ensures.steps.0)

@@ -24,19 +24,19 @@ loop-message-preserved g c = record {
   told = onward_more _ _ _ _ _ _ _ c.loop-message.invariant.told
       (message_there c.args.number c.loop-message.message-index c.args.messages.now c.message-item.result
       c.as_slice.result.now c.loop-message-test.true c.message-item.is c.as_slice.ensures)
-      c.in_ok-send_message.ensures.told;
+      c.in_ok-send_message.ensures.written;
 }
 
-pub returns-in_err-send_message-clause-fault : goal.returns-in_err-send_message-clause-fault
-returns-in_err-send_message-clause-fault g c =
+pub returns-in_err-send_message-clause-written : goal.returns-in_err-send_message-clause-written
+returns-in_err-send_message-clause-written g c =
     let p = err_from_is_err_and c.from_residual.result c.from_residual.ensures.1 in
     rw (p.1, p.2) (onward_stops _ _ _ _ _ _ _ _ c.loop-message.invariant.told
     (message_there c.args.number c.loop-message.message-index c.args.messages.now c.message-item.result
     c.as_slice.result.now c.loop-message-test.true c.message-item.is c.as_slice.ensures)
-    c.in_err-send_message.ensures.fault)
+    c.in_err-send_message.ensures.written)
 
-pub returns-clause-told : goal.returns-clause-told
-returns-clause-told g c =
+pub returns-clause-written : goal.returns-clause-written
+returns-clause-written g c =
     let past : length c.args.messages.now ≤ c.loop-message.message-index = c.loop-message-test.false in
     onward_ends _ _ _ _ c.loop-message.invariant.told (ap (flat_map (message_line c.args.number None))
     (drop_all c.loop-message.message-index c.args.messages.now past))

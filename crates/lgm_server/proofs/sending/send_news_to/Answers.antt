@@ -19,17 +19,17 @@ loop-message-preserved g c = record {
   writer = c.in_ok-send_message.ensures.writer ∙ c.loop-message.invariant.writer;
   told = onward_more _ _ _ _ _ _ _ c.loop-message.invariant.told
       (ap (flat_map (message_line c.args.number (Some c.args.own.now.peer))) c.in-Some.ensures.steps)
-      c.in_ok-send_message.ensures.told;
+      c.in_ok-send_message.ensures.written;
 }
 
-pub returns-in_err-send_message-clause-fault : goal.returns-in_err-send_message-clause-fault
-returns-in_err-send_message-clause-fault g c =
+pub returns-in_err-send_message-clause-written : goal.returns-in_err-send_message-clause-written
+returns-in_err-send_message-clause-written g c =
     let p = err_from_is_err_and c.from_residual.result c.from_residual.ensures.1 in
     rw (p.1, p.2) (onward_stops _ _ _ _ _ _ _ _ c.loop-message.invariant.told
     (ap (flat_map (message_line c.args.number (Some c.args.own.now.peer))) c.in-Some.ensures.steps)
-    c.in_err-send_message.ensures.fault)
+    c.in_err-send_message.ensures.written)
 
-pub returns-clause-told : goal.returns-clause-told
-returns-clause-told g c =
+pub returns-clause-written : goal.returns-clause-written
+returns-clause-written g c =
     onward_ends _ _ _ _ c.loop-message.invariant.told
     (ap (flat_map (message_line c.args.number (Some c.args.own.now.peer))) c.in-None.ensures.steps.0)

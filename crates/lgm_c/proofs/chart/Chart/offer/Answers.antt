@@ -2,7 +2,6 @@ use Rattle.std.proofs.Common.{◌≡◌, List, ℕ, Ok, ap, subst, ◌∙◌, Bo
 use Rattle.std.specs.Prelude.{Option, Some, None, is_some}
 use Rattle.lgm_graph.specs.Graph.{Graph}
 use Rattle.lgm_c.specs.inner.Charted.{IsViewed}
-use Rattle.lgm_check.specs.Precheck.{checked_of}
 use Rattle.lgm_store.specs.Rows.{Rows}
 use Rattle.lgm_store.specs.Admission.{Offers, admitted}
 use Rattle.lgm_c.proofs.Outcomes.{checked_offers, checked_given}
@@ -14,7 +13,7 @@ returns-then-is_none-clause-outcome c =
     let evidence = c.args.evidence.now in
     let candidate = c.in_ok-candidate.candidate in
     checked_offers chain c.args.self.now.rows c.args.bytes.now evidence candidate c.offer_candidate.result
-    (subst (λ (bytes : List ℕ). checked_of chain bytes evidence ≡ Ok candidate) c.in_ok-bytes.ensures.ok c.in_ok-candidate.ensures)
+    c.in_ok-candidate.ensures
     (subst (λ (rows : Rows). Offers c.offer_candidate.result (admitted rows candidate))
     (ap (λ chart. chart.rows) c.self.view_is) c.offer_candidate.ensures.admission)
 

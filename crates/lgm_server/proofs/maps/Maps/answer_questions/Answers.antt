@@ -7,8 +7,8 @@ use Rattle.lgm_script.proofs.Telling.{tells_none}
 use Rattle.lgm_server.proofs.MapLaws.{ready_for}
 use Rattle.lgm_server.proofs.maps.Maps.answer_questions.Goals as goal
 
-pub returns-in_err-chart_routes-clause-fault : goal.returns-in_err-chart_routes-clause-fault
-returns-in_err-chart_routes-clause-fault g c =
+pub returns-in_err-chart_routes-clause-written : goal.returns-in_err-chart_routes-clause-written
+returns-in_err-chart_routes-clause-written g c =
     let p = err_from_is_err_and c.from_residual.result c.from_residual.ensures.1 in
     rw (p.1, p.2) (tells_none _ _)
 

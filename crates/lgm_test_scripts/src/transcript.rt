@@ -1,11 +1,11 @@
-//! What scripts of lines are told.
+//! The text that a script of lines gives.
 
 use crate::line::{Line, SECRET};
 use std::alloc::{AllocError, Global};
 
 /// The text of a script.
 #[derive(Drop)]
-struct Told {
+struct Transcript {
     alloc: Global,
     text: String,
     /// How many lines there were.
@@ -14,7 +14,7 @@ struct Told {
     accepted: u32,
 }
 
-impl Told {
+impl Transcript {
     /// The answer of the next line, each of its lines without the number, and with `S` for the secret.
     fn answer(&mut self, answer: &str) -> Result<(), AllocError> {
         self.number = self.number.saturating_add(1);
@@ -44,7 +44,7 @@ impl Told {
 
 /// The text of some lines, where all items are accepted, and payments get these answers.
 pub fn text_of(alloc: Global, lines: &[Line], answers: &[&str]) -> Result<String, AllocError> {
-    let mut told = Told {
+    let mut transcript = Transcript {
         alloc,
         text: String::new(alloc),
         number: 0,
@@ -53,15 +53,15 @@ pub fn text_of(alloc: Global, lines: &[Line], answers: &[&str]) -> Result<String
     let mut answers = answers.iter();
     for line in lines {
         match line {
-            Line::Pay(..) => told.answer(answers.next().copied().unwrap_or("missing"))?,
-            Line::Commit => told.commit()?,
-            Line::Note => told.answer("")?,
+            Line::Pay(..) => transcript.answer(answers.next().copied().unwrap_or("missing"))?,
+            Line::Commit => transcript.commit()?,
+            Line::Note => transcript.answer("")?,
             Line::Open(..) => {
-                told.accept()?;
-                told.accept()?;
+                transcript.accept()?;
+                transcript.accept()?;
             }
-            _ => told.accept()?,
+            _ => transcript.accept()?,
         }
     }
-    Ok(told.text)
+    Ok(transcript.text)
 }

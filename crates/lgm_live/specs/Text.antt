@@ -59,29 +59,29 @@ payment_text known ops number payment (Some answer) =
     ++ route_text number payment.secret answer.result
 
 -- the text for a request after these, for the line with this number
-abbrev pub told_for : ℕ → Option (List ℕ) → LiveReport → ℕ → List Request → Request → List ℕ
-told_for workers known report number before requests.Quiet = []
-told_for workers known report number before requests.Bad = word_line number (codes "bad")
-told_for workers known report number before (requests.Offer item) =
+abbrev pub live_text_for : ℕ → Option (List ℕ) → LiveReport → ℕ → List Request → Request → List ℕ
+live_text_for workers known report number before requests.Quiet = []
+live_text_for workers known report number before requests.Bad = word_line number (codes "bad")
+live_text_for workers known report number before (requests.Offer item) =
     outcome_text number (slice_index_or report.outcomes.items (length (items_of before)) None)
-told_for workers known report number before requests.Commit =
+live_text_for workers known report number before requests.Commit =
     commit_line number (slice_index_or report.ends.items (count_by is_commit before) 0)
-told_for workers known report number before (requests.Query bytes) = word_line number (codes "not-live")
-told_for workers known report number before (requests.Filter peer bytes) = word_line number (codes "not-live")
-told_for workers known report number before (requests.Route payment) =
+live_text_for workers known report number before (requests.Query bytes) = word_line number (codes "not-live")
+live_text_for workers known report number before (requests.Filter peer bytes) = word_line number (codes "not-live")
+live_text_for workers known report number before (requests.Route payment) =
     payment_text known report.ops.items number payment
     (answer_at workers report.answers.items (length (payments_of before)))
 
 -- the text for the first k requests
-unfoldable pub told_before : ℕ → Option (List ℕ) → LiveReport → List Request → ℕ → List ℕ
-told_before workers known report asked zero = []
-told_before workers known report asked (suc k) =
-    told_before workers known report asked k
-    ++ told_for workers known report (k + 1) (take k asked) (slice_index_or asked k requests.Quiet)
+unfoldable pub live_text_before : ℕ → Option (List ℕ) → LiveReport → List Request → ℕ → List ℕ
+live_text_before workers known report asked zero = []
+live_text_before workers known report asked (suc k) =
+    live_text_before workers known report asked k
+    ++ live_text_for workers known report (k + 1) (take k asked) (slice_index_or asked k requests.Quiet)
 
 -- the text for all requests
-abbrev pub told_all : ℕ → Option (List ℕ) → LiveReport → List Request → List ℕ
-told_all workers known report asked = told_before workers known report asked (length asked)
+abbrev pub live_text : ℕ → Option (List ℕ) → LiveReport → List Request → List ℕ
+live_text workers known report asked = live_text_before workers known report asked (length asked)
 
 -- each payment has an answer, and the replay gives the same
 abbrev pub AreSame : ℕ → Option (List ℕ) → LiveReport → List Payment → Type 0
