@@ -25,6 +25,7 @@ pub enum Item {
 }
 
 /// Decodes hexadecimal digits, at least two, into a vector whose contents are dropped.
+#[inline(always)]
 pub fn bytes(mut room: Vec<u8>, digits: &[u8]) -> Result<Option<Bytes>, AllocError>
     ensures { IfOk result (λ bytes. bytes ≡ bytes_of digits.now) }
 {

@@ -4,3 +4,4 @@ pub mod BigSizeLaws
 pub mod BigSizeClauses
 pub mod TruncatedIntegerLaws
 pub mod TlvLaws
+mod PointLaws

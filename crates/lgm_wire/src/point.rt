@@ -1,14 +1,18 @@
 //! Points: node ids and bitcoin keys.
 
-ghost use Rattle.std.specs.Prelude.{◌≡◌, [], ◌∷◌, take, drop};
-ghost use Rattle.std.specs.Cmp.Lexicographic.{bytes_decides};
-ghost use Rattle.std.proofs.Common.{ap};
+ghost use Rattle.std.specs.Prelude.{◌≡◌, [], ◌∷◌, take, drop, Some};
+ghost use Rattle.std.specs.Cmp.{on_total, on_po};
+ghost use Rattle.std.specs.Cmp.Lexicographic.{bytes_decides, slice_cmp, nat_list_cmp_total, texts_ties, texts_po};
+ghost use Rattle.std.specs.Int.{w64, from_be_bytes};
+ghost use Rattle.std.specs.Ordering.{nat_cmp};
+ghost use Rattle.std.proofs.Common.{ap, refl};
 ghost use Rattle.lgm_wire.specs.Point.{is_lawful};
 
+use std::cmp::Ordering;
 use std::hash::{Hash, Hasher};
 
 /// A compressed point: 33 bytes, ordered bytewise (BOLT 1, "Fundamental Types").
-#[derive(Clone, Copy, Debug, PartialEq, Eq, PartialOrd, Ord)]
+#[derive(Clone, Copy, Debug, PartialEq, Eq)]
 pub struct Point(pub [u8; 33]);
 
 impl Point {
@@ -18,6 +22,55 @@ impl Point {
         ensures { result ≡ is_lawful self.now }
     {
         matches!(self.0[0], 2 | 3)
+    }
+}
+
+/// The first eight bytes as a number.
+#[inline(always)]
+fn front(bytes: &[u8; 33]) -> u64
+    ensures { result ≡ from_be_bytes w64 (take 8 bytes.now) }
+{
+    let [a, b, c, d, e, f, g, h, ..] = *bytes;
+    u64::from_be_bytes([a, b, c, d, e, f, g, h])
+}
+
+/// The bytewise order. The first eight bytes mostly decide, and are compared as one number.
+#[inline(always)]
+fn order(first: &[u8; 33], second: &[u8; 33]) -> Ordering
+    ensures { result ≡ slice_cmp nat_cmp first.now second.now }
+{
+    let (x, y) = (front(first), front(second));
+    if x < y {
+        return Ordering::Less;
+    }
+    if y < x {
+        return Ordering::Greater;
+    }
+    first.cmp(second)
+}
+
+impl PartialOrd for Point {
+    ghost partial_cmp = { λ a b. Some (slice_cmp nat_cmp a.0 b.0) };
+
+    ghost laws = { on_po (λ p. p.0) texts_po };
+
+    fn partial_cmp(&self, other: &Point) -> Option<Ordering> {
+        Some(self.cmp(other))
+    }
+}
+
+impl Ord for Point {
+    ghost cmp = { λ a b. slice_cmp nat_cmp a.0 b.0 };
+
+    ghost total = { on_total (λ p. p.0) nat_list_cmp_total };
+
+    ghost matches_partial_cmp = { λ a b. refl };
+
+    ghost matches_eq = { λ a b. texts_ties a.0 b.0 };
+
+    #[inline(always)]
+    fn cmp(&self, other: &Point) -> Ordering {
+        order(&self.0, &other.0)
     }
 }
 
