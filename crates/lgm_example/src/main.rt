@@ -51,7 +51,9 @@ fn change<R: Wait>(rt: &R, alloc: Global, taker: &mut Taker, pen: &mut Pen) -> b
         let Ok((bytes, evidence)) = update(alloc, 2, 1 + turn, 1_000 + turn) else {
             return false;
         };
-        if taker.take(alloc, pen, bytes.as_slice(), &evidence).is_err() || pen.publish(rt).is_err() {
+        if taker.take(alloc, pen, bytes.as_slice(), &evidence).is_err()
+            || pen.publish(rt).is_err()
+        {
             return false;
         }
     }

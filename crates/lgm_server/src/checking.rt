@@ -113,5 +113,8 @@ pub fn check_lines<Rt: Threads + Sync, G: Gate>(
     if context.pool.workers < lines.len() {
         return check_here(alloc, chain, lines);
     }
-    context.pool.map(lines, &|line| check_line(alloc, chain, line, &mut Vec::new(alloc)))
+    context.pool.map(
+        lines,
+        &|line| check_line(alloc, chain, line, &mut Vec::new(alloc)),
+    )
 }

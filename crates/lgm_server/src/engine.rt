@@ -114,7 +114,7 @@ impl Engine {
             { filters = filters_behind context.now.chain self.old.filters (asked_in lines.now) }) }
         ensures written { Writes W.taken W.failures output.old output.new
             (questions_text context.now.chain self.old.known self.old.committed number
-                self.old.filters (asked_in lines.now)) result }
+            self.old.filters (asked_in lines.now)) result }
     {
         self.maps
             .answer_questions(context, number, lines, &mut self.filters, output)
@@ -133,7 +133,7 @@ impl Engine {
         ensures state { OnOk result (self.new ≡ state_committed self.old) }
         ensures written { Writes W.taken W.failures output.old output.new
             (commit_text number self.old.accepted self.old.committed self.old.rows
-                self.old.filters) result }
+            self.old.filters) result }
     {
         tell_commit(
             alloc,

@@ -222,7 +222,7 @@ impl Maps {
             (filters.new ≡ filters_behind context.now.chain filters.old (asked_in lines.now)) }
         ensures written { Writes W.taken W.failures output.old output.new
             (questions_text context.now.chain self.old.known self.old.committed number
-                filters.old (asked_in lines.now)) result }
+            filters.old (asked_in lines.now)) result }
     {
         chart_routes(
             context.pool.alloc,

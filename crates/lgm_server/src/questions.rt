@@ -187,7 +187,7 @@ pub fn answer_questions<Rt: Threads + Sync, G: Gate, W: Sink>(
         (filters.new ≡ filters_behind context.now.chain filters.old (asked_in lines.now)) }
     ensures written { Writes W.taken W.failures output.old output.new
         (questions_text context.now.chain chart.now.known committed.now first filters.old
-            (asked_in lines.now)) result }
+        (asked_in lines.now)) result }
 {
     let all = decide_all(context, committed, chart, lines)?;
     let mut number = first;
