@@ -99,8 +99,8 @@ fn check_here(
 
 /// Checks the items of lines. Each may run out of memory on its own.
 ///
-/// If there are as many workers as lines, each checks one. Else all are checked on this thread, since starting others
-/// takes longer than checking what was read ahead.
+/// If there are as many workers as lines, each checks one. Else all are a single chunk, which is checked on this thread:
+/// starting others takes longer than checking what was read ahead.
 pub fn check_lines<Rt: Threads + Sync, G: Gate>(
     context: &Context<'_, Rt, G>,
     lines: &[&[u8]],
@@ -111,6 +111,7 @@ pub fn check_lines<Rt: Threads + Sync, G: Gate>(
     let alloc = context.pool.alloc;
     let chain = &context.chain;
     if context.pool.workers < lines.len() {
+        context.pool.gate.pass(0);
         return check_here(alloc, chain, lines);
     }
     context.pool.map(
