@@ -7,7 +7,7 @@ use Rattle.lgm_check.specs.declared.row.ChannelRow.{ChannelRow}
 use Rattle.lgm_check.specs.declared.row.UpdateRow.{UpdateRow}
 use Rattle.lgm_check.specs.declared.row.NodeRow.{NodeRow}
 use Rattle.lgm_store.specs.Rows.{Rows, is_point, channel_of, ends_at, ends_channel}
-use Rattle.lgm_store.specs.History.{without_channel, channels_without, updates_without, ended_nodes}
+use Rattle.lgm_store.specs.History.{without_channel, channels_without, updates_without, ended_nodes, without_held}
 use Rattle.lgm_store.specs.Laws.{IsLawful}
 use Rattle.lgm_store.proofs.Points.{same_point, is_point-self}
 use Rattle.std.specs.Option.{option_and_then, option_map_or}
@@ -78,12 +78,7 @@ module _ (known : Option (List ℕ)) (rows : Rows) (id : ℕ) (channel : Channel
   abbrev second : Point
   second = channel.message.node_id_2
 
-  closed : without_channel rows id ≡ record {
-    channels = channels_without rows.channels id;
-    updates = updates_without rows.updates id;
-    nodes = ended_nodes (channels_without rows.channels id) rows.nodes;
-    banned = rows.banned;
-  }
+  closed : without_channel rows id ≡ without_held rows id
   closed = rw held refl
 
   other_channel : (row : UpdateRow) → not (eqb row.message.short_channel_id id) ≡ true

@@ -14,7 +14,7 @@ use Rattle.lgm_graph.specs.declared.nodes.Nodes.{Nodes}
 use Rattle.lgm_graph.specs.Edges.{takes_payments}
 use Rattle.lgm_graph.specs.Graph.{number_of, IsNumbered}
 use Rattle.lgm_graph.specs.inner.Sound.{graph_in, links_in, ShowsIn, AreLookedAt}
-use Rattle.lgm_graph.specs.inner.Walk.{KeepsNumbers}
+use Rattle.lgm_graph.specs.inner.Walk.{KeepsNumbers, HasNumbered}
 use Rattle.lgm_graph.proofs.Showing.{shows_more, numbered_append, numbered_last, turned}
 use Rattle.lgm_graph.proofs.Making.{same_points, same_takes, same_into, same_out}
 
@@ -98,3 +98,24 @@ module _ (old mid new : Nodes) (point : Point) (takes : Bool) (other : list_any 
   further_shows edges shows =
       rw (further_points, into_is, out_is, same_into old mid same, same_out old mid same)
       (shows_more edges old.points.keys (map links_in old.into.items) (map links_in old.out.items) point (any_not old.points.keys point other) shows)
+
+  pub has_numbered : (known : Option (List ℕ)) (rows : List NodeRow) → takes ≡ takes_payments known rows point
+      → HasNumbered known rows point old new
+  has_numbered known rows own = record {
+    few = further_few;
+    kept = further_keeps;
+    numbered = further_number.1;
+    takes = further_takes known rows own;
+    shows = further_shows;
+  }
+
+-- a point that is numbered already
+pub was_numbered : (known : Option (List ℕ)) (rows : List NodeRow) (point : Point) (nodes : Nodes)
+    → IsNumbered nodes.points.keys point → HasNumbered known rows point nodes nodes
+was_numbered known rows point nodes there = record {
+  few = omega arith;
+  kept = λ p numbered. (refl, numbered);
+  numbered = there;
+  takes = λ all. all;
+  shows = λ edges shows. shows;
+}

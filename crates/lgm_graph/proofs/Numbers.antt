@@ -3,7 +3,7 @@ use Rattle.lgm_store.proofs.Points.{same_point}
 use Rattle.std.proofs.Common.{◌≡◌, ℕ, ◌+◌, suc, get_or, ◌<◌, ◌≤◌, ltb, Bool, true, false, cond, List}
 use Rattle.std.proofs.Common.{[], ◌∷◌, length, refl, sym, Some, None, arith, Result, Ok, Err}
 use Rattle.std.specs.List.{AllByRecursion, find, position}
-use Rattle.std.specs.Result.{OnErr}
+use Rattle.std.specs.Result.{OnOk, OnErr, MatchResult}
 use Rattle.std.proofs.lemmas.Bool.Decides.{nat_tests}
 use Rattle.lgm_wire.specs.declared.point.Point.{Point}
 use Rattle.lgm_check.specs.declared.row.ChannelRow.{ChannelRow}
@@ -50,9 +50,11 @@ ends_numbered points channels id channel second ends held = by second (found_hol
     by true both = both.1
     by false both = both.0
 
-pub on_err : {T E : Type 0} (r : Result T E) (P : Type 0) → P → OnErr r P
-on_err (Ok x) P p = tt
-on_err (Err e) P p = p
+-- what follows from what holds if a call succeeds, and from what holds if it fails
+pub in_both : {T E A B P Q : Type 0} (r : Result T E) → OnOk r A → OnErr r B → (A → P) → (B → Q)
+    → MatchResult r (λ _. P) (λ _. Q)
+in_both (Ok x) ok err f g = f ok
+in_both (Err e) ok err f g = g err
 
 -- a numbered point stands at its number
 pub get_number : (points : List Point) (p d : Point) → IsNumbered points p → get_or points (number_of points p) d ≡ p

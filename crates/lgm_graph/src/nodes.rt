@@ -7,7 +7,7 @@ ghost use Rattle.indexmap.specs.IndexSet.{spare};
 ghost use Rattle.lgm_wire.specs.declared.point.Point.{Point as APoint};
 ghost use Rattle.lgm_graph.specs.declared.edge.Edge.{Edge as AnEdge};
 ghost use Rattle.lgm_graph.specs.declared.link.Link.{Link as ALink};
-ghost use Rattle.lgm_graph.specs.inner.Walk.{KeepsNumbers};
+ghost use Rattle.lgm_graph.specs.inner.Walk.{HasNumbered};
 ghost use Rattle.lgm_store.specs.Rows.{is_point};
 ghost use Rattle.lgm_graph.specs.Edges.{takes_payments};
 ghost use Rattle.lgm_graph.specs.inner.Lists.{link_key, IsCut, put_at};
@@ -84,7 +84,8 @@ impl Nodes {
     /// The number of a numbered point.
     pub(crate) fn number_of(&self, point: &Point) -> usize
         requires { IsNumbered self.now.points.keys point.now }
-        ensures { result ≡ number_of self.now.points.keys point.now }
+        ensures number { result ≡ number_of self.now.points.keys point.now }
+        ensures less { result < length self.now.points.keys }
     {
         match self.points.get_index_of(point) {
             Some(number) => number,
@@ -247,12 +248,7 @@ impl Nodes {
     /// Numbers a point, unless it is numbered.
     pub(crate) fn number(&mut self, alloc: Global, known: &Known, held: &Map, point: Point)
         requires { HasPlaces 1 self.old }
-        ensures few { length self.new.points.keys ≤ length self.old.points.keys + 1 }
-        ensures kept { KeepsNumbers self.old.points.keys self.new.points.keys }
-        ensures numbered { IsNumbered self.new.points.keys point }
-        ensures takes { AreLookedAt known.now held.now.nodes self.old
-            → AreLookedAt known.now held.now.nodes self.new }
-        ensures shows { (edges : List AnEdge) → ShowsIn edges self.old → ShowsIn edges self.new }
+        ensures numbered { HasNumbered known.now held.now.nodes point self.old self.new }
         ensures places { (more : ℕ) → HasPlaces (more + 1) self.old → HasPlaces more self.new }
     {
         if self.points.contains(&point) {

@@ -3,8 +3,7 @@ use Rattle.std.proofs.Common.{◌≡◌, ℕ, Bool, true, false, ◌||◌, cond,
 use Rattle.std.specs.Cmp.Lexicographic.{texts_ties}
 use Rattle.std.specs.List.{list_any}
 use Rattle.std.specs.BTreeMap.{is_at}
-use Rattle.std.specs.Prelude.{◌==◌, Option, Some, None, Result, Ok, Err, OnOk}
-use Rattle.std.specs.Int.{bit_at}
+use Rattle.std.specs.Prelude.{Option, Some, None, Result, Ok, Err, OnOk}
 use Rattle.std.specs.Option.{option_map, option_to_list}
 use Rattle.std.proofs.lemmas.List.{append-nil, map-append}
 use Rattle.std.proofs.lemmas.List.Folds.{list_any-append}
@@ -187,16 +186,6 @@ OnOk-node (Ok u) nodes row raw point keys inserted old mid new held is were abse
     Sends-new_node nodes row point keys old new held were absent (λ q. ap (list_any (is_at (point_cmp q))) (same ∙ with) ∙ inserts q)
     ((rw is at message) ∙ ap (λ (ms : List (List ℕ)). ms ++ row.raw ∷ []) kept)
 OnOk-node (Err e) nodes row raw point keys inserted old mid new held is were absent inserts kept with message same = tt
-
--- what a set bit chooses
-pub Sends-set : (flags bit : ℕ) (piece : Option Piece) (b : Bool) (old mid new : Sent) → b ≡ (bit_at flags bit == 1) → b ≡ true → new ≡ mid
-    → Sends (option_to_list piece) old mid → Sends (if_set flags bit piece) old new
-Sends-set flags bit piece b old mid new tests is same sends = rw (same, ← tests, is) sends
-
--- and one that isn't set
-pub Sends-unset : (flags bit : ℕ) (piece : Option Piece) (b : Bool) (old new : Sent)
-    → b ≡ (bit_at flags bit == 1) → b ≡ false → new ≡ old → Sends (if_set flags bit piece) old new
-Sends-unset flags bit piece b old new tests is same = rw (same, ← tests, is) (Sends-none old)
 
 -- what the five bits choose
 pub Sends-chosen : (nodes : List NodeRow) (flags : ℕ) (held : Held) (a b c d e f : Sent)

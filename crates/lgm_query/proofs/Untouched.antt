@@ -17,7 +17,7 @@ use Rattle.lgm_store.specs.declared.op.Op.TheVariants as ops
 use Rattle.lgm_store.specs.Rows.{Rows, IsAscending, put, by_id, by_direction, by_node, is_point, is_second}
 use Rattle.lgm_store.specs.Rows.{channel_of, update_of, node_of, ends_channel, ends_banned}
 use Rattle.lgm_store.specs.inner.Ends.{point_cmp}
-use Rattle.lgm_store.specs.History.{channels_without, updates_without, ended_nodes, with_banned, allowed_channels}
+use Rattle.lgm_store.specs.History.{channels_without, updates_without, ended_nodes, with_banned, allowed_channels, without_held}
 use Rattle.lgm_store.specs.History.{banned_channels, banning, absorbed, fold_from}
 use Rattle.lgm_store.proofs.Ascending.{IsAscending-absorbed}
 use Rattle.lgm_store.proofs.Points.{same_point, is_at-point}
@@ -173,22 +173,14 @@ channel_step id rows (ops.Node row) ascend differ = by (ends_channel rows.channe
     by false = inl (refl, λ second. refl)
 channel_step id rows (ops.Close other) ascend differ = by (is_some (channel_of rows.channels other))
   where
-    closed : Rows
-    closed = record {
-      channels = channels_without rows.channels other;
-      updates = updates_without rows.updates other;
-      nodes = ended_nodes (channels_without rows.channels other) rows.nodes;
-      banned = rows.banned;
-    }
-
-    at : (b : Bool) → (other == id) ≡ b → SameChannel id rows closed ⊎ NoChannel id closed
+    at : (b : Bool) → (other == id) ≡ b → SameChannel id rows (without_held rows other) ⊎ NoChannel id (without_held rows other)
     at true own = inr (find-gone _ _ rows.channels (λ x is. own_id x.message.short_channel_id id other own is))
     at false other_is = inl (
       find-kept _ _ rows.channels (λ x is. other_id x.message.short_channel_id id other other_is is),
       λ second. find-kept _ _ rows.updates (λ x is. other_id x.message.short_channel_id id other other_is (and_parts _ _ is).0),
     )
 
-    by : (b : Bool) → SameChannel id rows (if b then closed else rows) ⊎ NoChannel id (if b then closed else rows)
+    by : (b : Bool) → SameChannel id rows (if b then without_held rows other else rows) ⊎ NoChannel id (if b then without_held rows other else rows)
     by true = at (other == id) refl
     by false = inl (refl, λ second. refl)
 channel_step id rows (ops.Ban ban) ascend differ = by alike.0 alike.1
@@ -268,15 +260,7 @@ node_step node rows (ops.Node row) differ = by (ends_channel rows.channels row.m
     by false = inl refl
 node_step node rows (ops.Close other) differ = by (is_some (channel_of rows.channels other))
   where
-    closed : Rows
-    closed = record {
-      channels = channels_without rows.channels other;
-      updates = updates_without rows.updates other;
-      nodes = ended_nodes (channels_without rows.channels other) rows.nodes;
-      banned = rows.banned;
-    }
-
-    by : (b : Bool) → SameNode node rows (if b then closed else rows)
+    by : (b : Bool) → SameNode node rows (if b then without_held rows other else rows)
     by true = ended_same node (channels_without rows.channels other) rows.nodes (ends_channel (channels_without rows.channels other) node) refl
     by false = inl refl
 node_step node rows (ops.Ban ban) differ =
@@ -332,15 +316,7 @@ TellKeys-step rows (ops.Node row) tell own = by (ends_channel rows.channels row.
     by false = tell
 TellKeys-step rows (ops.Close other) tell own = by (is_some (channel_of rows.channels other))
   where
-    closed : Rows
-    closed = record {
-      channels = channels_without rows.channels other;
-      updates = updates_without rows.updates other;
-      nodes = ended_nodes (channels_without rows.channels other) rows.nodes;
-      banned = rows.banned;
-    }
-
-    by : (b : Bool) → TellKeys (if b then closed else rows)
+    by : (b : Bool) → TellKeys (if b then without_held rows other else rows)
     by true = record {
       channels = All-filter _ _ rows.channels tell.channels;
       updates = All-filter _ _ rows.updates tell.updates;

@@ -1,5 +1,5 @@
 -- The reply to a query by ids: the messages of each channel, and then the end.
-use Rattle.std.specs.Prelude.{ℕ, nat_eq, ◌==◌, List, [], ◌∷◌, ◌++◌, map}
+use Rattle.std.specs.Prelude.{ℕ, Bool, nat_eq, ◌==◌, List, [], ◌∷◌, ◌++◌, map}
 use Rattle.std.specs.Prelude.{Option, Some, unwrap_or, if◌then◌else◌}
 use Rattle.std.specs.Cmp.Lexicographic.{pointwise}
 use Rattle.std.specs.Int.{bit_at}
@@ -15,9 +15,13 @@ use Rattle.lgm_store.specs.Held.{held_at}
 use Rattle.lgm_store.specs.Rows.{Rows, channel_of, node_of}
 use Rattle.lgm_query.specs.Piece.{Piece, channel, update, node, bytes_of, with_nodes_once}
 
+-- a piece, if it is wanted and exists
+abbrev pub when : Bool → Option Piece → List Piece
+when wanted piece = if wanted then option_to_list piece else []
+
 -- a piece, if it exists and the bit of the flags is set
 abbrev pub if_set : ℕ → ℕ → Option Piece → List Piece
-if_set flags bit piece = if bit_at flags bit == 1 then option_to_list piece else []
+if_set flags bit piece = when (bit_at flags bit == 1) piece
 
 -- what the flags select of a channel, in the order of the bits; higher bits select nothing
 abbrev pub chosen_of : List NodeRow → ℕ → Held → List Piece

@@ -2,11 +2,11 @@
 
 ghost use Rattle.std.specs.Prelude.{◌≡◌, ◌/◌, ◌%◌, ◌^◌, ◌<◌, ◌++◌, ◌==◌, ◌∷◌, [], IfOk, OnOk, Some};
 ghost use Rattle.std.specs.Int.{bit_at};
-ghost use Rattle.std.specs.Option.{option_map, option_to_list};
+ghost use Rattle.std.specs.Option.{option_map};
 ghost use Rattle.lgm_store.specs.Held.{update_in};
 ghost use Rattle.lgm_store.specs.Rows.{node_of};
 ghost use Rattle.lgm_query.specs.Piece.{channel, update, node};
-ghost use Rattle.lgm_query.specs.IdsReply.{chosen_of, chosen};
+ghost use Rattle.lgm_query.specs.IdsReply.{when, chosen_of, chosen};
 ghost use Rattle.lgm_query.specs.inner.Sent.{AreSent, Sends};
 
 use crate::reply::Reply;
@@ -68,34 +68,30 @@ impl<'a> Sending<'a> {
     fn send_chosen_of(&mut self, map: &'a Map, flags: u64, held: &'a Held) -> Result<(), AllocError>
         ensures { OnOk result (Sends (chosen_of map.now.nodes flags held.now) self.old self.new) }
     {
-        if is_set(flags, 0) {
-            self.send_channel(held)?;
-        }
-        if is_set(flags, 1) {
-            self.send_update(held, false)?;
-        }
-        if is_set(flags, 2) {
-            self.send_update(held, true)?;
-        }
-        if is_set(flags, 3) {
-            self.send_node(map, held.node(false))?;
-        }
-        if is_set(flags, 4) {
-            self.send_node(map, held.node(true))?;
-        }
+        self.send_channel(held, is_set(flags, 0))?;
+        self.send_update(held, false, is_set(flags, 1))?;
+        self.send_update(held, true, is_set(flags, 2))?;
+        self.send_node(map, held.node(false), is_set(flags, 3))?;
+        self.send_node(map, held.node(true), is_set(flags, 4))?;
         Ok(())
     }
 
-    fn send_channel(&mut self, held: &'a Held) -> Result<(), AllocError>
-        ensures { OnOk result (Sends (channel held.now.channel ∷ []) self.old self.new) }
+    fn send_channel(&mut self, held: &'a Held, wanted: bool) -> Result<(), AllocError>
+        ensures { OnOk result (Sends (when wanted (Some (channel held.now.channel))) self.old self.new) }
     {
+        if !wanted {
+            return Ok(());
+        }
         self.push(held.raw())
     }
 
-    fn send_update(&mut self, held: &'a Held, second: bool) -> Result<(), AllocError>
+    fn send_update(&mut self, held: &'a Held, second: bool, wanted: bool) -> Result<(), AllocError>
         ensures { OnOk result
-            (Sends (option_to_list (option_map update (update_in second held.now))) self.old self.new) }
+            (Sends (when wanted (option_map update (update_in second held.now))) self.old self.new) }
     {
+        if !wanted {
+            return Ok(());
+        }
         match held.update_raw(second) {
             None => Ok(()),
             Some(raw) => self.push(raw),
@@ -103,11 +99,14 @@ impl<'a> Sending<'a> {
     }
 
     /// Adds the announcement of a node, if there is one and it wasn't sent. One that was sent isn't looked up again.
-    fn send_node(&mut self, map: &'a Map, point: &Point) -> Result<(), AllocError>
+    fn send_node(&mut self, map: &'a Map, point: &Point, wanted: bool) -> Result<(), AllocError>
         ensures { OnOk result (Sends
-            (option_to_list (option_map node (node_of map.now.nodes point.now)))
+            (when wanted (option_map node (node_of map.now.nodes point.now)))
             self.old self.new) }
     {
+        if !wanted {
+            return Ok(());
+        }
         if self.nodes.contains(point) {
             return Ok(());
         }

@@ -18,7 +18,7 @@ use Rattle.lgm_store.specs.declared.op.Op.{Op}
 use Rattle.lgm_store.specs.declared.op.Op.TheVariants as ops
 use Rattle.lgm_store.specs.inner.Keyed.{IsKeyed}
 use Rattle.lgm_store.specs.Rows.{Rows, IsAscending, empty, put, by_id, by_direction, by_node, by_point, channel_of, ends_channel, ends_banned}
-use Rattle.lgm_store.specs.History.{absorbed, fold_from, fold, with_banned, channels_without, updates_without, ended_nodes}
+use Rattle.lgm_store.specs.History.{absorbed, fold_from, fold, with_banned, channels_without, updates_without, ended_nodes, without_held}
 use Rattle.lgm_store.specs.inner.Ends.{point_cmp}
 use Rattle.lgm_store.specs.inner.Sound.{direction_cmp, IsSound, id_of, direction_of, point_of}
 use Rattle.lgm_store.proofs.Lists.{direction_total, node_total}
@@ -174,12 +174,7 @@ IsAscending-absorbed rows (ops.Node row) ascend = by (ends_channel rows.channels
     by false = ascend
 IsAscending-absorbed rows (ops.Close id) ascend = by (is_some (channel_of rows.channels id))
   where
-    by : (b : Bool) → IsAscending (if b then record {
-      channels = channels_without rows.channels id;
-      updates = updates_without rows.updates id;
-      nodes = ended_nodes (channels_without rows.channels id) rows.nodes;
-      banned = rows.banned;
-    } else rows)
+    by : (b : Bool) → IsAscending (if b then without_held rows id else rows)
     by true = record {
       channels = ascend-filter by_id _ rows.channels ascend.channels;
       updates = ascend-filter by_direction _ rows.updates ascend.updates;

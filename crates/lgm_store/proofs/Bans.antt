@@ -20,7 +20,7 @@ use Rattle.lgm_check.specs.declared.row.NodeRow.{NodeRow}
 use Rattle.lgm_store.specs.inner.Keyed.{IsKeyed}
 use Rattle.lgm_store.specs.inner.Ends.{point_cmp}
 use Rattle.lgm_store.specs.Rows.{Rows, put, by_point, by_id, is_point, channel_of, ends_at, ends_channel, is_banned, ends_banned}
-use Rattle.lgm_store.specs.History.{without_channel, channels_without, updates_without, ended_nodes, allowed_channels}
+use Rattle.lgm_store.specs.History.{without_channel, channels_without, updates_without, ended_nodes, allowed_channels, without_held}
 use Rattle.lgm_store.specs.History.{banned_channels, updates_beside, banning, with_banned, with_ban}
 use Rattle.lgm_store.specs.Reading.{ids_at}
 use Rattle.lgm_store.specs.inner.Sound.{AreEnded, AreAllowed, id_of}
@@ -196,15 +196,6 @@ rows_same a b c u n p =
     ap (λ cs. rows cs a.updates a.nodes a.banned) c ∙ ap (λ us. rows b.channels us a.nodes a.banned) u
     ∙ ap (λ ns. rows b.channels b.updates ns a.banned) n ∙ ap (λ ps. rows b.channels b.updates b.nodes ps) p
 
--- without a channel that is held
-abbrev closing : Rows → ℕ → Rows
-closing rows id = record {
-  channels = channels_without rows.channels id;
-  updates = updates_without rows.updates id;
-  nodes = ended_nodes (channels_without rows.channels id) rows.nodes;
-  banned = rows.banned;
-}
-
 pub closed_all-bans : (ids : List ℕ) (rows : Rows) (banned : List Point) → rows.banned ≡ banned
     → ids ≡ map id_of (banned_channels banned rows.channels)
     → IsStrictlySortedBy by_id rows.channels → AreEnded rows.channels rows.nodes → closed_all rows ids ≡ banning rows banned
@@ -214,11 +205,11 @@ closed_all-bans [] rows banned is ids_are ascend ended = by (banned_channels ban
     by [] gone_is ids_are = banning-none rows banned is gone_is ended
     by (x ∷ xs) gone_is ids_are = absurd cc
 closed_all-bans (id ∷ ids) rows banned is ids_are ascend ended =
-    by (closed_all-bans ids (closing rows id) banned is) (banned_channels banned rows.channels) refl ids_are
+    by (closed_all-bans ids (without_held rows id) banned is) (banned_channels banned rows.channels) refl ids_are
   where
     by : (ids ≡ map id_of (banned_channels banned (channels_without rows.channels id)) → IsStrictlySortedBy by_id (channels_without rows.channels id)
         → AreEnded (channels_without rows.channels id) (ended_nodes (channels_without rows.channels id)
-        rows.nodes) → closed_all (closing rows id) ids ≡ banning (closing rows id) banned)
+        rows.nodes) → closed_all (without_held rows id) ids ≡ banning (without_held rows id) banned)
         → (gone : List ChannelRow) → banned_channels banned rows.channels ≡ gone → id ∷ ids ≡ map id_of gone
         → closed_all (without_channel rows id) ids ≡ banning rows banned
     by others [] gone_is ids_are = absurd cc
@@ -229,7 +220,7 @@ closed_all-bans (id ∷ ids) rows banned is ids_are ascend ended =
         let passing : banned_channels banned (channels_without rows.channels id) ≡ rest = rw id_is g.passing in
         let failing : allowed_channels banned (channels_without rows.channels id) ≡ allowed_channels banned rows.channels = rw id_is g.failing in
         let held : is_some (channel_of rows.channels id) ≡ true = rw id_is g.held in
-        let closes : without_channel rows id ≡ closing rows id = rw held refl in
+        let closes : without_channel rows id ≡ without_held rows id = rw held refl in
         let later =
         others (rest_is ∙ ap (map id_of) (sym passing)) (ascend-filter by_id _ rows.channels ascend)
         (AreEnded-ended_nodes (channels_without rows.channels id) rows.nodes) in
@@ -244,7 +235,7 @@ closed_all-bans (id ∷ ids) rows banned is ids_are ascend ended =
         ≡ ended_nodes (allowed_channels banned rows.channels) rows.nodes =
         nodes-step (λ row. not (ends_banned banned row)) (channels_without rows.channels id) rows.nodes
         ∙ ap (λ channels. ended_nodes channels rows.nodes) failing in
-        ap (λ r. closed_all r ids) closes ∙ later ∙ rows_same (banning (closing rows id) banned) (banning rows banned) failing updates nodes refl
+        ap (λ r. closed_all r ids) closes ∙ later ∙ rows_same (banning (without_held rows id) banned) (banning rows banned) failing updates nodes refl
 
 -- ---- closing a channel twice is closing it once
 
@@ -289,16 +280,16 @@ updates_stay channels id (x ∷ xs) none held = by (updates_stay channels id xs 
         absurd cc
     by others false is = rw (is, others) refl
 
-closing-is : (rows : Rows) (id : ℕ) → AreHeld rows → Lawful.AreEnded rows → without_channel rows id ≡ closing rows id
-closing-is rows id held ended = by (is_some (channel_of rows.channels id)) refl
+without_channel-is : (rows : Rows) (id : ℕ) → AreHeld rows → Lawful.AreEnded rows → without_channel rows id ≡ without_held rows id
+without_channel-is rows id held ended = by (is_some (channel_of rows.channels id)) refl
   where
-    by : (b : Bool) → is_some (channel_of rows.channels id) ≡ b → (if b then closing rows id else rows) ≡ closing rows id
+    by : (b : Bool) → is_some (channel_of rows.channels id) ≡ b → (if b then without_held rows id else rows) ≡ without_held rows id
     by true is = refl
     by false is =
         let channels = channels_stay rows.channels id is in
         rw (channels, updates_stay rows.channels id rows.updates is held, all_ended rows.channels rows.nodes ended) refl
 
-dropping-step : (rows : Rows) (id : ℕ) (gone : ℕ → Bool) → dropping (closing rows id) gone ≡ dropping rows (λ i. eqb i id || gone i)
+dropping-step : (rows : Rows) (id : ℕ) (gone : ℕ → Bool) → dropping (without_held rows id) gone ≡ dropping rows (λ i. eqb i id || gone i)
 dropping-step rows id gone =
     let both : (i : ℕ) → (not (eqb i id) && not (gone i)) ≡ not (eqb i id || gone i) = λ i. neither (eqb i id) (gone i) in
     let channels : filter (λ row. not (gone (id_of row))) (channels_without rows.channels id)
@@ -311,7 +302,7 @@ dropping-step rows id gone =
     let nodes =
     nodes-step (λ row. not (gone (id_of row))) (channels_without rows.channels id) rows.nodes
     ∙ ap (λ channels. ended_nodes channels rows.nodes) channels in
-    rows_same (dropping (closing rows id) gone) (dropping rows (λ i. eqb i id || gone i)) channels updates nodes refl
+    rows_same (dropping (without_held rows id) gone) (dropping rows (λ i. eqb i id || gone i)) channels updates nodes refl
   where
     neither : (a b : Bool) → (not a && not b) ≡ not (a || b)
     neither true b = refl
@@ -322,7 +313,7 @@ closed_all-drops [] rows held ended = rows_same rows (dropping rows (λ i. false
     (sym (ap (λ channels. ended_nodes channels rows.nodes) (all_stay rows.channels) ∙ all_ended rows.channels rows.nodes ended)) refl
 closed_all-drops (id ∷ ids) rows held ended =
     closed_all-drops ids (without_channel rows id) (AreHeld-absorbed rows (ops.Close id) held) (AreEnded-absorbed rows (ops.Close id) ended)
-    ∙ ap (λ r. dropping r (has ids)) (closing-is rows id held ended) ∙ dropping-step rows id (has ids)
+    ∙ ap (λ r. dropping r (has ids)) (without_channel-is rows id held ended) ∙ dropping-step rows id (has ids)
 
 -- ---- the ids at points that are banned one after the other
 

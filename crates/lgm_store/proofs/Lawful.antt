@@ -13,7 +13,7 @@ use Rattle.lgm_check.specs.declared.row.ChannelRow.{ChannelRow}
 use Rattle.lgm_store.specs.declared.op.Op.{Op}
 use Rattle.lgm_store.specs.declared.op.Op.TheVariants as ops
 use Rattle.lgm_store.specs.Rows.{Rows, empty, put, by_id, by_direction, by_node, channel_of, ends_at, ends_channel, ends_banned}
-use Rattle.lgm_store.specs.History.{absorbed, fold_from, fold, with_banned, channels_without, updates_without}
+use Rattle.lgm_store.specs.History.{absorbed, fold_from, fold, with_banned, channels_without, updates_without, without_held}
 use Rattle.lgm_store.specs.History.{ended_nodes, allowed_channels, banned_channels}
 use Rattle.lgm_store.specs.Laws.{IsLawful, AreHeld, AreEnded, AreAllowed}
 use Rattle.lgm_store.specs.inner.Sound.{id_of}
@@ -190,12 +190,7 @@ AreHeld-absorbed rows (ops.Node row) held = by (ends_channel rows.channels row.m
     by false = held
 AreHeld-absorbed rows (ops.Close id) held = by (is_some (channel_of rows.channels id))
   where
-    by : (b : Bool) → AreHeld (if b then record {
-      channels = channels_without rows.channels id;
-      updates = updates_without rows.updates id;
-      nodes = ended_nodes (channels_without rows.channels id) rows.nodes;
-      banned = rows.banned;
-    } else rows)
+    by : (b : Bool) → AreHeld (if b then without_held rows id else rows)
     by true =
         All-filtered (λ u. is_some (channel_of rows.channels u.message.short_channel_id) ≡ true) _ _
         rows.updates (λ u apart h. held-without rows.channels id u.message.short_channel_id apart h) held
@@ -227,12 +222,7 @@ AreEnded-absorbed rows (ops.Node row) ended = by (ends_channel rows.channels row
     by false is = ended
 AreEnded-absorbed rows (ops.Close id) ended = by (is_some (channel_of rows.channels id))
   where
-    by : (b : Bool) → AreEnded (if b then record {
-      channels = channels_without rows.channels id;
-      updates = updates_without rows.updates id;
-      nodes = ended_nodes (channels_without rows.channels id) rows.nodes;
-      banned = rows.banned;
-    } else rows)
+    by : (b : Bool) → AreEnded (if b then without_held rows id else rows)
     by true = AreEnded-ended_nodes (channels_without rows.channels id) rows.nodes
     by false = ended
 AreEnded-absorbed rows (ops.Ban ban) ended = AreEnded-ended_nodes (allowed_channels (with_banned rows.banned ban) rows.channels) rows.nodes
@@ -257,12 +247,7 @@ AreAllowed-absorbed rows (ops.Node row) allowed = by (ends_channel rows.channels
     by false = allowed
 AreAllowed-absorbed rows (ops.Close id) allowed = by (is_some (channel_of rows.channels id))
   where
-    by : (b : Bool) → AreAllowed (if b then record {
-      channels = channels_without rows.channels id;
-      updates = updates_without rows.updates id;
-      nodes = ended_nodes (channels_without rows.channels id) rows.nodes;
-      banned = rows.banned;
-    } else rows)
+    by : (b : Bool) → AreAllowed (if b then without_held rows id else rows)
     by true = All-filtered (λ x. ends_banned rows.banned x ≡ false) (λ x. ends_banned rows.banned x ≡ false) _ rows.channels (λ x is p. p) allowed
     by false = allowed
 AreAllowed-absorbed rows (ops.Ban ban) allowed =

@@ -42,16 +42,18 @@ updates_without rows id = filter (λ row. not (row.message.short_channel_id == i
 abbrev pub ended_nodes : List ChannelRow → List NodeRow → List NodeRow
 ended_nodes channels rows = filter (λ row. ends_channel channels row.message.node_id) rows
 
--- without a channel, if it is held: it goes with its updates, and then each node goes at which no channel ends
+-- without a channel that is held: it goes with its updates, and then each node goes at which no channel ends
+abbrev pub without_held : Rows → ℕ → Rows
+without_held rows id = record {
+  channels = channels_without rows.channels id;
+  updates = updates_without rows.updates id;
+  nodes = ended_nodes (channels_without rows.channels id) rows.nodes;
+  banned = rows.banned;
+}
+
+-- without a channel, if it is held
 abbrev pub without_channel : Rows → ℕ → Rows
-without_channel rows id =
-    if is_some (channel_of rows.channels id) then record {
-      channels = channels_without rows.channels id;
-      updates = updates_without rows.updates id;
-      nodes = ended_nodes (channels_without rows.channels id) rows.nodes;
-      banned = rows.banned;
-    }
-    else rows
+without_channel rows id = if is_some (channel_of rows.channels id) then without_held rows id else rows
 
 -- points more, each once
 abbrev pub with_points : List Point → List Point → List Point

@@ -1,24 +1,35 @@
 -- How the view of a map is built, channel by channel.
-use Rattle.std.specs.Prelude.{◌≡◌, ◌*◌, ◌≤◌, Bool, false, true, List, [], ◌++◌}
+use Rattle.std.specs.Prelude.{◌≡◌, ℕ, ◌+◌, ◌*◌, ◌≤◌, Bool, false, true, List, [], ◌++◌}
 use Rattle.std.specs.Prelude.{map, flat_map, length, Option, option_to_list}
 use Rattle.std.specs.List.{AllByRecursion}
 use Rattle.std.specs.Option.{option_and_then}
 use Rattle.lgm_wire.specs.declared.point.Point.{Point}
 use Rattle.lgm_check.specs.declared.row.ChannelRow.{ChannelRow}
 use Rattle.lgm_check.specs.declared.row.UpdateRow.{UpdateRow}
+use Rattle.lgm_check.specs.declared.row.NodeRow.{NodeRow}
 use Rattle.lgm_store.specs.declared.held.Held.{Held}
 use Rattle.lgm_store.specs.Held.{held_at}
 use Rattle.lgm_store.specs.Rows.{Rows, update_of}
 use Rattle.lgm_graph.specs.declared.edge.Edge.{Edge}
 use Rattle.lgm_graph.specs.declared.link.Link.{Link}
+use Rattle.lgm_graph.specs.declared.nodes.Nodes.{Nodes}
 use Rattle.lgm_graph.specs.Edges.{edge_on, takes_payments}
 use Rattle.lgm_graph.specs.Graph.{Graph, Shows, IsJoined, IsNumbered, link_of, number_of}
+use Rattle.lgm_graph.specs.inner.Sound.{AreLookedAt, ShowsIn}
 
 -- points keep their numbers
 abbrev pub KeepsNumbers : List Point → List Point → Type 0
 KeepsNumbers old new =
     (point : Point) → IsNumbered old point
     → (number_of new point ≡ number_of old point) × IsNumbered new point
+
+-- a point was numbered, unless it was
+pub record HasNumbered (known : Option (List ℕ)) (rows : List NodeRow) (point : Point) (old new : Nodes) : Type 0 where
+  pub few : length new.points.keys ≤ length old.points.keys + 1
+  pub kept : KeepsNumbers old.points.keys new.points.keys
+  pub numbered : IsNumbered new.points.keys point
+  pub takes : AreLookedAt known rows old → AreLookedAt known rows new
+  pub shows : (edges : List Edge) → ShowsIn edges old → ShowsIn edges new
 
 -- the edge of a direction of a channel
 abbrev pub edge_of_direction : List UpdateRow → ChannelRow → Bool → Option Edge

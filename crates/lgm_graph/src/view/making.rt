@@ -12,7 +12,7 @@ ghost use Rattle.lgm_graph.specs.declared.edge.Edge.{Edge as AnEdge};
 ghost use Rattle.lgm_graph.specs.Edges.{edge_on};
 ghost use Rattle.lgm_graph.specs.Graph.{IsGraphOf, IsNumbered, linked, number_of};
 ghost use Rattle.lgm_graph.specs.inner.Sound.{AreLookedAt, ShowsIn};
-ghost use Rattle.lgm_graph.specs.inner.Walk.{AreLinksOf, KeepsNumbers, edges_of_channel};
+ghost use Rattle.lgm_graph.specs.inner.Walk.{AreLinksOf, HasNumbered, KeepsNumbers, edges_of_channel};
 
 use super::View;
 use super::hints::Hints;
@@ -91,13 +91,7 @@ fn number_end(
     point: Point,
 ) -> Result<usize, AllocError>
     ensures number { IfOk result (λ n. n ≡ number_of nodes.new.points.keys point) }
-    ensures few { OnOk result (length nodes.new.points.keys ≤ length nodes.old.points.keys + 1) }
-    ensures kept { OnOk result (KeepsNumbers nodes.old.points.keys nodes.new.points.keys) }
-    ensures numbered { OnOk result (IsNumbered nodes.new.points.keys point) }
-    ensures takes { OnOk result
-        (AreLookedAt known.now map.now.nodes nodes.old → AreLookedAt known.now map.now.nodes nodes.new) }
-    ensures shows { OnOk result ((edges : List AnEdge) → ShowsIn edges nodes.old
-        → ShowsIn edges nodes.new) }
+    ensures numbered { OnOk result (HasNumbered known.now map.now.nodes point nodes.old nodes.new) }
 {
     if let Some(number) = hints.number(nodes, &point) {
         return Ok(number);
@@ -116,13 +110,7 @@ fn number(
     point: Point,
 ) -> Result<usize, AllocError>
     ensures number { IfOk result (λ n. n ≡ number_of nodes.new.points.keys point) }
-    ensures few { OnOk result (length nodes.new.points.keys ≤ length nodes.old.points.keys + 1) }
-    ensures kept { OnOk result (KeepsNumbers nodes.old.points.keys nodes.new.points.keys) }
-    ensures numbered { OnOk result (IsNumbered nodes.new.points.keys point) }
-    ensures takes { OnOk result
-        (AreLookedAt known.now map.now.nodes nodes.old → AreLookedAt known.now map.now.nodes nodes.new) }
-    ensures shows { OnOk result ((edges : List AnEdge) → ShowsIn edges nodes.old
-        → ShowsIn edges nodes.new) }
+    ensures numbered { OnOk result (HasNumbered known.now map.now.nodes point nodes.old nodes.new) }
 {
     if let Some(number) = nodes.points.get_index_of(&point) {
         return Ok(number);

@@ -1,18 +1,15 @@
 use Rattle.std.proofs.Common.{◌∙◌, sym, refl}
-use Rattle.lgm_graph.proofs.Numbering.{any_numbered, further_number, further_shows}
+use Rattle.lgm_graph.proofs.Numbering.{any_numbered, has_numbered, was_numbered}
 use Rattle.lgm_graph.proofs.nodes.Nodes.number.Goals as goal
 
 pub returns-then-contains-clause-numbered : goal.returns-then-contains-clause-numbered
-returns-then-contains-clause-numbered c = any_numbered c.args.self.now.points.keys c.args.point (sym c.contains.ensures ∙ c.if-contains.true)
+returns-then-contains-clause-numbered c =
+    was_numbered _ _ c.args.point c.args.self.now
+    (any_numbered c.args.self.now.points.keys c.args.point (sym c.contains.ensures ∙ c.if-contains.true))
 
 pub returns-clause-numbered : goal.returns-clause-numbered
 returns-clause-numbered c =
-    (further_number c.args.self.now c.args.self.now c.add.new.self c.args.point c.takes_payments-takes.result
-    (sym c.contains.ensures ∙ c.if-contains.false) (λ k. refl)
-    c.add.ensures.points c.add.ensures.takes c.add.ensures.into c.add.ensures.out).1
-
-pub returns-clause-shows : goal.returns-clause-shows
-returns-clause-shows c =
-    further_shows c.args.self.now c.args.self.now c.add.new.self c.args.point c.takes_payments-takes.result
+    has_numbered c.args.self.now c.args.self.now c.add.new.self c.args.point c.takes_payments-takes.result
     (sym c.contains.ensures ∙ c.if-contains.false) (λ k. refl)
     c.add.ensures.points c.add.ensures.takes c.add.ensures.into c.add.ensures.out
+    c.args.known.now c.args.held.now.nodes c.takes_payments-takes.ensures

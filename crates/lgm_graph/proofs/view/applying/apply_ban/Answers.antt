@@ -40,24 +40,6 @@ loop-node-preserved c =
           (c.ban_at.ensures.takes (changed_among look (take i items) before) (c.loop-node.invariant.takes before flags));
     }
 
-pub returns-in_err-parted : goal.returns-in_err-parted
-returns-in_err-parted c = record {
-  map = search rules;
-  beside = search rules;
-  few = search rules;
-  map_stays = search rules;
-  stays = search rules;
-}
-
-pub returns-in_err-absorb : goal.returns-in_err-absorb
-returns-in_err-absorb c = record {
-  map = search rules;
-  beside = search rules;
-  few = search rules;
-  map_stays = search rules;
-  stays = search rules;
-}
-
 pub returns : goal.returns
 returns c = record {
   map = search rules;
@@ -75,6 +57,4 @@ returns c = record {
       (rw whole at (c.loop-node.invariant.out (links_at (λ e. e.from) points edges) c.requires.beside.shows.out_is))
       (rw whole at (c.loop-node.invariant.takes (takes_payments c.args.known.now c.args.map.now.nodes) c.requires.beside.takes));
   few = search rules;
-  map_stays = search rules;
-  stays = search rules;
 }

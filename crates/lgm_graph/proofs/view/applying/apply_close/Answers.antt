@@ -1,8 +1,8 @@
-use Rattle.std.proofs.Common.{rules, ◌∙◌, ap, sym, false, true}
+use Rattle.std.proofs.Common.{rules, arith, refl, ◌∙◌, ap, sym, false, true}
 use Rattle.lgm_store.specs.History.{absorbed}
 use Rattle.lgm_graph.specs.Edges.{takes_payments, carrying}
 use Rattle.lgm_graph.specs.inner.Sound.{closed_at}
-use Rattle.lgm_graph.proofs.Numbers.{ends_numbered}
+use Rattle.lgm_graph.proofs.Numbers.{ends_numbered, in_both}
 use Rattle.lgm_graph.proofs.Showing.{links_at}
 use Rattle.lgm_graph.proofs.Closing.{node_closed}
 use Rattle.lgm_graph.proofs.view.applying.apply_close.Goals as goal
@@ -19,22 +19,9 @@ close_at-requires-2-clause-numbered c =
     c.requires.beside.ends (sym c.in-Some.ensures))
 
 pub returns-in_default : goal.returns-in_default
-returns-in_default c = record {
-  map = search rules;
-  beside = search rules;
-  few = search rules;
-  map_stays = search rules;
-  stays = search rules;
-}
-
-pub returns-in_err-absorb : goal.returns-in_err-absorb
-returns-in_err-absorb c = record {
-  map = search rules;
-  beside = search rules;
-  few = search rules;
-  map_stays = search rules;
-  stays = search rules;
-}
+returns-in_default c =
+    in_both c.absorb.result c.absorb.ensures.ok c.absorb.ensures.err
+    (λ map. record { map = map; beside = search rules; few = omega arith }) (λ map. record { map = map; graph = λ known. refl })
 
 pub returns : goal.returns
 returns c = record {
@@ -55,6 +42,4 @@ returns c = record {
       (c.close_at.ensures.out (links_at (λ e. e.from) points edges) c.requires.beside.shows.out_is))
       (c.close_at-2.ensures.takes _ (c.close_at.ensures.takes (takes_payments c.args.known.now c.args.map.now.nodes) c.requires.beside.takes));
   few = search rules;
-  map_stays = search rules;
-  stays = search rules;
 }

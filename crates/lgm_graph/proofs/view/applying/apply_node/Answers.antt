@@ -4,15 +4,6 @@ use Rattle.lgm_graph.specs.Edges.{takes_payments}
 use Rattle.lgm_graph.proofs.Noding.{noded}
 use Rattle.lgm_graph.proofs.view.applying.apply_node.Goals as goal
 
-pub returns-in_err-absorb : goal.returns-in_err-absorb
-returns-in_err-absorb c = record {
-  map = search rules;
-  beside = search rules;
-  few = search rules;
-  map_stays = search rules;
-  stays = search rules;
-}
-
 pub returns : goal.returns
 returns c = record {
   map = search rules;
@@ -23,6 +14,4 @@ returns c = record {
       c.look_at.ensures.points c.look_at.ensures.into c.look_at.ensures.out (c.look_at.ensures.takes
       (takes_payments c.args.known.now c.args.map.now.nodes) c.requires.beside.takes);
   few = search rules;
-  map_stays = search rules;
-  stays = search rules;
 }

@@ -1,9 +1,9 @@
-use Rattle.std.proofs.Common.{rules, ◌∙◌, sym, ap, arith, not, length}
+use Rattle.std.proofs.Common.{rules, refl, ◌∙◌, sym, ap, arith, not, length}
 use Rattle.lgm_store.specs.Rows.{channel_of}
 use Rattle.lgm_store.specs.History.{absorbed}
 use Rattle.lgm_graph.specs.Edges.{end_of, carrying, edge_on}
-use Rattle.lgm_graph.specs.Graph.{number_of, IsNumbered}
-use Rattle.lgm_graph.proofs.Numbers.{ends_numbered, on_err}
+use Rattle.lgm_graph.specs.Graph.{number_of}
+use Rattle.lgm_graph.proofs.Numbers.{ends_numbered, in_both}
 use Rattle.lgm_graph.proofs.Making.{into_long, out_long, same_points, same_into, same_out, same_shows}
 use Rattle.lgm_graph.proofs.Updating.{node_updated, into_cut, out_cut}
 use Rattle.lgm_graph.proofs.view.applying.apply_update.Goals as goal
@@ -22,69 +22,45 @@ number_of-to-requires c =
 
 pub linked_if-link-requires-clause-from : goal.linked_if-link-requires-clause-from
 linked_if-link-requires-clause-from c =
-    let there : IsNumbered c.args.nodes.now.points.keys c.node-from.result =
-    rw c.node-from.ensures
-    (ends_numbered c.args.nodes.now.points.keys c.args.map.now.channels c.scid-scid.result
-    c.in-Some.channel c.is_second-second.result c.requires.beside.ends (sym c.in-Some.ensures)) in
-    omega (arith, there, c.number_of-from.ensures, c.requires.few)
+    omega (arith, c.number_of-from.ensures.less, c.requires.few)
 
 pub linked_if-link-requires-clause-to : goal.linked_if-link-requires-clause-to
 linked_if-link-requires-clause-to c =
-    let there : IsNumbered c.args.nodes.now.points.keys c.node-to.result =
-    rw c.node-to.ensures
-    (ends_numbered c.args.nodes.now.points.keys c.args.map.now.channels c.scid-scid.result
-    c.in-Some.channel (not c.is_second-second.result) c.requires.beside.ends (sym c.in-Some.ensures)) in
-    omega (arith, there, c.number_of-to.ensures, c.requires.few)
+    omega (arith, c.number_of-to.ensures.less, c.requires.few)
 
 pub reserve_links-requires-clause-from : goal.reserve_links-requires-clause-from
 reserve_links-requires-clause-from c =
-    let there : IsNumbered c.args.nodes.now.points.keys c.node-from.result =
-    rw c.node-from.ensures
-    (ends_numbered c.args.nodes.now.points.keys c.args.map.now.channels c.scid-scid.result
-    c.in-Some.channel c.is_second-second.result c.requires.beside.ends (sym c.in-Some.ensures)) in
     let long = out_long (carrying c.args.map.now) c.args.nodes.now c.requires.beside.shows in
-    omega (arith, there, c.number_of-from.ensures, long)
+    omega (arith, c.number_of-from.ensures.less, long)
 
 pub reserve_links-requires-clause-to : goal.reserve_links-requires-clause-to
 reserve_links-requires-clause-to c =
-    let there : IsNumbered c.args.nodes.now.points.keys c.node-to.result =
-    rw c.node-to.ensures
-    (ends_numbered c.args.nodes.now.points.keys c.args.map.now.channels c.scid-scid.result
-    c.in-Some.channel (not c.is_second-second.result) c.requires.beside.ends (sym c.in-Some.ensures)) in
     let long = into_long (carrying c.args.map.now) c.args.nodes.now c.requires.beside.shows in
-    omega (arith, there, c.number_of-to.ensures, long)
+    omega (arith, c.number_of-to.ensures.less, long)
 
 pub put_link-requires-clause-from : goal.put_link-requires-clause-from
 put_link-requires-clause-from c =
-    let there : IsNumbered c.args.nodes.now.points.keys c.node-from.result =
-    rw c.node-from.ensures
-    (ends_numbered c.args.nodes.now.points.keys c.args.map.now.channels c.scid-scid.result
-    c.in-Some.channel c.is_second-second.result c.requires.beside.ends (sym c.in-Some.ensures)) in
     let points = ap length (same_points c.args.nodes.now c.reserve_links.new.self c.reserve_links.ensures.same) in
     let long =
     out_long (carrying c.args.map.now) c.reserve_links.new.self
     (same_shows c.args.nodes.now c.reserve_links.new.self c.reserve_links.ensures.same
     (carrying c.args.map.now) c.requires.beside.shows) in
-    omega (arith, there, c.number_of-from.ensures, long, points)
+    omega (arith, c.number_of-from.ensures.less, long, points)
 
 pub put_link-requires-clause-to : goal.put_link-requires-clause-to
 put_link-requires-clause-to c =
-    let there : IsNumbered c.args.nodes.now.points.keys c.node-to.result =
-    rw c.node-to.ensures
-    (ends_numbered c.args.nodes.now.points.keys c.args.map.now.channels c.scid-scid.result
-    c.in-Some.channel (not c.is_second-second.result) c.requires.beside.ends (sym c.in-Some.ensures)) in
     let points = ap length (same_points c.args.nodes.now c.reserve_links.new.self c.reserve_links.ensures.same) in
     let long =
     into_long (carrying c.args.map.now) c.reserve_links.new.self
     (same_shows c.args.nodes.now c.reserve_links.new.self c.reserve_links.ensures.same
     (carrying c.args.map.now) c.requires.beside.shows) in
-    omega (arith, there, c.number_of-to.ensures, long, points)
+    omega (arith, c.number_of-to.ensures.less, long, points)
 
 pub put_link-requires-clause-cut_into : goal.put_link-requires-clause-cut_into
 put_link-requires-clause-cut_into c =
     let held = ap (channel_of c.args.map.now.channels) (sym c.scid-scid.ensures) ∙ sym c.in-Some.ensures in
     let place =
-    c.number_of-to.ensures ∙ ap (number_of c.args.nodes.now.points.keys) (c.node-to.ensures
+    c.number_of-to.ensures.number ∙ ap (number_of c.args.nodes.now.points.keys) (c.node-to.ensures
     ∙ ap (λ b. end_of c.in-Some.channel (not b)) c.is_second-second.ensures) in
     rw (same_into c.args.nodes.now c.reserve_links.new.self c.reserve_links.ensures.same, place, c.scid-scid.ensures, c.is_second-second.ensures)
     (into_cut c.args.known.now c.args.map.now c.args.row.now c.in-Some.channel held c.rows_are_lawful.ensures.ascend _ _ _ _ c.requires.beside)
@@ -93,37 +69,15 @@ pub put_link-requires-clause-cut_out : goal.put_link-requires-clause-cut_out
 put_link-requires-clause-cut_out c =
     let held = ap (channel_of c.args.map.now.channels) (sym c.scid-scid.ensures) ∙ sym c.in-Some.ensures in
     let place =
-    c.number_of-from.ensures ∙ ap (number_of c.args.nodes.now.points.keys) (c.node-from.ensures
+    c.number_of-from.ensures.number ∙ ap (number_of c.args.nodes.now.points.keys) (c.node-from.ensures
     ∙ ap (end_of c.in-Some.channel) c.is_second-second.ensures) in
     rw (same_out c.args.nodes.now c.reserve_links.new.self c.reserve_links.ensures.same, place, c.scid-scid.ensures, c.is_second-second.ensures)
     (out_cut c.args.known.now c.args.map.now c.args.row.now c.in-Some.channel held c.rows_are_lawful.ensures.ascend _ _ _ _ c.requires.beside)
 
 pub returns-in_default : goal.returns-in_default
-returns-in_default c = record {
-  map = search rules;
-  beside = search rules;
-  few = search rules;
-  map_stays = search rules;
-  stays = search rules;
-}
-
-pub returns-in_err-reserve_links : goal.returns-in_err-reserve_links
-returns-in_err-reserve_links c = record {
-  map = search rules;
-  beside = search rules;
-  few = let points = ap length (same_points c.args.nodes.now c.reserve_links.new.self c.reserve_links.ensures.same) in omega (arith, points);
-  map_stays = search rules;
-  stays = on_err _ _ (c.reserve_links.ensures.same c.args.known.now);
-}
-
-pub returns-in_err-absorb : goal.returns-in_err-absorb
-returns-in_err-absorb c = record {
-  map = search rules;
-  beside = search rules;
-  few = let points = ap length (same_points c.args.nodes.now c.reserve_links.new.self c.reserve_links.ensures.same) in omega (arith, points);
-  map_stays = search rules;
-  stays = on_err _ _ (c.reserve_links.ensures.same c.args.known.now);
-}
+returns-in_default c =
+    in_both c.absorb.result c.absorb.ensures.ok c.absorb.ensures.err
+    (λ map. record { map = map; beside = search rules; few = omega arith }) (λ map. record { map = map; graph = λ known. refl })
 
 pub returns : goal.returns
 returns c = record {
@@ -135,8 +89,8 @@ returns c = record {
       c.args.nodes.now c.reserve_links.new.self c.put_link.new.self c.len.ensures.unique c.requires.beside c.reserve_links.ensures.same
       c.scid-scid.result c.number_of-from.result c.number_of-to.result c.is_second-second.result
       c.edge_on-edge.result c.linked_if-link.result c.scid-scid.ensures c.is_second-second.ensures
-      (c.number_of-from.ensures ∙ ap (number_of c.args.nodes.now.points.keys) c.node-from.ensures)
-      (c.number_of-to.ensures ∙ ap (number_of c.args.nodes.now.points.keys) c.node-to.ensures)
+      (c.number_of-from.ensures.number ∙ ap (number_of c.args.nodes.now.points.keys) c.node-from.ensures)
+      (c.number_of-to.ensures.number ∙ ap (number_of c.args.nodes.now.points.keys) c.node-to.ensures)
       (c.edge_on-edge.ensures ∙ ap (edge_on c.in-Some.channel) c.row.ensures.row) c.linked_if-link.ensures
       c.put_link.ensures.points c.put_link.ensures.takes c.put_link.ensures.into c.put_link.ensures.out;
   few =
@@ -144,6 +98,4 @@ returns c = record {
       ap length (c.put_link.ensures.points
       ∙ same_points c.args.nodes.now c.reserve_links.new.self c.reserve_links.ensures.same) in
       omega (arith, points);
-  map_stays = search rules;
-  stays = search rules;
 }

@@ -10,10 +10,10 @@ returns-clause-links c = λ edges are.
     let mid = c.number_end.new.nodes.points.keys in
     let points = c.number_end-2.new.nodes.points.keys in
     let keeps : KeepsNumbers c.args.nodes.now.points.keys points =
-    λ p there. let a = c.in_ok-first.ensures.kept p there in let b = c.in_ok-second.ensures.kept p a.1 in (b.0 ∙ a.0, b.1) in
-    let first : IsNumbered mid channel.message.node_id_1 = rw (← c.node.ensures) c.in_ok-first.ensures.numbered in
-    let stays = c.in_ok-second.ensures.kept channel.message.node_id_1 first in
-    let second : IsNumbered points channel.message.node_id_2 = rw (← c.node-2.ensures) c.in_ok-second.ensures.numbered in
+    λ p there. let a = c.in_ok-first.ensures.numbered.kept p there in let b = c.in_ok-second.ensures.numbered.kept p a.1 in (b.0 ∙ a.0, b.1) in
+    let first : IsNumbered mid channel.message.node_id_1 = rw (← c.node.ensures) c.in_ok-first.ensures.numbered.numbered in
+    let stays = c.in_ok-second.ensures.numbered.kept channel.message.node_id_1 first in
+    let second : IsNumbered points channel.message.node_id_2 = rw (← c.node-2.ensures) c.in_ok-second.ensures.numbered.numbered in
     channel_written c.args.map.now c.args.held.now points c.requires.own stays.1 second c.in_ok-first.first c.in_ok-second.second edges
     c.args.links.now.items c.add_direction.new.links.items c.add_direction-2.new.links.items
     (c.in_ok-first.ensures.number ∙ ap (number_of mid) c.node.ensures ∙ sym stays.0)

@@ -2,7 +2,7 @@ use Rattle.std.proofs.Common.{◌∙◌, sym, ap}
 use Rattle.std.specs.List.{list_any}
 use Rattle.lgm_store.specs.Rows.{is_point}
 use Rattle.lgm_graph.proofs.Making.{same_points}
-use Rattle.lgm_graph.proofs.Numbering.{position_none, further_number, further_keeps, further_few, further_takes, further_shows}
+use Rattle.lgm_graph.proofs.Numbering.{position_none, further_number, has_numbered}
 use Rattle.lgm_graph.proofs.view.making.number.Goals as goal
 
 pub add-requires-clause-other : goal.add-requires-clause-other
@@ -16,38 +16,9 @@ returns-clause-number c =
     c.args.point c.takes_payments-takes.result other c.reserve.ensures.same c.add.ensures.points
     c.add.ensures.takes c.add.ensures.into c.add.ensures.out).0
 
-pub returns-clause-few : goal.returns-clause-few
-returns-clause-few c =
-    let other = position_none c.args.nodes.now.points.keys c.args.point (sym c.get_index_of.ensures.index ∙ c.in_default.is) in
-    further_few c.args.nodes.now c.reserve.new.self c.add.new.self c.args.point c.takes_payments-takes.result
-    other c.reserve.ensures.same c.add.ensures.points c.add.ensures.takes c.add.ensures.into
-    c.add.ensures.out
-
-pub returns-clause-kept : goal.returns-clause-kept
-returns-clause-kept c =
-    let other = position_none c.args.nodes.now.points.keys c.args.point (sym c.get_index_of.ensures.index ∙ c.in_default.is) in
-    further_keeps c.args.nodes.now c.reserve.new.self c.add.new.self c.args.point
-    c.takes_payments-takes.result other c.reserve.ensures.same c.add.ensures.points c.add.ensures.takes
-    c.add.ensures.into c.add.ensures.out
-
 pub returns-clause-numbered : goal.returns-clause-numbered
 returns-clause-numbered c =
     let other = position_none c.args.nodes.now.points.keys c.args.point (sym c.get_index_of.ensures.index ∙ c.in_default.is) in
-    (further_number c.args.nodes.now c.reserve.new.self c.add.new.self c.args.point
+    has_numbered c.args.nodes.now c.reserve.new.self c.add.new.self c.args.point
     c.takes_payments-takes.result other c.reserve.ensures.same c.add.ensures.points c.add.ensures.takes
-    c.add.ensures.into c.add.ensures.out).1
-
-pub returns-clause-takes : goal.returns-clause-takes
-returns-clause-takes c =
-    let other = position_none c.args.nodes.now.points.keys c.args.point (sym c.get_index_of.ensures.index ∙ c.in_default.is) in
-    further_takes c.args.nodes.now c.reserve.new.self c.add.new.self c.args.point
-    c.takes_payments-takes.result other c.reserve.ensures.same c.add.ensures.points c.add.ensures.takes
-    c.add.ensures.into c.add.ensures.out
-    c.args.known.now c.args.map.now.nodes c.takes_payments-takes.ensures
-
-pub returns-clause-shows : goal.returns-clause-shows
-returns-clause-shows c =
-    let other = position_none c.args.nodes.now.points.keys c.args.point (sym c.get_index_of.ensures.index ∙ c.in_default.is) in
-    further_shows c.args.nodes.now c.reserve.new.self c.add.new.self c.args.point
-    c.takes_payments-takes.result other c.reserve.ensures.same c.add.ensures.points c.add.ensures.takes
-    c.add.ensures.into c.add.ensures.out
+    c.add.ensures.into c.add.ensures.out c.args.known.now c.args.map.now.nodes c.takes_payments-takes.ensures
