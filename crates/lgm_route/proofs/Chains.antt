@@ -107,7 +107,7 @@ pub way_last : (graph : Graph) (labels : List Label) (found here other : Label) 
 way_last graph labels found here other count walk e way =
     record { rest = way.rest; spells = spells_none graph labels other way.rest (way.long ∙ e); long = way.long; whole = way.whole; all = way.all }
 
-module _ (graph : Graph) (labels : List Label) (label other here there : Label) (count : ℕ)
+module _ {graph : Graph} {labels : List Label} {label other here there : Label} {count : ℕ}
     (beside : AreBeside graph labels label other here there count) (left : 0 < count) where
   pub one : HasMore graph labels here beside.rest count
   one = has_more graph labels here beside.rest count beside.spells beside.long left
@@ -162,13 +162,13 @@ module _ (graph : Graph) (labels : List Label) (label other here there : Label) 
       (subst (λ i. Spells graph labels (label_at labels i) one.tail) n one.spells) two.spells (one.long ∙ sym two.long) in
       first_tail e (subst (λ r. NotAfter (ids one.tail) (ids r)) same (NotAfter-refl (ids one.tail)))
 
-pub beside_end : (graph : Graph) (labels : List Label) (label other here there : Label) (count : ℕ)
-    → AreBeside graph labels label other here there count → count ≡ 0 →
-    IdsFirst graph labels label other
-beside_end graph labels label other here there count beside e = by beside.rest beside.also (beside.long ∙ e) (beside.long_also ∙ e) beside.first
-  where
-    by : (rest also : List Link) → length rest ≡ 0 → length also ≡ 0 → (NotAfter (ids rest) (ids also)
-        → IdsFirst graph labels label other) → IdsFirst graph labels label other
-    by [] [] m n f = f (NotAfter-refl [])
-    by [] (edge ∷ also) m n f = absurd (omega arith)
-    by (edge ∷ rest) also m n f = absurd (omega arith)
+module _ {graph : Graph} {labels : List Label} {label other here there : Label} {count : ℕ}
+    (beside : AreBeside graph labels label other here there count) where
+  pub beside_end : count ≡ 0 → IdsFirst graph labels label other
+  beside_end e = by beside.rest beside.also (beside.long ∙ e) (beside.long_also ∙ e) beside.first
+    where
+      by : (rest also : List Link) → length rest ≡ 0 → length also ≡ 0 → (NotAfter (ids rest) (ids also)
+          → IdsFirst graph labels label other) → IdsFirst graph labels label other
+      by [] [] m n f = f (NotAfter-refl [])
+      by [] (edge ∷ also) m n f = absurd (omega arith)
+      by (edge ∷ rest) also m n f = absurd (omega arith)

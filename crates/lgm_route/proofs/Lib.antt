@@ -5,6 +5,7 @@ pub mod Chains
 pub mod Steps
 pub mod Leads
 pub mod Bounded
+pub mod Passes
 pub mod Searches
 pub mod Crossing
 pub mod HopLaws

@@ -120,6 +120,16 @@ module _ (graph : Graph) (request : NumberedRequest) (labels : List Label) (star
   better_choice best new true f g = f refl
   better_choice best new false f g = g refl
 
+  -- the better of the best so far and a new walk, by a test
+  pub better_by : (best : Option Label) (old new : Label) (b : Bool) → best ≡ Some old → IsFound graph request labels start best
+      → SomeWalk graph request labels new → (b ≡ true → IsBefore graph labels new old)
+      → (b ≡ false → IsBefore graph labels old new)
+      → IsBetter graph request labels start best new (if b then Some new else best)
+  better_by best old new b is found some before after =
+      let held : IsFound graph request labels start (Some old) = rw is at found in
+      subst (λ (o : Option Label). IsBetter graph request labels start o new (if b then Some new else o)) (sym is)
+      (better_choice (Some old) new b (λ e. better_takes old new held some (before e)) (λ e. better_keeps old new held (after e)))
+
 -- a label that serves is there
 pub offered_there : (graph : Graph) (request : NumberedRequest) (labels : List Label) (new : Label)
     (place : ℕ) → AreLabels graph request labels → place < length labels →

@@ -19,6 +19,7 @@ mod layering;
 mod leading;
 mod numbered_request;
 mod offering;
+mod pass;
 mod queue;
 mod rebuilding;
 mod request;
@@ -27,6 +28,7 @@ mod routing;
 mod search;
 mod settling;
 mod starting;
+mod trail;
 
 pub use answering::{answer, answer_chunked};
 pub use fault::RouteFault;

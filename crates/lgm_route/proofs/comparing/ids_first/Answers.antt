@@ -11,56 +11,38 @@ loop-step-init c =
     (beside_start c.args.view.now c.args.labels.now c.args.label.now c.args.other.now c.requires.spelled c.requires.also c.requires.equal)
 
 pub bounds-labels-here : goal.bounds-labels-here
-bounds-labels-here c =
-    (one c.args.view.now c.args.labels.now c.args.label.now c.args.other.now c.loop-step.here
-    c.loop-step.there (c.args.label.now.count - c.loop-step.step) c.loop-step.invariant
-    (omega (arith, c.loop-step-test.true))).begins.next
+bounds-labels-here c = (one c.loop-step.invariant (omega (arith, c.loop-step-test.true))).begins.next
 
 pub offset_bounds-labels-here : goal.offset_bounds-labels-here
 offset_bounds-labels-here c =
-    let h =
-    (one c.args.view.now c.args.labels.now c.args.label.now c.args.other.now c.loop-step.here
-    c.loop-step.there (c.args.label.now.count - c.loop-step.step) c.loop-step.invariant
-    (omega (arith, c.loop-step-test.true))).begins.next in
+    let h = (one c.loop-step.invariant (omega (arith, c.loop-step-test.true))).begins.next in
     omega arith
 
 pub bounds-labels-there : goal.bounds-labels-there
-bounds-labels-there c =
-    (two c.args.view.now c.args.labels.now c.args.label.now c.args.other.now c.loop-step.here
-    c.loop-step.there (c.args.label.now.count - c.loop-step.step) c.loop-step.invariant
-    (omega (arith, c.loop-step-test.true))).begins.next
+bounds-labels-there c = (two c.loop-step.invariant (omega (arith, c.loop-step-test.true))).begins.next
 
 pub offset_bounds-labels-there : goal.offset_bounds-labels-there
 offset_bounds-labels-there c =
-    let h =
-    (two c.args.view.now c.args.labels.now c.args.label.now c.args.other.now c.loop-step.here
-    c.loop-step.there (c.args.label.now.count - c.loop-step.step) c.loop-step.invariant
-    (omega (arith, c.loop-step-test.true))).begins.next in
+    let h = (two c.loop-step.invariant (omega (arith, c.loop-step-test.true))).begins.next in
     omega arith
 
 pub returns-then-id-also-clause-first : goal.returns-then-id-also-clause-first
 returns-then-id-also-clause-first c = λ e.
     let id = c.to_u64-id.ensures ∙ ap (λ l. l.scid) c.first_of.ensures in
     let also = c.to_u64-also.ensures ∙ ap (λ l. l.scid) c.first_of-in-loop-step.ensures in
-    beside_less c.args.view.now c.args.labels.now c.args.label.now c.args.other.now c.loop-step.here
-    c.loop-step.there (c.args.label.now.count - c.loop-step.step) c.loop-step.invariant
-    (omega (arith, c.loop-step-test.true)) (omega (arith, id, also, c.if-id-also.true))
+    beside_less c.loop-step.invariant (omega (arith, c.loop-step-test.true)) (omega (arith, id, also, c.if-id-also.true))
 
 pub returns-then-also-id-clause-after : goal.returns-then-also-id-clause-after
 returns-then-also-id-clause-after c = λ e.
     let id = c.to_u64-id.ensures ∙ ap (λ l. l.scid) c.first_of.ensures in
     let also = c.to_u64-also.ensures ∙ ap (λ l. l.scid) c.first_of-in-loop-step.ensures in
-    beside_more c.args.view.now c.args.labels.now c.args.label.now c.args.other.now c.loop-step.here
-    c.loop-step.there (c.args.label.now.count - c.loop-step.step) c.loop-step.invariant
-    (omega (arith, c.loop-step-test.true)) (omega (arith, id, also, c.if-also-id.true))
+    beside_more c.loop-step.invariant (omega (arith, c.loop-step-test.true)) (omega (arith, id, also, c.if-also-id.true))
 
 pub returns-then-here-there-clause-first : goal.returns-then-here-there-clause-first
 returns-then-here-there-clause-first c = λ e.
     let id = c.to_u64-id.ensures ∙ ap (λ l. l.scid) c.first_of.ensures in
     let also = c.to_u64-also.ensures ∙ ap (λ l. l.scid) c.first_of-in-loop-step.ensures in
-    beside_same c.args.view.now c.args.labels.now c.args.label.now c.args.other.now c.loop-step.here
-    c.loop-step.there (c.args.label.now.count - c.loop-step.step) c.loop-step.invariant
-    (omega (arith, c.loop-step-test.true)) (omega (arith, id, also, c.if-id-also.false, c.if-also-id.false)) c.if-here-there.true
+    beside_same c.loop-step.invariant (omega (arith, c.loop-step-test.true)) (omega (arith, id, also, c.if-id-also.false, c.if-also-id.false)) c.if-here-there.true
 
 pub loop-step-preserved : goal.loop-step-preserved
 loop-step-preserved c =
@@ -71,24 +53,14 @@ loop-step-preserved c =
     omega (arith, c.loop-step-test.true) in
     subst (λ n. AreBeside c.args.view.now c.args.labels.now c.args.label.now c.args.other.now (label_at
     c.args.labels.now c.loop-step.here.next) (label_at c.args.labels.now c.loop-step.there.next) n) next
-    (beside_next c.args.view.now c.args.labels.now c.args.label.now c.args.other.now c.loop-step.here
-    c.loop-step.there (c.args.label.now.count - c.loop-step.step) c.loop-step.invariant
-    (omega (arith, c.loop-step-test.true)) (omega (arith, id, also, c.if-id-also.false, c.if-also-id.false)))
+    (beside_next c.loop-step.invariant (omega (arith, c.loop-step-test.true)) (omega (arith, id, also, c.if-id-also.false, c.if-also-id.false)))
 
 pub returns-clause-first : goal.returns-clause-first
 returns-clause-first c = λ e.
-    beside_end c.args.view.now c.args.labels.now c.args.label.now c.args.other.now c.loop-step.here
-    c.loop-step.there (c.args.label.now.count - c.loop-step.step) c.loop-step.invariant
-    (omega (arith, c.loop-step-test.false))
+    beside_end c.loop-step.invariant (omega (arith, c.loop-step-test.false))
 
 pub first_of-requires : goal.first_of-requires
-first_of-requires c =
-    (one c.args.view.now c.args.labels.now c.args.label.now c.args.other.now c.loop-step.here
-    c.loop-step.there (c.args.label.now.count - c.loop-step.step) c.loop-step.invariant
-    (omega (arith, c.loop-step-test.true))).begins
+first_of-requires c = (one c.loop-step.invariant (omega (arith, c.loop-step-test.true))).begins
 
 pub first_of-requires-in-loop-step : goal.first_of-requires-in-loop-step
-first_of-requires-in-loop-step c =
-    (two c.args.view.now c.args.labels.now c.args.label.now c.args.other.now c.loop-step.here
-    c.loop-step.there (c.args.label.now.count - c.loop-step.step) c.loop-step.invariant
-    (omega (arith, c.loop-step-test.true))).begins
+first_of-requires-in-loop-step c = (two c.loop-step.invariant (omega (arith, c.loop-step-test.true))).begins
