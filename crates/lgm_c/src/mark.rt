@@ -108,10 +108,8 @@ impl Mark {
     {
         self.since.reserve(1)?;
         let op = chart.offer(alloc, chain, bytes, evidence)?;
-        match self.since.push_back(op) {
-            Ok(()) => Ok(()),
-            Err(_) => unreachable!(),
-        }
+        self.since.push_back_reserved(op);
+        Ok(())
     }
 
     /// Closes a channel of the current map, and keeps the operation.
@@ -123,10 +121,8 @@ impl Mark {
     {
         self.since.reserve(1)?;
         let op = chart.close(scid)?;
-        match self.since.push_back(op) {
-            Ok(()) => Ok(()),
-            Err(_) => unreachable!(),
-        }
+        self.since.push_back_reserved(op);
+        Ok(())
     }
 
     /// Moves the mark to the current map. Out of memory leaves it where it was.

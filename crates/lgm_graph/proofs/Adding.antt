@@ -5,41 +5,21 @@ use Rattle.std.specs.List.{AllByRecursion, filter}
 use Rattle.std.specs.declared.cmp.Ordering.{Ordering}
 use Rattle.std.specs.declared.cmp.Ordering.TheVariants.{Less, Equal, Greater}
 use Rattle.std.specs.Ordering.{nat_cmp, is_lt, is_gt}
+use Rattle.std.proofs.lemmas.Bool.{eqb-true}
 use Rattle.lgm_check.specs.declared.row.ChannelRow.{ChannelRow}
 use Rattle.lgm_check.specs.declared.row.UpdateRow.{UpdateRow}
 use Rattle.lgm_store.specs.Rows.{Rows, by_id, put, channel_of, ends_banned}
 use Rattle.lgm_store.specs.History.{with_channel}
 use Rattle.lgm_store.specs.Laws.{IsLawful}
+use Rattle.lgm_store.proofs.ListLaws.{All-append, All-filter, All-to}
+use Rattle.lgm_store.proofs.Finding.{channel_of-put}
 use Rattle.lgm_store.proofs.Lists.{same_id}
 use Rattle.lgm_graph.specs.declared.nodes.Nodes.{Nodes}
 use Rattle.lgm_graph.specs.Edges.{edge_on, edge_in, carrying}
 use Rattle.lgm_graph.specs.Graph.{IsGraphOf, IsNumbered}
 use Rattle.lgm_graph.specs.inner.Sound.{graph_in, ShowsIn, AreLookedAt}
 use Rattle.lgm_graph.specs.inner.Walk.{KeepsNumbers}
-use Rattle.lgm_graph.proofs.Carrying.{All_to}
-use Rattle.lgm_graph.proofs.NodePut.{find_kept, find_gone, find_front, find_back}
-use Rattle.lgm_graph.proofs.Keeping.{filter_map-agree, eqb_same, eqb_self}
-use Rattle.lgm_graph.proofs.Showing.{All-test, All_append}
-
--- channels of other ids stay
-channel_put : (channels : List ChannelRow) (row : ChannelRow) (id : ℕ) → eqb row.message.short_channel_id id
-    ≡ false → channel_of (put by_id channels row) id ≡ channel_of channels id
-channel_put channels row id other = by (nat_cmp id row.message.short_channel_id) refl
-  where
-    p : ChannelRow → Bool
-    p = λ x. eqb x.message.short_channel_id id
-
-    order : (x : ChannelRow) → p x ≡ true → by_id x row ≡ nat_cmp id row.message.short_channel_id
-    order x is = ap (λ n. nat_cmp n row.message.short_channel_id) (eqb_same x.message.short_channel_id id is)
-
-    by : (o : Ordering) → nat_cmp id row.message.short_channel_id ≡ o → channel_of (put by_id channels row) id ≡ channel_of channels id
-    by Less e = find_front p (filter (λ x. is_lt (by_id x row)) channels) (row ∷ filter (λ x. is_gt (by_id x row)) channels)
-        (rw other (find_gone p (λ x. is_gt (by_id x row)) (λ x is. ap is_gt (order x is ∙ e)) channels))
-        ∙ find_kept p (λ x. is_lt (by_id x row)) (λ x is. ap is_lt (order x is ∙ e)) channels
-    by Equal e = absurd (true≢false (sym (eqb_self row.message.short_channel_id id (sym (same_id id row.message.short_channel_id e))) ∙ other))
-    by Greater e = find_back p (filter (λ x. is_lt (by_id x row)) channels) (row ∷ filter (λ x. is_gt (by_id x row)) channels)
-        (find_gone p (λ x. is_lt (by_id x row)) (λ x is. ap is_lt (order x is ∙ e)) channels)
-        ∙ rw other (find_kept p (λ x. is_gt (by_id x row)) (λ x is. ap is_gt (order x is ∙ e)) channels)
+use Rattle.lgm_graph.proofs.Keeping.{filter_map-agree}
 
 either_false : (a b : Bool) → (a || b) ≡ false → a ≡ false
 either_false true b e = absurd cc
@@ -57,13 +37,13 @@ module _ (known : Option (List ℕ)) (rows : Rows) (row : ChannelRow) (lawful : 
           → edge_in (put by_id rows.channels row) u ≡ edge_in rows.channels u
       each new u held =
           ap (λ (o : Option ChannelRow). option_and_then (λ c. edge_on c u) o)
-          (channel_put rows.channels row u.message.short_channel_id
+          (channel_of-put u.message.short_channel_id rows.channels row
           (which (eqb row.message.short_channel_id u.message.short_channel_id) refl))
         where
           which : (b : Bool) → eqb row.message.short_channel_id u.message.short_channel_id ≡ b
               → eqb row.message.short_channel_id u.message.short_channel_id ≡ false
           which true f =
-              let same = eqb_same row.message.short_channel_id u.message.short_channel_id f in
+              let same = eqb-true row.message.short_channel_id u.message.short_channel_id f in
               let there : is_some (channel_of rows.channels row.message.short_channel_id) ≡ true =
               ap (λ id. is_some (channel_of rows.channels id)) same ∙ held in
               absurd (true≢false (sym there ∙ either_false (is_some
@@ -75,7 +55,7 @@ module _ (known : Option (List ℕ)) (rows : Rows) (row : ChannelRow) (lawful : 
       by true e = rw e refl
       by false e =
           rw e (filter_map-agree (edge_in (put by_id rows.channels row)) (edge_in rows.channels) rows.updates
-          (All_to _ _ rows.updates (each e) lawful.held))
+          (All-to _ _ rows.updates (each e) lawful.held))
 
   pub nodes_added : (with_channel rows row).nodes ≡ rows.nodes
   nodes_added = by (is_some (channel_of rows.channels row.message.short_channel_id) || ends_banned rows.banned row) refl
@@ -91,8 +71,8 @@ module _ (known : Option (List ℕ)) (rows : Rows) (row : ChannelRow) (lawful : 
       by : (b : Bool) → (is_some (channel_of rows.channels row.message.short_channel_id)
           || ends_banned rows.banned row) ≡ b → AllByRecursion P (with_channel rows row).channels
       by true e = rw e all
-      by false e = rw e (All_append P (filter (λ x. is_lt (by_id x row)) rows.channels) (row ∷ filter (λ x. is_gt (by_id x row)) rows.channels)
-          (All-test P (λ x. is_lt (by_id x row)) rows.channels all) (own, All-test P (λ x. is_gt (by_id x row)) rows.channels all))
+      by false e = rw e (All-append P (filter (λ x. is_lt (by_id x row)) rows.channels) (row ∷ filter (λ x. is_gt (by_id x row)) rows.channels)
+          (All-filter P (λ x. is_lt (by_id x row)) rows.channels all) (own, All-filter P (λ x. is_gt (by_id x row)) rows.channels all))
 
   -- the view, where both ends are numbered
   pub node_added : (after : Rows) → after ≡ with_channel rows row → (old new : Nodes)
@@ -102,7 +82,7 @@ module _ (known : Option (List ℕ)) (rows : Rows) (row : ChannelRow) (lawful : 
       → IsGraphOf after (graph_in known new)
   node_added after is old new graph keeps first second looked shows = record {
     ends = rw is (ends_added (λ c. IsNumbered new.points.keys c.message.node_id_1 × IsNumbered new.points.keys c.message.node_id_2)
-        (All_to _ _ rows.channels (λ c both.
+        (All-to _ _ rows.channels (λ c both.
         ((keeps c.message.node_id_1 both.0).1, (keeps c.message.node_id_2 both.1).1)) graph.ends)
         (first, second));
     takes = looked;

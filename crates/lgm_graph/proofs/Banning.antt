@@ -3,6 +3,7 @@ use Rattle.std.proofs.Common.{◌≡◌, ℕ, ◌<◌, Bool, true, false, cond, 
 use Rattle.std.proofs.Common.{get_or, zero, suc, refl, sym, ap, ◌∙◌, Option, Some, None, arith, is_some}
 use Rattle.std.specs.Option.{option_and_then, option_map_or}
 use Rattle.std.specs.List.{AllByRecursion, filter, slice_get}
+use Rattle.std.proofs.Math.Bool.{or_comm}
 use Rattle.lgm_wire.specs.declared.point.Point.{Point}
 use Rattle.lgm_check.specs.declared.row.ChannelRow.{ChannelRow}
 use Rattle.lgm_check.specs.declared.row.UpdateRow.{UpdateRow}
@@ -15,9 +16,10 @@ use Rattle.lgm_graph.specs.Edges.{edge_of, edge_on, edge_in, end_of, carrying}
 use Rattle.lgm_graph.specs.Graph.{IsGraphOf, IsNumbered, IsJoined, number_of, link_of, links_by}
 use Rattle.lgm_graph.specs.inner.Sound.{graph_in, links_in, AreLookedAt, banned_at, is_allowed}
 use Rattle.lgm_graph.proofs.Numbers.{get_number}
-use Rattle.lgm_graph.proofs.Carrying.{All_to, filter_map-filter, edge_in-some}
-use Rattle.lgm_graph.proofs.Keeping.{filter_map-agree, filter_passes, found_filter, none_filter, links_keep}
-use Rattle.lgm_graph.proofs.Showing.{All-test, links_at}
+use Rattle.lgm_graph.proofs.Carrying.{filter_map-filter, edge_in-some}
+use Rattle.lgm_graph.proofs.Keeping.{filter_map-agree, found_filter, none_filter, links_keep}
+use Rattle.lgm_graph.proofs.Showing.{links_at}
+use Rattle.lgm_store.proofs.ListLaws.{All-filter, All-to, filter-passes}
 
 get_at : {X : Type 0} (xs : List X) (n : ℕ) (d : X) → n < length xs → slice_get xs n ≡ Some (get_or xs n d)
 get_at [] n d lt = absurd (omega (arith, lt))
@@ -30,17 +32,11 @@ banned_number points banned p there =
     let found : slice_get points (number_of points p) ≡ Some p = get_at points (number_of points p) p there ∙ ap Some (get_number points p p there) in
     ap (λ (o : Option Point). option_map_or (is_banned banned) o false) found
 
-or_turned : (a b : Bool) → (a || b) ≡ (b || a)
-or_turned true true = refl
-or_turned true false = refl
-or_turned false true = refl
-or_turned false false = refl
-
 -- whether a link stays, as its edge says
 pub banned_tests : (banned points : List Point) (edges : List Edge) → AllByRecursion (IsJoined points) edges
     → AllByRecursion (λ e. is_allowed points banned (link_of points e) ≡ not (is_banned banned e.from || is_banned banned e.to)) edges
 banned_tests banned points edges joined =
-    All_to (IsJoined points) (λ e. is_allowed points banned (link_of points e)
+    All-to (IsJoined points) (λ e. is_allowed points banned (link_of points e)
     ≡ not (is_banned banned e.from || is_banned banned e.to)) edges
     (λ e both. rw (banned_number points banned e.from both.0, banned_number points banned e.to both.1) refl) joined
 
@@ -86,7 +82,7 @@ module _ (known : Option (List ℕ)) (rows : Rows) (banned : List Point) (lawful
     where
       turn : (channel : ChannelRow) (b : Bool) → (is_banned banned (end_of channel b)
           || is_banned banned (end_of channel (not b))) ≡ ends_banned banned channel
-      turn channel true = or_turned (is_banned banned channel.message.node_id_2) (is_banned banned channel.message.node_id_1)
+      turn channel true = or_comm (is_banned banned channel.message.node_id_2) (is_banned banned channel.message.node_id_1)
       turn channel false = refl
 
       some_of : (channel : ChannelRow) (b : Bool) → not b ≡ not (is_some (cond b (Some channel) None))
@@ -97,8 +93,8 @@ module _ (known : Option (List ℕ)) (rows : Rows) (banned : List Point) (lawful
   carrying_banned =
       filter_map-agree (edge_in (allowed_channels banned rows.channels)) (edge_in rows.channels)
       (updates_beside (banned_channels banned rows.channels) rows.updates)
-      (All_to _ _ (updates_beside (banned_channels banned rows.channels) rows.updates) agree
-      (filter_passes (λ row. not (is_some (channel_of (banned_channels banned rows.channels) row.message.short_channel_id))) rows.updates))
+      (All-to _ _ (updates_beside (banned_channels banned rows.channels) rows.updates) agree
+      (filter-passes (λ row. not (is_some (channel_of (banned_channels banned rows.channels) row.message.short_channel_id))) rows.updates))
       ∙ filter_map-filter (edge_in rows.channels)
       (λ row. not (is_some (channel_of (banned_channels banned rows.channels) row.message.short_channel_id)))
       (λ e. not (is_banned banned e.from || is_banned banned e.to)) same rows.updates
@@ -128,11 +124,11 @@ module _ (known : Option (List ℕ)) (rows : Rows) (banned : List Point) (lawful
       → new.points.keys ≡ mid.points.keys → new.into.items ≡ mid.into.items → new.out.items ≡ mid.out.items → AreLookedAt known after.nodes new
       → IsGraphOf after (graph_in known new)
   node_banned after is old mid new graph points into out points_new into_new out_new looked = record {
-    ends = rw (is, points_new, points) (All-test _ (λ c. not (ends_banned banned c)) rows.channels graph.ends);
+    ends = rw (is, points_new, points) (All-filter _ (λ c. not (ends_banned banned c)) rows.channels graph.ends);
     takes = looked;
     shows = record {
       joined =
-          rw (is, points_new, points, carrying_banned) (All-test (IsJoined old.points.keys)
+          rw (is, points_new, points, carrying_banned) (All-filter (IsJoined old.points.keys)
           (λ e. not (is_banned banned e.from || is_banned banned e.to)) (carrying rows) graph.shows.joined);
       into_is =
           ap (map links_in) into_new ∙ into

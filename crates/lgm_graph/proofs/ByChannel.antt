@@ -12,11 +12,12 @@ use Rattle.std.proofs.lemmas.Bool.Decides.{nat_tests}
 use Rattle.lgm_check.specs.declared.row.ChannelRow.{ChannelRow}
 use Rattle.lgm_check.specs.declared.row.UpdateRow.{UpdateRow}
 use Rattle.lgm_store.specs.Rows.{is_second, by_id, by_direction, channel_of, update_of}
+use Rattle.lgm_store.proofs.ListLaws.{All-to}
 use Rattle.lgm_store.proofs.Lists.{same_id}
 use Rattle.lgm_graph.specs.declared.edge.Edge.{Edge}
 use Rattle.lgm_graph.specs.Edges.{edge_on, edge_in}
 use Rattle.lgm_graph.specs.inner.Walk.{edges_of_channel}
-use Rattle.lgm_graph.proofs.Carrying.{All_to}
+use Rattle.lgm_graph.proofs.Keeping.{less_lt, eqb_self}
 
 abbrev id_of : UpdateRow → ℕ
 id_of row = row.message.short_channel_id
@@ -24,14 +25,8 @@ id_of row = row.message.short_channel_id
 abbrev name_of : ChannelRow → ℕ
 name_of channel = channel.message.short_channel_id
 
-less_is : (a b : ℕ) → nat_cmp a b ≡ Less → a < b
-less_is a b e = grind (arith, nat_tests)
-
 not_eqb : (a b : ℕ) → a ≢ b → eqb a b ≡ false
 not_eqb a b ne = grind (arith, nat_tests)
-
-is_eqb : (a b : ℕ) → a ≡ b → eqb a b ≡ true
-is_eqb a b e = grind (arith, nat_tests)
 
 -- an update below another is of a lesser channel, or of the first direction beside the second one
 below : (row other : UpdateRow) → by_direction row other ≡ Less → (id_of row < id_of other)
@@ -46,7 +41,7 @@ below row other e = by (nat_cmp (id_of row) (id_of other)) refl e
 
     by : (o : Ordering) → nat_cmp (id_of row) (id_of other) ≡ o → ordering_then o (bool_cmp (is_second row) (is_second other)) ≡ Less
         → (id_of row < id_of other) ⊎ ((id_of row ≡ id_of other) × (is_second row ≡ false) × (is_second other ≡ true))
-    by Less is e = inl (less_is (id_of row) (id_of other) is)
+    by Less is e = inl (less_lt (id_of row) (id_of other) is)
     by Equal is e = let both = second (is_second row) (is_second other) e in inr (same_id (id_of row) (id_of other) is, both.0, both.1)
     by Greater is e = absurd cc
 
@@ -65,7 +60,7 @@ other_id id second row ne = rw (not_eqb (id_of row) id ne) refl
 module _ (row : UpdateRow) (rows : List UpdateRow) (first : AllByRecursion (λ other. by_direction row other ≡ Less) rows) where
   -- no other update of its direction, and none of the first one beside the second
   own_none : update_of rows (id_of row) (is_second row) ≡ None
-  own_none = find_none (id_of row) (is_second row) rows (All_to _ _ rows (λ other less. by other (below row other less)) first)
+  own_none = find_none (id_of row) (is_second row) rows (All-to _ _ rows (λ other less. by other (below row other less)) first)
     where
       apart : (a b : Bool) → a ≡ false → b ≡ true → beq b a ≡ false
       apart false true e f = refl
@@ -76,10 +71,10 @@ module _ (row : UpdateRow) (rows : List UpdateRow) (first : AllByRecursion (λ o
           ⊎ ((id_of row ≡ id_of other) × (is_second row ≡ false) × (is_second other ≡ true))
           → is_of (id_of row) (is_second row) other ≡ false
       by other (inl lt) = other_id (id_of row) (is_second row) other (λ e. omega (arith, lt, e))
-      by other (inr same) = rw (is_eqb (id_of other) (id_of row) (sym same.0)) (apart (is_second row) (is_second other) same.1 same.2)
+      by other (inr same) = rw (eqb_self (id_of other) (id_of row) (sym same.0)) (apart (is_second row) (is_second other) same.1 same.2)
 
   first_none : is_second row ≡ true → update_of rows (id_of row) false ≡ None
-  first_none is = find_none (id_of row) false rows (All_to _ _ rows (λ other less. by other (below row other less)) first)
+  first_none is = find_none (id_of row) false rows (All-to _ _ rows (λ other less. by other (below row other less)) first)
     where
       by : (other : UpdateRow) → (id_of row < id_of other) ⊎ ((id_of row ≡ id_of other)
           × (is_second row ≡ false) × (is_second other ≡ true)) → is_of (id_of row) false other ≡ false
@@ -87,7 +82,7 @@ module _ (row : UpdateRow) (rows : List UpdateRow) (first : AllByRecursion (λ o
       by other (inr same) = absurd (true≢false (sym is ∙ same.1))
 
   lesser_none : (id : ℕ) (second : Bool) → id < id_of row → update_of rows id second ≡ None
-  lesser_none id second lt = find_none id second rows (All_to _ _ rows (λ other less. by other (below row other less)) first)
+  lesser_none id second lt = find_none id second rows (All-to _ _ rows (λ other less. by other (below row other less)) first)
     where
       by : (other : UpdateRow) → (id_of row < id_of other) ⊎ ((id_of row ≡ id_of other)
           × (is_second row ≡ false) × (is_second other ≡ true)) → is_of id second other ≡ false
@@ -118,12 +113,12 @@ module _ (row : UpdateRow) (rows : List UpdateRow) (first : AllByRecursion (λ o
 
       by : (b : Bool) → is_second row ≡ b → (o : Option Edge) → edge_on channel row ≡ o → edges_of_channel
           (row ∷ rows) channel ≡ cons_option (edge_on channel row) (edges_of_channel rows channel)
-      by false b None is = rw (is_eqb (id_of row) (name_of channel) same, b, is, ap (update_of rows (name_of channel)) (sym b) ∙ none) refl
-      by false b (Some edge) is = rw (is_eqb (id_of row) (name_of channel) same, b, is, ap (update_of rows (name_of channel)) (sym b) ∙ none) refl
-      by true b None is = rw (is_eqb (id_of row) (name_of channel) same, b, is, gone b, ap (update_of rows (name_of channel)) (sym b) ∙ none) refl
+      by false b None is = rw (eqb_self (id_of row) (name_of channel) same, b, is, ap (update_of rows (name_of channel)) (sym b) ∙ none) refl
+      by false b (Some edge) is = rw (eqb_self (id_of row) (name_of channel) same, b, is, ap (update_of rows (name_of channel)) (sym b) ∙ none) refl
+      by true b None is = rw (eqb_self (id_of row) (name_of channel) same, b, is, gone b, ap (update_of rows (name_of channel)) (sym b) ∙ none) refl
       by true b (Some edge) is =
           rw (
-            is_eqb (id_of row) (name_of channel) same,
+            eqb_self (id_of row) (name_of channel) same,
             b,
             is,
             gone b,
@@ -149,24 +144,24 @@ front row rows first [] sorted = refl
 front row rows first (channel ∷ channels) sorted = by (front row rows first channels sorted.1) (nat_cmp (id_of row) (name_of channel)) refl
   where
     above : AllByRecursion (λ other. name_of channel < name_of other) channels
-    above = All_to _ _ channels (λ other less. less_is (name_of channel) (name_of other) less) sorted.0
+    above = All-to _ _ channels (λ other less. less_lt (name_of channel) (name_of other) less) sorted.0
 
     by : flat_map (edges_of_channel (row ∷ rows)) channels ≡ cons_option (edge_in channels row) (flat_map (edges_of_channel rows) channels)
         → (o : Ordering) → nat_cmp (id_of row) (name_of channel) ≡ o
         → edges_of_channel (row ∷ rows) channel ++ flat_map (edges_of_channel (row ∷ rows)) channels
         ≡ cons_option (edge_in (channel ∷ channels) row) (edges_of_channel rows channel ++ flat_map (edges_of_channel rows) channels)
     by others Less is =
-        let lt = less_is (id_of row) (name_of channel) is in
+        let lt = less_lt (id_of row) (name_of channel) is in
         let all : AllByRecursion (λ other. id_of row < name_of other) (channel ∷ channels) =
-        (lt, All_to _ _ channels (λ other more. omega (arith, lt, more)) above) in
+        (lt, All-to _ _ channels (λ other more. omega (arith, lt, more)) above) in
         other_channels row rows first (channel ∷ channels) all
         ∙ sym (ap (λ (o : Option ChannelRow). cons_option (option_and_then (λ c. edge_on c row) o)
         (edges_of_channel rows channel ++ flat_map (edges_of_channel rows) channels))
         (channel_none (channel ∷ channels) (id_of row) all))
     by others Equal is =
         let same = same_id (id_of row) (name_of channel) is in
-        let rest = other_channels row rows first channels (All_to _ _ channels (λ other more. omega (arith, same, more)) above) in
-        rw (own_channel row rows first channel same, rest, is_eqb (name_of channel) (id_of row) (sym same))
+        let rest = other_channels row rows first channels (All-to _ _ channels (λ other more. omega (arith, same, more)) above) in
+        rw (own_channel row rows first channel same, rest, eqb_self (name_of channel) (id_of row) (sym same))
         (joined (edge_on channel row) (edges_of_channel rows channel)
         (flat_map (edges_of_channel rows) channels))
     by others Greater is =

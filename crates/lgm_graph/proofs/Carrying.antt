@@ -10,12 +10,13 @@ use Rattle.std.specs.declared.cmp.Ordering.TheVariants.{Less, Equal, Greater}
 use Rattle.std.specs.Ordering.{is_lt, is_gt}
 use Rattle.std.proofs.lemmas.List.Elements.{filter-append, filter_map-append}
 use Rattle.std.proofs.lemmas.Cmp.{on_total}
+use Rattle.std.proofs.lemmas.List.{append-nil}
 use Rattle.lgm_check.specs.declared.row.ChannelRow.{ChannelRow}
 use Rattle.lgm_check.specs.declared.row.UpdateRow.{UpdateRow}
 use Rattle.lgm_store.specs.Rows.{is_second, put, by_direction, channel_of}
 use Rattle.lgm_store.specs.inner.Sound.{direction_of}
+use Rattle.lgm_store.proofs.ListLaws.{All-filter, All-to, filter-swap}
 use Rattle.lgm_store.proofs.Lists.{direction_total}
-use Rattle.lgm_store.proofs.Ordered.{filter-same, filter-filter}
 use Rattle.lgm_graph.specs.declared.edge.Edge.{Edge}
 use Rattle.lgm_graph.specs.Edges.{can_carry, edge_of, edge_on, edge_in, end_of}
 use Rattle.lgm_graph.proofs.Cuts.{none_below, all_above}
@@ -43,14 +44,6 @@ module _ {X : Type 0} (f : X → Ordering) where
   cut_above [] all = tt
   cut_above (x ∷ xs) all = inr ((λ e. let l : f x ≡ Less = e in let m : f x ≡ Greater = all.0 in absurd cc), all.1)
 
-  pub All-filter : (P : X → Type 0) (p : X → Bool) (xs : List X) → AllByRecursion P xs → AllByRecursion P (filter p xs)
-  All-filter P p [] all = tt
-  All-filter P p (x ∷ xs) all = by (All-filter P p xs all.1) (p x) refl
-    where
-      by : AllByRecursion P (filter p xs) → (b : Bool) → p x ≡ b → AllByRecursion P (cond (p x) (x ∷ filter p xs) (filter p xs))
-      by others true is = rw is (all.0, others)
-      by others false is = rw is others
-
   -- what passes a test is in order too
   pub IsCut-filter : (p : X → Bool) (xs : List X) → IsCut f xs → IsCut f (filter p xs)
   IsCut-filter p [] cut = tt
@@ -64,20 +57,6 @@ module _ {X : Type 0} (f : X → Ordering) where
       by others false is (inl below) = rw is (others below.1)
       by others false is (inr above) = rw is (cut_above (filter p xs) (All-filter (λ y. f y ≡ Greater) p xs above.1))
 
-  -- two tests in either order
-  filter-swap : (p q : X → Bool) (xs : List X) → filter p (filter q xs) ≡ filter q (filter p xs)
-  filter-swap p q xs = filter-filter q p xs ∙ filter-same _ _ (λ x. both (q x) (p x)) xs ∙ sym (filter-filter p q xs)
-    where
-      both : (a b : Bool) → (a && b) ≡ (b && a)
-      both true true = refl
-      both true false = refl
-      both false true = refl
-      both false false = refl
-
-  append-none : (ys : List X) → ys ++ [] ≡ ys
-  append-none [] = refl
-  append-none (y ∷ ys) = ap (λ l. y ∷ l) (append-none ys)
-
   parts_whole : (xs : List X) → IsCut f xs → AllByRecursion (λ x. f x ≢ Equal) xs → filter (λ x. is_lt (f x)) xs ++ filter (λ x. is_gt (f x)) xs ≡ xs
   parts_whole [] cut other = refl
   parts_whole (x ∷ xs) (inl below) other = let l : f x ≡ Less = below.0 in rw l (ap (λ l. x ∷ l) (parts_whole xs below.1 other.1))
@@ -90,7 +69,7 @@ module _ {X : Type 0} (f : X → Ordering) where
 
   -- no element is at the cut, so nothing goes
   pub put_at-none : (xs : List X) → IsCut f xs → AllByRecursion (λ x. f x ≢ Equal) xs → put_at f xs None ≡ xs
-  put_at-none xs cut other = rw (append-none (filter (λ x. is_lt (f x)) xs)) (parts_whole xs cut other)
+  put_at-none xs cut other = rw (append-nil (filter (λ x. is_lt (f x)) xs)) (parts_whole xs cut other)
 
 module _ {X Y : Type 0} (g : X → Option Y) (f : X → Ordering) (h : Y → Ordering) (same : (x : X) (y : Y) → g x ≡ Some y → h y ≡ f x) where
   all_through : (ys : List X) → AllByRecursion (λ y. f y ≡ Greater) ys → AllByRecursion (λ y. h y ≡ Greater) (filter_map g ys)
@@ -127,7 +106,7 @@ module _ {X Y : Type 0} (g : X → Option Y) (f : X → Ordering) (h : Y → Ord
     where
       by : (o : Option Y) → filter (λ y. is_lt (h y)) (filter_map g xs)
           ++ cons_option o (filter (λ y. is_gt (h y)) (filter_map g xs)) ≡ put_at h (filter_map g xs) o
-      by None = sym (ap (λ l. l ++ filter (λ y. is_gt (h y)) (filter_map g xs)) (append-none h (filter (λ y. is_lt (h y)) (filter_map g xs))))
+      by None = sym (ap (λ l. l ++ filter (λ y. is_gt (h y)) (filter_map g xs)) (append-nil (filter (λ y. is_lt (h y)) (filter_map g xs))))
       by (Some y) = sym (append_assoc (filter (λ y. is_lt (h y)) (filter_map g xs)) (y ∷ []) (filter (λ y. is_gt (h y)) (filter_map g xs)))
 
 -- an option, if it passes
@@ -142,8 +121,8 @@ module _ {X : Type 0} (f : X → Ordering) (p : X → Bool) where
       filter-append p (filter (λ x. is_lt (f x)) xs ++ option_to_list o) (filter (λ x. is_gt (f x)) xs)
       ∙ rw (
         filter-append p (filter (λ x. is_lt (f x)) xs) (option_to_list o),
-        filter-swap f p (λ x. is_lt (f x)) xs,
-        filter-swap f p (λ x. is_gt (f x)) xs,
+        filter-swap p (λ x. is_lt (f x)) xs,
+        filter-swap p (λ x. is_gt (f x)) xs,
         one o,
       ) refl
     where
@@ -154,11 +133,6 @@ module _ {X : Type 0} (f : X → Ordering) (p : X → Bool) where
           by : (b : Bool) → p x ≡ b → cond (p x) (x ∷ []) [] ≡ option_to_list (cond (p x) (Some x) None)
           by true e = rw e refl
           by false e = rw e refl
-
--- what holds of each, by another name
-pub All_to : {X : Type 0} (P Q : X → Type 0) (xs : List X) → ((x : X) → P x → Q x) → AllByRecursion P xs → AllByRecursion Q xs
-All_to P Q [] to all = tt
-All_to P Q (x ∷ xs) to all = (to x all.0, All_to P Q xs to all.1)
 
 -- along a list in order the answers of one element are cut
 cut_sorted : {X : Type 0} (c : X → X → Ordering) → IsTotalOrder c → (k : X) (xs : List X) → IsStrictlySortedBy c xs → IsCut (λ x. c x k) xs
@@ -174,8 +148,8 @@ cut_sorted c total k (x ∷ xs) sorted = by (cut_sorted c total k xs sorted.1) (
 
     by : IsCut (λ x. c x k) xs → (o : Ordering) → c x k ≡ o → IsCut (λ x. c x k) (x ∷ xs)
     by others Less e = inl (e, others)
-    by others Equal e = inr ((λ l. let m : c x k ≡ Less = l in absurd cc), All_to _ _ xs (above Equal e (λ never. absurd cc)) sorted.0)
-    by others Greater e = inr ((λ l. let m : c x k ≡ Less = l in absurd cc), All_to _ _ xs (above Greater e (λ never. absurd cc)) sorted.0)
+    by others Equal e = inr ((λ l. let m : c x k ≡ Less = l in absurd cc), All-to _ _ xs (above Equal e (λ never. absurd cc)) sorted.0)
+    by others Greater e = inr ((λ l. let m : c x k ≡ Less = l in absurd cc), All-to _ _ xs (above Greater e (λ never. absurd cc)) sorted.0)
 
 -- ---- edges of rows
 

@@ -9,8 +9,10 @@ use Rattle.lgm_check.specs.declared.row.NodeRow.{NodeRow}
 use Rattle.lgm_store.specs.Rows.{Rows, is_point, channel_of, ends_at, ends_channel}
 use Rattle.lgm_store.specs.History.{without_channel, channels_without, updates_without, ended_nodes, without_held}
 use Rattle.lgm_store.specs.Laws.{IsLawful}
+use Rattle.lgm_store.proofs.ListLaws.{All-each, All-filter, All-to, any-kept, filter-all, filter-passes, filter-swap, filter-twice, find-kept}
 use Rattle.lgm_store.proofs.Points.{same_point, is_point-self}
 use Rattle.std.specs.Option.{option_and_then, option_map_or}
+use Rattle.std.proofs.lemmas.Bool.{eqb-true}
 use Rattle.lgm_graph.specs.Known.{allows}
 use Rattle.lgm_graph.specs.declared.edge.Edge.{Edge}
 use Rattle.lgm_graph.specs.declared.link.Link.{Link}
@@ -18,10 +20,9 @@ use Rattle.lgm_graph.specs.declared.nodes.Nodes.{Nodes}
 use Rattle.lgm_graph.specs.Edges.{edge_of, edge_on, edge_in, end_of, carrying, takes_payments}
 use Rattle.lgm_graph.specs.Graph.{IsGraphOf, IsJoined, link_of}
 use Rattle.lgm_graph.specs.inner.Sound.{graph_in, AreInto, AreOut, AreFlags, is_not_of, closed_at}
-use Rattle.lgm_graph.proofs.Carrying.{All_to, filter_map-filter, IsOfChannel, carrying_of, edge_in-some}
-use Rattle.lgm_graph.proofs.Showing.{All-test, passing, links_at}
-use Rattle.lgm_graph.proofs.Keeping.{filter_all, filter_passes, filter_twice, filter_swap, find_stays, any_stays}
-use Rattle.lgm_graph.proofs.Keeping.{filter_map-agree, All_of, one_channel, links_keep, eqb_same}
+use Rattle.lgm_graph.proofs.Carrying.{filter_map-filter, IsOfChannel, carrying_of, edge_in-some}
+use Rattle.lgm_graph.proofs.Showing.{passing, links_at}
+use Rattle.lgm_graph.proofs.Keeping.{filter_map-agree, one_channel, links_keep}
 
 -- ---- links
 
@@ -35,7 +36,7 @@ both_closed end points edges id first second ends q = by (is_point second q) ref
     keep = λ e. not (eqb e.scid id)
 
     kept : filter (is_not_of id) (links_at end points edges q) ≡ links_at end points (filter (λ e. not (eqb e.scid id)) edges) q
-    kept = links_keep end points (λ e. not (eqb e.scid id)) (is_not_of id) edges q (All_of _ edges (λ e. refl))
+    kept = links_keep end points (λ e. not (eqb e.scid id)) (is_not_of id) edges q (All-each _ edges (λ e. refl))
 
     apart : is_point second q ≡ false → is_point first q ≡ false → (e : Edge) → (e.scid ≡ id
         → (end e ≡ first) ⊎ (end e ≡ second)) × (is_point q (end e) ≡ true) → not (eqb e.scid id) ≡ true
@@ -52,17 +53,17 @@ both_closed end points edges id first second ends q = by (is_point second q) ref
             true≢false (sym same ∙ other)
 
         which : (b : Bool) → eqb e.scid id ≡ b → not (eqb e.scid id) ≡ true
-        which true f = absurd (never (both.0 (eqb_same e.scid id f)))
+        which true f = absurd (never (both.0 (eqb-true e.scid id f)))
         which false f = rw f refl
 
     by : (b : Bool) → is_point second q ≡ b → (c : Bool) → is_point first q ≡ c
         → closed_at second id (closed_at first id (links_at end points edges)) q ≡ links_at end points (filter (λ e. not (eqb e.scid id)) edges) q
-    by true e true f = rw (e, f) (filter_twice (is_not_of id) (links_at end points edges q) ∙ kept)
+    by true e true f = rw (e, f) (filter-twice (is_not_of id) (links_at end points edges q) ∙ kept)
     by true e false f = rw (e, f) kept
     by false e true f = rw (e, f) kept
-    by false e false f = rw (e, f) (ap (map (link_of points)) (sym (filter_swap (λ d. is_point q (end d)) (λ d. not (eqb d.scid id)) edges
-        ∙ filter_all (λ d. not (eqb d.scid id)) (filter (λ d. is_point q (end d)) edges)
-        (All_to _ _ (filter (λ d. is_point q (end d)) edges) (apart e f) (passing
+    by false e false f = rw (e, f) (ap (map (link_of points)) (sym (filter-swap (λ d. is_point q (end d)) (λ d. not (eqb d.scid id)) edges
+        ∙ filter-all (λ d. not (eqb d.scid id)) (filter (λ d. is_point q (end d)) edges)
+        (All-to _ _ (filter (λ d. is_point q (end d)) edges) (apart e f) (passing
         (λ d. d.scid ≡ id → (end d ≡ first) ⊎ (end d ≡ second)) (λ d. is_point q (end d)) edges ends)))))
 
 pub lists_alike : (F G : Point → List Link) (points : List Point) → ((q : Point) → F q ≡ G q) → map F points ≡ map G points
@@ -85,14 +86,14 @@ module _ (known : Option (List ℕ)) (rows : Rows) (id : ℕ) (channel : Channel
       → edge_in (channels_without rows.channels id) row ≡ edge_in rows.channels row
   other_channel row other =
       ap (λ (o : Option ChannelRow). edge_of_found o)
-      (find_stays (λ c. eqb c.message.short_channel_id row.message.short_channel_id)
-      (λ c. not (eqb c.message.short_channel_id id)) rows.channels (All_of _ rows.channels each))
+      (find-kept (λ c. eqb c.message.short_channel_id row.message.short_channel_id)
+      (λ c. not (eqb c.message.short_channel_id id)) rows.channels (All-each _ rows.channels each))
     where
       edge_of_found : Option ChannelRow → Option Edge
       edge_of_found = λ o. option_and_then (λ c. edge_on c row) o
 
       each : (c : ChannelRow) → eqb c.message.short_channel_id row.message.short_channel_id ≡ true → not (eqb c.message.short_channel_id id) ≡ true
-      each c e = ap (λ n. not (eqb n id)) (eqb_same c.message.short_channel_id row.message.short_channel_id e) ∙ other
+      each c e = ap (λ n. not (eqb n id)) (eqb-true c.message.short_channel_id row.message.short_channel_id e) ∙ other
 
   own_id : (row : UpdateRow) (edge : Edge) → edge_in rows.channels row ≡ Some edge
       → not (eqb edge.scid id) ≡ not (eqb row.message.short_channel_id id)
@@ -102,7 +103,7 @@ module _ (known : Option (List ℕ)) (rows : Rows) (id : ℕ) (channel : Channel
   pub carrying_closed : carrying (without_channel rows id) ≡ filter (λ e. not (eqb e.scid id)) (carrying rows)
   carrying_closed = ap carrying closed
       ∙ filter_map-agree (edge_in (channels_without rows.channels id)) (edge_in rows.channels) (updates_without rows.updates id)
-      (All_to _ _ (updates_without rows.updates id) other_channel (filter_passes (λ row. not (eqb row.message.short_channel_id id)) rows.updates))
+      (All-to _ _ (updates_without rows.updates id) other_channel (filter-passes (λ row. not (eqb row.message.short_channel_id id)) rows.updates))
       ∙ filter_map-filter (edge_in rows.channels) (λ row. not (eqb row.message.short_channel_id id)) (λ e. not (eqb e.scid id)) own_id rows.updates
 
   -- the channel's edges end at its ends
@@ -119,26 +120,26 @@ module _ (known : Option (List ℕ)) (rows : Rows) (id : ℕ) (channel : Channel
   either false p is = inl is
 
   all_from : AllByRecursion (λ e. e.scid ≡ id → (e.from ≡ first) ⊎ (e.from ≡ second)) (carrying rows)
-  all_from = All_to (IsOfChannel rows.channels) (λ e. e.scid ≡ id → (e.from ≡ first) ⊎ (e.from ≡ second)) (carrying rows)
+  all_from = All-to (IsOfChannel rows.channels) (λ e. e.scid ≡ id → (e.from ≡ first) ⊎ (e.from ≡ second)) (carrying rows)
       (λ e of same. either e.second e.from (of_id e of same).0) (carrying_of rows.channels rows.updates)
 
   all_to : AllByRecursion (λ e. e.scid ≡ id → (e.to ≡ first) ⊎ (e.to ≡ second)) (carrying rows)
-  all_to = All_to (IsOfChannel rows.channels) (λ e. e.scid ≡ id → (e.to ≡ first) ⊎ (e.to ≡ second)) (carrying rows)
+  all_to = All-to (IsOfChannel rows.channels) (λ e. e.scid ≡ id → (e.to ≡ first) ⊎ (e.to ≡ second)) (carrying rows)
       (λ e of same. either (not e.second) e.to (of_id e of same).1) (carrying_of rows.channels rows.updates)
 
   -- ---- nodes
 
   still_ended : (q : Point) → is_point first q ≡ false → is_point second q ≡ false
       → ends_channel (channels_without rows.channels id) q ≡ ends_channel rows.channels q
-  still_ended q away other = any_stays (ends_at q) (λ c. not (eqb c.message.short_channel_id id)) rows.channels
-      (All_to _ _ rows.channels each (one_channel rows.channels id channel lawful.ascend.channels held))
+  still_ended q away other = any-kept (ends_at q) (λ c. not (eqb c.message.short_channel_id id)) rows.channels
+      (All-to _ _ rows.channels each (one_channel rows.channels id channel lawful.ascend.channels held))
     where
       each : (c : ChannelRow) → (c.message.short_channel_id ≡ id → c ≡ channel) → ends_at q c ≡ true → not (eqb c.message.short_channel_id id) ≡ true
       each c one at = which (eqb c.message.short_channel_id id) refl
         where
           which : (b : Bool) → eqb c.message.short_channel_id id ≡ b → not (eqb c.message.short_channel_id id) ≡ true
           which true f =
-              let own : c ≡ channel = one (eqb_same c.message.short_channel_id id f) in
+              let own : c ≡ channel = one (eqb-true c.message.short_channel_id id f) in
               let never : ends_at q channel ≡ true = ap (ends_at q) (sym own) ∙ at in
               let none : (false || false) ≡ true = rw (away, other) at never in
               absurd cc
@@ -148,8 +149,8 @@ module _ (known : Option (List ℕ)) (rows : Rows) (id : ℕ) (channel : Channel
       → takes_payments known (without_channel rows id).nodes q ≡ takes_payments known rows.nodes q
   other_node q away other =
       ap (λ (r : Rows). takes_payments known r.nodes q) closed
-      ∙ ap taken (find_stays (λ row. is_point row.message.node_id q) (λ row. ends_channel (channels_without
-      rows.channels id) row.message.node_id) rows.nodes (All_to _ _ rows.nodes each lawful.ended))
+      ∙ ap taken (find-kept (λ row. is_point row.message.node_id q) (λ row. ends_channel (channels_without
+      rows.channels id) row.message.node_id) rows.nodes (All-to _ _ rows.nodes each lawful.ended))
     where
       taken : Option NodeRow → Bool
       taken = λ o. option_map_or (λ (row : NodeRow). allows known row.message.features) o true
@@ -185,10 +186,10 @@ module _ (known : Option (List ℕ)) (rows : Rows) (id : ℕ) (channel : Channel
       then takes_payments known after.nodes q else takes_payments known rows.nodes q) new
       → IsGraphOf after (graph_in known new)
   node_closed after is old new one two one_is two_is graph points into out flags = rw is (record {
-    ends = rw (ap (λ (r : Rows). r.channels) closed, points) (All-test _ (λ c. not (eqb c.message.short_channel_id id)) rows.channels graph.ends);
+    ends = rw (ap (λ (r : Rows). r.channels) closed, points) (All-filter _ (λ c. not (eqb c.message.short_channel_id id)) rows.channels graph.ends);
     takes = flags ∙ rw (is, one_is, two_is, points) (ap (λ (f : Point → Bool). map f old.points.keys) (λ i q. looked q i));
     shows = record {
-      joined = rw (carrying_closed, points) (All-test (IsJoined old.points.keys) (λ e. not (eqb e.scid id)) (carrying rows) graph.shows.joined);
+      joined = rw (carrying_closed, points) (All-filter (IsJoined old.points.keys) (λ e. not (eqb e.scid id)) (carrying rows) graph.shows.joined);
       into_is =
           into ∙ rw (one_is, two_is, points, carrying_closed) (lists_alike _ _ old.points.keys
           (both_closed (λ e. e.to) old.points.keys (carrying rows) id first second all_to));

@@ -6,76 +6,15 @@ use Rattle.std.specs.List.Sorted.{IsStrictlySortedBy}
 use Rattle.std.specs.declared.cmp.Ordering.TheVariants.{Less}
 use Rattle.std.specs.Ordering.{nat_cmp}
 use Rattle.std.proofs.lemmas.Bool.Decides.{nat_tests}
+use Rattle.std.proofs.lemmas.Bool.{eqb-true}
 use Rattle.lgm_wire.specs.declared.point.Point.{Point}
 use Rattle.lgm_check.specs.declared.row.ChannelRow.{ChannelRow}
 use Rattle.lgm_store.specs.Rows.{is_point, by_id, channel_of}
-use Rattle.lgm_store.proofs.Ordered.{filter-filter, filter-same}
 use Rattle.lgm_graph.specs.declared.edge.Edge.{Edge}
 use Rattle.lgm_graph.specs.declared.link.Link.{Link}
 use Rattle.lgm_graph.specs.Graph.{link_of}
-use Rattle.lgm_graph.proofs.Carrying.{All_to}
 use Rattle.lgm_graph.proofs.Showing.{passing, filter-map, links_at}
-
-module _ {X : Type 0} where
-  -- all pass
-  pub filter_all : (p : X → Bool) (xs : List X) → AllByRecursion (λ x. p x ≡ true) xs → filter p xs ≡ xs
-  filter_all p [] all = refl
-  filter_all p (x ∷ xs) all = rw (all.0, filter_all p xs all.1) refl
-
-  pub filter_passes : (p : X → Bool) (xs : List X) → AllByRecursion (λ x. p x ≡ true) (filter p xs)
-  filter_passes p [] = tt
-  filter_passes p (x ∷ xs) = by (filter_passes p xs) (p x) refl
-    where
-      by : AllByRecursion (λ x. p x ≡ true) (filter p xs) → (b : Bool) → p x ≡ b
-          → AllByRecursion (λ x. p x ≡ true) (cond (p x) (x ∷ filter p xs) (filter p xs))
-      by others true e = rw e (e, others)
-      by others false e = rw e others
-
-  pub All_of : (P : X → Type 0) (xs : List X) → ((x : X) → P x) → AllByRecursion P xs
-  All_of P [] each = tt
-  All_of P (x ∷ xs) each = (each x, All_of P xs each)
-
-  -- tests that agree on each
-  pub filter_agree : (p q : X → Bool) (xs : List X) → AllByRecursion (λ x. p x ≡ q x) xs → filter p xs ≡ filter q xs
-  filter_agree p q [] all = refl
-  filter_agree p q (x ∷ xs) all = rw (all.0, filter_agree p q xs all.1) refl
-
-  pub filter_twice : (p : X → Bool) (xs : List X) → filter p (filter p xs) ≡ filter p xs
-  filter_twice p xs = filter-filter p p xs ∙ filter-same _ _ (λ x. both (p x)) xs
-    where
-      both : (b : Bool) → (b && b) ≡ b
-      both true = refl
-      both false = refl
-
-  pub filter_swap : (p q : X → Bool) (xs : List X) → filter p (filter q xs) ≡ filter q (filter p xs)
-  filter_swap p q xs = filter-filter q p xs ∙ filter-same _ _ (λ x. both (q x) (p x)) xs ∙ sym (filter-filter p q xs)
-    where
-      both : (a b : Bool) → (a && b) ≡ (b && a)
-      both true true = refl
-      both true false = refl
-      both false true = refl
-      both false false = refl
-
-  -- what is found stays, where all that would be found pass
-  pub find_stays : (p t : X → Bool) (xs : List X) → AllByRecursion (λ x. p x ≡ true → t x ≡ true) xs → find p (filter t xs) ≡ find p xs
-  find_stays p t [] all = refl
-  find_stays p t (x ∷ xs) all = by (find_stays p t xs all.1) (t x) refl (p x) refl
-    where
-      by : find p (filter t xs) ≡ find p xs → (b : Bool) → t x ≡ b → (c : Bool) → p x ≡ c
-          → find p (cond (t x) (x ∷ filter t xs) (filter t xs)) ≡ cond (p x) (Some x) (find p xs)
-      by others true e c f = rw e (ap (λ o. cond (p x) (Some x) o) others)
-      by others false e true f = absurd (true≢false (sym (all.0 f) ∙ e))
-      by others false e false f = rw (e, f) others
-
-  pub any_stays : (p t : X → Bool) (xs : List X) → AllByRecursion (λ x. p x ≡ true → t x ≡ true) xs → list_any p (filter t xs) ≡ list_any p xs
-  any_stays p t [] all = refl
-  any_stays p t (x ∷ xs) all = by (any_stays p t xs all.1) (t x) refl (p x) refl
-    where
-      by : list_any p (filter t xs) ≡ list_any p xs → (b : Bool) → t x ≡ b → (c : Bool) → p x ≡ c
-          → list_any p (cond (t x) (x ∷ filter t xs) (filter t xs)) ≡ (p x || list_any p xs)
-      by others true e c f = rw e (ap (λ o. p x || o) others)
-      by others false e true f = absurd (true≢false (sym (all.0 f) ∙ e))
-      by others false e false f = rw (e, f) others
+use Rattle.lgm_store.proofs.ListLaws.{All-to, filter-alike, filter-swap}
 
 module _ {X Y : Type 0} where
   pub filter_map-agree : (g h : X → Option Y) (xs : List X) → AllByRecursion (λ x. g x ≡ h x) xs → filter_map g xs ≡ filter_map h xs
@@ -84,11 +23,8 @@ module _ {X Y : Type 0} where
 
 -- ---- channels by id
 
-less_lt : (a b : ℕ) → nat_cmp a b ≡ Less → a < b
+pub less_lt : (a b : ℕ) → nat_cmp a b ≡ Less → a < b
 less_lt a b e = grind (arith, nat_tests)
-
-pub eqb_same : (a b : ℕ) → eqb a b ≡ true → a ≡ b
-eqb_same a b e = grind (arith, nat_tests)
 
 pub eqb_self : (a b : ℕ) → a ≡ b → eqb a b ≡ true
 eqb_self a b e = grind (arith, nat_tests)
@@ -118,9 +54,9 @@ one_channel (c ∷ cs) id channel sorted found = by (one_channel cs id channel s
     by others true e found =
         let h : Some c ≡ Some channel = rw e at found in
         let own : c ≡ channel = cc in
-        let same = eqb_same (name_of c) id e in (
+        let same = eqb-true (name_of c) id e in (
           λ is. own,
-          All_to (λ d. by_id c d ≡ Less) (λ d. name_of d ≡ id → d ≡ channel) cs (λ d less is. absurd
+          All-to (λ d. by_id c d ≡ Less) (λ d. name_of d ≡ id → d ≡ channel) cs (λ d less is. absurd
               (let lt = less_lt (name_of c) (name_of d) less in omega (arith, lt, is, same))) sorted.0,
         )
     by others false e found = (λ is. absurd (true≢false (sym (eqb_self (name_of c) id is) ∙ e)), others (rw e at found))
@@ -143,8 +79,8 @@ found_filter t (c ∷ cs) id sorted channel found = by (found_filter t cs id sor
     by others true e false f found =
         let h : Some c ≡ Some channel = rw e at found in
         let own : channel ≡ c = cc in
-        let same = eqb_same (name_of c) id e in
-        rw (own, f) (none_in cs (All_to (λ d. by_id c d ≡ Less) (λ d. id < name_of d) cs
+        let same = eqb-true (name_of c) id e in
+        rw (own, f) (none_in cs (All-to (λ d. by_id c d ≡ Less) (λ d. id < name_of d) cs
         (λ d less. let lt = less_lt (name_of c) (name_of d) less in omega (arith, lt, same)) sorted.0))
       where
         none_in : (ds : List ChannelRow) → AllByRecursion (λ d. id < name_of d) ds → channel_of (filter t ds) id ≡ None
@@ -176,12 +112,12 @@ pub links_keep : (end : Edge → Point) (points : List Point) (keep : Edge → B
     → filter test (links_at end points edges q) ≡ links_at end points (filter keep edges) q
 links_keep end points keep test edges q same =
     filter-map (link_of points) test (filter (λ e. is_point q (end e)) edges)
-    ∙ ap (map (link_of points)) (filter_agree (λ e. test (link_of points e)) keep (filter (λ e. is_point q (end e)) edges) (All_pass edges same)
-    ∙ filter_swap keep (λ e. is_point q (end e)) edges)
+    ∙ ap (map (link_of points)) (filter-alike (λ e. test (link_of points e)) keep (filter (λ e. is_point q (end e)) edges) (All_pass edges same)
+    ∙ filter-swap keep (λ e. is_point q (end e)) edges)
   where
     All_pass : (es : List Edge) → AllByRecursion (λ e. test (link_of points e) ≡ keep e) es
         → AllByRecursion (λ e. test (link_of points e) ≡ keep e) (filter (λ e. is_point q (end e)) es)
     All_pass es all =
-        All_to (λ e. (test (link_of points e) ≡ keep e) × (is_point q (end e) ≡ true))
+        All-to (λ e. (test (link_of points e) ≡ keep e) × (is_point q (end e) ≡ true))
         (λ e. test (link_of points e) ≡ keep e) (filter (λ e. is_point q (end e)) es) (λ e both. both.0)
         (passing (λ e. test (link_of points e) ≡ keep e) (λ e. is_point q (end e)) es all)

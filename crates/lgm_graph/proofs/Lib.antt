@@ -1,8 +1,7 @@
 pub mod Members
 mod Cuts
 mod Carrying
-mod Numbers
-mod NodePut
+pub mod Numbers
 mod ByChannel
 mod Places
 mod Showing

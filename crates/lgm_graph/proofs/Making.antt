@@ -5,6 +5,7 @@ use Rattle.std.proofs.lemmas.List.{length-map}
 use Rattle.std.specs.Bool.{beq}
 use Rattle.std.specs.List.{IsDistinct, find}
 use Rattle.std.specs.Option.{option_and_then}
+use Rattle.std.proofs.lemmas.Bool.{and_parts}
 use Rattle.lgm_wire.specs.declared.point.Point.{Point}
 use Rattle.lgm_check.specs.declared.row.ChannelRow.{ChannelRow}
 use Rattle.lgm_check.specs.declared.row.UpdateRow.{UpdateRow}
@@ -65,10 +66,6 @@ found_passes p (y ∷ ys) x is = by (found_passes p ys x) (p y) refl is
     by others true e is = let h : Some y ≡ Some x = rw e at is in let own : y ≡ x = cc in rw (← own) e
     by others false e is = others (rw e at is)
 
-both_true : (a b : Bool) → (a && b) ≡ true → (a ≡ true) × (b ≡ true)
-both_true true b is = (refl, is)
-both_true false b is = absurd cc
-
 same_bool : (a b : Bool) → beq a b ≡ true → a ≡ b
 same_bool true true is = refl
 same_bool false false is = refl
@@ -78,7 +75,7 @@ same_bool false true is = absurd cc
 -- an update that is found is of its direction
 pub update_second : (updates : List UpdateRow) (id : ℕ) (second : Bool) (row : UpdateRow)
     → update_of updates id second ≡ Some row → is_second row ≡ second
-update_second updates id second row is = same_bool (is_second row) second (both_true _ (beq (is_second row) second) (found_passes _ updates row is)).1
+update_second updates id second row is = same_bool (is_second row) second (and_parts _ (beq (is_second row) second) (found_passes _ updates row is)).1
 
 pub edge_from : (channel : ChannelRow) (row : UpdateRow) (edge : Edge) → Some edge ≡ edge_on channel row → edge.from ≡ end_of channel (is_second row)
 unfolding edge_of

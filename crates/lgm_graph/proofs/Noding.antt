@@ -10,7 +10,7 @@ use Rattle.lgm_graph.specs.Edges.{carrying, takes_payments}
 use Rattle.lgm_graph.specs.declared.nodes.Nodes.{Nodes}
 use Rattle.lgm_graph.specs.Graph.{IsGraphOf}
 use Rattle.lgm_graph.specs.inner.Sound.{graph_in, links_in, AreFlags}
-use Rattle.lgm_graph.proofs.NodePut.{node_put}
+use Rattle.lgm_store.proofs.Finding.{node_of-put}
 
 -- the same flags at each point
 pub flags_alike : (F G : Point → Bool) (points : List Point) → ((q : Point) → F q ≡ G q) → map F points ≡ map G points
@@ -28,7 +28,7 @@ module _ (known : Option (List ℕ)) (rows : Rows) (row : NodeRow) where
     where
       by : (b : Bool) → ends_channel rows.channels row.message.node_id ≡ b
           → takes_payments known (with_node rows row).nodes q ≡ takes_payments known rows.nodes q
-      by true e = rw (e, node_put rows.nodes row q apart) refl
+      by true e = rw (e, node_of-put q rows.nodes row apart) refl
       by false e = rw e refl
 
   -- looked at anew at the node, all are

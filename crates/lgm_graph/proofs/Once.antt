@@ -9,13 +9,13 @@ use Rattle.std.proofs.lemmas.Map.Keys.{IsDistinct-head, IsDistinct-tail}
 use Rattle.std.proofs.lemmas.List.Sorted.{IsPermutation-refl, IsPermutation-trans, IsPermutation-append_right, IsPermutation-filter_both}
 use Rattle.lgm_wire.specs.declared.point.Point.{Point}
 use Rattle.lgm_store.specs.Rows.{Rows, is_point}
+use Rattle.lgm_store.proofs.ListLaws.{All-filter, All-to}
 use Rattle.lgm_store.proofs.Points.{same_point, is_point-self}
 use Rattle.lgm_graph.specs.declared.edge.Edge.{Edge}
 use Rattle.lgm_graph.specs.declared.link.Link.{Link}
 use Rattle.lgm_graph.specs.Edges.{carrying, edges_of, takes_payments}
 use Rattle.lgm_graph.specs.Graph.{Graph, IsGraphOf, IsJoined, IsNumbered, number_of, link_of, edge_at, edges}
-use Rattle.lgm_graph.proofs.Carrying.{All_to}
-use Rattle.lgm_graph.proofs.Showing.{All-test, links_at}
+use Rattle.lgm_graph.proofs.Showing.{links_at}
 use Rattle.lgm_graph.proofs.Linking.{back_again}
 
 -- those that go to each of the points, one point after the other
@@ -153,8 +153,8 @@ module _ (rows : Rows) (graph : Graph) (distinct : IsDistinct is_point graph.poi
   pub once : IsPermutation (edges_of graph.known rows) (edges graph)
   once =
       let all : AllByRecursion (λ e. list_any (λ q. is_point q e.to) graph.points ≡ true) (edges_of graph.known rows) =
-      All-test _ (λ e. takes_payments graph.known rows.nodes e.to) (carrying rows)
-      (All_to (IsJoined graph.points) (λ e. list_any (λ q. is_point q e.to) graph.points ≡ true)
+      All-filter _ (λ e. takes_payments graph.known rows.nodes e.to) (carrying rows)
+      (All-to (IsJoined graph.points) (λ e. list_any (λ q. is_point q e.to) graph.points ≡ true)
       (carrying rows) (λ e both. numbered_among graph.points e.to both.1) beside.shows.joined) in
       let is : edges graph ≡ gathered graph.points (edges_of graph.known rows) =
       ap (λ (ts : List Bool). map (edge_at graph.points) (flat_map

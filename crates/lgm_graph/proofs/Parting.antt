@@ -10,6 +10,7 @@ use Rattle.std.specs.Ordering.{nat_cmp}
 use Rattle.std.proofs.lemmas.Grind.{take_at_read}
 use Rattle.std.proofs.lemmas.Bool.Decides.{nat_tests}
 use Rattle.std.proofs.lemmas.List.Folds.{list_any-append}
+use Rattle.std.proofs.Math.Bool.{or_comm}
 use Rattle.indexmap.specs.IndexSet.{insert_key}
 use Rattle.lgm_wire.specs.declared.point.Point.{Point}
 use Rattle.lgm_check.specs.declared.row.ChannelRow.{ChannelRow}
@@ -20,6 +21,7 @@ use Rattle.lgm_store.specs.Reading.{ids_at}
 use Rattle.lgm_store.specs.History.{banning, allowed_channels, with_banned}
 use Rattle.lgm_store.specs.Laws.{IsLawful}
 use Rattle.lgm_store.specs.inner.Sound.{id_of, AreAllowed}
+use Rattle.lgm_store.proofs.ListLaws.{All-append, All-filter, All-to, any-kept, filter-all, filter-swap, find-kept}
 use Rattle.lgm_store.proofs.Points.{same_point, is_point-self}
 use Rattle.lgm_store.proofs.Bans.{ends_banned-put}
 use Rattle.lgm_graph.specs.declared.edge.Edge.{Edge}
@@ -30,9 +32,9 @@ use Rattle.lgm_graph.specs.Edges.{end_of, carrying, takes_payments}
 use Rattle.lgm_graph.specs.Graph.{IsGraphOf, IsJoined, link_of}
 use Rattle.lgm_graph.specs.inner.Sound.{graph_in, AreInto, AreOut, AreFlags, is_allowed, is_among, HasEnds}
 use Rattle.lgm_graph.proofs.Numbers.{found_holds}
-use Rattle.lgm_graph.proofs.Carrying.{All_to, IsOfChannel, carrying_of}
-use Rattle.lgm_graph.proofs.Showing.{All-test, All_append, passing, links_at}
-use Rattle.lgm_graph.proofs.Keeping.{filter_all, filter_swap, find_stays, any_stays, links_keep}
+use Rattle.lgm_graph.proofs.Carrying.{IsOfChannel, carrying_of}
+use Rattle.lgm_graph.proofs.Showing.{passing, links_at}
+use Rattle.lgm_graph.proofs.Keeping.{links_keep}
 use Rattle.lgm_graph.proofs.Closing.{lists_alike}
 use Rattle.lgm_graph.proofs.Noding.{flags_alike}
 use Rattle.lgm_graph.proofs.Banning.{node_banned, banned_tests}
@@ -138,13 +140,13 @@ ends_next rows node ids i id channel old new sorted ids_are lt is held new_is do
     let short : i < length there = let long = long_ids there in omega (arith, within, long) in
     let found =
     at_place (λ row. channel_of rows (id_of row) ≡ Some row) there i channel short
-    (All-test _ (ends_at node) rows (each_found rows sorted)) in
+    (All-filter _ (ends_at node) rows (each_found rows sorted)) in
     let id_is : id ≡ id_of (get_or there i channel) = is ∙ ap (λ l. get_or l i id) ids_are ∙ get_id there i id channel within in
     let one : Some (get_or there i channel) ≡ Some channel = sym found ∙ ap (channel_of rows) (sym id_is) ∙ held in
     let own : get_or there i channel ≡ channel = cc in
     rw ((take_at_read there i channel short).1, own, new_is)
-    (All_append (HasEnds (with_ends old channel)) (take i there) (channel ∷ [])
-    (All_to (HasEnds old) (HasEnds (with_ends old channel)) (take i there) (λ row has.
+    (All-append (HasEnds (with_ends old channel)) (take i there) (channel ∷ [])
+    (All-to (HasEnds old) (HasEnds (with_ends old channel)) (take i there) (λ row has.
     has_kept old (with_ends old channel) row (kept_more old channel) has) done)
     (has_own old channel, tt))
 
@@ -155,7 +157,7 @@ pub ids_held : (rows : List ChannelRow) (node : Point) (ids : List ℕ) (i : ℕ
 ids_held rows node ids i id sorted ids_are lt is none =
     let there = filter (ends_at node) rows in
     let within : i < length (map id_of there) = rw ids_are at lt in
-    by there within (All-test _ (ends_at node) rows (each_found rows sorted)) (is ∙ ap (λ l. get_or l i id) ids_are)
+    by there within (All-filter _ (ends_at node) rows (each_found rows sorted)) (is ∙ ap (λ l. get_or l i id) ids_are)
   where
     by : (there : List ChannelRow) → i < length (map id_of there) → AllByRecursion
         (λ row. channel_of rows (id_of row) ≡ Some row) there → id ≡ get_or (map id_of there) i id → ⊥
@@ -267,15 +269,9 @@ module _ (known : Option (List ℕ)) (rows : Rows) (banned : List Point) (lawful
       let both = has (by e.second of.channel (rw (of.from, of.to) at is)) in
       (rw of.from (end_among e.second of.channel both), rw of.to (end_among (not e.second) of.channel both))
     where
-      or_turned : (a b : Bool) → (a || b) ≡ (b || a)
-      or_turned true true = refl
-      or_turned true false = refl
-      or_turned false true = refl
-      or_turned false false = refl
-
       by : (b : Bool) (channel : ChannelRow) → (is_banned banned (end_of channel b)
           || is_banned banned (end_of channel (not b))) ≡ true → ends_banned banned channel ≡ true
-      by true channel is = or_turned (is_banned banned channel.message.node_id_1) (is_banned banned channel.message.node_id_2) ∙ is
+      by true channel is = or_comm (is_banned banned channel.message.node_id_1) (is_banned banned channel.message.node_id_2) ∙ is
       by false channel is = is
 
       end_among : (b : Bool) (channel : ChannelRow) → HasEnds ends channel → is_among ends (end_of channel b) ≡ true
@@ -288,9 +284,9 @@ module _ (known : Option (List ℕ)) (rows : Rows) (banned : List Point) (lawful
       → filter (λ e. is_point q (end e)) (filter (λ e. not (is_banned banned e.from || is_banned banned e.to))
       (carrying rows)) ≡ filter (λ e. is_point q (end e)) (carrying rows)
   stays_at end which q away =
-      filter_swap (λ e. is_point q (end e)) (λ e. not (is_banned banned e.from || is_banned banned e.to)) (carrying rows)
-      ∙ filter_all (λ e. not (is_banned banned e.from || is_banned banned e.to)) (filter (λ e. is_point q (end e)) (carrying rows))
-      (All_to _ _ (filter (λ e. is_point q (end e)) (carrying rows)) each (passing (IsOfChannel rows.channels)
+      filter-swap (λ e. is_point q (end e)) (λ e. not (is_banned banned e.from || is_banned banned e.to)) (carrying rows)
+      ∙ filter-all (λ e. not (is_banned banned e.from || is_banned banned e.to)) (filter (λ e. is_point q (end e)) (carrying rows))
+      (All-to _ _ (filter (λ e. is_point q (end e)) (carrying rows)) each (passing (IsOfChannel rows.channels)
       (λ e. is_point q (end e)) (carrying rows) (carrying_of rows.channels rows.updates)))
     where
       each : (e : Edge) → IsOfChannel rows.channels e × (is_point q (end e) ≡ true) → not (is_banned banned e.from || is_banned banned e.to) ≡ true
@@ -303,7 +299,7 @@ module _ (known : Option (List ℕ)) (rows : Rows) (banned : List Point) (lawful
   -- ---- whether nodes take payments
 
   still_ended : (q : Point) → is_among ends q ≡ false → ends_channel (allowed_channels banned rows.channels) q ≡ ends_channel rows.channels q
-  still_ended q away = any_stays (ends_at q) (λ c. not (ends_banned banned c)) rows.channels (All_to _ _ rows.channels each parted)
+  still_ended q away = any-kept (ends_at q) (λ c. not (ends_banned banned c)) rows.channels (All-to _ _ rows.channels each parted)
     where
       each : (c : ChannelRow) → (ends_banned banned c ≡ true → HasEnds ends c) → ends_at q c ≡ true → not (ends_banned banned c) ≡ true
       each c has at = by (ends_banned banned c) refl
@@ -322,8 +318,8 @@ module _ (known : Option (List ℕ)) (rows : Rows) (banned : List Point) (lawful
 
   other_node : (q : Point) → is_among ends q ≡ false → takes_payments known (banning rows banned).nodes q ≡ takes_payments known rows.nodes q
   other_node q away =
-      ap taken (find_stays (λ row. is_point row.message.node_id q) (λ row. ends_channel (allowed_channels
-      banned rows.channels) row.message.node_id) rows.nodes (All_to _ _ rows.nodes each lawful.ended))
+      ap taken (find-kept (λ row. is_point row.message.node_id q) (λ row. ends_channel (allowed_channels
+      banned rows.channels) row.message.node_id) rows.nodes (All-to _ _ rows.nodes each lawful.ended))
     where
       taken : Option NodeRow → Bool
       taken = λ o. option_map_or (λ (row : NodeRow). allows known row.message.features) o true

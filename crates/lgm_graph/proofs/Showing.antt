@@ -6,18 +6,19 @@ use Rattle.std.specs.List.{AllByRecursion, IsDistinct, filter}
 use Rattle.std.specs.declared.cmp.Ordering.{Ordering}
 use Rattle.std.specs.declared.cmp.Ordering.TheVariants.{Equal, Greater}
 use Rattle.std.specs.Ordering.{is_lt, is_gt}
-use Rattle.std.proofs.lemmas.List.{map-append}
+use Rattle.std.proofs.lemmas.List.{map-append, append-nil}
 use Rattle.std.proofs.lemmas.List.Elements.{filter-append}
 use Rattle.std.proofs.lemmas.Map.Keys.{IsDistinct-head, IsDistinct-tail}
 use Rattle.lgm_wire.specs.declared.point.Point.{Point}
 use Rattle.lgm_store.specs.Rows.{is_point}
+use Rattle.lgm_store.proofs.ListLaws.{All-append, All-filter, All-to}
 use Rattle.lgm_store.proofs.Points.{same_point, is_point-self}
 use Rattle.lgm_graph.specs.declared.edge.Edge.{Edge}
 use Rattle.lgm_graph.specs.declared.link.Link.{Link}
 use Rattle.lgm_graph.specs.Graph.{number_of, IsNumbered, IsJoined, link_of, links_by, Shows}
 use Rattle.lgm_graph.specs.inner.Lists.{to_key, link_key, IsCut, put_at}
 use Rattle.lgm_graph.specs.inner.Walk.{KeepsNumbers}
-use Rattle.lgm_graph.proofs.Carrying.{All_to, IsCut-filter, put_at-none, option_filter, filter-put}
+use Rattle.lgm_graph.proofs.Carrying.{IsCut-filter, put_at-none, option_filter, filter-put}
 use Rattle.lgm_graph.proofs.Numbers.{get_number}
 use Rattle.lgm_graph.proofs.Places.{get_map}
 
@@ -50,14 +51,6 @@ module _ {X Y : Type 0} where
       one None = refl
       one (Some x) = refl
 
-pub All-test : {X : Type 0} (P : X → Type 0) (p : X → Bool) (xs : List X) → AllByRecursion P xs → AllByRecursion P (filter p xs)
-All-test P p [] all = tt
-All-test P p (x ∷ xs) all = by (All-test P p xs all.1) (p x) refl
-  where
-    by : AllByRecursion P (filter p xs) → (b : Bool) → p x ≡ b → AllByRecursion P (cond (p x) (x ∷ filter p xs) (filter p xs))
-    by others true is = rw is (all.0, others)
-    by others false is = rw is others
-
 -- what passes, beside what holds of each
 pub passing : {X : Type 0} (P : X → Type 0) (p : X → Bool) (xs : List X) → AllByRecursion P xs
     → AllByRecursion (λ x. P x × (p x ≡ true)) (filter p xs)
@@ -68,14 +61,6 @@ passing P p (x ∷ xs) all = by (passing P p xs all.1) (p x) refl
         → AllByRecursion (λ x. P x × (p x ≡ true)) (cond (p x) (x ∷ filter p xs) (filter p xs))
     by others true e = rw e ((all.0, e), others)
     by others false e = rw e others
-
-pub All_append : {X : Type 0} (P : X → Type 0) (xs ys : List X) → AllByRecursion P xs → AllByRecursion P ys → AllByRecursion P (xs ++ ys)
-All_append P [] ys all more = more
-All_append P (x ∷ xs) ys all more = (all.0, All_append P xs ys all.1 more)
-
-pub append-none : {X : Type 0} (ys : List X) → ys ++ [] ≡ ys
-append-none [] = refl
-append-none (y ∷ ys) = ap (λ l. y ∷ l) (append-none ys)
 
 pub turned : (p q : Point) → is_point p q ≡ false → is_point q p ≡ false
 turned p q apart = by (is_point q p) refl
@@ -94,7 +79,7 @@ map_at F G (q ∷ qs) p distinct there other = by (map_at F G qs p (IsDistinct-t
   where
     rest : p ≡ q → map F qs ≡ map G qs
     rest same =
-        map_alike F G qs (All_to _ _ qs (λ r apart. sym (other r (ap (λ s. is_point s r) same ∙ apart)))
+        map_alike F G qs (All-to _ _ qs (λ r apart. sym (other r (ap (λ s. is_point s r) same ∙ apart)))
         (IsDistinct-head is_point q qs distinct))
 
     by : (number_of qs p < length qs → ((r : Point) → is_point p r ≡ false → G r ≡ F r) → set (map F qs) (number_of qs p) (G p) ≡ map G qs)
@@ -140,7 +125,7 @@ module _ (end : Edge → Point) (points : List Point) where
           rw (
             filter-append (λ e. is_point q (end e)) edges (edge ∷ []),
             turned (end edge) q apart,
-            append-none (filter (λ e. is_point q (end e)) edges),
+            append-nil (filter (λ e. is_point q (end e)) edges),
           ) refl
 
   -- ---- an edge put in its place
@@ -197,7 +182,7 @@ module _ (end : Edge → Point) (points : List Point) where
             by false t = rw t refl
 
         apart : (p : Point) → is_point target p ≡ false → AllByRecursion (λ e. to_key id second e ≢ Equal) (filter (λ e. is_point p (end e)) edges)
-        apart p other = All_to (λ e. (to_key id second e ≡ Equal → end e ≡ target) × (is_point p (end e) ≡ true)) (λ e. to_key id second e ≢ Equal) _
+        apart p other = All-to (λ e. (to_key id second e ≡ Equal → end e ≡ target) × (is_point p (end e) ≡ true)) (λ e. to_key id second e ≢ Equal) _
             (λ e is k. never p other e (is.0 k) is.1) (passing (λ e. to_key id second e ≡ Equal → end e ≡ target) (λ e. is_point p (end e)) edges all)
 
         other : (q : Point) → is_point target q ≡ false → links_at (put_at (to_key id second) edges edge) q ≡ links_at edges q
@@ -240,7 +225,7 @@ numbered_last (r ∷ rs) p new = by (numbered_last rs p) (is_point p r) refl new
 -- edges by numbers stay
 pub links_kept : (points more : List Point) (edges : List Edge) → KeepsNumbers points more → AllByRecursion (IsJoined points) edges
     → AllByRecursion (λ e. link_of points e ≡ link_of more e) edges
-links_kept points more edges keeps joined = All_to (IsJoined points) (λ e. link_of points e ≡ link_of more e) edges
+links_kept points more edges keeps joined = All-to (IsJoined points) (λ e. link_of points e ≡ link_of more e) edges
     (λ e both. let from = keeps e.from both.0 in let to = keeps e.to both.1 in rw (from.0, to.0) refl) joined
 
 -- no edge has an end without a number
@@ -269,7 +254,7 @@ links_more end points p edges new all joined =
     each [] = tt
     each (q ∷ qs) = (
       sym (map_alike (link_of points) (link_of (points ++ p ∷ [])) (filter (λ e. is_point q (end e)) edges)
-          (All-test (λ e. link_of points e ≡ link_of (points ++ p ∷ []) e) (λ e. is_point q (end e)) edges
+          (All-filter (λ e. link_of points e ≡ link_of (points ++ p ∷ []) e) (λ e. is_point q (end e)) edges
           (links_kept points (points ++ p ∷ []) edges (numbered_append points p) joined))),
       each qs,
     )
@@ -278,13 +263,13 @@ pub shows_more : (edges : List Edge) (points : List Point) (into out : List (Lis
     → (IsNumbered points p → ⊥) → Shows edges points into out
     → Shows edges (points ++ p ∷ []) (into ++ [] ∷ []) (out ++ [] ∷ [])
 shows_more edges points into out p new shows = record {
-  joined = All_to (IsJoined points) (IsJoined (points ++ p ∷ [])) edges
+  joined = All-to (IsJoined points) (IsJoined (points ++ p ∷ [])) edges
       (λ e both. ((numbered_append points p e.from both.0).1, (numbered_append points p e.to both.1).1)) shows.joined;
   into_is =
-      ap (λ ls. ls ++ [] ∷ []) shows.into_is ∙ links_more (λ e. e.to) points p edges new (All_to
+      ap (λ ls. ls ++ [] ∷ []) shows.into_is ∙ links_more (λ e. e.to) points p edges new (All-to
       (IsJoined points) (λ e. IsNumbered points e.to) edges (λ e both. both.1) shows.joined) shows.joined;
   out_is =
-      ap (λ ls. ls ++ [] ∷ []) shows.out_is ∙ links_more (λ e. e.from) points p edges new (All_to
+      ap (λ ls. ls ++ [] ∷ []) shows.out_is ∙ links_more (λ e. e.from) points p edges new (All-to
       (IsJoined points) (λ e. IsNumbered points e.from) edges (λ e both. both.0) shows.joined) shows.joined;
 }
 
@@ -296,7 +281,7 @@ pub shows_push : (edges : List Edge) (points : List Point) (into out : List (Lis
     (set into (number_of points edge.to) (get_or into (number_of points edge.to) [] ++ link_of points edge ∷ []))
     (set out (number_of points edge.from) (get_or out (number_of points edge.from) [] ++ link_of points edge ∷ []))
 shows_push edges points into out edge distinct both shows = record {
-  joined = All_append (IsJoined points) edges (edge ∷ []) shows.joined (both, tt);
+  joined = All-append (IsJoined points) edges (edge ∷ []) shows.joined (both, tt);
   into_is = rw (shows.into_is) (links_push (λ e. e.to) points edges edge distinct both.1);
   out_is = rw (shows.out_is) (links_push (λ e. e.from) points edges edge distinct both.0);
 }

@@ -11,7 +11,8 @@ use Rattle.lgm_check.specs.declared.row.ChannelRow.{ChannelRow}
 use Rattle.lgm_check.specs.declared.row.UpdateRow.{UpdateRow}
 use Rattle.lgm_store.specs.Rows.{Rows, IsAscending, is_second, is_point, channel_of, put, by_direction}
 use Rattle.lgm_store.specs.History.{with_update}
-use Rattle.lgm_store.proofs.Lists.{same_id}
+use Rattle.lgm_store.proofs.ListLaws.{All-append, All-filter, All-to}
+use Rattle.lgm_store.proofs.Lists.{same_id, same_bool}
 use Rattle.lgm_graph.specs.declared.edge.Edge.{Edge}
 use Rattle.lgm_graph.specs.declared.link.Link.{Link}
 use Rattle.lgm_graph.specs.declared.nodes.Nodes.{Nodes}
@@ -21,28 +22,22 @@ use Rattle.lgm_graph.specs.inner.Lists.{to_key, link_key, IsCut, put_at}
 use Rattle.lgm_graph.specs.inner.Sound.{graph_in, links_in}
 use Rattle.lgm_graph.proofs.Numbers.{ends_numbered}
 use Rattle.lgm_graph.proofs.Making.{same_points, same_takes, same_into, same_out}
-use Rattle.lgm_graph.proofs.Carrying.{All_to, IsOfChannel, carrying_of, carrying_cut, carrying_put, edge_in-some}
-use Rattle.lgm_graph.proofs.Showing.{All-test, All_append, get_links, links_cut, links_put}
-
-same_second : (a b : Bool) → bool_cmp a b ≡ Equal → a ≡ b
-same_second false false e = refl
-same_second false true e = absurd cc
-same_second true false e = absurd cc
-same_second true true e = refl
+use Rattle.lgm_graph.proofs.Carrying.{IsOfChannel, carrying_of, carrying_cut, carrying_put, edge_in-some}
+use Rattle.lgm_graph.proofs.Showing.{get_links, links_cut, links_put}
 
 at_key : (id : ℕ) (second : Bool) (edge : Edge) → to_key id second edge ≡ Equal → (edge.scid ≡ id) × (edge.second ≡ second)
 at_key id second edge e = by (nat_cmp edge.scid id) refl e
   where
     by : (o : Ordering) → nat_cmp edge.scid id ≡ o → ordering_then o (bool_cmp edge.second second) ≡ Equal → (edge.scid ≡ id) × (edge.second ≡ second)
     by Less is e = absurd cc
-    by Equal is e = (same_id edge.scid id is, same_second edge.second second e)
+    by Equal is e = (same_id edge.scid id is, same_bool edge.second second e)
     by Greater is e = absurd cc
 
 All_put : {X : Type 0} (P : X → Type 0) (f : X → Ordering) (xs : List X) (o : Option X) → AllByRecursion P xs
     → IfSome o P → AllByRecursion P (put_at f xs o)
-All_put P f xs o all new = All_append P (filter (λ x. is_lt (f x)) xs ++ option_to_list o) (filter (λ x. is_gt (f x)) xs)
-    (All_append P (filter (λ x. is_lt (f x)) xs) (option_to_list o) (All-test P (λ x. is_lt (f x)) xs all)
-    (one o new)) (All-test P (λ x. is_gt (f x)) xs all)
+All_put P f xs o all new = All-append P (filter (λ x. is_lt (f x)) xs ++ option_to_list o) (filter (λ x. is_gt (f x)) xs)
+    (All-append P (filter (λ x. is_lt (f x)) xs) (option_to_list o) (All-filter P (λ x. is_lt (f x)) xs all)
+    (one o new)) (All-filter P (λ x. is_gt (f x)) xs all)
   where
     one : (o : Option _) → IfSome o P → AllByRecursion P (option_to_list o)
     one None h = tt
@@ -89,12 +84,12 @@ module _ (known : Option (List ℕ)) (rows : Rows) (row : UpdateRow) (channel : 
 
   all_from : AllByRecursion (λ e. key e ≡ Equal → e.from ≡ start) (carrying rows)
   all_from =
-      All_to (IsOfChannel rows.channels) (λ e. key e ≡ Equal → e.from ≡ start) (carrying rows)
+      All-to (IsOfChannel rows.channels) (λ e. key e ≡ Equal → e.from ≡ start) (carrying rows)
       (λ e of is. (of_key e of is).0) (carrying_of rows.channels rows.updates)
 
   all_to : AllByRecursion (λ e. key e ≡ Equal → e.to ≡ target) (carrying rows)
   all_to =
-      All_to (IsOfChannel rows.channels) (λ e. key e ≡ Equal → e.to ≡ target) (carrying rows)
+      All-to (IsOfChannel rows.channels) (λ e. key e ≡ Equal → e.to ≡ target) (carrying rows)
       (λ e of is. (of_key e of is).1) (carrying_of rows.channels rows.updates)
 
   in_row : edge_in rows.channels row ≡ edge_on channel row

@@ -3,6 +3,7 @@ use Rattle.std.proofs.Common.{◌≡◌, ℕ, ◌+◌, ◌≤◌, Bool, true, fa
 use Rattle.std.proofs.Common.{append_assoc, Option, refl, sym, ap, subst, ◌∙◌, arith, length-append}
 use Rattle.std.specs.List.{flat_map}
 use Rattle.std.proofs.lemmas.Grind.{flat_map-append}
+use Rattle.std.proofs.lemmas.List.{append-nil}
 use Rattle.lgm_check.specs.declared.row.ChannelRow.{ChannelRow}
 use Rattle.lgm_store.specs.declared.held.Held.{Held}
 use Rattle.lgm_store.specs.Held.{update_in, held_at}
@@ -14,9 +15,8 @@ use Rattle.lgm_graph.specs.Edges.{carrying}
 use Rattle.lgm_graph.specs.Graph.{Graph, IsGraphOf, IsNumbered}
 use Rattle.lgm_graph.specs.inner.Sound.{graph_in, ShowsIn, AreLookedAt}
 use Rattle.lgm_graph.specs.inner.Walk.{AreLinksOf, KeepsNumbers, HasWalked, edges_of_channel}
-use Rattle.lgm_graph.proofs.Carrying.{All_to}
-use Rattle.lgm_graph.proofs.Showing.{All_append, append-none}
 use Rattle.lgm_graph.proofs.ByChannel.{by_channel}
+use Rattle.lgm_store.proofs.ListLaws.{All-append, All-to}
 
 -- an update of a channel in a walk is that of its direction
 pub held_update : (rows : Rows) (channel : ChannelRow) (second : Bool)
@@ -50,7 +50,7 @@ module _ (known : Option (List ℕ)) (rows : Rows) (held : Held) (left : List He
       more =
           flat_map-append (edges_of_channel rows.updates) walked.done (held.channel ∷ [])
           ∙ ap (λ l. flat_map (edges_of_channel rows.updates) walked.done
-          ++ l) (append-none (edges_of_channel rows.updates held.channel))
+          ++ l) (append-nil (edges_of_channel rows.updates held.channel))
 
       by : (rest : List ChannelRow) → rows.channels ≡ walked.done ++ rest
           → held ∷ left ≡ map (held_at rows) rest → HasWalked rows left after (graph_in known new)
@@ -66,7 +66,7 @@ module _ (known : Option (List ℕ)) (rows : Rows) (held : Held) (left : List He
             left_is = others;
             few = omega (arith, few, walked.few, length-append walked.done (held.channel ∷ []));
             ends =
-                All_append _ walked.done (held.channel ∷ []) (All_to _ _ walked.done (λ c both.
+                All-append _ walked.done (held.channel ∷ []) (All-to _ _ walked.done (λ c both.
                 ((kept c.message.node_id_1 both.0).1, (kept c.message.node_id_2 both.1).1)) walked.ends)
                 ((first, second), tt);
             takes = takes walked.takes;
@@ -93,7 +93,7 @@ walked_all known rows links old new ascend walked points takes shows = record {
     none (channel ∷ rest) is = absurd cc
 
     all : rows.channels ≡ walked.done
-    all = walked.parts ∙ ap (λ l. walked.done ++ l) (none walked.rest walked.left_is) ∙ append-none walked.done
+    all = walked.parts ∙ ap (λ l. walked.done ++ l) (none walked.rest walked.left_is) ∙ append-nil walked.done
 
     edges : flat_map (edges_of_channel rows.updates) walked.done ≡ carrying rows
     edges = ap (flat_map (edges_of_channel rows.updates)) (sym all) ∙ by_channel rows.updates rows.channels ascend.updates ascend.channels

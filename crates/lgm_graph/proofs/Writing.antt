@@ -3,7 +3,7 @@ use Rattle.std.proofs.Common.{◌≡◌, ℕ, ◌+◌, ◌<◌, Bool, true, fals
 use Rattle.std.proofs.Common.{zero, suc, refl, sym, ap, subst, ◌∙◌, Option, Some, None, option_to_list, append_assoc, arith}
 use Rattle.std.specs.Option.{option_and_then, option_map}
 use Rattle.std.specs.List.{AllByRecursion, IsDistinct}
-use Rattle.std.proofs.lemmas.List.{length-map, map-append, take_more}
+use Rattle.std.proofs.lemmas.List.{length-map, map-append, take_more, append-nil}
 use Rattle.lgm_wire.specs.declared.point.Point.{Point}
 use Rattle.lgm_check.specs.declared.row.ChannelRow.{ChannelRow}
 use Rattle.lgm_check.specs.declared.row.UpdateRow.{UpdateRow}
@@ -17,17 +17,17 @@ use Rattle.lgm_graph.specs.Edges.{edge_on, end_of}
 use Rattle.lgm_graph.specs.Graph.{IsJoined, IsNumbered, link_of, linked, number_of}
 use Rattle.lgm_graph.specs.inner.Sound.{graph_in, links_in, ShowsIn}
 use Rattle.lgm_graph.specs.inner.Walk.{AreLinksOf, KeepsNumbers, edge_of_direction, edges_of_channel}
-use Rattle.lgm_graph.proofs.Carrying.{All_to}
 use Rattle.lgm_graph.proofs.Making.{edge_from, edge_to, end_numbered, into_long, out_long, pushed, update_second}
 use Rattle.lgm_graph.proofs.Places.{get_map}
-use Rattle.lgm_graph.proofs.Showing.{All_append, append-none, links_kept, map_alike}
+use Rattle.lgm_graph.proofs.Showing.{links_kept, map_alike}
 use Rattle.lgm_graph.proofs.Walked.{held_update}
+use Rattle.lgm_store.proofs.ListLaws.{All-append, All-to}
 
 -- further numbers change none of them
 pub links_of_more : (old new : List Point) (edges : List Edge) (links : List Link) → KeepsNumbers old new
     → AreLinksOf edges old links → AreLinksOf edges new links
 links_of_more old new edges links keeps are = record {
-  joined = All_to (IsJoined old) (IsJoined new) edges (λ e both. ((keeps e.from both.0).1, (keeps e.to both.1).1)) are.joined;
+  joined = All-to (IsJoined old) (IsJoined new) edges (λ e both. ((keeps e.from both.0).1, (keeps e.to both.1).1)) are.joined;
   links_are = are.links_are ∙ map_alike (link_of old) (link_of new) edges (links_kept old new edges keeps are.joined);
 }
 
@@ -62,7 +62,7 @@ module _ (rows : Rows) (held : Held) (points : List Point) (own : held ≡ held_
 
       by : (o : Option Edge) → edge_of_direction rows.updates held.channel second ≡ o
           → AreLinksOf (edges ++ option_to_list o) points (before ++ option_to_list (option_map (λ e. linked e from to) o))
-      by None e = rw (append-none edges, append-none before) are
+      by None e = rw (append-nil edges, append-nil before) are
       by (Some edge) e =
           let ends = edge_ends rows.updates held.channel second edge e in
           let starts : IsNumbered points edge.from = subst (IsNumbered points) (sym ends.0) (end_numbered points held.channel second first other) in
@@ -73,7 +73,7 @@ module _ (rows : Rows) (held : Held) (points : List Point) (own : held ≡ held_
           ap (λ n. linked edge n to) (from_is ∙ ap (number_of points) (sym ends.0))
           ∙ ap (linked edge (number_of points edge.from)) (to_is ∙ ap (number_of points) (sym ends.1)) in
           record {
-            joined = All_append (IsJoined points) edges (edge ∷ []) are.joined ((starts, stops), tt);
+            joined = All-append (IsJoined points) edges (edge ∷ []) are.joined ((starts, stops), tt);
             links_are = ap (λ ls. ls ++ linked edge from to ∷ []) are.links_are ∙ ap (λ l. map (link_of points) edges ++ l ∷ []) link_is
                 ∙ sym (map-append (link_of points) edges (edge ∷ []));
           }

@@ -23,9 +23,9 @@ use Rattle.lgm_store.specs.Rows.{Rows, IsAscending, update_of}
 use Rattle.lgm_store.specs.Held.{held_at}
 use Rattle.lgm_store.specs.inner.Ends.{point_cmp}
 use Rattle.lgm_store.specs.inner.Sound.{id_of, point_of}
+use Rattle.lgm_store.proofs.ListLaws.{All-append, All-each, filter-alike, find-same}
 use Rattle.lgm_store.proofs.Points.{same_point, is_at-point}
-use Rattle.lgm_store.proofs.Lists.{node_total}
-use Rattle.lgm_store.proofs.Ordered.{find-same, filter-alike}
+use Rattle.lgm_store.proofs.Lists.{node_total, same_node}
 use Rattle.lgm_query.specs.declared.filter.Filter.{Filter}
 use Rattle.lgm_query.specs.Backlog.{passes, passing_update, behind_announcement, passing_channel, passing_node, backlog, is_among, news}
 use Rattle.lgm_query.specs.KeyNews.{Subject, of_channel, of_node, subject_of, TellKeys, passing_of_channel}
@@ -40,9 +40,6 @@ pub record LieAt (f : Filter) (before after : Rows) (ids : List ℕ) (nodes : Li
   pub nodes_ascend : IsStrictlySortedBy point_cmp nodes
   pub of_channels : (id : ℕ) → list_any (is_at (nat_cmp id)) ids ≡ false → news_of_channel f before after id ≡ []
   pub of_nodes : (node : Point) → list_any (is_at (point_cmp node)) nodes ≡ false → news_of_node f before after node ≡ []
-
-same_node : (a b : Point) → point_cmp a b ≡ Equal → a ≡ b
-same_node a b e = same_point a b (sym (is_at-point a b) ∙ ap is_eq e)
 
 channel_apart : (a b : ℕ) → of_channel a ≡ of_channel b → nat_cmp a b ≡ Equal
 channel_apart a b e = let own : a ≡ b = cc in grind (arith, nat_tests)
@@ -59,10 +56,6 @@ node_apart : (a b : Point) → of_node a ≡ of_node b → point_cmp a b ≡ Equ
 node_apart a b e = let own : a ≡ b = cc in rw own (node_equal b)
 
 -- ---- each message is about its row's key
-
-All-append : {X : Type 0} (P : X → Type 0) (xs ys : List X) → AllByRecursion P xs → AllByRecursion P ys → AllByRecursion P (xs ++ ys)
-All-append P [] ys all others = others
-All-append P (x ∷ xs) ys all others = (all.0, All-append P xs ys all.1 others)
 
 abbrev About : Subject → List ℕ → Type 0
 About subject message = subject_of message ≡ subject
@@ -169,10 +162,6 @@ among_node f rows message node ascend tell is =
     ∙ ap (λ o. is_among (option_map_or (passing_node f) o []) message) (find-same _ _ (λ row. is_at-point (point_of row) node) rows.nodes)
 
 -- ---- the news
-
-All-each : {X : Type 0} (P : X → Type 0) (xs : List X) → ((x : X) → P x) → AllByRecursion P xs
-All-each P [] each = tt
-All-each P (x ∷ xs) each = (each x, All-each P xs each)
 
 -- each row is found at its key
 own_rows : {R K : Type 0} (key : R → K) (c : K → K → Ordering) → ((k : K) → c k k ≡ Equal) → (rows : List R)

@@ -9,18 +9,13 @@ use Rattle.std.specs.declared.cmp.Ordering.TheVariants.{Less, Equal, Greater}
 use Rattle.std.specs.Ordering.{is_eq, nat_cmp, match_ordering}
 use Rattle.std.proofs.lemmas.List.{take_more}
 use Rattle.std.proofs.lemmas.List.Folds.{list_any-append}
+use Rattle.std.proofs.Math.Bool.{or_comm}
 use Rattle.lgm_query.specs.Backlog.{is_among}
 use Rattle.lgm_query.specs.inner.Known.{is_known}
 
 -- the order of messages
 abbrev pub message_cmp : Bor (List ℕ) → Bor (List ℕ) → Ordering
 message_cmp a b = slice_cmp nat_cmp a.now b.now
-
-or_comm : (a b : Bool) → (a || b) ≡ (b || a)
-or_comm true true = refl
-or_comm true false = refl
-or_comm false true = refl
-or_comm false false = refl
 
 or_again : (a b : Bool) → (a || b) ≡ ((a || b) || a)
 or_again true b = refl

@@ -6,7 +6,7 @@ use Rattle.std.specs.List.{Contains, fold}
 use Rattle.std.specs.declared.cmp.Ordering.TheVariants.{Less, Equal, Greater}
 use Rattle.std.specs.Ordering.{nat_cmp, is_lt, is_gt}
 use Rattle.std.specs.Cmp.Lexicographic.{slice_cmp}
-use Rattle.std.proofs.lemmas.Bool.{false≢true}
+use Rattle.std.proofs.lemmas.Bool.{false≢true, and_parts}
 use Rattle.std.proofs.lemmas.Bool.Decides.{nat_tests}
 use Rattle.lgm_wire.specs.declared.point.Point.{Point}
 use Rattle.lgm_store.specs.Rows.{is_point}
@@ -61,10 +61,6 @@ le_true a b h = grind (arith, nat_tests)
 true_le : (a b : ℕ) → nat_le a b ≡ true → a ≤ b
 true_le a b h = grind (arith, nat_tests)
 
-both : (a b : Bool) → (a && b) ≡ true → (a ≡ true) × (b ≡ true)
-both true b h = (refl, h)
-both false b h = absurd (false≢true h)
-
 rests_lead : (edges : List Edge) (request : Request) (node : Point) (walk : List Edge)
     → IsRest edges request node walk → (leads request node walk ≡ true) × AreOf edges walk
 rests_lead edges request node [] joins = (subst (λ p. is_point node p ≡ true) joins (is_point-self node), tt)
@@ -81,9 +77,9 @@ leads_rest edges request node [] h of = same_point node request.payee h
 leads_rest edges request node (edge ∷ rest) h of =
     let below = nat_le (owed request.amount rest) edge.max in
     let above = nat_le edge.min request.amount in
-    let last = both (is_point edge.from node && above && below) (leads request edge.to rest) h in
-    let third = both (is_point edge.from node && above) below last.0 in
-    let second = both (is_point edge.from node) above third.0 in (
+    let last = and_parts (is_point edge.from node && above && below) (leads request edge.to rest) h in
+    let third = and_parts (is_point edge.from node && above) below last.0 in
+    let second = and_parts (is_point edge.from node) above third.0 in (
       record {
         there = of.0;
         leaves = same_point edge.from node second.0;
@@ -106,7 +102,7 @@ found_usable : (edges : List Edge) (request : Request) (walk : List Edge) → Am
 found_usable edges request walk there =
     let passed = Among-passed (is_usable request) (lists_of edges 20) walk there in
     let list = list_found edges walk 20 passed.0 in
-    let is = both (nat_le 1 (length walk)) (leads request request.payer walk) passed.1 in
+    let is = and_parts (nat_le 1 (length walk)) (leads request request.payer walk) passed.1 in
     record { some = true_le 1 (length walk) is.0; few = list.1; joins = leads_rest edges request request.payer walk is.1 list.0 }
 
 -- ---- the least of them

@@ -5,7 +5,7 @@ use Rattle.std.specs.Prelude.{Contains}
 use Rattle.std.specs.List.{position}
 use Rattle.std.specs.Ordering.{nat_cmp}
 use Rattle.std.specs.Cmp.Lexicographic.{slice_cmp}
-use Rattle.std.proofs.lemmas.Bool.Decides.{nat_tests}
+use Rattle.std.proofs.lemmas.List.{length-map}
 use Rattle.lgm_wire.specs.declared.point.Point.{Point}
 use Rattle.lgm_store.specs.Rows.{is_point}
 use Rattle.lgm_store.proofs.Points.{same_point}
@@ -13,6 +13,7 @@ use Rattle.lgm_graph.specs.Fee.{fee_of}
 use Rattle.lgm_graph.specs.declared.edge.Edge.{Edge}
 use Rattle.lgm_graph.specs.declared.link.Link.{Link}
 use Rattle.lgm_graph.specs.Graph.{Graph, number_of, IsNumbered, no_point, edge_at, links, edges, AreLinked}
+use Rattle.lgm_graph.proofs.Numbers.{number_none, number_some, get_number}
 use Rattle.lgm_route.specs.declared.request.Request.{Request}
 use Rattle.lgm_route.specs.declared.numbered_request.NumberedRequest.{NumberedRequest}
 use Rattle.lgm_route.specs.Routes as routes
@@ -25,12 +26,8 @@ map_at f [] i d = refl
 map_at f (x ∷ xs) zero d = refl
 map_at f (x ∷ xs) (suc i) d = map_at f xs i d
 
-length_map : {A B : Type 0} (f : A → B) (xs : List A) → length (map f xs) ≡ length xs
-length_map f [] = refl
-length_map f (x ∷ xs) = ap suc (length_map f xs)
-
 contains_map : {A B : Type 0} (f : A → B) (xs : List A) (x : A) → Contains xs x → Contains (map f xs) (f x)
-contains_map f xs x there = (there.0, omega (arith, length_map f xs, there.1), map_at f xs there.0 x ∙ ap f there.2)
+contains_map f xs x there = (there.0, omega (arith, length-map xs f, there.1), map_at f xs there.0 x ∙ ap f there.2)
 
 contains_tail : {A : Type 0} (x y : A) (xs : List A) → Contains xs y → Contains (x ∷ xs) y
 contains_tail x y xs there = (suc there.0, omega (arith, there.1), there.2)
@@ -42,41 +39,6 @@ contained_map f (x ∷ xs) y zero lt e = (x, (0, omega arith, refl), e)
 contained_map f (x ∷ xs) y (suc i) lt e =
     let later = contained_map f xs y i (omega arith) e in
     (later.0, contains_tail x later.0 xs later.1, later.2)
-
--- ---- points by number
-
-not_numbered : (points : List Point) (p : Point) → position (is_point p) points ≡ None → IsNumbered points p → ⊥
-not_numbered points p none there = by (ltb (number_of points p) (length points)) refl none
-  where
-    by : (b : Bool) → ltb (number_of points p) (length points) ≡ b
-        → cond (ltb (number_of points p) (length points)) (Some (number_of points p)) None ≡ None → ⊥
-    by true e is = let h : Some (number_of points p) ≡ None = rw e at is in absurd cc
-    by false e is = let le : length points ≤ number_of points p = grind (arith, nat_tests) in omega (arith, le, there)
-
-some_is : (a b : ℕ) → Some a ≡ Some b → a ≡ b
-some_is a b e = cc
-
-pub number_is : (points : List Point) (p : Point) (n : ℕ) → position (is_point p) points ≡ Some n → (number_of points p ≡ n) × IsNumbered points p
-number_is points p n is = by (ltb (number_of points p) (length points)) refl is
-  where
-    by : (b : Bool) → ltb (number_of points p) (length points) ≡ b
-        → cond (ltb (number_of points p) (length points)) (Some (number_of points p)) None ≡ Some n
-        → (number_of points p ≡ n) × IsNumbered points p
-    by true e is = let h : Some (number_of points p) ≡ Some n = rw e at is in (some_is (number_of points p) n h, grind (arith, nat_tests))
-    by false e is = let h : None ≡ Some n = rw e at is in absurd cc
-
--- a numbered point stands at its number
-get_number : (points : List Point) (p d : Point) → IsNumbered points p → get_or points (number_of points p) d ≡ p
-get_number [] p d there = absurd (omega (arith, there))
-get_number (q ∷ qs) p d there = by (get_number qs p d) (is_point p q) refl there
-  where
-    by : (number_of qs p < length qs → get_or qs (number_of qs p) d ≡ p) → (b : Bool) → is_point p q ≡ b
-        → number_of (q ∷ qs) p < suc (length qs) → get_or (q ∷ qs) (number_of (q ∷ qs) p) d ≡ p
-    by others true e lt = rw e (sym (same_point p q e))
-    by others false e lt =
-        let next : 1 + number_of qs p ≡ suc (number_of qs p) = omega arith in
-        let fits : suc (number_of qs p) < suc (length qs) = rw (e, next) at lt in
-        rw (e, next) (others (omega (arith, fits)))
 
 -- ---- what walks cost
 
@@ -102,7 +64,7 @@ abbrev key_over : ℕ → List Edge → List ℕ
 key_over amount walk = routes.sent amount walk ∷ length walk ∷ routes.ids walk
 
 keys_same : (points : List Point) (amount : ℕ) (walk : List Link) → key_over amount (over points walk) ≡ key amount walk
-keys_same points amount walk = rw (sent_over points amount walk, length_map (edge_at points) walk, ids_over points walk) refl
+keys_same points amount walk = rw (sent_over points amount walk, length-map walk (edge_at points), ids_over points walk) refl
 
 -- ---- walks
 
@@ -117,8 +79,9 @@ module _ (graph : Graph) (linked : AreLinked graph) (request : Request) (payer p
 
   stands : (p : Point) (n : ℕ) → position (is_point p) graph.points ≡ Some n → point_at n ≡ p
   stands p n is =
-      let number = number_is graph.points p n is in
-      ap point_at (sym number.0) ∙ get_number graph.points p no_point number.1
+      let number = number_some graph.points p n is in
+      ap point_at (sym number.0)
+      ∙ get_number graph.points p no_point (subst (λ (k : ℕ). k < length graph.points) (sym number.0) number.1)
 
   -- a walk over links is one over edges
   rest_over : (walk : List Link) (node : ℕ) → walks.IsRest (links graph) numbered node walk
@@ -141,7 +104,7 @@ module _ (graph : Graph) (linked : AreLinked graph) (request : Request) (payer p
     [],
     refl,
     sym number ∙ ap (number_of graph.points) joins
-        ∙ (number_is graph.points request.payee payee payee_is).0,
+        ∙ (number_some graph.points request.payee payee payee_is).0,
   )
   rest_back (edge ∷ rest) point node number joins =
       let found = contained_map (edge_at graph.points) (links graph) edge joins.0.there.0 joins.0.there.1 joins.0.there.2 in
@@ -171,8 +134,8 @@ module _ (graph : Graph) (linked : AreLinked graph) (request : Request) (payer p
   usable_back : (walk : List Edge) → routes.IsUsable (edges graph) request walk
       → (back : List Link) × (over graph.points back ≡ walk) × walks.IsUsable (links graph) numbered back
   usable_back walk usable =
-      let back = rest_back walk request.payer payer (number_is graph.points request.payer payer payer_is).0 usable.joins in
-      let long : length back.0 ≡ length walk = sym (length_map (edge_at graph.points) back.0) ∙ ap length back.1 in
+      let back = rest_back walk request.payer payer (number_some graph.points request.payer payer payer_is).0 usable.joins in
+      let long : length back.0 ≡ length walk = sym (length-map back.0 (edge_at graph.points)) ∙ ap length back.1 in
       (back.0, back.1, record { some = let h = usable.some in omega arith; few = let h = usable.few in omega arith; joins = back.2 })
 
   pub none_over : ((walk : List Link) → walks.IsUsable (links graph) numbered walk → ⊥) → (walk : List Edge)
@@ -181,7 +144,7 @@ module _ (graph : Graph) (linked : AreLinked graph) (request : Request) (payer p
 
   pub least_over : (walk : List Link) → walks.IsLeast (links graph) numbered walk → routes.IsLeast (edges graph) request (over graph.points walk)
   least_over walk least =
-      let long = length_map (edge_at graph.points) walk in
+      let long = length-map walk (edge_at graph.points) in
       record {
         usable = record {
           some = let h = least.usable.some in omega arith;
@@ -220,7 +183,8 @@ pub none_from : (graph : Graph) (request : Request) → AreLinked graph → posi
 none_from graph request linked none [] usable = omega (arith, usable.some)
 none_from graph request linked none (edge ∷ rest) usable =
     let step = usable.joins.0 in
-    not_numbered graph.points request.payer none (subst (IsNumbered graph.points) step.leaves (edge_numbered graph linked edge step.there).0)
+    number_none graph.points request.payer (subst (IsNumbered graph.points) step.leaves (edge_numbered graph linked edge step.there).0)
+    none
 
 numbered_to : (graph : Graph) (request : Request) → AreLinked graph → (walk : List Edge) (point : Point)
     → IsNumbered graph.points point → routes.IsRest (edges graph) request point walk
@@ -233,5 +197,5 @@ pub none_to : (graph : Graph) (request : Request) → AreLinked graph → positi
     graph.points ≡ None → (walk : List Edge) → routes.IsUsable (edges graph) request walk → ⊥
 none_to graph request linked none [] usable = omega (arith, usable.some)
 none_to graph request linked none (edge ∷ rest) usable =
-    not_numbered graph.points request.payee none (numbered_to graph request linked rest edge.to
-    (edge_numbered graph linked edge usable.joins.0.there).1 usable.joins.1)
+    number_none graph.points request.payee
+    (numbered_to graph request linked rest edge.to (edge_numbered graph linked edge usable.joins.0.there).1 usable.joins.1) none

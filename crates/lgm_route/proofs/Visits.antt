@@ -37,15 +37,12 @@ from_visit edges request node visited (edge ∷ rest) joins (inr h) =
     let later = from_visit edges request edge.to visited rest joins.1 h in
     (later.0, later.1, omega (arith, later.2), omega (arith, later.3, sent_below request.amount rest))
 
-point_again : (p : Point) → is_point p p ≡ true
-point_again p = is_point-self p
-
 same_or_not : (p q : Point) → (p ≡ q) ⊎ (p ≢ q)
 same_or_not p q = by (is_point p q) refl
   where
     by : (b : Bool) → is_point p q ≡ b → (p ≡ q) ⊎ (p ≢ q)
     by true e = inl (same_point p q e)
-    by false e = inr (λ same. false≢true (sym e ∙ ap (is_point p) (sym same) ∙ point_again p))
+    by false e = inr (λ same. false≢true (sym e ∙ ap (is_point p) (sym same) ∙ is_point-self p))
 
 visits_or_not : (node : Point) (walk : List Edge) → Visits node walk ⊎ (Visits node walk → ⊥)
 visits_or_not node [] = inr (λ h. h)

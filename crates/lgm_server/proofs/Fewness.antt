@@ -9,7 +9,7 @@ use Rattle.lgm_check.specs.declared.refusal.Refusal.{Refusal}
 use Rattle.lgm_store.specs.declared.op.Op.{Op}
 use Rattle.lgm_store.specs.declared.op.Op.TheVariants as ops
 use Rattle.lgm_store.specs.Rows.{Rows, put, by_id, by_direction, by_node, channel_of, ends_channel, ends_banned}
-use Rattle.lgm_store.specs.History.{absorbed, with_banned, channels_without, updates_without, ended_nodes}
+use Rattle.lgm_store.specs.History.{absorbed, with_banned, channels_without, updates_without, ended_nodes, without_held}
 use Rattle.lgm_server.specs.inner.Maps.{Growth, grown}
 use Rattle.lgm_server.specs.inner.Engine.{IsFew}
 
@@ -60,12 +60,7 @@ absorbed_few rows (ops.Node row) =
     }) rows (length rows.channels + 1) (omega arith) (omega arith)
 absorbed_few rows (ops.Close id) =
     either_few (is_some (channel_of rows.channels id))
-    (record {
-      channels = channels_without rows.channels id;
-      updates = updates_without rows.updates id;
-      nodes = ended_nodes (channels_without rows.channels id) rows.nodes;
-      banned = rows.banned;
-    }) rows (length rows.channels + 1)
+    (without_held rows id) rows (length rows.channels + 1)
     (omega (arith, kept_few (λ row. not (row.message.short_channel_id == id)) rows.channels)) (omega arith)
 absorbed_few rows (ops.Ban ban) = omega (arith, kept_few (λ row. not (ends_banned (with_banned rows.banned ban) row)) rows.channels)
 

@@ -21,6 +21,7 @@ use Rattle.lgm_store.specs.Rows.{Rows, IsAscending, empty, put, by_id, by_direct
 use Rattle.lgm_store.specs.History.{absorbed, fold_from, fold, with_banned, channels_without, updates_without, ended_nodes, without_held}
 use Rattle.lgm_store.specs.inner.Ends.{point_cmp}
 use Rattle.lgm_store.specs.inner.Sound.{direction_cmp, IsSound, id_of, direction_of, point_of}
+use Rattle.lgm_store.proofs.ListLaws.{All-filter}
 use Rattle.lgm_store.proofs.Lists.{direction_total, node_total}
 
 -- ---- the rows of an ordered map
@@ -58,14 +59,6 @@ IsAscending-sound channels updates nodes ends rows sound banned c u n =
 -- ---- the rows of a history
 
 module _ {R : Type 0} (order : R → R → Ordering) where
-  All-filter : (P : R → Type 0) (p : R → Bool) (rows : List R) → AllByRecursion P rows → AllByRecursion P (filter p rows)
-  All-filter P p [] all = tt
-  All-filter P p (x ∷ xs) all = by (All-filter P p xs all.1) (p x)
-    where
-      by : AllByRecursion P (filter p xs) → (b : Bool) → AllByRecursion P (cond b (x ∷ filter p xs) (filter p xs))
-      by others true = (all.0, others)
-      by others false = others
-
   pub ascend-filter : (p : R → Bool) (rows : List R) → IsStrictlySortedBy order rows → IsStrictlySortedBy order (filter p rows)
   unfolding IsStrictlySortedBy
   ascend-filter p [] sorted = tt

@@ -28,9 +28,10 @@ use Rattle.lgm_check.specs.declared.row.BanRow.{BanRow}
 use Rattle.lgm_store.specs.Laws.{IsLawful, AreHeld}
 use Rattle.lgm_store.specs.Laws as Lawful
 use Rattle.lgm_store.specs.declared.op.Op.TheVariants as ops
+use Rattle.lgm_store.proofs.ListLaws.{All-filter, filter-filter, filter-same}
 use Rattle.lgm_store.proofs.Ascending.{ascend-filter}
 use Rattle.lgm_store.proofs.Lists.{node_total, same_node}
-use Rattle.lgm_store.proofs.Ordered.{values-insert, filter-filter, filter-same}
+use Rattle.lgm_store.proofs.Ordered.{values-insert}
 use Rattle.lgm_store.proofs.Soundness.{AreEnded-ended_nodes}
 use Rattle.lgm_store.proofs.Lawful.{AreHeld-absorbed, AreEnded-absorbed}
 
@@ -58,21 +59,13 @@ another a b less = let is : nat_cmp (id_of a) (id_of b) ≡ Less = less in grind
 other : (a b : ChannelRow) → by_id a b ≡ Less → eqb (id_of a) (id_of b) ≡ false
 other a b less = let is : nat_cmp (id_of a) (id_of b) ≡ Less = less in grind (arith, nat_tests)
 
-same : (id : ℕ) → eqb id id ≡ true
-same id = grind (arith, nat_tests)
+pub id_again : (id : ℕ) → eqb id id ≡ true
+id_again id = grind (arith, nat_tests)
 
 -- rows above a row all stay where its id goes
 stay : (row : ChannelRow) (rows : List ChannelRow) → AllByRecursion (λ other. by_id row other ≡ Less) rows → channels_without rows (id_of row) ≡ rows
 stay row [] above = refl
 stay row (x ∷ xs) above = rw (another row x above.0, stay row xs above.1) refl
-
-All-filter : (P : ChannelRow → Type 0) (p : ChannelRow → Bool) (rows : List ChannelRow) → AllByRecursion P rows → AllByRecursion P (filter p rows)
-All-filter P p [] all = tt
-All-filter P p (x ∷ xs) all = by (All-filter P p xs all.1) (p x)
-  where
-    by : AllByRecursion P (filter p xs) → (b : Bool) → AllByRecursion P (cond b (x ∷ filter p xs) (filter p xs))
-    by others true = (all.0, others)
-    by others false = others
 
 -- the first of the rows that pass a test goes: the others that pass are left
 record Going (p : ChannelRow → Bool) (rows : List ChannelRow) (first : ChannelRow) (rest : List ChannelRow) : Type 0 where
@@ -94,9 +87,9 @@ going p (x ∷ xs) first rest sorted is = by (going p xs first rest sorted.1) (p
         let first_is : x ≡ first = cc in
         let rest_is : filter p xs ≡ rest = cc in
         rw (← first_is) (record {
-          passing = rw (same (id_of x), stay x xs sorted.0) rest_is;
-          failing = rw (same (id_of x), stay x xs sorted.0, here) refl;
-          held = rw (same (id_of x)) refl;
+          passing = rw (id_again (id_of x), stay x xs sorted.0) rest_is;
+          failing = rw (id_again (id_of x), stay x xs sorted.0, here) refl;
+          held = rw (id_again (id_of x)) refl;
         })
     by others false here is =
         let later : filter p xs ≡ first ∷ rest = rw here at is in

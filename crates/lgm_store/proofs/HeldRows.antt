@@ -19,12 +19,10 @@ use Rattle.lgm_store.specs.inner.Slots.{id_in}
 use Rattle.lgm_store.specs.Reading.{is_between, ids_between_of, channels_between_of}
 use Rattle.lgm_store.specs.Rows.{Rows, channel_of, update_of}
 use Rattle.lgm_store.specs.inner.Sound.{id_of, direction_of}
+use Rattle.lgm_store.proofs.ListLaws.{filter-filter, filter-same}
 use Rattle.lgm_store.proofs.Lists.{lookup-channel, lookup-update}
 use Rattle.lgm_store.proofs.Holding.{lookup-channels, lookup-updates}
-use Rattle.lgm_store.proofs.Ordered.{filter-filter, filter-same}
-
-same : (id : ℕ) → eqb id id ≡ true
-same id = grind (arith, nat_tests)
+use Rattle.lgm_store.proofs.Bans.{id_again}
 
 -- ---- each update's channel is held
 
@@ -44,7 +42,7 @@ has_more row rows (e ∷ es) all = (by (eqb (id_of row) e.0), has_more row rows 
 has_all : (es : List (ℕ × Held)) → IsKeyed id_of (channel_entries es) → HasAll (values_of (channel_entries es)) es
 unfolding HasAll
 has_all [] keyed = tt
-has_all (e ∷ es) keyed = (rw (keyed.0, same (id_of e.1.channel)) refl, has_more e.1.channel (values_of (channel_entries es)) es (has_all es keyed.1))
+has_all (e ∷ es) keyed = (rw (keyed.0, id_again (id_of e.1.channel)) refl, has_more e.1.channel (values_of (channel_entries es)) es (has_all es keyed.1))
 
 held_one : (rows : List ChannelRow) (k : ℕ) (b : Bool) (o : Option UpdateRow)
     (us : List ((ℕ × Bool) × UpdateRow)) → is_some (channel_of rows k) ≡ true

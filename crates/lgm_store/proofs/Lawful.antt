@@ -17,32 +17,9 @@ use Rattle.lgm_store.specs.History.{absorbed, fold_from, fold, with_banned, chan
 use Rattle.lgm_store.specs.History.{ended_nodes, allowed_channels, banned_channels}
 use Rattle.lgm_store.specs.Laws.{IsLawful, AreHeld, AreEnded, AreAllowed}
 use Rattle.lgm_store.specs.inner.Sound.{id_of}
+use Rattle.lgm_store.proofs.ListLaws.{All-filtered, All-put, All-to}
 use Rattle.lgm_store.proofs.Ascending.{fold-ascends}
 use Rattle.lgm_store.proofs.Soundness.{AreEnded-ended_nodes}
-
--- ---- rows that are put, and rows that a filter keeps
-
-pub All-filtered : {R : Type 0} (P Q : R → Type 0) (p : R → Bool) (rows : List R)
-    → ((x : R) → p x ≡ true → P x → Q x) → AllByRecursion P rows → AllByRecursion Q (filter p rows)
-All-filtered {R} P Q p [] give all = tt
-All-filtered {R} P Q p (x ∷ xs) give all = by (All-filtered P Q p xs give all.1) (p x) refl
-  where
-    by : AllByRecursion Q (filter p xs) → (b : Bool) → p x ≡ b → AllByRecursion Q (cond b (x ∷ filter p xs) (filter p xs))
-    by others true is = (give x is all.0, others)
-    by others false is = others
-
-All-more : {R : Type 0} (P Q : R → Type 0) (rows : List R) → ((x : R) → P x → Q x) → AllByRecursion P rows → AllByRecursion Q rows
-All-more {R} P Q [] give all = tt
-All-more {R} P Q (x ∷ xs) give all = (give x all.0, All-more P Q xs give all.1)
-
-All-joined : {R : Type 0} (P : R → Type 0) (xs ys : List R) → AllByRecursion P xs → AllByRecursion P ys → AllByRecursion P (xs ++ ys)
-All-joined {R} P [] ys all all' = all'
-All-joined {R} P (x ∷ xs) ys all all' = (all.0, All-joined P xs ys all.1 all')
-
-pub All-put : {R : Type 0} (P : R → Type 0) (order : R → R → Ordering) (rows : List R) (row : R) → P row
-    → AllByRecursion P rows → AllByRecursion P (put order rows row)
-All-put {R} P order rows row here all =
-    All-joined P _ _ (All-filtered P P _ rows (λ x is p. p) all) (here, All-filtered P P _ rows (λ x is p. p) all)
 
 -- a test that found a row finds one still, where a row is put
 any-put : {R : Type 0} (p : R → Bool) (order : R → R → Ordering) (row : R) (rows : List R)
@@ -120,7 +97,7 @@ no_like (x ∷ xs) row none = by (no_like xs row) (eqb (id_of x) (id_of row)) re
 any-channel : (p : ChannelRow → Bool) (rows : List ChannelRow) (row : ChannelRow) → is_some
     (channel_of rows (id_of row)) ≡ false → list_any p rows ≡ true → list_any p (put by_id rows row) ≡ true
 any-channel p rows row none any =
-    any-put p by_id row rows (All-more (λ x. by_id x row ≡ Equal → ⊥) _ rows
+    any-put p by_id row rows (All-to (λ x. by_id x row ≡ Equal → ⊥) _ rows
     (λ x never e here. absurd (never e)) (no_like rows row none)) any
 
 held-more : (rows : List ChannelRow) (row : ChannelRow) (id : ℕ) → is_some (channel_of rows (id_of row))
@@ -175,7 +152,7 @@ AreHeld-absorbed rows (ops.Channel row) held = by (is_some (channel_of rows.chan
     by true is d = held
     by false is true = held
     by false is false =
-        All-more (λ u. is_some (channel_of rows.channels u.message.short_channel_id) ≡ true) _ rows.updates
+        All-to (λ u. is_some (channel_of rows.channels u.message.short_channel_id) ≡ true) _ rows.updates
         (λ u h. held-more rows.channels row u.message.short_channel_id is h) held
 AreHeld-absorbed rows (ops.Update row) held = by (is_some (channel_of rows.channels row.message.short_channel_id)) refl
   where
@@ -207,7 +184,7 @@ AreEnded-absorbed rows (ops.Channel row) ended = by (is_some (channel_of rows.ch
     by true is d = ended
     by false is true = ended
     by false is false =
-        All-more (λ n. ends_channel rows.channels n.message.node_id ≡ true) _ rows.nodes
+        All-to (λ n. ends_channel rows.channels n.message.node_id ≡ true) _ rows.nodes
         (λ n e. any-channel (ends_at n.message.node_id) rows.channels row is e) ended
 AreEnded-absorbed rows (ops.Update row) ended = by (is_some (channel_of rows.channels row.message.short_channel_id))
   where

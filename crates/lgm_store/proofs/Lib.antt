@@ -1,5 +1,7 @@
+pub mod ListLaws
 pub mod Ordered
 pub mod Points
+pub mod Finding
 pub mod Listing
 pub mod Lists
 pub mod Holding

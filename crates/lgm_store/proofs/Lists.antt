@@ -21,7 +21,8 @@ use Rattle.lgm_store.specs.Rows.{put, by_id, by_direction, by_node, is_point, ch
 use Rattle.lgm_store.specs.History.{channels_without}
 use Rattle.lgm_store.specs.inner.Ends.{point_cmp}
 use Rattle.lgm_store.specs.inner.Sound.{direction_cmp, id_of, direction_of, point_of}
-use Rattle.lgm_store.proofs.Ordered.{lookup-find, values-insert, values-remove, IsKeyed-insert, find-same, filter-same}
+use Rattle.lgm_store.proofs.ListLaws.{filter-same, find-same}
+use Rattle.lgm_store.proofs.Ordered.{lookup-find, values-insert, values-remove, IsKeyed-insert}
 use Rattle.lgm_store.proofs.Points.{is_at-point}
 
 -- ---- channels
@@ -67,7 +68,7 @@ bool_test false true = refl
 bool_test true false = refl
 bool_test true true = refl
 
-same_bool : (a b : Bool) → bool_cmp a b ≡ Equal → a ≡ b
+pub same_bool : (a b : Bool) → bool_cmp a b ≡ Equal → a ≡ b
 same_bool false false e = refl
 same_bool false true e = absurd cc
 same_bool true false e = absurd cc

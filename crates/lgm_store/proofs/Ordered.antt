@@ -136,29 +136,3 @@ module _ {K R : Type 0} (cmp : K → K → Ordering) (key : R → K) where
       by : IsKeyed key (remove_entry test es) → (b : Bool) → IsKeyed key (cond b es (e ∷ remove_entry test es))
       by others true = keyed.1
       by others false = (keyed.0, others)
-
--- ---- tests that answer alike
-
-pub find-same : {R : Type 0} (p q : R → Bool) → ((x : R) → p x ≡ q x) → (xs : List R) → find p xs ≡ find q xs
-find-same p q same [] = refl
-find-same p q same (x ∷ xs) = rw (same x, find-same p q same xs) refl
-
-pub filter-same : {R : Type 0} (p q : R → Bool) → ((x : R) → p x ≡ q x) → (xs : List R) → filter p xs ≡ filter q xs
-filter-same p q same [] = refl
-filter-same p q same (x ∷ xs) = rw (same x, filter-same p q same xs) refl
-
--- on the elements of a list
-pub filter-alike : {R : Type 0} (p q : R → Bool) (xs : List R) → AllByRecursion (λ x. p x ≡ q x) xs → filter p xs ≡ filter q xs
-filter-alike p q [] same = refl
-filter-alike p q (x ∷ xs) same = rw (same.0, filter-alike p q xs same.1) refl
-
--- one filter after another
-pub filter-filter : {R : Type 0} (p q : R → Bool) (xs : List R) → filter q (filter p xs) ≡ filter (λ x. p x && q x) xs
-filter-filter p q [] = refl
-filter-filter p q (x ∷ xs) = by (filter-filter p q xs) (p x)
-  where
-    by : filter q (filter p xs) ≡ filter (λ x. p x && q x) xs
-        → (b : Bool) → filter q (cond b (x ∷ filter p xs) (filter p xs))
-        ≡ cond (b && q x) (x ∷ filter (λ x. p x && q x) xs) (filter (λ x. p x && q x) xs)
-    by others true = rw others refl
-    by others false = others

@@ -22,12 +22,13 @@ use Rattle.lgm_store.specs.History.{channels_without, updates_without, ended_nod
 use Rattle.lgm_store.specs.Reading.{ids_at}
 use Rattle.lgm_store.specs.inner.Ends.{point_cmp, entry_of, kept, with_id, without_id, changed, Lists, Lacks, stays_beside}
 use Rattle.lgm_store.specs.inner.Sound.{direction_cmp, IsSound, AreEnded, id_of, direction_of, point_of}
+use Rattle.lgm_store.proofs.ListLaws.{All-append, All-filter, filter-alike, filter-filter}
 use Rattle.lgm_store.proofs.Points.{same_point}
 use Rattle.lgm_store.proofs.Listing.{kept-with, without-with}
 use Rattle.lgm_store.proofs.Lists.{IsKeyed-channel, IsKeyed-update, IsKeyed-node, values-node, values-no_channel}
 use Rattle.lgm_store.proofs.Holding.{keys-channels, lookup-channels, insert-channels, remove-channels, set-channels, channel-with}
 use Rattle.lgm_store.proofs.Holding.{ascend-updates, set-updates, insert-updates, values-without, keyed-without}
-use Rattle.lgm_store.proofs.Ordered.{IsKeyed-remove, filter-alike, filter-filter}
+use Rattle.lgm_store.proofs.Ordered.{IsKeyed-remove}
 
 -- ---- the index tells whether a channel ends at a node
 
@@ -259,18 +260,6 @@ IsSound-listed channels updates nodes ends ends' listed sound =
 
 -- ---- a node more
 
-AreEnded-append : (channels : List ChannelRow) (xs ys : List NodeRow) → AreEnded channels xs → AreEnded channels ys → AreEnded channels (xs ++ ys)
-AreEnded-append channels [] ys ended ended' = ended'
-AreEnded-append channels (x ∷ xs) ys ended ended' = (ended.0, AreEnded-append channels xs ys ended.1 ended')
-
-AreEnded-filter : (channels : List ChannelRow) (p : NodeRow → Bool) (xs : List NodeRow) → AreEnded channels xs → AreEnded channels (filter p xs)
-AreEnded-filter channels p [] ended = tt
-AreEnded-filter channels p (x ∷ xs) ended = by (AreEnded-filter channels p xs ended.1) (p x)
-  where
-    by : AreEnded channels (filter p xs) → (b : Bool) → AreEnded channels (cond b (x ∷ filter p xs) (filter p xs))
-    by others true = (ended.0, others)
-    by others false = others
-
 pub IsSound-node : (channels : List (ℕ × ChannelRow)) (updates : List ((ℕ × Bool) × UpdateRow))
     (nodes new : List (Point × NodeRow)) (ends : List (Point × List ℕ))
     → (k : Point) (row : NodeRow) → k ≡ point_of row → new ≡ insert_entry point_cmp nodes k row → IsStrictlySortedBy point_cmp (keys_of new)
@@ -285,8 +274,8 @@ IsSound-node channels updates nodes new ends k row own is ascend ended sound =
       channels_ascend = sound.channels_ascend;
       updates_ascend = sound.updates_ascend;
       nodes_ascend = ascend;
-      nodes_ended = rw put_is (AreEnded-append (values_of channels) _ _ (AreEnded-filter (values_of channels) _ (values_of nodes) others)
-          (ended, AreEnded-filter (values_of channels) _ (values_of nodes) others));
+      nodes_ended = rw put_is (All-append _ _ _ (All-filter _ _ (values_of nodes) others)
+          (ended, All-filter _ _ (values_of nodes) others));
       listed = sound.listed;
     }
 

@@ -6,10 +6,10 @@ use Rattle.lgm_graph.specs.declared.link.Link.{Link}
 use Rattle.lgm_graph.specs.Edges.{takes_payments, carrying}
 use Rattle.lgm_graph.specs.Graph.{no_point}
 use Rattle.lgm_graph.specs.inner.Sound.{links_in, is_allowed}
-use Rattle.lgm_graph.proofs.Keeping.{filter_twice}
 use Rattle.lgm_graph.proofs.Showing.{links_at}
 use Rattle.lgm_graph.proofs.Parting.{changed_among, next_at, node_parted}
 use Rattle.lgm_graph.proofs.view.applying.apply_ban.Goals as goal
+use Rattle.lgm_store.proofs.ListLaws.{filter-twice}
 
 pub loop-node-preserved : goal.loop-node-preserved
 loop-node-preserved c =
@@ -25,12 +25,12 @@ loop-node-preserved c =
       into_long = c.ban_at.ensures.into_long ∙ c.loop-node.invariant.into_long;
       out_long = c.ban_at.ensures.out_long ∙ c.loop-node.invariant.out_long;
       into =
-          λ before lists. next_at change (λ q ls. filter_twice (is_allowed keys c.absorb.new.self.banned) ls)
+          λ before lists. next_at change (λ q ls. filter-twice (is_allowed keys c.absorb.new.self.banned) ls)
           before items i no_point c.loop-node-test.true c.ban_at.new.self.points.keys
           (map links_in c.ban_at.new.self.into.items)
           (rw same at (c.ban_at.ensures.into (changed_among change (take i items) before) (c.loop-node.invariant.into before lists)));
       out =
-          λ before lists. next_at change (λ q ls. filter_twice (is_allowed keys c.absorb.new.self.banned) ls)
+          λ before lists. next_at change (λ q ls. filter-twice (is_allowed keys c.absorb.new.self.banned) ls)
           before items i no_point c.loop-node-test.true c.ban_at.new.self.points.keys
           (map links_in c.ban_at.new.self.out.items)
           (rw same at (c.ban_at.ensures.out (changed_among change (take i items) before) (c.loop-node.invariant.out before lists)));

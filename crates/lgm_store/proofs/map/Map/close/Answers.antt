@@ -7,9 +7,9 @@ use Rattle.lgm_store.specs.declared.held.Held.{Held}
 use Rattle.lgm_store.specs.inner.HeldEntries.{channel_entries}
 use Rattle.lgm_store.specs.Rows.{channel_of, ends_banned}
 use Rattle.lgm_store.specs.History.{channels_without, updates_without, ended_nodes}
+use Rattle.lgm_store.proofs.ListLaws.{All-filtered}
 use Rattle.lgm_store.proofs.Holding.{ascend-held, remove-none}
 use Rattle.lgm_store.proofs.Soundness.{closed, IsSound-unchanged}
-use Rattle.lgm_store.proofs.Lawful.{All-filtered}
 use Rattle.lgm_store.proofs.Changes.{is_held, without_channel-held, without_channel-none}
 use Rattle.lgm_store.proofs.map.Map.close.Goals as goal
 

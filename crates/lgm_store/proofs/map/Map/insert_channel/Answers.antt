@@ -9,10 +9,10 @@ use Rattle.lgm_store.specs.inner.HeldEntries.{alone, channel_entries, update_ent
 use Rattle.lgm_store.specs.inner.Slots.{id_in}
 use Rattle.lgm_store.specs.inner.Sound.{id_of}
 use Rattle.lgm_store.specs.Rows.{put, by_id, ends_banned}
+use Rattle.lgm_store.proofs.ListLaws.{All-put}
 use Rattle.lgm_store.proofs.Lists.{values-channel}
 use Rattle.lgm_store.proofs.Holding.{lookup-channels, insert-channels, insert-updates}
 use Rattle.lgm_store.proofs.Soundness.{IsSound-held, IsSound-undone, IsSound-listed, lacks}
-use Rattle.lgm_store.proofs.Lawful.{All-put}
 use Rattle.lgm_store.proofs.Changes.{not_held, with_channel-new}
 use Rattle.lgm_store.proofs.map.Map.insert_channel.Goals as goal
 

@@ -6,7 +6,8 @@ use Rattle.lgm_wire.specs.declared.point.Point.{Point}
 use Rattle.lgm_check.specs.declared.row.NodeRow.{NodeRow}
 use Rattle.lgm_store.specs.inner.Ends.{point_cmp, entry_of, stays_beside}
 use Rattle.lgm_store.specs.inner.Sound.{point_of}
-use Rattle.lgm_store.proofs.Ordered.{IsKeyed-remove, filter-same}
+use Rattle.lgm_store.proofs.ListLaws.{filter-same}
+use Rattle.lgm_store.proofs.Ordered.{IsKeyed-remove}
 use Rattle.lgm_store.proofs.Lists.{values-no_node}
 use Rattle.lgm_store.proofs.map.absorbing.drop_unless_ended.Goals as goal
 
