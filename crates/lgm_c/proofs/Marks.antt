@@ -13,11 +13,6 @@ use Rattle.lgm_query.specs.Touched.{TellsKey}
 use Rattle.lgm_c.specs.inner.Marking.{Marked, TellTheirKeys, rows_at}
 use Rattle.lgm_c.specs.Writing.{all_framed}
 
--- the first operation, and the others
-pub first_and_rest : (history : List Op) (op : Op) → 0 < length history → history ≡ get_or history 0 op ∷ drop 1 history
-first_and_rest [] op some = absurd (omega arith)
-first_and_rest (o ∷ os) op some = refl
-
 -- one more
 tells_one_more : (since : List Op) (op : Op) → AllByRecursion TellsKey since → TellsKey op → AllByRecursion TellsKey (since ++ op ∷ [])
 tells_one_more [] op all own = (own, tt)

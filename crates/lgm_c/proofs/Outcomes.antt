@@ -13,6 +13,7 @@ use Rattle.lgm_store.specs.declared.op.Op.{Op}
 use Rattle.lgm_store.specs.declared.op.Op.TheVariants as ops
 use Rattle.lgm_store.specs.Rows.{Rows, channel_of}
 use Rattle.lgm_store.specs.Admission.{Offers, admitted, admitted_close}
+use Rattle.lgm_store.proofs.Verdicts.{offers_gives}
 use Rattle.lgm_query.specs.KeyNews.{TellKeys}
 use Rattle.lgm_query.specs.Touched.{TellsKey}
 use Rattle.lgm_query.proofs.Telling.{operation_tells}
@@ -21,11 +22,6 @@ use Rattle.lgm_c.specs.inner.Charted.{Charted}
 use Rattle.lgm_c.specs.Offering.{offered_to}
 use Rattle.lgm_c.specs.inner.Marking.{Marked, IsFollowed}
 use Rattle.lgm_c.specs.inner.Following.{Follows}
-
--- the answer of a map to a message is that of the definition, or out of memory
-pub offers_gives : (answer admission : Result Op Refusal) → Offers answer admission → Gives refusals.NoMemory (λ op. op) answer admission
-offers_gives answer (Ok op) offers = elim offers [ inl e ↦ rw e refl | inr e ↦ rw e (inl refl) ]
-offers_gives answer (Err refusal) offers = rw offers (inr refl)
 
 pub given : (op : Op) (admission : Result Op Refusal) → Offers (Ok op) admission → admission ≡ Ok op
 given op (Ok own) offers = elim offers [ inl e ↦ sym e | inr e ↦ absurd cc ]

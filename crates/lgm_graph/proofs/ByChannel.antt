@@ -17,7 +17,7 @@ use Rattle.lgm_store.proofs.Lists.{same_id}
 use Rattle.lgm_graph.specs.declared.edge.Edge.{Edge}
 use Rattle.lgm_graph.specs.Edges.{edge_on, edge_in}
 use Rattle.lgm_graph.specs.inner.Walk.{edges_of_channel}
-use Rattle.lgm_graph.proofs.Keeping.{less_lt, eqb_self}
+use Rattle.lgm_graph.proofs.Keeping.{less_lt, eqb_self, none_above}
 
 abbrev id_of : UpdateRow → ℕ
 id_of row = row.message.short_channel_id
@@ -125,12 +125,6 @@ module _ (row : UpdateRow) (rows : List UpdateRow) (first : AllByRecursion (λ o
             ap (update_of rows (name_of channel)) (sym b) ∙ none,
           ) refl
 
-channel_none : (channels : List ChannelRow) (id : ℕ) → AllByRecursion (λ channel. id < name_of channel) channels → channel_of channels id ≡ None
-channel_none [] id all = refl
-channel_none (channel ∷ channels) id all =
-    rw (not_eqb (name_of channel) id (λ e. let lt = all.0 in omega (arith, lt, e)))
-    (channel_none channels id all.1)
-
 joined : (o : Option Edge) (xs ys : List Edge) → cons_option o xs ++ ys ≡ cons_option o (xs ++ ys)
 joined None xs ys = refl
 joined (Some e) xs ys = refl
@@ -157,7 +151,7 @@ front row rows first (channel ∷ channels) sorted = by (front row rows first ch
         other_channels row rows first (channel ∷ channels) all
         ∙ sym (ap (λ (o : Option ChannelRow). cons_option (option_and_then (λ c. edge_on c row) o)
         (edges_of_channel rows channel ++ flat_map (edges_of_channel rows) channels))
-        (channel_none (channel ∷ channels) (id_of row) all))
+        (none_above (channel ∷ channels) (id_of row) all))
     by others Equal is =
         let same = same_id (id_of row) (name_of channel) is in
         let rest = other_channels row rows first channels (All-to _ _ channels (λ other more. omega (arith, same, more)) above) in

@@ -35,7 +35,7 @@ eqb_other a b lt = grind (arith, nat_tests)
 abbrev name_of : ChannelRow → ℕ
 name_of channel = channel.message.short_channel_id
 
-none_above : (channels : List ChannelRow) (id : ℕ) → AllByRecursion (λ c. id < name_of c) channels → channel_of channels id ≡ None
+pub none_above : (channels : List ChannelRow) (id : ℕ) → AllByRecursion (λ c. id < name_of c) channels → channel_of channels id ≡ None
 none_above [] id all = refl
 none_above (c ∷ cs) id all = rw (eqb_other id (name_of c) all.0) (none_above cs id all.1)
 

@@ -28,7 +28,7 @@ use Rattle.lgm_check.specs.declared.row.BanRow.{BanRow}
 use Rattle.lgm_store.specs.Laws.{IsLawful, AreHeld}
 use Rattle.lgm_store.specs.Laws as Lawful
 use Rattle.lgm_store.specs.declared.op.Op.TheVariants as ops
-use Rattle.lgm_store.proofs.ListLaws.{All-filter, filter-filter, filter-same}
+use Rattle.lgm_store.proofs.ListLaws.{All-filter, filter-filter, filter-same, filter-true}
 use Rattle.lgm_store.proofs.Ascending.{ascend-filter}
 use Rattle.lgm_store.proofs.Lists.{node_total, same_node}
 use Rattle.lgm_store.proofs.Ordered.{values-insert}
@@ -166,10 +166,6 @@ nothing banned (x ∷ xs) none = by (nothing banned xs) (ends_banned banned x) r
     by others true is none = let never : x ∷ banned_channels banned xs ≡ [] = rw is at none in absurd cc
     by others false is none = let later : banned_channels banned xs ≡ [] = rw is at none in rw (is, others later) refl
 
-all_stay : {R : Type 0} (rows : List R) → filter (λ row. true) rows ≡ rows
-all_stay [] = refl
-all_stay (x ∷ xs) = rw (all_stay xs) refl
-
 all_ended : (channels : List ChannelRow) (nodes : List NodeRow) → AreEnded channels nodes → ended_nodes channels nodes ≡ nodes
 all_ended channels [] ended = refl
 all_ended channels (x ∷ xs) ended = rw (ended.0, all_ended channels xs ended.1) refl
@@ -178,7 +174,7 @@ pub banning-none : (rows : Rows) (banned : List Point) → rows.banned ≡ banne
     rows.channels ≡ [] → AreEnded rows.channels rows.nodes → rows ≡ banning rows banned
 banning-none rows banned is none ended =
     let channels = nothing banned rows.channels none in
-    let updates : updates_beside (banned_channels banned rows.channels) rows.updates ≡ rows.updates = rw none (all_stay rows.updates) in
+    let updates : updates_beside (banned_channels banned rows.channels) rows.updates ≡ rows.updates = rw none (filter-true rows.updates) in
     rw (channels, updates, all_ended rows.channels rows.nodes ended, ← is) refl
 
 -- rows by their lists
@@ -302,8 +298,8 @@ dropping-step rows id gone =
     neither false b = refl
 
 pub closed_all-drops : (ids : List ℕ) (rows : Rows) → AreHeld rows → Lawful.AreEnded rows → closed_all rows ids ≡ dropping rows (has ids)
-closed_all-drops [] rows held ended = rows_same rows (dropping rows (λ i. false)) (sym (all_stay rows.channels)) (sym (all_stay rows.updates))
-    (sym (ap (λ channels. ended_nodes channels rows.nodes) (all_stay rows.channels) ∙ all_ended rows.channels rows.nodes ended)) refl
+closed_all-drops [] rows held ended = rows_same rows (dropping rows (λ i. false)) (sym (filter-true rows.channels)) (sym (filter-true rows.updates))
+    (sym (ap (λ channels. ended_nodes channels rows.nodes) (filter-true rows.channels) ∙ all_ended rows.channels rows.nodes ended)) refl
 closed_all-drops (id ∷ ids) rows held ended =
     closed_all-drops ids (without_channel rows id) (AreHeld-absorbed rows (ops.Close id) held) (AreEnded-absorbed rows (ops.Close id) ended)
     ∙ ap (λ r. dropping r (has ids)) (without_channel-is rows id held ended) ∙ dropping-step rows id (has ids)

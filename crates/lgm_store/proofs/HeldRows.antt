@@ -23,6 +23,7 @@ use Rattle.lgm_store.proofs.ListLaws.{filter-filter, filter-same}
 use Rattle.lgm_store.proofs.Lists.{lookup-channel, lookup-update}
 use Rattle.lgm_store.proofs.Holding.{lookup-channels, lookup-updates}
 use Rattle.lgm_store.proofs.Bans.{id_again}
+use Rattle.lgm_store.proofs.Listing.{is_at-id}
 
 -- ---- each update's channel is held
 
@@ -111,9 +112,6 @@ found-is_held_at es rows id keyed updates_keyed sorted channels_are updates_are 
 
 -- ---- all of them
 
-at_self : (k : ℕ) → is_at (nat_cmp k) k ≡ true
-at_self k = grind (arith, nat_tests)
-
 not_at : (a b : ℕ) → nat_cmp a b ≡ Less → is_at (nat_cmp b) a ≡ false
 not_at a b less = grind (arith, nat_tests)
 
@@ -126,7 +124,7 @@ found_past k held all (e ∷ es) above found = (rw (not_at k e.0 above.0) found.
 all_found : (es : List (ℕ × Held)) → IsStrictlySortedBy nat_cmp (keys_of es) → AllByRecursion (λ e. lookup (is_at (nat_cmp e.0)) es ≡ Some e.1) es
 unfolding IsStrictlySortedBy
 all_found [] sorted = tt
-all_found (e ∷ es) sorted = (rw (at_self e.0) refl, found_past e.0 e.1 es es sorted.0 (all_found es sorted.1))
+all_found (e ∷ es) sorted = (rw (is_at-id e.0) refl, found_past e.0 e.1 es es sorted.0 (all_found es sorted.1))
 
 pub values-held_at : (es : List (ℕ × Held)) (rows : Rows) → IsKeyed id_of (channel_entries es) → IsKeyed direction_of (update_entries es)
     → IsStrictlySortedBy nat_cmp (keys_of es) → values_of (channel_entries es) ≡ rows.channels → values_of (update_entries es) ≡ rows.updates
@@ -154,11 +152,6 @@ values-held_at es rows keyed updates_keyed sorted channels_are updates_are test 
             ap (λ (h : Held). h ∷ values_of (filter (λ e. test e.0) xs)) here
             ∙ ap (λ (hs : List Held). held_at rows x.1.channel ∷ hs) others
         by others false = others
-
--- all entries, by a range without ends
-pub filter-all : {X : Type 0} (xs : List X) → filter (λ x. true) xs ≡ xs
-filter-all [] = refl
-filter-all (x ∷ xs) = ap (λ ys. x ∷ ys) (filter-all xs)
 
 -- a test that only passes what an earlier one did
 pub filter-past : {X : Type 0} (p t : X → Bool) (xs : List X) → ((x : X) → t x ≡ true → p x ≡ true) → filter t (filter p xs) ≡ filter t xs

@@ -1,5 +1,5 @@
 -- What holds of each element of a list, and what tests keep and find.
-use Rattle.std.proofs.Common.{◌≡◌, Bool, true, false, ◌&&◌, ◌||◌, cond, List, [], ◌∷◌, ◌++◌, Some, None, refl, sym, ap, ◌∙◌, true≢false}
+use Rattle.std.proofs.Common.{◌≡◌, ◌<◌, length, get_or, drop, arith, Bool, true, false, ◌&&◌, ◌||◌, cond, List, [], ◌∷◌, ◌++◌, Some, None, refl, sym, ap, ◌∙◌, true≢false}
 use Rattle.std.specs.List.{AllByRecursion, filter, find, list_any}
 use Rattle.std.specs.declared.cmp.Ordering.{Ordering}
 use Rattle.lgm_store.specs.Rows.{put}
@@ -49,6 +49,9 @@ filter-alike p q (x ∷ xs) same = rw (same.0, filter-alike p q xs same.1) refl
 pub filter-all : {X : Type 0} (p : X → Bool) (xs : List X) → AllByRecursion (λ x. p x ≡ true) xs → filter p xs ≡ xs
 filter-all p [] all = refl
 filter-all p (x ∷ xs) all = rw (all.0, filter-all p xs all.1) refl
+
+pub filter-true : {X : Type 0} (xs : List X) → filter (λ x. true) xs ≡ xs
+filter-true xs = filter-all _ xs (All-each _ xs (λ x. refl))
 
 pub filter-passes : {X : Type 0} (p : X → Bool) (xs : List X) → AllByRecursion (λ x. p x ≡ true) (filter p xs)
 filter-passes p [] = tt
@@ -137,3 +140,9 @@ find-second p (x ∷ xs) ys none = by (find-second p xs ys) (p x) refl none
         → cond (p x) (Some x) (find p xs) ≡ None → cond (p x) (Some x) (find p (xs ++ ys)) ≡ find p ys
     by others true e none = let h : Some x ≡ None = rw e at none in absurd cc
     by others false e none = rw e (others (rw e at none))
+
+-- ---- the first, and the others
+
+pub first_and_rest : {X : Type 0} (xs : List X) (x : X) → 0 < length xs → xs ≡ get_or xs 0 x ∷ drop 1 xs
+first_and_rest [] x some = absurd (omega arith)
+first_and_rest (y ∷ ys) x some = refl

@@ -33,7 +33,7 @@ remove_key-insert {K} cmp k own (x ∷ xs) lacks = by (remove_key-insert cmp k o
         let past : is_at (cmp k) x ≡ false = rw is refl in
         rw is (rw (past, others rest) refl)
 
-is_at-id : (id : ℕ) → is_at (nat_cmp id) id ≡ true
+pub is_at-id : (id : ℕ) → is_at (nat_cmp id) id ≡ true
 is_at-id id = grind (arith, nat_tests)
 
 pub without-with : (ids : List ℕ) (id : ℕ) → list_any (is_at (nat_cmp id)) ids ≡ false → without_id (with_id ids id) id ≡ ids

@@ -20,6 +20,7 @@ use Rattle.slab.specs.Slab.{Slab, with_value, Updates}
 use Rattle.slab.proofs.SlabLemmas.{Updates-with_value}
 use Rattle.lgm_store.specs.inner.Slots.{id_in, slot_at, entry_in, entries_in, HaveOwn, IsNumbered, with_update_for, with_update_at}
 use Rattle.lgm_store.proofs.Lists.{same_id}
+use Rattle.lgm_store.proofs.Listing.{is_at-id}
 
 -- ---- slots that keep what they had
 
@@ -60,13 +61,10 @@ other_apart slots number id [] here others own = tt
 other_apart slots number id (e ∷ es) here others own = (
   λ is. let key : Some id ≡ Some e.0 = sym here ∙ ap (λ n. option_map id_in (slot_at slots n)) (sym is) ∙ own.0 in
       let id_is : id ≡ e.0 = cc in
-      let never : true ≡ false = sym (at_self id) ∙ ap (is_at (nat_cmp id)) id_is ∙ others.0 in
+      let never : true ≡ false = sym (is_at-id id) ∙ ap (is_at (nat_cmp id)) id_is ∙ others.0 in
       absurd cc,
   other_apart slots number id es here others.1 own.1,
 )
-  where
-    at_self : (k : ℕ) → is_at (nat_cmp k) k ≡ true
-    at_self k = grind (arith, nat_tests)
 
 -- ids above an id are others
 above_others : (id k : ℕ) (ks : List ℕ) → is_at (nat_cmp id) k ≡ true

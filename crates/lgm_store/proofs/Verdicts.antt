@@ -25,6 +25,8 @@ use Rattle.lgm_rows.proofs.UpdateLaws as updates
 use Rattle.lgm_rows.proofs.NodeLaws as nodes
 use Rattle.lgm_store.specs.Spelled.{IsSpelled}
 use Rattle.lgm_store.specs.inner.Candidate.{Fits, checked_by}
+use Rattle.lgm_store.specs.declared.op.Op.{Op}
+use Rattle.lgm_store.specs.Admission.{Offers}
 
 -- its bytes spell a message of its type
 pub accepted_fits : (chain : ChainHash) (bytes : List ℕ) (evidence : Evidence) (made : Checked)
@@ -79,3 +81,8 @@ pub found_fits : (chain : ChainHash) (bytes : List ℕ) (evidence : Evidence) (f
     → IfOk found (λ kind. IsAcceptedAs chain bytes evidence kind) → IfOk found (λ kind. Fits kind bytes)
 found_fits chain bytes evidence (Ok kind) kept = subst (λ k. Fits k bytes) kept.2 (accepted_fits chain bytes evidence kept.0 kept.1)
 found_fits chain bytes evidence (Err refusal) kept = tt
+
+-- what a map gives for a message is what the definition says, or memory runs out
+pub offers_gives : (answer admission : Result Op Refusal) → Offers answer admission → Gives refusals.NoMemory (λ op. op) answer admission
+offers_gives answer (Ok op) offers = elim offers [ inl e ↦ rw e refl | inr e ↦ rw e (inl refl) ]
+offers_gives answer (Err refusal) offers = rw offers (inr refl)

@@ -1,9 +1,9 @@
 use Rattle.std.proofs.Common.{◌≡◌, ◌<◌, ◌∷◌, length, drop, rules, sym, ap, subst, ◌∙◌}
 use Rattle.std.specs.List.{AllByRecursion}
 use Rattle.lgm_store.specs.History.{fold_from}
+use Rattle.lgm_store.proofs.ListLaws.{first_and_rest}
 use Rattle.lgm_query.specs.Touched.{TellsKey}
 use Rattle.lgm_query.proofs.Untouched.{TellKeys-step}
-use Rattle.lgm_c.proofs.Marks.{first_and_rest}
 use Rattle.lgm_c.proofs.mark.level.Goals as goal
 
 pub loop-op-preserved : goal.loop-op-preserved

@@ -1,8 +1,8 @@
 use Rattle.std.proofs.Common.{◌∙◌, ap}
 use Rattle.std.specs.Map.{values_of}
-use Rattle.lgm_store.proofs.HeldRows.{filter-all}
 use Rattle.lgm_store.proofs.map.Map.nodes.Goals as goal
+use Rattle.lgm_store.proofs.ListLaws.{filter-true}
 
 pub returns : goal.returns
 returns c =
-    c.new.ensures ∙ ap values_of (c.range.ensures.between tt ∙ filter-all c.self.inside.nodes.entries) ∙ ap (λ rows. rows.nodes) c.self.view_is
+    c.new.ensures ∙ ap values_of (c.range.ensures.between tt ∙ filter-true c.self.inside.nodes.entries) ∙ ap (λ rows. rows.nodes) c.self.view_is
