@@ -13,6 +13,6 @@ invariant_of-self-2 c =
 
 pub returns-clause-beside : goal.returns-clause-beside
 returns-clause-beside c =
-    keeps_following _ _ _ _ c.in_ok-op.op
+    keeps_following c.self.inside.map c.self.inside.due.items c.self.inside.since.items _ c.in_ok-op.op
     (c.push_back_reserved.ensures.items ∙ ap (λ items. items ++ c.in_ok-op.op ∷ []) c.in_ok-reserve.ensures.items)
     c.args.chart.now.rows _ (ap (λ mark. mark.rows) c.self.view_is ∙ c.requires) (ap (λ chart. chart.rows) c.in_ok-op.ensures.accepted)
