@@ -33,29 +33,6 @@ told_as chain known script n old mid new empty flushed clear told =
 abbrev fails : RunFault → Result Counts RunFault
 fails fault = Err fault
 
-pub ok_written : (chain : ChainHash) (known : Option (List ℕ)) (script : Option (List ℕ)) (old mid new : OutputState)
-    (answered result : Result Counts RunFault) → old.gathered ≡ []
-    → Ended mid new answered result
-    → IfOk answered (λ counts. IfSome script (IsAnswered chain known (Tells old mid) counts))
-    → IfOk result (λ counts. IfSome script (IsAnswered chain known (Appends old.taken new.taken) counts))
-ok_written chain known script old mid new answered result empty ended told =
-    elim ended [
-      | inl flushed ↦ subst (λ r. IfOk r (λ counts. IfSome script (IsAnswered chain known (Appends old.taken
-          new.taken) counts))) (sym flushed.same) (IfOk-weaker answered _ _ (λ counts. by counts flushed) told)
-      | inr other ↦
-          elim other [ inl failed ↦ rw failed.write tt | inr before ↦ rw (before.same, before.failed) tt ]
-    ]
-  where
-    by : (counts : Counts) → IsFlushed mid new answered result
-        → IfSome script (IsAnswered chain known (Tells old mid) counts)
-        → IfSome script (IsAnswered chain known (Appends old.taken new.taken) counts)
-    by counts flushed told = IfSome_then script told (λ s told. record {
-      lines = told.lines;
-      limit = told.limit;
-      accepted = told.accepted;
-      text = told_as chain known s counts.lines old mid new empty flushed.told flushed.clear told.text;
-    })
-
 -- what holds at a fault that comes before the rest is written, also holds of what was written
 flushed_at : {P Q : Type 0} (mid new : OutputState) (answered result : Result Counts RunFault) (fault : RunFault)
     → Ended mid new answered result → fails fault ≢ fails faults.Write → (answered ≡ fails fault → P)
@@ -68,32 +45,6 @@ flushed_at mid new answered result fault ended other told is by =
         | inr before ↦ absurd (other (sym is ∙ before.same ∙ before.failed))
       ]
     ]
-
-pub many_written : (chain : ChainHash) (known : Option (List ℕ)) (script : Option (List ℕ))
-    (old mid new : OutputState) (answered result : Result Counts RunFault) → old.gathered ≡ []
-    → Ended mid new answered result
-    → (answered ≡ fails faults.TooManyLines → IfSome script (IsTooMany chain known (Tells old mid)))
-    → result ≡ fails faults.TooManyLines → IfSome script (IsTooMany chain known (Appends old.taken new.taken))
-many_written chain known script old mid new answered result empty ended told is =
-    flushed_at mid new answered result faults.TooManyLines ended (λ same. cc) told is
-    (λ flushed told. IfSome_then script told (λ s told. record {
-      more = told.more;
-      text = told_as chain known s 10000000 old mid new empty flushed.told flushed.clear told.text;
-    }))
-
-pub long_written : (chain : ChainHash) (known : Option (List ℕ)) (script : Option (List ℕ))
-    (old mid new : OutputState) (answered result : Result Counts RunFault) → old.gathered ≡ []
-    → Ended mid new answered result
-    → (answered ≡ fails faults.LineTooLong → IfSome script (IsTooLong chain known (Tells old mid)))
-    → result ≡ fails faults.LineTooLong → IfSome script (IsTooLong chain known (Appends old.taken new.taken))
-long_written chain known script old mid new answered result empty ended told is =
-    flushed_at mid new answered result faults.LineTooLong ended (λ same. cc) told is
-    (λ flushed told. IfSome_then script told (λ s told. record {
-      place = told.place;
-      limit = told.limit;
-      long = told.long;
-      text = told_as chain known s told.place old mid new empty flushed.told flushed.clear told.text;
-    }))
 
 -- a script that was cut short, of which another text is told
 cut_by : (chain : ChainHash) (known : Option (List ℕ)) (left script : Option (List ℕ)) (told told' : List ℕ → Type 0)
@@ -110,25 +61,69 @@ if_err : {P : Type 0} (result : Result Counts RunFault) → P → IfErr result (
 if_err (Ok counts) holds = tt
 if_err (Err fault) holds = holds
 
--- what was told at a fault, or a whole text that couldn't be written
-pub fault_written : (chain : ChainHash) (known : Option (List ℕ)) (left script : Option (List ℕ))
-    (old mid new : OutputState) (answered result : Result Counts RunFault) → old.gathered ≡ []
-    → Ended mid new answered result → IfSome script (IsCutShort chain known (TellsSome old mid) left)
-    → IfErr result (λ _. IfSome script (IsCutShort chain known (AppendsSome old.taken new.taken) left))
-fault_written chain known left script old mid new answered result empty ended told =
-    elim ended [
-      | inl flushed ↦ by (cut_by chain known left script (TellsSome old mid) (TellsSome old new) (λ t part. some_flushed old mid new t part flushed.told) told)
-      | inr other ↦ elim other [
-        | inl failed ↦ by (cut_by chain known left script (TellsSome old mid) (TellsSome old new) (λ t part. some_flushed_part old mid new t SendWrite part failed.part) told)
-        | inr before ↦ by (subst (λ (t : OutputState).
-            IfSome script (IsCutShort chain known (TellsSome old t) left)) (sym before.still) told)
+module _ (chain : ChainHash) (known : Option (List ℕ)) (script : Option (List ℕ)) (old mid new : OutputState)
+    (answered result : Result Counts RunFault) (empty : old.gathered ≡ []) (ended : Ended mid new answered result) where
+  ok_flushed : (counts : Counts) → IsFlushed mid new answered result
+      → IfSome script (IsAnswered chain known (Tells old mid) counts)
+      → IfSome script (IsAnswered chain known (Appends old.taken new.taken) counts)
+  ok_flushed counts flushed told = IfSome_then script told (λ s told. record {
+    lines = told.lines;
+    limit = told.limit;
+    accepted = told.accepted;
+    text = told_as chain known s counts.lines old mid new empty flushed.told flushed.clear told.text;
+  })
+
+  pub ok_written : IfOk answered (λ counts. IfSome script (IsAnswered chain known (Tells old mid) counts))
+      → IfOk result (λ counts. IfSome script (IsAnswered chain known (Appends old.taken new.taken) counts))
+  ok_written told =
+      elim ended [
+        | inl flushed ↦ subst (λ r. IfOk r (λ counts. IfSome script (IsAnswered chain known
+            (Appends old.taken new.taken) counts))) (sym flushed.same)
+            (IfOk-weaker answered _ _ (λ counts. ok_flushed counts flushed) told)
+        | inr other ↦
+            elim other [ inl failed ↦ rw failed.write tt | inr before ↦ rw (before.same, before.failed) tt ]
       ]
-    ]
-  where
-    by : IfSome script (IsCutShort chain known (TellsSome old new) left)
-        → IfErr result (λ _. IfSome script (IsCutShort chain known (AppendsSome old.taken new.taken) left))
-    by cut = if_err result (cut_by chain known left script (TellsSome old new) (AppendsSome old.taken new.taken)
-        (λ t. taken_some old new t empty) cut)
+
+  pub many_written : (answered ≡ fails faults.TooManyLines → IfSome script (IsTooMany chain known (Tells old mid)))
+      → result ≡ fails faults.TooManyLines → IfSome script (IsTooMany chain known (Appends old.taken new.taken))
+  many_written told is =
+      flushed_at mid new answered result faults.TooManyLines ended (λ same. cc) told is
+      (λ flushed told. IfSome_then script told (λ s told. record {
+        more = told.more;
+        text = told_as chain known s 10000000 old mid new empty flushed.told flushed.clear told.text;
+      }))
+
+  pub long_written : (answered ≡ fails faults.LineTooLong → IfSome script (IsTooLong chain known (Tells old mid)))
+      → result ≡ fails faults.LineTooLong → IfSome script (IsTooLong chain known (Appends old.taken new.taken))
+  long_written told is =
+      flushed_at mid new answered result faults.LineTooLong ended (λ same. cc) told is
+      (λ flushed told. IfSome_then script told (λ s told. record {
+        place = told.place;
+        limit = told.limit;
+        long = told.long;
+        text = told_as chain known s told.place old mid new empty flushed.told flushed.clear told.text;
+      }))
+
+  -- what was told at a fault, or a whole text that couldn't be written
+  cut_written : (left : Option (List ℕ)) → IfSome script (IsCutShort chain known (TellsSome old new) left)
+      → IfErr result (λ _. IfSome script (IsCutShort chain known (AppendsSome old.taken new.taken) left))
+  cut_written left cut =
+      if_err result (cut_by chain known left script (TellsSome old new) (AppendsSome old.taken new.taken)
+      (λ t. taken_some old new t empty) cut)
+
+  pub fault_written : (left : Option (List ℕ)) → IfSome script (IsCutShort chain known (TellsSome old mid) left)
+      → IfErr result (λ _. IfSome script (IsCutShort chain known (AppendsSome old.taken new.taken) left))
+  fault_written left told =
+      elim ended [
+        | inl flushed ↦ cut_written left (cut_by chain known left script (TellsSome old mid) (TellsSome old new)
+            (λ t part. some_flushed old mid new t part flushed.told) told)
+        | inr other ↦ elim other [
+          | inl failed ↦ cut_written left (cut_by chain known left script (TellsSome old mid) (TellsSome old new)
+              (λ t part. some_flushed_part old mid new t SendWrite part failed.part) told)
+          | inr before ↦ cut_written left (subst (λ (t : OutputState).
+              IfSome script (IsCutShort chain known (TellsSome old t) left)) (sym before.still) told)
+        ]
+      ]
 
 -- where no memory was there at the start, nothing was read or written
 pub nothing_written : (chain : ChainHash) (known : Option (List ℕ)) (script taken : Option (List ℕ))
