@@ -26,31 +26,18 @@ item_leaves : (chain : ChainHash) (state : State) (request : Request) → IsOfKi
     → state_by state (offered_in chain request) ≡ state_after chain state request
 item_leaves chain state requests.Bad kind = refl
 item_leaves chain state (requests.Offer item) kind = ap (state_behind state) (sym (outcome_checked chain state.rows item))
-item_leaves chain state requests.Quiet kind = absurd kind
-item_leaves chain state requests.Commit kind = absurd kind
-item_leaves chain state (requests.Query bytes) kind = absurd kind
-item_leaves chain state (requests.Filter peer bytes) kind = absurd kind
-item_leaves chain state (requests.Route payment) kind = absurd kind
+item_leaves chain state _ kind = absurd kind
 
 item_is_told : (chain : ChainHash) (number : ℕ) (state : State) (request : Request) → IsOfKind kinds.Item
     request → offered_text number state.rows (offered_in chain request) ≡ text_for chain number state request
 item_is_told chain number state requests.Bad kind = refl
 item_is_told chain number state (requests.Offer item) kind =
     ap (λ outcome. outcome_text number (result_err outcome)) (sym (outcome_checked chain state.rows item))
-item_is_told chain number state requests.Quiet kind = absurd kind
-item_is_told chain number state requests.Commit kind = absurd kind
-item_is_told chain number state (requests.Query bytes) kind = absurd kind
-item_is_told chain number state (requests.Filter peer bytes) kind = absurd kind
-item_is_told chain number state (requests.Route payment) kind = absurd kind
+item_is_told chain number state _ kind = absurd kind
 
 was_checked : (chain : ChainHash) (request : Request) (item : Offered) → offered_in chain request ≡ Some item → WasChecked item
 was_checked chain (requests.Offer own) item is = (chain, own, cc)
-was_checked chain requests.Bad item is = absurd cc
-was_checked chain requests.Quiet item is = absurd cc
-was_checked chain requests.Commit item is = absurd cc
-was_checked chain (requests.Query bytes) item is = absurd cc
-was_checked chain (requests.Filter peer bytes) item is = absurd cc
-was_checked chain (requests.Route payment) item is = absurd cc
+was_checked chain _ item is = absurd cc
 
 was_checked_if : (chain : ChainHash) (request : Request) (item : Option Offered) → item ≡ offered_in chain request → IfSome item WasChecked
 was_checked_if chain request None is = tt
@@ -88,24 +75,18 @@ items_of chain (request ∷ asked) (item ∷ items) kind all = (
 
 question_leaves : (chain : ChainHash) (state : State) (request : Request) → IsOfKind kinds.Question request
     → record state { filters = filters_after chain state.filters request } ≡ state_after chain state request
-question_leaves chain state requests.Bad kind = refl
-question_leaves chain state (requests.Query bytes) kind = refl
-question_leaves chain state (requests.Filter peer bytes) kind = refl
-question_leaves chain state (requests.Route payment) kind = refl
 question_leaves chain state requests.Quiet kind = absurd kind
 question_leaves chain state requests.Commit kind = absurd kind
 question_leaves chain state (requests.Offer item) kind = absurd kind
+question_leaves chain state _ kind = refl
 
 question_is_told : (chain : ChainHash) (number : ℕ) (state : State) (request : Request)
     → IsOfKind kinds.Question request
     → question_text chain state.known state.committed number request ≡ text_for chain number state request
-question_is_told chain number state requests.Bad kind = refl
-question_is_told chain number state (requests.Query bytes) kind = refl
-question_is_told chain number state (requests.Filter peer bytes) kind = refl
-question_is_told chain number state (requests.Route payment) kind = refl
 question_is_told chain number state requests.Quiet kind = absurd kind
 question_is_told chain number state requests.Commit kind = absurd kind
 question_is_told chain number state (requests.Offer item) kind = absurd kind
+question_is_told chain number state _ kind = refl
 
 -- several
 pub questions_leave : (chain : ChainHash) (state : State) (asked : List Request) → AllByRecursion (IsOfKind kinds.Question) asked
@@ -132,20 +113,14 @@ alone_leaves : (chain : ChainHash) (state : State) (request : Request) → IsOfK
 alone_leaves chain state requests.Quiet kind = refl
 alone_leaves chain state requests.Bad kind = refl
 alone_leaves chain state requests.Commit kind = refl
-alone_leaves chain state (requests.Offer item) kind = absurd kind
-alone_leaves chain state (requests.Query bytes) kind = absurd kind
-alone_leaves chain state (requests.Filter peer bytes) kind = absurd kind
-alone_leaves chain state (requests.Route payment) kind = absurd kind
+alone_leaves chain state _ kind = absurd kind
 
 alone_is_told : (chain : ChainHash) (number : ℕ) (state : State) (request : Request)
     → IsOfKind kinds.Other request → text_alone number state request ≡ text_for chain number state request
 alone_is_told chain number state requests.Quiet kind = refl
 alone_is_told chain number state requests.Bad kind = refl
 alone_is_told chain number state requests.Commit kind = refl
-alone_is_told chain number state (requests.Offer item) kind = absurd kind
-alone_is_told chain number state (requests.Query bytes) kind = absurd kind
-alone_is_told chain number state (requests.Filter peer bytes) kind = absurd kind
-alone_is_told chain number state (requests.Route payment) kind = absurd kind
+alone_is_told chain number state _ kind = absurd kind
 
 -- ---- what lines ask
 
