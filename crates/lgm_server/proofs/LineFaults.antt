@@ -44,11 +44,11 @@ module _ {E : Type 0} (T : Type 0) (of : LineFault → E) (line_of : E → Optio
     pub well : ended (of fault) ≢ ended (of lines.Write) → writes' ≡ writes
 
   pub ends_at : {U : Type 0} (fault : LineFault) (other : E) → line_of other ≡ None
-      → (reads mid reads' writes between writes' : ℕ) → mid ≡ reads → between ≡ writes
+      → {reads mid reads' writes between writes' : ℕ} → mid ≡ reads → between ≡ writes
       → (failed {T = U} fault ≢ failed lines.Write → writes' ≡ between)
       → (failed {T = U} fault ≡ failed lines.Write → between < writes')
       → (failed {T = U} fault ≡ failed lines.Read → mid < reads') → EndsAt fault other reads reads' writes writes'
-  ends_at {U = U} fault other none reads mid reads' writes between writes' read_same write_same told lost cause = record {
+  ends_at {U = U} fault other none read_same write_same told lost cause = record {
     not_other = never other none fault;
     too_long = line_is fault lines.TooLong;
     read = λ same. omega (arith, cause (ap failed (line_is fault lines.Read same)), read_same);

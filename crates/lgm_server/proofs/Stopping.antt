@@ -25,21 +25,16 @@ abbrev ended : RunFault → Result Counts RunFault
 ended e = Err e
 
 -- the fault of a line, from that of the run
-line_of : RunFault → Option LineFault
+abbrev line_of : RunFault → Option LineFault
 line_of faults.Read = Some lines.Read
 line_of faults.Write = Some lines.Write
 line_of faults.LineTooLong = Some lines.TooLong
 line_of _ = None
 
 line_back : (fault : LineFault) → line_of (line_fault fault) ≡ Some fault
-unfolding line_of
 line_back lines.Read = refl
 line_back lines.Write = refl
 line_back lines.TooLong = refl
-
-many_is_none : line_of faults.TooManyLines ≡ None
-unfolding line_of
-many_is_none = refl
 
 -- whatever the fault of a line, a first part was told
 line_some : {T : Type 0} (fault : LineFault) (mid new : OutputState)
@@ -71,10 +66,8 @@ module _ {R W : Type 0} {left : R → Option (List ℕ)} {read_failures : R → 
       let input = ahead buffered' (left source') in
       let so_far = so_far_on up_to buffered' source' kept in
       let end =
-      ends_at Counts line_fault line_of line_back {U = T} fault faults.TooManyLines many_is_none
-      (read_failures source) (read_failures mid) (read_failures source') (write_failures output.writer.now)
-      (write_failures between.writer.now) (write_failures output'.writer.now) up_to.read_same up_to.write_same
-      (λ not. (told not).well) (λ is. (part is).cause refl) read in
+      ends_at Counts line_fault line_of line_back {U = T} fault faults.TooManyLines refl up_to.read_same
+      up_to.write_same (λ not. (told not).well) (λ is. (part is).cause refl) read in
       record {
         ok = tt;
         too_many = λ same. absurd (end.not_other same);
