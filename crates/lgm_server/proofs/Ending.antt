@@ -6,7 +6,7 @@ use Rattle.std.proofs.lemmas.Result.{IfOk-weaker}
 use Rattle.lgm_wire.specs.declared.chain_hash.ChainHash.{ChainHash}
 use Rattle.lgm_script.specs.declared.output.SendFault.TheVariants.{Write as SendWrite}
 use Rattle.lgm_script.specs.Device.{Appends, AppendsSome}
-use Rattle.lgm_script.specs.Output.{OutputState, Tells, TellsPart, TellsSome}
+use Rattle.lgm_script.specs.Output.{OutputState, Tells, TellsSome}
 use Rattle.lgm_script.proofs.Appending.{appends_nothing}
 use Rattle.lgm_script.proofs.Telling.{taken_all, taken_some, some_flushed, some_flushed_part}
 use Rattle.lgm_server.specs.declared.run_fault.RunFault.{RunFault}
