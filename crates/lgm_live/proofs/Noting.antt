@@ -26,31 +26,16 @@ with_lines-push so_far [] request = refl
 with_lines-push so_far (r ∷ asked) request = with_lines-push (with_line so_far r) asked request
 
 slots_stay : (so_far : Gathered) (request : Request) → (with_request so_far request).slots ≡ so_far.slots
-slots_stay so_far requests.Quiet = refl
-slots_stay so_far requests.Bad = refl
-slots_stay so_far (requests.Offer item) = refl
 slots_stay so_far requests.Commit = refl
-slots_stay so_far (requests.Query bytes) = refl
-slots_stay so_far (requests.Filter peer bytes) = refl
-slots_stay so_far (requests.Route payment) = refl
+slots_stay so_far _ = refl
 
 workers_stay : (so_far : Gathered) (request : Request) → length (with_line so_far request).lists ≡ length so_far.lists
-workers_stay so_far requests.Quiet = refl
-workers_stay so_far requests.Bad = refl
-workers_stay so_far (requests.Offer item) = refl
-workers_stay so_far requests.Commit = refl
-workers_stay so_far (requests.Query bytes) = refl
-workers_stay so_far (requests.Filter peer bytes) = refl
 workers_stay so_far (requests.Route payment) = length-set so_far.lists (so_far.payments % length so_far.lists) _
+workers_stay so_far _ = refl
 
 payments_grow : (so_far : Gathered) (request : Request) → (with_line so_far request).payments ≤ so_far.payments + 1
-payments_grow so_far requests.Quiet = omega arith
-payments_grow so_far requests.Bad = omega arith
-payments_grow so_far (requests.Offer item) = omega arith
-payments_grow so_far requests.Commit = omega arith
-payments_grow so_far (requests.Query bytes) = omega arith
-payments_grow so_far (requests.Filter peer bytes) = omega arith
 payments_grow so_far (requests.Route payment) = omega arith
+payments_grow so_far _ = omega arith
 
 -- ---- all lines
 
@@ -71,14 +56,9 @@ slots_are so_far (request ∷ asked) =
 batches_are : (so_far : Gathered) (asked : List Request) → (with_lines so_far asked).batches
     ++ (with_lines so_far asked).batch ∷ [] ≡ so_far.batches ++ batches_behind so_far.batch asked
 batches_are so_far [] = refl
-batches_are so_far (requests.Quiet ∷ asked) = batches_are (with_line so_far requests.Quiet) asked
-batches_are so_far (requests.Bad ∷ asked) = batches_are (with_line so_far requests.Bad) asked
-batches_are so_far (requests.Offer item ∷ asked) = batches_are (with_line so_far (requests.Offer item)) asked
 batches_are so_far (requests.Commit ∷ asked) =
     batches_are (with_line so_far requests.Commit) asked ∙ append_assoc so_far.batches (so_far.batch ∷ []) (batches_behind [] asked)
-batches_are so_far (requests.Query bytes ∷ asked) = batches_are (with_line so_far (requests.Query bytes)) asked
-batches_are so_far (requests.Filter peer bytes ∷ asked) = batches_are (with_line so_far (requests.Filter peer bytes)) asked
-batches_are so_far (requests.Route payment ∷ asked) = batches_are (with_line so_far (requests.Route payment)) asked
+batches_are so_far (request ∷ asked) = batches_are (with_line so_far request) asked
 
 -- what one worker is dealt of payments from a place on
 abbrev dealt_on : ℕ → ℕ → ℕ → List Payment → List RouteRequest
@@ -111,18 +91,10 @@ lists_with so_far payment payments workers worker many below =
 lists_are : (so_far : Gathered) (asked : List Request) (workers worker : ℕ) → length so_far.lists ≡ workers → worker < workers
     → get_or (with_lines so_far asked).lists worker [] ≡ get_or so_far.lists worker [] ++ dealt_on workers worker so_far.payments (payments_of asked)
 lists_are so_far [] workers worker many below = sym (append-nil (get_or so_far.lists worker []))
-lists_are so_far (requests.Quiet ∷ asked) workers worker many below = lists_are (with_line so_far requests.Quiet) asked workers worker many below
-lists_are so_far (requests.Bad ∷ asked) workers worker many below = lists_are (with_line so_far requests.Bad) asked workers worker many below
-lists_are so_far (requests.Offer item ∷ asked) workers worker many below =
-    lists_are (with_line so_far (requests.Offer item)) asked workers worker many below
-lists_are so_far (requests.Commit ∷ asked) workers worker many below = lists_are (with_line so_far requests.Commit) asked workers worker many below
-lists_are so_far (requests.Query bytes ∷ asked) workers worker many below =
-    lists_are (with_line so_far (requests.Query bytes)) asked workers worker many below
-lists_are so_far (requests.Filter peer bytes ∷ asked) workers worker many below =
-    lists_are (with_line so_far (requests.Filter peer bytes)) asked workers worker many below
 lists_are so_far (requests.Route payment ∷ asked) workers worker many below =
     lists_are (with_line so_far (requests.Route payment)) asked workers worker (workers_stay so_far (requests.Route payment) ∙ many) below
     ∙ lists_with so_far payment (payments_of asked) workers worker many below
+lists_are so_far (request ∷ asked) workers worker many below = lists_are (with_line so_far request) asked workers worker many below
 
 -- ---- the agenda
 

@@ -1,92 +1,149 @@
--- How reading a script ends.
-use Rattle.std.proofs.Common.{◌≡◌, ℕ, ◌<◌, List, [], Option, Result, Err, refl, sym, ap, ◌∙◌, arith}
+-- How reading a script goes on and ends.
+use Rattle.std.proofs.Common.{◌≡◌, ℕ, ◌+◌, ◌<◌, ◌≤◌, List, [], ◌∷◌, ◌++◌, length, take, drop, Option, Some, None, Result, Ok, Err, refl, sym, subst, ◌∙◌}
 use Rattle.std.specs.Prelude.{◌≢◌, IfSome, IfOk}
 use Rattle.lgm_script.specs.declared.output.Output.{Output}
 use Rattle.lgm_script.specs.declared.output.SendFault.TheVariants.{Write as SendWrite}
 use Rattle.lgm_script.specs.declared.reading.LineFault.{LineFault}
 use Rattle.lgm_script.specs.declared.reading.LineFault.TheVariants as lines
+use Rattle.lgm_script.specs.declared.request.Request.{Request}
+use Rattle.lgm_script.specs.Device.{IsAtEnd}
+use Rattle.lgm_script.specs.Lines.{ahead, IsFirstLine, IsLongerThan}
 use Rattle.lgm_script.specs.Output.{Sends, SendsPart, seen}
+use Rattle.lgm_script.specs.Request.{request_of}
+use Rattle.lgm_server.proofs.LineFaults.{failed, ends_at}
 use Rattle.lgm_live.specs.declared.run_live_fault.RunLiveFault.{RunLiveFault}
 use Rattle.lgm_live.specs.declared.run_live_fault.RunLiveFault.TheVariants as faults
-use Rattle.lgm_live.specs.Running.{line_fault, HasMoreLines, HasLongLine}
-use Rattle.lgm_live.specs.inner.Reading.{HasRead}
-use Rattle.lgm_live.proofs.WholeLines.{silent, silent_fault, failed}
+use Rattle.lgm_live.specs.Running.{line_fault, HasMoreLines}
+use Rattle.lgm_live.specs.inner.Gathered.{Gathered}
+use Rattle.lgm_live.specs.inner.Reading.{HasRead, IsNoted, with_lines}
+use Rattle.lgm_live.proofs.WholeLines.{SoFar, starts, step, ends, many, long, silent, silent_fault}
 
 abbrev ended : RunLiveFault → Result (Unit {0}) RunLiveFault
 ended e = Err e
 
-ended_is : (a b : RunLiveFault) → ended a ≡ ended b → a ≡ b
-ended_is a b e = cc
-
-failed_is : {T : Type 0} (a b : LineFault) → failed {T = T} a ≡ failed b → a ≡ b
-failed_is a b e = cc
-
 -- the fault of a line, from that of the run
-line_of : RunLiveFault → LineFault
-line_of faults.Read = lines.Read
-line_of faults.Write = lines.Write
-line_of _ = lines.TooLong
+abbrev line_of : RunLiveFault → Option LineFault
+line_of faults.LineTooLong = Some lines.TooLong
+line_of faults.Read = Some lines.Read
+line_of faults.Write = Some lines.Write
+line_of _ = None
 
-line_back : (fault : LineFault) → line_of (line_fault fault) ≡ fault
-unfolding line_of
+line_back : (fault : LineFault) → line_of (line_fault fault) ≡ Some fault
 line_back lines.Read = refl
 line_back lines.Write = refl
 line_back lines.TooLong = refl
 
-line_is : (a b : LineFault) → ended (line_fault a) ≡ ended (line_fault b) → a ≡ b
-line_is a b e = sym (line_back a) ∙ ap line_of (ended_is (line_fault a) (line_fault b) e) ∙ line_back b
+-- these were asked so far, nothing was written meanwhile, and no device failed
+pub record IsReadTo {R W : Type 0} (left : R → Option (List ℕ)) (read_failures : R → ℕ)
+    (taken : W → Option (List ℕ)) (write_failures : W → ℕ) (source : R) (output : Output W) (asked : List Request)
+    (buffered : List ℕ) (mid : R) (between : Output W) : Type 0 where
+  pub read_same : read_failures mid ≡ read_failures source
+  pub write_same : write_failures between.writer.now ≡ write_failures output.writer.now
+  pub taken_same : taken between.writer.now ≡ taken output.writer.now
+  pub clear : between.gathered.now.items ≡ []
+  pub so_far : SoFar (left source) asked (ahead buffered (left mid))
 
-never_many : (fault : LineFault) → ended (line_fault fault) ≢ ended faults.TooManyLines
-never_many lines.Read e = cc
-never_many lines.Write e = cc
-never_many lines.TooLong e = cc
-
-module _ {R W : Type 0} (left : R → Option (List ℕ)) (read_failures : R → ℕ) (taken : W → Option (List ℕ))
-    (write_failures : W → ℕ) (source mid source' : R) (output between output' : Output W)
-    (whole : Unit {0} → Type 0) (read_same : read_failures mid ≡ read_failures source)
-    (write_same : write_failures between.writer.now ≡ write_failures output.writer.now)
-    (taken_same : taken between.writer.now ≡ taken output.writer.now)
-    (clear : between.gathered.now.items ≡ []) where
-  abbrev Has : Result (Unit {0}) RunLiveFault → Type 0
-  Has result = HasRead left read_failures taken write_failures source source' output output' whole result
-
+module _ {R W : Type 0} {left : R → Option (List ℕ)} {read_failures : R → ℕ} {taken : W → Option (List ℕ)}
+    {write_failures : W → ℕ} {source : R} {output : Output W} {asked : List Request} {buffered : List ℕ} {mid : R}
+    {between : Output W}
+    (read_to : IsReadTo left read_failures taken write_failures source output asked buffered mid between) where
   -- a line couldn't be read
-  pub line_failed : {T : Type 0} (fault : LineFault)
+  pub line_failed : {T : Type 0} {whole : Unit {0} → Type 0} (buffered' : List ℕ) (source' : R) (output' : Output W)
+      (fault : LineFault) → ahead buffered' (left source') ≡ ahead buffered (left mid)
       → (failed {T = T} fault ≢ failed lines.Write → Sends taken write_failures between output' [])
       → (failed {T = T} fault ≡ failed lines.Write → SendsPart taken write_failures between output' [] SendWrite)
       → (failed {T = T} fault ≡ failed lines.Read → read_failures mid < read_failures source')
-      → (fault ≡ lines.TooLong → IfSome (left source) HasLongLine) → Has (ended (line_fault fault))
-  line_failed {T = T} fault told part read long =
+      → (fault ≡ lines.TooLong → (length asked < 10000000) × IsLongerThan 140000 (ahead buffered' (left source')))
+      → HasRead left read_failures taken write_failures source source' output output' whole (ended (line_fault fault))
+  line_failed {T = T} buffered' source' output' fault kept told part read longer =
+      let input = ahead buffered' (left source') in
       let quiet =
-      silent_fault {T = T} fault (seen taken write_failures between) (seen taken write_failures output') clear told
-      part in
+      silent_fault {T = T} fault (seen taken write_failures between) (seen taken write_failures output')
+      read_to.clear told part in
+      let end =
+      ends_at (Unit {0}) line_fault line_of line_back {U = T} fault faults.TooManyLines refl read_to.read_same
+      read_to.write_same (λ not. (told not).well) (λ is. (part is).cause refl) read in
       record {
         ok = tt;
-        too_many = λ same. absurd (never_many fault same);
-        too_long = λ same. long (line_is fault lines.TooLong same);
-        silent = quiet.taken ∙ taken_same;
+        too_many = λ same. absurd (end.not_other same);
+        too_long = λ same. let is = end.too_long same in
+            long (left source) asked input (subst (SoFar (left source) asked) (sym kept) read_to.so_far) (longer is).0 (longer is).1;
+        silent = quiet.taken ∙ read_to.taken_same;
         gathered = quiet.clear;
-        read = λ same. omega (arith, read (ap failed (line_is fault lines.Read same)), read_same);
-        write = λ same. let lost = part (ap failed (line_is fault lines.Write same)) in
-            omega (arith, lost.cause refl, write_same);
-        well = λ other. let sent = told (λ same. other (ap (λ (f : LineFault). ended (line_fault f))
-            (failed_is {T = T} fault lines.Write same))) in
-            sent.well ∙ write_same;
+        read = end.read;
+        write = end.write;
+        well = end.well;
       }
 
-  -- it ended otherwise, and no device failed
-  pub line_read : (result : Result (Unit {0}) RunLiveFault) → Sends taken write_failures between output' []
-      → IfOk result whole → (result ≡ ended faults.TooManyLines → IfSome (left source) HasMoreLines)
-      → result ≢ ended faults.LineTooLong → result ≢ ended faults.Read → result ≢ ended faults.Write → Has result
-  line_read result told ok many long read write =
-      let quiet = silent (seen taken write_failures between) (seen taken write_failures output') clear told in
+  -- more was read
+  pub read_on : (buffered' : List ℕ) (source' : R) (output' : Output W)
+      → ahead buffered' (left source') ≡ ahead buffered (left mid) → read_failures source' ≡ read_failures mid
+      → Sends taken write_failures between output' []
+      → IsReadTo left read_failures taken write_failures source output asked buffered' source' output'
+  read_on buffered' source' output' kept well told =
+      let quiet = silent (seen taken write_failures between) (seen taken write_failures output') read_to.clear told in
       record {
-        ok = ok;
-        too_many = many;
-        too_long = λ same. absurd (long same);
-        silent = quiet.taken ∙ taken_same;
-        gathered = quiet.clear;
-        read = λ same. absurd (read same);
-        write = λ same. absurd (write same);
-        well = λ _. told.well ∙ write_same;
+        read_same = well ∙ read_to.read_same;
+        write_same = told.well ∙ read_to.write_same;
+        taken_same = quiet.taken ∙ read_to.taken_same;
+        clear = quiet.clear;
+        so_far = subst (SoFar (left source) asked) (sym kept) read_to.so_far;
       }
+
+  -- one more line is asked
+  pub line_read : (count : ℕ) → IsFirstLine buffered (left mid) count → count ≤ 140000
+      → IsReadTo left read_failures taken write_failures source output
+      (asked ++ request_of (take count buffered) ∷ []) (drop (count + 1) buffered) mid between
+  line_read count first small =
+      record {
+        read_same = read_to.read_same;
+        write_same = read_to.write_same;
+        taken_same = read_to.taken_same;
+        clear = read_to.clear;
+        so_far = step (left source) asked count buffered (left mid) read_to.so_far first small;
+      }
+
+  -- it ended otherwise after what was read, and no device failed
+  has_ended : (whole : Unit {0} → Type 0) (result : Result (Unit {0}) RunLiveFault) → IfOk result whole
+      → (result ≡ ended faults.TooManyLines → IfSome (left source) HasMoreLines)
+      → result ≢ ended faults.LineTooLong → result ≢ ended faults.Read → result ≢ ended faults.Write
+      → HasRead left read_failures taken write_failures source mid output between whole result
+  has_ended whole result ok too_many too_long read write = record {
+    ok = ok;
+    too_many = too_many;
+    too_long = λ same. absurd (too_long same);
+    silent = read_to.taken_same;
+    gathered = read_to.clear;
+    read = λ same. absurd (read same);
+    write = λ same. absurd (write same);
+    well = λ _. read_to.write_same;
+  }
+
+  -- all lines were read
+  pub all_read : (old new : Gathered) → new ≡ with_lines old asked → length asked ≤ 10000000
+      → IsAtEnd (ahead buffered (left mid))
+      → HasRead left read_failures taken write_failures source mid output between (λ _. IsNoted (left source) old new) (Ok (tt {0}))
+  all_read old new noted few end =
+      has_ended (λ _. IsNoted (left source) old new) (Ok (tt {0}))
+      (record {
+        asked = asked;
+        few = few;
+        noted = noted;
+        whole = ends (left source) asked (ahead buffered (left mid)) read_to.so_far end few;
+      })
+      (λ same. absurd cc) (λ same. absurd cc) (λ same. absurd cc) (λ same. absurd cc)
+
+  -- there are more lines
+  pub more_lines : {whole : Unit {0} → Type 0} → length asked ≡ 10000000 → 0 < length buffered
+      → HasRead left read_failures taken write_failures source mid output between whole (ended faults.TooManyLines)
+  more_lines {whole} full more =
+      has_ended whole (ended faults.TooManyLines) tt
+      (λ _. many (left source) asked buffered (left mid) read_to.so_far more full)
+      (λ same. absurd cc) (λ same. absurd cc) (λ same. absurd cc)
+
+  -- memory ran out
+  pub no_memory : {whole : Unit {0} → Type 0}
+      → HasRead left read_failures taken write_failures source mid output between whole (ended faults.NoMemory)
+  no_memory {whole} =
+      has_ended whole (ended faults.NoMemory) tt (λ same. absurd cc) (λ same. absurd cc) (λ same. absurd cc)
+      (λ same. absurd cc)

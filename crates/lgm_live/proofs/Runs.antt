@@ -17,56 +17,63 @@ use Rattle.lgm_live.specs.Text.{live_text, AreSame}
 use Rattle.lgm_live.proofs.Slots.{text_is, all_there}
 use Rattle.lgm_live.proofs.Scripts.{are_same, is_full}
 
--- a report on what is on an agenda
-pub on_agenda : (chain : ChainHash) (known : Option (List ℕ)) (workers : ℕ) (asked : List Request)
-    (agenda : Gathered) (batches : List (List Item)) (lists : List (List RouteRequest)) (report : LiveReport)
-    → IsAgenda workers asked agenda → batches ≡ agenda.batches → lists ≡ agenda.lists
-    → IsReport chain known batches lists report → IsReportOn chain known workers asked report
-on_agenda chain known workers asked agenda batches lists report is batches_are lists_are reported =
-    subst (λ ls. IsReport chain known (batches_of asked) ls report) (lists_are ∙ is.lists)
-    (subst (λ bs. IsReport chain known bs lists report) (batches_are ∙ is.batches) reported)
+-- a report on what is on an agenda, with a slot for each request
+pub record IsReported (chain : ChainHash) (known : Option (List ℕ)) (workers : ℕ) (asked : List Request)
+    (all : List Slot) (report : LiveReport) : Type 0 where
+  pub some : 0 < workers
+  pub is_report : IsReportOn chain known workers asked report
+  pub slots : all ≡ map slot_of asked
 
-pub there : (chain : ChainHash) (known : Option (List ℕ)) (workers : ℕ) (asked : List Request)
-    (report : LiveReport) (all : List Slot) → 0 < workers → IsReportOn chain known workers asked report
-    → all ≡ map slot_of asked → AreThere workers report all
-there chain known workers asked report all some is slots_are =
-    all_there workers known report asked all (is_full chain known workers asked report is)
-    (are_same chain known workers asked report some is) slots_are
-
-pub whole : (chain : ChainHash) (known : Option (List ℕ)) (workers : ℕ) (script : Option (List ℕ))
-    (asked : List Request) (report : LiveReport) (all : List Slot) (old mid new : Option (List ℕ))
-    → 0 < workers
-    → IfSome script (IsAsked asked) → IsReportOn chain known workers asked report → all ≡ map slot_of asked
-    → mid ≡ old → Appends mid new (slots_before workers report all (length all))
-    → IfSome script (IsToldWhole chain known workers (Appends old new) report)
-whole chain known workers None asked report all old mid new some read is slots_are same told = tt
-whole chain known workers (Some script) asked report all old mid new some read is slots_are same told =
-    let same_answers = are_same chain known workers asked report some is in
-    let text : Appends old new (live_text workers known report asked) =
-    subst (λ o. Appends o new (live_text workers known report asked)) same (subst (Appends mid new)
-    (sym (text_is workers known report asked all same_answers slots_are)) told) in
+pub reported : {chain : ChainHash} {known : Option (List ℕ)} {workers : ℕ} {asked : List Request} {agenda : Gathered}
+    {batches : List (List Item)} {lists : List (List RouteRequest)} {all : List Slot} {report : LiveReport}
+    → 0 < workers → IsAgenda workers asked agenda → batches ≡ agenda.batches → lists ≡ agenda.lists
+    → all ≡ agenda.slots → IsReport chain known batches lists report → IsReported chain known workers asked all report
+reported {chain} {known} {workers} {asked} {lists = lists} {report = report} some is batches_are lists_are slots_are report_is =
     record {
-      limits = read.limits;
-      is_report = subst (λ rs. IsReportOn chain known workers rs report) read.all is;
-      text = subst (λ rs. Appends old new (live_text workers known report rs)) read.all text;
-      same = subst (λ rs. AreSame workers known report (payments_of rs)) read.all same_answers;
+      some = some;
+      is_report =
+          subst (λ ls. IsReport chain known (batches_of asked) ls report) (lists_are ∙ is.lists)
+          (subst (λ bs. IsReport chain known bs lists report) (batches_are ∙ is.batches) report_is);
+      slots = slots_are ∙ is.slots;
     }
 
-pub in_part : (chain : ChainHash) (known : Option (List ℕ)) (workers : ℕ) (script : Option (List ℕ))
-    (asked : List Request) (report : LiveReport) (all : List Slot) (old mid new : Option (List ℕ))
-    → 0 < workers
-    → IfSome script (IsAsked asked) → IsReportOn chain known workers asked report → all ≡ map slot_of asked
-    → mid ≡ old → AppendsSome mid new (slots_before workers report all (length all))
-    → IfSome script (IsToldInPart chain known workers (AppendsSome old new))
-in_part chain known workers None asked report all old mid new some read is slots_are same told = tt
-in_part chain known workers (Some script) asked report all old mid new some read is slots_are same told =
-    let same_answers = are_same chain known workers asked report some is in
-    let text : AppendsSome old new (live_text workers known report asked) =
-    subst (λ o. AppendsSome o new (live_text workers known report asked)) same (subst (AppendsSome mid new)
-    (sym (text_is workers known report asked all same_answers slots_are)) told) in
-    record {
-      limits = read.limits;
-      report = report;
-      is_report = subst (λ rs. IsReportOn chain known workers rs report) read.all is;
-      text = subst (λ rs. AppendsSome old new (live_text workers known report rs)) read.all text;
-    }
+module _ {chain : ChainHash} {known : Option (List ℕ)} {workers : ℕ} {asked : List Request} {all : List Slot}
+    {report : LiveReport} (is : IsReported chain known workers asked all report) where
+  same_answers : AreSame workers known report (payments_of asked)
+  same_answers = are_same chain known workers asked report is.some is.is_report
+
+  pub there : AreThere workers report all
+  there = all_there workers known report asked all (is_full chain known workers asked report is.is_report) same_answers is.slots
+
+  -- what is told by slots is the text of the script
+  as_text : (Told : Option (List ℕ) → List ℕ → Type 0) (old mid : Option (List ℕ)) → mid ≡ old
+      → Told mid (slots_before workers report all (length all)) → Told old (live_text workers known report asked)
+  as_text Told old mid same told =
+      subst (λ o. Told o (live_text workers known report asked)) same
+      (subst (Told mid) (sym (text_is workers known report asked all same_answers is.slots)) told)
+
+  pub whole : (script old mid new : Option (List ℕ)) → IfSome script (IsAsked asked) → mid ≡ old
+      → Appends mid new (slots_before workers report all (length all))
+      → IfSome script (IsToldWhole chain known workers (Appends old new) report)
+  whole None old mid new read same told = tt
+  whole (Some script) old mid new read same told = record {
+    limits = read.limits;
+    is_report = subst (λ rs. IsReportOn chain known workers rs report) read.all is.is_report;
+    text =
+        subst (λ rs. Appends old new (live_text workers known report rs)) read.all
+        (as_text (λ o. Appends o new) old mid same told);
+    same = subst (λ rs. AreSame workers known report (payments_of rs)) read.all same_answers;
+  }
+
+  pub in_part : (script old mid new : Option (List ℕ)) → IfSome script (IsAsked asked) → mid ≡ old
+      → AppendsSome mid new (slots_before workers report all (length all))
+      → IfSome script (IsToldInPart chain known workers (AppendsSome old new))
+  in_part None old mid new read same told = tt
+  in_part (Some script) old mid new read same told = record {
+    limits = read.limits;
+    report = report;
+    is_report = subst (λ rs. IsReportOn chain known workers rs report) read.all is.is_report;
+    text =
+        subst (λ rs. AppendsSome old new (live_text workers known report rs)) read.all
+        (as_text (λ o. AppendsSome o new) old mid same told);
+  }

@@ -45,30 +45,15 @@ found_count h p same (r ∷ asked) = one_found (h r) (filter_map h asked) p (slo
 
 offers : (r : Request) → is_some (item_in r) ≡ is_item (slot_of r)
 offers requests.Quiet = refl
-offers requests.Bad = refl
-offers (requests.Offer item) = refl
-offers requests.Commit = refl
-offers (requests.Query bytes) = refl
-offers (requests.Filter peer bytes) = refl
-offers (requests.Route payment) = refl
+offers _ = refl
 
 pays : (r : Request) → is_some (payment_in r) ≡ is_payment (slot_of r)
 pays requests.Quiet = refl
-pays requests.Bad = refl
-pays (requests.Offer item) = refl
-pays requests.Commit = refl
-pays (requests.Query bytes) = refl
-pays (requests.Filter peer bytes) = refl
-pays (requests.Route payment) = refl
+pays _ = refl
 
 commits : (r : Request) → is_commit r ≡ is_end (slot_of r)
 commits requests.Quiet = refl
-commits requests.Bad = refl
-commits (requests.Offer item) = refl
-commits requests.Commit = refl
-commits (requests.Query bytes) = refl
-commits (requests.Filter peer bytes) = refl
-commits (requests.Route payment) = refl
+commits _ = refl
 
 items_count : (asked : List Request) → length (items_of asked) ≡ count_by is_item (map slot_of asked)
 items_count asked = found_count item_in is_item offers asked

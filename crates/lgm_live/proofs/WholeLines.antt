@@ -1,19 +1,21 @@
 -- How far a script was read.
-use Rattle.std.proofs.Common.{◌≡◌, ℕ, ◌+◌, ◌<◌, ◌≤◌, Bool, true, false, cond, eqb, List, [], ◌∷◌, ◌++◌, length, map}
-use Rattle.std.proofs.Common.{get_or, take, drop, Option, Some, None, Result, Err, refl, sym, ap, subst, ◌∙◌, arith}
+use Rattle.std.proofs.Common.{◌≡◌, ℕ, ◌+◌, ◌<◌, ◌≤◌, List, [], ◌∷◌, ◌++◌, length, map}
+use Rattle.std.proofs.Common.{get_or, take, drop, Option, Some, None, refl, sym, ap, subst, ◌∙◌, arith}
 use Rattle.std.specs.Prelude.{◌≢◌, IfSome}
 use Rattle.std.specs.List.{AllByRecursion}
-use Rattle.std.proofs.lemmas.List.{append-nil, length-append, length-drop, take_all, take_more, drop_more, map_push, nil_from_length}
+use Rattle.std.proofs.lemmas.List.{append-nil, length-append, length-drop, length-take, take_all, take_more, drop_more, map_push, nil_from_length}
 use Rattle.lgm_script.specs.declared.request.Request.{Request}
 use Rattle.lgm_script.specs.declared.reading.LineFault.{LineFault}
 use Rattle.lgm_script.specs.declared.reading.LineFault.TheVariants as lines
 use Rattle.lgm_script.specs.declared.output.SendFault.TheVariants.{Write as SendWrite}
 use Rattle.lgm_script.specs.Device.{IsAtEnd, Appends}
-use Rattle.lgm_script.specs.Lines.{lines_of, onto_first, ahead, IsFirstLine, IsLongerThan}
+use Rattle.lgm_script.specs.Lines.{lines_of, ahead, IsFirstLine, IsLongerThan}
 use Rattle.lgm_script.specs.Output.{OutputState, Tells, TellsPart}
 use Rattle.lgm_script.specs.Request.{request_of}
 use Rattle.lgm_script.proofs.FirstLines.{each-push}
 use Rattle.lgm_script.proofs.Splitting.{next_of}
+use Rattle.lgm_server.proofs.LineFaults.{failed}
+use Rattle.lgm_server.proofs.Progress.{has_line, some_is}
 use Rattle.lgm_live.specs.Running.{AreShort, HasMoreLines, HasLongLine}
 use Rattle.lgm_live.specs.inner.Reading.{IsAsked}
 
@@ -37,27 +39,24 @@ starts (Some script) = record { rest = script; input_is = refl; left = refl; few
 abbrev some_bytes : List ℕ → Option (List ℕ)
 some_bytes bytes = Some bytes
 
-some_is : (a b : List ℕ) → some_bytes a ≡ some_bytes b → a ≡ b
-some_is a b e = cc
-
 -- ---- one line
 
 step_at : (script : List ℕ) (asked : List Request) (count : ℕ) (buffered left : List ℕ)
-    (input : Option (List ℕ)) → IsAt script asked input → ahead buffered (Some left) ≡ input
-    → IsFirstLine buffered (Some left) count → count ≤ 140000 → length (take count buffered) ≤ 140000
+    → IsAt script asked (ahead buffered (Some left)) → IsFirstLine buffered (Some left) count → count ≤ 140000
     → IsAt script (asked ++ request_of (take count buffered) ∷ []) (ahead (drop (count + 1) buffered) (Some left))
-step_at script asked count buffered left input at kept first small short =
+step_at script asked count buffered left at first small =
     let k = length asked in
     let all = lines_of script in
     let line = take count buffered in
     let rest = drop (count + 1) buffered ++ left in
     let next = next_of buffered left count first in
     let here : drop k all ≡ line ∷ lines_of rest =
-    sym at.left ∙ ap lines_of (sym (some_is (buffered ++ left) at.rest (kept ∙ at.input_is))) ∙ next.lines in
+    sym at.left ∙ ap lines_of (sym (some_is (buffered ++ left) at.rest at.input_is)) ∙ next.lines in
     let below : k < length all = omega (arith, ap length here, length-drop k all) in
     let parts : get_or all k [] ∷ drop (k + 1) all ≡ line ∷ lines_of rest = sym (drop_more all k [] below) ∙ here in
     let is : get_or all k [] ≡ line = ap (λ (ls : List (List ℕ)). get_or ls 0 []) parts in
     let front : take (k + 1) all ≡ take k all ++ line ∷ [] = take_more all k [] below ∙ ap (λ (l : List ℕ). take k all ++ l ∷ []) is in
+    let short : length line ≤ 140000 = omega (arith, small, length-take count buffered) in
     let more : length (asked ++ request_of line ∷ []) ≡ k + 1 = omega (arith, length-append asked (request_of line ∷ [])) in
     record {
       rest = rest;
@@ -79,23 +78,22 @@ step_at script asked count buffered left input at kept first small short =
         ∙ ap (map request_of) (sym front)
 
 pub step : (script : Option (List ℕ)) (asked : List Request) (count : ℕ) (buffered : List ℕ)
-    (left input : Option (List ℕ)) → SoFar script asked input → ahead buffered left ≡ input
-    → IsFirstLine buffered left count → count ≤ 140000 → length (take count buffered) ≤ 140000
+    (left : Option (List ℕ)) → SoFar script asked (ahead buffered left) → IsFirstLine buffered left count
+    → count ≤ 140000
     → SoFar script (asked ++ request_of (take count buffered) ∷ []) (ahead (drop (count + 1) buffered) left)
-step None asked count buffered left input so_far kept first small short = tt
-step (Some script) asked count buffered None input so_far kept first small short = absurd (let bad = kept ∙ so_far.input_is in cc)
-step (Some script) asked count buffered (Some left) input so_far kept first small short =
-    step_at script asked count buffered left input so_far kept first small short
+step None asked count buffered left so_far first small = tt
+step (Some script) asked count buffered None so_far first small = absurd (let bad = so_far.input_is in cc)
+step (Some script) asked count buffered (Some left) so_far first small = step_at script asked count buffered left so_far first small
 
 -- ---- how it ends
 
-pub ends : (script : Option (List ℕ)) (asked : List Request) (input input' : Option (List ℕ)) → SoFar script
-    asked input → input' ≡ input → IsAtEnd input' → length asked ≤ 10000000 → IfSome script (IsAsked asked)
-ends None asked input input' so_far kept ended limit = tt
-ends (Some script) asked input None so_far kept ended limit = absurd (let bad = kept ∙ so_far.input_is in cc)
-ends (Some script) asked input (Some s) so_far kept ended limit =
+pub ends : (script : Option (List ℕ)) (asked : List Request) (input : Option (List ℕ)) → SoFar script asked input
+    → IsAtEnd input → length asked ≤ 10000000 → IfSome script (IsAsked asked)
+ends None asked input so_far ended limit = tt
+ends (Some script) asked None so_far ended limit = absurd (let bad = so_far.input_is in cc)
+ends (Some script) asked (Some s) so_far ended limit =
     let all = lines_of script in
-    let none : drop (length asked) all ≡ [] = sym so_far.left ∙ ap lines_of (sym (some_is s so_far.rest (kept ∙ so_far.input_is)) ∙ ended) in
+    let none : drop (length asked) all ≡ [] = sym so_far.left ∙ ap lines_of (sym (some_is s so_far.rest so_far.input_is) ∙ ended) in
     let few = so_far.few in
     let same : length asked ≡ length all = omega (arith, ap length none, length-drop (length asked) all) in
     let whole : take (length asked) all ≡ all = take_all (length asked) all (omega (arith, same)) in
@@ -107,25 +105,13 @@ ends (Some script) asked input (Some s) so_far kept ended limit =
       all = so_far.asked_is ∙ ap (map request_of) whole;
     }
 
-has_line : (bytes : List ℕ) → 0 < length bytes → 0 < length (lines_of bytes)
-has_line [] some = absurd (omega arith)
-has_line (b ∷ bs) some = by_test (eqb b 10)
-  where
-    onto : (ls : List (List ℕ)) → 0 < length (onto_first b ls)
-    onto [] = omega arith
-    onto (l ∷ ls) = omega arith
-
-    by_test : (t : Bool) → 0 < length (cond t ([] ∷ lines_of bs) (onto_first b (lines_of bs)))
-    by_test true = omega arith
-    by_test false = onto (lines_of bs)
-
-pub many : (script : Option (List ℕ)) (asked : List Request) (buffered : List ℕ) (left input : Option
-    (List ℕ)) → SoFar script asked input → ahead buffered left ≡ input → 0 < length buffered
-    → length asked ≡ 10000000 → IfSome script HasMoreLines
-many None asked buffered left input so_far kept more full = tt
-many (Some script) asked buffered None input so_far kept more full = absurd (let bad = kept ∙ so_far.input_is in cc)
-many (Some script) asked buffered (Some left) input so_far kept more full =
-    let rest_is : so_far.rest ≡ buffered ++ left = sym (some_is (buffered ++ left) so_far.rest (kept ∙ so_far.input_is)) in
+pub many : (script : Option (List ℕ)) (asked : List Request) (buffered : List ℕ) (left : Option (List ℕ))
+    → SoFar script asked (ahead buffered left) → 0 < length buffered → length asked ≡ 10000000
+    → IfSome script HasMoreLines
+many None asked buffered left so_far more full = tt
+many (Some script) asked buffered None so_far more full = absurd (let bad = so_far.input_is in cc)
+many (Some script) asked buffered (Some left) so_far more full =
+    let rest_is : so_far.rest ≡ buffered ++ left = sym (some_is (buffered ++ left) so_far.rest so_far.input_is) in
     let lines : lines_of (buffered ++ left) ≡ drop (length asked) (lines_of script) = ap lines_of (sym rest_is) ∙ so_far.left in
     let some = has_line (buffered ++ left) (omega (arith, length-append buffered left)) in
     record {
@@ -133,15 +119,14 @@ many (Some script) asked buffered (Some left) input so_far kept more full =
       short = subst (AreShort script) full so_far.short;
     }
 
-pub long : (script : Option (List ℕ)) (asked : List Request) (input input' : Option (List ℕ))
-    → SoFar script asked input → input' ≡ input → length asked < 10000000 → IsLongerThan 140000 input'
-    → IfSome script HasLongLine
-long None asked input input' so_far kept limit longer = tt
-long (Some script) asked input None so_far kept limit longer = absurd (let bad = kept ∙ so_far.input_is in cc)
-long (Some script) asked input (Some s) so_far kept limit longer =
+pub long : (script : Option (List ℕ)) (asked : List Request) (input : Option (List ℕ)) → SoFar script asked input
+    → length asked < 10000000 → IsLongerThan 140000 input → IfSome script HasLongLine
+long None asked input so_far limit longer = tt
+long (Some script) asked None so_far limit longer = absurd (let bad = so_far.input_is in cc)
+long (Some script) asked (Some s) so_far limit longer =
     let k = length asked in
     let all = lines_of script in
-    let here : drop k all ≡ longer.0 ∷ longer.1 = sym so_far.left ∙ ap lines_of (sym (some_is s so_far.rest (kept ∙ so_far.input_is))) ∙ longer.2 in
+    let here : drop k all ≡ longer.0 ∷ longer.1 = sym so_far.left ∙ ap lines_of (sym (some_is s so_far.rest so_far.input_is)) ∙ longer.2 in
     let below : k < length all = omega (arith, ap length here, length-drop k all) in
     let is : get_or all k [] ≡ longer.0 = ap (λ (ls : List (List ℕ)). get_or ls 0 []) (sym (drop_more all k [] below) ∙ here) in
     record { place = k; limit = limit; long = rw is longer.3; short = so_far.short }
@@ -176,9 +161,6 @@ silent_part old new clear part =
       taken = nothing_taken old.taken new.taken part.written (nil_from_length part.written (omega (arith, size, parts, fronts))) part.taken;
       clear = nil_from_length new.gathered (omega (arith, size, parts, fronts));
     }
-
-abbrev pub failed : {T : Type 0} → LineFault → Result T LineFault
-failed fault = Err fault
 
 -- whatever the fault
 pub silent_fault : {T : Type 0} (fault : LineFault) (old new : OutputState) → old.gathered ≡ []

@@ -1,10 +1,12 @@
 -- What was written, from what was told.
 use Rattle.std.proofs.Common.{◌≡◌, ◌⊎◌, inl, inr, ℕ, List, [], Option, Some, None, Result, Ok, Err, refl, sym, subst, ◌∙◌, arith}
-use Rattle.std.specs.Prelude.{IfSome, IfOk, IfErr}
+use Rattle.std.specs.Prelude.{◌≢◌, IfSome, IfOk, IfErr}
+use Rattle.std.proofs.lemmas.Option.{IfSome_then}
+use Rattle.std.proofs.lemmas.Result.{IfOk-weaker}
 use Rattle.lgm_wire.specs.declared.chain_hash.ChainHash.{ChainHash}
 use Rattle.lgm_script.specs.declared.output.SendFault.TheVariants.{Write as SendWrite}
 use Rattle.lgm_script.specs.Device.{Appends, AppendsSome}
-use Rattle.lgm_script.specs.Output.{OutputState, Tells, TellsPart, TellsSome}
+use Rattle.lgm_script.specs.Output.{OutputState, Tells, TellsSome}
 use Rattle.lgm_script.proofs.Appending.{appends_nothing}
 use Rattle.lgm_script.proofs.Telling.{taken_all, taken_some, some_flushed, some_flushed_part}
 use Rattle.lgm_server.specs.declared.run_fault.RunFault.{RunFault}
@@ -31,145 +33,97 @@ told_as chain known script n old mid new empty flushed clear told =
 abbrev fails : RunFault → Result Counts RunFault
 fails fault = Err fault
 
-pub ok_written : (chain : ChainHash) (known : Option (List ℕ)) (script : Option (List ℕ)) (old mid new : OutputState)
-    (answered result : Result Counts RunFault) → old.gathered ≡ []
-    → Ended mid new answered result
-    → IfOk answered (λ counts. IfSome script (IsAnswered chain known (Tells old mid) counts))
-    → IfOk result (λ counts. IfSome script (IsAnswered chain known (Appends old.taken new.taken) counts))
-ok_written chain known script old mid new answered result empty ended told =
+-- what holds at a fault that comes before the rest is written, also holds of what was written
+flushed_at : {P Q : Type 0} (mid new : OutputState) (answered result : Result Counts RunFault) (fault : RunFault)
+    → Ended mid new answered result → fails fault ≢ fails faults.Write → (answered ≡ fails fault → P)
+    → result ≡ fails fault → (IsFlushed mid new answered result → P → Q) → Q
+flushed_at mid new answered result fault ended other told is by =
     elim ended [
-      | inl flushed ↦ subst (λ r. IfOk r (λ counts. IfSome script (IsAnswered chain known
-          (Appends old.taken new.taken) counts))) (sym flushed.same) (by answered script flushed told)
-      | inr other ↦
-          elim other [ inl failed ↦ rw failed.write tt | inr before ↦ rw (before.same, before.failed) tt ]
-    ]
-  where
-    by : (a : Result Counts RunFault) (s : Option (List ℕ)) → IsFlushed mid new answered result
-        → IfOk a (λ counts. IfSome s (IsAnswered chain known (Tells old mid) counts))
-        → IfOk a (λ counts. IfSome s (IsAnswered chain known (Appends old.taken new.taken) counts))
-    by (Ok counts) None flushed told = tt
-    by (Ok counts) (Some s) flushed told = record {
-      lines = told.lines;
-      limit = told.limit;
-      accepted = told.accepted;
-      text = told_as chain known s counts.lines old mid new empty flushed.told flushed.clear told.text;
-    }
-    by (Err fault) s flushed told = tt
-
-pub many_written : (chain : ChainHash) (known : Option (List ℕ)) (script : Option (List ℕ))
-    (old mid new : OutputState) (answered result : Result Counts RunFault) → old.gathered ≡ []
-    → Ended mid new answered result
-    → (answered ≡ fails faults.TooManyLines → IfSome script (IsTooMany chain known (Tells old mid)))
-    → result ≡ fails faults.TooManyLines → IfSome script (IsTooMany chain known (Appends old.taken new.taken))
-many_written chain known script old mid new answered result empty ended told is =
-    elim ended [
-      | inl flushed ↦ by script flushed (told (sym flushed.same ∙ is))
-      | inr other ↦ elim other [
-        | inl failed ↦ absurd (let e = sym is ∙ failed.write in cc)
-        | inr before ↦ absurd (let e = sym is ∙ before.same ∙ before.failed in cc)
+      | inl flushed ↦ by flushed (told (sym flushed.same ∙ is))
+      | inr unwritten ↦ elim unwritten [
+        | inl failed ↦ absurd (other (sym is ∙ failed.write))
+        | inr before ↦ absurd (other (sym is ∙ before.same ∙ before.failed))
       ]
     ]
-  where
-    by : (s : Option (List ℕ)) → IsFlushed mid new answered result → IfSome s (IsTooMany chain known
-        (Tells old mid)) → IfSome s (IsTooMany chain known (Appends old.taken new.taken))
-    by None flushed told = tt
-    by (Some s) flushed told =
-        record {
-          more = told.more;
-          text = told_as chain known s 10000000 old mid new empty flushed.told flushed.clear told.text;
-        }
 
-pub long_written : (chain : ChainHash) (known : Option (List ℕ)) (script : Option (List ℕ))
-    (old mid new : OutputState) (answered result : Result Counts RunFault) → old.gathered ≡ []
-    → Ended mid new answered result
-    → (answered ≡ fails faults.LineTooLong → IfSome script (IsTooLong chain known (Tells old mid)))
-    → result ≡ fails faults.LineTooLong → IfSome script (IsTooLong chain known (Appends old.taken new.taken))
-long_written chain known script old mid new answered result empty ended told is =
-    elim ended [
-      | inl flushed ↦ by script flushed (told (sym flushed.same ∙ is))
-      | inr other ↦ elim other [
-        | inl failed ↦ absurd (let e = sym is ∙ failed.write in cc)
-        | inr before ↦ absurd (let e = sym is ∙ before.same ∙ before.failed in cc)
+-- a script that was cut short, of which another text is told
+cut_by : (chain : ChainHash) (known : Option (List ℕ)) (left script : Option (List ℕ)) (told told' : List ℕ → Type 0)
+    → ((text : List ℕ) → told text → told' text) → IfSome script (IsCutShort chain known told left)
+    → IfSome script (IsCutShort chain known told' left)
+cut_by chain known left script told told' by cut = IfSome_then script cut (λ s cut. record {
+  answered = cut.answered;
+  limit = cut.limit;
+  read = cut.read;
+  text = record { few = cut.text.few; short = cut.text.short; text = by _ cut.text.text };
+})
+
+if_err : {P : Type 0} (result : Result Counts RunFault) → P → IfErr result (λ _. P)
+if_err (Ok counts) holds = tt
+if_err (Err fault) holds = holds
+
+module _ (chain : ChainHash) (known : Option (List ℕ)) (script : Option (List ℕ)) (old mid new : OutputState)
+    (answered result : Result Counts RunFault) (empty : old.gathered ≡ []) (ended : Ended mid new answered result) where
+  ok_flushed : (counts : Counts) → IsFlushed mid new answered result
+      → IfSome script (IsAnswered chain known (Tells old mid) counts)
+      → IfSome script (IsAnswered chain known (Appends old.taken new.taken) counts)
+  ok_flushed counts flushed told = IfSome_then script told (λ s told. record {
+    lines = told.lines;
+    limit = told.limit;
+    accepted = told.accepted;
+    text = told_as chain known s counts.lines old mid new empty flushed.told flushed.clear told.text;
+  })
+
+  pub ok_written : IfOk answered (λ counts. IfSome script (IsAnswered chain known (Tells old mid) counts))
+      → IfOk result (λ counts. IfSome script (IsAnswered chain known (Appends old.taken new.taken) counts))
+  ok_written told =
+      elim ended [
+        | inl flushed ↦ subst (λ r. IfOk r (λ counts. IfSome script (IsAnswered chain known
+            (Appends old.taken new.taken) counts))) (sym flushed.same)
+            (IfOk-weaker answered _ _ (λ counts. ok_flushed counts flushed) told)
+        | inr other ↦
+            elim other [ inl failed ↦ rw failed.write tt | inr before ↦ rw (before.same, before.failed) tt ]
       ]
-    ]
-  where
-    by : (s : Option (List ℕ)) → IsFlushed mid new answered result → IfSome s (IsTooLong chain known
-        (Tells old mid)) → IfSome s (IsTooLong chain known (Appends old.taken new.taken))
-    by None flushed told = tt
-    by (Some s) flushed told =
-        record {
-          place = told.place;
-          limit = told.limit;
-          long = told.long;
-          text = told_as chain known s told.place old mid new empty flushed.told flushed.clear told.text;
-        }
 
--- the same lines, of which another thing is told
-told_by : {chain : ChainHash} {known : Option (List ℕ)} {told told' : List ℕ → Type 0} {script : List ℕ}
-    {n : ℕ} → ((t : List ℕ) → told t → told' t) → IsTold chain known told script n
-    → IsTold chain known told' script n
-told_by by is = record { few = is.few; short = is.short; text = by _ is.text }
+  pub many_written : (answered ≡ fails faults.TooManyLines → IfSome script (IsTooMany chain known (Tells old mid)))
+      → result ≡ fails faults.TooManyLines → IfSome script (IsTooMany chain known (Appends old.taken new.taken))
+  many_written told is =
+      flushed_at mid new answered result faults.TooManyLines ended (λ same. cc) told is
+      (λ flushed told. IfSome_then script told (λ s told. record {
+        more = told.more;
+        text = told_as chain known s 10000000 old mid new empty flushed.told flushed.clear told.text;
+      }))
 
--- a first part of what was told was written
-cut_written : (chain : ChainHash) (known : Option (List ℕ)) (left script : Option (List ℕ)) (old new : OutputState)
-    → old.gathered ≡ [] → IfSome script (IsCutShort chain known (TellsSome old new) left)
-    → IfSome script (IsCutShort chain known (AppendsSome old.taken new.taken) left)
-cut_written chain known left None old new empty told = tt
-cut_written chain known left (Some s) old new empty told =
-    record {
-      answered = told.answered;
-      limit = told.limit;
-      read = told.read;
-      text = told_by (λ t. taken_some old new t empty) told.text;
-    }
+  pub long_written : (answered ≡ fails faults.LineTooLong → IfSome script (IsTooLong chain known (Tells old mid)))
+      → result ≡ fails faults.LineTooLong → IfSome script (IsTooLong chain known (Appends old.taken new.taken))
+  long_written told is =
+      flushed_at mid new answered result faults.LineTooLong ended (λ same. cc) told is
+      (λ flushed told. IfSome_then script told (λ s told. record {
+        place = told.place;
+        limit = told.limit;
+        long = told.long;
+        text = told_as chain known s told.place old mid new empty flushed.told flushed.clear told.text;
+      }))
 
--- and a flush behind it writes no more than that
-cut_flushed : (chain : ChainHash) (known : Option (List ℕ)) (left script : Option (List ℕ))
-    (old mid new : OutputState) → Tells mid new [] → IfSome script (IsCutShort chain known (TellsSome old mid) left)
-    → IfSome script (IsCutShort chain known (TellsSome old new) left)
-cut_flushed chain known left None old mid new flushed told = tt
-cut_flushed chain known left (Some s) old mid new flushed told =
-    record {
-      answered = told.answered;
-      limit = told.limit;
-      read = told.read;
-      text = told_by (λ t part. some_flushed old mid new t part flushed) told.text;
-    }
+  -- what was told at a fault, or a whole text that couldn't be written
+  cut_written : (left : Option (List ℕ)) → IfSome script (IsCutShort chain known (TellsSome old new) left)
+      → IfErr result (λ _. IfSome script (IsCutShort chain known (AppendsSome old.taken new.taken) left))
+  cut_written left cut =
+      if_err result (cut_by chain known left script (TellsSome old new) (AppendsSome old.taken new.taken)
+      (λ t. taken_some old new t empty) cut)
 
-cut_flushed_part : (chain : ChainHash) (known : Option (List ℕ)) (left script : Option (List ℕ))
-    (old mid new : OutputState) → TellsPart mid new [] SendWrite → IfSome script (IsCutShort chain known
-    (TellsSome old mid) left) → IfSome script (IsCutShort chain known (TellsSome old new) left)
-cut_flushed_part chain known left None old mid new flushed told = tt
-cut_flushed_part chain known left (Some s) old mid new flushed told =
-    record {
-      answered = told.answered;
-      limit = told.limit;
-      read = told.read;
-      text = told_by (λ t part. some_flushed_part old mid new t SendWrite part flushed) told.text;
-    }
-
--- what was told at a fault, or a whole text that couldn't be written
-pub fault_written : (chain : ChainHash) (known : Option (List ℕ)) (left script : Option (List ℕ))
-    (old mid new : OutputState) (answered result : Result Counts RunFault) → old.gathered ≡ []
-    → Ended mid new answered result → IfSome script (IsCutShort chain known (TellsSome old mid) left)
-    → IfErr result (λ _. IfSome script (IsCutShort chain known (AppendsSome old.taken new.taken) left))
-fault_written chain known left script old mid new answered result empty ended told =
-    elim ended [
-      | inl flushed ↦ either result (cut_written chain known left script old new empty
-          (cut_flushed chain known left script old mid new flushed.told told))
-      | inr other ↦ elim other [
-        | inl failed ↦ either result (cut_written chain known left script old new empty
-            (cut_flushed_part chain known left script old mid new failed.part told))
-        | inr before ↦ either result (cut_written chain known left script old new empty (subst (λ (t : OutputState).
-            IfSome script (IsCutShort chain known (TellsSome old t) left)) (sym before.still) told))
+  pub fault_written : (left : Option (List ℕ)) → IfSome script (IsCutShort chain known (TellsSome old mid) left)
+      → IfErr result (λ _. IfSome script (IsCutShort chain known (AppendsSome old.taken new.taken) left))
+  fault_written left told =
+      elim ended [
+        | inl flushed ↦ cut_written left (cut_by chain known left script (TellsSome old mid) (TellsSome old new)
+            (λ t part. some_flushed old mid new t part flushed.told) told)
+        | inr other ↦ elim other [
+          | inl failed ↦ cut_written left (cut_by chain known left script (TellsSome old mid) (TellsSome old new)
+              (λ t part. some_flushed_part old mid new t SendWrite part failed.part) told)
+          | inr before ↦ cut_written left (subst (λ (t : OutputState).
+              IfSome script (IsCutShort chain known (TellsSome old t) left)) (sym before.still) told)
+        ]
       ]
-    ]
-  where
-    either : (r : Result Counts RunFault)
-        → IfSome script (IsCutShort chain known (AppendsSome old.taken new.taken) left)
-        → IfErr r (λ _. IfSome script (IsCutShort chain known (AppendsSome old.taken new.taken) left))
-    either (Ok counts) written = tt
-    either (Err fault) written = written
 
 -- where no memory was there at the start, nothing was read or written
 pub nothing_written : (chain : ChainHash) (known : Option (List ℕ)) (script taken : Option (List ℕ))

@@ -1,7 +1,7 @@
 -- How far a script was answered.
 use Rattle.std.proofs.Common.{◌≡◌, ◌⊎◌, inl, inr, ℕ, suc, ◌+◌, ◌<◌, ◌≤◌, Bool, true, false, cond, eqb, List, [], ◌∷◌, ◌++◌, length, get_or}
-use Rattle.std.proofs.Common.{take, drop, min, Option, Some, None, Result, Err, refl, sym, ap, subst, ◌∙◌, append_assoc, add-one, arith}
-use Rattle.std.specs.Prelude.{◌≢◌, IfSome, filter, map}
+use Rattle.std.proofs.Common.{take, drop, min, Option, Some, None, refl, sym, ap, subst, ◌∙◌, append_assoc, add-one, arith}
+use Rattle.std.specs.Prelude.{IfSome, filter, map}
 use Rattle.std.specs.List.{AllByRecursion}
 use Rattle.std.proofs.lemmas.List.{append-nil, length-append, length-drop, length-take-le, drop_min, take_all}
 use Rattle.std.proofs.lemmas.List.{take_more, drop_more, drop-map, take-map, nil_from_length}
@@ -13,14 +13,11 @@ use Rattle.lgm_script.specs.Device.{IsAtEnd}
 use Rattle.lgm_script.specs.Lines.{ends_line, lines_of, onto_first, ahead, IsFirstLine, IsLongerThan}
 use Rattle.lgm_script.specs.Groups.{AreFirstLines}
 use Rattle.lgm_script.specs.Request.{request_of}
-use Rattle.lgm_script.specs.declared.reading.LineFault.{LineFault}
-use Rattle.lgm_script.specs.declared.reading.LineFault.TheVariants as lines
-use Rattle.lgm_script.specs.declared.output.SendFault.TheVariants.{Write as SendWrite}
-use Rattle.lgm_script.specs.Output.{OutputState, Tells, TellsPart, TellsSome}
+use Rattle.lgm_script.specs.Output.{OutputState, Tells, TellsSome}
 use Rattle.lgm_script.proofs.FirstLines.{each-push, first_line_alone}
 use Rattle.lgm_script.proofs.FirstWords.{request_is_lawful}
 use Rattle.lgm_script.proofs.Splitting.{next_of}
-use Rattle.lgm_script.proofs.Telling.{tells_nothing, tells_both, some_behind, some_of_all, some_of_part}
+use Rattle.lgm_script.proofs.Telling.{tells_nothing, tells_both, some_behind}
 use Rattle.lgm_server.specs.Outcomes.{history_of}
 use Rattle.lgm_server.specs.Script.{requests_of, items_of, State, state_of, text_for, text_at, text_before}
 use Rattle.lgm_server.specs.inner.Steps.{opening, state_after, state_from, text_from}
@@ -115,10 +112,10 @@ text_is chain known asked k state request s r = rw (s, ← r) refl
 
 -- ---- one turn
 
-abbrev some_bytes : List ℕ → Option (List ℕ)
+abbrev pub some_bytes : List ℕ → Option (List ℕ)
 some_bytes bytes = Some bytes
 
-some_is : (a b : List ℕ) → some_bytes a ≡ some_bytes b → a ≡ b
+pub some_is : (a b : List ℕ) → some_bytes a ≡ some_bytes b → a ≡ b
 some_is a b e = cc
 
 nothing_behind : (a b : List ℕ) (n : ℕ) → a ++ b ≡ [] → drop n a ++ b ≡ []
@@ -233,15 +230,15 @@ lines_step chain known script k state buffered left rest (line ∷ lines) at fir
 
 -- the next lines of what was read ahead
 next_steps : (chain : ChainHash) (known : Option (List ℕ)) (script : List ℕ) (k first len : ℕ) (state : State)
-    (buffered left : List ℕ) (lines : List (List ℕ)) (input : Option (List ℕ)) (old mid : OutputState)
-    → IsSoFar chain known script k state input old mid → ahead buffered (Some left) ≡ input
+    (buffered left : List ℕ) (lines : List (List ℕ)) (old mid : OutputState)
+    → IsSoFar chain known script k state (ahead buffered (Some left)) old mid
     → IsFirstLine buffered (Some left) first → AreNext buffered first len lines
     → Steps chain known script k (k + length lines) (state_from chain state (map request_of lines))
     (drop len buffered ++ left) (text_from chain (k + 1) state (map request_of lines))
-next_steps chain known script k first len state buffered left lines input old mid so_far kept line next =
+next_steps chain known script k first len state buffered left lines old mid so_far line next =
     lines_step chain known script k state buffered left (drop len buffered) lines
-    (subst (IsAtLine chain known script k state) (sym (some_is (buffered ++ left) so_far.rest
-    (kept ∙ so_far.input_is))) so_far.at) (next.front (Some left) line) next.short
+    (subst (IsAtLine chain known script k state) (sym (some_is (buffered ++ left) so_far.rest so_far.input_is)) so_far.at)
+    (next.front (Some left) line) next.short
 
 -- the first line alone
 pub first_alone : (buffered : List ℕ) (first : ℕ) → first ≤ length buffered → first ≤ 140000
@@ -256,17 +253,16 @@ first_alone buffered first within small = record {
 }
 
 pub step : (chain : ChainHash) (known : Option (List ℕ)) (script : Option (List ℕ)) (k first count len : ℕ)
-    (state state' : State) (buffered : List ℕ) (left input : Option (List ℕ)) (old mid new : OutputState)
-    → SoFar chain known script k state input old mid → ahead buffered left ≡ input → IsFirstLine buffered left
-    first → HaveAnswers chain (k + 1) state state' buffered first (Tells mid new) count len
+    (state state' : State) (buffered : List ℕ) (left : Option (List ℕ)) (old mid new : OutputState)
+    → SoFar chain known script k state (ahead buffered left) old mid → IsFirstLine buffered left first
+    → HaveAnswers chain (k + 1) state state' buffered first (Tells mid new) count len
     → SoFar chain known script (k + count) state' (ahead (drop len buffered) left) old new
-step chain known None k first count len state state' buffered left input old mid new so_far kept line answers = tt
-step chain known (Some script) k first count len state state' buffered None input old mid new so_far kept
-    line answers =
-    absurd (let bad = kept ∙ so_far.input_is in cc)
-step chain known (Some script) k first count len state state' buffered (Some left) input old mid new so_far kept line answers =
+step chain known None k first count len state state' buffered left old mid new so_far line answers = tt
+step chain known (Some script) k first count len state state' buffered None old mid new so_far line answers =
+    absurd (let bad = so_far.input_is in cc)
+step chain known (Some script) k first count len state state' buffered (Some left) old mid new so_far line answers =
     let lines = answers.lines in
-    let steps = next_steps chain known script k first len state buffered left lines input old mid so_far kept line answers.next in
+    let steps = next_steps chain known script k first len state buffered left lines old mid so_far line answers.next in
     rw (answers.count_is, answers.state_is) (record {
       rest = drop len buffered ++ left;
       input_is = refl;
@@ -294,13 +290,13 @@ told_on chain known (Some script) k state input old mid new so_far told = record
 -- ---- how it ends
 
 pub ends : (chain : ChainHash) (known : Option (List ℕ)) (script : Option (List ℕ)) (k : ℕ) (state : State)
-    (input input' : Option (List ℕ)) (old mid : OutputState)
-    → SoFar chain known script k state input old mid → input' ≡ input → IsAtEnd input' → k ≤ 10000000
+    (input : Option (List ℕ)) (old mid : OutputState)
+    → SoFar chain known script k state input old mid → IsAtEnd input → k ≤ 10000000
     → IfSome script (IsAnswered chain known (Tells old mid) (record { lines = k; accepted = state.accepted }))
-ends chain known None k state input input' old mid so_far kept ended limit = tt
-ends chain known (Some script) k state input None old mid so_far kept ended limit = absurd (let bad = kept ∙ so_far.input_is in cc)
-ends chain known (Some script) k state input (Some s) old mid so_far kept ended limit =
-    let rest_is : so_far.rest ≡ [] = sym (some_is s so_far.rest (kept ∙ so_far.input_is)) ∙ ended in
+ends chain known None k state input old mid so_far ended limit = tt
+ends chain known (Some script) k state None old mid so_far ended limit = absurd (let bad = so_far.input_is in cc)
+ends chain known (Some script) k state (Some s) old mid so_far ended limit =
+    let rest_is : so_far.rest ≡ [] = sym (some_is s so_far.rest so_far.input_is) ∙ ended in
     let none : drop k (lines_of script) ≡ [] = sym so_far.at.left ∙ ap lines_of rest_is in
     let few = so_far.at.few in
     let all : k ≡ length (lines_of script) = omega (arith, ap length none, length-drop k (lines_of script)) in
@@ -311,10 +307,10 @@ ends chain known (Some script) k state input (Some s) old mid so_far kept ended 
       lines = all;
       limit = limit;
       accepted = ap (λ (x : State). x.accepted) so_far.at.state_is ∙ ap (λ (asked : List Request). length (history_of chain (items_of asked))) whole;
-      text = told_so_far chain known script k state input old mid so_far;
+      text = told_so_far chain known script k state (Some s) old mid so_far;
     }
 
-has_line : (bytes : List ℕ) → 0 < length bytes → 0 < length (lines_of bytes)
+pub has_line : (bytes : List ℕ) → 0 < length bytes → 0 < length (lines_of bytes)
 has_line [] some = absurd (omega arith)
 has_line (b ∷ bs) some = by_test (eqb b 10)
   where
@@ -327,31 +323,31 @@ has_line (b ∷ bs) some = by_test (eqb b 10)
     by_test false = onto (lines_of bs)
 
 pub many : (chain : ChainHash) (known : Option (List ℕ)) (script : Option (List ℕ)) (state : State)
-    (buffered : List ℕ) (left input : Option (List ℕ)) (old mid : OutputState)
-    → SoFar chain known script 10000000 state input old mid → ahead buffered left ≡ input
-    → 0 < length buffered → IfSome script (IsTooMany chain known (Tells old mid))
-many chain known None state buffered left input old mid so_far kept more = tt
-many chain known (Some script) state buffered None input old mid so_far kept more = absurd (let bad = kept ∙ so_far.input_is in cc)
-many chain known (Some script) state buffered (Some left) input old mid so_far kept more =
-    let rest_is : so_far.rest ≡ buffered ++ left = sym (some_is (buffered ++ left) so_far.rest (kept ∙ so_far.input_is)) in
+    (buffered : List ℕ) (left : Option (List ℕ)) (old mid : OutputState)
+    → SoFar chain known script 10000000 state (ahead buffered left) old mid → 0 < length buffered
+    → IfSome script (IsTooMany chain known (Tells old mid))
+many chain known None state buffered left old mid so_far more = tt
+many chain known (Some script) state buffered None old mid so_far more = absurd (let bad = so_far.input_is in cc)
+many chain known (Some script) state buffered (Some left) old mid so_far more =
+    let rest_is : so_far.rest ≡ buffered ++ left = sym (some_is (buffered ++ left) so_far.rest so_far.input_is) in
     let lines : lines_of (buffered ++ left) ≡ drop 10000000 (lines_of script) = ap lines_of (sym rest_is) ∙ so_far.at.left in
     let some = has_line (buffered ++ left) (omega (arith, length-append buffered left)) in
     record {
       more = omega (arith, ap length lines, length-drop 10000000 (lines_of script));
-      text = told_so_far chain known script 10000000 state input old mid so_far;
+      text = told_so_far chain known script 10000000 state (ahead buffered (Some left)) old mid so_far;
     }
 
 pub long : (chain : ChainHash) (known : Option (List ℕ)) (script : Option (List ℕ)) (k : ℕ) (state : State)
-    (input input' : Option (List ℕ)) (old mid : OutputState)
-    → SoFar chain known script k state input old mid → input' ≡ input → k < 10000000
-    → IsLongerThan 140000 input' → IfSome script (IsTooLong chain known (Tells old mid))
-long chain known None k state input input' old mid so_far kept limit longer = tt
-long chain known (Some script) k state input None old mid so_far kept limit longer = absurd (let bad = kept ∙ so_far.input_is in cc)
-long chain known (Some script) k state input (Some s) old mid so_far kept limit longer =
-    let rest_is : so_far.rest ≡ s = sym (some_is s so_far.rest (kept ∙ so_far.input_is)) in
+    (input : Option (List ℕ)) (old mid : OutputState)
+    → SoFar chain known script k state input old mid → k < 10000000 → IsLongerThan 140000 input
+    → IfSome script (IsTooLong chain known (Tells old mid))
+long chain known None k state input old mid so_far limit longer = tt
+long chain known (Some script) k state None old mid so_far limit longer = absurd (let bad = so_far.input_is in cc)
+long chain known (Some script) k state (Some s) old mid so_far limit longer =
+    let rest_is : so_far.rest ≡ s = sym (some_is s so_far.rest so_far.input_is) in
     let e : drop k (lines_of script) ≡ longer.0 ∷ longer.1 = sym so_far.at.left ∙ ap lines_of rest_is ∙ longer.2 in
     let at = stands_at (lines_of script) k [] longer.0 longer.1 e in
-    record { place = k; limit = limit; long = rw at.here longer.3; text = told_so_far chain known script k state input old mid so_far }
+    record { place = k; limit = limit; long = rw at.here longer.3; text = told_so_far chain known script k state (Some s) old mid so_far }
 
 -- ---- where it is cut short
 
@@ -395,44 +391,30 @@ cut_at chain known script k n state state' input buffered left text old mid new 
 }
 
 pub cut : (chain : ChainHash) (known : Option (List ℕ)) (script : Option (List ℕ)) (k : ℕ) (state : State)
-    (buffered : List ℕ) (left input : Option (List ℕ)) (old mid new : OutputState)
-    → SoFar chain known script k state input old mid → k ≤ 10000000 → ahead buffered left ≡ input
+    (buffered : List ℕ) (left : Option (List ℕ)) (old mid new : OutputState)
+    → SoFar chain known script k state (ahead buffered left) old mid → k ≤ 10000000
     → TellsSome mid new [] → IfSome script (IsCutShort chain known (TellsSome old new) left)
-cut chain known None k state buffered left input old mid new so_far limit kept some = tt
-cut chain known (Some script) k state buffered None input old mid new so_far limit kept some = absurd (let bad = kept ∙ so_far.input_is in cc)
-cut chain known (Some script) k state buffered (Some left) input old mid new so_far limit kept some =
-    cut_at chain known script k k state state input buffered left [] old mid new so_far limit
+cut chain known None k state buffered left old mid new so_far limit some = tt
+cut chain known (Some script) k state buffered None old mid new so_far limit some = absurd (let bad = so_far.input_is in cc)
+cut chain known (Some script) k state buffered (Some left) old mid new so_far limit some =
+    cut_at chain known script k k state state (ahead buffered (Some left)) buffered left [] old mid new so_far limit
     (record {
-      at = subst (IsAtLine chain known script k state) (sym (some_is (buffered ++ left) so_far.rest (kept ∙ so_far.input_is))) so_far.at;
+      at = subst (IsAtLine chain known script k state) (sym (some_is (buffered ++ left) so_far.rest so_far.input_is)) so_far.at;
       text_is = sym (append-nil (text_before chain known (requests_of script) k));
     }) some
 
 -- while lines that were read are answered
 pub cut_in : (chain : ChainHash) (known : Option (List ℕ)) (script : Option (List ℕ)) (k most first : ℕ)
-    (state : State) (buffered : List ℕ) (left input : Option (List ℕ)) (old mid new : OutputState)
-    → SoFar chain known script k state input old mid → k + most ≤ 10000000 → ahead buffered left ≡ input
+    (state : State) (buffered : List ℕ) (left : Option (List ℕ)) (old mid new : OutputState)
+    → SoFar chain known script k state (ahead buffered left) old mid → k + most ≤ 10000000
     → IsFirstLine buffered left first → HaveBegun chain (k + 1) most state buffered first (TellsSome mid new)
     → IfSome script (IsCutShort chain known (TellsSome old new) left)
-cut_in chain known None k most first state buffered left input old mid new so_far within kept line begun = tt
-cut_in chain known (Some script) k most first state buffered None input old mid new so_far within
-    kept line begun =
-    absurd (let bad = kept ∙ so_far.input_is in cc)
-cut_in chain known (Some script) k most first state buffered (Some left) input old mid new so_far within kept line begun =
+cut_in chain known None k most first state buffered left old mid new so_far within line begun = tt
+cut_in chain known (Some script) k most first state buffered None old mid new so_far within line begun =
+    absurd (let bad = so_far.input_is in cc)
+cut_in chain known (Some script) k most first state buffered (Some left) old mid new so_far within line begun =
     let asked = map request_of begun.lines in
-    cut_at chain known script k (k + length begun.lines) state (state_from chain state asked) input
+    cut_at chain known script k (k + length begun.lines) state (state_from chain state asked) (ahead buffered (Some left))
     (drop begun.len buffered) left (text_from chain (k + 1) state asked) old mid new so_far
     (let limit = begun.limit in omega arith)
-    (next_steps chain known script k first begun.len state buffered left begun.lines input old mid so_far kept line begun.next) begun.text
-
--- ---- faults of lines
-
-abbrev pub failed : {T : Type 0} → LineFault → Result T LineFault
-failed fault = Err fault
-
--- whatever the fault, a first part was told
-pub line_some : {T : Type 0} (fault : LineFault) (mid new : OutputState)
-    → (failed {T = T} fault ≢ failed lines.Write → Tells mid new [])
-    → (failed {T = T} fault ≡ failed lines.Write → TellsPart mid new [] SendWrite) → TellsSome mid new []
-line_some lines.Read mid new told part = some_of_all mid new [] (told (λ e. absurd cc))
-line_some lines.Write mid new told part = some_of_part mid new [] SendWrite (part refl)
-line_some lines.TooLong mid new told part = some_of_all mid new [] (told (λ e. absurd cc))
+    (next_steps chain known script k first begun.len state buffered left begun.lines old mid so_far line begun.next) begun.text

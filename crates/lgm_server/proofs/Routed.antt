@@ -1,10 +1,6 @@
 -- What a payment is told.
-use Rattle.std.proofs.Common.{◌≡◌, ◌⊎◌, ℕ, List, Option, Result, Ok, Err, inl, inr, ap, subst, ◌∙◌}
+use Rattle.std.proofs.Common.{◌≡◌, ◌⊎◌, ℕ, List, Result, Ok, Err, inl, inr, subst}
 use Rattle.std.specs.Prelude.{◌≢◌, IfOk}
-use Rattle.lgm_store.specs.Rows.{Rows}
-use Rattle.lgm_graph.specs.Edges.{edges_of}
-use Rattle.lgm_route.specs.Choice.{answer_of}
-use Rattle.lgm_route.specs.declared.request.Request.{Request}
 use Rattle.lgm_route.specs.declared.route.Hop.{Hop}
 use Rattle.lgm_route.specs.declared.fault.RouteFault.{RouteFault}
 use Rattle.lgm_route.specs.declared.fault.RouteFault.TheVariants.{NoMemory}
@@ -19,12 +15,3 @@ pub told_found : {E : Type 0} (result : Result Answer E) (secret : List ℕ)
 told_found (Err e) secret found found' is decided told = tt
 told_found (Ok answer) secret found found' (inl none) decided told = absurd (decided none)
 told_found (Ok answer) secret found found' (inr same) decided told = λ n. subst (λ f. answer_text n answer ≡ route_text n secret f) same (told n)
-
--- what is found in a view with these known bits is found over the edges of the rows
-pub found_in_view : (view known : Option (List ℕ)) (rows : Rows) (request : Request)
-    (result : Result (List Hop) RouteFault) → view ≡ known
-    → (result ≡ Err NoMemory) ⊎ (result ≡ answer_of (edges_of view rows) request)
-    → (result ≡ Err NoMemory) ⊎ (result ≡ answer_of (edges_of known rows) request)
-found_in_view view known rows request result same (inl none) = inl none
-found_in_view view known rows request result same (inr found) =
-    inr (found ∙ ap (λ bits. answer_of (edges_of bits rows) request) same)

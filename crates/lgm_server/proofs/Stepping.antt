@@ -73,12 +73,7 @@ history_asked-push chain asked request = ap (history_of chain) (items_of-push as
 
     by : (r : Request) → history_of chain (items_of asked ++ cons_option (item_in r) []) ≡ history_after chain (history_of chain (items_of asked)) r
     by (requests.Offer item) = history_of-push chain (items_of asked) item
-    by requests.Quiet = none
-    by requests.Bad = none
-    by requests.Commit = none
-    by (requests.Query bytes) = none
-    by (requests.Filter peer bytes) = none
-    by (requests.Route payment) = none
+    by _ = none
 
 -- ---- the last commit
 
@@ -192,27 +187,17 @@ filters_after chain filters _ = filters
 filters_of-push : (chain : ChainHash) (asked : List Request) (request : Request) → HasLawfulPeer request
     → filters_after chain (filters_of chain asked) request ≡ filters_of chain (asked ++ request ∷ [])
 filters_of-push chain asked (requests.Filter peer bytes) small = filters_set chain asked peer bytes (filter_read chain bytes) refl small
-filters_of-push chain asked (requests.Route payment) small = sym (filters_kept chain asked (requests.Route payment) (λ p. refl))
-filters_of-push chain asked requests.Quiet small = sym (filters_kept chain asked requests.Quiet (λ p. refl))
-filters_of-push chain asked requests.Bad small = sym (filters_kept chain asked requests.Bad (λ p. refl))
-filters_of-push chain asked requests.Commit small = sym (filters_kept chain asked requests.Commit (λ p. refl))
-filters_of-push chain asked (requests.Offer item) small = sym (filters_kept chain asked (requests.Offer item) (λ p. refl))
-filters_of-push chain asked (requests.Query bytes) small = sym (filters_kept chain asked (requests.Query bytes) (λ p. refl))
+filters_of-push chain asked request small = sym (filters_kept chain asked request (λ p. refl))
 
 by_request : (chain : ChainHash) (known : Option (List ℕ)) (asked : List Request) (request : Request)
     → state_after chain (state_of chain known asked) request
     ≡ state_at known (history_after chain (history_of chain (items_of asked)) request) (history_of chain
     (items_of (before_commit_and asked request))) (filters_after chain (filters_of chain asked) request)
-by_request chain known asked requests.Quiet = refl
-by_request chain known asked requests.Bad = refl
-by_request chain known asked requests.Commit = refl
-by_request chain known asked (requests.Query bytes) = refl
-by_request chain known asked (requests.Filter peer bytes) = refl
-by_request chain known asked (requests.Route payment) = refl
 by_request chain known asked (requests.Offer item) =
     state_behind-outcome known (history_of chain (items_of asked))
     (history_of chain (items_of (before_commit asked))) (filters_of chain asked)
     (outcome_of chain (fold (history_of chain (items_of asked))) item)
+by_request chain known asked _ = refl
 
 -- the state behind one more request
 pub state_after-request : (chain : ChainHash) (known : Option (List ℕ)) (asked : List Request)
@@ -228,13 +213,8 @@ state_behind-le state (Err refusal) = omega arith
 
 -- a request has one item at most
 pub accepted-le : (chain : ChainHash) (state : State) (request : Request) → (state_after chain state request).accepted ≤ state.accepted + 1
-accepted-le chain state requests.Quiet = omega arith
-accepted-le chain state requests.Bad = omega arith
-accepted-le chain state requests.Commit = omega arith
-accepted-le chain state (requests.Query bytes) = omega arith
-accepted-le chain state (requests.Filter peer bytes) = omega arith
-accepted-le chain state (requests.Route payment) = omega arith
 accepted-le chain state (requests.Offer item) = state_behind-le state (outcome_of chain state.rows item)
+accepted-le chain state _ = omega arith
 
 -- and so many requests so many items
 pub accepted_from-le : (chain : ChainHash) (state : State) (asked : List Request)

@@ -1,5 +1,5 @@
 -- How answering the lines of a script ends.
-use Rattle.std.proofs.Common.{◌≡◌, ℕ, ◌<◌, List, [], Option, Result, Err, refl, sym, ap, ◌∙◌, arith}
+use Rattle.std.proofs.Common.{◌≡◌, ℕ, ◌+◌, ◌<◌, ◌≤◌, List, [], Option, Some, None, Result, Ok, Err, refl, sym, ap, subst, ◌∙◌, length, arith}
 use Rattle.std.specs.Prelude.{◌≢◌, IfSome, IfOk}
 use Rattle.lgm_wire.specs.declared.chain_hash.ChainHash.{ChainHash}
 use Rattle.lgm_script.specs.declared.output.Output.{Output}
@@ -7,104 +7,159 @@ use Rattle.lgm_script.specs.declared.output.SendFault.{SendFault}
 use Rattle.lgm_script.specs.declared.output.SendFault.TheVariants as sending
 use Rattle.lgm_script.specs.declared.reading.LineFault.{LineFault}
 use Rattle.lgm_script.specs.declared.reading.LineFault.TheVariants as lines
-use Rattle.lgm_script.specs.Output.{Sends, SendsPart, SendsSome}
+use Rattle.lgm_script.specs.Device.{IsAtEnd}
+use Rattle.lgm_script.specs.Lines.{ahead, IsFirstLine, IsLongerThan}
+use Rattle.lgm_script.specs.Output.{seen, OutputState, Tells, TellsPart, TellsSome, Sends, SendsPart, SendsSome}
+use Rattle.lgm_script.proofs.Telling.{some_of_all, some_of_part, tells_nothing}
 use Rattle.lgm_server.specs.declared.run_fault.RunFault.{RunFault}
 use Rattle.lgm_server.specs.declared.run_fault.RunFault.TheVariants as faults
 use Rattle.lgm_server.specs.declared.running.Counts.{Counts}
-use Rattle.lgm_server.specs.Running.{line_fault, send_fault, IsAnswered, IsTooMany, IsTooLong, IsCutShort}
-use Rattle.lgm_server.specs.inner.Progress.{HasAnswered}
-use Rattle.lgm_server.proofs.Progress.{failed}
+use Rattle.lgm_server.specs.Running.{line_fault, send_fault, IsAnswered, IsTooMany, IsCutShort}
+use Rattle.lgm_server.specs.Script.{State}
+use Rattle.lgm_server.specs.inner.Progress.{HasAnswered, HaveBegun}
+use Rattle.lgm_server.proofs.LineFaults.{failed, ends_at}
+use Rattle.lgm_server.proofs.Progress.{SoFar, told_on, ends, many, long, cut, cut_in}
+use Rattle.lgm_server.proofs.Reached.{IsUpTo, so_far_on}
 
 abbrev ended : RunFault → Result Counts RunFault
 ended e = Err e
 
-ended_is : (a b : RunFault) → ended a ≡ ended b → a ≡ b
-ended_is a b e = cc
-
-failed_is : {T : Type 0} (a b : LineFault) → failed {T = T} a ≡ failed b → a ≡ b
-failed_is a b e = cc
-
 -- the fault of a line, from that of the run
-line_of : RunFault → LineFault
-line_of faults.Read = lines.Read
-line_of faults.Write = lines.Write
-line_of _ = lines.TooLong
+abbrev line_of : RunFault → Option LineFault
+line_of faults.Read = Some lines.Read
+line_of faults.Write = Some lines.Write
+line_of faults.LineTooLong = Some lines.TooLong
+line_of _ = None
 
-line_back : (fault : LineFault) → line_of (line_fault fault) ≡ fault
-unfolding line_of
+line_back : (fault : LineFault) → line_of (line_fault fault) ≡ Some fault
 line_back lines.Read = refl
 line_back lines.Write = refl
 line_back lines.TooLong = refl
 
-line_is : (a b : LineFault) → ended (line_fault a) ≡ ended (line_fault b) → a ≡ b
-line_is a b e = sym (line_back a) ∙ ap line_of (ended_is (line_fault a) (line_fault b) e) ∙ line_back b
+-- whatever the fault of a line, a first part was told
+line_some : {T : Type 0} (fault : LineFault) (mid new : OutputState)
+    → (failed {T = T} fault ≢ failed lines.Write → Tells mid new [])
+    → (failed {T = T} fault ≡ failed lines.Write → TellsPart mid new [] sending.Write) → TellsSome mid new []
+line_some lines.Read mid new told part = some_of_all mid new [] (told (λ e. absurd cc))
+line_some lines.Write mid new told part = some_of_part mid new [] sending.Write (part refl)
+line_some lines.TooLong mid new told part = some_of_all mid new [] (told (λ e. absurd cc))
 
-never_many : (fault : LineFault) → ended (line_fault fault) ≢ ended faults.TooManyLines
-never_many lines.Read e = cc
-never_many lines.Write e = cc
-never_many lines.TooLong e = cc
+not_write : {T : Type 0} (fault : LineFault) → fault ≡ lines.TooLong → failed {T = T} fault ≢ failed lines.Write
+not_write {T = T} fault is same = let here = sym (ap (failed {T = T}) is) ∙ same in cc
 
-module _ {R W : Type 0} (left : R → Option (List ℕ)) (read_failures : R → ℕ) (taken : W → Option (List ℕ))
-    (write_failures : W → ℕ) (chain : ChainHash) (known : Option (List ℕ)) (source mid source' : R)
-    (output between output' : Output W) (read_same : read_failures mid ≡ read_failures source)
-    (write_same : write_failures between.writer.now ≡ write_failures output.writer.now)
-    (some : IfSome (left source) (IsCutShort chain known (SendsSome taken write_failures output output')
-    (left source'))) where
-  abbrev Has : Result Counts RunFault → Type 0
-  Has result = HasAnswered left read_failures taken write_failures chain known source source' output output' result
-
+module _ {R W : Type 0} {left : R → Option (List ℕ)} {read_failures : R → ℕ} {taken : W → Option (List ℕ)}
+    {write_failures : W → ℕ} {chain : ChainHash} {known : Option (List ℕ)} {source : R} {output : Output W}
+    {k : ℕ} {state : State} {buffered : List ℕ} {mid : R} {between : Output W}
+    (up_to : IsUpTo left read_failures taken write_failures chain known source output k state buffered mid between) where
   -- a line couldn't be read
-  pub line_failed : {T : Type 0} (fault : LineFault)
+  pub line_failed : {T : Type 0} (buffered' : List ℕ) (source' : R) (output' : Output W) (fault : LineFault)
+      → ahead buffered' (left source') ≡ ahead buffered (left mid)
       → (failed {T = T} fault ≢ failed lines.Write → Sends taken write_failures between output' [])
       → (failed {T = T} fault ≡ failed lines.Write → SendsPart taken write_failures between output' [] sending.Write)
       → (failed {T = T} fault ≡ failed lines.Read → read_failures mid < read_failures source')
-      → (fault ≡ lines.TooLong → IfSome (left source) (IsTooLong chain known (Sends taken write_failures output output')))
-      → Has (ended (line_fault fault))
-  line_failed {T = T} fault told part read long = record {
-    ok = tt;
-    too_many = λ same. absurd (never_many fault same);
-    too_long = λ same. long (line_is fault lines.TooLong same);
-    some = some;
-    read = λ same. omega (arith, read (ap failed (line_is fault lines.Read same)), read_same);
-    write = λ same. let lost = part (ap failed (line_is fault lines.Write same)) in
-        omega (arith, lost.cause refl, write_same);
-    well = λ other. let sent = told (λ same. other (ap (λ (f : LineFault). ended (line_fault f))
-        (failed_is {T = T} fault lines.Write same))) in
-        sent.well ∙ write_same;
-  }
+      → (fault ≡ lines.TooLong → (k < 10000000) × IsLongerThan 140000 (ahead buffered' (left source')))
+      → HasAnswered left read_failures taken write_failures chain known source source' output output' (ended (line_fault fault))
+  line_failed {T = T} buffered' source' output' fault kept told part read longer =
+      let old = seen taken write_failures output in
+      let now = seen taken write_failures between in
+      let new = seen taken write_failures output' in
+      let input = ahead buffered' (left source') in
+      let so_far = so_far_on up_to buffered' source' kept in
+      let end =
+      ends_at Counts line_fault line_of line_back {U = T} fault faults.TooManyLines refl up_to.read_same
+      up_to.write_same (λ not. (told not).well) (λ is. (part is).cause refl) read in
+      record {
+        ok = tt;
+        too_many = λ same. absurd (end.not_other same);
+        too_long = λ same. let is = end.too_long same in
+            long chain known (left source) k state input old new (told_on chain known (left source) k state input
+            old now new so_far (told (not_write fault is))) (longer is).0 (longer is).1;
+        some =
+            cut chain known (left source) k state buffered' (left source') old now new so_far up_to.within
+            (line_some fault now new told part);
+        read = end.read;
+        write = end.write;
+        well = end.well;
+      }
 
-  -- it ended otherwise, and no device failed
-  pub lines_ended : (result : Result Counts RunFault)
-      → write_failures output'.writer.now ≡ write_failures between.writer.now
+  -- it ended otherwise after what was read, and no device failed
+  has_ended : (result : Result Counts RunFault)
       → IfOk result (λ counts.
-      IfSome (left source) (IsAnswered chain known (Sends taken write_failures output output') counts))
+      IfSome (left source) (IsAnswered chain known (Sends taken write_failures output between) counts))
       → (result ≡ ended faults.TooManyLines
-      → IfSome (left source) (IsTooMany chain known (Sends taken write_failures output output')))
-      → result ≢ ended faults.LineTooLong → result ≢ ended faults.Read → result ≢ ended faults.Write → Has result
-  lines_ended result well ok many long read write = record {
-    ok = ok;
-    too_many = many;
-    too_long = λ same. absurd (long same);
-    some = some;
-    read = λ same. absurd (read same);
-    write = λ same. absurd (write same);
-    well = λ _. well ∙ write_same;
-  }
+      → IfSome (left source) (IsTooMany chain known (Sends taken write_failures output between)))
+      → result ≢ ended faults.LineTooLong → result ≢ ended faults.Read → result ≢ ended faults.Write
+      → HasAnswered left read_failures taken write_failures chain known source mid output between result
+  has_ended result ok too_many too_long read write =
+      let now = seen taken write_failures between in
+      record {
+        ok = ok;
+        too_many = too_many;
+        too_long = λ same. absurd (too_long same);
+        some =
+            cut chain known (left source) k state buffered (left mid) (seen taken write_failures output) now now
+            up_to.so_far up_to.within (some_of_all now now [] (tells_nothing now));
+        read = λ same. absurd (read same);
+        write = λ same. absurd (write same);
+        well = λ _. up_to.write_same;
+      }
+
+  -- all lines were answered
+  pub all_answered : (number accepted : ℕ) → number ≡ k → accepted ≡ state.accepted → IsAtEnd (ahead buffered (left mid))
+      → HasAnswered left read_failures taken write_failures chain known source mid output between
+      (Ok (record { lines = number; accepted = accepted }))
+  all_answered number accepted number_is accepted_is end =
+      has_ended (Ok (record { lines = number; accepted = accepted }))
+      (rw (number_is, accepted_is) (ends chain known (left source) k state (ahead buffered (left mid))
+      (seen taken write_failures output) (seen taken write_failures between) up_to.so_far end up_to.within))
+      (λ same. absurd cc) (λ same. absurd cc) (λ same. absurd cc) (λ same. absurd cc)
+
+  -- there are more lines
+  pub more_lines : k ≡ 10000000 → 0 < length buffered
+      → HasAnswered left read_failures taken write_failures chain known source mid output between (ended faults.TooManyLines)
+  more_lines full more =
+      let old = seen taken write_failures output in
+      let now = seen taken write_failures between in
+      has_ended (ended faults.TooManyLines) tt
+      (λ _. many chain known (left source) state buffered (left mid) old now
+      (subst (λ n. SoFar chain known (left source) n state (ahead buffered (left mid)) old now) full up_to.so_far) more)
+      (λ same. absurd cc) (λ same. absurd cc) (λ same. absurd cc)
 
   -- an answer couldn't be given or written
-  pub answer_failed : (fault : SendFault)
-      → (fault ≡ sending.Write → write_failures between.writer.now < write_failures output'.writer.now)
-      → (fault ≡ sending.NoMemory → write_failures output'.writer.now ≡ write_failures between.writer.now)
-      → Has (ended (send_fault fault))
-  answer_failed sending.NoMemory cause well =
-      lines_ended (ended faults.NoMemory) (well refl) tt (λ same. absurd cc) (λ same. absurd cc) (λ same. absurd cc)
-      (λ same. absurd cc)
-  answer_failed sending.Write cause well = record {
+  answered_some : (first most : ℕ) (output' : Output W) (fault : SendFault) → IsFirstLine buffered (left mid) first
+      → k + most ≤ 10000000
+      → HaveBegun chain (k + 1) most state buffered first (λ text. SendsPart taken write_failures between output' text fault)
+      → IfSome (left source) (IsCutShort chain known (SendsSome taken write_failures output output') (left mid))
+  answered_some first most output' fault line few begun =
+      cut_in chain known (left source) k most first state buffered (left mid) (seen taken write_failures output)
+      (seen taken write_failures between) (seen taken write_failures output') up_to.so_far few line
+      (record {
+        lines = begun.lines;
+        len = begun.len;
+        next = begun.next;
+        limit = begun.limit;
+        text = some_of_part (seen taken write_failures between) (seen taken write_failures output') _ fault begun.text;
+      })
+
+  pub answer_failed : (first most : ℕ) (output' : Output W) (fault : SendFault) → IsFirstLine buffered (left mid) first
+      → k + most ≤ 10000000
+      → HaveBegun chain (k + 1) most state buffered first (λ text. SendsPart taken write_failures between output' text fault)
+      → HasAnswered left read_failures taken write_failures chain known source mid output output' (ended (send_fault fault))
+  answer_failed first most output' sending.NoMemory line few begun = record {
     ok = tt;
     too_many = λ same. absurd cc;
     too_long = λ same. absurd cc;
-    some = some;
+    some = answered_some first most output' sending.NoMemory line few begun;
     read = λ same. absurd cc;
-    write = λ _. omega (arith, cause refl, write_same);
+    write = λ same. absurd cc;
+    well = λ _. let text = begun.text in text.well refl ∙ up_to.write_same;
+  }
+  answer_failed first most output' sending.Write line few begun = record {
+    ok = tt;
+    too_many = λ same. absurd cc;
+    too_long = λ same. absurd cc;
+    some = answered_some first most output' sending.Write line few begun;
+    read = λ same. absurd cc;
+    write = λ _. let text = begun.text in omega (arith, text.cause refl, up_to.write_same);
     well = λ other. absurd (other refl);
   }

@@ -20,12 +20,12 @@ use crate::context::Context;
 use crate::filters::Filters;
 use crate::leveling::level;
 use crate::offering::offer;
-use crate::questions::{answer_questions, find_chunked};
+use crate::questions::{answer_questions, view_of};
 use lgm_check::Refusal;
 use lgm_graph::{Known, View};
 use lgm_par::{Gate, Pool};
 use lgm_query::{Changes, Differences};
-use lgm_route::{Request, Route, RouteFault};
+use lgm_route::{Request, Route, RouteFault, answer_chunked};
 use lgm_script::{Output, SendFault, Sink, may_ask_routes};
 use lgm_store::{Map, Op, Seed};
 use std::alloc::{AllocError, Global};
@@ -200,7 +200,8 @@ impl Maps {
             &mut self.due,
             &mut self.chart,
         )?;
-        find_chunked(pool, &self.committed, &self.chart, request)
+        let view = view_of(&self.committed, &self.chart);
+        answer_chunked(pool, &self.committed, view, request)
     }
 
     /// Answers lines that request something of the committed map, the first of which has this number: the answers are

@@ -1,10 +1,8 @@
 //! Questions about the committed map, answered in parallel.
 
-ghost use Rattle.std.specs.Prelude.{◌≡◌, ◌⊎◌, ◌+◌, ◌≤◌, ◌<◌, ◌^◌, ℕ, List};
-ghost use Rattle.std.specs.Prelude.{Err, IfOk, OnOk, All, length};
+ghost use Rattle.std.specs.Prelude.{◌≡◌, ◌+◌, ◌≤◌, ◌<◌, ◌^◌, ℕ, List};
+ghost use Rattle.std.specs.Prelude.{IfOk, OnOk, All, length};
 ghost use Rattle.std.specs.List.{AllZip};
-ghost use Rattle.lgm_graph.specs.Edges.{edges_of};
-ghost use Rattle.lgm_route.specs.Choice.{answer_of};
 ghost use Rattle.lgm_script.specs.Output.{Writes};
 ghost use Rattle.lgm_script.specs.Request.{request_of};
 ghost use Rattle.lgm_script.specs.declared.request.Request.TheVariants.{Route as AsksRoute};
@@ -26,15 +24,15 @@ use crate::query_answering::answer_query;
 use crate::routing::{answer_found, asked_route};
 use lgm_gossip::ChainHash;
 use lgm_graph::View;
-use lgm_par::{Gate, Pool};
-use lgm_route::{Request as RouteRequest, Route, RouteFault, answer, answer_chunked};
+use lgm_par::Gate;
+use lgm_route::answer;
 use lgm_script::{Output, Payment, Request, SendFault, Sink, parse};
 use lgm_store::Map;
 use std::alloc::{AllocError, Global};
 use std::thread::Threads;
 
 /// The view of the committed map.
-fn view_of<'a>(committed: &Map, chart: &'a Chart) -> &'a View
+pub fn view_of<'a>(committed: &Map, chart: &'a Chart) -> &'a View
     requires shows { ShowsCommitted committed.now chart.now }
     requires beside { IsBeside chart.now.kept }
     ensures { IsViewOf chart.now.known committed.now result.now }
@@ -43,36 +41,6 @@ fn view_of<'a>(committed: &Map, chart: &'a Chart) -> &'a View
         unreachable!();
     };
     view
-}
-
-/// The best route in the view of the committed map.
-fn find(
-    alloc: Global,
-    committed: &Map,
-    chart: &Chart,
-    request: &RouteRequest,
-) -> Result<Route, RouteFault>
-    requires shows { ShowsCommitted committed.now chart.now }
-    requires beside { IsBeside chart.now.kept }
-    ensures { (result ≡ Err RouteFault.NoMemory) ⊎
-        (result ≡ answer_of (edges_of chart.now.known committed.now) request.now) }
-{
-    answer(alloc, committed, view_of(committed, chart), request)
-}
-
-/// The same, found by several workers.
-pub fn find_chunked<Rt: Threads + Sync, G: Gate>(
-    pool: &Pool<'_, Rt, G>,
-    committed: &Map,
-    chart: &Chart,
-    request: &RouteRequest,
-) -> Result<Route, RouteFault>
-    requires shows { ShowsCommitted committed.now chart.now }
-    requires beside { IsBeside chart.now.kept }
-    ensures { (result ≡ Err RouteFault.NoMemory) ⊎
-        (result ≡ answer_of (edges_of chart.now.known committed.now) request.now) }
-{
-    answer_chunked(pool, committed, view_of(committed, chart), request)
 }
 
 /// The answer to a payment.
@@ -88,7 +56,8 @@ fn answer_route(
     ensures filters { IfOk result
         (λ answer. (filters : List PeerFilter) → filters_by filters answer ≡ filters) }
 {
-    let found = find(alloc, committed, chart, &asked_route(payment));
+    let view = view_of(committed, chart);
+    let found = answer(alloc, committed, view, &asked_route(payment));
     answer_found(alloc, &payment.secret, found)
 }
 

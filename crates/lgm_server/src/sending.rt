@@ -1,8 +1,8 @@
 //! Writing messages, one per line.
 
-ghost use Rattle.std.specs.Prelude.{◌≡◌, ◌+◌, ◌<◌, ◌^◌, Ok, Some};
+ghost use Rattle.std.specs.Prelude.{◌≡◌, ◌+◌, ◌<◌, ◌^◌, ℕ, List, Ok, Some};
+ghost use Rattle.std.specs.Iterator.{IsFinite, AlwaysYields};
 ghost use Rattle.std.specs.List.{flat_map};
-ghost use Rattle.lgm_query.specs.Backlog.{backlog};
 ghost use Rattle.lgm_script.specs.Output.{Writes};
 ghost use Rattle.lgm_script.specs.Text.{message_line};
 ghost use Rattle.lgm_server.specs.Answer.{query_text, range_text, filter_text, news_text, commit_text};
@@ -47,21 +47,23 @@ pub(crate) fn send_range<W: Sink>(
     send_messages(number, replies.as_slice(), output)
 }
 
-/// Writes for a peer what passes its filter, message by message.
-fn send_backlog<W: Sink>(
+/// Writes messages for a peer, one after the other.
+fn send_to<'a, I: Iterator<Item = &'a [u8]> + Drop, W: Sink>(
     number: u64,
-    own: &PeerFilter,
-    map: &Map,
+    peer: u16,
+    messages: I,
     output: &mut Output<'_, W>,
 ) -> Result<(), SendFault>
-    requires { W.failures output.old.writer.now + 1 < 2 ^ 64 }
+    requires can { I.can_next messages }
+    requires ends { IsFinite (I.remaining messages) }
+    requires writer { W.failures output.old.writer.now + 1 < 2 ^ 64 }
     ensures writer { output.new.writer.ghost_name ≡ output.old.writer.ghost_name }
-    ensures written { Writes W.taken W.failures output.old output.new
-        (flat_map (message_line number (Some own.now.peer)) (backlog map.now own.now.filter))
-        result }
+    ensures written { (all : List (List ℕ)) → AlwaysYields I.next_gives (λ message. message.now) messages all
+        → Writes W.taken W.failures output.old output.new
+        (flat_map (message_line number (Some peer)) all) result }
 {
-    for message in Backlog::of(map, &own.filter) {
-        output.send_message(number, Some(own.peer), message)?;
+    for message in messages {
+        output.send_message(number, Some(peer), message)?;
     }
     Ok(())
 }
@@ -79,25 +81,7 @@ pub(crate) fn send_filtered<W: Sink>(
         (filter_text number own.now.peer map.now (Ok own.now.filter)) result }
 {
     output.send_word(number, "filter")?;
-    send_backlog(number, own, map, output)
-}
-
-/// Writes the news of a peer, message by message.
-fn send_news_to<W: Sink>(
-    number: u64,
-    own: &PeerFilter,
-    differences: &Differences<'_>,
-    output: &mut Output<'_, W>,
-) -> Result<(), SendFault>
-    requires { W.failures output.old.writer.now + 1 < 2 ^ 64 }
-    ensures writer { output.new.writer.ghost_name ≡ output.old.writer.ghost_name }
-    ensures written { Writes W.taken W.failures output.old output.new
-        (news_text number differences.now.before differences.now.after own.now) result }
-{
-    for message in differences.news(&own.filter) {
-        output.send_message(number, Some(own.peer), message)?;
-    }
-    Ok(())
+    send_to(number, own.peer, Backlog::of(map, &own.filter), output)
 }
 
 /// Writes the news of each peer with a filter, by ascending peer.
@@ -114,7 +98,7 @@ fn send_all_news<W: Sink>(
         result }
 {
     for (_, own) in filters.as_map() {
-        send_news_to(number, own, differences, output)?;
+        send_to(number, own.peer, differences.news(&own.filter), output)?;
     }
     Ok(())
 }

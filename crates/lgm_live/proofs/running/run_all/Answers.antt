@@ -6,7 +6,7 @@ use Rattle.lgm_live.specs.Agenda.{payments_of, list_for}
 use Rattle.lgm_live.specs.Batches.{items_of}
 use Rattle.lgm_live.specs.inner.Gathered.{slot_of}
 use Rattle.lgm_live.proofs.Ends.{no_memory, not_answered, not_written, not_read}
-use Rattle.lgm_live.proofs.Runs.{on_agenda, there, whole, in_part}
+use Rattle.lgm_live.proofs.Runs.{reported, there, whole, in_part}
 use Rattle.lgm_live.proofs.Scripts.{items_few}
 use Rattle.lgm_live.proofs.running.run_all.Goals as goal
 
@@ -48,32 +48,22 @@ returns-in_err-report-clause-runs g c =
 pub tell-requires-clause-slots : goal.tell-requires-clause-slots
 tell-requires-clause-slots g c =
     let read = c.in_ok-agenda.ensures.read.ok in
-    let report = c.in_ok-report.report in
-    let slots = c.slots.ensures ∙ read.is_agenda.slots in
     let is =
-    on_agenda c.args.chain.now c.args.known.now c.args.pool.now.workers read.asked c.in_ok-agenda.agenda
-    c.batches.result.now c.lists.result.now report read.is_agenda c.batches.ensures
-    c.lists.ensures c.in_ok-report.ensures.report in (
-      omega (arith, read.few, ap length slots, length-map read.asked slot_of),
-      there c.args.chain.now c.args.known.now c.args.pool.now.workers read.asked report c.slots.result.now
-          c.args.pool.now.some is slots,
-    )
+    reported c.args.pool.now.some read.is_agenda c.batches.ensures c.lists.ensures c.slots.ensures
+    c.in_ok-report.ensures.report in
+    (omega (arith, read.few, ap length is.slots, length-map read.asked slot_of), there is)
 
 pub returns-in_err-tell-clause-runs : goal.returns-in_err-tell-clause-runs
 returns-in_err-tell-clause-runs g c =
     let p = err_from_is_err_and c.from_residual-in_err-tell.result c.from_residual-in_err-tell.ensures.1 in
     let reads = c.in_ok-agenda.ensures.read in
-    let read = reads.ok in
-    let report = c.in_ok-report.report in
     let is =
-    on_agenda c.args.chain.now c.args.known.now c.args.pool.now.workers read.asked c.in_ok-agenda.agenda
-    c.batches.result.now c.lists.result.now report read.is_agenda c.batches.ensures
-    c.lists.ensures c.in_ok-report.ensures.report in
+    reported c.args.pool.now.some reads.ok.is_agenda c.batches.ensures c.lists.ensures c.slots.ensures
+    c.in_ok-report.ensures.report in
     let part =
-    in_part c.args.chain.now c.args.known.now c.args.pool.now.workers (g.R.Source.left c.args.source.now)
-    read.asked report c.slots.result.now (g.W.Sink.taken c.args.output.now.writer.now)
+    in_part is (g.R.Source.left c.args.source.now) (g.W.Sink.taken c.args.output.now.writer.now)
     (g.W.Sink.taken c.read_script.new.output.writer.now) (g.W.Sink.taken c.tell.new.output.writer.now)
-    c.args.pool.now.some read.whole is (c.slots.ensures ∙ read.is_agenda.slots) reads.silent c.in_err-tell.ensures.part in
+    reads.ok.whole reads.silent c.in_err-tell.ensures.part in
     rw (p.1, p.2) (not_written g.R.Source.left g.R.Source.failures g.W.Sink.taken g.W.Sink.failures
     c.args.chain.now c.args.known.now c.args.pool.now.workers c.args.source.now c.read_script.new.source
     c.args.output.now.writer.now c.tell.new.output.writer.now c.in_err-tell.field-0.0 part
@@ -82,18 +72,14 @@ returns-in_err-tell-clause-runs g c =
 pub returns-clause-runs : goal.returns-clause-runs
 returns-clause-runs g c =
     let reads = c.in_ok-agenda.ensures.read in
-    let read = reads.ok in
-    let report = c.in_ok-report.report in
     let is =
-    on_agenda c.args.chain.now c.args.known.now c.args.pool.now.workers read.asked c.in_ok-agenda.agenda
-    c.batches.result.now c.lists.result.now report read.is_agenda c.batches.ensures
-    c.lists.ensures c.in_ok-report.ensures.report in
+    reported c.args.pool.now.some reads.ok.is_agenda c.batches.ensures c.lists.ensures c.slots.ensures
+    c.in_ok-report.ensures.report in
     record {
       ok =
-          whole c.args.chain.now c.args.known.now c.args.pool.now.workers (g.R.Source.left c.args.source.now)
-          read.asked report c.slots.result.now (g.W.Sink.taken c.args.output.now.writer.now)
+          whole is (g.R.Source.left c.args.source.now) (g.W.Sink.taken c.args.output.now.writer.now)
           (g.W.Sink.taken c.read_script.new.output.writer.now) (g.W.Sink.taken c.tell.new.output.writer.now)
-          c.args.pool.now.some read.whole is (c.slots.ensures ∙ read.is_agenda.slots) reads.silent c.in_ok-tell.ensures.told;
+          reads.ok.whole reads.silent c.in_ok-tell.ensures.told;
       too_many = λ is. absurd cc;
       too_long = λ is. absurd cc;
       silent = tt;

@@ -1,28 +1,35 @@
-use Rattle.std.proofs.Common.{◌≡◌, ◌<◌, length, get_or, Ok, sym, subst, ◌∙◌, refl, arith}
-use Rattle.std.specs.List.{AllZip}
-use Rattle.std.proofs.lemmas.List.{length-map}
-use Rattle.std.proofs.lemmas.Slice.Zip.{AllZip-long}
+use Rattle.std.proofs.Common.{arith, length, ◌∙◌, refl, sym, subst, ap}
 use Rattle.std.specs.Prelude.{IfOk}
-use Rattle.std.proofs.lemmas.Result.{err_from_is_err_and}
-use Rattle.lgm_script.proofs.Telling.{tells_none}
-use Rattle.lgm_script.specs.Output.{seen, Tells, TellsPart}
-use Rattle.lgm_script.specs.declared.output.SendFault.TheVariants.{NoMemory}
+use Rattle.std.specs.List.{AllZip}
+use Rattle.std.proofs.lemmas.List.{length-map, drop_all}
+use Rattle.std.proofs.lemmas.Result.{err_from_is_err_and, IfOk-at_ok}
+use Rattle.std.proofs.lemmas.Slice.Zip.{AllZip-long}
+use Rattle.lgm_script.proofs.Telling.{tells_none, onward_first}
 use Rattle.lgm_script.specs.Request.{request_of}
-use Rattle.lgm_script.specs.declared.request.Request.TheVariants.{Quiet}
-use Rattle.lgm_server.specs.inner.Questions.{asked_in, filters_after, question_text, IsAnswerTo}
-use Rattle.lgm_server.proofs.Turning.{at_first, at_next, at_last, at_fault}
-use Rattle.lgm_server.proofs.Zips.{stands}
+use Rattle.lgm_server.specs.inner.Questions.{asked_in, IsAnswerTo}
+use Rattle.lgm_server.proofs.Turning.{turn_at, all_done}
 use Rattle.lgm_server.proofs.questions.answer_questions.Goals as goal
 
 pub loop-answer-init : goal.loop-answer-init
-loop-answer-init g c = record {
-  name = refl;
-  at =
-      at_first (filters_after c.args.context.now.chain) (λ n filters request.
-      question_text c.args.context.now.chain c.args.chart.now.known c.args.committed.now n request)
-      c.args.first c.args.filters.now (asked_in c.args.lines.now)
-      (seen g.W.Sink.taken g.W.Sink.failures c.args.output.now);
-}
+loop-answer-init g c =
+    let lines = c.args.lines.now in
+    let same = c.as_slice-answer-items.ensures.value in
+    let long =
+    AllZip-long (λ request answer. IfOk answer (IsAnswerTo c.args.context.now.chain c.args.chart.now.known
+    c.args.committed.now request)) (asked_in lines) c.in_ok-all.all.items c.in_ok-all.ensures in
+    record {
+      name = refl;
+      number = omega arith;
+      many = omega (arith, ap length same, long, length-map lines (λ line. request_of line.now));
+      left = record {
+        asked = asked_in lines;
+        known =
+            subst (AllZip (λ request answer. IfOk answer (IsAnswerTo c.args.context.now.chain
+            c.args.chart.now.known c.args.committed.now request)) (asked_in lines)) (sym same) c.in_ok-all.ensures;
+        leads = refl;
+        told = onward_first _ _ _ refl;
+      };
+    }
 
 pub returns-in_err-all-clause-written : goal.returns-in_err-all-clause-written
 returns-in_err-all-clause-written g c =
@@ -31,142 +38,41 @@ returns-in_err-all-clause-written g c =
 
 pub loop-answer-preserved : goal.loop-answer-preserved
 loop-answer-preserved g c =
-    let chain = c.args.context.now.chain in
-    let known = c.args.chart.now.known in
-    let rows = c.args.committed.now in
-    let asked = asked_in c.args.lines.now in
-    let items = c.as_slice-answer-items.result.now in
-    let k = c.loop-answer.answer-index in
-    let old = seen g.W.Sink.taken g.W.Sink.failures c.args.output.now in
-    let mid = seen g.W.Sink.taken g.W.Sink.failures c.loop-answer.output in
-    let new = seen g.W.Sink.taken g.W.Sink.failures c.tell.new.output in
-    let lt : k < length items = omega arith in
-    let zipped =
-    subst (AllZip (λ request answer. IfOk answer (IsAnswerTo chain known rows request)) asked)
-    (sym c.as_slice-answer-items.ensures.value) c.in_ok-all.ensures in
-    let stand =
-    stands (λ request answer. IfOk answer (IsAnswerTo chain known rows request)) asked items k Quiet
-    c.answer-item.result (Ok c.in-Ok.answer) zipped lt (sym c.answer-item.is ∙ c.in-Ok.is) in
+    let inv = c.loop-answer.invariant in
+    let turn =
+    turn_at inv.left c.as_slice-answer-items.result.now c.loop-answer.answer-index c.answer-item.result refl
+    c.loop-answer-test.true c.answer-item.is in
+    let answer = IfOk-at_ok _ c.in-Ok.is turn.known in
     record {
-      name = c.in_ok-tell.ensures.writer ∙ c.loop-answer.invariant.name;
-      at =
-          at_next (filters_after chain) (λ n filters request. question_text chain known rows n request)
-          c.args.first c.args.filters.now asked old k c.loop-answer.number c.loop-answer.filters
-          c.tell.new.filters mid new Quiet (get_or asked k Quiet)
-          c.loop-answer.invariant.at stand.within refl
-          (c.in_ok-tell.ensures.filters ∙ stand.holds.filters c.loop-answer.filters)
-          (subst (Tells mid new) (stand.holds.text c.loop-answer.number) c.in_ok-tell.ensures.written);
+      name = c.in_ok-tell.ensures.writer ∙ inv.name;
+      number = omega (arith, inv.number);
+      many = inv.many;
+      left = turn.goes_on _ _ _ (c.in_ok-tell.ensures.filters ∙ answer.filters c.loop-answer.filters)
+          (answer.text c.loop-answer.number) c.in_ok-tell.ensures.written;
     }
 
 pub returns-in_default-clause-written : goal.returns-in_default-clause-written
 returns-in_default-clause-written g c =
-    let chain = c.args.context.now.chain in
-    let known = c.args.chart.now.known in
-    let rows = c.args.committed.now in
-    let asked = asked_in c.args.lines.now in
-    let items = c.as_slice-answer-items.result.now in
-    let k = c.loop-answer.answer-index in
-    let old = seen g.W.Sink.taken g.W.Sink.failures c.args.output.now in
-    let mid = seen g.W.Sink.taken g.W.Sink.failures c.loop-answer.output in
-    let lt : k < length items = omega arith in
-    let zipped =
-    subst (AllZip (λ request answer. IfOk answer (IsAnswerTo chain known rows request)) asked)
-    (sym c.as_slice-answer-items.ensures.value) c.in_ok-all.ensures in
-    let stand =
-    stands (λ request answer. IfOk answer (IsAnswerTo chain known rows request)) asked items k Quiet
-    c.answer-item.result c.answer-item.result zipped lt (sym c.answer-item.is) in
-    at_fault (filters_after chain) (λ n filters request. question_text chain known rows n request)
-    c.args.first c.args.filters.now asked old k c.loop-answer.number c.loop-answer.filters mid mid Quiet
-    (get_or asked k Quiet) NoMemory
-    c.loop-answer.invariant.at stand.within refl (tells_none mid _)
+    let turn =
+    turn_at c.loop-answer.invariant.left c.as_slice-answer-items.result.now c.loop-answer.answer-index
+    c.answer-item.result refl c.loop-answer-test.true c.answer-item.is in
+    turn.stops _ _ _ refl (tells_none _ _)
 
 pub returns-in_err-tell-clause-written : goal.returns-in_err-tell-clause-written
 returns-in_err-tell-clause-written g c =
-    let chain = c.args.context.now.chain in
-    let known = c.args.chart.now.known in
-    let rows = c.args.committed.now in
-    let asked = asked_in c.args.lines.now in
-    let items = c.as_slice-answer-items.result.now in
-    let k = c.loop-answer.answer-index in
-    let old = seen g.W.Sink.taken g.W.Sink.failures c.args.output.now in
-    let mid = seen g.W.Sink.taken g.W.Sink.failures c.loop-answer.output in
-    let new = seen g.W.Sink.taken g.W.Sink.failures c.tell.new.output in
-    let lt : k < length items = omega arith in
-    let zipped =
-    subst (AllZip (λ request answer. IfOk answer (IsAnswerTo chain known rows request)) asked)
-    (sym c.as_slice-answer-items.ensures.value) c.in_ok-all.ensures in
-    let stand =
-    stands (λ request answer. IfOk answer (IsAnswerTo chain known rows request)) asked items k Quiet
-    c.answer-item.result (Ok c.in-Ok.answer) zipped lt (sym c.answer-item.is ∙ c.in-Ok.is) in
+    let turn =
+    turn_at c.loop-answer.invariant.left c.as_slice-answer-items.result.now c.loop-answer.answer-index
+    c.answer-item.result refl c.loop-answer-test.true c.answer-item.is in
+    let answer = IfOk-at_ok _ c.in-Ok.is turn.known in
     let p = err_from_is_err_and c.from_residual-in_err-tell.result c.from_residual-in_err-tell.ensures.1 in
-    rw (p.1, p.2)
-    (at_fault (filters_after chain) (λ n filters request. question_text chain known rows n request)
-    c.args.first c.args.filters.now asked old k c.loop-answer.number c.loop-answer.filters mid new Quiet
-    (get_or asked k Quiet) c.in_err-tell.field-0.0
-    c.loop-answer.invariant.at stand.within refl (subst (λ t. TellsPart mid new t c.in_err-tell.field-0.0)
-    (stand.holds.text c.loop-answer.number) c.in_err-tell.ensures.written))
-
-pub overflow_add-number : goal.overflow_add-number
-overflow_add-number g c =
-    let chain = c.args.context.now.chain in
-    let known = c.args.chart.now.known in
-    let rows = c.args.committed.now in
-    let asked = asked_in c.args.lines.now in
-    let items = c.as_slice-answer-items.result.now in
-    let k = c.loop-answer.answer-index in
-    let lt : k < length items = omega arith in
-    let zipped =
-    subst (AllZip (λ request answer. IfOk answer (IsAnswerTo chain known rows request)) asked)
-    (sym c.as_slice-answer-items.ensures.value) c.in_ok-all.ensures in
-    let stand =
-    stands (λ request answer. IfOk answer (IsAnswerTo chain known rows request)) asked items k Quiet
-    c.answer-item.result c.answer-item.result zipped lt (sym c.answer-item.is) in
-    omega (arith, stand.within, length-map c.args.lines.now (λ line. request_of line.now), c.loop-answer.invariant.at.number_is, c.requires.number)
+    rw (p.1, p.2) (turn.stops _ _ _ (answer.text c.loop-answer.number) c.in_err-tell.ensures.written)
 
 pub returns-clause-filters : goal.returns-clause-filters
 returns-clause-filters g c =
-    let chain = c.args.context.now.chain in
-    let known = c.args.chart.now.known in
-    let rows = c.args.committed.now in
-    let asked = asked_in c.args.lines.now in
-    let items = c.as_slice-answer-items.result.now in
-    let k = c.loop-answer.answer-index in
-    let old = seen g.W.Sink.taken g.W.Sink.failures c.args.output.now in
-    let mid = seen g.W.Sink.taken g.W.Sink.failures c.loop-answer.output in
-    let zipped =
-    subst (AllZip (λ request answer. IfOk answer (IsAnswerTo chain known rows request)) asked)
-    (sym c.as_slice-answer-items.ensures.value) c.in_ok-all.ensures in
-    let whole : k ≡ length asked =
-    omega (
-      arith,
-      AllZip-long (λ request answer. IfOk answer (IsAnswerTo chain known rows request)) asked items zipped,
-    ) in
-    let done =
-    at_last (filters_after chain) (λ n filters request. question_text chain known rows n request) c.args.first
-    c.args.filters.now asked old k c.loop-answer.number c.loop-answer.filters mid
-    c.loop-answer.invariant.at whole in
-    done.0
+    (all_done c.loop-answer.invariant.left (drop_all c.loop-answer.answer-index
+    c.as_slice-answer-items.result.now c.loop-answer-test.false)).0
 
 pub returns-clause-written : goal.returns-clause-written
 returns-clause-written g c =
-    let chain = c.args.context.now.chain in
-    let known = c.args.chart.now.known in
-    let rows = c.args.committed.now in
-    let asked = asked_in c.args.lines.now in
-    let items = c.as_slice-answer-items.result.now in
-    let k = c.loop-answer.answer-index in
-    let old = seen g.W.Sink.taken g.W.Sink.failures c.args.output.now in
-    let mid = seen g.W.Sink.taken g.W.Sink.failures c.loop-answer.output in
-    let zipped =
-    subst (AllZip (λ request answer. IfOk answer (IsAnswerTo chain known rows request)) asked)
-    (sym c.as_slice-answer-items.ensures.value) c.in_ok-all.ensures in
-    let whole : k ≡ length asked =
-    omega (
-      arith,
-      AllZip-long (λ request answer. IfOk answer (IsAnswerTo chain known rows request)) asked items zipped,
-    ) in
-    let done =
-    at_last (filters_after chain) (λ n filters request. question_text chain known rows n request) c.args.first
-    c.args.filters.now asked old k c.loop-answer.number c.loop-answer.filters mid
-    c.loop-answer.invariant.at whole in
-    done.1
+    (all_done c.loop-answer.invariant.left (drop_all c.loop-answer.answer-index
+    c.as_slice-answer-items.result.now c.loop-answer-test.false)).1

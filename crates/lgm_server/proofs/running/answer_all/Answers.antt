@@ -34,7 +34,7 @@ returns-clause-runs g c =
           (subst (λ k. answered ≡ Err TooManyLines → IfSome script (IsTooMany chain k (Tells old mid))) known told.too_many);
       too_long = long_written chain bits script old mid new answered result c.requires.gathered ended
           (subst (λ k. answered ≡ Err LineTooLong → IfSome script (IsTooLong chain k (Tells old mid))) known told.too_long);
-      fault = fault_written chain bits left script old mid new answered result c.requires.gathered ended
+      fault = fault_written chain bits script old mid new answered result c.requires.gathered ended left
           (subst (λ k. IfSome script (IsCutShort chain k (TellsSome old mid) left)) known told.some);
       read = search rules;
       write = search rules;

@@ -1,5 +1,6 @@
 use Rattle.std.proofs.lemmas.Result.{err_from_is_err_and}
 use Rattle.lgm_script.proofs.Telling.{tells_part_more, written_behind}
+use Rattle.lgm_server.proofs.Messages.{gives_as}
 use Rattle.lgm_server.proofs.sending.send_filtered.Goals as goal
 
 pub returns-in_err-send_word-clause-written : goal.returns-in_err-send_word-clause-written
@@ -9,4 +10,5 @@ returns-in_err-send_word-clause-written g c =
 
 pub returns-clause-written : goal.returns-clause-written
 returns-clause-written g c =
-    written_behind c.send_backlog.result _ _ _ _ _ c.in_ok-send_word.ensures.written c.send_backlog.ensures.written
+    written_behind c.send_to.result _ _ _ _ _ c.in_ok-send_word.ensures.written
+    (c.send_to.ensures.written _ (gives_as c.of.ensures))
