@@ -1,6 +1,6 @@
 //! The examples of BOLT 7 for queries and replies, on the chain for regression tests.
 
-use super::words::{assert_fault, assert_written, bytes_of};
+use super::words::{assert_fault, assert_kept, bytes_of};
 use lgm_gossip::{DecodeFault, Message, RangeReply, Scid, Timestamps, decode};
 use std::alloc::Global;
 use std::test::Fail;
@@ -23,7 +23,7 @@ fn plain(rt: HostRuntime) -> Result<(), Fail> {
         ),
     ] {
         let words = format!(in rt.alloc(); "{kind} {CHAIN} {fields}")?;
-        assert_written(&rt, rt.alloc(), words.as_str(), words.as_str())?;
+        assert_kept(&rt, rt.alloc(), words.as_str())?;
     }
     Ok(())
 }
