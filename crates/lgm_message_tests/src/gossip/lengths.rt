@@ -62,8 +62,8 @@ fn lengths_of_ids(rt: HostRuntime) -> Result<(), Fail> {
             ("000a", "", Cut),
             ("000a", record, Ids),
         ] {
-            let rest = format!(in rt.alloc(); "00 0927c00000020000 {behind}")?;
-            assert_fault_at(&rt, rt.alloc(), [front, length, rest.as_str()], want)?;
+            let words = format!(in rt.alloc(); "{front} {length} 00 0927c00000020000 {behind}")?;
+            assert_fault(&rt, rt.alloc(), words.as_str(), want)?;
         }
     }
     Ok(())
