@@ -10,13 +10,13 @@ const CHAIN: &str = "0f9188f13cb7b2c71f2a335e3a4fc328bf5beb436012afca590b1a11466
 /// Those that are written as they were read.
 #[test]
 fn plain(rt: HostRuntime) -> Result<(), Fail> {
+    let ids = "0019 00 000000000000008e0000000000003c69000000000045a6c4";
     for words in [
-        "0107 CHAIN 000186a0000005dc",
-        "0107 CHAIN 000088b800000064 010103",
-        "0108 CHAIN 000b8a06000005dc01 0019 00 000000000000008e0000000000003c69000000000045a6c4",
-        "0105 CHAIN 0019 00 000000000000008e0000000000003c69000000000045a6c4",
+        format!(in rt.alloc(); "0107 {CHAIN} 000186a0000005dc")?,
+        format!(in rt.alloc(); "0107 {CHAIN} 000088b800000064 010103")?,
+        format!(in rt.alloc(); "0108 {CHAIN} 000b8a06000005dc01 {ids}")?,
+        format!(in rt.alloc(); "0105 {CHAIN} {ids}")?,
     ] {
-        let words = words.replace(rt.alloc(), "CHAIN", CHAIN)?;
         assert_kept(&rt, rt.alloc(), words.as_str())?;
     }
     Ok(())
