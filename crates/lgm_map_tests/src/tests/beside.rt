@@ -1,9 +1,9 @@
 //! Made items through the map and through the plain program.
 
-use crate::comparing::compare;
-use crate::item::{Item, take, word_of};
-use crate::made::Made;
-use crate::plain::Plain;
+use super::comparing::compare;
+use super::item::{Item, take, word_of};
+use super::made::Made;
+use super::plain::Plain;
 use lgm_store::{Map, Op, Seed};
 use std::alloc::{AllocError, Global};
 use std::process::Abort;

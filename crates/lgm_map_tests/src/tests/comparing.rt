@@ -1,8 +1,8 @@
 //! Whether a map reads as the plain program's lists.
 
-use crate::item::point_of;
-use crate::made::IDS;
-use crate::plain::{Channel, Dated, Plain, ends, held};
+use super::item::point_of;
+use super::made::IDS;
+use super::plain::{Channel, Dated, Plain, ends, held};
 use lgm_check::{ChannelRow, NodeRow, UpdateRow};
 use lgm_gossip::{Lent, Scid};
 use lgm_store::Map;

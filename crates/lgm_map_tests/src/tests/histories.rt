@@ -1,6 +1,6 @@
 //! A channel's history, and the maps that it leaves.
 
-use crate::item::{by, channel, funded, take_message, update, word_of};
+use super::item::{by, channel, funded, take_message, update, word_of};
 use lgm_gossip::{Point, Scid};
 use lgm_store::{Map, Op};
 use std::alloc::{AllocError, Global};

@@ -2,7 +2,7 @@
 
 ghost use Rattle.std.specs.Prelude.{◌<◌};
 
-use crate::item::Item;
+use super::item::Item;
 use lgm_test_scripts::Numbers;
 
 /// The ids of made items, ascending: in one block, in neighbouring ones, and up to the last id of all.

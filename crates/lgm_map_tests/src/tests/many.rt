@@ -1,6 +1,6 @@
 //! More channels than the least table of guesses has places for, some of which take the numbers of others.
 
-use crate::item::{Item, offer_of, word_of};
+use super::item::{Item, offer_of, word_of};
 use lgm_check::Refusal;
 use lgm_gossip::{ChainHash, Scid};
 use lgm_script::Item as Offer;

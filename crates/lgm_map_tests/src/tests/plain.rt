@@ -1,6 +1,6 @@
 //! A plain program for the same task: lists of small keys, read from end to end.
 
-use crate::item::Item;
+use super::item::Item;
 use std::alloc::{AllocError, Global};
 
 /// A channel's nodes, the lesser one first, and the mark of its announcement.
