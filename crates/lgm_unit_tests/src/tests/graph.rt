@@ -1,6 +1,6 @@
 //! `lgm_graph`: edges as operations change them, and what a view tells of them.
 
-use crate::made::{FREE, channel, node, point, update};
+use super::made::{FREE, channel, node, point, update};
 use lgm_gossip::{Point, Scid};
 use lgm_graph::{Known, Network, View, fee};
 use lgm_store::{Map, Op};

@@ -59,37 +59,23 @@ fn double(x: &u32) -> u64 {
     u64::from(*x) * 2
 }
 
+/// Ten items in three pieces, fewer items than workers, and no items. A bit for each piece that passed.
 #[test]
-fn ten_items_in_three_pieces(rt: HostRuntime) {
-    let alloc: Global = rt.alloc();
-    let items = [1, 2, 3, 4, 5, 6, 7, 8, 9, 10];
-    let gate = counting();
-    let answers = map_chunks(&rt, alloc, 3, &gate, &items, &double).expect(&rt, "memory");
-    assert_eq!(rt;
-        answers.as_slice(),
-        [2, 4, 6, 8, 10, 12, 14, 16, 18, 20].as_slice()
-    );
-    assert_eq!(rt; gate.begun.load(Ordering::SeqCst), 3);
-    assert_eq!(rt; gate.pieces.load(Ordering::SeqCst), 7);
-}
-
-#[test]
-fn more_workers_than_items(rt: HostRuntime) {
-    let alloc: Global = rt.alloc();
-    let gate = counting();
-    let answers = map_chunks(&rt, alloc, 64, &gate, &[1, 2, 3], &double).expect(&rt, "memory");
-    assert_eq!(rt; answers.as_slice(), [2, 4, 6].as_slice());
-    assert_eq!(rt; gate.begun.load(Ordering::SeqCst), 3);
-    assert_eq!(rt; gate.pieces.load(Ordering::SeqCst), 7);
-}
-
-#[test]
-fn no_items(rt: HostRuntime) {
-    let alloc: Global = rt.alloc();
-    let gate = counting();
-    let answers = map_chunks(&rt, alloc, 4, &gate, &[], &double).expect(&rt, "memory");
-    assert_eq!(rt; answers.len(), 0);
-    assert_eq!(rt; gate.begun.load(Ordering::SeqCst), 0);
+fn items_in_pieces(rt: HostRuntime) {
+    let ten = [1, 2, 3, 4, 5, 6, 7, 8, 9, 10];
+    let cases: [(usize, &[u32], &[u64], u64, u64); 3] = [
+        (3, &ten, &[2, 4, 6, 8, 10, 12, 14, 16, 18, 20], 3, 7),
+        (64, &[1, 2, 3], &[2, 4, 6], 3, 7),
+        (4, &[], &[], 0, 0),
+    ];
+    for (workers, items, doubled, begun, pieces) in cases {
+        let gate = counting();
+        let answers = map_chunks(&rt, rt.alloc(), workers.clamp(1, 64), &gate, items, &double);
+        let answers = answers.expect(&rt, "memory");
+        assert_eq!(rt; answers.as_slice(), doubled);
+        assert_eq!(rt; gate.begun.load(Ordering::SeqCst), begun);
+        assert_eq!(rt; gate.pieces.load(Ordering::SeqCst), pieces);
+    }
 }
 
 #[test]

@@ -4,7 +4,7 @@ mod boards;
 mod refused;
 mod worlds;
 
-use crate::made::{self, FREE};
+use super::made::{self, FREE};
 use lgm_gossip::Scid;
 use lgm_store::Op;
 use std::alloc::{AllocError, Global};

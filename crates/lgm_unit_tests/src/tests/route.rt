@@ -1,6 +1,6 @@
 //! `lgm_route`: routes over made maps, whose amounts and ids were worked out by hand.
 
-use crate::made::{FREE, Terms, channel, point, update};
+use super::made::{FREE, Terms, channel, point, update};
 use lgm_gossip::Scid;
 use lgm_graph::{Known, View};
 use lgm_par::{Gate, Open};

@@ -3,7 +3,7 @@
 ghost use Rattle.std.specs.Prelude.{◌≡◌};
 
 use super::{channel, scid, update};
-use crate::made::node;
+use crate::tests::made::node;
 use lgm_graph::Known;
 use lgm_publish::{Eye, Guard, Pen, board};
 use lgm_store::{Map, Op};

@@ -1,7 +1,7 @@
 //! A world of one eye.
 
 use super::{channel, scid, update};
-use crate::made::point;
+use crate::tests::made::point;
 use lgm_gossip::Scid;
 use lgm_graph::Known;
 use lgm_publish::{Event, Reply, World, WorldFault};
