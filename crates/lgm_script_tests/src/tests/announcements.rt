@@ -1,25 +1,15 @@
 //! Channel announcements: each refusal, their order, and the grammar of their lines.
 
-use crate::answers::assert_answers;
+use super::answers::assert_answers;
+use super::messages::{SCID, announced};
 use lgm_test_scripts::{CHAIN, OTHER_CHAIN, announcement, point};
-use std::alloc::{AllocError, Global};
 use std::test::Fail;
-
-const SCID: &str = "0927c00000010000";
-
-/// An announcement between the nodes `0a` and `0b`.
-fn plain(alloc: Global, scid: &str) -> Result<String, AllocError> {
-    let a = point(alloc, "02", "0a")?;
-    let b = point(alloc, "02", "0b")?;
-    let key = point(alloc, "02", "ee")?;
-    announcement(alloc, CHAIN, scid, (&a, &b), (&key, &key))
-}
 
 #[test]
 fn held_channels(rt: HostRuntime) -> Result<(), Fail> {
     let alloc = rt.alloc();
-    let first = plain(alloc, SCID)?;
-    let second = plain(alloc, "0927c00000020000")?;
+    let first = announced(alloc, SCID)?;
+    let second = announced(alloc, "0927c00000020000")?;
     let script = format!(in alloc;
         "m {first} all 100000\nm {first}00 all 100000\n# a note\n\nm {second}0102 all 0\ncommit"
     )?;
@@ -30,10 +20,8 @@ fn held_channels(rt: HostRuntime) -> Result<(), Fail> {
 #[test]
 fn refusals_in_order(rt: HostRuntime) -> Result<(), Fail> {
     let alloc = rt.alloc();
-    let a = point(alloc, "02", "0a")?;
-    let b = point(alloc, "03", "0b")?;
-    let bad = point(alloc, "04", "0c")?;
-    let key = point(alloc, "02", "ee")?;
+    let (a, b) = (point(alloc, "02", "0a")?, point(alloc, "03", "0b")?);
+    let (bad, key) = (point(alloc, "04", "0c")?, point(alloc, "02", "ee")?);
     let other = announcement(alloc, OTHER_CHAIN, SCID, (&bad, &a), (&key, &key))?;
     let bad_node = announcement(alloc, CHAIN, SCID, (&bad, &a), (&key, &key))?;
     let bad_key = announcement(alloc, CHAIN, SCID, (&b, &a), (&key, &bad))?;
@@ -56,7 +44,7 @@ fn refusals_in_order(rt: HostRuntime) -> Result<(), Fail> {
 #[test]
 fn bytes_that_are_no_message(rt: HostRuntime) -> Result<(), Fail> {
     let alloc = rt.alloc();
-    let mut cut = plain(alloc, SCID)?;
+    let mut cut = announced(alloc, SCID)?;
     cut.pop();
     cut.pop();
     let script = format!(in alloc;

@@ -1,31 +1,14 @@
 //! Announcements that contradict each other, and the bans of their nodes.
 
-use crate::answers::assert_answers;
-use lgm_test_scripts::{CHAIN, announcement, node_announcement, point, update};
-use std::alloc::{AllocError, Global};
+use super::answers::assert_answers;
+use super::messages::{FIRST, SCID, SECOND, THIRD, announced, between, two_nodes};
+use lgm_test_scripts::{CHAIN, node_announcement, point, update};
 use std::test::Fail;
-
-/// The channel 600000x1x0.
-const SCID: &str = "0927c00000010000";
-
-/// The channels 1x0x0, 2x0x0 and 3x0x0.
-const FIRST: &str = "0000010000000000";
-
-const SECOND: &str = "0000020000000000";
-
-const THIRD: &str = "0000030000000000";
-
-/// An announcement between two nodes, each by its byte.
-fn between(alloc: Global, scid: &str, first: &str, second: &str) -> Result<String, AllocError> {
-    let first = point(alloc, "02", first)?;
-    let second = point(alloc, "02", second)?;
-    announcement(alloc, CHAIN, scid, (&first, &second), (&first, &first))
-}
 
 #[test]
 fn announced_between_others(rt: HostRuntime) -> Result<(), Fail> {
     let alloc = rt.alloc();
-    let channel = between(alloc, SCID, "0a", "0b")?;
+    let channel = announced(alloc, SCID)?;
     let other = between(alloc, SCID, "0a", "0c")?;
     let script = format!(in alloc;
         "m {channel} all 100000\nm {channel} all 100000\nm {other} all 100000\ncommit\n"
@@ -38,12 +21,12 @@ fn announced_between_others(rt: HostRuntime) -> Result<(), Fail> {
 #[test]
 fn nodes_of_both(rt: HostRuntime) -> Result<(), Fail> {
     let alloc = rt.alloc();
-    let a = point(alloc, "02", "0a")?;
+    let (a, _) = two_nodes(alloc)?;
     let (five, six) = (
         update(alloc, CHAIN, SCID, ("01", "00"), 5)?,
         update(alloc, CHAIN, SCID, ("01", "00"), 6)?,
     );
-    let channel = between(alloc, SCID, "0a", "0b")?;
+    let channel = announced(alloc, SCID)?;
     let other = between(alloc, SCID, "0a", "0c")?;
     let banned = between(alloc, SECOND, "01", "0b")?;
     let allowed = between(alloc, SECOND, "01", "02")?;

@@ -1,18 +1,16 @@
 //! Announcements of nodes, and closes, which take them along.
 
-use crate::answers::assert_answers;
-use lgm_test_scripts::{CHAIN, announcement, node_announcement, point, update};
+use super::answers::assert_answers;
+use super::messages::{FIRST, announced, two_channels, two_nodes};
+use lgm_test_scripts::{CHAIN, node_announcement, point, update};
 use std::test::Fail;
-
-/// The channel 1x0x0.
-const SCID: &str = "0000010000000000";
 
 #[test]
 fn nodes(rt: HostRuntime) -> Result<(), Fail> {
     let alloc = rt.alloc();
-    let (a, b) = (point(alloc, "02", "0a")?, point(alloc, "02", "0b")?);
+    let (a, b) = two_nodes(alloc)?;
     let bad = point(alloc, "05", "0b")?;
-    let channel = announcement(alloc, CHAIN, SCID, (&a, &b), (&a, &b))?;
+    let channel = announced(alloc, FIRST)?;
     let (five, six) = (
         node_announcement(alloc, &b, 5)?,
         node_announcement(alloc, &b, 6)?,
@@ -31,12 +29,11 @@ fn nodes(rt: HostRuntime) -> Result<(), Fail> {
 #[test]
 fn closes(rt: HostRuntime) -> Result<(), Fail> {
     let alloc = rt.alloc();
-    let (a, b) = (point(alloc, "02", "0a")?, point(alloc, "02", "0b")?);
-    let channel = announcement(alloc, CHAIN, SCID, (&a, &b), (&a, &b))?;
-    let other = announcement(alloc, CHAIN, "0000020000000000", (&a, &b), (&a, &b))?;
+    let (a, b) = two_nodes(alloc)?;
+    let (channel, other) = two_channels(alloc)?;
     let five = node_announcement(alloc, &b, 5)?;
-    let newer = update(alloc, CHAIN, SCID, ("01", "00"), 9)?;
-    let older = update(alloc, CHAIN, SCID, ("01", "00"), 8)?;
+    let newer = update(alloc, CHAIN, FIRST, ("01", "00"), 9)?;
+    let older = update(alloc, CHAIN, FIRST, ("01", "00"), 8)?;
     let script = format!(in alloc;
         "m {channel} all 1\nm {other} all 1\nm {newer} {a} -\nm {five} {b} -\n\
         close 1x0x0\nclose 1x0x0\nm {five} {b} -\nm {older} {a} -\nm {channel} all 1\nm {older} {a} -\n\

@@ -1,14 +1,10 @@
 //! Filter lines, and what commits send for them.
 
-use crate::answers::assert_answers;
-use lgm_test_scripts::{CHAIN, OTHER_CHAIN, announcement, node_announcement, point, update};
+use super::answers::assert_answers;
+use super::messages::{FIRST, SECOND, announced, two_channels, two_nodes};
+use lgm_test_scripts::{CHAIN, OTHER_CHAIN, node_announcement, update};
 use std::alloc::{AllocError, Global};
 use std::test::Fail;
-
-/// The channels 1x0x0 and 2x0x0.
-const FIRST: &str = "0000010000000000";
-
-const SECOND: &str = "0000020000000000";
 
 /// A filter of this chain, by its two numbers in hexadecimal digits.
 fn filter(alloc: Global, first: &str, range: &str) -> Result<String, AllocError> {
@@ -19,8 +15,8 @@ fn filter(alloc: Global, first: &str, range: &str) -> Result<String, AllocError>
 #[test]
 fn news_of_a_channel(rt: HostRuntime) -> Result<(), Fail> {
     let alloc = rt.alloc();
-    let (a, b) = (point(alloc, "02", "0a")?, point(alloc, "02", "0b")?);
-    let channel = announcement(alloc, CHAIN, FIRST, (&a, &b), (&a, &b))?;
+    let (a, b) = two_nodes(alloc)?;
+    let channel = announced(alloc, FIRST)?;
     let five = update(alloc, CHAIN, FIRST, ("01", "00"), 5)?;
     let six = update(alloc, CHAIN, FIRST, ("01", "00"), 6)?;
     let (all, later) = (
@@ -43,8 +39,8 @@ fn news_of_a_channel(rt: HostRuntime) -> Result<(), Fail> {
 #[test]
 fn the_same_bytes_again(rt: HostRuntime) -> Result<(), Fail> {
     let alloc = rt.alloc();
-    let (a, b) = (point(alloc, "02", "0a")?, point(alloc, "02", "0b")?);
-    let channel = announcement(alloc, CHAIN, FIRST, (&a, &b), (&a, &b))?;
+    let (a, b) = two_nodes(alloc)?;
+    let channel = announced(alloc, FIRST)?;
     let five = update(alloc, CHAIN, FIRST, ("01", "00"), 5)?;
     let all = filter(alloc, "00000000", "ffffffff")?;
     let script = format!(in alloc;
@@ -63,8 +59,8 @@ fn the_same_bytes_again(rt: HostRuntime) -> Result<(), Fail> {
 #[test]
 fn several_peers(rt: HostRuntime) -> Result<(), Fail> {
     let alloc = rt.alloc();
-    let (a, b) = (point(alloc, "02", "0a")?, point(alloc, "02", "0b")?);
-    let channel = announcement(alloc, CHAIN, FIRST, (&a, &b), (&a, &b))?;
+    let (a, b) = two_nodes(alloc)?;
+    let channel = announced(alloc, FIRST)?;
     let node = node_announcement(alloc, &b, 5)?;
     let (all, none) = (
         filter(alloc, "00000000", "ffffffff")?,
@@ -89,9 +85,8 @@ fn several_peers(rt: HostRuntime) -> Result<(), Fail> {
 #[test]
 fn backlog_in_order(rt: HostRuntime) -> Result<(), Fail> {
     let alloc = rt.alloc();
-    let (a, b) = (point(alloc, "02", "0a")?, point(alloc, "02", "0b")?);
-    let first = announcement(alloc, CHAIN, FIRST, (&a, &b), (&a, &b))?;
-    let second = announcement(alloc, CHAIN, SECOND, (&a, &b), (&a, &b))?;
+    let (a, b) = two_nodes(alloc)?;
+    let (first, second) = two_channels(alloc)?;
     let by_a = update(alloc, CHAIN, SECOND, ("01", "00"), 9)?;
     let by_b = update(alloc, CHAIN, SECOND, ("01", "01"), 5)?;
     let other = update(alloc, CHAIN, FIRST, ("01", "01"), 5)?;
@@ -123,9 +118,8 @@ fn backlog_in_order(rt: HostRuntime) -> Result<(), Fail> {
 #[test]
 fn words_for_other_messages(rt: HostRuntime) -> Result<(), Fail> {
     let alloc = rt.alloc();
-    let b = point(alloc, "02", "0b")?;
-    let a = point(alloc, "02", "0a")?;
-    let channel = announcement(alloc, CHAIN, FIRST, (&a, &b), (&a, &b))?;
+    let (_, b) = two_nodes(alloc)?;
+    let channel = announced(alloc, FIRST)?;
     let node = node_announcement(alloc, &b, 5)?;
     let all = filter(alloc, "00000000", "ffffffff")?;
     let script = format!(in alloc;

@@ -1,10 +1,11 @@
 //! Scripts and lines as long as they may be, and longer.
 
+use super::messages::{SCID, announced};
 use lgm_graph::Known;
 use lgm_par::Open;
-use lgm_script::{MemorySink, MemorySource};
+use lgm_script::MemorySink;
 use lgm_server::{Counts, RunFault};
-use lgm_test_scripts::{CHAIN, announcement, point, run_by};
+use lgm_test_scripts::CHAIN;
 use std::alloc::{AllocError, Global};
 use std::random::RandomSource;
 use std::test::Fail;
@@ -15,11 +16,8 @@ fn ended<Rt: Threads + Sync + RandomSource>(
     rt: &Rt,
     alloc: Global,
     script: &[u8],
-) -> Result<(Result<Counts, RunFault>, Vec<u8>), AllocError> {
-    let mut reader = MemorySource::new(script, 100_000);
-    let mut writer = MemorySink::new(alloc);
-    let ended = run_by(rt, alloc, &Known::all(), &mut reader, &mut writer, 4, &Open);
-    Ok((ended, Vec::from_slice(alloc, writer.taken())?))
+) -> (Result<Counts, RunFault>, MemorySink) {
+    lgm_test_scripts::ended(rt, alloc, &Known::all(), script, 100_000, 4, &Open)
 }
 
 /// So many empty lines.
@@ -31,14 +29,14 @@ fn empty_lines(alloc: Global, count: usize) -> Result<Vec<u8>, AllocError> {
 #[test]
 fn most_lines(rt: HostRuntime) -> Result<(), Fail> {
     let script = empty_lines(rt.alloc(), 10_000_000)?;
-    let (counts, written) = ended(&rt, rt.alloc(), script.as_slice())?;
+    let (counts, writer) = ended(&rt, rt.alloc(), script.as_slice());
     let lines = counts.map(|counts| counts.lines);
     assert_eq!(rt; lines, Ok(10_000_000));
-    assert!(rt; written.is_empty());
+    assert!(rt; writer.taken().is_empty());
     let script = empty_lines(rt.alloc(), 10_000_001)?;
-    let (counts, written) = ended(&rt, rt.alloc(), script.as_slice())?;
+    let (counts, writer) = ended(&rt, rt.alloc(), script.as_slice());
     assert_eq!(rt; counts.err(), Some(RunFault::TooManyLines));
-    assert!(rt; written.is_empty());
+    assert!(rt; writer.taken().is_empty());
     Ok(())
 }
 
@@ -48,35 +46,27 @@ fn longest_line(rt: HostRuntime) -> Result<(), Fail> {
     let mut script = Vec::from_slice(rt.alloc(), b"commit\n#")?;
     let note = vec![in rt.alloc(); b'x'; 139_999]?;
     script.extend_from_slice(note.as_slice())?;
-    let (counts, written) = ended(&rt, rt.alloc(), script.as_slice())?;
+    let (counts, writer) = ended(&rt, rt.alloc(), script.as_slice());
     let lines = counts.map(|counts| counts.lines);
     assert_eq!(rt; lines, Ok(2));
-    assert_eq!(rt; written.as_slice(), b"1 commit 0\n".as_slice());
+    assert_eq!(rt; writer.taken(), b"1 commit 0\n".as_slice());
     script.push(b'x')?;
-    let (counts, written) = ended(&rt, rt.alloc(), script.as_slice())?;
+    let (counts, writer) = ended(&rt, rt.alloc(), script.as_slice());
     assert_eq!(rt; counts.err(), Some(RunFault::LineTooLong));
-    assert_eq!(rt; written.as_slice(), b"1 commit 0\n".as_slice());
+    assert_eq!(rt; writer.taken(), b"1 commit 0\n".as_slice());
     Ok(())
 }
 
-const SCID: &str = "0927c00000010000";
-
-/// A line with an announcement that has so many digits behind its fields, and the lines that ask for it.
-fn asked(alloc: Global, message: &str, digits: usize) -> Result<Vec<u8>, Fail> {
+/// An announcement with so many digits 0 behind its fields, between what stands in front and behind.
+fn longer(
+    alloc: Global,
+    front: &str,
+    message: &str,
+    digits: usize,
+    rest: &str,
+) -> Result<Vec<u8>, AllocError> {
     let zeros = vec![in alloc; b'0'; digits]?;
-    let rest = format!(in alloc; " all 100000\ncommit\nq 0105{CHAIN}000900{SCID}\n")?;
-    let mut script = Vec::from_slice(alloc, b"m ")?;
-    script.extend_from_slice(message.as_bytes())?;
-    script.extend_from_slice(zeros.as_slice())?;
-    script.extend_from_slice(rest.as_bytes())?;
-    Ok(script)
-}
-
-/// What the lines are told where the announcement is taken.
-fn told(alloc: Global, message: &str, digits: usize) -> Result<Vec<u8>, Fail> {
-    let zeros = vec![in alloc; b'0'; digits]?;
-    let rest = format!(in alloc; "\n3 0106{CHAIN}01\n")?;
-    let mut text = Vec::from_slice(alloc, b"1 accepted\n2 commit 1\n3 ")?;
+    let mut text = Vec::from_slice(alloc, front.as_bytes())?;
     text.extend_from_slice(message.as_bytes())?;
     text.extend_from_slice(zeros.as_slice())?;
     text.extend_from_slice(rest.as_bytes())?;
@@ -87,18 +77,23 @@ fn told(alloc: Global, message: &str, digits: usize) -> Result<Vec<u8>, Fail> {
 #[test]
 fn longest_message(rt: HostRuntime) -> Result<(), Fail> {
     let alloc = rt.alloc();
-    let a = point(alloc, "02", "0a")?;
-    let b = point(alloc, "02", "0b")?;
-    let key = point(alloc, "02", "ee")?;
-    let message = announcement(alloc, CHAIN, SCID, (&a, &b), (&key, &key))?;
-    let script = asked(alloc, message.as_str(), 2 * 65_103)?;
-    let (counts, written) = ended(&rt, alloc, script.as_slice())?;
-    let want = told(alloc, message.as_str(), 2 * 65_103)?;
+    let message = announced(alloc, SCID)?;
+    let lines = format!(in alloc; " all 100000\ncommit\nq 0105{CHAIN}000900{SCID}\n")?;
+    let script = longer(alloc, "m ", &message, 2 * 65_103, &lines)?;
+    let (counts, writer) = ended(&rt, alloc, script.as_slice());
     assert!(rt; counts.is_ok());
-    assert_eq!(rt; written.as_slice(), want.as_slice());
-    let script = asked(alloc, message.as_str(), 2 * 65_104)?;
-    let (counts, written) = ended(&rt, alloc, script.as_slice())?;
+    let end = format!(in alloc; "\n3 0106{CHAIN}01\n")?;
+    let want = longer(
+        alloc,
+        "1 accepted\n2 commit 1\n3 ",
+        &message,
+        2 * 65_103,
+        &end,
+    )?;
+    assert_eq!(rt; writer.taken(), want.as_slice());
+    let script = longer(alloc, "m ", &message, 2 * 65_104, &lines)?;
+    let (counts, writer) = ended(&rt, alloc, script.as_slice());
     assert!(rt; counts.is_ok());
-    assert!(rt; written.starts_with(b"1 malformed\n2 commit 0\n"));
+    assert!(rt; writer.taken().starts_with(b"1 malformed\n2 commit 0\n"));
     Ok(())
 }

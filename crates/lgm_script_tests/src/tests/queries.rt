@@ -1,20 +1,18 @@
 //! Queries of channels by ids and of ranges of blocks, in scripts.
 
-use crate::answers::assert_answers;
-use lgm_test_scripts::{
-    CHAIN, OTHER_CHAIN, announcement, node_announcement, point, update, written,
-};
+use super::answers::assert_answers;
+use super::messages::{FIRST, SCID, SECOND, announced, between, two_nodes};
+use lgm_test_scripts::{CHAIN, OTHER_CHAIN, node_announcement, point, update, written};
 use std::alloc::Global;
+use std::process::Abort;
 use std::random::RandomSource;
 use std::test::Fail;
 use std::thread::Threads;
 
 /// The channels 1x0x0 from A to B and 2x0x0 from B to C.
 fn channels(alloc: Global) -> Result<(String, String), Fail> {
-    let (a, b) = (point(alloc, "02", "0a")?, point(alloc, "02", "0b")?);
-    let c = point(alloc, "02", "0c")?;
-    let first = announcement(alloc, CHAIN, "0000010000000000", (&a, &b), (&a, &b))?;
-    let second = announcement(alloc, CHAIN, "0000020000000000", (&b, &c), (&b, &c))?;
+    let first = announced(alloc, FIRST)?;
+    let second = between(alloc, SECOND, "0b", "0c")?;
     Ok((first, second))
 }
 
@@ -43,12 +41,10 @@ fn messages_by_ids(rt: HostRuntime) -> Result<(), Fail> {
     assert_answers(&rt, alloc, script.as_bytes(), want.as_str())
 }
 
-const SCID: &str = "0927c00000010000";
-
 /// The lines 1 to 3 of a script, with a channel 600000x1x0 and its updates by node 1, at 5, and by node 2, at 6.
 fn updated_channel(alloc: Global) -> Result<String, Fail> {
-    let (a, b) = (point(alloc, "02", "0a")?, point(alloc, "02", "0b")?);
-    let channel = announcement(alloc, CHAIN, SCID, (&a, &b), (&a, &b))?;
+    let (a, b) = two_nodes(alloc)?;
+    let channel = announced(alloc, SCID)?;
     let first = update(alloc, CHAIN, SCID, ("01", "00"), 5)?;
     let second = update(alloc, CHAIN, SCID, ("01", "01"), 6)?;
     Ok(format!(in alloc; "m {channel} all 1\nm {first} {a} -\nm {second} {b} -\n")?)
@@ -56,7 +52,7 @@ fn updated_channel(alloc: Global) -> Result<String, Fail> {
 
 /// The lines 4 and 5 of a script, with the announcements of its nodes.
 fn announced_nodes(alloc: Global) -> Result<String, Fail> {
-    let (a, b) = (point(alloc, "02", "0a")?, point(alloc, "02", "0b")?);
+    let (a, b) = two_nodes(alloc)?;
     let node_1 = node_announcement(alloc, &a, 7)?;
     let node_2 = node_announcement(alloc, &b, 8)?;
     Ok(format!(in alloc; "m {node_1} {a} -\nm {node_2} {b} -\n")?)
@@ -98,32 +94,46 @@ fn each_flag(rt: HostRuntime) -> Result<(), Fail> {
 #[test]
 fn ranges_of_an_empty_map(rt: HostRuntime) -> Result<(), Fail> {
     let alloc = rt.alloc();
-    let script = format!(in alloc;
-        "q 0107{CHAIN}000927c000000000\nq 0107{CHAIN}ffffffffffffffff\nq 0107{CHAIN}ffffffff00000000\n\
-        q 0107{CHAIN}0000000000000001\n"
-    )?;
-    let want = format!(in alloc;
-        "1 0108{CHAIN}000927c00000000101000100\n2 0108{CHAIN}ffffffffffffffff01000100\n\
-        3 0108{CHAIN}ffffffff0000000101000100\n4 0108{CHAIN}000000000000000101000100\n"
-    )?;
-    assert_answers(&rt, alloc, script.as_bytes(), want.as_str())
+    for (range, reply) in [
+        ("000927c000000000", "000927c00000000101000100"),
+        ("ffffffffffffffff", "ffffffffffffffff01000100"),
+        ("ffffffff00000000", "ffffffff0000000101000100"),
+        ("0000000000000001", "000000000000000101000100"),
+    ] {
+        let query = format!(in alloc; "q 0107{CHAIN}{range}\n")?;
+        let want = format!(in alloc; "1 0108{CHAIN}{reply}\n")?;
+        assert_answers(&rt, alloc, query.as_bytes(), want.as_str())?;
+    }
+    Ok(())
+}
+
+/// The channel and its nodes are announced and committed by six lines, and the queries behind get these
+/// answers.
+fn assert_replies<Rt: Abort + Threads + Sync + RandomSource>(
+    rt: &Rt,
+    alloc: Global,
+    queries: &str,
+    answers: &str,
+) -> Result<(), Fail> {
+    let (channel, nodes) = (updated_channel(alloc)?, announced_nodes(alloc)?);
+    let script = format!(in alloc; "{channel}{nodes}commit\n{queries}")?;
+    let want = format!(in alloc; "{FIVE_ACCEPTED}{answers}")?;
+    assert_answers(rt, alloc, script.as_bytes(), want.as_str())
 }
 
 // The block 600000 is the only or the last one of the range, or stands right behind or before it.
 #[test]
 fn ends_of_a_range(rt: HostRuntime) -> Result<(), Fail> {
-    let alloc = rt.alloc();
-    let (channel, nodes) = (updated_channel(alloc)?, announced_nodes(alloc)?);
-    let script = format!(in alloc;
-        "{channel}{nodes}commit\nq 0107{CHAIN}000927c000000000\nq 0107{CHAIN}000927bf00000002\n\
+    let queries = format!(in rt.alloc();
+        "q 0107{CHAIN}000927c000000000\nq 0107{CHAIN}000927bf00000002\n\
         q 0107{CHAIN}000927bf00000001\nq 0107{CHAIN}000927c100000001\n"
     )?;
-    let want = format!(in alloc;
-        "{FIVE_ACCEPTED}7 0108{CHAIN}000927c000000001010009000927c00000010000\n\
+    let answers = format!(in rt.alloc();
+        "7 0108{CHAIN}000927c000000001010009000927c00000010000\n\
         8 0108{CHAIN}000927bf00000002010009000927c00000010000\n9 0108{CHAIN}000927bf0000000101000100\n\
         10 0108{CHAIN}000927c10000000101000100\n"
     )?;
-    assert_answers(&rt, alloc, script.as_bytes(), want.as_str())
+    assert_replies(&rt, rt.alloc(), queries.as_str(), answers.as_str())
 }
 
 // Bit 0 asks for timestamps, bit 1 for checksums, which are never sent; other bits ask for nothing. The timestamp of node
@@ -131,34 +141,32 @@ fn ends_of_a_range(rt: HostRuntime) -> Result<(), Fail> {
 #[test]
 fn timestamps(rt: HostRuntime) -> Result<(), Fail> {
     let alloc = rt.alloc();
-    let (channel, nodes) = (updated_channel(alloc)?, announced_nodes(alloc)?);
     let range = "000927c000000001";
-    let reply = format!(in alloc; "0108{CHAIN}{range}010009000927c00000010000")?;
-    let script = format!(in alloc;
-        "{channel}{nodes}commit\nq 0107{CHAIN}{range}010101\nq 0107{CHAIN}{range}010103\n\
+    let queries = format!(in alloc;
+        "q 0107{CHAIN}{range}010101\nq 0107{CHAIN}{range}010103\n\
         q 0107{CHAIN}{range}0109ffffffffffffffffff\nq 0107{CHAIN}{range}010102\n\
         q 0107{CHAIN}{range}0109fffffffffffffffffe\nq 0107{CHAIN}{range}010100\n\
         q 0107{OTHER_CHAIN}{range}010101\n"
     )?;
+    let reply = format!(in alloc; "0108{CHAIN}{range}010009000927c00000010000")?;
     let pair = "0109000000000500000006";
-    let want = format!(in alloc;
-        "{FIVE_ACCEPTED}7 {reply}{pair}\n8 {reply}{pair}\n9 {reply}{pair}\n10 {reply}\n11 {reply}\n\
+    let answers = format!(in alloc;
+        "7 {reply}{pair}\n8 {reply}{pair}\n9 {reply}{pair}\n10 {reply}\n11 {reply}\n\
         12 {reply}\n13 0108{OTHER_CHAIN}{range}01000100010100\n"
     )?;
-    assert_answers(&rt, alloc, script.as_bytes(), want.as_str())
+    assert_replies(&rt, alloc, queries.as_str(), answers.as_str())
 }
 
 /// A script of so many channels between two nodes, 600000x0x0, 600000x1x0 and so on, and 600005x0x0, and a query of the
 /// 20 blocks from 599990 on.
 fn many_channels(alloc: Global, count: u32) -> Result<String, Fail> {
-    let (a, b) = (point(alloc, "02", "0a")?, point(alloc, "02", "0b")?);
     let mut script = String::new(alloc);
     for index in 0..count {
         let scid = format!(in alloc; "0927c0{index:06x}0000")?;
-        let channel = announcement(alloc, CHAIN, &scid, (&a, &b), (&a, &b))?;
+        let channel = announced(alloc, &scid)?;
         script.push_str(format!(in alloc; "m {channel} all 1\n")?.as_str())?;
     }
-    let last = announcement(alloc, CHAIN, "0927c50000000000", (&a, &b), (&a, &b))?;
+    let last = announced(alloc, "0927c50000000000")?;
     let query = format!(in alloc; "m {last} all 1\ncommit\nq 0107{CHAIN}000927b600000014\n")?;
     script.push_str(query.as_str())?;
     Ok(script)

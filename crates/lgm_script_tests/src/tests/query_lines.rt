@@ -1,20 +1,14 @@
 //! Query lines: on which items they are answered, and by which words.
 
-use crate::answers::assert_answers;
-use lgm_test_scripts::{CHAIN, OTHER_CHAIN, announcement, point};
+use super::answers::assert_answers;
+use super::messages::{FIRST, SECOND, two_channels};
+use lgm_test_scripts::{CHAIN, OTHER_CHAIN};
 use std::test::Fail;
-
-/// The channels 1x0x0 and 2x0x0.
-const FIRST: &str = "0000010000000000";
-
-const SECOND: &str = "0000020000000000";
 
 #[test]
 fn answered_on_committed_items(rt: HostRuntime) -> Result<(), Fail> {
     let alloc = rt.alloc();
-    let (a, b) = (point(alloc, "02", "0a")?, point(alloc, "02", "0b")?);
-    let first = announcement(alloc, CHAIN, FIRST, (&a, &b), (&a, &b))?;
-    let second = announcement(alloc, CHAIN, SECOND, (&a, &b), (&a, &b))?;
+    let (first, second) = two_channels(alloc)?;
     let query = format!(in alloc; "q 0105{CHAIN}001100{FIRST}{SECOND}")?;
     let end = format!(in alloc; "0106{CHAIN}01")?;
     let script = format!(in alloc;

@@ -1,6 +1,6 @@
 //! A payment that stands alone, shared by workers.
 
-use crate::workers::{answered, counter};
+use super::workers::{answered, counter};
 use lgm_test_scripts::{CHAIN, SECRET, announcement, update};
 use std::alloc::{AllocError, Global};
 use std::test::Fail;

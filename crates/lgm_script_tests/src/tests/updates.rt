@@ -1,11 +1,10 @@
 //! Updates of channels: who may sign them, which are newer, and which are private.
 
-use crate::answers::assert_answers;
-use lgm_test_scripts::{CHAIN, OTHER_CHAIN, announcement, point, update};
+use super::answers::assert_answers;
+use super::messages::{SCID, announced, two_nodes};
+use lgm_test_scripts::{CHAIN, OTHER_CHAIN, point, update};
 use std::alloc::{AllocError, Global};
 use std::test::Fail;
-
-const SCID: &str = "0927c00000010000";
 
 fn from_node_1(alloc: Global, timestamp: u32) -> Result<String, AllocError> {
     update(alloc, CHAIN, SCID, ("01", "00"), timestamp)
@@ -14,8 +13,8 @@ fn from_node_1(alloc: Global, timestamp: u32) -> Result<String, AllocError> {
 #[test]
 fn timestamps_and_signers(rt: HostRuntime) -> Result<(), Fail> {
     let alloc = rt.alloc();
-    let (a, b) = (point(alloc, "02", "0a")?, point(alloc, "02", "0b")?);
-    let channel = announcement(alloc, CHAIN, SCID, (&a, &b), (&a, &b))?;
+    let (a, b) = two_nodes(alloc)?;
+    let channel = announced(alloc, SCID)?;
     let (four, five) = (from_node_1(alloc, 4)?, from_node_1(alloc, 5)?);
     let (six, seven) = (from_node_1(alloc, 6)?, from_node_1(alloc, 7)?);
     let disabled = update(alloc, CHAIN, SCID, ("01", "02"), 5)?;

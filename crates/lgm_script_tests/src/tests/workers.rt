@@ -1,10 +1,11 @@
 //! Work that is shared by workers.
 
+use super::messages::announced;
 use lgm_graph::Known;
 use lgm_par::Gate;
-use lgm_script::{MemorySink, MemorySource};
-use lgm_test_scripts::{CHAIN, announcement, point, run_by};
-use std::alloc::Global;
+use lgm_test_scripts::{CHAIN, ended};
+use std::alloc::{AllocError, Global};
+use std::process::Abort;
 use std::random::RandomSource;
 use std::sync::atomic::{AtomicU64, Ordering};
 use std::test::Fail;
@@ -72,42 +73,28 @@ pub fn answered<Rt: Threads + Sync + RandomSource>(
     workers: usize,
     gate: &Counting,
 ) -> Result<Vec<u8>, Fail> {
-    let mut reader = MemorySource::new(script, 1_000_000);
-    let mut writer = MemorySink::new(alloc);
-    run_by(
-        rt,
-        alloc,
-        &Known::all(),
-        &mut reader,
-        &mut writer,
-        workers,
-        gate,
-    )?;
+    let known = Known::all();
+    let (ended, writer) = ended(rt, alloc, &known, script, 1_000_000, workers, gate);
+    ended?;
     Ok(Vec::from_slice(alloc, writer.taken())?)
 }
 
-/// A line of an announcement between two nodes.
-fn push_announcement(alloc: Global, script: &mut String, scid: &str) -> Result<(), Fail> {
-    let a = point(alloc, "02", "0a")?;
-    let b = point(alloc, "02", "0b")?;
-    let key = point(alloc, "02", "ee")?;
-    let nodes = (a.as_str(), b.as_str());
-    let keys = (key.as_str(), key.as_str());
-    let message = announcement(alloc, CHAIN, scid, nodes, keys)?;
-    script.push_str("m ")?;
-    script.push_str(message.as_str())?;
-    script.push_str(" all 100000\n")?;
-    Ok(())
+/// A line for each of these channels, with its announcement.
+fn announcements(alloc: Global, scids: &[&str]) -> Result<String, AllocError> {
+    let mut script = String::new(alloc);
+    for scid in scids {
+        let message = announced(alloc, scid)?;
+        script.push_str(format!(in alloc; "m {message} all 100000\n")?.as_str())?;
+    }
+    Ok(script)
 }
 
 /// Three items are three pieces of 64 workers.
 #[test]
 fn as_many_pieces_as_lines(rt: HostRuntime) -> Result<(), Fail> {
     let alloc = rt.alloc();
-    let mut script = String::new(alloc);
-    push_announcement(alloc, &mut script, "0927c00000010000")?;
-    push_announcement(alloc, &mut script, "0927c00000010000")?;
-    push_announcement(alloc, &mut script, "0927c00000020000")?;
+    let (first, second) = ("0927c00000010000", "0927c00000020000");
+    let script = announcements(alloc, &[first, first, second])?;
     let gate = counter(255);
     let text = answered(&rt, alloc, script.as_bytes(), 64, &gate)?;
     assert_eq!(rt;
@@ -118,33 +105,34 @@ fn as_many_pieces_as_lines(rt: HostRuntime) -> Result<(), Fail> {
     Ok(())
 }
 
-/// The first of two items is held until the second has begun.
-#[test]
-fn items_side_by_side(rt: HostRuntime) -> Result<(), Fail> {
-    let alloc = rt.alloc();
-    let mut script = String::new(alloc);
-    push_announcement(alloc, &mut script, "0927c00000010000")?;
-    push_announcement(alloc, &mut script, "0927c00000020000")?;
+/// Of two lines the first is held until the second has begun, each by a worker of its own.
+fn assert_side_by_side<Rt: Abort + Threads + Sync + RandomSource>(
+    rt: &Rt,
+    alloc: Global,
+    script: &[u8],
+    want: &[u8],
+) -> Result<(), Fail> {
     let gate = counter(0);
-    let text = answered(&rt, alloc, script.as_bytes(), 2, &gate)?;
-    assert_eq!(rt; text.as_slice(), b"1 accepted\n2 accepted\n".as_slice());
+    let text = answered(rt, alloc, script, 2, &gate)?;
+    assert_eq!(rt; text.as_slice(), want);
     assert!(rt; gate.went_on(), "ended at the limit");
     assert_eq!(rt; gate.of_piece(1), 1);
     Ok(())
 }
 
-/// The first of two queries is held until the second has begun.
+#[test]
+fn items_side_by_side(rt: HostRuntime) -> Result<(), Fail> {
+    let alloc = rt.alloc();
+    let script = announcements(alloc, &["0927c00000010000", "0927c00000020000"])?;
+    assert_side_by_side(&rt, alloc, script.as_bytes(), b"1 accepted\n2 accepted\n")
+}
+
 #[test]
 fn questions_side_by_side(rt: HostRuntime) -> Result<(), Fail> {
     let alloc = rt.alloc();
     let query = format!(in alloc; "q 0105{CHAIN}0000\nq 0105{CHAIN}0000\n")?;
     let reply = format!(in alloc; "1 0106{CHAIN}01\n2 0106{CHAIN}01\n")?;
-    let gate = counter(0);
-    let text = answered(&rt, alloc, query.as_bytes(), 2, &gate)?;
-    assert_eq!(rt; text.as_slice(), reply.as_bytes());
-    assert!(rt; gate.went_on(), "ended at the limit");
-    assert_eq!(rt; gate.of_piece(1), 1);
-    Ok(())
+    assert_side_by_side(&rt, alloc, query.as_bytes(), reply.as_bytes())
 }
 
 /// More items than are taken together: two groups, each of which is a single piece.
