@@ -1,9 +1,9 @@
 //! Routes of made networks beside those of the plain program.
 
-use crate::made::{network, pay, payment};
-use crate::paid::assert_paid;
-use crate::plain::{Road, best_steps, roads_of};
-use crate::spelled::spelled;
+use super::made::{network, pay, payment};
+use super::paid::assert_paid;
+use super::plain::{Road, best_steps, roads_of};
+use super::spelled::spelled;
 use lgm_test_scripts::{Line, Numbers, script_of, text_of, written};
 use std::alloc::{AllocError, Global};
 use std::process::Abort;
@@ -26,37 +26,17 @@ fn push_payment(
     Ok(steps.map_or(0, |steps| steps.len()))
 }
 
-fn assert_answers<Rt: Abort + Threads + Sync + RandomSource>(
-    rt: &Rt,
-    alloc: Global,
-    lines: &[Line],
-    answers: &[String],
-) -> Result<(), Fail> {
-    let mut borrowed = Vec::new(alloc);
+/// The same answers, borrowed.
+fn texts(alloc: Global, answers: &[String]) -> Result<Vec<&str>, AllocError> {
+    let mut texts = Vec::new(alloc);
     for answer in answers {
-        borrowed.push(answer.as_str())?;
+        texts.push(answer.as_str())?;
     }
-    let want = text_of(alloc, lines, borrowed.as_slice())?;
-    let got = written(rt, alloc, script_of(alloc, lines)?.as_bytes())?;
-    assert_eq!(rt; got.as_slice(), want.as_bytes(), "{lines:?}");
-    Ok(())
+    Ok(texts)
 }
 
-/// The payments get these answers, whatever the number of workers.
-fn assert_paid_alone<Rt: Abort + Threads + Sync + RandomSource>(
-    rt: &Rt,
-    alloc: Global,
-    lines: &[Line],
-    answers: &[String],
-) -> Result<(), Fail> {
-    let mut borrowed = Vec::new(alloc);
-    for answer in answers {
-        borrowed.push(answer.as_str())?;
-    }
-    assert_paid(rt, alloc, lines, borrowed.as_slice())
-}
-
-/// Three payments over a made network, each in a group of its own, which all workers search for.
+/// Three payments over a made network, each in a group of its own, which all workers search for. They get the
+/// answers of the plain program, whatever the number of workers.
 fn compare_alone<Rt: Abort + Threads + Sync + RandomSource>(
     rt: &Rt,
     alloc: Global,
@@ -69,7 +49,8 @@ fn compare_alone<Rt: Abort + Threads + Sync + RandomSource>(
         lines.push(Line::Commit)?;
         push_payment(alloc, numbers, roads.as_slice(), &mut lines, &mut answers)?;
     }
-    assert_paid_alone(rt, alloc, lines.as_slice(), answers.as_slice())
+    let answers = texts(alloc, answers.as_slice())?;
+    assert_paid(rt, alloc, lines.as_slice(), answers.as_slice())
 }
 
 /// Six payments over a made network. The lengths of their routes are added.
@@ -87,7 +68,11 @@ fn compare<Rt: Abort + Threads + Sync + RandomSource>(
         let length = push_payment(alloc, numbers, roads.as_slice(), &mut lines, &mut answers)?;
         lengths.push(length)?;
     }
-    assert_answers(rt, alloc, lines.as_slice(), answers.as_slice())
+    let answers = texts(alloc, answers.as_slice())?;
+    let want = text_of(alloc, lines.as_slice(), answers.as_slice())?;
+    let got = written(rt, alloc, script_of(alloc, lines.as_slice())?.as_bytes())?;
+    assert_eq!(rt; got.as_slice(), want.as_bytes(), "{lines:?}");
+    Ok(())
 }
 
 #[test]

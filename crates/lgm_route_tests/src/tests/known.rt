@@ -1,6 +1,6 @@
 //! Nodes with features that aren't known get no payments.
 
-use crate::paid::{assert_paid, assert_paid_where};
+use super::paid::{assert_paid, assert_paid_where};
 use lgm_graph::Known;
 use lgm_test_scripts::Line::{self, Close, Commit, Node, Open, Pay};
 use lgm_test_scripts::{FREE, Terms};

@@ -1,18 +1,14 @@
 //! The longest routes.
 
-use crate::paid::assert_paid;
+use super::paid::{assert_paid, row};
 use lgm_test_scripts::FREE;
-use lgm_test_scripts::Line::{self, Commit, Open, Pay};
+use lgm_test_scripts::Line::{self, Commit, Pay};
 use std::alloc::{AllocError, Global};
 use std::test::Fail;
 
-/// The channels 1x0x0 to 21x0x0, each from the node before to the node of its number, and two payments.
+/// The channels 1x0x0 to 21x0x0, each from the node before to the node of its number, and three payments.
 fn in_a_row(alloc: Global) -> Result<Vec<Line>, AllocError> {
-    let mut lines = Vec::new(alloc);
-    for node in 0..21u8 {
-        lines.push(Open(u32::from(node) + 1, node, node + 1, FREE))?;
-    }
-    lines.push(Commit)?;
+    let mut lines = row(alloc, &[FREE; 21])?;
     lines.push(Pay(0, 20, 1000, 700_000))?;
     lines.push(Pay(0, 21, 1000, 700_000))?;
     lines.push(Pay(1, 21, 1000, 700_000))?;
@@ -49,20 +45,14 @@ fn alone(alloc: Global) -> Result<Vec<Line>, AllocError> {
     Ok(lines)
 }
 
-/// 20 channels are a route, 21 aren't.
+/// 20 channels are a route, 21 aren't. Payments that are alone in their group are searched for by all
+/// workers.
 #[test]
 fn twenty_channels(rt: HostRuntime) -> Result<(), Fail> {
     let alloc = rt.alloc();
-    let lines = in_a_row(alloc)?;
     let (whole, rest) = (route_from(alloc, 1)?, route_from(alloc, 2)?);
-    assert_paid(&rt, alloc, lines.as_slice(), &[&whole, "no-route", &rest])
-}
-
-/// Payments that are alone in their group are searched for by all workers.
-#[test]
-fn twenty_channels_alone(rt: HostRuntime) -> Result<(), Fail> {
-    let alloc = rt.alloc();
-    let lines = alone(alloc)?;
-    let (whole, rest) = (route_from(alloc, 1)?, route_from(alloc, 2)?);
-    assert_paid(&rt, alloc, lines.as_slice(), &[&whole, "no-route", &rest])
+    for lines in [in_a_row(alloc)?, alone(alloc)?] {
+        assert_paid(&rt, alloc, lines.as_slice(), &[&whole, "no-route", &rest])?;
+    }
+    Ok(())
 }

@@ -1,6 +1,6 @@
 //! Networks made from a seed.
 
-use crate::plain::Payment;
+use super::plain::Payment;
 use lgm_test_scripts::{Line, Numbers, Terms};
 use std::alloc::{AllocError, Global};
 

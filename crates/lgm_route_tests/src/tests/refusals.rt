@@ -1,8 +1,8 @@
 //! Payments that are refused, and the order of the refusals.
 
-use crate::paid::assert_paid;
+use super::paid::{assert_paid, assert_payments};
 use lgm_graph::Known;
-use lgm_test_scripts::Line::{Commit, Open, Pay};
+use lgm_test_scripts::Line::{Open, Pay};
 use lgm_test_scripts::{FREE, SECRET, find_differing};
 use std::test::Fail;
 
@@ -10,61 +10,42 @@ const MOST: u64 = 2_100_000_000_000_000_000;
 
 #[test]
 fn in_order(rt: HostRuntime) -> Result<(), Fail> {
-    assert_paid(
-        &rt,
-        rt.alloc(),
-        &[
-            Open(1, 0, 1, FREE),
-            Commit,
-            Pay(0, 0, 0, 498_000_001),
-            Pay(0, 0, MOST + 1, 498_000_001),
-            Pay(0, 0, MOST, 498_000_001),
-            Pay(0, 0, MOST, 498_000_000),
-            Pay(0, 1, 0, 700_000),
+    let payments = [
+        (Pay(0, 0, 0, 498_000_001), "amount-zero"),
+        (Pay(0, 0, MOST + 1, 498_000_001), "amount-too-large"),
+        (Pay(0, 0, MOST, 498_000_001), "expiry-too-large"),
+        (Pay(0, 0, MOST, 498_000_000), "self-payment"),
+        (Pay(0, 1, 0, 700_000), "amount-zero"),
+        (
             Pay(0, 1, 18_446_744_073_709_551_615, 700_000),
-            Pay(0, 1, 1000, 4_294_967_295),
-            Pay(7, 7, 1000, 700_000),
-            Pay(0, 1, MOST, 498_000_000),
-        ],
-        &[
-            "amount-zero",
             "amount-too-large",
-            "expiry-too-large",
-            "self-payment",
-            "amount-zero",
-            "amount-too-large",
-            "expiry-too-large",
-            "self-payment",
-            "no-route",
-        ],
-    )
+        ),
+        (Pay(0, 1, 1000, 4_294_967_295), "expiry-too-large"),
+        (Pay(7, 7, 1000, 700_000), "self-payment"),
+        (Pay(0, 1, MOST, 498_000_000), "no-route"),
+    ];
+    assert_payments(&rt, rt.alloc(), &[Open(1, 0, 1, FREE)], &payments)
 }
 
-/// Against the only direction, and from and to nodes that aren't there. The least and the greatest expiry are taken.
+/// Over no channels, against the only direction, and from and to nodes that aren't there. The least and the
+/// greatest expiry are taken.
 #[test]
 fn no_route(rt: HostRuntime) -> Result<(), Fail> {
-    assert_paid(
-        &rt,
-        rt.alloc(),
-        &[
-            Pay(0, 1, 1000, 700_000),
-            Open(1, 0, 1, FREE),
-            Commit,
-            Pay(1, 0, 1000, 700_000),
-            Pay(0, 7, 1000, 700_000),
-            Pay(7, 0, 1000, 700_000),
+    assert_paid(&rt, rt.alloc(), &[Pay(0, 1, 1000, 700_000)], &["no-route"])?;
+    let payments = [
+        (Pay(1, 0, 1000, 700_000), "no-route"),
+        (Pay(0, 7, 1000, 700_000), "no-route"),
+        (Pay(7, 0, 1000, 700_000), "no-route"),
+        (
             Pay(0, 1, 1, 0),
-            Pay(0, 1, 1000, 498_000_000),
-        ],
-        &[
-            "no-route",
-            "no-route",
-            "no-route",
-            "no-route",
             "route 1 0 1\nhop 1x0x0 2802010104000821S01",
+        ),
+        (
+            Pay(0, 1, 1000, 498_000_000),
             "route 1000 498000000 1\nhop 1x0x0 2e020203e804041daee0800822S03e8",
-        ],
-    )
+        ),
+    ];
+    assert_payments(&rt, rt.alloc(), &[Open(1, 0, 1, FREE)], &payments)
 }
 
 /// Words in the place of numbers and points, and lines that are cut.

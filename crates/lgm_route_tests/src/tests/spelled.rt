@@ -1,6 +1,6 @@
 //! The plain program's answers, as text.
 
-use crate::plain::Step;
+use super::plain::Step;
 use std::alloc::{AllocError, Global};
 
 /// The digits of a number without leading zero bytes, behind their count.
