@@ -83,8 +83,8 @@ fn bytes_behind_are_kept(rt: HostRuntime) -> Result<(), Fail> {
     Ok(())
 }
 
-/// What stands behind the fields of an end or a filter is dropped, also where it looks like a record. A byte behind a
-/// query or a reply is a record that is cut.
+/// What stands behind the fields of an end or a filter is dropped, also where it looks like a record. A byte
+/// behind a query or a reply is a record that is cut.
 #[test]
 fn bytes_behind_are_dropped_or_a_record(rt: HostRuntime) -> Result<(), Fail> {
     let cut = DecodeFault::Tlv(WireFault::Cut);

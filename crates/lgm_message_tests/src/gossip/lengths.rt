@@ -8,7 +8,8 @@ use std::alloc::Global;
 use std::process::Abort;
 use std::test::Fail;
 
-/// Whether what stands in front of a field, the field and the rest are no message, with this as their first fault.
+/// Whether what stands in front of a field, the field and the rest are no message, with this as their first
+/// fault.
 fn assert_fault_at(
     rt: &impl Abort,
     alloc: Global,
