@@ -172,17 +172,24 @@ fn assert_least<Rt: Abort + Threads + Sync + RandomSource>(
     Ok(())
 }
 
-/// Without a bound on what a search keeps of each node, a row of 40 with convex charges takes seconds, and
-/// each further ten nodes take ten times as long.
+/// A row of 80 nodes. Without a bound on what a search keeps of each node, one of 40 takes seconds, and each further
+/// ten take ten times as long.
 #[test]
-fn rows_of_many_roads(rt: HostRuntime) -> Result<(), Fail> {
-    for (last, beside, charges) in [
-        (80, 1, Charges::Convex),
-        (80, 1, Charges::Millionths),
-        (40, 3, Charges::Convex),
-        (80, 3, Charges::Equal),
-    ] {
-        assert_least(&rt, rt.alloc(), last, beside, charges)?;
-    }
-    Ok(())
+fn convex_charges(rt: HostRuntime) -> Result<(), Fail> {
+    assert_least(&rt, rt.alloc(), 80, 1, Charges::Convex)
+}
+
+#[test]
+fn charges_by_millionths(rt: HostRuntime) -> Result<(), Fail> {
+    assert_least(&rt, rt.alloc(), 80, 1, Charges::Millionths)
+}
+
+#[test]
+fn three_side_by_side(rt: HostRuntime) -> Result<(), Fail> {
+    assert_least(&rt, rt.alloc(), 40, 3, Charges::Convex)
+}
+
+#[test]
+fn equal_charges(rt: HostRuntime) -> Result<(), Fail> {
+    assert_least(&rt, rt.alloc(), 80, 3, Charges::Equal)
 }
