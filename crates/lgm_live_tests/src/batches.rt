@@ -1,14 +1,14 @@
 //! Two channels that come while routes over them are asked for. The expected route was worked out by hand.
 
-use lgm_check::{Evidence, Funding, Refusal, Sig};
-use lgm_gossip::{
-    Announce, ChainHash, ChannelUpdate, Lent, Message, Point, Scid, Signature, encode,
-};
+use crate::runs::TWO_CHANNELS;
+use lgm_check::Refusal;
+use lgm_gossip::{ChainHash, Point};
 use lgm_graph::Known;
 use lgm_live::{Batches, LiveAnswer, LiveReport, RequestLists, live};
 use lgm_par::{Gate, Open};
 use lgm_route::{Request, Route, RouteFault};
-use lgm_script::Item;
+use lgm_script::{Item, parse_item};
+use lgm_test_scripts::{Line, script_of};
 use std::alloc::{AllocError, Global};
 use std::marker::Sync;
 use std::process::Abort;
@@ -24,93 +24,39 @@ const LIMIT: u64 = 100_000_000;
 
 const CHAIN: ChainHash = ChainHash([0xc1; 32]);
 
-/// The node with 2 and 32 times this byte.
-fn point(byte: u8) -> Point {
-    let mut bytes = [byte; 33];
+/// A node of the lines, by its number.
+fn node(number: u8) -> Point {
+    let mut bytes = [0; 33];
     bytes[0] = 2;
+    bytes[32] = number;
     Point(bytes)
 }
 
-fn channel(alloc: Global, scid: Scid, from: u8, to: u8) -> Result<Item, Fail> {
-    let zeros = [0; 64];
-    let message = Message::Announce(Announce {
-        node_signature_1: Signature::new(&zeros),
-        node_signature_2: Signature::new(&zeros),
-        bitcoin_signature_1: Signature::new(&zeros),
-        bitcoin_signature_2: Signature::new(&zeros),
-        features: Lent::new(&[]),
-        chain_hash: CHAIN,
-        short_channel_id: scid,
-        node_id_1: point(from),
-        node_id_2: point(to),
-        bitcoin_key_1: point(0xee),
-        bitcoin_key_2: point(0xee),
-        rest: Lent::new(&[]),
-    });
-    let evidence = Evidence {
-        sig: Sig::AllFour(true),
-        funding: Funding::Unspent(100_000),
-    };
-    Ok(Item::Gossip(encode(alloc, &message)?, evidence))
-}
-
-fn update(
-    alloc: Global,
-    scid: Scid,
-    by: u8,
-    delta: u16,
-    base: u32,
-    millionths: u32,
-) -> Result<Item, Fail> {
-    let zeros = [0; 64];
-    let message = Message::ChannelUpdate(ChannelUpdate {
-        signature: Signature::new(&zeros),
-        chain_hash: CHAIN,
-        short_channel_id: scid,
-        timestamp: 1,
-        message_flags: 1,
-        channel_flags: 0,
-        cltv_expiry_delta: delta,
-        htlc_minimum_msat: 1,
-        fee_base_msat: base,
-        fee_proportional_millionths: millionths,
-        htlc_maximum_msat: 50_000_000,
-        rest: Lent::new(&[]),
-    });
-    let evidence = Evidence {
-        sig: Sig::By(point(by)),
-        funding: Funding::NotAsked,
-    };
-    Ok(Item::Gossip(encode(alloc, &message)?, evidence))
-}
-
-/// Channels between A and B and between B and C, with what their first nodes ask for.
-fn two_channels(alloc: Global) -> Result<Vec<Item>, Fail> {
-    let first = Scid::new(600_000, 0, 0);
-    let second = Scid::new(600_000, 1, 0);
+/// The items of some lines.
+fn items_of(alloc: Global, lines: &[Line]) -> Result<Vec<Item>, Fail> {
+    let script = script_of(alloc, lines)?;
     let mut items = Vec::new(alloc);
-    items.push(channel(alloc, first, 0x0a, 0x0b)?)?;
-    items.push(channel(alloc, second, 0x0b, 0x0c)?)?;
-    items.push(update(alloc, first, 0x0a, 10, 0, 0)?)?;
-    items.push(update(alloc, second, 0x0b, 20, 200, 2000)?)?;
+    for line in script.lines() {
+        items.push(parse_item(Vec::new(alloc), line.as_bytes())?.ok_or("no item")?)?;
+    }
     Ok(items)
 }
 
 /// A batch of the two channels, and then so many empty ones.
 fn batches(alloc: Global, empty: usize) -> Result<Batches, Fail> {
     let mut batches = Batches::new(alloc);
-    batches.push(two_channels(alloc)?)?;
+    batches.push(items_of(alloc, &TWO_CHANNELS)?)?;
     for _batch in 0..empty {
         batches.push(Vec::new(alloc))?;
     }
     Ok(batches)
 }
 
-/// So many workers, each with the payment from A to C so many times.
+/// So many workers, each with the payment from node 0 to node 2 so many times.
 fn lists(alloc: Global, workers: usize, times: usize) -> Result<RequestLists, AllocError> {
     let request = Request {
-        payer: point(0x0a),
-        payee: point(0x0c),
+        payer: node(0),
+        payee: node(2),
         amount: 4_999_999,
         expiry: 700_009,
     };
@@ -125,7 +71,7 @@ fn lists(alloc: Global, workers: usize, times: usize) -> Result<RequestLists, Al
     Ok(lists)
 }
 
-/// B takes 200 and 2,000 millionths of 4,999,999, which are 9,999, and 20 blocks.
+/// Node 1 takes 200 and 2,000 millionths of 4,999,999, which are 9,999, and 20 blocks.
 fn is_the_route(route: &Route) -> bool {
     route.as_slice().len() == 2 && route.sent() == 5_010_198 && route.expiry() == 700_029
 }
@@ -220,6 +166,21 @@ impl Gate for Holding {
     }
 }
 
+/// What is reported of these batches and lists, of which there are a few.
+fn report_of<R: Abort + Threads + Wait + Sync + RandomSource, G: Gate>(
+    rt: &R,
+    alloc: Global,
+    batches: &Batches,
+    lists: &RequestLists,
+    gate: &G,
+) -> Result<LiveReport, Fail> {
+    assert!(rt;
+        batches.are_few() && lists.len() >= 1 && lists.len() <= 64,
+        "a few"
+    );
+    Ok(live(rt, alloc, &CHAIN, &Known::all(), batches, lists, gate)?)
+}
+
 /// What is reported of the two channels and empty batches behind them.
 fn run<R: Abort + Threads + Wait + Sync + RandomSource, G: Gate>(
     rt: &R,
@@ -229,13 +190,8 @@ fn run<R: Abort + Threads + Wait + Sync + RandomSource, G: Gate>(
     times: usize,
     gate: &G,
 ) -> Result<LiveReport, Fail> {
-    let batches = batches(alloc, empty)?;
-    let lists = lists(alloc, workers, times)?;
-    assert!(rt;
-        batches.are_few() && lists.len() >= 1 && lists.len() <= 64,
-        "a few"
-    );
-    Ok(live(rt, alloc, &CHAIN, &Known::all(), &batches, &lists, gate)?)
+    let (batches, lists) = (batches(alloc, empty)?, lists(alloc, workers, times)?);
+    report_of(rt, alloc, &batches, &lists, gate)
 }
 
 /// The two channels were accepted, and each worker gave so many right answers.
@@ -249,24 +205,39 @@ fn assert_right(rt: &impl Abort, report: &LiveReport, workers: usize, times: usi
     }
 }
 
-#[test]
-fn two_workers_wait_for_the_writer(rt: HostRuntime) -> Result<(), Fail> {
-    let gate = Holding::new(Plan::Writer, 2);
-    let report = run(&rt, rt.alloc(), 0, 2, 1, &gate)?;
-    assert_right(&rt, &report, 2, 1);
+/// The versions of all answers, worker by worker.
+fn versions(alloc: Global, report: &LiveReport) -> Result<Vec<u64>, AllocError> {
+    let mut versions = Vec::new(alloc);
+    for answers in report.answers.as_slice() {
+        for answer in answers.as_slice() {
+            versions.push(answer.version)?;
+        }
+    }
+    Ok(versions)
+}
+
+/// Two workers, of whom this plan holds one or both, answer right in the end.
+fn assert_two_held<R: Abort + Threads + Wait + Sync + RandomSource>(
+    rt: &R,
+    alloc: Global,
+    plan: Plan,
+) -> Result<(), Fail> {
+    let gate = Holding::new(plan, 2);
+    let report = run(rt, alloc, 0, 2, 1, &gate)?;
+    assert_right(rt, &report, 2, 1);
     assert_eq!(rt; report.ends.as_slice(), [4].as_slice());
     assert!(rt; gate.ended_by_itself(), "ended at the limit");
     Ok(())
 }
 
 #[test]
+fn two_workers_wait_for_the_writer(rt: HostRuntime) -> Result<(), Fail> {
+    assert_two_held(&rt, rt.alloc(), Plan::Writer)
+}
+
+#[test]
 fn one_worker_waits_for_the_other(rt: HostRuntime) -> Result<(), Fail> {
-    let gate = Holding::new(Plan::Other, 2);
-    let report = run(&rt, rt.alloc(), 0, 2, 1, &gate)?;
-    assert_right(&rt, &report, 2, 1);
-    assert_eq!(rt; report.ends.as_slice(), [4].as_slice());
-    assert!(rt; gate.ended_by_itself(), "ended at the limit");
-    Ok(())
+    assert_two_held(&rt, rt.alloc(), Plan::Other)
 }
 
 #[test]
@@ -275,12 +246,7 @@ fn a_worker_sees_what_is_published_meanwhile(rt: HostRuntime) -> Result<(), Fail
     let report = run(&rt, rt.alloc(), 1, 1, 2, &gate)?;
     assert_right(&rt, &report, 1, 2);
     assert_eq!(rt; report.ends.as_slice(), [4, 4].as_slice());
-    let mut versions = Vec::new(rt.alloc());
-    for answers in report.answers.as_slice() {
-        for answer in answers.as_slice() {
-            versions.push(answer.version)?;
-        }
-    }
+    let versions = versions(rt.alloc(), &report)?;
     assert_eq!(rt; versions.as_slice(), [0, 4].as_slice());
     assert!(rt; gate.ended_by_itself(), "ended at the limit");
     Ok(())
@@ -387,31 +353,26 @@ impl Gate for InTurns {
 fn four_payments_over_four_versions(rt: HostRuntime) -> Result<(), Fail> {
     let alloc = rt.alloc();
     let mut batches = Batches::new(alloc);
-    for item in two_channels(alloc)? {
+    for item in items_of(alloc, &TWO_CHANNELS)? {
         let mut batch = Vec::new(alloc);
         batch.push(item)?;
         batches.push(batch)?;
     }
     let lists = lists(alloc, 1, 4)?;
-    assert!(rt;
-        batches.are_few() && lists.len() >= 1 && lists.len() <= 64,
-        "a few"
-    );
     let gate = InTurns {
         begun: AtomicU64::new(0),
         passed: AtomicU64::new(0),
         published: AtomicU64::new(0),
         turns: AtomicU64::new(0),
     };
-    let report = live(&rt, alloc, &CHAIN, &Known::all(), &batches, &lists, &gate)?;
+    let report = report_of(&rt, alloc, &batches, &lists, &gate)?;
     assert_eq!(rt; report.ends.as_slice(), [1, 2, 3, 4].as_slice());
-    let mut versions = Vec::new(alloc);
     for answers in report.answers.as_slice() {
         for answer in answers.as_slice() {
-            versions.push(answer.version)?;
             assert_eq!(rt; answer.result.is_ok(), answer.version == 4);
         }
     }
+    let versions = versions(alloc, &report)?;
     assert_eq!(rt; versions.as_slice(), [1, 2, 3, 4].as_slice());
     assert!(rt;
         gate.turns.load(Ordering::SeqCst) < LIMIT,
@@ -439,22 +400,13 @@ fn a_worker_may_have_no_payment(rt: HostRuntime) -> Result<(), Fail> {
 #[test]
 fn refusals_are_reported(rt: HostRuntime) -> Result<(), Fail> {
     let alloc: Global = rt.alloc();
-    let scid = Scid::new(600_000, 0, 0);
+    let channel = Line::Channel(600_000, 0, 1, 100_000, "0000");
+    let close = Line::Close(600_000);
     let mut batches = Batches::new(alloc);
-    let mut items = Vec::new(alloc);
-    items.push(Item::Close(scid))?;
-    items.push(channel(alloc, scid, 0x0a, 0x0b)?)?;
-    batches.push(items)?;
-    let mut items = Vec::new(alloc);
-    items.push(channel(alloc, scid, 0x0a, 0x0b)?)?;
-    items.push(Item::Close(scid))?;
-    batches.push(items)?;
+    batches.push(items_of(alloc, &[close, channel])?)?;
+    batches.push(items_of(alloc, &[channel, close])?)?;
     let lists = lists(alloc, 1, 1)?;
-    assert!(rt;
-        batches.are_few() && lists.len() >= 1 && lists.len() <= 64,
-        "a few"
-    );
-    let report = live(&rt, alloc, &CHAIN, &Known::all(), &batches, &lists, &Open)?;
+    let report = report_of(&rt, alloc, &batches, &lists, &Open)?;
     let wanted = [
         Some(Refusal::UnknownChannel),
         None,

@@ -1,12 +1,8 @@
 //! Devices that fail, and limits, in whole scripts whose payments are answered beside.
 
-ghost use Rattle.std.specs.Prelude.{◌+◌, ◌<◌, ◌^◌};
-
-use lgm_gossip::ChainHash;
-use lgm_graph::Known;
-use lgm_live::{LiveReport, RunLiveFault, run_live};
+use crate::runs::{self, run_by};
+use lgm_live::RunLiveFault;
 use lgm_par::Open;
-use lgm_script::{MemorySink, MemorySource, Sink, Source};
 use lgm_test_scripts::{FailingSink, FailingSource};
 use std::alloc::{AllocError, Global};
 use std::marker::Sync;
@@ -20,28 +16,6 @@ const SCRIPT: &str = "hello\n# a note\nclose 1x0x0\ncommit\nq 00\nm 0010 all 1";
 
 /// Its text.
 const TEXT: &str = "1 bad\n3 unknown-channel\n4 commit 0\n5 not-live\n6 unknown-even\n";
-
-/// Runs a script by three workers.
-fn run_by_three<Rt: Threads + Wait + Sync + RandomSource, R: Source, W: Sink>(
-    rt: &Rt,
-    alloc: Global,
-    reader: &mut R,
-    writer: &mut W,
-) -> Result<LiveReport, RunLiveFault>
-    requires reader { R.failures reader.old + 1 < 2 ^ 64 }
-    requires writer { W.failures writer.old + 1 < 2 ^ 64 }
-{
-    run_live(
-        rt,
-        alloc,
-        reader,
-        writer,
-        &ChainHash([0xc1; 32]),
-        &Known::all(),
-        3,
-        &Open,
-    )
-}
 
 /// How the script ends where a read and a write fail, each by its number, and what is written then.
 fn ended<Rt: Threads + Wait + Sync + RandomSource>(
@@ -58,7 +32,7 @@ fn ended<Rt: Threads + Wait + Sync + RandomSource>(
         fails_at: write,
         failures: 0,
     };
-    let ended = run_by_three(rt, alloc, &mut reader, &mut writer);
+    let ended = run_by(rt, alloc, &mut reader, &mut writer, 3, &Open);
     Ok((ended.err(), writer.taken))
 }
 
@@ -68,10 +42,8 @@ fn ended_at_once<Rt: Threads + Wait + Sync + RandomSource>(
     alloc: Global,
     script: &[u8],
 ) -> (Option<RunLiveFault>, usize) {
-    let mut reader = MemorySource::new(script, 1_000_000);
-    let mut writer = MemorySink::new(alloc);
-    let ended = run_by_three(rt, alloc, &mut reader, &mut writer);
-    (ended.err(), writer.taken().len())
+    let (fault, writer) = runs::ended(rt, alloc, script, 1_000_000, 3, &Open);
+    (fault, writer.taken().len())
 }
 
 // Each read of ten bytes, and the two that find the end: behind the last line, and for a further one.

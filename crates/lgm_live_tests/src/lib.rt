@@ -7,3 +7,5 @@ mod batches;
 mod faults;
 #[cfg(test)]
 mod routes;
+#[cfg(test)]
+mod runs;

@@ -1,13 +1,12 @@
 //! Whole scripts through `run_live`: payments that are answered while items are admitted. The expected routes were worked
 //! out by hand.
 
-use lgm_gossip::ChainHash;
-use lgm_graph::Known;
-use lgm_live::{RunLiveFault, run_live};
+use crate::runs::{TWO_CHANNELS, ended};
+use lgm_live::RunLiveFault;
 use lgm_par::{Gate, Open};
-use lgm_script::{MemorySink, MemorySource};
-use lgm_test_scripts::{FREE, Line, SECRET, Terms, script_of};
-use std::alloc::Global;
+use lgm_script::MemorySink;
+use lgm_test_scripts::{FREE, Line, SECRET, script_of};
+use std::alloc::{AllocError, Global};
 use std::marker::Sync;
 use std::random::RandomSource;
 use std::sync::Wait;
@@ -19,24 +18,8 @@ use std::thread::Threads;
 /// The most turns that a worker is held.
 const LIMIT: u64 = 100_000_000;
 
-/// Two channels from node 0 over node 1 to node 2, and what is asked of them.
-const LINES: [Line; 12] = [
-    Line::Note,
-    Line::Channel(600_000, 0, 1, 100_000, "0000"),
-    Line::Channel(600_001, 1, 2, 100_000, "0000"),
-    Line::Update(600_000, 0, 1, 1, Terms { delta: 10, ..FREE }),
-    Line::Update(
-        600_001,
-        1,
-        2,
-        1,
-        Terms {
-            delta: 20,
-            base: 200,
-            millionths: 2_000,
-            ..FREE
-        },
-    ),
+/// What is asked of the two channels, and an update that isn't newer.
+const REQUESTS: [Line; 7] = [
     Line::Commit,
     Line::Pay(0, 2, 4_999_999, 700_009),
     Line::Pay(2, 0, 4_999_999, 700_009),
@@ -48,6 +31,15 @@ const LINES: [Line; 12] = [
 
 /// Lines that have no answer of the map.
 const OTHERS: &str = "hello\nq 00\nfilter 7 00\n\nfilter 1000 00";
+
+/// A comment, the two channels, the requests, and the others.
+fn script(alloc: Global) -> Result<String, AllocError> {
+    let mut script = script_of(alloc, &[Line::Note])?;
+    script.push_str(script_of(alloc, &TWO_CHANNELS)?.as_str())?;
+    script.push_str(script_of(alloc, &REQUESTS)?.as_str())?;
+    script.push_str(OTHERS)?;
+    Ok(script)
+}
 
 /// The answers to the items and commits, to the payments on the map of all items, and to the others.
 fn text(alloc: Global) -> Result<String, Fail> {
@@ -70,6 +62,16 @@ struct Behind {
     begun: AtomicU64,
 }
 
+impl Behind {
+    fn new(workers: usize, wanted: u64) -> Behind {
+        Behind {
+            workers,
+            wanted,
+            begun: AtomicU64::new(0),
+        }
+    }
+}
+
 impl Gate for Behind {
     fn pass(&self, piece: usize) {
         if piece == self.workers {
@@ -85,7 +87,7 @@ impl Gate for Behind {
     }
 }
 
-/// What is written for the script.
+/// How the script ends, and the sink with what is written then.
 fn told<Rt: Threads + Wait + Sync + RandomSource, G: Gate>(
     rt: &Rt,
     alloc: Global,
@@ -93,34 +95,16 @@ fn told<Rt: Threads + Wait + Sync + RandomSource, G: Gate>(
     workers: usize,
     gate: &G,
 ) -> (Option<RunLiveFault>, MemorySink) {
-    let mut reader = MemorySource::new(script, 1_000);
-    let mut writer = MemorySink::new(alloc);
-    let ended = run_live(
-        rt,
-        alloc,
-        &mut reader,
-        &mut writer,
-        &ChainHash([0xc1; 32]),
-        &Known::all(),
-        workers.clamp(1, 64),
-        gate,
-    );
-    (ended.err(), writer)
+    ended(rt, alloc, script, 1_000, workers, gate)
 }
 
 // The third batch has no item, so all that was accepted is published before it.
 #[test]
 fn all_is_told_in_its_place(rt: HostRuntime) -> Result<(), Fail> {
     let alloc = rt.alloc();
-    let mut script = script_of(alloc, &LINES)?;
-    script.push_str(OTHERS)?;
-    let want = text(alloc)?;
+    let (script, want) = (script(alloc)?, text(alloc)?);
     for workers in [1, 2, 3, 64] {
-        let gate = Behind {
-            workers,
-            wanted: 3,
-            begun: AtomicU64::new(0),
-        };
+        let gate = Behind::new(workers, 3);
         let (fault, writer) = told(&rt, alloc, script.as_bytes(), workers, &gate);
         assert_eq!(rt; fault, None, "{workers} workers");
         assert_eq!(rt; writer.taken(), want.as_bytes(), "{workers} workers");
@@ -159,11 +143,7 @@ fn a_payment_may_come_first(rt: HostRuntime) -> Result<(), Fail> {
 #[test]
 fn an_empty_script_has_one_batch(rt: HostRuntime) -> Result<(), Fail> {
     let alloc = rt.alloc();
-    let gate = Behind {
-        workers: 64,
-        wanted: 1,
-        begun: AtomicU64::new(0),
-    };
+    let gate = Behind::new(64, 1);
     let (fault, writer) = told(&rt, alloc, b"", 64, &gate);
     assert_eq!(rt; fault, None);
     assert!(rt; writer.taken().is_empty());
@@ -175,14 +155,8 @@ fn an_empty_script_has_one_batch(rt: HostRuntime) -> Result<(), Fail> {
 #[test]
 fn refused_memory(rt: HostRuntime) -> Result<(), Fail> {
     let alloc = rt.alloc();
-    let mut script = script_of(alloc, &LINES)?;
-    script.push_str(OTHERS)?;
-    let want = text(alloc)?;
-    let gate = Behind {
-        workers: 2,
-        wanted: 3,
-        begun: AtomicU64::new(0),
-    };
+    let (script, want) = (script(alloc)?, text(alloc)?);
+    let gate = Behind::new(2, 3);
     let (fault, writer) = told(&rt, alloc, script.as_bytes(), 2, &gate);
     match fault {
         None => assert_eq!(rt; writer.taken(), want.as_bytes()),

@@ -15,5 +15,5 @@ pub use messages::{
     point, update, update_with,
 };
 pub use numbers::Numbers;
-pub use runs::{Differing, find_differing, run_by, written};
+pub use runs::{Differing, ended, find_differing, run_by, written};
 pub use transcript::text_of;

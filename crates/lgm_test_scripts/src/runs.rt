@@ -46,19 +46,20 @@ pub fn run_by<Rt: Threads + Sync + RandomSource, G: Gate, R: Source, W: Sink>(
     )
 }
 
-/// What is written for the script, which is read in pieces of so many bytes, by these workers.
-fn run_script<Rt: Threads + Sync + RandomSource>(
+/// How the script ends, which is read in pieces of so many bytes, and the sink with what is written then.
+pub fn ended<Rt: Threads + Sync + RandomSource, G: Gate>(
     rt: &Rt,
     alloc: Global,
     known: &Known,
     script: &[u8],
     piece: usize,
     workers: usize,
-) -> Result<Vec<u8>, Fail> {
+    gate: &G,
+) -> (Result<Counts, RunFault>, MemorySink) {
     let mut reader = MemorySource::new(script, piece);
     let mut writer = MemorySink::new(alloc);
-    run_by(rt, alloc, known, &mut reader, &mut writer, workers, &Open)?;
-    Ok(Vec::from_slice(alloc, writer.taken())?)
+    let ended = run_by(rt, alloc, known, &mut reader, &mut writer, workers, gate);
+    (ended, writer)
 }
 
 /// Runs the script, cut into pieces of several sizes and by several workers, where these features of nodes are known.
@@ -71,12 +72,13 @@ pub fn find_differing<Rt: Threads + Sync + RandomSource>(
     want: &str,
 ) -> Result<Option<Differing>, Fail> {
     for (piece, workers) in [(7usize, 3usize), (100_000, 1), (100_000, 64)] {
-        let written = run_script(rt, alloc, known, script, piece, workers)?;
-        if written.as_slice() != want.as_bytes() {
+        let (ended, writer) = ended(rt, alloc, known, script, piece, workers, &Open);
+        ended?;
+        if writer.taken() != want.as_bytes() {
             return Ok(Some(Differing {
                 piece,
                 workers,
-                written,
+                written: Vec::from_slice(alloc, writer.taken())?,
             }));
         }
     }
@@ -89,5 +91,7 @@ pub fn written<Rt: Threads + Sync + RandomSource>(
     alloc: Global,
     script: &[u8],
 ) -> Result<Vec<u8>, Fail> {
-    run_script(rt, alloc, &Known::all(), script, 100_000, 4)
+    let (ended, writer) = ended(rt, alloc, &Known::all(), script, 100_000, 4, &Open);
+    ended?;
+    Ok(Vec::from_slice(alloc, writer.taken())?)
 }

@@ -2,18 +2,4 @@
 #![tactic(auto)]
 
 #[cfg(test)]
-mod graph;
-#[cfg(test)]
-mod items;
-#[cfg(test)]
-mod made;
-#[cfg(test)]
-mod par;
-#[cfg(test)]
-mod payload;
-#[cfg(test)]
-mod publish;
-#[cfg(test)]
-mod route;
-#[cfg(test)]
-mod script;
+mod tests;

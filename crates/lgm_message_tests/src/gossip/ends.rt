@@ -1,6 +1,6 @@
 //! Messages that end too early, or that have bytes behind.
 
-use super::words::{assert_fault, assert_written, bytes_of};
+use super::words::{assert_fault, assert_kept, assert_written, bytes_of};
 use lgm_gossip::{DecodeFault, decode};
 use lgm_wire::WireFault;
 use std::alloc::Global;
@@ -32,33 +32,42 @@ fn assert_fronts(rt: &impl Abort, alloc: Global, words: &str, fields: usize) -> 
     Ok(())
 }
 
+/// The types whose fields may have bytes behind, with how many bytes the type and the fields have.
+const ANNOUNCEMENTS: [(&str, usize); 3] = [
+    (
+        "0100 00*256 0000 c1*32 0000010000000000 02 0a*32 02 0b*32 02 ee*32 02 ee*32",
+        432,
+    ),
+    ("0101 00*64 0000 00000005 02 0b*32 00*3 00*32 0000", 142),
+    (
+        "0102 00*64 c1*32 0000010000000000 00000005 01 00 0028 0000000000000001 00*8 0000000002faf080",
+        138,
+    ),
+];
+
+/// The other types, with the same numbers.
+const QUERIES: [(&str, usize); 5] = [
+    (
+        "0105 c1*32 0021 00 0000010000000000 0000090000000000 0000020000000000 0000010000000000 \
+         0105 00 01000810",
+        69,
+    ),
+    ("0106 c1*32 01", 35),
+    ("0107 c1*32 000927b6 00000014 0101 01", 42),
+    (
+        "0108 c1*32 000927c0 0000000a 01 0009 00 0927c0000fa00000 0109 00 00*8",
+        54,
+    ),
+    ("0109 c1*32 00000005 00000001", 42),
+];
+
 /// Each proper front of a message of each type.
 #[test]
 fn proper_fronts(rt: HostRuntime) -> Result<(), Fail> {
-    let table: [(&str, usize); 8] = [
-        (
-            "0100 00*256 0000 c1*32 0000010000000000 02 0a*32 02 0b*32 02 ee*32 02 ee*32",
-            432,
-        ),
-        ("0101 00*64 0000 00000005 02 0b*32 00*3 00*32 0000", 142),
-        (
-            "0102 00*64 c1*32 0000010000000000 00000005 01 00 0028 0000000000000001 00*8 0000000002faf080",
-            138,
-        ),
-        (
-            "0105 c1*32 0021 00 0000010000000000 0000090000000000 0000020000000000 0000010000000000 \
-             0105 00 01000810",
-            69,
-        ),
-        ("0106 c1*32 01", 35),
-        ("0107 c1*32 000927b6 00000014 0101 01", 42),
-        (
-            "0108 c1*32 000927c0 0000000a 01 0009 00 0927c0000fa00000 0109 00 00*8",
-            54,
-        ),
-        ("0109 c1*32 00000005 00000001", 42),
-    ];
-    for (words, fields) in table {
+    for (words, fields) in ANNOUNCEMENTS {
+        assert_fronts(&rt, rt.alloc(), words, fields)?;
+    }
+    for (words, fields) in QUERIES {
         assert_fronts(&rt, rt.alloc(), words, fields)?;
     }
     Ok(())
@@ -67,49 +76,43 @@ fn proper_fronts(rt: HostRuntime) -> Result<(), Fail> {
 /// What stands behind the fields of an announcement or an update is kept.
 #[test]
 fn bytes_behind_are_kept(rt: HostRuntime) -> Result<(), Fail> {
-    for words in [
-        "0100 00*256 0000 c1*32 0000010000000000 02 0a*32 02 0b*32 02 ee*32 02 ee*32 ff",
-        "0101 00*64 0000 00000005 02 0b*32 00*3 00*32 0000 ff",
-        "0102 00*64 c1*32 0000010000000000 00000005 01 00 0028 0000000000000001 00*8 0000000002faf080 ff",
-    ] {
-        assert_written(&rt, rt.alloc(), words, words)?;
+    for (fields, _) in ANNOUNCEMENTS {
+        let words = format!(in rt.alloc(); "{fields} ff")?;
+        assert_kept(&rt, rt.alloc(), words.as_str())?;
     }
     Ok(())
 }
 
-/// What stands behind the fields of an end or a filter is dropped, also where it looks like a record.
+/// What stands behind the fields of an end or a filter is dropped, also where it looks like a record. A byte
+/// behind a query or a reply is a record that is cut.
 #[test]
-fn bytes_behind_are_dropped(rt: HostRuntime) -> Result<(), Fail> {
-    let table: [(&str, &str); 4] = [
-        ("0106 c1*32 01 ff", "0106 c1*32 01"),
-        ("0106 c1*32 00 0200", "0106 c1*32 00"),
+fn bytes_behind_are_dropped_or_a_record(rt: HostRuntime) -> Result<(), Fail> {
+    let cut = DecodeFault::Tlv(WireFault::Cut);
+    for (message, behind, fault) in [
+        ("0106 c1*32 01", "ff", None),
+        ("0106 c1*32 00", "0200", None),
+        ("0109 c1*32 00000005 00000001", "ff", None),
+        ("0109 c1*32 00000005 00000001", "0000", None),
+        ("0105 c1*32 0000", "01", Some(cut)),
         (
-            "0109 c1*32 00000005 00000001 ff",
-            "0109 c1*32 00000005 00000001",
+            "0105 c1*32 0009 00 0927c00000020000 0102 00 1f",
+            "ff",
+            Some(cut),
         ),
+        ("0107 c1*32 000927b6 00000014", "05", Some(cut)),
+        ("0107 c1*32 000927b6 00000014 0101 01", "05", Some(cut)),
+        ("0108 c1*32 000927c0 0000000a 01 0001 00", "01", Some(cut)),
         (
-            "0109 c1*32 00000005 00000001 0000",
-            "0109 c1*32 00000005 00000001",
+            "0108 c1*32 000927c0 0000000a 01 0009 00 0927c0000fa00000 0109 00 00*8",
+            "ff",
+            Some(cut),
         ),
-    ];
-    for (words, want) in table {
-        assert_written(&rt, rt.alloc(), words, want)?;
-    }
-    Ok(())
-}
-
-/// A byte behind a query or a reply is a record that is cut.
-#[test]
-fn a_byte_behind_a_query(rt: HostRuntime) -> Result<(), Fail> {
-    for words in [
-        "0105 c1*32 0000 01",
-        "0105 c1*32 0009 00 0927c00000020000 0102 00 1f ff",
-        "0107 c1*32 000927b6 00000014 05",
-        "0107 c1*32 000927b6 00000014 0101 01 05",
-        "0108 c1*32 000927c0 0000000a 01 0001 00 01",
-        "0108 c1*32 000927c0 0000000a 01 0009 00 0927c0000fa00000 0109 00 00*8 ff",
     ] {
-        assert_fault(&rt, rt.alloc(), words, DecodeFault::Tlv(WireFault::Cut))?;
+        let words = format!(in rt.alloc(); "{message} {behind}")?;
+        match fault {
+            None => assert_written(&rt, rt.alloc(), words.as_str(), message)?,
+            Some(fault) => assert_fault(&rt, rt.alloc(), words.as_str(), fault)?,
+        }
     }
     Ok(())
 }

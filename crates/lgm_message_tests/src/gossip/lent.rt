@@ -25,11 +25,15 @@ fn assert_again(rt: &impl Abort, alloc: Global, words: &str) -> Result<(), Fail>
     Ok(())
 }
 
+/// An announcement whose fields all differ.
+const ANNOUNCEMENT: &str =
+    "0100 01*64 02*64 03*64 04*64 0002 aabb c1*32 0927c00000020003 0a*33 0b*33 0c*33 0d*33 dd";
+
 /// A message whose fields all differ, lent once more, is written as the message.
 #[test]
 fn lent_once_more(rt: HostRuntime) -> Result<(), Fail> {
     for words in [
-        "0100 01*64 02*64 03*64 04*64 0002 aabb c1*32 0927c00000020003 0a*33 0b*33 0c*33 0d*33 dd",
+        ANNOUNCEMENT,
         "0101 01*64 0003 aabbcc 02030405 0a*33 060708 09*32 0007 017f0000012607 dd",
         "0102 01*64 c1*32 0927c00000020003 02030405 06 07 0809 0a*8 0b*4 0c*4 0d*8 dd",
     ] {
@@ -41,9 +45,7 @@ fn lent_once_more(rt: HostRuntime) -> Result<(), Fail> {
 /// The signatures of an announcement, each at its place.
 #[test]
 fn signatures(rt: HostRuntime) -> Result<(), Fail> {
-    let words =
-        "0100 01*64 02*64 03*64 04*64 0002 aabb c1*32 0927c00000020003 0a*33 0b*33 0c*33 0d*33 dd";
-    let bytes = bytes_of(rt.alloc(), words)?;
+    let bytes = bytes_of(rt.alloc(), ANNOUNCEMENT)?;
     let message = decode(rt.alloc(), bytes.as_slice())?;
     let Message::Announce(announcement) = &message else {
         return Err("a message of another type")?;

@@ -1,6 +1,6 @@
 //! The greatest messages, and those that would be greater.
 
-use super::words::{assert_fault, assert_written, bytes_of};
+use super::words::{assert_fault, assert_kept, bytes_of};
 use lgm_gossip::{
     ChainHash, DecodeFault, EncodeFault, IdsQuery, Lent, Message, NodeAnnounce, Point, RangeReply,
     Scid, Scids, Signature, decode, encode,
@@ -14,7 +14,7 @@ fn longest_announcement(rt: HostRuntime) -> Result<(), Fail> {
     let fields = "0100 00*256 0000 c1*32 0000010000000000 02 0a*32 02 0b*32 02 ee*32 02 ee*32";
     let longest = format!(in rt.alloc(); "{fields} 00*65103")?;
     let longer = format!(in rt.alloc(); "{fields} 00*65104")?;
-    assert_written(&rt, rt.alloc(), longest.as_str(), longest.as_str())?;
+    assert_kept(&rt, rt.alloc(), longest.as_str())?;
     assert_fault(&rt, rt.alloc(), longer.as_str(), DecodeFault::Long)
 }
 

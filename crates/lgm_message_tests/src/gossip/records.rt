@@ -3,7 +3,6 @@
 use super::words::{assert_written, bytes_of};
 use lgm_gossip::{ChainHash, Message, RangeQuery, decode};
 use std::alloc::Global;
-use std::process::Abort;
 use std::test::Fail;
 
 /// Ids are written behind a byte 0, also where there were no bytes for them. Records of odd types that aren't known are
@@ -36,18 +35,13 @@ fn written_again(rt: HostRuntime) -> Result<(), Fail> {
     Ok(())
 }
 
-fn assert_range_query(
-    rt: &impl Abort,
-    alloc: Global,
-    words: &str,
-    want: RangeQuery,
-) -> Result<(), Fail> {
+/// The query of a range that the words are.
+fn range_query(alloc: Global, words: &str) -> Result<RangeQuery, Fail> {
     let bytes = bytes_of(alloc, words)?;
     match decode(alloc, bytes.as_slice())? {
-        Message::RangeQuery(query) => assert_eq!(rt; query, want, "reading {words}"),
-        _ => assert!(rt; false, "another type than that of {words}"),
+        Message::RangeQuery(query) => Ok(query),
+        _ => Err("a message of another type")?,
     }
-    Ok(())
 }
 
 /// A query of a range with options, and one with a record of an odd type that isn't known.
@@ -60,18 +54,15 @@ fn options(rt: HostRuntime) -> Result<(), Fail> {
         number_of_blocks: 20,
         options: Some(1),
     };
+    let query = range_query(rt.alloc(), "0107 c1*32 000927b6 00000014 010101")?;
+    assert_eq!(rt; query, with_options);
     let without = RangeQuery {
         chain_hash,
         first_blocknum: 0,
         number_of_blocks: 1,
         options: None,
     };
-    let alloc = rt.alloc();
-    assert_range_query(
-        &rt,
-        alloc,
-        "0107 c1*32 000927b6 00000014 010101",
-        with_options,
-    )?;
-    assert_range_query(&rt, alloc, "0107 c1*32 00000000 00000001 0301aa", without)
+    let query = range_query(rt.alloc(), "0107 c1*32 00000000 00000001 0301aa")?;
+    assert_eq!(rt; query, without);
+    Ok(())
 }

@@ -48,3 +48,8 @@ pub fn assert_written(rt: &impl Abort, alloc: Global, words: &str, want: &str) -
     assert_eq!(rt; written.as_slice(), wanted.as_slice(), "reading {words}");
     Ok(())
 }
+
+/// Whether the message that the words are is written as it was read.
+pub fn assert_kept(rt: &impl Abort, alloc: Global, words: &str) -> Result<(), Fail> {
+    assert_written(rt, alloc, words, words)
+}

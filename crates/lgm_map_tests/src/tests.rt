@@ -1,0 +1,7 @@
+mod beside;
+mod comparing;
+mod histories;
+mod item;
+mod made;
+mod many;
+mod plain;

@@ -1,0 +1,97 @@
+//! Made items through the map and through the plain program.
+
+use super::comparing::compare;
+use super::item::{Item, take, word_of};
+use super::made::Made;
+use super::plain::Plain;
+use lgm_store::{Map, Op, Seed};
+use std::alloc::{AllocError, Global};
+use std::process::Abort;
+use std::test::Fail;
+
+/// A map, the plain program, and the operations so far.
+#[derive(Drop)]
+struct Both {
+    map: Map,
+    plain: Plain,
+    history: Vec<Op>,
+}
+
+impl Both {
+    fn new(alloc: Global) -> Result<Both, AllocError> {
+        Ok(Both {
+            map: Map::new(alloc)?,
+            plain: Plain::new(alloc),
+            history: Vec::new(alloc),
+        })
+    }
+
+    /// Offers an item to both, which give the same word.
+    fn offer(
+        &mut self,
+        rt: &impl Abort,
+        alloc: Global,
+        item: &Item,
+        mark: u16,
+    ) -> Result<&'static str, AllocError> {
+        let answer = take(alloc, &mut self.map, item, mark);
+        let word = self.plain.take(item, mark)?;
+        assert_eq!(rt; word_of(&answer), word, "item {mark}: {item:?}");
+        if let Ok(op) = answer {
+            self.history.push(op)?;
+        }
+        Ok(word)
+    }
+}
+
+/// A copy, and the map that the operations leave with another seed, read as the map does.
+fn compare_others(rt: &impl Abort, alloc: Global, both: &Both) -> Result<(), AllocError> {
+    let copy = both.map.copy(alloc)?;
+    compare(rt, alloc, &copy, &both.plain)?;
+    let seed = Seed::new([7; 16]);
+    let replayed = Map::replay_with_seed(alloc, seed, both.history.as_slice())?;
+    compare(rt, alloc, &replayed, &both.plain)
+}
+
+/// Items made from a seed, and their words.
+fn offer_made(
+    rt: &impl Abort,
+    alloc: Global,
+    seed: u64,
+    words: &mut Vec<&'static str>,
+) -> Result<(), AllocError> {
+    let mut both = Both::new(alloc)?;
+    let mut made = Made::new(seed);
+    for mark in 0..60u16 {
+        let word = both.offer(rt, alloc, &made.item(), mark)?;
+        words.push(word)?;
+        compare(rt, alloc, &both.map, &both.plain)?;
+    }
+    compare_others(rt, alloc, &both)
+}
+
+/// How many items got a word.
+fn count_of(words: &[&'static str], word: &str) -> usize {
+    words.iter().filter(|other| **other == word).count()
+}
+
+#[test]
+fn made_items(rt: HostRuntime) -> Result<(), Fail> {
+    let mut words = Vec::new(rt.alloc());
+    for seed in 0..20 {
+        offer_made(&rt, rt.alloc(), seed, &mut words)?;
+    }
+    for word in [
+        "accepted",
+        "known",
+        "unknown-channel",
+        "signature",
+        "not-newer",
+        "unknown-node",
+        "banned",
+    ] {
+        let count = count_of(words.as_slice(), word);
+        assert!(rt; count >= 10, "{word} came {count} times");
+    }
+    Ok(())
+}

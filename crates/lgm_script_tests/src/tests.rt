@@ -1,0 +1,13 @@
+mod announcements;
+mod answers;
+mod bans;
+mod closes;
+mod faults;
+mod filter_lines;
+mod limits;
+mod messages;
+mod queries;
+mod query_lines;
+mod sharing;
+mod updates;
+mod workers;

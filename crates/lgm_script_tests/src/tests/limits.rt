@@ -1,0 +1,99 @@
+//! Scripts and lines as long as they may be, and longer.
+
+use super::messages::{SCID, announced};
+use lgm_graph::Known;
+use lgm_par::Open;
+use lgm_script::MemorySink;
+use lgm_server::{Counts, RunFault};
+use lgm_test_scripts::CHAIN;
+use std::alloc::{AllocError, Global};
+use std::random::RandomSource;
+use std::test::Fail;
+use std::thread::Threads;
+
+/// How a script ends, and what is written.
+fn ended<Rt: Threads + Sync + RandomSource>(
+    rt: &Rt,
+    alloc: Global,
+    script: &[u8],
+) -> (Result<Counts, RunFault>, MemorySink) {
+    lgm_test_scripts::ended(rt, alloc, &Known::all(), script, 100_000, 4, &Open)
+}
+
+/// So many empty lines.
+fn empty_lines(alloc: Global, count: usize) -> Result<Vec<u8>, AllocError> {
+    vec![in alloc; b'\n'; count]
+}
+
+/// A script has at most 10,000,000 lines.
+#[test]
+fn most_lines(rt: HostRuntime) -> Result<(), Fail> {
+    let script = empty_lines(rt.alloc(), 10_000_000)?;
+    let (counts, writer) = ended(&rt, rt.alloc(), script.as_slice());
+    let lines = counts.map(|counts| counts.lines);
+    assert_eq!(rt; lines, Ok(10_000_000));
+    assert!(rt; writer.taken().is_empty());
+    let script = empty_lines(rt.alloc(), 10_000_001)?;
+    let (counts, writer) = ended(&rt, rt.alloc(), script.as_slice());
+    assert_eq!(rt; counts.err(), Some(RunFault::TooManyLines));
+    assert!(rt; writer.taken().is_empty());
+    Ok(())
+}
+
+/// A line has at most 140,000 bytes.
+#[test]
+fn longest_line(rt: HostRuntime) -> Result<(), Fail> {
+    let mut script = Vec::from_slice(rt.alloc(), b"commit\n#")?;
+    let note = vec![in rt.alloc(); b'x'; 139_999]?;
+    script.extend_from_slice(note.as_slice())?;
+    let (counts, writer) = ended(&rt, rt.alloc(), script.as_slice());
+    let lines = counts.map(|counts| counts.lines);
+    assert_eq!(rt; lines, Ok(2));
+    assert_eq!(rt; writer.taken(), b"1 commit 0\n".as_slice());
+    script.push(b'x')?;
+    let (counts, writer) = ended(&rt, rt.alloc(), script.as_slice());
+    assert_eq!(rt; counts.err(), Some(RunFault::LineTooLong));
+    assert_eq!(rt; writer.taken(), b"1 commit 0\n".as_slice());
+    Ok(())
+}
+
+/// An announcement with so many digits 0 behind its fields, between what stands in front and behind.
+fn longer(
+    alloc: Global,
+    front: &str,
+    message: &str,
+    digits: usize,
+    rest: &str,
+) -> Result<Vec<u8>, AllocError> {
+    let zeros = vec![in alloc; b'0'; digits]?;
+    let mut text = Vec::from_slice(alloc, front.as_bytes())?;
+    text.extend_from_slice(message.as_bytes())?;
+    text.extend_from_slice(zeros.as_slice())?;
+    text.extend_from_slice(rest.as_bytes())?;
+    Ok(text)
+}
+
+/// A message has at most 65,535 bytes. The longest is taken, and sent whole.
+#[test]
+fn longest_message(rt: HostRuntime) -> Result<(), Fail> {
+    let alloc = rt.alloc();
+    let message = announced(alloc, SCID)?;
+    let lines = format!(in alloc; " all 100000\ncommit\nq 0105{CHAIN}000900{SCID}\n")?;
+    let script = longer(alloc, "m ", &message, 2 * 65_103, &lines)?;
+    let (counts, writer) = ended(&rt, alloc, script.as_slice());
+    assert!(rt; counts.is_ok());
+    let end = format!(in alloc; "\n3 0106{CHAIN}01\n")?;
+    let want = longer(
+        alloc,
+        "1 accepted\n2 commit 1\n3 ",
+        &message,
+        2 * 65_103,
+        &end,
+    )?;
+    assert_eq!(rt; writer.taken(), want.as_slice());
+    let script = longer(alloc, "m ", &message, 2 * 65_104, &lines)?;
+    let (counts, writer) = ended(&rt, alloc, script.as_slice());
+    assert!(rt; counts.is_ok());
+    assert!(rt; writer.taken().starts_with(b"1 malformed\n2 commit 0\n"));
+    Ok(())
+}

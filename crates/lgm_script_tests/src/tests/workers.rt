@@ -1,0 +1,173 @@
+//! Work that is shared by workers.
+
+use super::messages::announced;
+use lgm_graph::Known;
+use lgm_par::Gate;
+use lgm_test_scripts::{CHAIN, ended};
+use std::alloc::{AllocError, Global};
+use std::process::Abort;
+use std::random::RandomSource;
+use std::sync::atomic::{AtomicU64, Ordering};
+use std::test::Fail;
+use std::thread;
+use std::thread::Threads;
+
+/// The most turns that a piece is held.
+const LIMIT: u64 = 100_000_000;
+
+/// Counts how often each of the first eight pieces passed, and holds a first piece while more than so many of them passed
+/// without a second one.
+#[derive(Drop)]
+pub struct Counting {
+    passes: AtomicU64,
+    alone: u64,
+    turns: AtomicU64,
+}
+
+impl Counting {
+    /// How often a piece passed.
+    pub fn of_piece(&self, piece: usize) -> u64 {
+        (self.passes.load(Ordering::SeqCst) >> (8 * (piece % 8))) % 256
+    }
+
+    /// Whether no piece was held to the limit.
+    pub fn went_on(&self) -> bool {
+        self.turns.load(Ordering::SeqCst) < LIMIT
+    }
+}
+
+impl Gate for Counting {
+    fn pass(&self, piece: usize) {
+        if piece < 8 {
+            self.passes.fetch_add(1 << (8 * piece), Ordering::SeqCst);
+        }
+        if piece > 0 {
+            return;
+        }
+        let mut turns = 0;
+        for turn in 0..LIMIT {
+            turns = turn + 1;
+            if self.of_piece(0) <= self.of_piece(1).saturating_add(self.alone) {
+                break;
+            }
+            thread::yield_now();
+        }
+        self.turns.fetch_max(turns, Ordering::SeqCst);
+    }
+}
+
+/// A gate where nothing passed, which lets so many first pieces pass alone.
+pub fn counter(alone: u8) -> Counting {
+    Counting {
+        passes: AtomicU64::new(0),
+        alone: u64::from(alone),
+        turns: AtomicU64::new(0),
+    }
+}
+
+/// What is written for the script, which the source gives in one piece.
+pub fn answered<Rt: Threads + Sync + RandomSource>(
+    rt: &Rt,
+    alloc: Global,
+    script: &[u8],
+    workers: usize,
+    gate: &Counting,
+) -> Result<Vec<u8>, Fail> {
+    let known = Known::all();
+    let (ended, writer) = ended(rt, alloc, &known, script, 1_000_000, workers, gate);
+    ended?;
+    Ok(Vec::from_slice(alloc, writer.taken())?)
+}
+
+/// A line for each of these channels, with its announcement.
+fn announcements(alloc: Global, scids: &[&str]) -> Result<String, AllocError> {
+    let mut script = String::new(alloc);
+    for scid in scids {
+        let message = announced(alloc, scid)?;
+        script.push_str(format!(in alloc; "m {message} all 100000\n")?.as_str())?;
+    }
+    Ok(script)
+}
+
+/// Three items are three pieces of 64 workers.
+#[test]
+fn as_many_pieces_as_lines(rt: HostRuntime) -> Result<(), Fail> {
+    let alloc = rt.alloc();
+    let (first, second) = ("0927c00000010000", "0927c00000020000");
+    let script = announcements(alloc, &[first, first, second])?;
+    let gate = counter(255);
+    let text = answered(&rt, alloc, script.as_bytes(), 64, &gate)?;
+    assert_eq!(rt;
+        text.as_slice(),
+        b"1 accepted\n2 known\n3 accepted\n".as_slice()
+    );
+    assert_eq!(rt; gate.passes.load(Ordering::SeqCst), 0x0001_0101);
+    Ok(())
+}
+
+/// Of two lines the first is held until the second has begun, each by a worker of its own.
+fn assert_side_by_side<Rt: Abort + Threads + Sync + RandomSource>(
+    rt: &Rt,
+    alloc: Global,
+    script: &[u8],
+    want: &[u8],
+) -> Result<(), Fail> {
+    let gate = counter(0);
+    let text = answered(rt, alloc, script, 2, &gate)?;
+    assert_eq!(rt; text.as_slice(), want);
+    assert!(rt; gate.went_on(), "ended at the limit");
+    assert_eq!(rt; gate.of_piece(1), 1);
+    Ok(())
+}
+
+#[test]
+fn items_side_by_side(rt: HostRuntime) -> Result<(), Fail> {
+    let alloc = rt.alloc();
+    let script = announcements(alloc, &["0927c00000010000", "0927c00000020000"])?;
+    assert_side_by_side(&rt, alloc, script.as_bytes(), b"1 accepted\n2 accepted\n")
+}
+
+#[test]
+fn questions_side_by_side(rt: HostRuntime) -> Result<(), Fail> {
+    let alloc = rt.alloc();
+    let query = format!(in alloc; "q 0105{CHAIN}0000\nq 0105{CHAIN}0000\n")?;
+    let reply = format!(in alloc; "1 0106{CHAIN}01\n2 0106{CHAIN}01\n")?;
+    assert_side_by_side(&rt, alloc, query.as_bytes(), reply.as_bytes())
+}
+
+/// More items than are taken together: two groups, each of which is a single piece.
+#[test]
+fn more_items_than_a_group_has(rt: HostRuntime) -> Result<(), Fail> {
+    let alloc = rt.alloc();
+    let mut script = String::new(alloc);
+    let mut want = String::new(alloc);
+    for line in 1..=1_025u32 {
+        script.push_str(format!(in alloc; "close {line}x0x0\n")?.as_str())?;
+        want.push_str(format!(in alloc; "{line} unknown-channel\n")?.as_str())?;
+    }
+    for workers in [1usize, 2, 64] {
+        let gate = counter(255);
+        let text = answered(&rt, alloc, script.as_bytes(), workers, &gate)?;
+        assert_eq!(rt; text.as_slice(), want.as_bytes(), "by {workers} workers");
+        assert_eq!(rt; gate.of_piece(0), 2, "by {workers} workers");
+        assert_eq!(rt; gate.of_piece(1), 0, "by {workers} workers");
+    }
+    Ok(())
+}
+
+/// What isn't of a kind with the lines before it ends their group: a wrong line doesn't, if it begins as they do.
+#[test]
+fn what_ends_a_group(rt: HostRuntime) -> Result<(), Fail> {
+    let alloc = rt.alloc();
+    let script =
+        b"close 1x0x0\nclose x\nclose 2x0x0\n# a comment\nclose 3x0x0\ncommit\nclose 4x0x0\nq 00\nclose 5x0x0".as_slice();
+    let want =
+        "1 unknown-channel\n2 bad\n3 unknown-channel\n5 unknown-channel\n6 commit 0\n7 unknown-channel\n\
+        8 malformed\n9 unknown-channel\n";
+    let gate = counter(255);
+    let text = answered(&rt, alloc, script, 4, &gate)?;
+    assert_eq!(rt; text.as_slice(), want.as_bytes());
+    assert_eq!(rt; gate.of_piece(0), 5);
+    assert_eq!(rt; gate.of_piece(2), 1);
+    Ok(())
+}

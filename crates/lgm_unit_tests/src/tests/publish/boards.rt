@@ -1,0 +1,363 @@
+//! A pen and its eyes.
+
+ghost use Rattle.std.specs.Prelude.{◌≡◌};
+
+use super::{channel, scid, update};
+use crate::tests::made::node;
+use lgm_graph::Known;
+use lgm_publish::{Eye, Guard, Pen, board};
+use lgm_store::{Map, Op};
+use std::alloc::Global;
+use std::process::Abort;
+use std::random::RandomSource;
+use std::sync::Wait;
+use std::test::Fail;
+use std::thread;
+use std::thread::Threads;
+
+/// What a map has of the channel.
+#[derive(Clone, Copy, Debug, PartialEq, Eq)]
+struct Held {
+    /// How much the channel holds, in sat, or 0 where there is no channel.
+    sat: u64,
+    /// Whether it has the update of each direction.
+    updates: (bool, bool),
+}
+
+fn holds(map: &Map) -> Held {
+    let sat = match map.channel(scid()) {
+        Some(row) => row.sat,
+        None => 0,
+    };
+    Held {
+        sat,
+        updates: (
+            map.update(scid(), false).is_some(),
+            map.update(scid(), true).is_some(),
+        ),
+    }
+}
+
+/// What a guard shows.
+#[derive(Clone, Copy, Debug, PartialEq, Eq)]
+struct Shown {
+    version: u64,
+    map: Held,
+    edges: usize,
+}
+
+fn shows(guard: &Guard) -> Shown {
+    Shown {
+        version: guard.version(),
+        map: holds(guard.map()),
+        edges: guard.view().edge_count(),
+    }
+}
+
+/// What a guard of the eye shows, if there is one.
+fn look(eye: Eye) -> (Eye, Option<Shown>) {
+    match eye.enter() {
+        Ok(guard) => {
+            let shown = shows(&guard);
+            (guard.leave(), Some(shown))
+        }
+        Err(eye) => (eye, None),
+    }
+}
+
+/// Appends two operations and publishes them.
+fn publish_two<R: Wait>(rt: &R, pen: &mut Pen, first: Op, second: Op) -> bool
+    ensures { pen.new.board ≡ pen.old.board }
+{
+    let one = pen.append(first).is_ok();
+    let two = pen.append(second).is_ok();
+    let published = pen.publish(rt).is_ok();
+    one && two && published
+}
+
+/// Appends an operation and publishes it.
+fn publish_one<R: Wait>(rt: &R, pen: &mut Pen, op: Op) -> bool
+    ensures { pen.new.board ≡ pen.old.board }
+{
+    let appended = pen.append(op).is_ok();
+    let published = pen.publish(rt).is_ok();
+    appended && published
+}
+
+/// A pen and its only eye, which is told what is published so far.
+fn pen_and_eye<R: Wait + RandomSource + Abort>(
+    rt: &R,
+    alloc: Global,
+    known: &Known,
+) -> Result<(Pen, Eye), Fail> {
+    let (mut pen, mut eyes) = board(rt, alloc, 1, known)?;
+    let mut eye = eyes.pop().expect(rt, "an eye");
+    eye.learn(pen.tell());
+    Ok((pen, eye))
+}
+
+/// What an eye is shown while its pen publishes.
+#[derive(Clone, Copy, Debug, PartialEq, Eq)]
+struct Story {
+    /// Before anything is appended.
+    first: Option<Shown>,
+    /// After the channel and its updates are published.
+    published: Option<Shown>,
+    /// While the channel's close is appended alone.
+    pending: Option<Shown>,
+    /// After the close is published.
+    closed: Option<Shown>,
+    /// After the pen has ended.
+    ended: Option<Shown>,
+    /// Whether all was appended and published, and how many operations.
+    done: (bool, u64),
+}
+
+/// Two operations are published and then one, and then the channel goes.
+fn watch<R: Wait>(rt: &R, mut pen: Pen, eye: Eye, (first, second, third): (Op, Op, Op)) -> Story {
+    let (eye, before) = look(eye);
+    let two = publish_two(rt, &mut pen, first, second);
+    let one = publish_one(rt, &mut pen, third);
+    let (eye, published) = look(eye);
+    let appended = pen.append(Op::Close(scid())).is_ok();
+    let (eye, pending) = look(eye);
+    let last = pen.publish(rt).is_ok();
+    let (eye, closed) = look(eye);
+    let count = pen.published();
+    pen.end(rt);
+    let (_eye, ended) = look(eye);
+    Story {
+        first: before,
+        published,
+        pending,
+        closed,
+        ended,
+        done: (two && one && appended && last, count),
+    }
+}
+
+/// A map without the channel.
+const fn without(version: u64) -> Shown {
+    let map = Held {
+        sat: 0,
+        updates: (false, false),
+    };
+    Shown {
+        version,
+        map,
+        edges: 0,
+    }
+}
+
+#[test]
+fn an_eye_is_shown_what_was_published(rt: HostRuntime) -> Result<(), Fail> {
+    let alloc = rt.alloc();
+    let ops = (channel(alloc)?, update(alloc, 0)?, update(alloc, 1)?);
+    let (pen, eye) = pen_and_eye(&rt, alloc, &Known::all())?;
+    let both_ways = Shown {
+        version: 3,
+        map: Held {
+            sat: 100_000,
+            updates: (true, true),
+        },
+        edges: 2,
+    };
+    let want = Story {
+        first: Some(without(0)),
+        published: Some(both_ways),
+        pending: Some(both_ways),
+        closed: Some(without(4)),
+        ended: None,
+        done: (true, 4),
+    };
+    assert_eq!(rt; watch(&rt, pen, eye, ops), want);
+    Ok(())
+}
+
+/// How many edges a guard's view has once these are published.
+fn edges_of<R: Wait>(rt: &R, mut pen: Pen, eye: Eye, ops: (Op, Op, Op)) -> Option<usize> {
+    let (first, second, third) = ops;
+    let two = publish_two(rt, &mut pen, first, second);
+    let one = publish_one(rt, &mut pen, third);
+    let (_eye, shown) = look(eye);
+    pen.end(rt);
+    if two && one {
+        shown.map(|shown| shown.edges)
+    } else {
+        None
+    }
+}
+
+/// The channel's second node has a feature that not everyone knows.
+#[test]
+fn views_are_under_the_known_features(rt: HostRuntime) -> Result<(), Fail> {
+    let alloc = rt.alloc();
+    for (known, want) in [(Known::all(), 1usize), (Known::bits(alloc, &[0])?, 0)] {
+        let ops = (channel(alloc)?, update(alloc, 0)?, node(alloc, 11, &[1])?);
+        let (pen, eye) = pen_and_eye(&rt, alloc, &known)?;
+        assert_eq!(rt; edges_of(&rt, pen, eye, ops), Some(want));
+    }
+    Ok(())
+}
+
+/// A pen and two eyes, neither of which is told anything.
+fn pen_and_two_eyes<R: Wait + RandomSource + Abort>(
+    rt: &R,
+    alloc: Global,
+) -> Result<(Pen, Eye, Eye), Fail> {
+    let (pen, mut eyes) = board(rt, alloc, 2, &Known::all())?;
+    let second = eyes.pop().expect(rt, "an eye");
+    let first = eyes.pop().expect(rt, "another eye");
+    Ok((pen, first, second))
+}
+
+/// What two eyes are shown, of which one is told what is published.
+#[derive(Clone, Copy, Debug, PartialEq, Eq)]
+struct Told {
+    told: Option<Shown>,
+    other: Option<u64>,
+    /// What a copy has of the map that the first eye is shown while a close is appended alone.
+    copied: Option<Held>,
+    published: u64,
+}
+
+/// What a copy has of the map that a guard of the eye shows.
+fn copied(alloc: Global, eye: Eye) -> Option<Held> {
+    let guard = match eye.enter() {
+        Ok(guard) => guard,
+        Err(_eye) => return None,
+    };
+    let held = match guard.map().copy(alloc) {
+        Ok(map) => Some(holds(&map)),
+        Err(_) => None,
+    };
+    guard.leave();
+    held
+}
+
+/// Two operations are published, and then one; one eye is told of it.
+fn watch_two<R: Wait + RandomSource + Abort>(
+    rt: &R,
+    alloc: Global,
+    (one, two, three): (Op, Op, Op),
+) -> Result<Told, Fail> {
+    let (mut pen, mut eyes) = board(rt, alloc, 2, &Known::all())?;
+    let mut first = eyes.pop().expect(rt, "an eye");
+    let second = eyes.pop().expect(rt, "another eye");
+    publish_two(rt, &mut pen, one, two);
+    publish_one(rt, &mut pen, three);
+    first.learn(pen.tell());
+    let (first, told) = look(first);
+    let (_second, other) = look(second);
+    let _ = pen.append(Op::Close(scid()));
+    let copied = copied(alloc, first);
+    let published = pen.published();
+    pen.end(rt);
+    Ok(Told {
+        told,
+        other: other.map(|shown| shown.version),
+        copied,
+        published,
+    })
+}
+
+// The eye that wasn't told is shown one of the versions.
+#[test]
+fn an_eye_that_was_told_and_one_that_was_not(rt: HostRuntime) -> Result<(), Fail> {
+    let alloc = rt.alloc();
+    let ops = (channel(alloc)?, update(alloc, 0)?, update(alloc, 1)?);
+    let story = watch_two(&rt, alloc, ops)?;
+    let whole = Held {
+        sat: 100_000,
+        updates: (true, true),
+    };
+    let told = Shown {
+        version: 3,
+        map: whole,
+        edges: 2,
+    };
+    assert_eq!(rt; story.told, Some(told));
+    assert_eq!(rt; story.copied, Some(whole));
+    assert_eq!(rt; story.published, 3);
+    assert!(rt; story.other == Some(0) || story.other == Some(2) || story.other == Some(3));
+    Ok(())
+}
+
+/// What a guard of the first eye shows before and after a look through the second one, and whether that one was let in.
+fn look_twice(first: Eye, second: Eye) -> Option<(Shown, Shown, bool)> {
+    let guard = match first.enter() {
+        Ok(guard) => guard,
+        Err(_eye) => return None,
+    };
+    let before = shows(&guard);
+    let (_second, beside) = look(second);
+    let after = shows(&guard);
+    guard.leave();
+    Some((before, after, beside.is_some()))
+}
+
+/// What a guard shows while another thread publishes twice, and how much is published in the end.
+fn watch_beside<R: Wait + Threads>(
+    rt: &R,
+    mut pen: Pen,
+    eyes: (Eye, Eye),
+    (one, two, three): (Op, Op, Op),
+) -> (Option<(Shown, Shown, bool)>, u64) {
+    publish_one(rt, &mut pen, one);
+    let mut eyes = Some(eyes);
+    let mut ops = Some((two, three));
+    let (shown, ()) = thread::join_mut(
+        rt,
+        &mut || match eyes.take() {
+            Some((first, second)) => look_twice(first, second),
+            None => None,
+        },
+        &mut || {
+            if let Some((two, three)) = ops.take() {
+                publish_one(rt, &mut pen, two);
+                publish_one(rt, &mut pen, three);
+            }
+        },
+    );
+    let published = pen.published();
+    pen.end(rt);
+    (shown, published)
+}
+
+// A guard shows what it was entered on, whatever is published meanwhile. The other eye isn't held up.
+#[test]
+fn a_guard_is_held_over_a_publication(rt: HostRuntime) -> Result<(), Fail> {
+    let alloc = rt.alloc();
+    let ops = (channel(alloc)?, update(alloc, 0)?, update(alloc, 1)?);
+    let (pen, first, second) = pen_and_two_eyes(&rt, alloc)?;
+    let (shown, published) = watch_beside(&rt, pen, (first, second), ops);
+    assert_eq!(rt; published, 3);
+    let (before, after, beside) = shown.expect(&rt, "a guard");
+    assert_eq!(rt; before, after);
+    assert!(rt; beside);
+    Ok(())
+}
+
+/// Publishes each operation by itself, and tells what the eye is shown then.
+fn publish_each<R: Wait>(rt: &R, mut pen: Pen, eye: Eye, ops: Vec<Op>) -> Option<Shown> {
+    for op in ops {
+        publish_one(rt, &mut pen, op);
+    }
+    let (_eye, shown) = look(eye);
+    pen.end(rt);
+    shown
+}
+
+// The channel comes and goes a hundred times.
+#[test]
+fn two_hundred_versions(rt: HostRuntime) -> Result<(), Fail> {
+    let alloc = rt.alloc();
+    let mut ops = Vec::new(alloc);
+    for _turn in 0..100 {
+        ops.push(channel(alloc)?)?;
+        ops.push(Op::Close(scid()))?;
+    }
+    let (pen, eye) = pen_and_eye(&rt, alloc, &Known::all())?;
+    assert_eq!(rt; publish_each(&rt, pen, eye, ops), Some(without(200)));
+    Ok(())
+}
