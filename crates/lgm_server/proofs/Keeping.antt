@@ -11,6 +11,7 @@ use Rattle.lgm_store.specs.declared.op.Op.{Op}
 use Rattle.lgm_store.specs.declared.op.Op.TheVariants as ops
 use Rattle.lgm_store.specs.Rows.{Rows}
 use Rattle.lgm_store.specs.Admission.{admitted, Offers}
+use Rattle.lgm_store.proofs.Verdicts.{offers_gives}
 use Rattle.lgm_query.specs.Touched.{TellsKey}
 use Rattle.lgm_query.proofs.Telling.{operation_tells}
 use Rattle.lgm_script.specs.declared.item.Item.{Item}
@@ -30,11 +31,6 @@ outcome_tells chain rows (Gossip bytes evidence) op is =
     let checked = bind_ok (checked_of chain bytes evidence) (λ made. admitted rows made) op is in
     operation_tells chain bytes evidence checked.0 rows op checked.1 checked.2
 outcome_tells chain rows (Close id) op is = close_tells (require _ refusals.UnknownChannel) (ops.Close id) op tt is
-
--- what is offered gives the operation of the definition, or its refusal, or memory runs out
-pub offers_gives : (answer admission : Result Op Refusal) → Offers answer admission → Gives refusals.NoMemory (λ op. op) answer admission
-offers_gives answer (Ok op) offers = elim offers [ inl e ↦ rw e refl | inr e ↦ rw e (inl refl) ]
-offers_gives answer (Err refusal) offers = rw offers (inr refl)
 
 -- a message in its turn
 pub message_offers : (rows : Rows) (item : Offered) (checked : Checked) (answer : Result Op Refusal)
