@@ -9,10 +9,10 @@ use Rattle.lgm_check.specs.Precheck.{checked_of}
 use Rattle.lgm_store.specs.declared.op.Op.{Op}
 use Rattle.lgm_store.specs.Rows.{Rows}
 use Rattle.lgm_store.specs.Admission.{admitted, Offers}
+use Rattle.lgm_store.proofs.Verdicts.{offers_gives}
 use Rattle.lgm_script.specs.declared.item.Item.{Item}
 use Rattle.lgm_script.specs.declared.item.Item.TheVariants.{Gossip}
 use Rattle.lgm_server.specs.Outcomes.{outcome_of}
-use Rattle.lgm_server.proofs.Keeping.{offers_gives}
 use Rattle.lgm_live.proofs.admitting.admit.Goals as goal
 
 -- a message that is lawful by itself has the outcome of its admission
