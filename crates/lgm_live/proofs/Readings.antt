@@ -16,7 +16,7 @@ use Rattle.lgm_live.specs.declared.run_live_fault.RunLiveFault.TheVariants as fa
 use Rattle.lgm_live.specs.Running.{line_fault, HasMoreLines}
 use Rattle.lgm_live.specs.inner.Gathered.{Gathered}
 use Rattle.lgm_live.specs.inner.Reading.{HasRead, IsNoted, with_lines}
-use Rattle.lgm_live.proofs.WholeLines.{SoFar, starts, step, ends, many, long, silent, silent_fault}
+use Rattle.lgm_live.proofs.WholeLines.{SoFar, step, ends, many, long, silent, silent_fault}
 
 abbrev ended : RunLiveFault → Result (Unit {0}) RunLiveFault
 ended e = Err e
