@@ -140,7 +140,8 @@ batches_count items (requests.Offer item ∷ asked) =
     omega
     (arith, batches_count (items ++ item ∷ []) asked, count_by-cons is_commit (requests.Offer item) asked)
 batches_count items (requests.Commit ∷ asked) = omega (arith, batches_count [] asked, count_by-cons is_commit requests.Commit asked)
-batches_count items (request ∷ asked) = omega (arith, batches_count items asked, count_by-cons is_commit request asked)
+batches_count items (request ∷ asked) =
+    omega (arith, batches_count items asked, count_by-cons is_commit request asked)
 
 ends_count : (chain : ChainHash) (before : List Item) (batches : List (List Item)) → length (ends_behind chain before batches) ≡ length batches
 ends_count chain before [] = refl
