@@ -94,7 +94,8 @@ lists_are so_far [] workers worker many below = sym (append-nil (get_or so_far.l
 lists_are so_far (requests.Route payment ∷ asked) workers worker many below =
     lists_are (with_line so_far (requests.Route payment)) asked workers worker (workers_stay so_far (requests.Route payment) ∙ many) below
     ∙ lists_with so_far payment (payments_of asked) workers worker many below
-lists_are so_far (request ∷ asked) workers worker many below = lists_are (with_line so_far request) asked workers worker many below
+lists_are so_far (request ∷ asked) workers worker many below =
+    lists_are (with_line so_far request) asked workers worker many below
 
 -- ---- the agenda
 

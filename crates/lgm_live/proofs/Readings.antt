@@ -16,7 +16,7 @@ use Rattle.lgm_live.specs.declared.run_live_fault.RunLiveFault.TheVariants as fa
 use Rattle.lgm_live.specs.Running.{line_fault, HasMoreLines}
 use Rattle.lgm_live.specs.inner.Gathered.{Gathered}
 use Rattle.lgm_live.specs.inner.Reading.{HasRead, IsNoted, with_lines}
-use Rattle.lgm_live.proofs.WholeLines.{SoFar, starts, step, ends, many, long, silent, silent_fault}
+use Rattle.lgm_live.proofs.WholeLines.{SoFar, step, ends, many, long, silent, silent_fault}
 
 abbrev ended : RunLiveFault → Result (Unit {0}) RunLiveFault
 ended e = Err e
@@ -35,7 +35,8 @@ line_back lines.TooLong = refl
 
 -- these were asked so far, nothing was written meanwhile, and no device failed
 pub record IsReadTo {R W : Type 0} (left : R → Option (List ℕ)) (read_failures : R → ℕ)
-    (taken : W → Option (List ℕ)) (write_failures : W → ℕ) (source : R) (output : Output W) (asked : List Request)
+    (taken : W → Option (List ℕ)) (write_failures : W → ℕ) (source : R) (output : Output W)
+    (asked : List Request)
     (buffered : List ℕ) (mid : R) (between : Output W) : Type 0 where
   pub read_same : read_failures mid ≡ read_failures source
   pub write_same : write_failures between.writer.now ≡ write_failures output.writer.now
@@ -44,17 +45,22 @@ pub record IsReadTo {R W : Type 0} (left : R → Option (List ℕ)) (read_failur
   pub so_far : SoFar (left source) asked (ahead buffered (left mid))
 
 module _ {R W : Type 0} {left : R → Option (List ℕ)} {read_failures : R → ℕ} {taken : W → Option (List ℕ)}
-    {write_failures : W → ℕ} {source : R} {output : Output W} {asked : List Request} {buffered : List ℕ} {mid : R}
+    {write_failures : W → ℕ} {source : R} {output : Output W} {asked : List Request} {buffered : List ℕ}
+    {mid : R}
     {between : Output W}
-    (read_to : IsReadTo left read_failures taken write_failures source output asked buffered mid between) where
+    (read_to : IsReadTo left read_failures taken write_failures source output asked buffered
+    mid between) where
   -- a line couldn't be read
-  pub line_failed : {T : Type 0} {whole : Unit {0} → Type 0} (buffered' : List ℕ) (source' : R) (output' : Output W)
+  pub line_failed : {T : Type 0} {whole : Unit {0} → Type 0} (buffered' : List ℕ) (source' : R)
+      (output' : Output W)
       (fault : LineFault) → ahead buffered' (left source') ≡ ahead buffered (left mid)
       → (failed {T = T} fault ≢ failed lines.Write → Sends taken write_failures between output' [])
       → (failed {T = T} fault ≡ failed lines.Write → SendsPart taken write_failures between output' [] SendWrite)
       → (failed {T = T} fault ≡ failed lines.Read → read_failures mid < read_failures source')
-      → (fault ≡ lines.TooLong → (length asked < 10000000) × IsLongerThan 140000 (ahead buffered' (left source')))
-      → HasRead left read_failures taken write_failures source source' output output' whole (ended (line_fault fault))
+      → (fault ≡ lines.TooLong → (length asked < 10000000)
+      × IsLongerThan 140000 (ahead buffered' (left source')))
+      → HasRead left read_failures taken write_failures source source' output output' whole
+      (ended (line_fault fault))
   line_failed {T = T} buffered' source' output' fault kept told part read longer =
       let input = ahead buffered' (left source') in
       let quiet =
@@ -67,7 +73,8 @@ module _ {R W : Type 0} {left : R → Option (List ℕ)} {read_failures : R → 
         ok = tt;
         too_many = λ same. absurd (end.not_other same);
         too_long = λ same. let is = end.too_long same in
-            long (left source) asked input (subst (SoFar (left source) asked) (sym kept) read_to.so_far) (longer is).0 (longer is).1;
+            long (left source) asked input (subst (SoFar (left source) asked) (sym kept) read_to.so_far)
+            (longer is).0 (longer is).1;
         silent = quiet.taken ∙ read_to.taken_same;
         gathered = quiet.clear;
         read = end.read;
@@ -81,7 +88,8 @@ module _ {R W : Type 0} {left : R → Option (List ℕ)} {read_failures : R → 
       → Sends taken write_failures between output' []
       → IsReadTo left read_failures taken write_failures source output asked buffered' source' output'
   read_on buffered' source' output' kept well told =
-      let quiet = silent (seen taken write_failures between) (seen taken write_failures output') read_to.clear told in
+      let quiet =
+      silent (seen taken write_failures between) (seen taken write_failures output') read_to.clear told in
       record {
         read_same = well ∙ read_to.read_same;
         write_same = told.well ∙ read_to.write_same;
@@ -122,7 +130,8 @@ module _ {R W : Type 0} {left : R → Option (List ℕ)} {read_failures : R → 
   -- all lines were read
   pub all_read : (old new : Gathered) → new ≡ with_lines old asked → length asked ≤ 10000000
       → IsAtEnd (ahead buffered (left mid))
-      → HasRead left read_failures taken write_failures source mid output between (λ _. IsNoted (left source) old new) (Ok (tt {0}))
+      → HasRead left read_failures taken write_failures source mid output between (λ _. IsNoted (left source)
+      old new) (Ok (tt {0}))
   all_read old new noted few end =
       has_ended (λ _. IsNoted (left source) old new) (Ok (tt {0}))
       (record {
@@ -135,7 +144,8 @@ module _ {R W : Type 0} {left : R → Option (List ℕ)} {read_failures : R → 
 
   -- there are more lines
   pub more_lines : {whole : Unit {0} → Type 0} → length asked ≡ 10000000 → 0 < length buffered
-      → HasRead left read_failures taken write_failures source mid output between whole (ended faults.TooManyLines)
+      → HasRead left read_failures taken write_failures source mid output between whole
+      (ended faults.TooManyLines)
   more_lines {whole} full more =
       has_ended whole (ended faults.TooManyLines) tt
       (λ _. many (left source) asked buffered (left mid) read_to.so_far more full)
@@ -143,7 +153,8 @@ module _ {R W : Type 0} {left : R → Option (List ℕ)} {read_failures : R → 
 
   -- memory ran out
   pub no_memory : {whole : Unit {0} → Type 0}
-      → HasRead left read_failures taken write_failures source mid output between whole (ended faults.NoMemory)
+      → HasRead left read_failures taken write_failures source mid output between whole
+      (ended faults.NoMemory)
   no_memory {whole} =
       has_ended whole (ended faults.NoMemory) tt (λ same. absurd cc) (λ same. absurd cc) (λ same. absurd cc)
       (λ same. absurd cc)

@@ -24,11 +24,14 @@ pub record IsReported (chain : ChainHash) (known : Option (List ℕ)) (workers :
   pub is_report : IsReportOn chain known workers asked report
   pub slots : all ≡ map slot_of asked
 
-pub reported : {chain : ChainHash} {known : Option (List ℕ)} {workers : ℕ} {asked : List Request} {agenda : Gathered}
+pub reported : {chain : ChainHash} {known : Option (List ℕ)} {workers : ℕ} {asked : List Request}
+    {agenda : Gathered}
     {batches : List (List Item)} {lists : List (List RouteRequest)} {all : List Slot} {report : LiveReport}
     → 0 < workers → IsAgenda workers asked agenda → batches ≡ agenda.batches → lists ≡ agenda.lists
-    → all ≡ agenda.slots → IsReport chain known batches lists report → IsReported chain known workers asked all report
-reported {chain} {known} {workers} {asked} {lists = lists} {report = report} some is batches_are lists_are slots_are report_is =
+    → all ≡ agenda.slots → IsReport chain known batches lists report
+    → IsReported chain known workers asked all report
+reported {chain} {known} {workers} {asked} {lists = lists} {report = report} some is batches_are lists_are
+    slots_are report_is =
     record {
       some = some;
       is_report =
@@ -43,11 +46,14 @@ module _ {chain : ChainHash} {known : Option (List ℕ)} {workers : ℕ} {asked 
   same_answers = are_same chain known workers asked report is.some is.is_report
 
   pub there : AreThere workers report all
-  there = all_there workers known report asked all (is_full chain known workers asked report is.is_report) same_answers is.slots
+  there =
+      all_there workers known report asked all (is_full chain known workers asked report is.is_report)
+      same_answers is.slots
 
   -- what is told by slots is the text of the script
   as_text : (Told : Option (List ℕ) → List ℕ → Type 0) (old mid : Option (List ℕ)) → mid ≡ old
-      → Told mid (slots_before workers report all (length all)) → Told old (live_text workers known report asked)
+      → Told mid (slots_before workers report all (length all))
+      → Told old (live_text workers known report asked)
   as_text Told old mid same told =
       subst (λ o. Told o (live_text workers known report asked)) same
       (subst (Told mid) (sym (text_is workers known report asked all same_answers is.slots)) told)

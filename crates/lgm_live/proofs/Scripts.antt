@@ -126,13 +126,9 @@ found_few h (r ∷ asked) = let more = one_more (h r) (filter_map h asked) (leng
 
 items_behind : (items : List Item) (asked : List Request) → all_items (batches_behind items asked) ≡ items ++ items_of asked
 items_behind items [] = refl
-items_behind items (requests.Quiet ∷ asked) = items_behind items asked
-items_behind items (requests.Bad ∷ asked) = items_behind items asked
 items_behind items (requests.Offer item ∷ asked) = items_behind (items ++ item ∷ []) asked ∙ append_assoc items (item ∷ []) (items_of asked)
 items_behind items (requests.Commit ∷ asked) = ap (λ (l : List Item). items ++ l) (items_behind [] asked)
-items_behind items (requests.Query bytes ∷ asked) = items_behind items asked
-items_behind items (requests.Filter peer bytes ∷ asked) = items_behind items asked
-items_behind items (requests.Route payment ∷ asked) = items_behind items asked
+items_behind items (request ∷ asked) = items_behind items asked
 
 -- a script has no more items than lines
 pub items_few : (asked : List Request) → length (all_items (batches_of asked)) ≤ length asked
@@ -140,17 +136,12 @@ items_few asked = omega (arith, ap length (items_behind [] asked), found_few ite
 
 batches_count : (items : List Item) (asked : List Request) → length (batches_behind items asked) ≡ count_by is_commit asked + 1
 batches_count items [] = refl
-batches_count items (requests.Quiet ∷ asked) = omega (arith, batches_count items asked, count_by-cons is_commit requests.Quiet asked)
-batches_count items (requests.Bad ∷ asked) = omega (arith, batches_count items asked, count_by-cons is_commit requests.Bad asked)
 batches_count items (requests.Offer item ∷ asked) =
     omega
     (arith, batches_count (items ++ item ∷ []) asked, count_by-cons is_commit (requests.Offer item) asked)
 batches_count items (requests.Commit ∷ asked) = omega (arith, batches_count [] asked, count_by-cons is_commit requests.Commit asked)
-batches_count items (requests.Query bytes ∷ asked) = omega (arith, batches_count items asked, count_by-cons is_commit (requests.Query bytes) asked)
-batches_count items (requests.Filter peer bytes ∷ asked) =
-    omega (arith, batches_count items asked, count_by-cons is_commit (requests.Filter peer bytes) asked)
-batches_count items (requests.Route payment ∷ asked) =
-    omega (arith, batches_count items asked, count_by-cons is_commit (requests.Route payment) asked)
+batches_count items (request ∷ asked) =
+    omega (arith, batches_count items asked, count_by-cons is_commit request asked)
 
 ends_count : (chain : ChainHash) (before : List Item) (batches : List (List Item)) → length (ends_behind chain before batches) ≡ length batches
 ends_count chain before [] = refl

@@ -105,16 +105,13 @@ paid_text workers known report number before payment answer at same =
 one_told : (workers : ℕ) (known : Option (List ℕ)) (report : LiveReport) (number : ℕ) (before : List Request)
     (request : Request) → IsPaid workers known report before request
     → live_text_for workers known report number before request ≡ slot_text workers report number (place_behind (map slot_of before)) (slot_of request)
-one_told workers known report number before requests.Quiet paid = refl
-one_told workers known report number before requests.Bad paid = refl
 one_told workers known report number before (requests.Offer item) paid =
     ap (λ (place : ℕ). outcome_text number (get_or report.outcomes.items place None)) (items_count before)
 one_told workers known report number before requests.Commit paid =
     ap (λ (place : ℕ). commit_line number (get_or report.ends.items place 0)) (commits_count before)
-one_told workers known report number before (requests.Query bytes) paid = refl
-one_told workers known report number before (requests.Filter peer bytes) paid = refl
 one_told workers known report number before (requests.Route payment) paid =
     let has = paid payment refl in paid_text workers known report number before payment has.0 has.1 has.2
+one_told workers known report number before _ paid = refl
 
 paid_at : (workers : ℕ) (known : Option (List ℕ)) (report : LiveReport) (asked : List Request) (k : ℕ)
     → AreSame workers known report (payments_of asked) → k < length asked
@@ -166,18 +163,15 @@ there_at : (workers : ℕ) (known : Option (List ℕ)) (report : LiveReport) (as
     (request : Request) → IsFull report asked → AreSame workers known report (payments_of asked)
     → k < length asked
     → get_or asked k requests.Quiet ≡ request → IsThere workers report (place_behind (map slot_of (take k asked))) (slot_of request)
-there_at workers known report asked k requests.Quiet full same below is = tt
-there_at workers known report asked k requests.Bad full same below is = tt
 there_at workers known report asked k (requests.Offer item) full same below is =
     let within = slice_get_within (items_of asked) (length (items_of (take k asked))) item (found_at item_in asked k item below (ap item_in is)) in
     omega (arith, within, items_count (take k asked), full.outcomes)
 there_at workers known report asked k requests.Commit full same below is =
     omega (arith, count_take is_commit asked k, commits_count (take k asked), full.ends)
-there_at workers known report asked k (requests.Query bytes) full same below is = tt
-there_at workers known report asked k (requests.Filter peer bytes) full same below is = tt
 there_at workers known report asked k (requests.Route payment) full same below is =
     let has = same (length (payments_of (take k asked))) payment (found_at payment_in asked k payment below (ap payment_in is)) in
     ap is_some (ap (answer_at workers report.answers.items) (sym (payments_count (take k asked))) ∙ has.1)
+there_at workers known report asked k _ full same below is = tt
 
 pub all_there : (workers : ℕ) (known : Option (List ℕ)) (report : LiveReport) (asked : List Request)
     (all : List Slot) → IsFull report asked → AreSame workers known report (payments_of asked)

@@ -83,17 +83,20 @@ pub step : (script : Option (List ℕ)) (asked : List Request) (count : ℕ) (bu
     → SoFar script (asked ++ request_of (take count buffered) ∷ []) (ahead (drop (count + 1) buffered) left)
 step None asked count buffered left so_far first small = tt
 step (Some script) asked count buffered None so_far first small = absurd (let bad = so_far.input_is in cc)
-step (Some script) asked count buffered (Some left) so_far first small = step_at script asked count buffered left so_far first small
+step (Some script) asked count buffered (Some left) so_far first small =
+    step_at script asked count buffered left so_far first small
 
 -- ---- how it ends
 
-pub ends : (script : Option (List ℕ)) (asked : List Request) (input : Option (List ℕ)) → SoFar script asked input
+pub ends : (script : Option (List ℕ)) (asked : List Request) (input : Option (List ℕ))
+    → SoFar script asked input
     → IsAtEnd input → length asked ≤ 10000000 → IfSome script (IsAsked asked)
 ends None asked input so_far ended limit = tt
 ends (Some script) asked None so_far ended limit = absurd (let bad = so_far.input_is in cc)
 ends (Some script) asked (Some s) so_far ended limit =
     let all = lines_of script in
-    let none : drop (length asked) all ≡ [] = sym so_far.left ∙ ap lines_of (sym (some_is s so_far.rest so_far.input_is) ∙ ended) in
+    let none : drop (length asked) all ≡ [] =
+    sym so_far.left ∙ ap lines_of (sym (some_is s so_far.rest so_far.input_is) ∙ ended) in
     let few = so_far.few in
     let same : length asked ≡ length all = omega (arith, ap length none, length-drop (length asked) all) in
     let whole : take (length asked) all ≡ all = take_all (length asked) all (omega (arith, same)) in
@@ -111,7 +114,8 @@ pub many : (script : Option (List ℕ)) (asked : List Request) (buffered : List 
 many None asked buffered left so_far more full = tt
 many (Some script) asked buffered None so_far more full = absurd (let bad = so_far.input_is in cc)
 many (Some script) asked buffered (Some left) so_far more full =
-    let rest_is : so_far.rest ≡ buffered ++ left = sym (some_is (buffered ++ left) so_far.rest so_far.input_is) in
+    let rest_is : so_far.rest ≡ buffered ++ left =
+    sym (some_is (buffered ++ left) so_far.rest so_far.input_is) in
     let lines : lines_of (buffered ++ left) ≡ drop (length asked) (lines_of script) = ap lines_of (sym rest_is) ∙ so_far.left in
     let some = has_line (buffered ++ left) (omega (arith, length-append buffered left)) in
     record {
@@ -119,14 +123,16 @@ many (Some script) asked buffered (Some left) so_far more full =
       short = subst (AreShort script) full so_far.short;
     }
 
-pub long : (script : Option (List ℕ)) (asked : List Request) (input : Option (List ℕ)) → SoFar script asked input
+pub long : (script : Option (List ℕ)) (asked : List Request) (input : Option (List ℕ))
+    → SoFar script asked input
     → length asked < 10000000 → IsLongerThan 140000 input → IfSome script HasLongLine
 long None asked input so_far limit longer = tt
 long (Some script) asked None so_far limit longer = absurd (let bad = so_far.input_is in cc)
 long (Some script) asked (Some s) so_far limit longer =
     let k = length asked in
     let all = lines_of script in
-    let here : drop k all ≡ longer.0 ∷ longer.1 = sym so_far.left ∙ ap lines_of (sym (some_is s so_far.rest so_far.input_is)) ∙ longer.2 in
+    let here : drop k all ≡ longer.0 ∷ longer.1 =
+    sym so_far.left ∙ ap lines_of (sym (some_is s so_far.rest so_far.input_is)) ∙ longer.2 in
     let below : k < length all = omega (arith, ap length here, length-drop k all) in
     let is : get_or all k [] ≡ longer.0 = ap (λ (ls : List (List ℕ)). get_or ls 0 []) (sym (drop_more all k [] below) ∙ here) in
     record { place = k; limit = limit; long = rw is longer.3; short = so_far.short }

@@ -34,7 +34,8 @@ abbrev fails : RunFault → Result Counts RunFault
 fails fault = Err fault
 
 -- what holds at a fault that comes before the rest is written, also holds of what was written
-flushed_at : {P Q : Type 0} (mid new : OutputState) (answered result : Result Counts RunFault) (fault : RunFault)
+flushed_at : {P Q : Type 0} (mid new : OutputState) (answered result : Result Counts RunFault)
+    (fault : RunFault)
     → Ended mid new answered result → fails fault ≢ fails faults.Write → (answered ≡ fails fault → P)
     → result ≡ fails fault → (IsFlushed mid new answered result → P → Q) → Q
 flushed_at mid new answered result fault ended other told is by =
@@ -47,7 +48,8 @@ flushed_at mid new answered result fault ended other told is by =
     ]
 
 -- a script that was cut short, of which another text is told
-cut_by : (chain : ChainHash) (known : Option (List ℕ)) (left script : Option (List ℕ)) (told told' : List ℕ → Type 0)
+cut_by : (chain : ChainHash) (known : Option (List ℕ)) (left script : Option (List ℕ))
+    (told told' : List ℕ → Type 0)
     → ((text : List ℕ) → told text → told' text) → IfSome script (IsCutShort chain known told left)
     → IfSome script (IsCutShort chain known told' left)
 cut_by chain known left script told told' by cut = IfSome_then script cut (λ s cut. record {
@@ -62,7 +64,8 @@ if_err (Ok counts) holds = tt
 if_err (Err fault) holds = holds
 
 module _ (chain : ChainHash) (known : Option (List ℕ)) (script : Option (List ℕ)) (old mid new : OutputState)
-    (answered result : Result Counts RunFault) (empty : old.gathered ≡ []) (ended : Ended mid new answered result) where
+    (answered result : Result Counts RunFault) (empty : old.gathered ≡ [])
+    (ended : Ended mid new answered result) where
   ok_flushed : (counts : Counts) → IsFlushed mid new answered result
       → IfSome script (IsAnswered chain known (Tells old mid) counts)
       → IfSome script (IsAnswered chain known (Appends old.taken new.taken) counts)
@@ -84,8 +87,10 @@ module _ (chain : ChainHash) (known : Option (List ℕ)) (script : Option (List 
             elim other [ inl failed ↦ rw failed.write tt | inr before ↦ rw (before.same, before.failed) tt ]
       ]
 
-  pub many_written : (answered ≡ fails faults.TooManyLines → IfSome script (IsTooMany chain known (Tells old mid)))
-      → result ≡ fails faults.TooManyLines → IfSome script (IsTooMany chain known (Appends old.taken new.taken))
+  pub many_written : (answered ≡ fails faults.TooManyLines
+      → IfSome script (IsTooMany chain known (Tells old mid)))
+      → result ≡ fails faults.TooManyLines
+      → IfSome script (IsTooMany chain known (Appends old.taken new.taken))
   many_written told is =
       flushed_at mid new answered result faults.TooManyLines ended (λ same. cc) told is
       (λ flushed told. IfSome_then script told (λ s told. record {
@@ -93,8 +98,10 @@ module _ (chain : ChainHash) (known : Option (List ℕ)) (script : Option (List 
         text = told_as chain known s 10000000 old mid new empty flushed.told flushed.clear told.text;
       }))
 
-  pub long_written : (answered ≡ fails faults.LineTooLong → IfSome script (IsTooLong chain known (Tells old mid)))
-      → result ≡ fails faults.LineTooLong → IfSome script (IsTooLong chain known (Appends old.taken new.taken))
+  pub long_written : (answered ≡ fails faults.LineTooLong
+      → IfSome script (IsTooLong chain known (Tells old mid)))
+      → result ≡ fails faults.LineTooLong
+      → IfSome script (IsTooLong chain known (Appends old.taken new.taken))
   long_written told is =
       flushed_at mid new answered result faults.LineTooLong ended (λ same. cc) told is
       (λ flushed told. IfSome_then script told (λ s told. record {
@@ -111,14 +118,17 @@ module _ (chain : ChainHash) (known : Option (List ℕ)) (script : Option (List 
       if_err result (cut_by chain known left script (TellsSome old new) (AppendsSome old.taken new.taken)
       (λ t. taken_some old new t empty) cut)
 
-  pub fault_written : (left : Option (List ℕ)) → IfSome script (IsCutShort chain known (TellsSome old mid) left)
+  pub fault_written : (left : Option (List ℕ))
+      → IfSome script (IsCutShort chain known (TellsSome old mid) left)
       → IfErr result (λ _. IfSome script (IsCutShort chain known (AppendsSome old.taken new.taken) left))
   fault_written left told =
       elim ended [
-        | inl flushed ↦ cut_written left (cut_by chain known left script (TellsSome old mid) (TellsSome old new)
+        | inl flushed ↦ cut_written left (cut_by chain known left script (TellsSome old mid)
+            (TellsSome old new)
             (λ t part. some_flushed old mid new t part flushed.told) told)
         | inr other ↦ elim other [
-          | inl failed ↦ cut_written left (cut_by chain known left script (TellsSome old mid) (TellsSome old new)
+          | inl failed ↦ cut_written left (cut_by chain known left script (TellsSome old mid)
+              (TellsSome old new)
               (λ t part. some_flushed_part old mid new t SendWrite part failed.part) told)
           | inr before ↦ cut_written left (subst (λ (t : OutputState).
               IfSome script (IsCutShort chain known (TellsSome old t) left)) (sym before.still) told)

@@ -39,7 +39,8 @@ was_checked : (chain : ChainHash) (request : Request) (item : Offered) → offer
 was_checked chain (requests.Offer own) item is = (chain, own, cc)
 was_checked chain _ item is = absurd cc
 
-was_checked_if : (chain : ChainHash) (request : Request) (item : Option Offered) → item ≡ offered_in chain request → IfSome item WasChecked
+was_checked_if : (chain : ChainHash) (request : Request) (item : Option Offered)
+    → item ≡ offered_in chain request → IfSome item WasChecked
 was_checked_if chain request None is = tt
 was_checked_if chain request (Some item) is = was_checked chain request item (sym is)
 
@@ -47,18 +48,21 @@ was_checked_if chain request (Some item) is = was_checked chain request item (sy
 pub record IsItemOf (chain : ChainHash) (request : Request) (item : Option Offered) : Type 0 where
   pub checked : IfSome item WasChecked
   pub leaves : (state : State) → state_by state item ≡ state_after chain state request
-  pub is_told : (number : ℕ) (state : State) → offered_text number state.rows item ≡ text_for chain number state request
+  pub is_told : (number : ℕ) (state : State) → offered_text number state.rows item ≡ text_for chain number
+      state request
 
 item_of : (chain : ChainHash) (request : Request) (item : Option Offered) → IsOfKind kinds.Item request
     → item ≡ offered_in chain request → IsItemOf chain request item
 item_of chain request item kind is = record {
   checked = was_checked_if chain request item is;
   leaves = λ state. ap (state_by state) is ∙ item_leaves chain state request kind;
-  is_told = λ number state. ap (offered_text number state.rows) is ∙ item_is_told chain number state request kind;
+  is_told =
+      λ number state. ap (offered_text number state.rows) is ∙ item_is_told chain number state request kind;
 }
 
 -- the items of several lines
-pub items_of : {E : Type 0} (chain : ChainHash) (asked : List Request) (items : List (Result (Option Offered) E))
+pub items_of : {E : Type 0} (chain : ChainHash) (asked : List Request)
+    (items : List (Result (Option Offered) E))
     → AllByRecursion (IsOfKind kinds.Item) asked
     → AllZip (λ request item. IfOk item (λ own. own ≡ offered_in chain request)) asked items
     → AllZip (λ request item. IfOk item (IsItemOf chain request)) asked items
@@ -135,13 +139,15 @@ kinds_of : (kind : Kind) (lines : List (Bor (List ℕ))) → AllByRecursion (λ 
 kinds_of kind [] all = tt
 kinds_of kind (line ∷ lines) all = (all.0, kinds_of kind lines all.1)
 
-asked_alone : (lines : List (Bor (List ℕ))) (d : Bor (List ℕ)) → length lines ≡ 1 → asked_in lines ≡ request_of (get_or lines 0 d).now ∷ []
+asked_alone : (lines : List (Bor (List ℕ))) (d : Bor (List ℕ)) → length lines ≡ 1
+    → asked_in lines ≡ request_of (get_or lines 0 d).now ∷ []
 asked_alone [] d one = absurd (omega (arith, one))
 asked_alone (line ∷ []) d one = refl
 asked_alone (line ∷ other ∷ lines) d one = absurd (omega (arith, one))
 
 -- the lines of a group ask for what its kind can ask
-pub asked_as : {kind own : Kind} {lines items : List (Bor (List ℕ))} → AreAlike kind (map (λ line. line.now) items)
+pub asked_as : {kind own : Kind} {lines items : List (Bor (List ℕ))}
+    → AreAlike kind (map (λ line. line.now) items)
     → kind ≡ own → lines ≡ items → AllByRecursion (IsOfKind own) (asked_in lines)
 asked_as {kind} {own} {lines} {items} alike is same =
     subst (λ lines. AllByRecursion (IsOfKind own) (asked_in lines)) (sym same)
@@ -153,10 +159,12 @@ pub record IsAlone (asked : List Request) (request : Request) : Type 0 where
   pub one : asked ≡ request ∷ []
   pub kind : IsOfKind kinds.Other request
 
-pub is_alone : {kind : Kind} {lines items : List (Bor (List ℕ))} (d : Bor (List ℕ)) → AreAlike kind (map (λ line. line.now) items)
+pub is_alone : {kind : Kind} {lines items : List (Bor (List ℕ))} (d : Bor (List ℕ))
+    → AreAlike kind (map (λ line. line.now) items)
     → kind ≡ kinds.Other → lines ≡ items → IsAlone (asked_in items) (request_of (get_or lines 0 d).now)
 is_alone {kind} {lines} {items} d alike is same =
-    let one : length lines ≡ 1 = ap length same ∙ sym (length-map items (λ line. line.now)) ∙ alike.alone is in
+    let one : length lines ≡ 1 =
+    ap length same ∙ sym (length-map items (λ line. line.now)) ∙ alike.alone is in
     let asked = ap asked_in (sym same) ∙ asked_alone lines d one in
     let each = subst (AllByRecursion (IsOfKind kinds.Other)) asked (asked_as alike is refl) in
     record { one = asked; kind = each.0 }
@@ -167,10 +175,12 @@ module _ (chain : ChainHash) (number : ℕ) (state : State) {asked : List Reques
   pub other_leaves : {T E : Type 0} (result : Result T E) (new : State) → OnOk result (new ≡ state_alone state request)
       → OnOk result (new ≡ state_from chain state asked)
   other_leaves result new is =
-      subst (λ s. OnOk result (new ≡ s)) (alone_leaves chain state request alone.kind ∙ ap (state_from chain state) (sym alone.one)) is
+      subst (λ s. OnOk result (new ≡ s)) (alone_leaves chain state request alone.kind
+      ∙ ap (state_from chain state) (sym alone.one)) is
 
   pub other_is_told : (Told : List ℕ → Type 0) → Told (text_alone number state request)
       → Told (text_from chain number state asked)
   other_is_told Told told =
-      subst Told (alone_is_told chain number state request alone.kind ∙ sym (append-nil (text_for chain number state request))
+      subst Told (alone_is_told chain number state request alone.kind
+      ∙ sym (append-nil (text_for chain number state request))
       ∙ ap (text_from chain number state) (sym alone.one)) told

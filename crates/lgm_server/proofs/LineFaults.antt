@@ -47,12 +47,15 @@ module _ {E : Type 0} (T : Type 0) (of : LineFault → E) (line_of : E → Optio
       → {reads mid reads' writes between writes' : ℕ} → mid ≡ reads → between ≡ writes
       → (failed {T = U} fault ≢ failed lines.Write → writes' ≡ between)
       → (failed {T = U} fault ≡ failed lines.Write → between < writes')
-      → (failed {T = U} fault ≡ failed lines.Read → mid < reads') → EndsAt fault other reads reads' writes writes'
+      → (failed {T = U} fault ≡ failed lines.Read → mid < reads')
+      → EndsAt fault other reads reads' writes writes'
   ends_at {U = U} fault other none read_same write_same told lost cause = record {
     not_other = never other none fault;
     too_long = line_is fault lines.TooLong;
     read = λ same. omega (arith, cause (ap failed (line_is fault lines.Read same)), read_same);
     write = λ same. omega (arith, lost (ap failed (line_is fault lines.Write same)), write_same);
-    well = λ other. told (λ same. other (ap (λ (f : LineFault). ended (of f)) (failed_is {T = U} fault lines.Write same)))
+    well =
+        λ other. told (λ same. other (ap (λ (f : LineFault). ended (of f))
+        (failed_is {T = U} fault lines.Write same)))
         ∙ write_same;
   }

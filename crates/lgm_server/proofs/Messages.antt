@@ -13,7 +13,8 @@ module _ {S : Type 0} (steps : S → Option (Bor (List ℕ)) → S → Type 0) w
     pub is : all ≡ message.now ∷ others
     pub left : Gives t others
 
-  pub gave_one : (all : List (List ℕ)) (s t : S) (message : Bor (List ℕ)) → Gives s all → steps s (Some message) t
+  pub gave_one : (all : List (List ℕ)) (s t : S) (message : Bor (List ℕ)) → Gives s all
+      → steps s (Some message) t
       → GaveOne t message all
   gave_one [] s t message gives step = absurd (gives message t step)
   gave_one (first ∷ others) s t message gives step =

@@ -237,7 +237,8 @@ next_steps : (chain : ChainHash) (known : Option (List ℕ)) (script : List ℕ)
     (drop len buffered ++ left) (text_from chain (k + 1) state (map request_of lines))
 next_steps chain known script k first len state buffered left lines old mid so_far line next =
     lines_step chain known script k state buffered left (drop len buffered) lines
-    (subst (IsAtLine chain known script k state) (sym (some_is (buffered ++ left) so_far.rest so_far.input_is)) so_far.at)
+    (subst (IsAtLine chain known script k state)
+    (sym (some_is (buffered ++ left) so_far.rest so_far.input_is)) so_far.at)
     (next.front (Some left) line) next.short
 
 -- the first line alone
@@ -260,9 +261,11 @@ pub step : (chain : ChainHash) (known : Option (List ℕ)) (script : Option (Lis
 step chain known None k first count len state state' buffered left old mid new so_far line answers = tt
 step chain known (Some script) k first count len state state' buffered None old mid new so_far line answers =
     absurd (let bad = so_far.input_is in cc)
-step chain known (Some script) k first count len state state' buffered (Some left) old mid new so_far line answers =
+step chain known (Some script) k first count len state state' buffered (Some left) old mid new so_far line
+    answers =
     let lines = answers.lines in
-    let steps = next_steps chain known script k first len state buffered left lines old mid so_far line answers.next in
+    let steps =
+    next_steps chain known script k first len state buffered left lines old mid so_far line answers.next in
     rw (answers.count_is, answers.state_is) (record {
       rest = drop len buffered ++ left;
       input_is = refl;
@@ -294,7 +297,8 @@ pub ends : (chain : ChainHash) (known : Option (List ℕ)) (script : Option (Lis
     → SoFar chain known script k state input old mid → IsAtEnd input → k ≤ 10000000
     → IfSome script (IsAnswered chain known (Tells old mid) (record { lines = k; accepted = state.accepted }))
 ends chain known None k state input old mid so_far ended limit = tt
-ends chain known (Some script) k state None old mid so_far ended limit = absurd (let bad = so_far.input_is in cc)
+ends chain known (Some script) k state None old mid so_far ended limit =
+    absurd (let bad = so_far.input_is in cc)
 ends chain known (Some script) k state (Some s) old mid so_far ended limit =
     let rest_is : so_far.rest ≡ [] = sym (some_is s so_far.rest so_far.input_is) ∙ ended in
     let none : drop k (lines_of script) ≡ [] = sym so_far.at.left ∙ ap lines_of rest_is in
@@ -327,9 +331,11 @@ pub many : (chain : ChainHash) (known : Option (List ℕ)) (script : Option (Lis
     → SoFar chain known script 10000000 state (ahead buffered left) old mid → 0 < length buffered
     → IfSome script (IsTooMany chain known (Tells old mid))
 many chain known None state buffered left old mid so_far more = tt
-many chain known (Some script) state buffered None old mid so_far more = absurd (let bad = so_far.input_is in cc)
+many chain known (Some script) state buffered None old mid so_far more =
+    absurd (let bad = so_far.input_is in cc)
 many chain known (Some script) state buffered (Some left) old mid so_far more =
-    let rest_is : so_far.rest ≡ buffered ++ left = sym (some_is (buffered ++ left) so_far.rest so_far.input_is) in
+    let rest_is : so_far.rest ≡ buffered ++ left =
+    sym (some_is (buffered ++ left) so_far.rest so_far.input_is) in
     let lines : lines_of (buffered ++ left) ≡ drop 10000000 (lines_of script) = ap lines_of (sym rest_is) ∙ so_far.at.left in
     let some = has_line (buffered ++ left) (omega (arith, length-append buffered left)) in
     record {
@@ -342,12 +348,18 @@ pub long : (chain : ChainHash) (known : Option (List ℕ)) (script : Option (Lis
     → SoFar chain known script k state input old mid → k < 10000000 → IsLongerThan 140000 input
     → IfSome script (IsTooLong chain known (Tells old mid))
 long chain known None k state input old mid so_far limit longer = tt
-long chain known (Some script) k state None old mid so_far limit longer = absurd (let bad = so_far.input_is in cc)
+long chain known (Some script) k state None old mid so_far limit longer =
+    absurd (let bad = so_far.input_is in cc)
 long chain known (Some script) k state (Some s) old mid so_far limit longer =
     let rest_is : so_far.rest ≡ s = sym (some_is s so_far.rest so_far.input_is) in
     let e : drop k (lines_of script) ≡ longer.0 ∷ longer.1 = sym so_far.at.left ∙ ap lines_of rest_is ∙ longer.2 in
     let at = stands_at (lines_of script) k [] longer.0 longer.1 e in
-    record { place = k; limit = limit; long = rw at.here longer.3; text = told_so_far chain known script k state (Some s) old mid so_far }
+    record {
+      place = k;
+      limit = limit;
+      long = rw at.here longer.3;
+      text = told_so_far chain known script k state (Some s) old mid so_far;
+    }
 
 -- ---- where it is cut short
 
@@ -395,11 +407,15 @@ pub cut : (chain : ChainHash) (known : Option (List ℕ)) (script : Option (List
     → SoFar chain known script k state (ahead buffered left) old mid → k ≤ 10000000
     → TellsSome mid new [] → IfSome script (IsCutShort chain known (TellsSome old new) left)
 cut chain known None k state buffered left old mid new so_far limit some = tt
-cut chain known (Some script) k state buffered None old mid new so_far limit some = absurd (let bad = so_far.input_is in cc)
+cut chain known (Some script) k state buffered None old mid new so_far limit some =
+    absurd (let bad = so_far.input_is in cc)
 cut chain known (Some script) k state buffered (Some left) old mid new so_far limit some =
-    cut_at chain known script k k state state (ahead buffered (Some left)) buffered left [] old mid new so_far limit
+    cut_at chain known script k k state state (ahead buffered (Some left)) buffered left [] old mid new so_far
+    limit
     (record {
-      at = subst (IsAtLine chain known script k state) (sym (some_is (buffered ++ left) so_far.rest so_far.input_is)) so_far.at;
+      at =
+          subst (IsAtLine chain known script k state)
+          (sym (some_is (buffered ++ left) so_far.rest so_far.input_is)) so_far.at;
       text_is = sym (append-nil (text_before chain known (requests_of script) k));
     }) some
 
@@ -412,9 +428,12 @@ pub cut_in : (chain : ChainHash) (known : Option (List ℕ)) (script : Option (L
 cut_in chain known None k most first state buffered left old mid new so_far within line begun = tt
 cut_in chain known (Some script) k most first state buffered None old mid new so_far within line begun =
     absurd (let bad = so_far.input_is in cc)
-cut_in chain known (Some script) k most first state buffered (Some left) old mid new so_far within line begun =
+cut_in chain known (Some script) k most first state buffered (Some left) old mid new so_far within line
+    begun =
     let asked = map request_of begun.lines in
-    cut_at chain known script k (k + length begun.lines) state (state_from chain state asked) (ahead buffered (Some left))
+    cut_at chain known script k (k + length begun.lines) state (state_from chain state asked)
+    (ahead buffered (Some left))
     (drop begun.len buffered) left (text_from chain (k + 1) state asked) old mid new so_far
     (let limit = begun.limit in omega arith)
-    (next_steps chain known script k first begun.len state buffered left begun.lines old mid so_far line begun.next) begun.text
+    (next_steps chain known script k first begun.len state buffered left begun.lines old mid so_far line
+    begun.next) begun.text

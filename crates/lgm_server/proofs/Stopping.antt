@@ -44,13 +44,15 @@ line_some lines.Read mid new told part = some_of_all mid new [] (told (λ e. abs
 line_some lines.Write mid new told part = some_of_part mid new [] sending.Write (part refl)
 line_some lines.TooLong mid new told part = some_of_all mid new [] (told (λ e. absurd cc))
 
-not_write : {T : Type 0} (fault : LineFault) → fault ≡ lines.TooLong → failed {T = T} fault ≢ failed lines.Write
+not_write : {T : Type 0} (fault : LineFault) → fault ≡ lines.TooLong
+    → failed {T = T} fault ≢ failed lines.Write
 not_write {T = T} fault is same = let here = sym (ap (failed {T = T}) is) ∙ same in cc
 
 module _ {R W : Type 0} {left : R → Option (List ℕ)} {read_failures : R → ℕ} {taken : W → Option (List ℕ)}
     {write_failures : W → ℕ} {chain : ChainHash} {known : Option (List ℕ)} {source : R} {output : Output W}
     {k : ℕ} {state : State} {buffered : List ℕ} {mid : R} {between : Output W}
-    (up_to : IsUpTo left read_failures taken write_failures chain known source output k state buffered mid between) where
+    (up_to : IsUpTo left read_failures taken write_failures chain known source output k state buffered mid
+    between) where
   -- a line couldn't be read
   pub line_failed : {T : Type 0} (buffered' : List ℕ) (source' : R) (output' : Output W) (fault : LineFault)
       → ahead buffered' (left source') ≡ ahead buffered (left mid)
@@ -58,7 +60,8 @@ module _ {R W : Type 0} {left : R → Option (List ℕ)} {read_failures : R → 
       → (failed {T = T} fault ≡ failed lines.Write → SendsPart taken write_failures between output' [] sending.Write)
       → (failed {T = T} fault ≡ failed lines.Read → read_failures mid < read_failures source')
       → (fault ≡ lines.TooLong → (k < 10000000) × IsLongerThan 140000 (ahead buffered' (left source')))
-      → HasAnswered left read_failures taken write_failures chain known source source' output output' (ended (line_fault fault))
+      → HasAnswered left read_failures taken write_failures chain known source source' output output'
+      (ended (line_fault fault))
   line_failed {T = T} buffered' source' output' fault kept told part read longer =
       let old = seen taken write_failures output in
       let now = seen taken write_failures between in
@@ -72,7 +75,8 @@ module _ {R W : Type 0} {left : R → Option (List ℕ)} {read_failures : R → 
         ok = tt;
         too_many = λ same. absurd (end.not_other same);
         too_long = λ same. let is = end.too_long same in
-            long chain known (left source) k state input old new (told_on chain known (left source) k state input
+            long chain known (left source) k state input old new (told_on chain known (left source) k state
+            input
             old now new so_far (told (not_write fault is))) (longer is).0 (longer is).1;
         some =
             cut chain known (left source) k state buffered' (left source') old now new so_far up_to.within
@@ -97,7 +101,8 @@ module _ {R W : Type 0} {left : R → Option (List ℕ)} {read_failures : R → 
         too_many = too_many;
         too_long = λ same. absurd (too_long same);
         some =
-            cut chain known (left source) k state buffered (left mid) (seen taken write_failures output) now now
+            cut chain known (left source) k state buffered (left mid) (seen taken write_failures output) now
+            now
             up_to.so_far up_to.within (some_of_all now now [] (tells_nothing now));
         read = λ same. absurd (read same);
         write = λ same. absurd (write same);
@@ -105,7 +110,8 @@ module _ {R W : Type 0} {left : R → Option (List ℕ)} {read_failures : R → 
       }
 
   -- all lines were answered
-  pub all_answered : (number accepted : ℕ) → number ≡ k → accepted ≡ state.accepted → IsAtEnd (ahead buffered (left mid))
+  pub all_answered : (number accepted : ℕ) → number ≡ k → accepted ≡ state.accepted
+      → IsAtEnd (ahead buffered (left mid))
       → HasAnswered left read_failures taken write_failures chain known source mid output between
       (Ok (record { lines = number; accepted = accepted }))
   all_answered number accepted number_is accepted_is end =
@@ -116,35 +122,46 @@ module _ {R W : Type 0} {left : R → Option (List ℕ)} {read_failures : R → 
 
   -- there are more lines
   pub more_lines : k ≡ 10000000 → 0 < length buffered
-      → HasAnswered left read_failures taken write_failures chain known source mid output between (ended faults.TooManyLines)
+      → HasAnswered left read_failures taken write_failures chain known source mid output between
+      (ended faults.TooManyLines)
   more_lines full more =
       let old = seen taken write_failures output in
       let now = seen taken write_failures between in
       has_ended (ended faults.TooManyLines) tt
       (λ _. many chain known (left source) state buffered (left mid) old now
-      (subst (λ n. SoFar chain known (left source) n state (ahead buffered (left mid)) old now) full up_to.so_far) more)
+      (subst (λ n. SoFar chain known (left source) n state (ahead buffered (left mid)) old now) full
+      up_to.so_far) more)
       (λ same. absurd cc) (λ same. absurd cc) (λ same. absurd cc)
 
   -- an answer couldn't be given or written
-  answered_some : (first most : ℕ) (output' : Output W) (fault : SendFault) → IsFirstLine buffered (left mid) first
+  answered_some : (first most : ℕ) (output' : Output W) (fault : SendFault)
+      → IsFirstLine buffered (left mid) first
       → k + most ≤ 10000000
-      → HaveBegun chain (k + 1) most state buffered first (λ text. SendsPart taken write_failures between output' text fault)
-      → IfSome (left source) (IsCutShort chain known (SendsSome taken write_failures output output') (left mid))
+      → HaveBegun chain (k + 1) most state buffered first (λ text. SendsPart taken write_failures between
+      output' text fault)
+      → IfSome (left source) (IsCutShort chain known (SendsSome taken write_failures output output')
+      (left mid))
   answered_some first most output' fault line few begun =
-      cut_in chain known (left source) k most first state buffered (left mid) (seen taken write_failures output)
+      cut_in chain known (left source) k most first state buffered (left mid) (seen taken write_failures
+      output)
       (seen taken write_failures between) (seen taken write_failures output') up_to.so_far few line
       (record {
         lines = begun.lines;
         len = begun.len;
         next = begun.next;
         limit = begun.limit;
-        text = some_of_part (seen taken write_failures between) (seen taken write_failures output') _ fault begun.text;
+        text =
+            some_of_part (seen taken write_failures between) (seen taken write_failures output') _ fault
+            begun.text;
       })
 
-  pub answer_failed : (first most : ℕ) (output' : Output W) (fault : SendFault) → IsFirstLine buffered (left mid) first
+  pub answer_failed : (first most : ℕ) (output' : Output W) (fault : SendFault)
+      → IsFirstLine buffered (left mid) first
       → k + most ≤ 10000000
-      → HaveBegun chain (k + 1) most state buffered first (λ text. SendsPart taken write_failures between output' text fault)
-      → HasAnswered left read_failures taken write_failures chain known source mid output output' (ended (send_fault fault))
+      → HaveBegun chain (k + 1) most state buffered first (λ text. SendsPart taken write_failures between
+      output' text fault)
+      → HasAnswered left read_failures taken write_failures chain known source mid output output'
+      (ended (send_fault fault))
   answer_failed first most output' sending.NoMemory line few begun = record {
     ok = tt;
     too_many = λ same. absurd cc;

@@ -40,14 +40,16 @@ returns-in_default-clause-read g c =
     let read_to =
     read_on inv.read_to c.next_line.new.lines c.next_line.new.source c.next_line.new.output line.kept
     (line.well (λ e. absurd cc)) (line.written (λ e. absurd cc)) in
-    all_read read_to c.args.agenda.now c.loop-number.agenda inv.noted (omega (arith, inv.count, inv.within)) (line.end (search rules))
+    all_read read_to c.args.agenda.now c.loop-number.agenda inv.noted (omega (arith, inv.count, inv.within))
+    (line.end (search rules))
 
 pub returns-in_err-note_line-clause-read : goal.returns-in_err-note_line-clause-read
 returns-in_err-note_line-clause-read g c =
     let p = err_from_is_err_and c.from_residual-in_err-note_line.result c.from_residual-in_err-note_line.ensures.1 in
     let line = c.in_ok-count.ensures in
     let read_to =
-    read_on c.loop-number.invariant.read_to c.next_line.new.lines c.next_line.new.source c.next_line.new.output
+    read_on c.loop-number.invariant.read_to c.next_line.new.lines c.next_line.new.source
+    c.next_line.new.output
     line.kept (line.well (λ e. absurd cc)) (line.written (λ e. absurd cc)) in
     rw (p.1, p.2) (no_memory read_to)
 
@@ -93,7 +95,8 @@ pub returns-in_err-more_begins-clause-read : goal.returns-in_err-more_begins-cla
 returns-in_err-more_begins-clause-read g c =
     let p = err_from_is_err_and c.from_residual-in_err-more_begins.result c.from_residual-in_err-more_begins.ensures.1 in
     let more = c.in_err-more_begins.ensures in
-    rw (p.1, p.2) (line_failed c.loop-number.invariant.read_to c.more_begins.new.lines c.more_begins.new.source
+    rw (p.1, p.2) (line_failed c.loop-number.invariant.read_to c.more_begins.new.lines
+    c.more_begins.new.source
     c.more_begins.new.output c.in_err-more_begins.field-0.0 more.kept more.written more.write more.read
     (λ is. absurd (more.short (ap failed is))))
 
@@ -104,7 +107,8 @@ returns-then-branch-clause-read g c =
     let read_to =
     read_on inv.read_to c.more_begins.new.lines c.more_begins.new.source c.more_begins.new.output more.kept
     (more.well (λ e. absurd cc)) (more.written (λ e. absurd cc)) in
-    more_lines read_to (omega (arith, inv.count, inv.within, c.loop-number-test.false)) (more.more (search rules))
+    more_lines read_to (omega (arith, inv.count, inv.within, c.loop-number-test.false))
+    (more.more (search rules))
 
 pub returns-clause-read : goal.returns-clause-read
 returns-clause-read g c =
@@ -113,4 +117,5 @@ returns-clause-read g c =
     let read_to =
     read_on inv.read_to c.more_begins.new.lines c.more_begins.new.source c.more_begins.new.output more.kept
     (more.well (λ e. absurd cc)) (more.written (λ e. absurd cc)) in
-    all_read read_to c.args.agenda.now c.loop-number.agenda inv.noted (omega (arith, inv.count, inv.within)) (more.end (search rules))
+    all_read read_to c.args.agenda.now c.loop-number.agenda inv.noted (omega (arith, inv.count, inv.within))
+    (more.end (search rules))

@@ -11,7 +11,8 @@ invariant-loop-number g l = record {
   within : l.number ≤ 10000000;
   count : l.number ≡ length asked;
   noted : l.agenda ≡ with_lines l.fn.agenda asked;
-  read_to : IsReadTo g.R.Source.left g.R.Source.failures g.W.Sink.taken g.W.Sink.failures l.fn.source l.fn.output
+  read_to : IsReadTo g.R.Source.left g.R.Source.failures g.W.Sink.taken g.W.Sink.failures l.fn.source
+      l.fn.output
       asked l.lines l.source l.output;
 }
 

@@ -25,7 +25,9 @@ loop-item-init g c =
     let asked = asked_in lines in
     let all = c.in_ok-all.all in
     let gives = c.into_iter-item-iterator.ensures.into_iter_gives in
-    let long = AllZip-long (λ request item. IfOk item (λ own. own ≡ offered_in chain request)) asked all.items c.in_ok-all.ensures in
+    let long =
+    AllZip-long (λ request item. IfOk item (λ own. own ≡ offered_in chain request)) asked all.items
+    c.in_ok-all.ensures in
     let many = length-map lines (λ line. request_of line.now) in
     let same = ap length gives.0 in
     record {
@@ -80,8 +82,16 @@ loop-item-preserved g c =
       len = omega (arith, steps.1, one_less, inv.len);
       number = omega (arith, one_less, inv.number);
       few = let count_is = ap (λ s. s.accepted) goes in
-          omega (arith, count_is, accepted-le c.args.context.now.chain c.loop-item.engine turn.request, one_less, inv.few);
-      left = turn.goes_on _ _ _ goes (item.is_told c.loop-item.number c.loop-item.engine) c.in_ok-offer.ensures.written;
+          omega (
+            arith,
+            count_is,
+            accepted-le c.args.context.now.chain c.loop-item.engine turn.request,
+            one_less,
+            inv.few,
+          );
+      left =
+          turn.goes_on _ _ _ goes (item.is_told c.loop-item.number c.loop-item.engine)
+          c.in_ok-offer.ensures.written;
     }
 
 pub returns-clause-state : goal.returns-clause-state

@@ -19,6 +19,7 @@ invariant-loop-item g l = record {
       (λ request item. IfOk item (IsItemOf l.context.chain request))
       (state_from l.context.chain l.fn.engine (asked_in l.lines))
       (seen g.W.Sink.taken g.W.Sink.failures l.fn.output)
-      (text_from l.context.chain l.first l.fn.engine (asked_in l.lines)) (into_iter_items l.item-iterator) l.number
+      (text_from l.context.chain l.first l.fn.engine (asked_in l.lines)) (into_iter_items l.item-iterator)
+      l.number
       l.engine (seen g.W.Sink.taken g.W.Sink.failures l.output);
 }

@@ -25,7 +25,8 @@ loop-answer-init g c =
         asked = asked_in lines;
         known =
             subst (AllZip (λ request answer. IfOk answer (IsAnswerTo c.args.context.now.chain
-            c.args.chart.now.known c.args.committed.now request)) (asked_in lines)) (sym same) c.in_ok-all.ensures;
+            c.args.chart.now.known c.args.committed.now request)) (asked_in lines)) (sym same)
+            c.in_ok-all.ensures;
         leads = refl;
         told = onward_first _ _ _ refl;
       };

@@ -16,5 +16,6 @@ invariant-loop-answer g l = record {
       (filters_behind l.context.chain l.fn.filters (asked_in l.lines))
       (seen g.W.Sink.taken g.W.Sink.failures l.fn.output)
       (questions_text l.context.chain l.chart.known l.committed l.first l.fn.filters (asked_in l.lines))
-      (drop l.answer-index l.answer-items) l.number l.filters (seen g.W.Sink.taken g.W.Sink.failures l.output);
+      (drop l.answer-index l.answer-items) l.number l.filters (seen g.W.Sink.taken g.W.Sink.failures
+      l.output);
 }

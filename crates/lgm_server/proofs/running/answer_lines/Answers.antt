@@ -14,7 +14,8 @@ loop-number-init g c = rw (c.requires.engine, c.requires.lines) (record {
   name = refl;
   few = omega arith;
   up_to =
-      up_to_first g.R.Source.left g.R.Source.failures g.W.Sink.taken g.W.Sink.failures c.args.context.now.chain
+      up_to_first g.R.Source.left g.R.Source.failures g.W.Sink.taken g.W.Sink.failures
+      c.args.context.now.chain
       c.args.engine.now.known c.args.source.now c.args.output.now;
 })
 
@@ -32,7 +33,8 @@ returns-in_default-clause-ended g c =
     let up_to =
     read_on c.loop-number.invariant.up_to c.next_line.new.lines c.next_line.new.source c.next_line.new.output
     line.kept (line.well (λ e. absurd cc)) (line.written (λ e. absurd cc)) in
-    all_answered up_to c.loop-number.number c.accepted.result refl c.accepted.ensures (line.end (search rules))
+    all_answered up_to c.loop-number.number c.accepted.result refl c.accepted.ensures
+    (line.end (search rules))
 
 pub returns-in_err-some-clause-ended : goal.returns-in_err-some-clause-ended
 returns-in_err-some-clause-ended g c =
@@ -42,7 +44,8 @@ returns-in_err-some-clause-ended g c =
     let up_to =
     read_on c.loop-number.invariant.up_to c.next_line.new.lines c.next_line.new.source c.next_line.new.output
     line.kept (line.well (λ e. absurd cc)) (line.written (λ e. absurd cc)) in
-    rw (p.1, p.2) (answer_failed up_to c.in-Some.count (10000000 - c.loop-number.number) c.answer_next.new.output
+    rw (p.1, p.2) (answer_failed up_to c.in-Some.count (10000000 - c.loop-number.number)
+    c.answer_next.new.output
     c.in_err-some.field-0.0 first (omega arith) c.in_err-some.ensures.fault)
 
 pub loop-number-preserved : goal.loop-number-preserved
@@ -67,7 +70,8 @@ loop-number-preserved g c =
             answers.count_is,
             inv.few,
           );
-      up_to = rw c.drop_front.ensures (answered_on up_to first answers (omega (arith, c.in_ok-some.ensures.few)));
+      up_to =
+          rw c.drop_front.ensures (answered_on up_to first answers (omega (arith, c.in_ok-some.ensures.few)));
     }
 
 pub returns-in_err-more_begins-clause-ended : goal.returns-in_err-more_begins-clause-ended
@@ -92,4 +96,5 @@ returns-clause-ended g c =
     let up_to =
     read_on c.loop-number.invariant.up_to c.more_begins.new.lines c.more_begins.new.source
     c.more_begins.new.output more.kept (more.well (λ e. absurd cc)) (more.written (λ e. absurd cc)) in
-    all_answered up_to 10000000 c.accepted-2.result (omega arith) c.accepted-2.ensures (more.end (search rules))
+    all_answered up_to 10000000 c.accepted-2.result (omega arith) c.accepted-2.ensures
+    (more.end (search rules))

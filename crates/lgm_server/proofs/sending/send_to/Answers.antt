@@ -12,7 +12,8 @@ loop-message-init g c = record {
   failures = refl;
   told = λ all gives. (
     all,
-    subst (λ it. Gives g.I.Iterator.next_gives it all) (sym c.into_iter-message-iterator.ensures.into_iter_gives) gives,
+    subst (λ it. Gives g.I.Iterator.next_gives it all)
+        (sym c.into_iter-message-iterator.ensures.into_iter_gives) gives,
     onward_first _ _ _ refl,
   );
 }
@@ -26,7 +27,8 @@ loop-message-preserved g c = record {
       let next = gave_one g.I.Iterator.next_gives now.0 _ _ _ now.1 c.in-Some.ensures.steps in (
         next.others,
         next.left,
-        onward_more _ _ _ _ _ _ _ now.2 (ap (flat_map (message_line c.args.number (Some c.args.peer))) next.is)
+        onward_more _ _ _ _ _ _ _ now.2 (ap (flat_map (message_line c.args.number (Some c.args.peer)))
+            next.is)
             c.in_ok-send_message.ensures.written,
       );
 }
@@ -38,7 +40,8 @@ returns-in_err-send_message-clause-written g c =
     let now = c.loop-message.invariant.told all gives in
     let next = gave_one g.I.Iterator.next_gives now.0 _ _ _ now.1 c.in-Some.ensures.steps in
     rw (p.1, p.2) (onward_stops _ _ _ _ _ _ _ _ now.2
-    (ap (flat_map (message_line c.args.number (Some c.args.peer))) next.is) c.in_err-send_message.ensures.written)
+    (ap (flat_map (message_line c.args.number (Some c.args.peer))) next.is)
+    c.in_err-send_message.ensures.written)
 
 pub returns-clause-written : goal.returns-clause-written
 returns-clause-written g c = λ all gives.

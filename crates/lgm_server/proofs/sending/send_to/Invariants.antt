@@ -13,6 +13,8 @@ invariant-loop-message g l = record {
   failures : g.W.Sink.failures l.output.writer.now ≡ g.W.Sink.failures l.fn.output.writer.now;
   told : (all : List (List ℕ)) → Gives g.I.Iterator.next_gives l.fn.messages all
       → (rest : List (List ℕ)) × Gives g.I.Iterator.next_gives l.message-iterator rest
-      × Onward (seen g.W.Sink.taken g.W.Sink.failures l.fn.output) (seen g.W.Sink.taken g.W.Sink.failures l.output)
-      (flat_map (message_line l.number (Some l.peer)) all) (flat_map (message_line l.number (Some l.peer)) rest);
+      × Onward (seen g.W.Sink.taken g.W.Sink.failures l.fn.output) (seen g.W.Sink.taken g.W.Sink.failures
+      l.output)
+      (flat_map (message_line l.number (Some l.peer)) all) (flat_map (message_line l.number (Some l.peer))
+      rest);
 }
