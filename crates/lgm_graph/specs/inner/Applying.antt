@@ -8,7 +8,8 @@ use Rattle.lgm_graph.specs.Graph.{IsGraphOf}
 use Rattle.lgm_graph.specs.inner.Sound.{graph_in}
 
 -- the operation is applied to both, so that the nodes show the new map; it numbers at most two points
-pub record IsDone (known : Option (List ℕ)) (op : Op) (rows new_rows : Rows) (nodes new_nodes : Nodes) : Type 0 where
+pub record IsDone (known : Option (List ℕ)) (op : Op) (rows new_rows : Rows)
+    (nodes new_nodes : Nodes) : Type 0 where
   pub map : new_rows ≡ absorbed rows op
   pub beside : IsGraphOf new_rows (graph_in known new_nodes)
   pub few : length new_nodes.points.keys ≤ length nodes.points.keys + 2
@@ -19,6 +20,7 @@ pub record IsUndone (rows new_rows : Rows) (nodes new_nodes : Nodes) : Type 0 wh
   pub graph : (known : Option (List ℕ)) → graph_in known new_nodes ≡ graph_in known nodes
 
 -- it is applied to both or, if memory runs out, to neither
-abbrev pub IsDoneToBoth : {T E : Type 0} → Option (List ℕ) → Op → Rows → Rows → Nodes → Nodes → Result T E → Type 0
+abbrev pub IsDoneToBoth : {T E : Type 0} → Option (List ℕ) → Op → Rows → Rows → Nodes → Nodes
+    → Result T E → Type 0
 IsDoneToBoth known op rows new_rows nodes new_nodes result = MatchResult result
     (λ _. IsDone known op rows new_rows nodes new_nodes) (λ _. IsUndone rows new_rows nodes new_nodes)

@@ -24,7 +24,8 @@ KeepsNumbers old new =
     → (number_of new point ≡ number_of old point) × IsNumbered new point
 
 -- a point was numbered, unless it was
-pub record HasNumbered (known : Option (List ℕ)) (rows : List NodeRow) (point : Point) (old new : Nodes) : Type 0 where
+pub record HasNumbered (known : Option (List ℕ)) (rows : List NodeRow) (point : Point)
+    (old new : Nodes) : Type 0 where
   pub few : length new.points.keys ≤ length old.points.keys + 1
   pub kept : KeepsNumbers old.points.keys new.points.keys
   pub numbered : IsNumbered new.points.keys point

@@ -39,4 +39,5 @@ pub record IsSamePass (before after : Passing) : Type 0 where
 -- the edges out of a node were relaxed
 abbrev pub AreNear : Passing → ℕ → Type 0
 AreNear pass node = (j : ℕ) → j < length (links_leaving pass.graph node)
-    → IsNear pass.request (number_at pass.dist node) (length pass.dist) pass.dist (link_at (links_leaving pass.graph node) j)
+    → IsNear pass.request (number_at pass.dist node) (length pass.dist) pass.dist
+    (link_at (links_leaving pass.graph node) j)
