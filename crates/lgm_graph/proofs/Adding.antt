@@ -2,9 +2,7 @@
 use Rattle.std.proofs.Common.{◌≡◌, ℕ, eqb, Bool, true, false, ◌||◌, List, ◌∷◌, refl, sym, ap, ◌∙◌, Option, true≢false, is_some}
 use Rattle.std.specs.Option.{option_and_then}
 use Rattle.std.specs.List.{AllByRecursion, filter}
-use Rattle.std.specs.declared.cmp.Ordering.{Ordering}
-use Rattle.std.specs.declared.cmp.Ordering.TheVariants.{Less, Equal, Greater}
-use Rattle.std.specs.Ordering.{nat_cmp, is_lt, is_gt}
+use Rattle.std.specs.Ordering.{is_lt, is_gt}
 use Rattle.std.proofs.lemmas.Bool.{eqb-true}
 use Rattle.lgm_check.specs.declared.row.ChannelRow.{ChannelRow}
 use Rattle.lgm_check.specs.declared.row.UpdateRow.{UpdateRow}
@@ -13,7 +11,6 @@ use Rattle.lgm_store.specs.History.{with_channel}
 use Rattle.lgm_store.specs.Laws.{IsLawful}
 use Rattle.lgm_store.proofs.ListLaws.{All-append, All-filter, All-to}
 use Rattle.lgm_store.proofs.Finding.{channel_of-put}
-use Rattle.lgm_store.proofs.Lists.{same_id}
 use Rattle.lgm_graph.specs.declared.nodes.Nodes.{Nodes}
 use Rattle.lgm_graph.specs.Edges.{edge_on, edge_in, carrying}
 use Rattle.lgm_graph.specs.Graph.{IsGraphOf, IsNumbered}

@@ -11,7 +11,7 @@ use Rattle.std.specs.Ordering.{nat_cmp, bool_cmp, ordering_then}
 use Rattle.std.proofs.lemmas.Bool.Decides.{nat_tests}
 use Rattle.lgm_check.specs.declared.row.ChannelRow.{ChannelRow}
 use Rattle.lgm_check.specs.declared.row.UpdateRow.{UpdateRow}
-use Rattle.lgm_store.specs.Rows.{is_second, by_id, by_direction, channel_of, update_of}
+use Rattle.lgm_store.specs.Rows.{is_second, by_id, by_direction, update_of}
 use Rattle.lgm_store.proofs.ListLaws.{All-to}
 use Rattle.lgm_store.proofs.Lists.{same_id}
 use Rattle.lgm_graph.specs.declared.edge.Edge.{Edge}

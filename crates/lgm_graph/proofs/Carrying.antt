@@ -1,5 +1,5 @@
 -- The edges of rows, as an update changes them.
-use Rattle.std.proofs.Common.{◌≡◌, ◌≢◌, ◌⊎◌, Bool, true, false, cond, not, ◌&&◌, List, [], ◌∷◌, ◌++◌, append_assoc}
+use Rattle.std.proofs.Common.{◌≡◌, ◌≢◌, ◌⊎◌, Bool, true, false, cond, not, List, [], ◌∷◌, ◌++◌, append_assoc}
 use Rattle.std.proofs.Common.{refl, sym, ap, ◌∙◌, inl, inr, Option, Some, None, option_to_list}
 use Rattle.std.specs.Cmp.{IsTotalOrder}
 use Rattle.std.specs.List.{AllByRecursion, filter, filter_map, cons_option}

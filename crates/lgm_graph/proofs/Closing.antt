@@ -7,7 +7,7 @@ use Rattle.lgm_check.specs.declared.row.ChannelRow.{ChannelRow}
 use Rattle.lgm_check.specs.declared.row.UpdateRow.{UpdateRow}
 use Rattle.lgm_check.specs.declared.row.NodeRow.{NodeRow}
 use Rattle.lgm_store.specs.Rows.{Rows, is_point, channel_of, ends_at, ends_channel}
-use Rattle.lgm_store.specs.History.{without_channel, channels_without, updates_without, ended_nodes, without_held}
+use Rattle.lgm_store.specs.History.{without_channel, channels_without, updates_without, without_held}
 use Rattle.lgm_store.specs.Laws.{IsLawful}
 use Rattle.lgm_store.proofs.ListLaws.{All-each, All-filter, All-to, any-kept, filter-all, filter-passes, filter-swap, filter-twice, find-kept}
 use Rattle.lgm_store.proofs.Points.{same_point, is_point-self}

@@ -1,7 +1,7 @@
 -- Edges that stay, where others go with their channels.
-use Rattle.std.proofs.Common.{◌≡◌, ℕ, ◌<◌, eqb, Bool, true, false, cond, ◌&&◌, ◌||◌, List, [], ◌∷◌}
+use Rattle.std.proofs.Common.{◌≡◌, ℕ, ◌<◌, eqb, Bool, true, false, cond, List, [], ◌∷◌}
 use Rattle.std.proofs.Common.{map, refl, sym, ap, ◌∙◌, Option, Some, None, arith, true≢false}
-use Rattle.std.specs.List.{AllByRecursion, filter, filter_map, cons_option, find, list_any}
+use Rattle.std.specs.List.{AllByRecursion, filter, filter_map, cons_option}
 use Rattle.std.specs.List.Sorted.{IsStrictlySortedBy}
 use Rattle.std.specs.declared.cmp.Ordering.TheVariants.{Less}
 use Rattle.std.specs.Ordering.{nat_cmp}

@@ -1,5 +1,5 @@
 -- How an update changes the view of a map.
-use Rattle.std.proofs.Common.{◌≡◌, ℕ, Bool, true, false, not, List, [], ◌++◌, map, set, get_or}
+use Rattle.std.proofs.Common.{◌≡◌, ℕ, Bool, not, List, [], ◌++◌, map, set, get_or}
 use Rattle.std.proofs.Common.{refl, sym, ap, ◌∙◌, Option, Some, None, option_to_list, IfSome}
 use Rattle.std.specs.Option.{option_map, option_and_then}
 use Rattle.std.specs.List.{AllByRecursion, IsDistinct, filter}

@@ -5,7 +5,6 @@ ghost use Rattle.std.specs.Prelude.{slice_index_or, OnOk, IfOk, Option, Bool, fa
 ghost use Rattle.std.specs.List.{HoldsAt, list_any};
 ghost use Rattle.indexmap.specs.IndexSet.{spare};
 ghost use Rattle.lgm_wire.specs.declared.point.Point.{Point as APoint};
-ghost use Rattle.lgm_graph.specs.declared.edge.Edge.{Edge as AnEdge};
 ghost use Rattle.lgm_graph.specs.declared.link.Link.{Link as ALink};
 ghost use Rattle.lgm_graph.specs.inner.Walk.{HasNumbered};
 ghost use Rattle.lgm_store.specs.Rows.{is_point};
@@ -13,7 +12,7 @@ ghost use Rattle.lgm_graph.specs.Edges.{takes_payments};
 ghost use Rattle.lgm_graph.specs.inner.Lists.{link_key, IsCut, put_at};
 ghost use Rattle.lgm_graph.specs.Graph.{number_of, IsNumbered};
 ghost use Rattle.lgm_graph.specs.inner.Sound.{graph_in, links_in, HasRoom, HasPlaces, AreFlags, AreInto};
-ghost use Rattle.lgm_graph.specs.inner.Sound.{AreOut, AreLookedAt, ShowsIn, closed_at, allowed_at};
+ghost use Rattle.lgm_graph.specs.inner.Sound.{AreOut, closed_at, allowed_at};
 
 use crate::known::Known;
 use crate::link::Link;

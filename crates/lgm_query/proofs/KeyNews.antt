@@ -24,7 +24,7 @@ use Rattle.lgm_store.specs.Held.{held_at}
 use Rattle.lgm_store.specs.inner.Ends.{point_cmp}
 use Rattle.lgm_store.specs.inner.Sound.{id_of, point_of}
 use Rattle.lgm_store.proofs.ListLaws.{All-append, All-each, filter-alike, find-same}
-use Rattle.lgm_store.proofs.Points.{same_point, is_at-point}
+use Rattle.lgm_store.proofs.Points.{is_at-point}
 use Rattle.lgm_store.proofs.Lists.{node_total, same_node}
 use Rattle.lgm_query.specs.declared.filter.Filter.{Filter}
 use Rattle.lgm_query.specs.Backlog.{passes, passing_update, behind_announcement, passing_channel, passing_node, backlog, is_among, news}

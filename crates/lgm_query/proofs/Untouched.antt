@@ -1,28 +1,25 @@
 -- What operations leave as it was.
-use Rattle.std.proofs.Common.{◌≡◌, ◌⊎◌, inl, inr, ℕ, Bool, true, false, ◌||◌, not, cond, List, [], ◌∷◌, ◌++◌, Some, None, refl, sym, ap, ◌∙◌, arith}
+use Rattle.std.proofs.Common.{◌≡◌, ◌⊎◌, inl, inr, ℕ, Bool, true, false, ◌||◌, not, List, [], ◌∷◌, None, refl, sym, ap, ◌∙◌, arith}
 use Rattle.std.specs.Prelude.{◌==◌, is_some, if◌then◌else◌}
-use Rattle.std.specs.List.{AllByRecursion, filter, find, list_any}
+use Rattle.std.specs.List.{AllByRecursion, list_any}
 use Rattle.std.specs.List.Sorted.{IsStrictlySortedBy}
-use Rattle.std.specs.declared.cmp.Ordering.{Ordering}
-use Rattle.std.specs.declared.cmp.Ordering.TheVariants.{Less, Equal, Greater}
-use Rattle.std.specs.Ordering.{is_lt, is_gt, is_eq, nat_cmp, bool_cmp, ordering_then}
+use Rattle.std.specs.declared.cmp.Ordering.TheVariants.{Less}
+use Rattle.std.specs.Ordering.{nat_cmp}
 use Rattle.std.proofs.lemmas.Bool.Decides.{nat_tests}
 use Rattle.std.proofs.lemmas.Bool.{eqb-true, and_parts, or_parts}
 use Rattle.lgm_wire.specs.declared.point.Point.{Point}
 use Rattle.lgm_check.specs.declared.row.ChannelRow.{ChannelRow}
-use Rattle.lgm_check.specs.declared.row.UpdateRow.{UpdateRow}
 use Rattle.lgm_check.specs.declared.row.NodeRow.{NodeRow}
 use Rattle.lgm_store.specs.declared.op.Op.{Op}
 use Rattle.lgm_store.specs.declared.op.Op.TheVariants as ops
-use Rattle.lgm_store.specs.Rows.{Rows, IsAscending, put, by_id, by_direction, by_node, is_point, is_second}
+use Rattle.lgm_store.specs.Rows.{Rows, IsAscending, put, by_id, by_direction, by_node}
 use Rattle.lgm_store.specs.Rows.{channel_of, update_of, node_of, ends_channel, ends_banned}
-use Rattle.lgm_store.specs.inner.Ends.{point_cmp}
-use Rattle.lgm_store.specs.History.{channels_without, updates_without, ended_nodes, with_banned, allowed_channels, without_held}
+use Rattle.lgm_store.specs.History.{channels_without, ended_nodes, with_banned, allowed_channels, without_held}
 use Rattle.lgm_store.specs.History.{banned_channels, banning, absorbed, fold_from}
 use Rattle.lgm_store.proofs.ListLaws.{All-each, All-to, All-filter, All-put, find-kept, find-gone}
 use Rattle.lgm_store.proofs.Finding.{channel_of-put, update_of-put, node_of-put}
 use Rattle.lgm_store.proofs.Ascending.{IsAscending-absorbed}
-use Rattle.lgm_store.proofs.Points.{same_point, is_at-point}
+use Rattle.lgm_store.proofs.Points.{same_point}
 use Rattle.lgm_query.specs.KeyNews.{TellKeys}
 use Rattle.lgm_query.specs.Touched.{touches_channel, touches_node, TellsKey}
 
