@@ -1,5 +1,5 @@
 -- What offering a message or a close gives.
-use Rattle.std.proofs.Common.{◌≡◌, ℕ, List, Bool, true, false, Option, Result, Ok, Err, refl, inl, inr, sym, ap, subst}
+use Rattle.std.proofs.Common.{◌≡◌, ℕ, List, Bool, true, false, Option, Result, Ok, Err, inl, inr, sym, ap, subst}
 use Rattle.std.specs.Prelude.{is_some, IfSome}
 use Rattle.lgm_wire.specs.reading.Reading.{◌>>=◌, Gives}
 use Rattle.lgm_wire.proofs.ReadingLaws.{bind_ok}

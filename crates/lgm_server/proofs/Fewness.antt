@@ -9,7 +9,7 @@ use Rattle.lgm_check.specs.declared.refusal.Refusal.{Refusal}
 use Rattle.lgm_store.specs.declared.op.Op.{Op}
 use Rattle.lgm_store.specs.declared.op.Op.TheVariants as ops
 use Rattle.lgm_store.specs.Rows.{Rows, put, by_id, by_direction, by_node, channel_of, ends_channel, ends_banned}
-use Rattle.lgm_store.specs.History.{absorbed, with_banned, channels_without, updates_without, ended_nodes, without_held}
+use Rattle.lgm_store.specs.History.{absorbed, with_banned, without_held}
 use Rattle.lgm_server.specs.inner.Maps.{Growth, grown}
 use Rattle.lgm_server.specs.inner.Engine.{IsFew}
 

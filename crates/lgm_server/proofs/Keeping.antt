@@ -1,5 +1,5 @@
 -- What items give is about the keys of its rows.
-use Rattle.std.proofs.Common.{◌≡◌, Result, Ok, Err, inl, inr, refl, sym, ap, ◌∙◌}
+use Rattle.std.proofs.Common.{◌≡◌, Result, Ok, Err, refl, sym, ap, ◌∙◌}
 use Rattle.lgm_wire.specs.reading.Reading.{◌>>=◌, Gives}
 use Rattle.lgm_wire.proofs.ReadingLaws.{bind_ok}
 use Rattle.lgm_wire.specs.declared.chain_hash.ChainHash.{ChainHash}
