@@ -1,6 +1,6 @@
 //! Messages one after the other.
 
-ghost use Rattle.std.specs.Prelude.{◌≡◌, ◌++◌, IfOk, OnOk, List, ℕ};
+ghost use Rattle.std.specs.Prelude.{◌≡◌, ◌++◌, IfOk, OnOk};
 ghost use Rattle.lgm_c.specs.Writing.{framed, all_framed};
 
 use lgm_query::{Backlog, Reply};

@@ -5,7 +5,7 @@ ghost use Rattle.std.specs.List.{AllByRecursion};
 ghost use Rattle.lgm_store.specs.Admission.{admitted_close};
 ghost use Rattle.lgm_store.specs.History.{fold_from};
 ghost use Rattle.lgm_query.specs.KeyNews.{TellKeys};
-ghost use Rattle.lgm_query.specs.Touched.{HasTouched, TellsKey};
+ghost use Rattle.lgm_query.specs.Touched.{TellsKey};
 ghost use Rattle.lgm_query.specs.Backlog.{news};
 ghost use Rattle.lgm_c.specs.Offering.{offered_to};
 ghost use Rattle.lgm_c.specs.inner.Following.{Follows};
@@ -65,17 +65,6 @@ fn level(map: &mut Map, due: &mut VecDeque<Op>) -> Result<(), AllocError>
         forget_first(due);
     }
     Ok(())
-}
-
-/// What operations touch.
-fn changes_of(alloc: Global, since: &VecDeque<Op>) -> Result<Changes, AllocError>
-    ensures { IfOk result (λ changes. HasTouched since.now.items changes) }
-{
-    let mut changes = Changes::new(alloc);
-    for place in 0..since.len() {
-        changes.touch(&since[place])?;
-    }
-    Ok(changes)
 }
 
 impl Mark {
@@ -149,7 +138,7 @@ impl Mark {
             written.items ≡ all_framed (news self.old.marked map.now filter.now)) }
     {
         level(&mut self.map, &mut self.due)?;
-        let changes = changes_of(alloc, &self.since)?;
+        let changes = Changes::of(alloc, &self.since)?;
         let differences = Differences::between(alloc, &self.map, map, &changes)?;
         let mut written = Vec::new(alloc);
         for message in differences.news(filter) {

@@ -1,6 +1,6 @@
 -- Readings that take memory only where it is asked for.
 use Rattle.std.proofs.Common.{◌≡◌, ℕ, ◌+◌, ◌<◌, ◌≤◌, ◌⊎◌, ltb, List, [], ◌∷◌, length, take, drop, Result, Ok, Err, ap, arith, inl, inr}
-use Rattle.std.specs.Int.{Width, w16, byte_len, from_be_bytes}
+use Rattle.std.specs.Int.{Width, w16, w32, byte_len, from_be_bytes}
 use Rattle.std.specs.List.{flat_map}
 use Rattle.std.proofs.lemmas.Bool.{ltb-false}
 use Rattle.std.proofs.lemmas.List.{length-drop}
@@ -86,3 +86,18 @@ enclosed_len {A} read bytes x e =
     let value = bind_ok (read text.0.0) (λ y. Ok (y, text.0.1)) x text.2 in
     let same = ok_is (value.0, text.0.1) x value.2 in
     omega (arith, counted_len bytes text.0 text.1, ap (λ (p : A × List ℕ). length p.1) same)
+
+-- a part that fails makes the whole fail; it lacks memory only if the whole may
+pub fails_with : {A B E : Type 0} {asks asked : Type 0} {no_memory e : E} {part : Result A E} {whole : Result B E}
+    → (asked → asks) → (part ≡ Err e → whole ≡ Err e) → (asked × (e ≡ no_memory)) ⊎ (part ≡ Err e)
+    → (asks × (e ≡ no_memory)) ⊎ (whole ≡ Err e)
+fails_with few fault failed = elim failed [
+  | inl none ↦ inl (few none.0, none.1)
+  | inr bad ↦ inr (fault bad)
+]
+
+-- what is behind the chain and two numbers
+pub blocks_len : (bytes : List ℕ) (chain : List ℕ × List ℕ) (first number : ℕ × List ℕ) → fixed_at 32 bytes ≡ Ok chain
+    → number_at w32 chain.1 ≡ Ok first → number_at w32 first.1 ≡ Ok number → length bytes ≡ 40 + length number.1
+blocks_len bytes chain first number c f n =
+    omega (arith, fixed_len 32 bytes chain c, number_len w32 chain.1 first f, number_len w32 first.1 number n)

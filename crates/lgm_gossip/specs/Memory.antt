@@ -1,6 +1,5 @@
 -- Which bytes need memory to be read: those of a message with a list that isn't empty.
 use Rattle.std.specs.Prelude.{◌≡◌, ℕ, ◌+◌, ◌*◌, ◌<◌, ◌≤◌, ◌⊎◌, List, [], ◌∷◌, length, Result, Ok, Err}
-use Rattle.lgm_gossip.specs.declared.fault.DecodeFault.{DecodeFault}
 
 -- the result is that of the reading, or out of memory if something was to be allocated
 abbrev pub GivesIf : {X Y E : Type 0} → Type 0 → E → (X → Y) → Result X E → Result Y E → Type 0

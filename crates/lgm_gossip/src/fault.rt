@@ -4,7 +4,7 @@ ghost use Rattle.std.specs.Prelude.{◌≡◌};
 ghost use Rattle.lgm_gossip.specs.declared.fault.DecodeFault.TheVariants.{NoMemory};
 
 use lgm_wire::WireFault;
-use std::alloc::{AllocError, AllocFailed};
+use std::alloc::AllocError;
 use thiserror::Error;
 
 /// The first fault of bytes that don't encode a message, or out of memory. [`decode`](crate::decode) has the order.
@@ -50,14 +50,6 @@ impl From<AllocError> for DecodeFault {
     ghost from_gives = { λ _ e. e ≡ NoMemory };
 
     fn from(_e: AllocError) -> DecodeFault {
-        DecodeFault::NoMemory
-    }
-}
-
-impl<T: Drop> From<AllocFailed<T>> for DecodeFault {
-    ghost from_gives = { λ _ e. e ≡ NoMemory };
-
-    fn from(_e: AllocFailed<T>) -> DecodeFault {
         DecodeFault::NoMemory
     }
 }

@@ -68,27 +68,26 @@ impl IdsQuery {
     {
         let ids = Part::Ids(self.ids.as_slice());
         let ids_len = measure(&[Part::Number8(0), ids])?;
+        let front = [
+            Part::Number16(261),
+            whole(&self.chain_hash.0),
+            Part::Number16(ids_len),
+            Part::Number8(0),
+            ids,
+        ];
         let Some(flags) = &self.flags else {
-            return join(
-                alloc,
-                &[
-                    Part::Number16(261),
-                    whole(&self.chain_hash.0),
-                    Part::Number16(ids_len),
-                    Part::Number8(0),
-                    ids,
-                ],
-            );
+            return join(alloc, &front);
         };
         let flags = Part::Bigs(flags.as_slice());
         let flags_len = measure(&[Part::Number8(0), flags])?;
+        let [kind, chain, len, encoding, ids] = front;
         join(
             alloc,
             &[
-                Part::Number16(261),
-                whole(&self.chain_hash.0),
-                Part::Number16(ids_len),
-                Part::Number8(0),
+                kind,
+                chain,
+                len,
+                encoding,
                 ids,
                 Part::Big(1),
                 Part::Big(u64::from(flags_len)),

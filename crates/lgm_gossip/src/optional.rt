@@ -1,6 +1,6 @@
 //! The TLV stream after a message's last field, in which records of type 1 are known.
 
-ghost use Rattle.std.specs.Prelude.{ℕ, ◌<◌, ◌≤◌, List, length, None, Result, IfOk};
+ghost use Rattle.std.specs.Prelude.{ℕ, ◌<◌, List, length, None, Result, IfOk};
 ghost use Rattle.lgm_wire.specs.reading.Reading.{Gives};
 ghost use Rattle.lgm_wire.specs.TlvView.{record_of, records_of};
 ghost use Rattle.lgm_gossip.specs.declared.fault.DecodeFault.{DecodeFault};

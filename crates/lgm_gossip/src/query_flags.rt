@@ -1,6 +1,5 @@
 //! Query flags.
 
-ghost use Rattle.std.specs.Prelude.{◌≡◌, ℕ, List, IfOk, length};
 ghost use Rattle.lgm_wire.specs.reading.Reading.{Sees, Gives};
 ghost use Rattle.lgm_gossip.specs.reading.QueryFlagsReading.{flag_at, all_flags_at, query_flags_at};
 
@@ -36,7 +35,9 @@ fn all_flags(alloc: Global, count: usize, bytes: &[u8]) -> Result<Vec<u64>, Deco
     let mut rest = bytes;
     for _ in 0..count {
         let (one, after) = flag(rest)?;
-        flags.push(one)?;
+        let Ok(()) = flags.push(one) else {
+            return Err(DecodeFault::NoMemory);
+        };
         rest = after;
     }
     if rest.is_empty() {

@@ -87,33 +87,32 @@ impl RangeReply {
     {
         let ids = Part::Ids(self.ids.as_slice());
         let ids_len = measure(&[Part::Number8(0), ids])?;
+        let front = [
+            Part::Number16(264),
+            whole(&self.chain_hash.0),
+            Part::Number32(self.first_blocknum),
+            Part::Number32(self.number_of_blocks),
+            Part::Number8(self.sync_complete),
+            Part::Number16(ids_len),
+            Part::Number8(0),
+            ids,
+        ];
         let Some(timestamps) = &self.timestamps else {
-            return join(
-                alloc,
-                &[
-                    Part::Number16(264),
-                    whole(&self.chain_hash.0),
-                    Part::Number32(self.first_blocknum),
-                    Part::Number32(self.number_of_blocks),
-                    Part::Number8(self.sync_complete),
-                    Part::Number16(ids_len),
-                    Part::Number8(0),
-                    ids,
-                ],
-            );
+            return join(alloc, &front);
         };
         let pairs = Part::Pairs(timestamps.as_slice());
         let pairs_len = measure(&[Part::Number8(0), pairs])?;
+        let [kind, chain, first, number, complete, len, encoding, ids] = front;
         join(
             alloc,
             &[
-                Part::Number16(264),
-                whole(&self.chain_hash.0),
-                Part::Number32(self.first_blocknum),
-                Part::Number32(self.number_of_blocks),
-                Part::Number8(self.sync_complete),
-                Part::Number16(ids_len),
-                Part::Number8(0),
+                kind,
+                chain,
+                first,
+                number,
+                complete,
+                len,
+                encoding,
                 ids,
                 Part::Big(1),
                 Part::Big(u64::from(pairs_len)),

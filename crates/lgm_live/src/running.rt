@@ -1,8 +1,6 @@
 //! Running a script whose payments are answered while its items are admitted.
 
 ghost use Rattle.std.specs.Prelude.{◌≡◌, ◌+◌, ◌<◌, ◌≤◌, ◌^◌, []};
-ghost use Rattle.lgm_live.specs.inner.Gathered.{IsAgenda};
-ghost use Rattle.lgm_live.specs.inner.Reading.{IsRead};
 ghost use Rattle.lgm_live.specs.RunsLive.{RunsLive};
 
 use crate::growing::live;

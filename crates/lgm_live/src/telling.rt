@@ -1,6 +1,6 @@
 //! Writing the text of a script and of the report on it.
 
-ghost use Rattle.std.specs.Prelude.{◌≡◌, ◌≤◌, ◌+◌, ◌<◌, ◌^◌, [], length, IsSome, OnOk, OnErr};
+ghost use Rattle.std.specs.Prelude.{◌≡◌, ◌≤◌, ◌+◌, ◌<◌, ◌^◌, [], length, OnOk, OnErr};
 ghost use Rattle.std.specs.Option.{option_map};
 ghost use Rattle.lgm_script.specs.Device.{Appends, AppendsSome};
 ghost use Rattle.lgm_script.specs.Output.{Writes};

@@ -1,6 +1,6 @@
 //! Mapping a function over a slice.
 
-ghost use Rattle.std.specs.Prelude.{◌≡◌, ℕ, ◌+◌, ◌<◌, ◌≤◌, length, IfOk};
+ghost use Rattle.std.specs.Prelude.{◌≡◌, ◌+◌, ◌<◌, ◌≤◌, IfOk};
 ghost use Rattle.std.specs.Fn.{FnReturnsAt};
 ghost use Rattle.lgm_par.specs.inner.Chunks.{piece_start, piece_of};
 ghost use Rattle.lgm_par.specs.Pieces.{AcceptsItem, AcceptsAll, GivesAll};

@@ -1,6 +1,6 @@
 //! Workers that share work.
 
-ghost use Rattle.std.specs.Prelude.{◌≤◌, ℕ, IfOk};
+ghost use Rattle.std.specs.Prelude.{◌≤◌, IfOk};
 ghost use Rattle.lgm_par.specs.Pieces.{AcceptsAll, GivesAll};
 
 use crate::gate::Gate;

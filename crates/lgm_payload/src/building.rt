@@ -1,7 +1,6 @@
 //! Building the payloads of a route.
 
-ghost use Rattle.std.specs.Prelude.{◌≡◌, ◌≤◌, ◌+◌, IfOk, length};
-ghost use Rattle.std.specs.List.{sum_by};
+ghost use Rattle.std.specs.Prelude.{◌≡◌, ◌≤◌, IfOk};
 ghost use Rattle.lgm_payload.specs.Building.{forward, arrival, payloads_of, onion_len, BuiltIsSpelled};
 
 use crate::hop_payload::{HopPayload, Payment};

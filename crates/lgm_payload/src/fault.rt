@@ -4,7 +4,7 @@ ghost use Rattle.std.specs.Prelude.{◌≡◌};
 ghost use Rattle.lgm_payload.specs.declared.fault.PayloadFault.TheVariants.{NoMemory};
 
 use lgm_wire::WireFault;
-use std::alloc::{AllocError, AllocFailed};
+use std::alloc::AllocError;
 use thiserror::Error;
 
 /// The first fault of bytes that don't encode a payload, in the order in which faults are checked,
@@ -38,14 +38,6 @@ impl From<AllocError> for PayloadFault {
     ghost from_gives = { λ _ e. e ≡ NoMemory };
 
     fn from(_e: AllocError) -> PayloadFault {
-        PayloadFault::NoMemory
-    }
-}
-
-impl<T: Drop> From<AllocFailed<T>> for PayloadFault {
-    ghost from_gives = { λ _ e. e ≡ NoMemory };
-
-    fn from(_e: AllocFailed<T>) -> PayloadFault {
         PayloadFault::NoMemory
     }
 }

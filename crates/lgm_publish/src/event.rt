@@ -5,7 +5,8 @@ ghost use Rattle.lgm_publish.specs.declared.event.WorldFault.TheVariants.{NoMemo
 
 use lgm_route::{Request, Route, RouteFault};
 use lgm_store::Op;
-use std::alloc::{AllocError, AllocFailed};
+use std::alloc::AllocError;
+use thiserror::Error;
 
 /// An event. Eyes are numbered from 0.
 #[derive(Debug, Drop)]
@@ -32,13 +33,16 @@ pub enum Reply {
 }
 
 /// Why a world refuses an event: the first reason, in the order of the variants, or out of memory.
-#[derive(Clone, Copy, Debug, PartialEq, Eq)]
+#[derive(Clone, Copy, Debug, PartialEq, Eq, Error)]
 pub enum WorldFault {
     /// No eye has this number. Nothing was allocated.
+    #[error("no such eye")]
     NoEye,
     /// 2,000,000,000 operations have been appended. Nothing was allocated.
+    #[error("full")]
     Full,
     /// Out of memory.
+    #[error("out of memory")]
     NoMemory,
 }
 
@@ -46,14 +50,6 @@ impl From<AllocError> for WorldFault {
     ghost from_gives = { λ _ e. e ≡ NoMemory };
 
     fn from(_e: AllocError) -> WorldFault {
-        WorldFault::NoMemory
-    }
-}
-
-impl<T: Drop> From<AllocFailed<T>> for WorldFault {
-    ghost from_gives = { λ _ e. e ≡ NoMemory };
-
-    fn from(_e: AllocFailed<T>) -> WorldFault {
         WorldFault::NoMemory
     }
 }

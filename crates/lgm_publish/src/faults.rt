@@ -5,26 +5,40 @@ ghost use Rattle.lgm_publish.specs.declared.faults.PublishFault.TheVariants.{NoM
 
 use lgm_store::Op;
 use std::alloc::AllocError;
+use thiserror::Error;
 
 /// Out of memory.
-#[derive(Clone, Copy, Debug, PartialEq, Eq)]
+#[derive(Clone, Copy, Debug, PartialEq, Eq, Error)]
+#[error("out of memory")]
 pub struct NoMemory;
 
 /// Why a board couldn't be made.
-#[derive(Clone, Copy, Debug, PartialEq, Eq)]
+#[derive(Clone, Copy, Debug, PartialEq, Eq, Error)]
 pub enum PublishFault {
-    /// Out of memory.
-    NoMemory,
     /// An eye got no place at the table of the two copies.
+    #[error("no place for an eye")]
     Places,
+    /// Out of memory.
+    #[error("out of memory")]
+    NoMemory,
+}
+
+impl From<AllocError> for PublishFault {
+    ghost from_gives = { λ _ e. e ≡ NoMemory };
+
+    fn from(_e: AllocError) -> PublishFault {
+        PublishFault::NoMemory
+    }
 }
 
 /// Why an operation wasn't appended.
-#[derive(Clone, Copy, Debug, PartialEq, Eq)]
+#[derive(Clone, Copy, Debug, PartialEq, Eq, Error)]
 pub enum AppendCause {
     /// 2,000,000,000 operations have been appended.
+    #[error("full")]
     Full,
     /// Out of memory.
+    #[error("out of memory")]
     NoMemory,
 }
 
@@ -35,12 +49,4 @@ pub struct AppendFault {
     pub op: Op,
     /// The reason.
     pub cause: AppendCause,
-}
-
-impl From<AllocError> for PublishFault {
-    ghost from_gives = { λ _ e. e ≡ NoMemory };
-
-    fn from(_e: AllocError) -> PublishFault {
-        PublishFault::NoMemory
-    }
 }

@@ -109,7 +109,9 @@ impl World {
             return Err(WorldFault::Full);
         }
         let op = op.copy(self.alloc)?;
-        self.appended.push(op)?;
+        if self.appended.push(op).is_err() {
+            return Err(WorldFault::NoMemory);
+        }
         Ok(Reply::Done)
     }
 

@@ -1,6 +1,6 @@
 //! Replies to queries by ids.
 
-ghost use Rattle.std.specs.Prelude.{◌≡◌, ◌<◌, ◌∷◌, [], length, slice_index, IfOk};
+ghost use Rattle.std.specs.Prelude.{◌≡◌, ◌<◌, length, slice_index, IfOk};
 ghost use Rattle.lgm_query.specs.IdsReply.{flags_of, messages_asked_for, end_bytes, ids_reply};
 
 use crate::encoded::encoded;

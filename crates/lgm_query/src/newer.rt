@@ -1,7 +1,6 @@
 //! News of a later map.
 
-ghost use Rattle.std.specs.Prelude.{◌≡◌, ℕ, List, true, IfOk};
-ghost use Rattle.std.specs.List.{list_any};
+ghost use Rattle.std.specs.Prelude.{◌≡◌, ℕ, List, IfOk};
 ghost use Rattle.lgm_query.specs.Backlog.{is_among, news};
 ghost use Rattle.lgm_query.specs.inner.Known.{is_known};
 

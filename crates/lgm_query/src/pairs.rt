@@ -2,7 +2,6 @@
 
 ghost use Rattle.std.specs.Prelude.{◌≡◌, Some, []};
 ghost use Rattle.std.specs.Option.{option_copied, option_map_or};
-ghost use Rattle.lgm_store.specs.Held.{update_in};
 ghost use Rattle.lgm_query.specs.declared.filter.Filter.{Filter};
 ghost use Rattle.lgm_query.specs.KeyNews.{news_of_channel, news_of_node};
 ghost use Rattle.lgm_query.specs.inner.SentWith.{sent_with, update_message, is_node_message};

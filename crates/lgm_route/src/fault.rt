@@ -4,7 +4,7 @@ ghost use Rattle.std.specs.Prelude.{◌≡◌};
 ghost use Rattle.lgm_route.specs.Words.{route_word};
 ghost use Rattle.lgm_route.specs.declared.fault.RouteFault.TheVariants.{NoMemory};
 
-use std::alloc::{AllocError, AllocFailed};
+use std::alloc::AllocError;
 use thiserror::Error;
 
 /// Why a payment has no route: the first reason, in the order of the variants, or out of memory.
@@ -30,6 +30,14 @@ pub enum RouteFault {
     NoMemory,
 }
 
+impl From<AllocError> for RouteFault {
+    ghost from_gives = { λ _ e. e ≡ NoMemory };
+
+    fn from(_e: AllocError) -> RouteFault {
+        RouteFault::NoMemory
+    }
+}
+
 impl RouteFault {
     /// Its word, as answers are written; empty for out of memory.
     pub fn word(self) -> &'static str
@@ -43,21 +51,5 @@ impl RouteFault {
             RouteFault::NoRoute => "no-route",
             RouteFault::NoMemory => "",
         }
-    }
-}
-
-impl From<AllocError> for RouteFault {
-    ghost from_gives = { λ _ e. e ≡ NoMemory };
-
-    fn from(_e: AllocError) -> RouteFault {
-        RouteFault::NoMemory
-    }
-}
-
-impl<T: Drop> From<AllocFailed<T>> for RouteFault {
-    ghost from_gives = { λ _ e. e ≡ NoMemory };
-
-    fn from(_e: AllocFailed<T>) -> RouteFault {
-        RouteFault::NoMemory
     }
 }

@@ -1,6 +1,6 @@
 //! Settling labels layer by layer, by their number of edges, in parallel.
 
-ghost use Rattle.std.specs.Prelude.{◌≡◌, ◌<◌, ◌≤◌, ◌++◌, length, All, IfOk};
+ghost use Rattle.std.specs.Prelude.{◌≡◌, ◌<◌, ◌++◌, length, All, IfOk};
 ghost use Rattle.std.specs.List.{AllZip};
 ghost use Rattle.lgm_route.specs.inner.Leading.{in_list};
 ghost use Rattle.lgm_route.specs.inner.State.{AreLeadsAt, Extends};

@@ -2,7 +2,7 @@
 
 ghost use Rattle.std.specs.Prelude.{◌≡◌, ◌^◌, ◌-◌, ◌<◌, ◌≤◌, ◌⊎◌, ℕ, length, IfOk, false};
 ghost use Rattle.lgm_graph.specs.Fee.{fee_of};
-ghost use Rattle.lgm_graph.specs.Graph.{links, links_leaving, AreLinked};
+ghost use Rattle.lgm_graph.specs.Graph.{links, links_leaving};
 ghost use Rattle.lgm_route.specs.inner.Searching.{number_at};
 ghost use Rattle.lgm_route.specs.inner.Bounding.{AreLow, IsLowered, IsLooked, IsRadius, is_closed};
 ghost use Rattle.lgm_route.specs.inner.Passing.{IsPass, IsSamePass, AreNear};

@@ -1,6 +1,6 @@
 //! The best route of a payment.
 
-ghost use Rattle.std.specs.Prelude.{◌≡◌, ◌⊎◌, ◌^◌, ◌≤◌, List, Some, Err, IfOk};
+ghost use Rattle.std.specs.Prelude.{◌≡◌, ◌⊎◌, ◌≤◌, Some, Err, IfOk};
 ghost use Rattle.std.specs.Option.{option_map};
 ghost use Rattle.lgm_graph.specs.Graph.{edges, links};
 ghost use Rattle.lgm_route.specs.Answers.{refusal, IsAnswer, IsFoundOver};

@@ -33,6 +33,17 @@ tells_both old mid new a b first then = record {
   well = then.well ∙ first.well;
 }
 
+-- what was written, what waits and what was lost of a text behind another one
+whole_behind : (old mid new : OutputState) (a b one two lost : List ℕ) → one ++ mid.gathered ≡ old.gathered ++ a
+    → (two ++ new.gathered) ++ lost ≡ mid.gathered ++ b → ((one ++ two) ++ new.gathered) ++ lost ≡ old.gathered ++ (a ++ b)
+whole_behind old mid new a b one two lost first then =
+    append_assoc (one ++ two) new.gathered lost
+    ∙ append_assoc one two (new.gathered ++ lost)
+    ∙ ap (λ (s : List ℕ). one ++ s) (sym (append_assoc two new.gathered lost) ∙ then)
+    ∙ sym (append_assoc one mid.gathered b)
+    ∙ ap (λ (s : List ℕ). s ++ b) first
+    ∙ append_assoc old.gathered a b
+
 -- a part of a text behind another one
 pub tells_part_behind : (old mid new : OutputState) (a b : List ℕ) (fault : SendFault) → Tells old mid a
     → TellsPart mid new b fault → TellsPart old new (a ++ b) fault
@@ -40,13 +51,7 @@ tells_part_behind old mid new a b fault first then = record {
   written = first.written ++ then.written;
   lost = then.lost;
   taken = appends_both old.taken mid.taken new.taken first.written then.written first.taken then.taken;
-  whole =
-      append_assoc (first.written ++ then.written) new.gathered then.lost
-      ∙ append_assoc first.written then.written (new.gathered ++ then.lost)
-      ∙ ap (λ (s : List ℕ). first.written ++ s) (sym (append_assoc then.written new.gathered then.lost) ∙ then.whole)
-      ∙ sym (append_assoc first.written mid.gathered b)
-      ∙ ap (λ (s : List ℕ). s ++ b) first.whole
-      ∙ append_assoc old.gathered a b;
+  whole = whole_behind old mid new a b first.written then.written then.lost first.whole then.whole;
   cause = λ e. let rise = then.cause e in let same = first.well in omega arith;
   well = λ e. then.well e ∙ first.well;
 }
@@ -208,11 +213,5 @@ some_behind old mid new a b first then = record {
   written = first.written ++ then.written;
   lost = then.lost;
   taken = appends_both old.taken mid.taken new.taken first.written then.written first.taken then.taken;
-  whole =
-      append_assoc (first.written ++ then.written) new.gathered then.lost
-      ∙ append_assoc first.written then.written (new.gathered ++ then.lost)
-      ∙ ap (λ (s : List ℕ). first.written ++ s) (sym (append_assoc then.written new.gathered then.lost) ∙ then.whole)
-      ∙ sym (append_assoc first.written mid.gathered b)
-      ∙ ap (λ (s : List ℕ). s ++ b) first.whole
-      ∙ append_assoc old.gathered a b;
+  whole = whole_behind old mid new a b first.written then.written then.lost first.whole then.whole;
 }

@@ -1,6 +1,6 @@
 //! Buffered text for a sink.
 
-ghost use Rattle.std.specs.Prelude.{◌≡◌, ◌+◌, ◌<◌, ◌^◌, ◌++◌, [], length, List, ℕ, OnOk, MatchResult};
+ghost use Rattle.std.specs.Prelude.{◌≡◌, ◌+◌, ◌<◌, ◌^◌, [], length, OnOk, MatchResult};
 ghost use Rattle.lgm_script.specs.Output.{Sends, SendsPart, Writes};
 ghost use Rattle.lgm_script.specs.Text.{word_line, commit_line, message_line, route_line, hop_line};
 ghost use Rattle.lgm_script.specs.declared.output.SendFault.TheVariants.{NoMemory};

@@ -1,7 +1,7 @@
 //! The next line of a script. All answers are written before the source is read.
 
 ghost use Rattle.std.specs.Prelude.{◌≡◌, ◌≢◌, ◌+◌, ◌≤◌, ◌<◌, ◌^◌, [], true, false, length};
-ghost use Rattle.std.specs.Prelude.{take, IfOk, IfErr, IfSome, IsErrOf, OnOk};
+ghost use Rattle.std.specs.Prelude.{take, IfOk, IfSome, OnOk};
 ghost use Rattle.lgm_script.specs.Device.{IsAtEnd};
 ghost use Rattle.lgm_script.specs.Lines.{ahead, IsFirstLine, IsLongerThan};
 ghost use Rattle.lgm_script.specs.Output.{Sends, SendsPart};

@@ -1,8 +1,7 @@
 //! The lines of answers, each appended to a text completely or not at all.
 
-ghost use Rattle.std.specs.Prelude.{◌≡◌, ◌++◌, List, ℕ, codes, take, OnOk, OnErr};
+ghost use Rattle.std.specs.Prelude.{◌≡◌, ◌++◌, take, OnOk, OnErr};
 ghost use Rattle.std.specs.Fmt.{decimal};
-ghost use Rattle.hex.specs.Hex.{encode_lower};
 ghost use Rattle.lgm_script.specs.Text.{word_line, commit_line, lead, message_line};
 ghost use Rattle.lgm_script.specs.Text.{route_line, scid_text, hop_line};
 ghost use Rattle.lgm_script.specs.inner.Front.{IsFront};

@@ -6,7 +6,6 @@ ghost use Rattle.lgm_wire.specs.reading.Reading.{Gives};
 ghost use Rattle.lgm_store.specs.Rows.{empty};
 ghost use Rattle.lgm_store.specs.History.{fold_from};
 ghost use Rattle.lgm_graph.specs.Edges.{edges_of};
-ghost use Rattle.lgm_query.specs.Touched.{HasTouched};
 ghost use Rattle.lgm_route.specs.Choice.{answer_of};
 ghost use Rattle.lgm_script.specs.Output.{Writes};
 ghost use Rattle.lgm_server.specs.inner.Chart.{Shows, ShowsCommitted, IsBeside};
@@ -64,17 +63,6 @@ impl Model for Maps {
     } };
 
     ghost invariant = { λ m. AreKept m.map m.due.items m.committed m.pending.items m.chart };
-}
-
-/// The keys that operations touch.
-fn changes_of(alloc: Global, pending: &VecDeque<Op>) -> Result<Changes, AllocError>
-    ensures { IfOk result (λ changes. HasTouched pending.now.items changes) }
-{
-    let mut changes = Changes::new(alloc);
-    for place in 0..pending.len() {
-        changes.touch(&pending[place])?;
-    }
-    Ok(changes)
 }
 
 /// Builds the view of the committed map, if there is none.
@@ -160,7 +148,7 @@ impl Maps {
         ensures { IfOk result
             (λ differences. differences ≡ record { before = self.now.committed; after = self.now.rows }) }
     {
-        let changes = changes_of(alloc, &self.pending)?;
+        let changes = Changes::of(alloc, &self.pending)?;
         let grown = if self.pending.is_empty() {
             &self.committed
         } else {

@@ -1,6 +1,6 @@
 //! Questions about the committed map, answered in parallel.
 
-ghost use Rattle.std.specs.Prelude.{◌≡◌, ◌+◌, ◌≤◌, ◌<◌, ◌^◌, ℕ, List};
+ghost use Rattle.std.specs.Prelude.{◌≡◌, ◌+◌, ◌<◌, ◌^◌, ℕ, List};
 ghost use Rattle.std.specs.Prelude.{IfOk, OnOk, All, length};
 ghost use Rattle.std.specs.List.{AllZip};
 ghost use Rattle.lgm_script.specs.Output.{Writes};

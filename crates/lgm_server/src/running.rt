@@ -1,7 +1,7 @@
 //! Running a whole script.
 
 ghost use Rattle.std.specs.Prelude.{◌≡◌, ◌≢◌, ◌+◌, ◌<◌, ◌≤◌, ◌^◌, [], length, IfOk, IfErr};
-ghost use Rattle.lgm_script.specs.Output.{Sends, SendsPart, Writes};
+ghost use Rattle.lgm_script.specs.Output.{Sends, SendsPart};
 ghost use Rattle.lgm_server.specs.inner.Steps.{opening};
 ghost use Rattle.lgm_server.specs.inner.Progress.{HaveAnswers, HaveBegun, HasAnswered};
 ghost use Rattle.lgm_server.specs.Runs.{Runs};

@@ -1,6 +1,6 @@
 //! The ids of some channels.
 
-ghost use Rattle.std.specs.Prelude.{◌≡◌, ◌++◌, [], OnOk, OnErr, true, length, ◌==◌};
+ghost use Rattle.std.specs.Prelude.{◌≡◌, ◌++◌, [], OnOk, OnErr, length, ◌==◌};
 ghost use Rattle.lgm_store.specs.inner.Ends.{with_id, without_id};
 
 use lgm_gossip::Scid;

@@ -1,7 +1,5 @@
 //! How points are hashed.
 
-ghost use Rattle.std.specs.Prelude.{◌≡◌};
-
 use std::hash::{BuildHasher, DefaultHasher, Hasher};
 use std::random::RandomSource;
 

@@ -3,7 +3,7 @@
 ghost use Rattle.std.specs.Prelude.{◌≡◌};
 ghost use Rattle.lgm_wire.specs.declared.fault.WireFault.TheVariants.{NoMemory};
 
-use std::alloc::{AllocError, AllocFailed};
+use std::alloc::AllocError;
 use thiserror::Error;
 
 /// Out of memory. A writer that returns it leaves its `Vec` unchanged.
@@ -33,14 +33,6 @@ impl From<AllocError> for WireFault {
     ghost from_gives = { λ _ e. e ≡ NoMemory };
 
     fn from(_e: AllocError) -> WireFault {
-        WireFault::NoMemory
-    }
-}
-
-impl<T: Drop> From<AllocFailed<T>> for WireFault {
-    ghost from_gives = { λ _ e. e ≡ NoMemory };
-
-    fn from(_e: AllocFailed<T>) -> WireFault {
         WireFault::NoMemory
     }
 }

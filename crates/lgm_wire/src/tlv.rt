@@ -92,7 +92,9 @@ pub fn read_tlvs<'a>(alloc: Global, bytes: &'a [u8]) -> Result<Tlvs<'a>, WireFau
     let mut rest = bytes;
     while !rest.is_empty() {
         let (tlv, after) = split_tlv(last, rest)?;
-        items.push(tlv)?;
+        let Ok(()) = items.push(tlv) else {
+            return Err(WireFault::NoMemory);
+        };
         last = Some(tlv.kind);
         rest = after;
     }

@@ -3,8 +3,8 @@
 //! A first traversal of the channels numbers their nodes and lists the links one after the other. Only then are the
 //! lists per node made, each of its final length.
 
-ghost use Rattle.std.specs.Prelude.{◌≡◌, ℕ, ◌+◌, ◌*◌, ◌<◌, ◌≤◌, ◌^◌, ◌++◌, [], List};
-ghost use Rattle.std.specs.Prelude.{length, IfOk, OnOk, option_to_list, Option};
+ghost use Rattle.std.specs.Prelude.{◌≡◌, ◌+◌, ◌*◌, ◌<◌, ◌≤◌, ◌^◌, ◌++◌, [], List};
+ghost use Rattle.std.specs.Prelude.{length, IfOk, OnOk, option_to_list};
 ghost use Rattle.std.specs.Option.{option_and_then, option_map};
 ghost use Rattle.lgm_store.specs.Held.{update_in};
 ghost use Rattle.lgm_store.specs.Held.{held_at};

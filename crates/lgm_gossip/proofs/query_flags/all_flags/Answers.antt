@@ -12,7 +12,7 @@ returns-in_err-one c =
 
 pub loop-preserved : goal.loop-preserved
 loop-preserved c =
-    rw c.in_ok-push.ensures.items (flag_on c.loop.flags.items c.args.count c.loop.counter c.loop.rest.now
+    rw (c.push.ensures.items, c.in-Ok.is) (flag_on c.loop.flags.items c.args.count c.loop.counter c.loop.rest.now
     c.in_ok-one.one c.in_ok-one.after.now _ c.loop-test.true c.in_ok-one.ensures c.loop.invariant)
 
 pub returns-then-is_empty : goal.returns-then-is_empty

@@ -12,24 +12,14 @@ long old new same = sym (length-map new links_in) ∙ ap length same ∙ length-
 pub returns-in_err-reserve_exact : goal.returns-in_err-reserve_exact
 returns-in_err-reserve_exact c =
     let within : c.loop-i.i < length c.loop-i.lists.items =
-    omega (
-      arith,
-      c.args.lists.now.ok,
-      c.loop-i-test.true,
-      long c.args.lists.now.items c.loop-i.lists.items c.loop-i.invariant,
-    ) in
+    omega (arith, c.args.lists.now.ok, c.loop-i-test.true, long c.args.lists.now.items c.loop-i.lists.items c.loop-i.invariant) in
     links_alike c.loop-i.lists.items c.loop-i.i c.index_mut.result.now c.reserve_exact.new.self within
     c.index_mut.ensures.value c.reserve_exact.ensures ∙ c.loop-i.invariant
 
 pub loop-i-preserved : goal.loop-i-preserved
 loop-i-preserved c =
     let within : c.loop-i.i < length c.loop-i.lists.items =
-    omega (
-      arith,
-      c.args.lists.now.ok,
-      c.loop-i-test.true,
-      long c.args.lists.now.items c.loop-i.lists.items c.loop-i.invariant,
-    ) in
+    omega (arith, c.args.lists.now.ok, c.loop-i-test.true, long c.args.lists.now.items c.loop-i.lists.items c.loop-i.invariant) in
     elim c.match-get.branch [
       | in-Some+in_ok-reserve_exact w ↦
           rw w.lists-is

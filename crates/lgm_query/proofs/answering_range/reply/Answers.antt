@@ -12,15 +12,7 @@ use Rattle.lgm_query.proofs.answering_range.reply.Goals as goal
 pub encoded-requires : goal.encoded-requires
 encoded-requires c =
     let own : c.from_vec.result ≡ c.ids_at-own.result.now = c.from_vec.ensures ∙ c.in_ok-from_slice.ensures.items in
-    let m : Reply = record {
-      chain_hash = c.args.query.now.chain_hash;
-      first_blocknum = c.reply_start.result;
-      number_of_blocks = c.number_of_blocks.result;
-      sync_complete = c.from.result;
-      ids = c.from_vec.result;
-      timestamps = c.in_ok-timestamps_at.field-0;
-    } in
-    length-reply m c.if-prove.false
+    length-reply _ c.if-prove.false
     (rw (own, c.ids_at-own.ensures) (length-ids_at c.args.ids.now c.args.place))
     (rw (own, c.ids_at-own.ensures) (ForSome-piece c.args.query.now c.args.times.now c.args.ids.now
     c.args.place _ c.requires.times c.in_ok-timestamps_at.ensures))

@@ -1,6 +1,7 @@
-use Rattle.std.proofs.Common.{◌∙◌, ap, sym, subst}
+use Rattle.std.proofs.Common.{◌≡◌, ◌∙◌, ℕ, List, Option, ap, sym, subst}
 use Rattle.std.specs.Option.{option_map}
 use Rattle.lgm_graph.specs.Graph.{links}
+use Rattle.lgm_graph.specs.declared.link.Link.{Link}
 use Rattle.lgm_route.specs.declared.numbered_request.NumberedRequest.{NumberedRequest}
 use Rattle.lgm_route.specs.inner.Searching.{AreCarried}
 use Rattle.lgm_route.specs.inner.Best.{IsBestWalk, AreNumbered, edges_in}
@@ -10,18 +11,18 @@ use Rattle.lgm_route.proofs.Rests.{carried_under}
 use Rattle.lgm_route.proofs.HopLaws.{walk_numbered}
 use Rattle.lgm_route.proofs.routing.hops_of.Goals as goal
 
+-- the best walk of a numbered request, whose amount has two names
+best_for : (graph : _) (n : NumberedRequest) (amount : ℕ) (walk found : Option (List Link))
+    → n ≡ record { payer = n.payer; payee = n.payee; amount = amount } → walk ≡ found → IsBestWalk (links graph) n walk
+    → IsBestWalk (links graph) (record { payer = n.payer; payee = n.payee; amount = amount }) found
+best_for graph n amount walk found same is best =
+    subst (IsBestWalk (links graph) _) is (subst (λ m. IsBestWalk (links graph) m walk) same best)
+
 pub hops-requires-clause-carried : goal.hops-requires-clause-carried
 hops-requires-clause-carried c =
-    let numbered : NumberedRequest =
-    record {
-      payer = c.args.numbered.now.payer;
-      payee = c.args.numbered.now.payee;
-      amount = c.args.request.now.amount;
-    } in
-    let best =
-    subst (λ t. IsBestWalk (links c.args.view.now) t (option_map (λ walk. walk.items) c.args.walk))
-    c.requires.numbered.2 c.requires.walk in
-    let least = subst (λ b. IsBestWalk (links c.args.view.now) numbered (option_map (λ walk. walk.items) b)) c.in-Some.is best in
+    let least =
+    best_for c.args.view.now c.args.numbered.now c.args.request.now.amount _ _
+    c.requires.numbered.2 (ap (λ w. option_map (λ walk. walk.items) w) c.in-Some.is) c.requires.walk in
     subst (λ w. AreCarried c.args.request.now.amount (w)) (sym c.deref.ensures.value)
     (carried_under c.args.request.now.amount c.in-Some.walk.items least.1)
 
@@ -34,16 +35,9 @@ hops-requires-clause-ends c =
 
 pub returns-in-None : goal.returns-in-None
 returns-in-None c =
-    let numbered : NumberedRequest =
-    record {
-      payer = c.args.numbered.now.payer;
-      payee = c.args.numbered.now.payee;
-      amount = c.args.request.now.amount;
-    } in
-    let best =
-    subst (λ t. IsBestWalk (links c.args.view.now) t (option_map (λ walk. walk.items) c.args.walk))
-    c.requires.numbered.2 c.requires.walk in
-    let none = subst (λ b. IsBestWalk (links c.args.view.now) numbered (option_map (λ walk. walk.items) b)) c.in-None.is best in
+    let none =
+    best_for c.args.view.now c.args.numbered.now c.args.request.now.amount _ _
+    c.requires.numbered.2 (ap (λ w. option_map (λ walk. walk.items) w) c.in-None.is) c.requires.walk in
     none_over c.args.view.now c.nodes-nodes.ensures.linked c.args.request.now c.args.numbered.now.payer
     c.args.numbered.now.payee c.requires.numbered.0 c.requires.numbered.1 none
 
@@ -52,9 +46,9 @@ returns-in_ok-hops-in-Some c =
     let graph = c.args.view.now in
     let request = c.args.request.now in
     let walk = c.in-Some.walk.items in
-    let numbered : NumberedRequest = record { payer = c.args.numbered.now.payer; payee = c.args.numbered.now.payee; amount = request.amount } in
-    let best = subst (λ t. IsBestWalk (links graph) t (option_map (λ walk. walk.items) c.args.walk)) c.requires.numbered.2 c.requires.walk in
-    let least = subst (λ b. IsBestWalk (links graph) numbered (option_map (λ walk. walk.items) b)) c.in-Some.is best in
+    let least =
+    best_for graph c.args.numbered.now request.amount _ _ c.requires.numbered.2
+    (ap (λ w. option_map (λ walk. walk.items) w) c.in-Some.is) c.requires.walk in
     let hops = c.in_ok-hops-in-Some.hops.items in (
       over graph.points walk,
       least_over graph c.nodes-nodes.ensures.linked request c.args.numbered.now.payer

@@ -14,7 +14,7 @@ loop-rest-smaller c =
 pub loop-rest-preserved : goal.loop-rest-preserved
 loop-rest-preserved c =
     let more = map_push record_of c.loop-rest.items.items c.in_ok-tlv.tlv in
-    rw (c.in_ok-push.ensures.items, more) (goes_on c.args.bytes.now (records_of c.loop-rest.items.items)
+    rw (c.push.ensures.items, c.in-Ok.is, more) (goes_on c.args.bytes.now (records_of c.loop-rest.items.items)
     c.loop-rest.rest.now c.loop-rest.last (record_of c.in_ok-tlv.tlv) c.in_ok-tlv.after.now
     (λ i. omega (arith, c.type_inv.bytes i)) c.loop-rest.invariant c.in_ok-tlv.ensures)
 
@@ -46,8 +46,8 @@ returns-in_err-tlv c =
       exact = inr (broken_read c.args.bytes.now fault first);
     })
 
-pub returns-in_err-push-clause-memory : goal.returns-in_err-push-clause-memory
-returns-in_err-push-clause-memory c few =
+pub returns-in_default-clause-memory : goal.returns-in_default-clause-memory
+returns-in_default-clause-memory c few =
     let some =
     has_two_bytes c.args.bytes.now (records_of c.loop-rest.items.items) c.loop-rest.rest.now c.loop-rest.last
     (record_of c.in_ok-tlv.tlv) c.in_ok-tlv.after.now (λ i. omega (arith, c.type_inv.bytes i))

@@ -24,7 +24,7 @@ returns c =
     let same : query (Some c.in-Some.flags) ≡ c.args.self.now = ap query (sym c.in-Some.is) ∙ c.self.view_is in
     subst (λ (q : Query). Encodes 261 (fields q) c.join-2.result) same
     (encodes 261 c.join-2.result
-    (then_whole 32 c.whole-2.result m.chain_hash.0 c.whole-2.ensures
+    (then_whole 32 c.whole.result m.chain_hash.0 c.whole.ensures
     (then_ids c.in_ok-ids_len.ids_len c.as_slice.result m.ids c.as_slice.ensures c.in_ok-ids_len.ensures
     (says_flags (length m.ids) c.from.result c.as_slice-2.result c.in-Some.flags c.as_slice-2.ensures
     (c.self.invariant c.in-Some.flags c.in-Some.is) (c.from.ensures ∙ c.in_ok-flags_len.ensures))))

@@ -44,7 +44,7 @@ returns c =
     let same : reply (Some c.in-Some.timestamps) ≡ c.args.self.now = ap reply (sym c.in-Some.is) ∙ c.self.view_is in
     subst (λ (q : Reply). Encodes 264 (fields q) c.join-2.result) same
     (encodes 264 c.join-2.result
-    (then_whole 32 c.whole-2.result m.chain_hash.0 c.whole-2.ensures
+    (then_whole 32 c.whole.result m.chain_hash.0 c.whole.ensures
     (then_32 m.first_blocknum
     (then_32 m.number_of_blocks
     (then_8 m.sync_complete

@@ -1,9 +1,9 @@
-use Rattle.std.proofs.Common.{◌≡◌, Ok, arith, rules, inl, inr}
-use Rattle.std.specs.Int.{w8, w32}
+use Rattle.std.proofs.Common.{◌≡◌, Ok, arith, rules}
+use Rattle.std.specs.Int.{w8}
 use Rattle.std.proofs.lemmas.Result.{err_from_is_err_and}
 use Rattle.lgm_gossip.specs.reading.EncodedIdsReading.{ids_of}
 use Rattle.lgm_gossip.specs.reading.RangeReplyReading.{range_reply_at}
-use Rattle.lgm_gossip.proofs.MemoryLaws.{fixed_len, number_len, enclosed_len}
+use Rattle.lgm_gossip.proofs.MemoryLaws.{blocks_len, number_len, enclosed_len, fails_with}
 use Rattle.lgm_gossip.specs.RangeReply.{Reply}
 use Rattle.lgm_gossip.proofs.RangeReplyLaws.{range_reply_text, one_each, same_count}
 use Rattle.lgm_gossip.proofs.range_reply.RangeReply.read.Goals as goal
@@ -12,43 +12,22 @@ pub returns-in_err-ids : goal.returns-in_err-ids
 unfolding range_reply_at
 returns-in_err-ids c =
     let p = err_from_is_err_and c.from_residual-in_err-ids.result c.from_residual-in_err-ids.ensures.1 in
-    rw (p.1, p.2) (elim c.in_err-ids.ensures [
-      | inl none ↦ inl (
-        omega (
-          arith,
-          none.0,
-          fixed_len 32 _ _ c.in_ok-chain_hash.ensures,
-          number_len w32 _ _ c.in_ok-first_blocknum.ensures,
-          number_len w32 _ _ c.in_ok-number_of_blocks.ensures,
-          number_len w8 _ _ c.in_ok-sync_complete.ensures,
-        ),
-        none.1,
-      )
-      | inr fault ↦ inr (search rules)
-    ])
+    let front =
+    blocks_len c.args.bytes.now _ _ _ c.in_ok-chain_hash.ensures c.in_ok-first_blocknum.ensures c.in_ok-number_of_blocks.ensures in
+    let complete = number_len w8 _ _ c.in_ok-sync_complete.ensures in
+    rw (p.1, p.2) (fails_with (λ few. omega (arith, few, front, complete)) (λ fault. search rules) c.in_err-ids.ensures)
 
 pub returns-in_err-timestamps : goal.returns-in_err-timestamps
 unfolding range_reply_at
 returns-in_err-timestamps c =
     let p = err_from_is_err_and c.from_residual-in_err-timestamps.result c.from_residual-in_err-timestamps.ensures.1 in
-    rw (p.1, p.2) (elim c.in_err-timestamps.ensures [
-      | inl none ↦ inl (
-        omega (
-          arith,
-          none.0,
-          fixed_len 32 _ _ c.in_ok-chain_hash.ensures,
-          number_len w32 _ _ c.in_ok-first_blocknum.ensures,
-          number_len w32 _ _ c.in_ok-number_of_blocks.ensures,
-          number_len w8 _ _ c.in_ok-sync_complete.ensures,
-          enclosed_len ids_of c.in_ok-sync_complete.rest.now (c.in_ok-ids.ids, c.in_ok-ids.rest.now)
-              c.in_ok-ids.ensures,
-        ),
-        none.1,
-      )
-      | inr fault ↦
-          let timestamps = same_count c.len.result _ c.in_ok-ids.rest.now _ c.len.ensures fault in
-          inr (search rules)
-    ])
+    let front =
+    blocks_len c.args.bytes.now _ _ _ c.in_ok-chain_hash.ensures c.in_ok-first_blocknum.ensures c.in_ok-number_of_blocks.ensures in
+    let complete = number_len w8 _ _ c.in_ok-sync_complete.ensures in
+    let ids = enclosed_len ids_of c.in_ok-sync_complete.rest.now (c.in_ok-ids.ids, c.in_ok-ids.rest.now) c.in_ok-ids.ensures in
+    rw (p.1, p.2) (fails_with (λ few. omega (arith, few, front, complete, ids)) (λ fault.
+    let timestamps = same_count c.len.result _ c.in_ok-ids.rest.now _ c.len.ensures fault in
+    search rules) c.in_err-timestamps.ensures)
 
 pub invariant_of-result : goal.invariant_of-result
 unfolding range_reply_at

@@ -9,9 +9,10 @@ use Rattle.lgm_store.specs.Rows.{channel_of, ends_banned}
 use Rattle.lgm_store.specs.History.{channels_without, updates_without, ended_nodes}
 use Rattle.lgm_store.proofs.ListLaws.{All-filtered}
 use Rattle.lgm_store.proofs.Holding.{ascend-held, remove-none}
-use Rattle.lgm_store.proofs.Soundness.{closed, IsSound-unchanged}
+use Rattle.lgm_store.proofs.Soundness.{IsClosed, closed, IsSound-unchanged}
 use Rattle.lgm_store.proofs.Changes.{is_held, without_channel-held, without_channel-none}
 use Rattle.lgm_store.proofs.map.Map.close.Goals as goal
+use Rattle.lgm_store.proofs.map.Map.close.Goals.{Joined-held-2}
 
 -- a channel that isn't held
 unchanged : (held new : List (ℕ × Held)) (id : ℕ) → new ≡ remove_entry (is_at (nat_cmp id)) held
@@ -40,9 +41,10 @@ returns-in_default c =
     c.in_default.ensures.value) (c.self.view_is ∙ without_channel-none c.args.self.now c.args.scid
     (sym held ∙ ap is_some (sym c.in_default.ensures.value)))
 
-pub invariant_of-self-2 : goal.invariant_of-self-2
-invariant_of-self-2 c =
-    let left =
+-- what is left without a channel that is held
+left : (c : Joined-held-2) → IsClosed c.self.inside.channels c.remove.new.self c.self.inside.nodes.entries
+    c.drop_unless_ended-2.new.nodes.entries c.remove-2.new.self c.args.scid
+left c =
     closed c.self.inside.channels c.remove.new.self c.self.inside.nodes.entries
     c.drop_unless_ended.new.nodes.entries c.drop_unless_ended-2.new.nodes.entries
     c.self.inside.ends c.remove-2.new.self c.args.scid c.in-Some.held c.node.result.now c.node-2.result.now
@@ -50,33 +52,27 @@ invariant_of-self-2 c =
     c.remove.ensures.left (sym c.in-Some.ensures.value)
     (ascend-held c.self.inside.channels c.self.invariant.rows.channels_ascend) c.remove.ensures.ascend
     c.remove-2.ensures c.drop_unless_ended.ensures.left c.drop_unless_ended-2.ensures.left
-    c.drop_unless_ended-2.ensures.keyed c.drop_unless_ended-2.ensures.ascend c.self.invariant.rows in
+    c.drop_unless_ended-2.ensures.keyed c.drop_unless_ended-2.ensures.ascend c.self.invariant.rows
+
+pub invariant_of-self-2 : goal.invariant_of-self-2
+invariant_of-self-2 c =
     record {
-      rows = left.sound;
+      rows = (left c).sound;
       banned_ascend = c.self.invariant.banned_ascend;
       allowed =
-          rw (left.channels_left) (All-filtered (λ row. ends_banned c.self.inside.banned row ≡ false) (λ row.
+          rw (left c).channels_left (All-filtered (λ row. ends_banned c.self.inside.banned row ≡ false) (λ row.
           ends_banned c.self.inside.banned row ≡ false) _ (values_of (channel_entries c.self.inside.channels))
           (λ row is allowed. allowed) c.self.invariant.allowed);
     }
 
 pub returns : goal.returns
 returns c =
-    let left =
-    closed c.self.inside.channels c.remove.new.self c.self.inside.nodes.entries
-    c.drop_unless_ended.new.nodes.entries c.drop_unless_ended-2.new.nodes.entries
-    c.self.inside.ends c.remove-2.new.self c.args.scid c.in-Some.held c.node.result.now c.node-2.result.now
-    c.node.ensures c.node-2.ensures
-    c.remove.ensures.left (sym c.in-Some.ensures.value)
-    (ascend-held c.self.inside.channels c.self.invariant.rows.channels_ascend) c.remove.ensures.ascend
-    c.remove-2.ensures c.drop_unless_ended.ensures.left c.drop_unless_ended-2.ensures.left
-    c.drop_unless_ended-2.ensures.keyed c.drop_unless_ended-2.ensures.ascend c.self.invariant.rows in
     let held : is_some (channel_of c.args.self.now.channels c.args.scid) ≡ true =
     sym (is_held c.self.inside.channels c.args.self.now.channels c.args.scid
     c.self.invariant.rows.channels_keyed (ap (λ rows. rows.channels) c.self.view_is))
     ∙ ap is_some (sym c.in-Some.ensures.value) in
     without_channel-held c.args.self.now _ c.args.scid held
-    (left.channels_left ∙ ap (λ rows. channels_without rows.channels c.args.scid) c.self.view_is)
-    (left.updates_left ∙ ap (λ rows. updates_without rows.updates c.args.scid) c.self.view_is)
-    (left.nodes_left ∙ ap (λ channels. ended_nodes channels (values_of c.self.inside.nodes.entries)) left.channels_left
+    ((left c).channels_left ∙ ap (λ rows. channels_without rows.channels c.args.scid) c.self.view_is)
+    ((left c).updates_left ∙ ap (λ rows. updates_without rows.updates c.args.scid) c.self.view_is)
+    ((left c).nodes_left ∙ ap (λ channels. ended_nodes channels (values_of c.self.inside.nodes.entries)) (left c).channels_left
     ∙ ap (λ rows. ended_nodes (channels_without rows.channels c.args.scid) rows.nodes) c.self.view_is) (ap (λ rows. rows.banned) c.self.view_is)

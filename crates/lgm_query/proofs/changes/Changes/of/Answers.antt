@@ -1,10 +1,10 @@
 use Rattle.std.proofs.Common.{◌<◌, ◌++◌, ◌∷◌, [], take, length, sym, ap, ◌∙◌, rules}
 use Rattle.std.proofs.lemmas.List.{take_more}
-use Rattle.lgm_server.proofs.maps.changes_of.Goals as goal
+use Rattle.lgm_query.proofs.changes.Changes.of.Goals as goal
 
 pub loop-place-preserved : goal.loop-place-preserved
 loop-place-preserved c =
-    let items = c.args.pending.now.items in
+    let items = c.args.ops.now.items in
     let within : c.loop-place.place < length items = search rules in
     let more =
     take_more items c.loop-place.place c.index.result.now within
