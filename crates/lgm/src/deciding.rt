@@ -3,10 +3,10 @@
 use crate::answering::Ended;
 use crate::starting::finish;
 use crate::tests::{CHAIN, Given, started, started_in};
-use lgm_live::RunLiveFault;
+use lgm_live::RunLiveFault as Live;
 use lgm_par::{Gate, Open};
 use lgm_script::MemorySink;
-use lgm_server::RunFault;
+use lgm_server::RunFault as Run;
 use std::alloc::{AllocError, Global};
 use std::marker::Sync;
 use std::random::RandomSource;
@@ -280,34 +280,22 @@ fn words_are_utf_8(rt: HostRuntime) -> Result<(), Fail> {
 
 #[test]
 fn each_fault_has_its_line(rt: HostRuntime) -> Result<(), Fail> {
-    let table: [(RunLiveFault, Option<RunFault>, &str); 7] = [
+    let table: [(Live, Option<Run>, &str); 7] = [
+        (Live::Read, Some(Run::Read), "lgm: read failed\n"),
+        (Live::Write, Some(Run::Write), "lgm: write failed\n"),
+        (Live::NoMemory, Some(Run::NoMemory), "lgm: out of memory\n"),
         (
-            RunLiveFault::Read,
-            Some(RunFault::Read),
-            "lgm: read failed\n",
-        ),
-        (
-            RunLiveFault::Write,
-            Some(RunFault::Write),
-            "lgm: write failed\n",
-        ),
-        (
-            RunLiveFault::NoMemory,
-            Some(RunFault::NoMemory),
-            "lgm: out of memory\n",
-        ),
-        (
-            RunLiveFault::TooManyLines,
-            Some(RunFault::TooManyLines),
+            Live::TooManyLines,
+            Some(Run::TooManyLines),
             "lgm: too many lines\n",
         ),
         (
-            RunLiveFault::LineTooLong,
-            Some(RunFault::LineTooLong),
+            Live::LineTooLong,
+            Some(Run::LineTooLong),
             "lgm: line too long\n",
         ),
-        (RunLiveFault::Closed, None, "lgm: board closed\n"),
-        (RunLiveFault::Versions, None, "lgm: versions disagree\n"),
+        (Live::Closed, None, "lgm: board closed\n"),
+        (Live::Versions, None, "lgm: versions disagree\n"),
     ];
     for (live, run, want) in table {
         let mut errors = MemorySink::new(rt.alloc());

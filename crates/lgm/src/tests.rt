@@ -1,3 +1,5 @@
+ghost use Rattle.std.specs.Prelude.{◌+◌, ◌<◌, ◌^◌};
+
 use crate::starting::start;
 use lgm_par::{Gate, Open};
 use lgm_script::{Failed, MemorySink, MemorySource, Sink, Source};
@@ -297,57 +299,64 @@ impl Sink for FullSink {
     }
 }
 
-const RUN: [&str; 4] = ["lgm", "run", "--chain", CHAIN];
+/// Asserts what `lgm run` writes between these devices, and to `errors`, when one of them fails.
+fn assert_failed<Rt: Abort + Threads + Wait + Sync + RandomSource, R: Source, W: Sink>(
+    rt: &Rt,
+    alloc: Global,
+    reader: &mut R,
+    writer: &mut W,
+    line: &[u8],
+) -> Result<(), Fail>
+    requires reader { R.failures reader.old + 1 < 2 ^ 64 }
+    requires writer { W.failures writer.old + 1 < 2 ^ 64 }
+{
+    let mut errors = MemorySink::new(alloc);
+    let given = Given {
+        words: &["lgm", "run", "--chain", CHAIN],
+        last: None,
+    };
+    let status = start(
+        rt,
+        &(given, alloc),
+        &Open,
+        reader,
+        writer,
+        &mut errors,
+        &mut Remains::none(),
+    );
+    assert_eq!(rt; status, 1);
+    assert_eq!(rt; errors.taken(), line);
+    Ok(())
+}
 
 #[test]
 fn a_failed_read_has_its_line(rt: HostRuntime) -> Result<(), Fail> {
-    let alloc = rt.alloc();
     let mut reader = BrokenSource {
         text: MemorySource::new(b"commit\ncomm", 100),
         is_broken: false,
         failures: 0,
     };
-    let mut writer = MemorySink::new(alloc);
-    let mut errors = MemorySink::new(alloc);
-    let given = Given {
-        words: &RUN,
-        last: None,
-    };
-    let status = start(
+    let mut writer = MemorySink::new(rt.alloc());
+    assert_failed(
         &rt,
-        &(given, alloc),
-        &Open,
+        rt.alloc(),
         &mut reader,
         &mut writer,
-        &mut errors,
-        &mut Remains::none(),
-    );
-    assert_eq!(rt; status, 1);
+        b"lgm: read failed\n",
+    )?;
     assert_eq!(rt; writer.taken(), b"1 commit 0\n".as_slice());
-    assert_eq!(rt; errors.taken(), b"lgm: read failed\n".as_slice());
     Ok(())
 }
 
 #[test]
 fn a_failed_write_has_its_line(rt: HostRuntime) -> Result<(), Fail> {
-    let alloc = rt.alloc();
     let mut reader = MemorySource::new(b"commit\n", 100);
     let mut writer = FullSink { failures: 0 };
-    let mut errors = MemorySink::new(alloc);
-    let given = Given {
-        words: &RUN,
-        last: None,
-    };
-    let status = start(
+    assert_failed(
         &rt,
-        &(given, alloc),
-        &Open,
+        rt.alloc(),
         &mut reader,
         &mut writer,
-        &mut errors,
-        &mut Remains::none(),
-    );
-    assert_eq!(rt; status, 1);
-    assert_eq!(rt; errors.taken(), b"lgm: write failed\n".as_slice());
-    Ok(())
+        b"lgm: write failed\n",
+    )
 }

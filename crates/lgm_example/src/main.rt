@@ -69,10 +69,9 @@ fn serve<R: Threads + Wait + Sync>(
     alloc: Global,
     taker: &mut Taker,
     pen: &mut Pen,
-    first: Eye,
-    second: Eye,
+    eyes: (Eye, Eye),
 ) -> Option<Seen> {
-    let mut given = Some((first, second));
+    let mut given = Some(eyes);
     let (changed, seen) = join_mut(
         rt,
         &mut || -> bool { change(rt, alloc, taker, pen) },
@@ -94,13 +93,12 @@ fn run<R: Threads + Wait + Sync>(
     alloc: Global,
     taker: &mut Taker,
     pen: &mut Pen,
-    first: Eye,
-    second: Eye,
+    eyes: (Eye, Eye),
 ) -> Option<(Tally, Tally, Tally)> {
     if !open(rt, alloc, taker, pen) {
         return None;
     }
-    let ((eye, first), (_eye, second)) = serve(rt, alloc, taker, pen, first, second)?;
+    let ((eye, first), (_eye, second)) = serve(rt, alloc, taker, pen, eyes)?;
     let (_eye, last) = answer_all(alloc, eye, 1);
     Some((first, second, last))
 }
@@ -112,7 +110,7 @@ fn main(rt: HostRuntime) -> io::Result<ExitCode> {
         return Ok(ExitCode::FAILURE);
     };
     let seen = match (eyes.pop(), eyes.pop()) {
-        (Some(first), Some(second)) => run(&rt, alloc, &mut taker, &mut pen, first, second),
+        (Some(first), Some(second)) => run(&rt, alloc, &mut taker, &mut pen, (first, second)),
         _ => None,
     };
     let published = pen.published();

@@ -1,5 +1,5 @@
 -- Parts that say the fields of a message, and what joining them gives.
-use Rattle.std.proofs.Common.{◌≡◌, ℕ, ◌^◌, ◌<◌, ◌≤◌, ◌↔◌, List, [], ◌∷◌, ◌++◌, length, Bor, Some, None, Result}
+use Rattle.std.proofs.Common.{◌≡◌, ℕ, ◌^◌, ◌<◌, ◌≤◌, ◌↔◌, List, [], ◌∷◌, ◌++◌, length, Bor, Option, Some, None, Result}
 use Rattle.std.proofs.Common.{Ok, Err, refl, sym, ap, subst, ◌∙◌, append_assoc, arith, inl, inr}
 use Rattle.std.specs.Prelude.{IfOk}
 use Rattle.std.specs.List.{flat_map, AllByRecursion}
@@ -114,6 +114,11 @@ says_none {A} {F} value = record {
   same = refl;
   is = λ fits. record { records = []; stream = record { fits = tt; rises = tt; whole = refl }; odd = tt; value = tt };
 }
+
+-- an option under another name
+pub says_same : {A : Type 0} {ps : List Part} {F : A → List ℕ → Type 0} (value : A → List ℕ) {option same : Option A}
+    → option ≡ same → Says ps (optional F value same) → Says ps (optional F value option)
+says_same {A} {ps} {F} value {option} {same} is says = subst (λ (x : Option A). Says ps (optional F value x)) (sym is) says
 
 -- an option as a record of type 1, behind the length of its value
 pub says_some : {A : Type 0} {F : A → List ℕ → Type 0} (value : A → List ℕ) (x : A) (len : ℕ) (qs : List Part)

@@ -284,3 +284,10 @@ pub answer-tried : (edges others : List Edge) (request : Request) (answer : Resu
     IsAnswer edges request answer → answer ≡ answer_of others request
 answer-tried edges others request answer directions same is =
     answer-unique others request answer (answer_of others request) directions (answer-over edges others request answer same is) (tried others request)
+
+-- so it is over the edges of the rows, where memory sufficed
+pub answered : {E : Type 0} (edges others : List Edge) (request : Request) (answer : Result (List Hop) RouteFault)
+    → AreDirections others → HaveSame edges others → E ⊎ IsAnswer edges request answer
+    → E ⊎ (answer ≡ answer_of others request)
+answered edges others request answer directions same (inl none) = inl none
+answered edges others request answer directions same (inr is) = inr (answer-tried edges others request answer directions same is)

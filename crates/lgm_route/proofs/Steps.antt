@@ -1,9 +1,10 @@
 -- One step of the search: labels compared, added and led on.
-use Rattle.std.proofs.Common.{◌≡◌, ◌⊎◌, ℕ, ◌+◌, ◌*◌, ◌^◌, ◌<◌, ◌≤◌, List, [], ◌∷◌, ◌++◌, length, get_or, Option}
+use Rattle.std.proofs.Common.{◌≡◌, ◌≢◌, ◌⊎◌, ℕ, ◌+◌, ◌*◌, ◌^◌, ◌<◌, ◌≤◌, List, [], ◌∷◌, ◌++◌, length, get_or, Option}
 use Rattle.std.proofs.Common.{Some, None, Bool, true, false, refl, sym, ◌∙◌, ap, subst, inl, inr, arith}
 use Rattle.std.specs.Prelude.{if◌then◌else◌}
 use Rattle.std.specs.List.{Contains}
 use Rattle.std.proofs.lemmas.List.{get_or_push, length_push, get_or_default, append-nil}
+use Rattle.lgm_graph.specs.Fee.{fee_of}
 use Rattle.lgm_graph.specs.Graph.{Graph, links, links_into, links_leaving, AreLinked}
 use Rattle.lgm_graph.specs.declared.link.Link.{Link}
 use Rattle.lgm_route.specs.declared.numbered_request.NumberedRequest.{NumberedRequest}
@@ -13,7 +14,7 @@ use Rattle.lgm_route.specs.inner.Searching.{NotAfter, walk_key, Serves, no_link,
 use Rattle.lgm_route.specs.inner.Searching.{IdsFirst, IsLabel, IsWalk, DoesServe, SomeRest, SomeWalk, bound_of, IsNoBetter, IsHopeless}
 use Rattle.lgm_route.specs.inner.Searching.{IsPassed, IsLeft, IsSettled, AreLabels, IsFound, Grows, IsBetter, IsOffered, PassesOn}
 use Rattle.lgm_route.specs.inner.Searching.{LeadsOn, StandsIn, AreSpelled, AreSettled, IsMarked, IsStart}
-use Rattle.lgm_route.specs.inner.Leading.{IsInto}
+use Rattle.lgm_route.specs.inner.Leading.{IsInto, IsLed}
 use Rattle.lgm_route.proofs.Orders.{NotAfter-refl, NotAfter-trans, NotAfter-join, NotAfter-excludes}
 use Rattle.lgm_route.proofs.Rests.{trichotomy, Serves-refl, Serves-trans}
 use Rattle.lgm_route.proofs.Labels.{Spells-unique, label-unique, label_left, label-grows, hopeless-serves}
@@ -239,6 +240,30 @@ into_node graph labels i at edge linked into =
     let here : Contains run edge = (at, into.inside, get_or_default run at edge no_link into.inside ∙ into.is) in
     let found = linked.into node edge here in
     record { there = found.1; to = found.0; from = (linked.each edge found.1).from }
+
+-- a label, relaxed over an edge into its node that can carry it
+pub led : (graph : Graph) (request : NumberedRequest) (labels : List Label) (i at owed : ℕ) (label : Label) (edge : Link)
+    → AreLinked graph → IsInto graph labels i at edge → label ≡ label_at labels i → edge.min ≤ request.amount → label.owed ≤ edge.max
+    → (edge.from ≡ request.payer → owed ≡ label.owed)
+    → (edge.from ≢ request.payer → (label.count < 19) × (owed ≡ label.owed + fee_of label.owed edge.base edge.millionths))
+    → IsLed graph request labels i edge (record { owed = owed; next = i; at = at; node = edge.from; count = label.count + 1 })
+led graph request labels i at owed label edge linked into is min max whole longer =
+    let e = into_node graph labels i at edge linked into in
+    let same = ap (λ (l : Label). l.owed) is in
+    record {
+      within = into.within;
+      there = e.there;
+      to = e.to;
+      above_min = min;
+      below_max = omega (arith, same, max);
+      begins = record { next = into.within; at = into.inside };
+      over = into.is;
+      next = refl;
+      node = refl;
+      count = ap (λ (l : Label). l.count + 1) is;
+      whole = λ from. whole from ∙ same;
+      longer = λ other. (omega (arith, (longer other).0), (longer other).1 ∙ ap (λ (l : Label). l.owed + fee_of l.owed edge.base edge.millionths) is);
+    }
 
 -- each edge into the label's node is in the run of edges into it
 pub all_passed : (graph : Graph) (request : NumberedRequest) (low : List ℕ) (start i : ℕ)

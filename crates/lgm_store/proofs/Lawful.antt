@@ -10,6 +10,9 @@ use Rattle.std.proofs.lemmas.Map.Views.{any-filter_same}
 use Rattle.std.proofs.lemmas.Bool.Decides.{nat_tests}
 use Rattle.lgm_wire.specs.declared.point.Point.{Point}
 use Rattle.lgm_check.specs.declared.row.ChannelRow.{ChannelRow}
+use Rattle.lgm_check.specs.declared.row.UpdateRow.{UpdateRow}
+use Rattle.lgm_check.specs.declared.row.NodeRow.{NodeRow}
+use Rattle.lgm_check.specs.declared.row.BanRow.{BanRow}
 use Rattle.lgm_store.specs.declared.op.Op.{Op}
 use Rattle.lgm_store.specs.declared.op.Op.TheVariants as ops
 use Rattle.lgm_store.specs.Rows.{Rows, empty, put, by_id, by_direction, by_node, channel_of, ends_at, ends_channel, ends_banned}
@@ -130,109 +133,95 @@ any-parts {R} t q (x ∷ xs) any none = by (any-parts t q xs) (q x) refl (t x) r
     by others false is true here any none = rw (is, here) refl
     by others false is false here any none = rw (is, here) (others (rw here at any) (rw is at none))
 
+not_so : (b : Bool) → not b ≡ true → b ≡ false
+not_so true e = absurd cc
+not_so false e = refl
+
 held-allowed : (banned : List Point) (rows : List ChannelRow) (id : ℕ)
     → not (is_some (channel_of (banned_channels banned rows) id)) ≡ true → is_some (channel_of rows id) ≡ true
     → is_some (channel_of (allowed_channels banned rows) id) ≡ true
 held-allowed banned rows id gone held =
     held_any (allowed_channels banned rows) id
     ∙ any-parts (is_of id) (ends_banned banned) rows (sym (held_any rows id) ∙ held) (sym (held_any
-    (banned_channels banned rows) id) ∙ none (is_some (channel_of (banned_channels banned rows) id)) gone)
-  where
-    none : (b : Bool) → not b ≡ true → b ≡ false
-    none true e = absurd cc
-    none false e = refl
+    (banned_channels banned rows) id) ∙ not_so (is_some (channel_of (banned_channels banned rows) id)) gone)
 
 -- ---- each operation keeps what holds
 
-pub AreHeld-absorbed : (rows : Rows) (op : Op) → AreHeld rows → AreHeld (absorbed rows op)
-AreHeld-absorbed rows (ops.Channel row) held = by (is_some (channel_of rows.channels (id_of row))) refl (ends_banned rows.banned row)
+-- it holds after each change that an operation may make
+record Stays (P : Rows → Type 0) (rows : Rows) : Type 0 where
+  channel : (row : ChannelRow) → is_some (channel_of rows.channels (id_of row)) ≡ false → ends_banned rows.banned row ≡ false
+      → P (record rows { channels = put by_id rows.channels row })
+  update : (row : UpdateRow) → is_some (channel_of rows.channels row.message.short_channel_id) ≡ true
+      → P (record rows { updates = put by_direction rows.updates row })
+  node : (row : NodeRow) → ends_channel rows.channels row.message.node_id ≡ true → P (record rows { nodes = put by_node rows.nodes row })
+  close : (id : ℕ) → P (without_held rows id)
+  ban : (ban : BanRow) → P (absorbed rows (ops.Ban ban))
+
+absorbed-keeps : (P : Rows → Type 0) (rows : Rows) (op : Op) → P rows → Stays P rows → P (absorbed rows op)
+absorbed-keeps P rows (ops.Channel row) same stays =
+    by (is_some (channel_of rows.channels (id_of row))) refl (ends_banned rows.banned row) refl
   where
-    by : (b : Bool) → is_some (channel_of rows.channels (id_of row)) ≡ b → (d : Bool)
-        → AreHeld (if b || d then rows else record rows { channels = put by_id rows.channels row })
-    by true is d = held
-    by false is true = held
-    by false is false =
-        All-to (λ u. is_some (channel_of rows.channels u.message.short_channel_id) ≡ true) _ rows.updates
-        (λ u h. held-more rows.channels row u.message.short_channel_id is h) held
-AreHeld-absorbed rows (ops.Update row) held = by (is_some (channel_of rows.channels row.message.short_channel_id)) refl
+    by : (b : Bool) → is_some (channel_of rows.channels (id_of row)) ≡ b → (d : Bool) → ends_banned rows.banned row ≡ d
+        → P (if b || d then rows else record rows { channels = put by_id rows.channels row })
+    by true is d banned = same
+    by false is true banned = same
+    by false is false banned = stays.channel row is banned
+absorbed-keeps P rows (ops.Update row) same stays = by (is_some (channel_of rows.channels row.message.short_channel_id)) refl
   where
     by : (b : Bool) → is_some (channel_of rows.channels row.message.short_channel_id) ≡ b
-        → AreHeld (if b then record rows { updates = put by_direction rows.updates row } else rows)
-    by true is = All-put (λ u. is_some (channel_of rows.channels u.message.short_channel_id) ≡ true) by_direction rows.updates row is held
-    by false is = held
-AreHeld-absorbed rows (ops.Node row) held = by (ends_channel rows.channels row.message.node_id)
-  where
-    by : (b : Bool) → AreHeld (if b then record rows { nodes = put by_node rows.nodes row } else rows)
-    by true = held
-    by false = held
-AreHeld-absorbed rows (ops.Close id) held = by (is_some (channel_of rows.channels id))
-  where
-    by : (b : Bool) → AreHeld (if b then without_held rows id else rows)
-    by true =
-        All-filtered (λ u. is_some (channel_of rows.channels u.message.short_channel_id) ≡ true) _ _
-        rows.updates (λ u apart h. held-without rows.channels id u.message.short_channel_id apart h) held
-    by false = held
-AreHeld-absorbed rows (ops.Ban ban) held =
-    All-filtered (λ u. is_some (channel_of rows.channels u.message.short_channel_id) ≡ true) _ _ rows.updates
-    (λ u gone h. held-allowed (with_banned rows.banned ban) rows.channels u.message.short_channel_id gone h) held
-
-pub AreEnded-absorbed : (rows : Rows) (op : Op) → AreEnded rows → AreEnded (absorbed rows op)
-AreEnded-absorbed rows (ops.Channel row) ended = by (is_some (channel_of rows.channels (id_of row))) refl (ends_banned rows.banned row)
-  where
-    by : (b : Bool) → is_some (channel_of rows.channels (id_of row)) ≡ b → (d : Bool)
-        → AreEnded (if b || d then rows else record rows { channels = put by_id rows.channels row })
-    by true is d = ended
-    by false is true = ended
-    by false is false =
-        All-to (λ n. ends_channel rows.channels n.message.node_id ≡ true) _ rows.nodes
-        (λ n e. any-channel (ends_at n.message.node_id) rows.channels row is e) ended
-AreEnded-absorbed rows (ops.Update row) ended = by (is_some (channel_of rows.channels row.message.short_channel_id))
-  where
-    by : (b : Bool) → AreEnded (if b then record rows { updates = put by_direction rows.updates row } else rows)
-    by true = ended
-    by false = ended
-AreEnded-absorbed rows (ops.Node row) ended = by (ends_channel rows.channels row.message.node_id) refl
+        → P (if b then record rows { updates = put by_direction rows.updates row } else rows)
+    by true is = stays.update row is
+    by false is = same
+absorbed-keeps P rows (ops.Node row) same stays = by (ends_channel rows.channels row.message.node_id) refl
   where
     by : (b : Bool) → ends_channel rows.channels row.message.node_id ≡ b
-        → AreEnded (if b then record rows { nodes = put by_node rows.nodes row } else rows)
-    by true is = All-put (λ n. ends_channel rows.channels n.message.node_id ≡ true) by_node rows.nodes row is ended
-    by false is = ended
-AreEnded-absorbed rows (ops.Close id) ended = by (is_some (channel_of rows.channels id))
+        → P (if b then record rows { nodes = put by_node rows.nodes row } else rows)
+    by true is = stays.node row is
+    by false is = same
+absorbed-keeps P rows (ops.Close id) same stays = by (is_some (channel_of rows.channels id))
   where
-    by : (b : Bool) → AreEnded (if b then without_held rows id else rows)
-    by true = AreEnded-ended_nodes (channels_without rows.channels id) rows.nodes
-    by false = ended
-AreEnded-absorbed rows (ops.Ban ban) ended = AreEnded-ended_nodes (allowed_channels (with_banned rows.banned ban) rows.channels) rows.nodes
+    by : (b : Bool) → P (if b then without_held rows id else rows)
+    by true = stays.close id
+    by false = same
+absorbed-keeps P rows (ops.Ban ban) same stays = stays.ban ban
+
+pub AreHeld-absorbed : (rows : Rows) (op : Op) → AreHeld rows → AreHeld (absorbed rows op)
+AreHeld-absorbed rows op held = absorbed-keeps AreHeld rows op held (record {
+  channel = λ row is allowed.
+      All-to (λ u. is_some (channel_of rows.channels u.message.short_channel_id) ≡ true) _ rows.updates
+      (λ u h. held-more rows.channels row u.message.short_channel_id is h) held;
+  update = λ row is.
+      All-put (λ u. is_some (channel_of rows.channels u.message.short_channel_id) ≡ true) by_direction rows.updates row is held;
+  node = λ row is. held;
+  close = λ id.
+      All-filtered (λ u. is_some (channel_of rows.channels u.message.short_channel_id) ≡ true) _ _
+      rows.updates (λ u apart h. held-without rows.channels id u.message.short_channel_id apart h) held;
+  ban = λ ban.
+      All-filtered (λ u. is_some (channel_of rows.channels u.message.short_channel_id) ≡ true) _ _ rows.updates
+      (λ u gone h. held-allowed (with_banned rows.banned ban) rows.channels u.message.short_channel_id gone h) held;
+})
+
+pub AreEnded-absorbed : (rows : Rows) (op : Op) → AreEnded rows → AreEnded (absorbed rows op)
+AreEnded-absorbed rows op ended = absorbed-keeps AreEnded rows op ended (record {
+  channel = λ row is allowed.
+      All-to (λ n. ends_channel rows.channels n.message.node_id ≡ true) _ rows.nodes
+      (λ n e. any-channel (ends_at n.message.node_id) rows.channels row is e) ended;
+  update = λ row is. ended;
+  node = λ row is. All-put (λ n. ends_channel rows.channels n.message.node_id ≡ true) by_node rows.nodes row is ended;
+  close = λ id. AreEnded-ended_nodes (channels_without rows.channels id) rows.nodes;
+  ban = λ ban. AreEnded-ended_nodes (allowed_channels (with_banned rows.banned ban) rows.channels) rows.nodes;
+})
 
 pub AreAllowed-absorbed : (rows : Rows) (op : Op) → AreAllowed rows → AreAllowed (absorbed rows op)
-AreAllowed-absorbed rows (ops.Channel row) allowed = by (is_some (channel_of rows.channels (id_of row))) (ends_banned rows.banned row) refl
-  where
-    by : (b : Bool) (d : Bool) → ends_banned rows.banned row ≡ d
-        → AreAllowed (if b || d then rows else record rows { channels = put by_id rows.channels row })
-    by true d is = allowed
-    by false true is = allowed
-    by false false is = All-put (λ x. ends_banned rows.banned x ≡ false) by_id rows.channels row is allowed
-AreAllowed-absorbed rows (ops.Update row) allowed = by (is_some (channel_of rows.channels row.message.short_channel_id))
-  where
-    by : (b : Bool) → AreAllowed (if b then record rows { updates = put by_direction rows.updates row } else rows)
-    by true = allowed
-    by false = allowed
-AreAllowed-absorbed rows (ops.Node row) allowed = by (ends_channel rows.channels row.message.node_id)
-  where
-    by : (b : Bool) → AreAllowed (if b then record rows { nodes = put by_node rows.nodes row } else rows)
-    by true = allowed
-    by false = allowed
-AreAllowed-absorbed rows (ops.Close id) allowed = by (is_some (channel_of rows.channels id))
-  where
-    by : (b : Bool) → AreAllowed (if b then without_held rows id else rows)
-    by true = All-filtered (λ x. ends_banned rows.banned x ≡ false) (λ x. ends_banned rows.banned x ≡ false) _ rows.channels (λ x is p. p) allowed
-    by false = allowed
-AreAllowed-absorbed rows (ops.Ban ban) allowed =
-    All-filtered (λ x. ends_banned rows.banned x ≡ false) _ _ rows.channels (λ x is p. none (ends_banned (with_banned rows.banned ban) x) is) allowed
-  where
-    none : (b : Bool) → not b ≡ true → b ≡ false
-    none true e = absurd cc
-    none false e = refl
+AreAllowed-absorbed rows op allowed = absorbed-keeps AreAllowed rows op allowed (record {
+  channel = λ row is free. All-put (λ x. ends_banned rows.banned x ≡ false) by_id rows.channels row free allowed;
+  update = λ row is. allowed;
+  node = λ row is. allowed;
+  close = λ id. All-filtered (λ x. ends_banned rows.banned x ≡ false) (λ x. ends_banned rows.banned x ≡ false) _ rows.channels (λ x is p. p) allowed;
+  ban = λ ban.
+      All-filtered (λ x. ends_banned rows.banned x ≡ false) _ _ rows.channels
+      (λ x is p. not_so (ends_banned (with_banned rows.banned ban) x) is) allowed;
+})
 
 -- ---- histories
 

@@ -143,6 +143,6 @@ find-second p (x ∷ xs) ys none = by (find-second p xs ys) (p x) refl none
 
 -- ---- the first, and the others
 
-pub first_and_rest : {X : Type 0} (xs : List X) (x : X) → 0 < length xs → xs ≡ get_or xs 0 x ∷ drop 1 xs
-first_and_rest [] x some = absurd (omega arith)
-first_and_rest (y ∷ ys) x some = refl
+pub first_and_rest : {X : Type 0} (xs rest : List X) (x : X) → 0 < length xs → x ≡ get_or xs 0 x → rest ≡ drop 1 xs → xs ≡ x ∷ rest
+first_and_rest [] rest x some first others = absurd (omega arith)
+first_and_rest (y ∷ ys) rest x some first others = ap (λ z. z ∷ ys) (sym first) ∙ ap (λ zs. x ∷ zs) (sym others)

@@ -51,34 +51,21 @@ module _ {K R : Type 0} (cmp : K → K → Ordering) (key : R → K) where
       turned : (o : Ordering) → cmp (key row) e.0 ≡ o → cmp (key e.1) (key row) ≡ ordering_reverse o
       turned o is = total.antisymm (key e.1) (key row) ∙ ap (λ (k : K). ordering_reverse (cmp (key row) k)) (sym keyed.0) ∙ ap ordering_reverse is
 
-      below : cmp (key row) e.0 ≡ Less → AllByRecursion (λ k. cmp e.0 k ≡ Less) (keys_of es)
-          → AllByRecursion (λ k. cmp (key row) k ≡ Less) (keys_of es)
-      below is above = along es above
-        where
-          along : (fs : List (K × R)) → AllByRecursion (λ k. cmp e.0 k ≡ Less) (keys_of fs)
-              → AllByRecursion (λ k. cmp (key row) k ≡ Less) (keys_of fs)
-          along [] a = tt
-          along (f ∷ fs) a = (total.trans (key row) e.0 f.0 is a.0, along fs a.1)
-
-      level : cmp (key row) e.0 ≡ Equal → AllByRecursion (λ k. cmp e.0 k ≡ Less) (keys_of es)
-          → AllByRecursion (λ k. cmp (key row) k ≡ Less) (keys_of es)
-      level is above = along es above
-        where
-          along : (fs : List (K × R)) → AllByRecursion (λ k. cmp e.0 k ≡ Less) (keys_of fs)
-              → AllByRecursion (λ k. cmp (key row) k ≡ Less) (keys_of fs)
-          along [] a = tt
-          along (f ∷ fs) a = (total.congr (key row) e.0 f.0 is ∙ a.0, along fs a.1)
+      above : ((k : K) → cmp e.0 k ≡ Less → cmp (key row) k ≡ Less) → (fs : List (K × R))
+          → AllByRecursion (λ k. cmp e.0 k ≡ Less) (keys_of fs) → AllByRecursion (λ k. cmp (key row) k ≡ Less) (keys_of fs)
+      above less [] a = tt
+      above less (f ∷ fs) a = (less f.0 a.0, above less fs a.1)
 
       by : values_of (insert_entry cmp es (key row) row) ≡ put by_key (values_of es) row → (o : Ordering)
           → cmp (key row) e.0 ≡ o → values_of (match_ordering o ((key row, row) ∷ e ∷ es) ((e.0, row) ∷ es) (e
           ∷ insert_entry cmp es (key row) row)) ≡ put by_key (e.1 ∷ values_of es) row
       by others Less is =
           let t = turned Less is in
-          let a = are_above total row es keyed.1 (below is sorted.0) in
+          let a = are_above total row es keyed.1 (above (λ k. total.trans (key row) e.0 k is) es sorted.0) in
           rw (t, a.lesser, a.greater) refl
       by others Equal is =
           let t = turned Equal is in
-          let a = are_above total row es keyed.1 (level is sorted.0) in
+          let a = are_above total row es keyed.1 (above (λ k less. total.congr (key row) e.0 k is ∙ less) es sorted.0) in
           rw (t, a.lesser, a.greater) refl
       by others Greater is =
           let t = turned Greater is in

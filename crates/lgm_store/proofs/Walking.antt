@@ -36,6 +36,15 @@ module _ {K R : Type 0} where
       by others true is = rw is refl
       by others false is = rw is others
 
+  -- the same where the tests agree on entries under their rows' own keys
+  find-keyed : (key : R → K) (p : K × R → Bool) (q : R → Bool) → ((e : K × R) → e.0 ≡ key e.1 → p e ≡ q e.1)
+      → (entries : List (K × R)) → IsKeyed key entries → find q (values_of entries) ≡ first_value (filter p entries)
+  find-keyed key p q agree entries keyed = find-filter p q entries (along entries keyed)
+    where
+      along : (es : List (K × R)) → IsKeyed key es → AllByRecursion (λ e. p e ≡ q e.1) es
+      along [] keyed = tt
+      along (e ∷ es) keyed = (agree e keyed.0, along es keyed.1)
+
   -- a filter of keys that asks no less than an earlier one of entries
   filter-filter_keys : (t : K → Bool) (p : K × R → Bool) → ((e : K × R) → t e.0 ≡ true → p e ≡ true) → (entries : List (K × R))
       → filter t (map (λ e. e.0) (filter p entries)) ≡ filter t (map (λ e. e.0) entries)
@@ -62,38 +71,23 @@ and_true false = refl
 
 pub next_channel-between : (entries : List (ℕ × ChannelRow)) (after : Option ℕ) → IsKeyed id_of entries
     → next_channel_of (values_of entries) after ≡ first_value (entries_between nat_cmp (start_after after) Unbounded entries)
-next_channel-between entries None keyed = find-filter (λ e. range_contains nat_cmp Unbounded Unbounded e.0) (λ row. true) entries (along entries)
-  where
-    along : (es : List (ℕ × ChannelRow)) → AllByRecursion (λ e. range_contains nat_cmp Unbounded Unbounded e.0 ≡ true) es
-    along [] = tt
-    along (e ∷ es) = (refl, along es)
+next_channel-between entries None keyed =
+    find-keyed id_of (λ e. range_contains nat_cmp Unbounded Unbounded e.0) (λ row. true) (λ e own. refl) entries keyed
 next_channel-between entries (Some id) keyed =
-    find-filter (λ e. range_contains nat_cmp (Excluded id) Unbounded e.0) (λ row. nat_lt id (id_of row))
-    entries (along entries keyed)
+    find-keyed id_of (λ e. range_contains nat_cmp (Excluded id) Unbounded e.0) (λ row. nat_lt id (id_of row))
+    (λ e own. above e.0 ∙ ap (nat_lt id) own) entries keyed
   where
     above : (k : ℕ) → (is_lt (nat_cmp id k) && true) ≡ nat_lt id k
     above k = and_true (is_lt (nat_cmp id k)) ∙ grind (arith, nat_tests)
 
-    along : (es : List (ℕ × ChannelRow)) → IsKeyed id_of es
-        → AllByRecursion (λ e. range_contains nat_cmp (Excluded id) Unbounded e.0 ≡ nat_lt id (id_of e.1)) es
-    along [] keyed = tt
-    along (e ∷ es) keyed = (above e.0 ∙ ap (nat_lt id) keyed.0, along es keyed.1)
-
 pub next_node-between : (entries : List (Point × NodeRow)) (after : Option Point) → IsKeyed point_of entries
     → next_node_of (values_of entries) after ≡ first_value (entries_between point_cmp (start_after after) Unbounded entries)
-next_node-between entries None keyed = find-filter (λ e. range_contains point_cmp Unbounded Unbounded e.0) (λ row. true) entries (along entries)
-  where
-    along : (es : List (Point × NodeRow)) → AllByRecursion (λ e. range_contains point_cmp Unbounded Unbounded e.0 ≡ true) es
-    along [] = tt
-    along (e ∷ es) = (refl, along es)
+next_node-between entries None keyed =
+    find-keyed point_of (λ e. range_contains point_cmp Unbounded Unbounded e.0) (λ row. true) (λ e own. refl) entries keyed
 next_node-between entries (Some node) keyed =
-    find-filter (λ e. range_contains point_cmp (Excluded node) Unbounded e.0)
-    (λ row. is_lt (point_cmp node (point_of row))) entries (along entries keyed)
-  where
-    along : (es : List (Point × NodeRow)) → IsKeyed point_of es → AllByRecursion (λ e.
-        range_contains point_cmp (Excluded node) Unbounded e.0 ≡ is_lt (point_cmp node (point_of e.1))) es
-    along [] keyed = tt
-    along (e ∷ es) keyed = (and_true (is_lt (point_cmp node e.0)) ∙ ap (λ (p : Point). is_lt (point_cmp node p)) keyed.0, along es keyed.1)
+    find-keyed point_of (λ e. range_contains point_cmp (Excluded node) Unbounded e.0)
+    (λ row. is_lt (point_cmp node (point_of row)))
+    (λ e own. and_true (is_lt (point_cmp node e.0)) ∙ ap (λ (p : Point). is_lt (point_cmp node p)) own) entries keyed
 
 -- ---- ids by their blocks
 

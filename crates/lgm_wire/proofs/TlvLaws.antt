@@ -1,5 +1,5 @@
 -- TLV streams: one record, what was read so far, and that reading gives a stream or its first fault.
-use Rattle.std.proofs.Common.{◌≡◌, ℕ, zero, suc, ◌^◌, ◌<◌, ◌≤◌, false, cond, ltb, List, [], ◌∷◌, ◌++◌, length, take, drop, Option}
+use Rattle.std.proofs.Common.{◌+◌, ◌≡◌, ℕ, zero, suc, ◌^◌, ◌<◌, ◌≤◌, false, cond, ltb, List, [], ◌∷◌, ◌++◌, length, take, drop, Option}
 use Rattle.std.proofs.Common.{Some, None, Result, Ok, Err, refl, sym, ap, subst, ◌∙◌, append_assoc, arith, inl, inr}
 use Rattle.std.specs.List.{flat_map, AllByRecursion}
 use Rattle.std.proofs.lemmas.Bool.{ltb-false, le-ltb}
@@ -107,8 +107,8 @@ record_at-record_bytes last r rest fits above =
       drop_at r.value rest (length r.value) refl,
     ) refl
 
--- a record has bytes
-record_len : (r : TlvRecord) (rest : List ℕ) → length rest < length (record_bytes r ++ rest)
+-- a record has at least two bytes
+record_len : (r : TlvRecord) (rest : List ℕ) → 2 + length rest ≤ length (record_bytes r ++ rest)
 record_len r rest =
     omega (
       arith,
@@ -116,6 +116,7 @@ record_len r rest =
       length-append (bigsize_bytes r.kind ++ bigsize_bytes (length r.value)) r.value,
       length-append (bigsize_bytes r.kind) (bigsize_bytes (length r.value)),
       length-bigsize_bytes r.kind,
+      length-bigsize_bytes (length r.value),
     )
 
 -- ---- a stream, record by record
@@ -294,17 +295,8 @@ stream_takes l bytes fits e =
 
 -- ---- what has no record
 
--- a record has two bytes at least
 pub two_bytes : (r : TlvRecord) (rest : List ℕ) → 2 ≤ length (record_bytes r ++ rest)
-two_bytes r rest =
-    omega (
-      arith,
-      length-append (record_bytes r) rest,
-      length-append (bigsize_bytes r.kind ++ bigsize_bytes (length r.value)) r.value,
-      length-append (bigsize_bytes r.kind) (bigsize_bytes (length r.value)),
-      length-bigsize_bytes r.kind,
-      length-bigsize_bytes (length r.value),
-    )
+two_bytes r rest = omega (arith, record_len r rest)
 
 -- so where one was read, there were two bytes at least
 pub has_two_bytes : (bytes : List ℕ) (front : List TlvRecord) (rest : List ℕ) (last : Option ℕ)

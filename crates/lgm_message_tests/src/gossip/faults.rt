@@ -1,6 +1,6 @@
 //! The order of faults: the length, the type, the fields from left to right, the encoding of ids, the records.
 
-use super::words::assert_fault;
+use super::words::{assert_fault, assert_faults};
 use lgm_gossip::DecodeFault;
 use lgm_gossip::DecodeFault::{
     Cut, Encoding, Flags, Ids, Long, Short, Tlv, TlvKind, UnknownEven, UnknownOdd,
@@ -23,10 +23,7 @@ fn lengths_and_types(rt: HostRuntime) -> Result<(), Fail> {
         ("00ff", UnknownOdd(0xff)),
         ("ffff", UnknownOdd(0xffff)),
     ];
-    for (words, want) in table {
-        assert_fault(&rt, rt.alloc(), words, want)?;
-    }
-    Ok(())
+    assert_faults(&rt, rt.alloc(), &table)
 }
 
 /// Fields come before the encoding of ids, that before their number of bytes, and all of these before the records.
@@ -43,30 +40,24 @@ fn encoded_ids(rt: HostRuntime) -> Result<(), Fail> {
         ("0108 c1*32 00*8 01 0008 00 0927c000000200", Ids),
         ("0108 c1*32 00*8 01 000a 00 0927c00000020000 00 0000", Ids),
     ];
-    for (words, want) in table {
-        assert_fault(&rt, rt.alloc(), words, want)?;
-    }
-    Ok(())
+    assert_faults(&rt, rt.alloc(), &table)
 }
 
 /// Records that are no stream come before any that is unknown or malformed.
 #[test]
 fn streams(rt: HostRuntime) -> Result<(), Fail> {
-    let table: [(&str, WireFault); 6] = [
-        ("0105 c1*32 0000 0200 0100", WireFault::Order),
-        ("0105 c1*32 0000 fd0001 00", WireFault::NotMinimal),
-        ("0107 c1*32 00*8 0000 0102 00", WireFault::Cut),
-        ("0107 c1*32 00*8 0100 0100", WireFault::Order),
-        ("0108 c1*32 00*8 01 0000 0100 03fd", WireFault::Cut),
+    let table: [(&str, DecodeFault); 6] = [
+        ("0105 c1*32 0000 0200 0100", Tlv(WireFault::Order)),
+        ("0105 c1*32 0000 fd0001 00", Tlv(WireFault::NotMinimal)),
+        ("0107 c1*32 00*8 0000 0102 00", Tlv(WireFault::Cut)),
+        ("0107 c1*32 00*8 0100 0100", Tlv(WireFault::Order)),
+        ("0108 c1*32 00*8 01 0000 0100 03fd", Tlv(WireFault::Cut)),
         (
             "0108 c1*32 00*8 01 0000 0200 05fd0000",
-            WireFault::NotMinimal,
+            Tlv(WireFault::NotMinimal),
         ),
     ];
-    for (words, want) in table {
-        assert_fault(&rt, rt.alloc(), words, Tlv(want))?;
-    }
-    Ok(())
+    assert_faults(&rt, rt.alloc(), &table)
 }
 
 /// Of several records at fault the first one counts. An even type that isn't known is one.
@@ -82,10 +73,7 @@ fn even_records(rt: HostRuntime) -> Result<(), Fail> {
         ("0108 c1*32 00*8 01 0000 0300 0400", TlvKind(4)),
         ("0108 c1*32 00*8 01 0000 fe00010000 00", TlvKind(0x1_0000)),
     ];
-    for (words, want) in table {
-        assert_fault(&rt, rt.alloc(), words, want)?;
-    }
-    Ok(())
+    assert_faults(&rt, rt.alloc(), &table)
 }
 
 /// A record of flags has a byte 0, and then exactly as many numbers as there are ids.

@@ -39,6 +39,18 @@ pub fn assert_fault(
     Ok(())
 }
 
+/// The same of each row of a table.
+pub fn assert_faults(
+    rt: &impl Abort,
+    alloc: Global,
+    table: &[(&str, DecodeFault)],
+) -> Result<(), Fail> {
+    for (words, want) in table {
+        assert_fault(rt, alloc, words, *want)?;
+    }
+    Ok(())
+}
+
 /// Whether the message that the words are is written as these other words.
 pub fn assert_written(rt: &impl Abort, alloc: Global, words: &str, want: &str) -> Result<(), Fail> {
     let bytes = bytes_of(alloc, words)?;

@@ -1,17 +1,12 @@
-use Rattle.std.proofs.Common.{inl, inr}
 use Rattle.lgm_graph.specs.Edges.{edges_of}
 use Rattle.lgm_graph.specs.Graph.{edges}
 use Rattle.lgm_graph.proofs.Holding.{are_directions}
-use Rattle.lgm_route.proofs.Choosing.{answer-tried}
+use Rattle.lgm_route.proofs.Choosing.{answered}
 use Rattle.lgm_route.proofs.answering.answer.Goals as goal
 
 pub returns : goal.returns
 returns c =
     let view = c.args.view.now in
-    let rows = c.args.map.now in
-    elim c.least.ensures.answer [
-      | inl none ↦ inl none
-      | inr answer ↦ inr (answer-tried (edges view) (edges_of view.known rows) c.args.request.now c.least.result
-          (are_directions view.known rows c.rows_are_lawful.ensures.ascend)
-          (c.shows_the_edges.ensures.found rows c.requires.beside) answer)
-    ]
+    answered (edges view) (edges_of view.known c.args.map.now) c.args.request.now c.least.result
+    (are_directions view.known c.args.map.now c.rows_are_lawful.ensures.ascend)
+    (c.shows_the_edges.ensures.found c.args.map.now c.requires.beside) c.least.ensures.answer

@@ -13,9 +13,7 @@ loop-op-preserved c =
     let items = c.loop-op.due.items in
     let rest = c.forget_first.new.due.items in
     let some : 0 < length items = search rules in
-    let parts : items ≡ op ∷ rest =
-    first_and_rest items op some ∙ ap (λ first. first ∷ drop 1 items) (sym c.in-Some.ensures.lookup)
-    ∙ ap (λ others. op ∷ others) (sym c.forget_first.ensures) in
+    let parts : items ≡ op ∷ rest = first_and_rest items rest op some c.in-Some.ensures.lookup c.forget_first.ensures in
     record {
       rows = ap (λ map. fold_from map rest) c.in_ok-absorb.ensures.map ∙ ap (fold_from c.loop-op.map) (sym parts) ∙ c.loop-op.invariant.rows;
       follows = c.in_ok-absorb.ensures.follows;

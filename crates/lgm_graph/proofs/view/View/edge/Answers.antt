@@ -3,19 +3,13 @@ use Rattle.std.specs.List.{Contains}
 use Rattle.lgm_graph.proofs.Counted.{edge_here, edge_later, edge_none}
 use Rattle.lgm_graph.proofs.view.View.edge.Goals as goal
 
-pub edge_between-requires-clause-from : goal.edge_between-requires-clause-from
-edge_between-requires-clause-from c =
+pub edge_between-requires : goal.edge_between-requires
+edge_between-requires c =
     let link = c.index-links-left.result in
     let linked = c.nodes-nodes.ensures.linked in
     let inside = subst (λ ls. Contains ls link) c.links_into-links.ensures (c.loop-number.left, c.if-left-links.true, sym c.index-links-left.is) in
-    (linked.each link (linked.into c.loop-number.number link inside).1).from
-
-pub edge_between-requires-clause-to : goal.edge_between-requires-clause-to
-edge_between-requires-clause-to c =
-    let link = c.index-links-left.result in
-    let linked = c.nodes-nodes.ensures.linked in
-    let inside = subst (λ ls. Contains ls link) c.links_into-links.ensures (c.loop-number.left, c.if-left-links.true, sym c.index-links-left.is) in
-    (linked.each link (linked.into c.loop-number.number link inside).1).to
+    let ends = (linked.each link (linked.into c.loop-number.number link inside).1) in
+    record { from = ends.from; to = ends.to }
 
 pub returns-then-left-links : goal.returns-then-left-links
 returns-then-left-links c =

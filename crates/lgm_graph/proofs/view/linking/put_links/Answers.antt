@@ -12,35 +12,24 @@ loop-link-init c =
       shows = λ edges are. same_shows c.args.nodes.now c.reserve_for.new.self same [] c.requires.bare;
     }
 
-pub reserve_links-requires-clause-from : goal.reserve_links-requires-clause-from
-reserve_links-requires-clause-from c =
+pub reserve_links-requires : goal.reserve_links-requires
+reserve_links-requires c =
     let inv = c.loop-link.invariant in
-    (link_within c.args.nodes.now.points.keys c.args.links.now c.loop-link.link-index c.link-item.result c.loop-link-test.true c.link-item.is
-    c.requires.links.0 c.loop-link.nodes c.requires.links.1 inv.points (inv.shows c.requires.links.0 c.requires.links.1)).0
+    let ends =
+    link_within c.args.nodes.now.points.keys c.args.links.now c.loop-link.link-index c.link-item.result c.loop-link-test.true c.link-item.is
+    c.requires.links.0 c.loop-link.nodes c.requires.links.1 inv.points (inv.shows c.requires.links.0 c.requires.links.1) in
+    record { from = ends.0; to = ends.1 }
 
-pub reserve_links-requires-clause-to : goal.reserve_links-requires-clause-to
-reserve_links-requires-clause-to c =
-    let inv = c.loop-link.invariant in
-    (link_within c.args.nodes.now.points.keys c.args.links.now c.loop-link.link-index c.link-item.result c.loop-link-test.true c.link-item.is
-    c.requires.links.0 c.loop-link.nodes c.requires.links.1 inv.points (inv.shows c.requires.links.0 c.requires.links.1)).1
-
-pub push_link-requires-clause-from : goal.push_link-requires-clause-from
-push_link-requires-clause-from c =
+pub push_link-requires : goal.push_link-requires
+push_link-requires c =
     let inv = c.loop-link.invariant in
     let same = c.reserve_links.ensures.same in
-    (link_within c.args.nodes.now.points.keys c.args.links.now c.loop-link.link-index c.link-item.result c.loop-link-test.true c.link-item.is
+    let ends =
+    link_within c.args.nodes.now.points.keys c.args.links.now c.loop-link.link-index c.link-item.result c.loop-link-test.true c.link-item.is
     c.requires.links.0 c.reserve_links.new.self c.requires.links.1 (same_points c.loop-link.nodes c.reserve_links.new.self same ∙ inv.points)
     (same_shows c.loop-link.nodes c.reserve_links.new.self same
-    (take c.loop-link.link-index c.requires.links.0) (inv.shows c.requires.links.0 c.requires.links.1))).0
-
-pub push_link-requires-clause-to : goal.push_link-requires-clause-to
-push_link-requires-clause-to c =
-    let inv = c.loop-link.invariant in
-    let same = c.reserve_links.ensures.same in
-    (link_within c.args.nodes.now.points.keys c.args.links.now c.loop-link.link-index c.link-item.result c.loop-link-test.true c.link-item.is
-    c.requires.links.0 c.reserve_links.new.self c.requires.links.1 (same_points c.loop-link.nodes c.reserve_links.new.self same ∙ inv.points)
-    (same_shows c.loop-link.nodes c.reserve_links.new.self same
-    (take c.loop-link.link-index c.requires.links.0) (inv.shows c.requires.links.0 c.requires.links.1))).1
+    (take c.loop-link.link-index c.requires.links.0) (inv.shows c.requires.links.0 c.requires.links.1)) in
+    record { from = ends.0; to = ends.1; leaving = c.in_ok-reserve_links.ensures.leaving; into = c.in_ok-reserve_links.ensures.into }
 
 pub loop-link-preserved : goal.loop-link-preserved
 loop-link-preserved c =

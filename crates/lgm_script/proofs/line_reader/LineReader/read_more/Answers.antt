@@ -7,7 +7,7 @@ use Rattle.lgm_script.proofs.line_reader.LineReader.read_more.Goals.{After-self-
 -- what was ahead stays, and the bytes that were read stand behind it
 behind : (g : _) (c : After-self-6-1 g) (rest : List ℕ)
     → drop c.make_room-start.result.0 (take (c.make_room-start.result.1 + c.in_ok-count.count)
-      (take c.make_room-start.new.buffer.len ((c.split_at_mut-room.result.0.now ++ c.read.new.buffer) ++ rest)))
+    (take c.make_room-start.new.buffer.len ((c.split_at_mut-room.result.0.now ++ c.read.new.buffer) ++ rest)))
     ≡ c.args.self.now ++ take c.in_ok-count.count c.read.new.buffer
 behind g c rest =
     let whole = c.deref_mut.result.now in
