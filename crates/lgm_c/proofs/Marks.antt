@@ -1,6 +1,6 @@
 -- How a mark follows a map.
 use Rattle.std.proofs.Common.{◌≡◌, ℕ, List, [], ◌∷◌, ◌++◌, filter}
-use Rattle.std.proofs.Common.{Option, Some, None, Result, Ok, Err, refl, sym, ap, ◌∙◌, arith}
+use Rattle.std.proofs.Common.{Option, Some, None, Result, Ok, Err, refl, sym, ap, ◌∙◌}
 use Rattle.std.specs.Prelude.{not, IfOk}
 use Rattle.std.specs.List.{AllByRecursion}
 use Rattle.lgm_store.specs.declared.op.Op.{Op}

@@ -1,4 +1,4 @@
-use Rattle.std.proofs.Common.{◌≡◌, ◌<◌, ◌∷◌, length, drop, rules, refl, sym, ap, ◌∙◌}
+use Rattle.std.proofs.Common.{◌≡◌, ◌<◌, ◌∷◌, length, rules, refl, sym, ap, ◌∙◌}
 use Rattle.lgm_store.specs.History.{fold_from}
 use Rattle.lgm_store.proofs.ListLaws.{first_and_rest}
 use Rattle.lgm_server.proofs.MapLaws.{goes_on-refl, goes_on-trans}
