@@ -17,5 +17,6 @@ pub mod Message
 pub mod Memory
 pub mod Spelling
 pub mod Addresses
+pub mod Features
 pub mod reading
 pub mod inner

@@ -1,19 +1,16 @@
 -- The edges of rows.
 use Rattle.std.specs.Prelude.{◌≡◌, ◌⊎◌, Contains, ℕ, ◌*◌, ◌/◌, ◌%◌, Bool, true, not, ◌&&◌, nat_eq}
-use Rattle.std.specs.Prelude.{nat_le, List, Option, Some, None, filter, bit_and, if◌then◌else◌}
-use Rattle.std.specs.List.{list_any, filter_map}
+use Rattle.std.specs.Prelude.{nat_le, List, Option, Some, None, filter, if◌then◌else◌}
+use Rattle.std.specs.List.{filter_map}
 use Rattle.std.specs.Option.{option_and_then, option_map_or}
 use Rattle.lgm_wire.specs.declared.point.Point.{Point}
+use Rattle.lgm_gossip.specs.Features.{has_even_bit}
 use Rattle.lgm_check.specs.declared.row.ChannelRow.{ChannelRow}
 use Rattle.lgm_check.specs.declared.row.UpdateRow.{UpdateRow}
 use Rattle.lgm_check.specs.declared.row.NodeRow.{NodeRow}
 use Rattle.lgm_store.specs.Rows.{Rows, is_second, channel_of, node_of}
 use Rattle.lgm_graph.specs.declared.edge.Edge.{Edge}
 use Rattle.lgm_graph.specs.Known.{allows}
-
--- whether an even bit is set
-abbrev pub has_even_bit : List ℕ → Bool
-has_even_bit features = list_any (λ byte. not (nat_eq (bit_and byte 0x55) 0)) features
 
 -- the direction isn't disabled, the channel has no even feature bit, and the maximum is at most the capacity
 abbrev pub can_carry : ChannelRow → UpdateRow → Bool

@@ -1,10 +1,10 @@
 //! Edges: directions of channels.
 
 ghost use Rattle.std.specs.Prelude.{◌≡◌};
-ghost use Rattle.lgm_graph.specs.Edges.{can_carry, edge_of, edge_on, has_even_bit};
+ghost use Rattle.lgm_graph.specs.Edges.{can_carry, edge_of, edge_on};
 
 use lgm_check::{ChannelRow, UpdateRow};
-use lgm_gossip::{Point, Scid};
+use lgm_gossip::{Point, Scid, has_even_bit};
 
 /// A direction of a channel that payments can use: from one node to the other, on the terms of its
 /// `channel_update` (BOLT 7).
@@ -66,10 +66,4 @@ fn can_carry(channel: &ChannelRow, update: &UpdateRow) -> bool
     let enabled = update.message.channel_flags / 2 % 2 == 0;
     let holds = u128::from(max) <= u128::from(sat) * 1000;
     enabled && holds && !has_even_bit(channel.message.features.as_slice())
-}
-
-fn has_even_bit(features: &[u8]) -> bool
-    ensures { result ≡ has_even_bit features.now }
-{
-    features.iter().any(|byte| byte & 0x55 != 0)
 }
