@@ -10,15 +10,14 @@ use Rattle.lgm_check.specs.declared.row.UpdateRow.{UpdateRow}
 use Rattle.lgm_store.specs.Rows.{Rows, channel_of, is_banned, ends_banned, is_second}
 use Rattle.lgm_store.specs.History.{banning, allowed_channels, banned_channels, updates_beside}
 use Rattle.lgm_store.specs.Laws.{IsLawful}
-use Rattle.lgm_graph.specs.declared.edge.Edge.{Edge}
 use Rattle.lgm_graph.specs.declared.nodes.Nodes.{Nodes}
-use Rattle.lgm_graph.specs.Edges.{edge_of, edge_on, edge_in, end_of, carrying}
-use Rattle.lgm_graph.specs.Graph.{IsGraphOf, IsNumbered, IsJoined, number_of, link_of, links_by}
-use Rattle.lgm_graph.specs.inner.Sound.{graph_in, links_in, AreLookedAt, banned_at, is_allowed}
+use Rattle.lgm_graph.specs.Edges.{PointEdge, edge_of, edge_on, edge_in, end_of, carrying}
+use Rattle.lgm_graph.specs.Graph.{IsGraphOf, IsNumbered, IsJoined, number_of, numbered_in, edges_by}
+use Rattle.lgm_graph.specs.inner.Sound.{graph_in, edges_in, AreLookedAt, banned_at, is_allowed}
 use Rattle.lgm_graph.proofs.Numbers.{get_number}
 use Rattle.lgm_graph.proofs.Carrying.{filter_map-filter, edge_in-some}
-use Rattle.lgm_graph.proofs.Keeping.{filter_map-agree, found_filter, none_filter, links_keep}
-use Rattle.lgm_graph.proofs.Showing.{links_at}
+use Rattle.lgm_graph.proofs.Keeping.{filter_map-agree, found_filter, none_filter, edges_keep}
+use Rattle.lgm_graph.proofs.Showing.{edges_at}
 use Rattle.lgm_store.proofs.ListLaws.{All-filter, All-to, filter-passes}
 
 get_at : {X : Type 0} (xs : List X) (n : ℕ) (d : X) → n < length xs → slice_get xs n ≡ Some (get_or xs n d)
@@ -32,16 +31,16 @@ banned_number points banned p there =
     let found : slice_get points (number_of points p) ≡ Some p = get_at points (number_of points p) p there ∙ ap Some (get_number points p p there) in
     ap (λ (o : Option Point). option_map_or (is_banned banned) o false) found
 
--- whether a link stays, as its edge says
-pub banned_tests : (banned points : List Point) (edges : List Edge) → AllByRecursion (IsJoined points) edges
-    → AllByRecursion (λ e. is_allowed points banned (link_of points e) ≡ not (is_banned banned e.from || is_banned banned e.to)) edges
+-- whether an edge stays, by its numbers or by its points
+pub banned_tests : (banned points : List Point) (edges : List PointEdge) → AllByRecursion (IsJoined points) edges
+    → AllByRecursion (λ e. is_allowed points banned (numbered_in points e) ≡ not (is_banned banned e.from || is_banned banned e.to)) edges
 banned_tests banned points edges joined =
-    All-to (IsJoined points) (λ e. is_allowed points banned (link_of points e)
+    All-to (IsJoined points) (λ e. is_allowed points banned (numbered_in points e)
     ≡ not (is_banned banned e.from || is_banned banned e.to)) edges
     (λ e both. rw (banned_number points banned e.from both.0, banned_number points banned e.to both.1) refl) joined
 
 module _ (known : Option (List ℕ)) (rows : Rows) (banned : List Point) (lawful : IsLawful rows) where
-  keep : Edge → Bool
+  keep : PointEdge → Bool
   keep = λ e. not (is_banned banned e.from || is_banned banned e.to)
 
   stays : UpdateRow → Bool
@@ -70,7 +69,7 @@ module _ (known : Option (List ℕ)) (rows : Rows) (banned : List Point) (lawful
           which true f = let never : not (is_some (cond true (Some channel) None)) ≡ true = rw f at there in absurd cc
           which false f = rw f refl
 
-  same : (row : UpdateRow) (edge : Edge) → edge_in rows.channels row ≡ Some edge
+  same : (row : UpdateRow) (edge : PointEdge) → edge_in rows.channels row ≡ Some edge
       → not (is_banned banned edge.from || is_banned banned edge.to)
       ≡ not (is_some (channel_of (banned_channels banned rows.channels) row.message.short_channel_id))
   unfolding edge_of
@@ -99,28 +98,28 @@ module _ (known : Option (List ℕ)) (rows : Rows) (banned : List Point) (lawful
       (λ row. not (is_some (channel_of (banned_channels banned rows.channels) row.message.short_channel_id)))
       (λ e. not (is_banned banned e.from || is_banned banned e.to)) same rows.updates
 
-  -- the links that stay
-  links_banned : (end : Edge → Point) (points : List Point) (edges : List Edge) → AllByRecursion (IsJoined points) edges
-      → map (filter (is_allowed points banned)) (links_by end points edges)
-      ≡ links_by end points (filter (λ e. not (is_banned banned e.from || is_banned banned e.to)) edges)
-  links_banned end points edges joined = each points
+  -- the edges that stay
+  edges_banned : (end : PointEdge → Point) (points : List Point) (edges : List PointEdge) → AllByRecursion (IsJoined points) edges
+      → map (filter (is_allowed points banned)) (edges_by end points edges)
+      ≡ edges_by end points (filter (λ e. not (is_banned banned e.from || is_banned banned e.to)) edges)
+  edges_banned end points edges joined = each points
     where
       each : (qs : List Point)
-          → map (filter (is_allowed points banned)) (map (links_at end points edges) qs) ≡ map (links_at end
+          → map (filter (is_allowed points banned)) (map (edges_at end points edges) qs) ≡ map (edges_at end
           points (filter (λ e. not (is_banned banned e.from || is_banned banned e.to)) edges)) qs
       each [] = refl
       each (q ∷ qs) =
           rw (
             each qs,
-            links_keep end points (λ e. not (is_banned banned e.from || is_banned banned e.to))
+            edges_keep end points (λ e. not (is_banned banned e.from || is_banned banned e.to))
                 (is_allowed points banned) edges q (banned_tests banned points edges joined),
           ) refl
 
   -- the view, where they are taken away and all nodes looked at anew
   pub node_banned : (after : Rows) → after ≡ banning rows banned → (old mid new : Nodes) → IsGraphOf rows (graph_in known old)
       → mid.points.keys ≡ old.points.keys
-      → map links_in mid.into.items ≡ map (filter (is_allowed old.points.keys after.banned)) (map links_in old.into.items)
-      → map links_in mid.out.items ≡ map (filter (is_allowed old.points.keys after.banned)) (map links_in old.out.items)
+      → map edges_in mid.into.items ≡ map (filter (is_allowed old.points.keys after.banned)) (map edges_in old.into.items)
+      → map edges_in mid.out.items ≡ map (filter (is_allowed old.points.keys after.banned)) (map edges_in old.out.items)
       → new.points.keys ≡ mid.points.keys → new.into.items ≡ mid.into.items → new.out.items ≡ mid.out.items → AreLookedAt known after.nodes new
       → IsGraphOf after (graph_in known new)
   node_banned after is old mid new graph points into out points_new into_new out_new looked = record {
@@ -131,11 +130,11 @@ module _ (known : Option (List ℕ)) (rows : Rows) (banned : List Point) (lawful
           rw (is, points_new, points, carrying_banned) (All-filter (IsJoined old.points.keys)
           (λ e. not (is_banned banned e.from || is_banned banned e.to)) (carrying rows) graph.shows.joined);
       into_is =
-          ap (map links_in) into_new ∙ into
+          ap (map edges_in) into_new ∙ into
           ∙ rw (is, points_new, points, carrying_banned, graph.shows.into_is)
-          (links_banned (λ e. e.to) old.points.keys (carrying rows) graph.shows.joined);
+          (edges_banned (λ e. e.to) old.points.keys (carrying rows) graph.shows.joined);
       out_is =
-          ap (map links_in) out_new ∙ out ∙ rw (is, points_new, points, carrying_banned, graph.shows.out_is)
-          (links_banned (λ e. e.from) old.points.keys (carrying rows) graph.shows.joined);
+          ap (map edges_in) out_new ∙ out ∙ rw (is, points_new, points, carrying_banned, graph.shows.out_is)
+          (edges_banned (λ e. e.from) old.points.keys (carrying rows) graph.shows.joined);
     };
   }

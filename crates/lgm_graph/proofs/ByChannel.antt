@@ -14,8 +14,7 @@ use Rattle.lgm_check.specs.declared.row.UpdateRow.{UpdateRow}
 use Rattle.lgm_store.specs.Rows.{is_second, by_id, by_direction, update_of}
 use Rattle.lgm_store.proofs.ListLaws.{All-to}
 use Rattle.lgm_store.proofs.Lists.{same_id}
-use Rattle.lgm_graph.specs.declared.edge.Edge.{Edge}
-use Rattle.lgm_graph.specs.Edges.{edge_on, edge_in}
+use Rattle.lgm_graph.specs.Edges.{PointEdge, edge_on, edge_in}
 use Rattle.lgm_graph.specs.inner.Walk.{edges_of_channel}
 use Rattle.lgm_graph.proofs.Keeping.{less_lt, eqb_self, none_above}
 
@@ -111,7 +110,7 @@ module _ (row : UpdateRow) (rows : List UpdateRow) (first : AllByRecursion (λ o
       gone : is_second row ≡ true → update_of rows (name_of channel) false ≡ None
       gone b = ap (λ id. update_of rows id false) (sym same) ∙ first_none b
 
-      by : (b : Bool) → is_second row ≡ b → (o : Option Edge) → edge_on channel row ≡ o → edges_of_channel
+      by : (b : Bool) → is_second row ≡ b → (o : Option PointEdge) → edge_on channel row ≡ o → edges_of_channel
           (row ∷ rows) channel ≡ cons_option (edge_on channel row) (edges_of_channel rows channel)
       by false b None is = rw (eqb_self (id_of row) (name_of channel) same, b, is, ap (update_of rows (name_of channel)) (sym b) ∙ none) refl
       by false b (Some edge) is = rw (eqb_self (id_of row) (name_of channel) same, b, is, ap (update_of rows (name_of channel)) (sym b) ∙ none) refl
@@ -125,7 +124,7 @@ module _ (row : UpdateRow) (rows : List UpdateRow) (first : AllByRecursion (λ o
             ap (update_of rows (name_of channel)) (sym b) ∙ none,
           ) refl
 
-joined : (o : Option Edge) (xs ys : List Edge) → cons_option o xs ++ ys ≡ cons_option o (xs ++ ys)
+joined : (o : Option PointEdge) (xs ys : List PointEdge) → cons_option o xs ++ ys ≡ cons_option o (xs ++ ys)
 joined None xs ys = refl
 joined (Some e) xs ys = refl
 

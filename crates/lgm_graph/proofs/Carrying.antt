@@ -17,8 +17,7 @@ use Rattle.lgm_store.specs.Rows.{is_second, put, by_direction, channel_of}
 use Rattle.lgm_store.specs.inner.Sound.{direction_of}
 use Rattle.lgm_store.proofs.ListLaws.{All-filter, All-to, filter-swap}
 use Rattle.lgm_store.proofs.Lists.{direction_total}
-use Rattle.lgm_graph.specs.declared.edge.Edge.{Edge}
-use Rattle.lgm_graph.specs.Edges.{can_carry, edge_of, edge_on, edge_in, end_of}
+use Rattle.lgm_graph.specs.Edges.{PointEdge, can_carry, edge_of, edge_on, edge_in, end_of}
 use Rattle.lgm_graph.proofs.Cuts.{none_below, all_above}
 use Rattle.lgm_graph.specs.inner.Lists.{to_key, IsCut, put_at}
 
@@ -154,13 +153,13 @@ cut_sorted c total k (x ∷ xs) sorted = by (cut_sorted c total k xs sorted.1) (
 -- ---- edges of rows
 
 -- the edge goes from its direction's end of its channel to the other
-pub record IsOfChannel (channels : List ChannelRow) (edge : Edge) : Type 0 where
+pub record IsOfChannel (channels : List ChannelRow) (edge : PointEdge) : Type 0 where
   pub channel : ChannelRow
   pub held : channel_of channels edge.scid ≡ Some channel
   pub from : edge.from ≡ end_of channel edge.second
   pub to : edge.to ≡ end_of channel (not edge.second)
 
-pub edge_on-is : (channel : ChannelRow) (row : UpdateRow) (edge : Edge) → edge_on channel row ≡ Some edge → edge ≡ edge_of channel row
+pub edge_on-is : (channel : ChannelRow) (row : UpdateRow) (edge : PointEdge) → edge_on channel row ≡ Some edge → edge ≡ edge_of channel row
 edge_on-is channel row edge is = by (can_carry channel row) refl is
   where
     by : (b : Bool) → can_carry channel row ≡ b → edge_on channel row ≡ Some edge → edge ≡ edge_of channel row
@@ -168,7 +167,7 @@ edge_on-is channel row edge is = by (can_carry channel row) refl is
     by false e is = let h : None ≡ Some edge = rw e at is in absurd cc
 
 -- the channel that an update's edge is of
-pub edge_in-some : (channels : List ChannelRow) (row : UpdateRow) (edge : Edge) → edge_in channels row ≡ Some edge
+pub edge_in-some : (channels : List ChannelRow) (row : UpdateRow) (edge : PointEdge) → edge_in channels row ≡ Some edge
     → (channel : ChannelRow) × (channel_of channels row.message.short_channel_id ≡ Some channel) × (edge ≡ edge_of channel row)
 edge_in-some channels row edge is = by (channel_of channels row.message.short_channel_id) refl is
   where
@@ -179,12 +178,12 @@ edge_in-some channels row edge is = by (channel_of channels row.message.short_ch
     by (Some channel) e is = (channel, e, edge_on-is channel row edge is)
 
 -- an edge has its update's order
-same_key : (channels : List ChannelRow) (row other : UpdateRow) (edge : Edge) → edge_in channels other ≡ Some edge
+same_key : (channels : List ChannelRow) (row other : UpdateRow) (edge : PointEdge) → edge_in channels other ≡ Some edge
     → to_key row.message.short_channel_id (is_second row) edge ≡ by_direction other row
 unfolding edge_of
 same_key channels row other edge is = let found = edge_in-some channels other edge is in rw (found.2) refl
 
-pub of_channel : (channels : List ChannelRow) (row : UpdateRow) (edge : Edge) → edge_in channels row ≡ Some edge → IsOfChannel channels edge
+pub of_channel : (channels : List ChannelRow) (row : UpdateRow) (edge : PointEdge) → edge_in channels row ≡ Some edge → IsOfChannel channels edge
 unfolding edge_of
 of_channel channels row edge is =
     let found = edge_in-some channels row edge is in
@@ -196,7 +195,7 @@ pub carrying_of : (channels : List ChannelRow) (updates : List UpdateRow)
 carrying_of channels [] = tt
 carrying_of channels (row ∷ rows) = by (carrying_of channels rows) (edge_in channels row) refl
   where
-    by : AllByRecursion (IsOfChannel channels) (filter_map (edge_in channels) rows) → (o : Option Edge) → edge_in channels row ≡ o
+    by : AllByRecursion (IsOfChannel channels) (filter_map (edge_in channels) rows) → (o : Option PointEdge) → edge_in channels row ≡ o
         → AllByRecursion (IsOfChannel channels) (cons_option (edge_in channels row) (filter_map (edge_in channels) rows))
     by others None e = rw e others
     by others (Some edge) e = rw e (of_channel channels row edge e, others)

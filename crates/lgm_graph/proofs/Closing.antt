@@ -15,30 +15,29 @@ use Rattle.std.specs.Option.{option_and_then, option_map_or}
 use Rattle.std.proofs.lemmas.Bool.{eqb-true}
 use Rattle.lgm_graph.specs.Known.{allows}
 use Rattle.lgm_graph.specs.declared.edge.Edge.{Edge}
-use Rattle.lgm_graph.specs.declared.link.Link.{Link}
 use Rattle.lgm_graph.specs.declared.nodes.Nodes.{Nodes}
-use Rattle.lgm_graph.specs.Edges.{edge_of, edge_on, edge_in, end_of, carrying, takes_payments}
-use Rattle.lgm_graph.specs.Graph.{IsGraphOf, IsJoined, link_of}
+use Rattle.lgm_graph.specs.Edges.{PointEdge, edge_of, edge_on, edge_in, end_of, carrying, takes_payments}
+use Rattle.lgm_graph.specs.Graph.{IsGraphOf, IsJoined, numbered_in}
 use Rattle.lgm_graph.specs.inner.Sound.{graph_in, AreInto, AreOut, AreFlags, is_not_of, closed_at}
 use Rattle.lgm_graph.proofs.Carrying.{filter_map-filter, IsOfChannel, carrying_of, edge_in-some}
-use Rattle.lgm_graph.proofs.Showing.{passing, links_at}
-use Rattle.lgm_graph.proofs.Keeping.{filter_map-agree, one_channel, links_keep}
+use Rattle.lgm_graph.proofs.Showing.{passing, edges_at}
+use Rattle.lgm_graph.proofs.Keeping.{filter_map-agree, one_channel, edges_keep}
 
--- ---- links
+-- ---- edges
 
--- where a channel's links go from its two ends, they go from all
-both_closed : (end : Edge → Point) (points : List Point) (edges : List Edge) (id : ℕ) (first second : Point)
+-- where a channel's edges go from its two ends, they go from all
+both_closed : (end : PointEdge → Point) (points : List Point) (edges : List PointEdge) (id : ℕ) (first second : Point)
     → AllByRecursion (λ e. e.scid ≡ id → (end e ≡ first) ⊎ (end e ≡ second)) edges → (q : Point)
-    → closed_at second id (closed_at first id (links_at end points edges)) q ≡ links_at end points (filter (λ e. not (eqb e.scid id)) edges) q
+    → closed_at second id (closed_at first id (edges_at end points edges)) q ≡ edges_at end points (filter (λ e. not (eqb e.scid id)) edges) q
 both_closed end points edges id first second ends q = by (is_point second q) refl (is_point first q) refl
   where
-    keep : Edge → Bool
+    keep : PointEdge → Bool
     keep = λ e. not (eqb e.scid id)
 
-    kept : filter (is_not_of id) (links_at end points edges q) ≡ links_at end points (filter (λ e. not (eqb e.scid id)) edges) q
-    kept = links_keep end points (λ e. not (eqb e.scid id)) (is_not_of id) edges q (All-each _ edges (λ e. refl))
+    kept : filter (is_not_of id) (edges_at end points edges q) ≡ edges_at end points (filter (λ e. not (eqb e.scid id)) edges) q
+    kept = edges_keep end points (λ e. not (eqb e.scid id)) (is_not_of id) edges q (All-each _ edges (λ e. refl))
 
-    apart : is_point second q ≡ false → is_point first q ≡ false → (e : Edge) → (e.scid ≡ id
+    apart : is_point second q ≡ false → is_point first q ≡ false → (e : PointEdge) → (e.scid ≡ id
         → (end e ≡ first) ⊎ (end e ≡ second)) × (is_point q (end e) ≡ true) → not (eqb e.scid id) ≡ true
     apart other away e both = which (eqb e.scid id) refl
       where
@@ -57,17 +56,17 @@ both_closed end points edges id first second ends q = by (is_point second q) ref
         which false f = rw f refl
 
     by : (b : Bool) → is_point second q ≡ b → (c : Bool) → is_point first q ≡ c
-        → closed_at second id (closed_at first id (links_at end points edges)) q ≡ links_at end points (filter (λ e. not (eqb e.scid id)) edges) q
-    by true e true f = rw (e, f) (filter-twice (is_not_of id) (links_at end points edges q) ∙ kept)
+        → closed_at second id (closed_at first id (edges_at end points edges)) q ≡ edges_at end points (filter (λ e. not (eqb e.scid id)) edges) q
+    by true e true f = rw (e, f) (filter-twice (is_not_of id) (edges_at end points edges q) ∙ kept)
     by true e false f = rw (e, f) kept
     by false e true f = rw (e, f) kept
-    by false e false f = rw (e, f) (ap (map (link_of points)) (sym (filter-swap (λ d. is_point q (end d)) (λ d. not (eqb d.scid id)) edges
+    by false e false f = rw (e, f) (ap (map (numbered_in points)) (sym (filter-swap (λ d. is_point q (end d)) (λ d. not (eqb d.scid id)) edges
         ∙ filter-all (λ d. not (eqb d.scid id)) (filter (λ d. is_point q (end d)) edges)
         (All-to _ _ (filter (λ d. is_point q (end d)) edges) (apart e f) (passing
         (λ d. d.scid ≡ id → (end d ≡ first) ⊎ (end d ≡ second)) (λ d. is_point q (end d)) edges ends)))))
 
-pub lists_alike : (F G : Point → List Link) (points : List Point) → ((q : Point) → F q ≡ G q) → map F points ≡ map G points
-lists_alike F G points same = ap (λ (f : Point → List Link). map f points) (λ i q. same q i)
+pub lists_alike : (F G : Point → List Edge) (points : List Point) → ((q : Point) → F q ≡ G q) → map F points ≡ map G points
+lists_alike F G points same = ap (λ (f : Point → List Edge). map f points) (λ i q. same q i)
 
 -- ---- rows
 
@@ -89,13 +88,13 @@ module _ (known : Option (List ℕ)) (rows : Rows) (id : ℕ) (channel : Channel
       (find-kept (λ c. eqb c.message.short_channel_id row.message.short_channel_id)
       (λ c. not (eqb c.message.short_channel_id id)) rows.channels (All-each _ rows.channels each))
     where
-      edge_of_found : Option ChannelRow → Option Edge
+      edge_of_found : Option ChannelRow → Option PointEdge
       edge_of_found = λ o. option_and_then (λ c. edge_on c row) o
 
       each : (c : ChannelRow) → eqb c.message.short_channel_id row.message.short_channel_id ≡ true → not (eqb c.message.short_channel_id id) ≡ true
       each c e = ap (λ n. not (eqb n id)) (eqb-true c.message.short_channel_id row.message.short_channel_id e) ∙ other
 
-  own_id : (row : UpdateRow) (edge : Edge) → edge_in rows.channels row ≡ Some edge
+  own_id : (row : UpdateRow) (edge : PointEdge) → edge_in rows.channels row ≡ Some edge
       → not (eqb edge.scid id) ≡ not (eqb row.message.short_channel_id id)
   unfolding edge_of
   own_id row edge is = let found = edge_in-some rows.channels row edge is in rw (found.2) refl
@@ -107,7 +106,7 @@ module _ (known : Option (List ℕ)) (rows : Rows) (id : ℕ) (channel : Channel
       ∙ filter_map-filter (edge_in rows.channels) (λ row. not (eqb row.message.short_channel_id id)) (λ e. not (eqb e.scid id)) own_id rows.updates
 
   -- the channel's edges end at its ends
-  of_id : (edge : Edge) → IsOfChannel rows.channels edge → edge.scid ≡ id
+  of_id : (edge : PointEdge) → IsOfChannel rows.channels edge → edge.scid ≡ id
       → (edge.from ≡ end_of channel edge.second) × (edge.to ≡ end_of channel (not edge.second))
   of_id edge of same =
       let found : channel_of rows.channels id ≡ Some of.channel = ap (channel_of rows.channels) (sym same) ∙ of.held in
@@ -180,8 +179,8 @@ module _ (known : Option (List ℕ)) (rows : Rows) (id : ℕ) (channel : Channel
   pub node_closed : (after : Rows) → after ≡ without_channel rows id → (old new : Nodes) (one two : Point)
       → one ≡ first → two ≡ second → IsGraphOf rows (graph_in known old)
       → new.points.keys ≡ old.points.keys
-      → AreInto (closed_at two id (closed_at one id (links_at (λ e. e.to) old.points.keys (carrying rows)))) new
-      → AreOut (closed_at two id (closed_at one id (links_at (λ e. e.from) old.points.keys (carrying rows)))) new
+      → AreInto (closed_at two id (closed_at one id (edges_at (λ e. e.to) old.points.keys (carrying rows)))) new
+      → AreOut (closed_at two id (closed_at one id (edges_at (λ e. e.from) old.points.keys (carrying rows)))) new
       → AreFlags (λ q. if is_point two q then takes_payments known after.nodes q else if is_point one q
       then takes_payments known after.nodes q else takes_payments known rows.nodes q) new
       → IsGraphOf after (graph_in known new)

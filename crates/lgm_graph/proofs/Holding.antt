@@ -11,22 +11,22 @@ use Rattle.lgm_check.specs.declared.row.ChannelRow.{ChannelRow}
 use Rattle.lgm_check.specs.declared.row.UpdateRow.{UpdateRow}
 use Rattle.lgm_store.specs.Rows.{Rows, IsAscending, is_point, is_second, channel_of}
 use Rattle.lgm_store.proofs.Lists.{direction_total}
+use Rattle.lgm_graph.specs.Edges.{PointEdge}
 use Rattle.lgm_graph.specs.declared.edge.Edge.{Edge}
-use Rattle.lgm_graph.specs.declared.link.Link.{Link}
 use Rattle.lgm_graph.specs.Edges.{edge_of, edge_in, end_of, carrying, edges_of, takes_payments, AreDirections}
-use Rattle.lgm_graph.specs.Graph.{Graph, IsGraphOf, IsJoined, IsNumbered, number_of, link_of, edge_at, links, edges}
+use Rattle.lgm_graph.specs.Graph.{Graph, IsGraphOf, IsJoined, IsNumbered, number_of, numbered_in, edge_between, edges, point_edges}
 use Rattle.lgm_graph.specs.inner.Lists.{to_key, IsCut}
 use Rattle.lgm_graph.proofs.Numbers.{get_number}
 use Rattle.lgm_graph.proofs.Places.{get_map}
 use Rattle.lgm_graph.proofs.Carrying.{IsOfChannel, carrying_of, carrying_cut, edge_in-some}
 use Rattle.lgm_graph.proofs.Members.{Among, Contains-Among, Among-Contains, Among-map, Among-mapped, Among-passes, Among-passed, All_among}
-use Rattle.lgm_graph.proofs.Linking.{zipped_in, zipped_out, link_at, link_there, back_again}
+use Rattle.lgm_graph.proofs.Listing.{zipped_in, zipped_out, edge_at, edge_there, back_again}
 
 module _ (rows : Rows) (graph : Graph) (distinct : IsDistinct is_point graph.points) (beside : IsGraphOf rows graph) where
-  abbrev takes_to : Edge → Bool
+  abbrev takes_to : PointEdge → Bool
   takes_to edge = takes_payments graph.known rows.nodes edge.to
 
-  joined_one : (edge : Edge) → Among (carrying rows) edge → IsJoined graph.points edge
+  joined_one : (edge : PointEdge) → Among (carrying rows) edge → IsJoined graph.points edge
   joined_one edge there = All_among (IsJoined graph.points) (carrying rows) edge beside.shows.joined there
 
   -- whether an end takes payments stands at its number
@@ -35,34 +35,34 @@ module _ (rows : Rows) (graph : Graph) (distinct : IsDistinct is_point graph.poi
       ∙ get_map (takes_payments graph.known rows.nodes) graph.points (number_of graph.points p) p false there
       ∙ ap (takes_payments graph.known rows.nodes) (get_number graph.points p p there)
 
-  held_link : (edge : Edge) → Among (edges_of graph.known rows) edge → Among (links graph) (link_of graph.points edge)
-  held_link edge there =
+  held_numbered : (edge : PointEdge) → Among (edges_of graph.known rows) edge → Among (edges graph) (numbered_in graph.points edge)
+  held_numbered edge there =
       let passed = Among-passed takes_to (carrying rows) edge there in
       let both = joined_one edge passed.0 in
-      let at : Among (get_or graph.into (number_of graph.points edge.to) []) (link_of graph.points edge) =
-      rw (beside.shows.into_is) (link_there graph.points distinct (carrying rows) beside.shows.joined (λ e. e.to) edge passed.0 both.1) in
-      zipped_in graph.takes graph.into (number_of graph.points edge.to) (link_of graph.points edge) (flag_at edge.to both.1 ∙ passed.1) at
+      let at : Among (get_or graph.into (number_of graph.points edge.to) []) (numbered_in graph.points edge) =
+      rw (beside.shows.into_is) (edge_there graph.points distinct (carrying rows) beside.shows.joined (λ e. e.to) edge passed.0 both.1) in
+      zipped_in graph.takes graph.into (number_of graph.points edge.to) (numbered_in graph.points edge) (flag_at edge.to both.1 ∙ passed.1) at
 
-  held_edge : (edge : Edge) → Among (edges graph) edge → Among (edges_of graph.known rows) edge
+  held_edge : (edge : PointEdge) → Among (point_edges graph) edge → Among (edges_of graph.known rows) edge
   held_edge edge there =
-      let link = Among-mapped (edge_at graph.points) (links graph) edge there in
-      let place = zipped_out graph.takes graph.into link.0 link.1 in
-      let at = subst (λ (ls : List (List Link)). Among (get_or ls place.0 []) link.0) beside.shows.into_is place.2 in
-      let made = link_at graph.points distinct (carrying rows) beside.shows.joined (λ e. e.to) place.0 link.0 at in
+      let listed = Among-mapped (edge_between graph.points) (edges graph) edge there in
+      let place = zipped_out graph.takes graph.into listed.0 listed.1 in
+      let at = subst (λ (ls : List (List Edge)). Among (get_or ls place.0 []) listed.0) beside.shows.into_is place.2 in
+      let made = edge_at graph.points distinct (carrying rows) beside.shows.joined (λ e. e.to) place.0 listed.0 at in
       let both = joined_one made.0 made.1 in
       let own : made.0 ≡ edge =
       sym (back_again graph.points distinct (carrying rows) beside.shows.joined made.0 both)
-      ∙ ap (edge_at graph.points) made.2 ∙ link.2 in
+      ∙ ap (edge_between graph.points) made.2 ∙ listed.2 in
       let flag : takes_to made.0 ≡ true = sym (flag_at made.0.to both.1) ∙ ap (λ n. get_or graph.takes n false) made.3 ∙ place.1 in
       rw (← own) (Among-passes takes_to (carrying rows) made.0 made.1 flag)
 
-  pub holds : (edge : Edge) → Contains (edges graph) edge ↔ Contains (edges_of graph.known rows) edge
+  pub holds : (edge : PointEdge) → Contains (point_edges graph) edge ↔ Contains (edges_of graph.known rows) edge
   holds edge = (
-    λ there. Contains-Among (edges_of graph.known rows) edge (held_edge edge (Among-Contains (edges graph) edge there)),
+    λ there. Contains-Among (edges_of graph.known rows) edge (held_edge edge (Among-Contains (point_edges graph) edge there)),
     λ there. let among = Among-Contains (edges_of graph.known rows) edge there in
         let both = joined_one edge (Among-passed takes_to (carrying rows) edge among).0 in
-        Contains-Among (edges graph) edge (rw (← back_again graph.points distinct (carrying rows) beside.shows.joined edge both)
-        (Among-map (edge_at graph.points) (links graph) (link_of graph.points edge) (held_link edge among))),
+        Contains-Among (point_edges graph) edge (rw (← back_again graph.points distinct (carrying rows) beside.shows.joined edge both)
+        (Among-map (edge_between graph.points) (edges graph) (numbered_in graph.points edge) (held_numbered edge among))),
   )
 
 -- ---- directions
@@ -107,7 +107,7 @@ self_equal Less e = absurd cc
 self_equal Equal e = refl
 self_equal Greater e = absurd cc
 
-key_of : (channels : List ChannelRow) (row : UpdateRow) (e : Edge) → edge_in channels row ≡ Some e
+key_of : (channels : List ChannelRow) (row : UpdateRow) (e : PointEdge) → edge_in channels row ≡ Some e
     → (e.scid ≡ row.message.short_channel_id) × (e.second ≡ is_second row)
 unfolding edge_of
 key_of channels row e is = let found = edge_in-some channels row e is in rw (found.2) (refl, refl)
@@ -115,7 +115,7 @@ key_of channels row e is = let found = edge_in-some channels row e is in rw (fou
 pub are_directions : (known : Option (List ℕ)) (rows : Rows) → IsAscending rows → AreDirections (edges_of known rows)
 are_directions known rows ascend edge other there also same = by (other_direction edge.second other.second)
   where
-    carried : (e : Edge) → Contains (edges_of known rows) e → Among (carrying rows) e
+    carried : (e : PointEdge) → Contains (edges_of known rows) e → Among (carrying rows) e
     carried e is = (Among-passed (λ e. takes_payments known rows.nodes e.to) (carrying rows) e (Among-Contains (edges_of known rows) e is)).0
 
     one : IsOfChannel rows.channels edge
@@ -127,7 +127,7 @@ are_directions known rows ascend edge other there also same = by (other_directio
     channel : one.channel ≡ two.channel
     channel = let h : Some one.channel ≡ Some two.channel = sym one.held ∙ ap (channel_of rows.channels) same ∙ two.held in cc
 
-    equal : (id : ℕ) (second : Bool) (e : Edge) → e.scid ≡ id → e.second ≡ second → to_key id second e ≡ Equal
+    equal : (id : ℕ) (second : Bool) (e : PointEdge) → e.scid ≡ id → e.second ≡ second → to_key id second e ≡ Equal
     equal id second e a b = rw (a, b) (self_equal (direction_cmp (id, second) (id, second)) (direction_total.antisymm (id, second) (id, second)))
 
     same_edge : edge.second ≡ other.second → edge ≡ other

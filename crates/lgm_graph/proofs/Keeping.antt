@@ -10,10 +10,10 @@ use Rattle.std.proofs.lemmas.Bool.{eqb-true}
 use Rattle.lgm_wire.specs.declared.point.Point.{Point}
 use Rattle.lgm_check.specs.declared.row.ChannelRow.{ChannelRow}
 use Rattle.lgm_store.specs.Rows.{is_point, by_id, channel_of}
+use Rattle.lgm_graph.specs.Edges.{PointEdge}
 use Rattle.lgm_graph.specs.declared.edge.Edge.{Edge}
-use Rattle.lgm_graph.specs.declared.link.Link.{Link}
-use Rattle.lgm_graph.specs.Graph.{link_of}
-use Rattle.lgm_graph.proofs.Showing.{passing, filter-map, links_at}
+use Rattle.lgm_graph.specs.Graph.{numbered_in}
+use Rattle.lgm_graph.proofs.Showing.{passing, filter-map, edges_at}
 use Rattle.lgm_store.proofs.ListLaws.{All-to, filter-alike, filter-swap}
 
 module _ {X Y : Type 0} where
@@ -104,20 +104,20 @@ none_filter t (c ∷ cs) id none = by (none_filter t cs id) (eqb (name_of c) id)
     by others false e true f none = rw (f, e) (others (rw e at none))
     by others false e false f none = rw f (others (rw e at none))
 
--- ---- the links of those that stay
+-- ---- the edges of those that stay
 
--- a test of links that is one of their edges
-pub links_keep : (end : Edge → Point) (points : List Point) (keep : Edge → Bool) (test : Link → Bool)
-    (edges : List Edge) (q : Point) → AllByRecursion (λ e. test (link_of points e) ≡ keep e) edges
-    → filter test (links_at end points edges q) ≡ links_at end points (filter keep edges) q
-links_keep end points keep test edges q same =
-    filter-map (link_of points) test (filter (λ e. is_point q (end e)) edges)
-    ∙ ap (map (link_of points)) (filter-alike (λ e. test (link_of points e)) keep (filter (λ e. is_point q (end e)) edges) (All_pass edges same)
+-- a test of edges by number that is one of those between points
+pub edges_keep : (end : PointEdge → Point) (points : List Point) (keep : PointEdge → Bool) (test : Edge → Bool)
+    (edges : List PointEdge) (q : Point) → AllByRecursion (λ e. test (numbered_in points e) ≡ keep e) edges
+    → filter test (edges_at end points edges q) ≡ edges_at end points (filter keep edges) q
+edges_keep end points keep test edges q same =
+    filter-map (numbered_in points) test (filter (λ e. is_point q (end e)) edges)
+    ∙ ap (map (numbered_in points)) (filter-alike (λ e. test (numbered_in points e)) keep (filter (λ e. is_point q (end e)) edges) (All_pass edges same)
     ∙ filter-swap keep (λ e. is_point q (end e)) edges)
   where
-    All_pass : (es : List Edge) → AllByRecursion (λ e. test (link_of points e) ≡ keep e) es
-        → AllByRecursion (λ e. test (link_of points e) ≡ keep e) (filter (λ e. is_point q (end e)) es)
+    All_pass : (es : List PointEdge) → AllByRecursion (λ e. test (numbered_in points e) ≡ keep e) es
+        → AllByRecursion (λ e. test (numbered_in points e) ≡ keep e) (filter (λ e. is_point q (end e)) es)
     All_pass es all =
-        All-to (λ e. (test (link_of points e) ≡ keep e) × (is_point q (end e) ≡ true))
-        (λ e. test (link_of points e) ≡ keep e) (filter (λ e. is_point q (end e)) es) (λ e both. both.0)
-        (passing (λ e. test (link_of points e) ≡ keep e) (λ e. is_point q (end e)) es all)
+        All-to (λ e. (test (numbered_in points e) ≡ keep e) × (is_point q (end e) ≡ true))
+        (λ e. test (numbered_in points e) ≡ keep e) (filter (λ e. is_point q (end e)) es) (λ e both. both.0)
+        (passing (λ e. test (numbered_in points e) ≡ keep e) (λ e. is_point q (end e)) es all)

@@ -9,7 +9,7 @@ mod Making
 mod Numbering
 mod Walked
 mod Writing
-mod Linking
+mod Listing
 mod Flags
 mod Updating
 mod Noding

@@ -11,14 +11,13 @@ use Rattle.lgm_check.specs.declared.row.ChannelRow.{ChannelRow}
 use Rattle.lgm_check.specs.declared.row.UpdateRow.{UpdateRow}
 use Rattle.lgm_store.specs.Rows.{is_point, is_second, update_of}
 use Rattle.lgm_graph.specs.declared.edge.Edge.{Edge}
-use Rattle.lgm_graph.specs.declared.link.Link.{Link}
 use Rattle.lgm_graph.specs.declared.nodes.Nodes.{Nodes}
-use Rattle.lgm_graph.specs.Edges.{edge_of, edge_on, end_of}
-use Rattle.lgm_graph.specs.Graph.{Graph, number_of, IsNumbered, IsJoined, linked, Shows}
-use Rattle.lgm_graph.specs.inner.Sound.{graph_in, links_in, ShowsIn}
+use Rattle.lgm_graph.specs.Edges.{PointEdge, edge_of, edge_on, end_of}
+use Rattle.lgm_graph.specs.Graph.{Graph, number_of, IsNumbered, IsJoined, numbered_as, Shows}
+use Rattle.lgm_graph.specs.inner.Sound.{graph_in, edges_in, ShowsIn}
 use Rattle.lgm_graph.specs.inner.Walk.{edge_of_direction}
 use Rattle.lgm_graph.proofs.Carrying.{edge_on-is}
-use Rattle.lgm_graph.proofs.Showing.{links_at, shows_push}
+use Rattle.lgm_graph.proofs.Showing.{edges_at, shows_push}
 
 -- ---- nodes that look alike
 
@@ -29,26 +28,26 @@ module _ (old new : Nodes) (same : (known : Option (List ℕ)) → graph_in know
   pub same_takes : new.takes.items ≡ old.takes.items
   same_takes = ap (λ (g : Graph). g.takes) (same None)
 
-  pub same_into : map links_in new.into.items ≡ map links_in old.into.items
+  pub same_into : map edges_in new.into.items ≡ map edges_in old.into.items
   same_into = ap (λ (g : Graph). g.into) (same None)
 
-  pub same_out : map links_in new.out.items ≡ map links_in old.out.items
+  pub same_out : map edges_in new.out.items ≡ map edges_in old.out.items
   same_out = ap (λ (g : Graph). g.out) (same None)
 
-  pub same_shows : (edges : List Edge) → ShowsIn edges old → ShowsIn edges new
+  pub same_shows : (edges : List PointEdge) → ShowsIn edges old → ShowsIn edges new
   same_shows edges = subst (λ (g : Graph). Shows edges g.points g.into g.out) (sym (same None))
 
 -- each node has its lists
-module _ (edges : List Edge) (nodes : Nodes) (shows : ShowsIn edges nodes) where
+module _ (edges : List PointEdge) (nodes : Nodes) (shows : ShowsIn edges nodes) where
   pub into_long : length nodes.into.items ≡ length nodes.points.keys
   into_long =
-      sym (length-map nodes.into.items links_in) ∙ ap length shows.into_is
-      ∙ length-map nodes.points.keys (links_at (λ e. e.to) nodes.points.keys edges)
+      sym (length-map nodes.into.items edges_in) ∙ ap length shows.into_is
+      ∙ length-map nodes.points.keys (edges_at (λ e. e.to) nodes.points.keys edges)
 
   pub out_long : length nodes.out.items ≡ length nodes.points.keys
   out_long =
-      sym (length-map nodes.out.items links_in) ∙ ap length shows.out_is
-      ∙ length-map nodes.points.keys (links_at (λ e. e.from) nodes.points.keys edges)
+      sym (length-map nodes.out.items edges_in) ∙ ap length shows.out_is
+      ∙ length-map nodes.points.keys (edges_at (λ e. e.from) nodes.points.keys edges)
 
 -- ---- the ends of a direction
 
@@ -77,33 +76,33 @@ pub update_second : (updates : List UpdateRow) (id : ℕ) (second : Bool) (row :
     → update_of updates id second ≡ Some row → is_second row ≡ second
 update_second updates id second row is = same_bool (is_second row) second (and_parts _ (beq (is_second row) second) (found_passes _ updates row is)).1
 
-pub edge_from : (channel : ChannelRow) (row : UpdateRow) (edge : Edge) → Some edge ≡ edge_on channel row → edge.from ≡ end_of channel (is_second row)
+pub edge_from : (channel : ChannelRow) (row : UpdateRow) (edge : PointEdge) → Some edge ≡ edge_on channel row → edge.from ≡ end_of channel (is_second row)
 unfolding edge_of
 edge_from channel row edge is = rw (edge_on-is channel row edge (sym is)) refl
 
-pub edge_to : (channel : ChannelRow) (row : UpdateRow) (edge : Edge) → Some edge ≡ edge_on channel row
+pub edge_to : (channel : ChannelRow) (row : UpdateRow) (edge : PointEdge) → Some edge ≡ edge_on channel row
     → edge.to ≡ end_of channel (not (is_second row))
 unfolding edge_of
 edge_to channel row edge is = rw (edge_on-is channel row edge (sym is)) refl
 
 -- the edge of a direction
 pub direction_some : (updates : List UpdateRow) (channel : ChannelRow) (id : ℕ) (second : Bool)
-    (row : UpdateRow) (edge : Edge) → id ≡ channel.message.short_channel_id
+    (row : UpdateRow) (edge : PointEdge) → id ≡ channel.message.short_channel_id
     → Some row ≡ update_of updates id second → Some edge ≡ edge_on channel row → edge_of_direction updates channel second ≡ Some edge
 direction_some updates channel id second row edge own found is =
     ap (option_and_then (edge_on channel)) (ap (λ id. update_of updates id second) (sym own) ∙ sym found) ∙ sym is
 
 -- ---- a further edge
 
-pub pushed : (old mid new : Nodes) (edges : List Edge) (edge : Edge) (from to : ℕ) (link : Link) → IsDistinct is_point old.points.keys
+pub pushed : (old mid new : Nodes) (edges : List PointEdge) (edge : PointEdge) (from to : ℕ) (listed : Edge) → IsDistinct is_point old.points.keys
     → ((known : Option (List ℕ)) → graph_in known mid ≡ graph_in known old)
-    → from ≡ number_of old.points.keys edge.from → to ≡ number_of old.points.keys edge.to → link ≡ linked edge from to → IsJoined old.points.keys edge
+    → from ≡ number_of old.points.keys edge.from → to ≡ number_of old.points.keys edge.to → listed ≡ numbered_as edge from to → IsJoined old.points.keys edge
     → new.points.keys ≡ mid.points.keys
-    → map links_in new.into.items ≡ set (map links_in mid.into.items) to (get_or (map links_in mid.into.items) to [] ++ link ∷ [])
-    → map links_in new.out.items ≡ set (map links_in mid.out.items) from (get_or (map links_in mid.out.items) from [] ++ link ∷ [])
+    → map edges_in new.into.items ≡ set (map edges_in mid.into.items) to (get_or (map edges_in mid.into.items) to [] ++ listed ∷ [])
+    → map edges_in new.out.items ≡ set (map edges_in mid.out.items) from (get_or (map edges_in mid.out.items) from [] ++ listed ∷ [])
     → ShowsIn edges old → ShowsIn (edges ++ edge ∷ []) new
-pushed old mid new edges edge from to link distinct same from_is to_is link_is joined points into out shows =
-    rw (points, into, out, link_is, from_is, to_is, same_points old mid same, same_into old mid same, same_out old mid same)
-    (shows_push edges old.points.keys (map links_in old.into.items) (map links_in old.out.items) edge distinct joined shows)
+pushed old mid new edges edge from to listed distinct same from_is to_is listed_is joined points into out shows =
+    rw (points, into, out, listed_is, from_is, to_is, same_points old mid same, same_into old mid same, same_out old mid same)
+    (shows_push edges old.points.keys (map edges_in old.into.items) (map edges_in old.out.items) edge distinct joined shows)
 
 -- ---- whole

@@ -5,11 +5,11 @@ use Rattle.lgm_wire.specs.declared.point.Point.{Point}
 use Rattle.lgm_check.specs.declared.row.NodeRow.{NodeRow}
 use Rattle.lgm_store.specs.Rows.{Rows, is_point, ends_channel}
 use Rattle.lgm_store.specs.History.{with_node}
-use Rattle.lgm_graph.specs.declared.link.Link.{Link}
+use Rattle.lgm_graph.specs.declared.edge.Edge.{Edge}
 use Rattle.lgm_graph.specs.Edges.{carrying, takes_payments}
 use Rattle.lgm_graph.specs.declared.nodes.Nodes.{Nodes}
 use Rattle.lgm_graph.specs.Graph.{IsGraphOf}
-use Rattle.lgm_graph.specs.inner.Sound.{graph_in, links_in, AreFlags}
+use Rattle.lgm_graph.specs.inner.Sound.{graph_in, edges_in, AreFlags}
 use Rattle.lgm_store.proofs.Finding.{node_of-put}
 
 -- the same flags at each point
@@ -43,7 +43,7 @@ module _ (known : Option (List ℕ)) (rows : Rows) (row : NodeRow) where
       by false e = rw e (sym (other_node q e))
 
   -- the view, where the node is looked at anew
-  pub graph_noded : (points : List Point) (takes new : List Bool) (into out : List (List Link))
+  pub graph_noded : (points : List Point) (takes new : List Bool) (into out : List (List Edge))
       → IsGraphOf rows (record { known = known; points = points; takes = takes; into = into; out = out })
       → new ≡ map (λ q. if is_point row.message.node_id q
       then takes_payments known (with_node rows row).nodes q else takes_payments known rows.nodes q) points
@@ -64,5 +64,5 @@ module _ (known : Option (List ℕ)) (rows : Rows) (row : NodeRow) where
       → IsGraphOf after (graph_in known new)
   noded after node old new is own graph points into out flags =
       rw (is, points, into, out) (graph_noded old.points.keys old.takes.items new.takes.items
-      (map links_in old.into.items) (map links_in old.out.items) graph
+      (map edges_in old.into.items) (map edges_in old.out.items) graph
       (flags ∙ rw (is, own, points) refl))

@@ -9,11 +9,10 @@ use Rattle.lgm_wire.specs.declared.point.Point.{Point}
 use Rattle.lgm_check.specs.declared.row.NodeRow.{NodeRow}
 use Rattle.lgm_store.specs.Rows.{is_point}
 use Rattle.lgm_store.proofs.Points.{same_point}
-use Rattle.lgm_graph.specs.declared.edge.Edge.{Edge}
 use Rattle.lgm_graph.specs.declared.nodes.Nodes.{Nodes}
-use Rattle.lgm_graph.specs.Edges.{takes_payments}
+use Rattle.lgm_graph.specs.Edges.{PointEdge, takes_payments}
 use Rattle.lgm_graph.specs.Graph.{number_of, IsNumbered}
-use Rattle.lgm_graph.specs.inner.Sound.{graph_in, links_in, ShowsIn, AreLookedAt}
+use Rattle.lgm_graph.specs.inner.Sound.{graph_in, edges_in, ShowsIn, AreLookedAt}
 use Rattle.lgm_graph.specs.inner.Walk.{KeepsNumbers, HasNumbered}
 use Rattle.lgm_graph.proofs.Showing.{shows_more, numbered_append, numbered_last, turned}
 use Rattle.lgm_graph.proofs.Making.{same_points, same_takes, same_into, same_out}
@@ -75,8 +74,8 @@ number_at (r ∷ rs) (suc n) p q distinct there is =
 module _ (old mid new : Nodes) (point : Point) (takes : Bool) (other : list_any (is_point point) old.points.keys ≡ false)
     (same : (known : Option (List ℕ)) → graph_in known mid ≡ graph_in known old)
     (points_is : new.points.keys ≡ mid.points.keys ++ point ∷ []) (takes_is : new.takes.items ≡ mid.takes.items ++ takes ∷ [])
-    (into_is : map links_in new.into.items ≡ map links_in mid.into.items ++ [] ∷ [])
-    (out_is : map links_in new.out.items ≡ map links_in mid.out.items ++ [] ∷ []) where
+    (into_is : map edges_in new.into.items ≡ map edges_in mid.into.items ++ [] ∷ [])
+    (out_is : map edges_in new.out.items ≡ map edges_in mid.out.items ++ [] ∷ []) where
   pub further_points : new.points.keys ≡ old.points.keys ++ point ∷ []
   further_points = points_is ∙ ap (λ ps. ps ++ point ∷ []) (same_points old mid same)
 
@@ -94,10 +93,10 @@ module _ (old mid new : Nodes) (point : Point) (takes : Bool) (other : list_any 
   further_takes known rows own all =
       rw (takes_is, further_points, same_takes old mid same, all, own, map-append (takes_payments known rows) old.points.keys (point ∷ [])) refl
 
-  pub further_shows : (edges : List Edge) → ShowsIn edges old → ShowsIn edges new
+  pub further_shows : (edges : List PointEdge) → ShowsIn edges old → ShowsIn edges new
   further_shows edges shows =
       rw (further_points, into_is, out_is, same_into old mid same, same_out old mid same)
-      (shows_more edges old.points.keys (map links_in old.into.items) (map links_in old.out.items) point (any_not old.points.keys point other) shows)
+      (shows_more edges old.points.keys (map edges_in old.into.items) (map edges_in old.out.items) point (any_not old.points.keys point other) shows)
 
   pub has_numbered : (known : Option (List ℕ)) (rows : List NodeRow) → takes ≡ takes_payments known rows point
       → HasNumbered known rows point old new

@@ -12,27 +12,26 @@ use Rattle.lgm_store.specs.Rows.{Rows, is_point}
 use Rattle.lgm_store.proofs.ListLaws.{All-filter, All-to}
 use Rattle.lgm_store.proofs.Points.{same_point, is_point-self}
 use Rattle.lgm_graph.specs.declared.edge.Edge.{Edge}
-use Rattle.lgm_graph.specs.declared.link.Link.{Link}
-use Rattle.lgm_graph.specs.Edges.{carrying, edges_of, takes_payments}
-use Rattle.lgm_graph.specs.Graph.{Graph, IsGraphOf, IsJoined, IsNumbered, number_of, link_of, edge_at, edges}
-use Rattle.lgm_graph.proofs.Showing.{links_at}
-use Rattle.lgm_graph.proofs.Linking.{back_again}
+use Rattle.lgm_graph.specs.Edges.{PointEdge, carrying, edges_of, takes_payments}
+use Rattle.lgm_graph.specs.Graph.{Graph, IsGraphOf, IsJoined, IsNumbered, number_of, numbered_in, edge_between, point_edges}
+use Rattle.lgm_graph.proofs.Showing.{edges_at}
+use Rattle.lgm_graph.proofs.Listing.{back_again}
 
 -- those that go to each of the points, one point after the other
-abbrev gathered : List Point → List Edge → List Edge
+abbrev gathered : List Point → List PointEdge → List PointEdge
 gathered points edges = flat_map (λ point. filter (λ e. is_point point e.to) edges) points
 
 -- those that don't go to a point, where the others don't matter
-gathered_others : (p : Point) (edges : List Edge) (points : List Point) → AllByRecursion (λ q. is_point p q ≡ false) points
+gathered_others : (p : Point) (edges : List PointEdge) (points : List Point) → AllByRecursion (λ q. is_point p q ≡ false) points
     → gathered points (filter (λ e. not (is_point p e.to)) edges) ≡ gathered points edges
 gathered_others p edges [] apart = refl
 gathered_others p edges (q ∷ qs) apart = rw (here, gathered_others p edges qs apart.1) refl
   where
-    each : (es : List Edge) → AllByRecursion (λ e. (is_point q e.to ≡ true) → not (is_point p e.to) ≡ true) es
+    each : (es : List PointEdge) → AllByRecursion (λ e. (is_point q e.to ≡ true) → not (is_point p e.to) ≡ true) es
     each [] = tt
     each (e ∷ es) = ((λ is. ap (λ (x : Point). not (is_point p x)) (sym (same_point q e.to is)) ∙ rw apart.0 refl), each es)
 
-    pass : (es : List Edge) → AllByRecursion (λ e. (is_point q e.to ≡ true) → not (is_point p e.to) ≡ true) es
+    pass : (es : List PointEdge) → AllByRecursion (λ e. (is_point q e.to ≡ true) → not (is_point p e.to) ≡ true) es
         → filter (λ e. is_point q e.to) (filter (λ e. not (is_point p e.to)) es) ≡ filter (λ e. is_point q e.to) es
     pass [] all = refl
     pass (e ∷ es) all = by (pass es all.1) (is_point q e.to) refl (not (is_point p e.to)) refl
@@ -51,18 +50,18 @@ gathered_others p edges (q ∷ qs) apart = rw (here, gathered_others p edges qs 
     here = pass edges (each edges)
 
 -- each edge goes to one of the points, and so is gathered once
-gathered_once : (points : List Point) (edges : List Edge) → IsDistinct is_point points → AllByRecursion
+gathered_once : (points : List Point) (edges : List PointEdge) → IsDistinct is_point points → AllByRecursion
     (λ e. list_any (λ p. is_point p e.to) points ≡ true) edges → IsPermutation edges (gathered points edges)
 gathered_once [] [] distinct all = IsPermutation-refl []
 gathered_once [] (e ∷ es) distinct all = let never : false ≡ true = all.0 in absurd cc
 gathered_once (p ∷ ps) edges distinct all =
     IsPermutation-trans edges (filter (λ e. is_point p e.to) edges ++ filter (λ e. not (is_point p e.to)) edges) (gathered (p ∷ ps) edges)
-    (IsPermutation-filter_both (λ (e : Edge). is_point p e.to) (λ e. not (is_point p e.to)) (λ e. refl) edges)
+    (IsPermutation-filter_both (λ (e : PointEdge). is_point p e.to) (λ e. not (is_point p e.to)) (λ e. refl) edges)
     (IsPermutation-append_right (filter (λ e. is_point p e.to) edges) (filter (λ e. not (is_point p e.to)) edges) (gathered ps edges)
     (subst (IsPermutation (filter (λ e. not (is_point p e.to)) edges)) (gathered_others p edges ps (IsDistinct-head is_point p ps distinct))
     (gathered_once ps (filter (λ e. not (is_point p e.to)) edges) (IsDistinct-tail is_point p ps distinct) (others edges all))))
   where
-    others : (es : List Edge) → AllByRecursion (λ e. (is_point p e.to || list_any (λ q. is_point q e.to) ps) ≡ true) es
+    others : (es : List PointEdge) → AllByRecursion (λ e. (is_point p e.to || list_any (λ q. is_point q e.to) ps) ≡ true) es
         → AllByRecursion (λ e. list_any (λ q. is_point q e.to) ps ≡ true) (filter (λ e. not (is_point p e.to)) es)
     others [] all = tt
     others (e ∷ es) all = by (others es all.1) (is_point p e.to) refl
@@ -93,74 +92,74 @@ numbered_among (q ∷ qs) p there = by (numbered_among qs p) (is_point p q) refl
 
 module _ (rows : Rows) (graph : Graph) (distinct : IsDistinct is_point graph.points) (beside : IsGraphOf rows graph) where
   -- the edges into one node
-  edges_at : (p : Point) → map (edge_at graph.points) (if takes_payments graph.known rows.nodes p
-      then links_at (λ e. e.to) graph.points (carrying rows) p else [])
+  shown_at : (p : Point) → map (edge_between graph.points) (if takes_payments graph.known rows.nodes p
+      then edges_at (λ e. e.to) graph.points (carrying rows) p else [])
       ≡ filter (λ e. is_point p e.to) (edges_of graph.known rows)
-  edges_at p = along (carrying rows) beside.shows.joined
+  shown_at p = along (carrying rows) beside.shows.joined
     where
-      along : (es : List Edge) → AllByRecursion (IsJoined graph.points) es
-          → map (edge_at graph.points) (if takes_payments graph.known rows.nodes p
-          then links_at (λ e. e.to) graph.points es p else [])
+      along : (es : List PointEdge) → AllByRecursion (IsJoined graph.points) es
+          → map (edge_between graph.points) (if takes_payments graph.known rows.nodes p
+          then edges_at (λ e. e.to) graph.points es p else [])
           ≡ filter (λ e. is_point p e.to) (filter (λ e. takes_payments graph.known rows.nodes e.to) es)
       along [] joined = none (takes_payments graph.known rows.nodes p)
         where
-          none : (b : Bool) → map (edge_at graph.points) (if b then [] else []) ≡ []
+          none : (b : Bool) → map (edge_between graph.points) (if b then [] else []) ≡ []
           none true = refl
           none false = refl
       along (e ∷ es) joined = by (along es joined.1) (is_point p e.to) refl (takes_payments graph.known rows.nodes p) refl
         where
-          into : List Edge
+          into : List PointEdge
           into = filter (λ d. is_point p d.to) es
 
-          left : List Edge
+          left : List PointEdge
           left = filter (λ d. takes_payments graph.known rows.nodes d.to) es
 
-          by : map (edge_at graph.points) (if takes_payments graph.known rows.nodes p
-              then map (link_of graph.points) into else []) ≡ filter (λ d. is_point p d.to) left
+          by : map (edge_between graph.points) (if takes_payments graph.known rows.nodes p
+              then map (numbered_in graph.points) into else []) ≡ filter (λ d. is_point p d.to) left
               → (b : Bool) → is_point p e.to ≡ b → (t : Bool) → takes_payments graph.known rows.nodes p ≡ t
-              → map (edge_at graph.points) (if takes_payments graph.known rows.nodes p
-              then map (link_of graph.points) (cond (is_point p e.to) (e ∷ into) into) else [])
+              → map (edge_between graph.points) (if takes_payments graph.known rows.nodes p
+              then map (numbered_in graph.points) (cond (is_point p e.to) (e ∷ into) into) else [])
               ≡ filter (λ d. is_point p d.to) (cond (takes_payments graph.known rows.nodes e.to) (e ∷ left) left)
           by rest true b true t =
               let own : takes_payments graph.known rows.nodes e.to ≡ true =
               ap (takes_payments graph.known rows.nodes) (sym (same_point p e.to b)) ∙ t in
               let back = back_again graph.points distinct (carrying rows) beside.shows.joined e joined.0 in
-              let rest' : map (edge_at graph.points) (map (link_of graph.points) into) ≡ filter (λ d. is_point p d.to) left = rw t at rest in
-              rw (b, t, own, b) (ap (λ (d : Edge). d ∷ map (edge_at graph.points)
-              (map (link_of graph.points) into)) back ∙ ap (λ (l : List Edge). e ∷ l) rest')
+              let rest' : map (edge_between graph.points) (map (numbered_in graph.points) into) ≡ filter (λ d. is_point p d.to) left = rw t at rest in
+              rw (b, t, own, b) (ap (λ (d : PointEdge). d ∷ map (edge_between graph.points)
+              (map (numbered_in graph.points) into)) back ∙ ap (λ (l : List PointEdge). e ∷ l) rest')
           by rest true b false t =
               let own : takes_payments graph.known rows.nodes e.to ≡ false =
               ap (takes_payments graph.known rows.nodes) (sym (same_point p e.to b)) ∙ t in
               rw (own, t) (rw t at rest)
           by rest false b t is = elsewhere (takes_payments graph.known rows.nodes e.to)
             where
-              elsewhere : (d : Bool) → map (edge_at graph.points) (if takes_payments graph.known rows.nodes p
-                  then map (link_of graph.points) (cond (is_point p e.to) (e ∷ into) into) else [])
+              elsewhere : (d : Bool) → map (edge_between graph.points) (if takes_payments graph.known rows.nodes p
+                  then map (numbered_in graph.points) (cond (is_point p e.to) (e ∷ into) into) else [])
                   ≡ filter (λ d. is_point p d.to) (cond d (e ∷ left) left)
               elsewhere true = rw b rest
               elsewhere false = rw b rest
 
-  links_are : (ps : List Point) → map (edge_at graph.points) (flat_map (λ (node : Bool × List Link). if node.0
+  edges_are : (ps : List Point) → map (edge_between graph.points) (flat_map (λ (node : Bool × List Edge). if node.0
       then node.1 else []) (zip (map (takes_payments graph.known rows.nodes) ps)
-      (map (links_at (λ e. e.to) graph.points (carrying rows)) ps)))
+      (map (edges_at (λ e. e.to) graph.points (carrying rows)) ps)))
       ≡ gathered ps (edges_of graph.known rows)
-  links_are [] = refl
-  links_are (p ∷ ps) =
-      map-append (edge_at graph.points) (if takes_payments graph.known rows.nodes p
-      then links_at (λ e. e.to) graph.points (carrying rows) p else []) _
-      ∙ rw (edges_at p, links_are ps) refl
+  edges_are [] = refl
+  edges_are (p ∷ ps) =
+      map-append (edge_between graph.points) (if takes_payments graph.known rows.nodes p
+      then edges_at (λ e. e.to) graph.points (carrying rows) p else []) _
+      ∙ rw (shown_at p, edges_are ps) refl
 
-  pub once : IsPermutation (edges_of graph.known rows) (edges graph)
+  pub once : IsPermutation (edges_of graph.known rows) (point_edges graph)
   once =
       let all : AllByRecursion (λ e. list_any (λ q. is_point q e.to) graph.points ≡ true) (edges_of graph.known rows) =
       All-filter _ (λ e. takes_payments graph.known rows.nodes e.to) (carrying rows)
       (All-to (IsJoined graph.points) (λ e. list_any (λ q. is_point q e.to) graph.points ≡ true)
       (carrying rows) (λ e both. numbered_among graph.points e.to both.1) beside.shows.joined) in
-      let is : edges graph ≡ gathered graph.points (edges_of graph.known rows) =
-      ap (λ (ts : List Bool). map (edge_at graph.points) (flat_map
-      (λ (node : Bool × List Link). if node.0 then node.1 else []) (zip ts graph.into))) beside.takes
-      ∙ ap (λ (ls : List (List Link)).
-      map (edge_at graph.points) (flat_map (λ (node : Bool × List Link). if node.0 then node.1 else [])
+      let is : point_edges graph ≡ gathered graph.points (edges_of graph.known rows) =
+      ap (λ (ts : List Bool). map (edge_between graph.points) (flat_map
+      (λ (node : Bool × List Edge). if node.0 then node.1 else []) (zip ts graph.into))) beside.takes
+      ∙ ap (λ (ls : List (List Edge)).
+      map (edge_between graph.points) (flat_map (λ (node : Bool × List Edge). if node.0 then node.1 else [])
       (zip (map (takes_payments graph.known rows.nodes) graph.points) ls))) beside.shows.into_is
-      ∙ links_are graph.points in
+      ∙ edges_are graph.points in
       subst (IsPermutation (edges_of graph.known rows)) (sym is) (gathered_once graph.points (edges_of graph.known rows) distinct all)

@@ -25,16 +25,15 @@ use Rattle.lgm_store.proofs.ListLaws.{All-append, All-filter, All-to, any-kept, 
 use Rattle.lgm_store.proofs.Points.{same_point, is_point-self}
 use Rattle.lgm_store.proofs.Bans.{ends_banned-put}
 use Rattle.lgm_graph.specs.declared.edge.Edge.{Edge}
-use Rattle.lgm_graph.specs.declared.link.Link.{Link}
 use Rattle.lgm_graph.specs.declared.nodes.Nodes.{Nodes}
 use Rattle.lgm_graph.specs.Known.{allows}
-use Rattle.lgm_graph.specs.Edges.{end_of, carrying, takes_payments}
-use Rattle.lgm_graph.specs.Graph.{IsGraphOf, IsJoined, link_of}
+use Rattle.lgm_graph.specs.Edges.{PointEdge, end_of, carrying, takes_payments}
+use Rattle.lgm_graph.specs.Graph.{IsGraphOf, IsJoined, numbered_in}
 use Rattle.lgm_graph.specs.inner.Sound.{graph_in, AreInto, AreOut, AreFlags, is_allowed, is_among, HasEnds}
 use Rattle.lgm_graph.proofs.Numbers.{found_holds}
 use Rattle.lgm_graph.proofs.Carrying.{IsOfChannel, carrying_of}
-use Rattle.lgm_graph.proofs.Showing.{passing, links_at}
-use Rattle.lgm_graph.proofs.Keeping.{links_keep}
+use Rattle.lgm_graph.proofs.Showing.{passing, edges_at}
+use Rattle.lgm_graph.proofs.Keeping.{edges_keep}
 use Rattle.lgm_graph.proofs.Closing.{lists_alike}
 use Rattle.lgm_graph.proofs.Noding.{flags_alike}
 use Rattle.lgm_graph.proofs.Banning.{node_banned, banned_tests}
@@ -260,7 +259,7 @@ module _ (known : Option (List ℕ)) (rows : Rows) (banned : List Point) (lawful
     (ends : List Point)
     (parted : AllByRecursion (λ row. ends_banned banned row ≡ true → HasEnds ends row) rows.channels) where
   -- an edge of a banned node has both of its ends among the points
-  edge_ends : (e : Edge) → IsOfChannel rows.channels e → (is_banned banned e.from || is_banned banned e.to)
+  edge_ends : (e : PointEdge) → IsOfChannel rows.channels e → (is_banned banned e.from || is_banned banned e.to)
       ≡ true → (is_among ends e.from ≡ true) × (is_among ends e.to ≡ true)
   edge_ends e of is =
       let has : ends_banned banned of.channel ≡ true → HasEnds ends of.channel =
@@ -279,7 +278,7 @@ module _ (known : Option (List ℕ)) (rows : Rows) (banned : List Point) (lawful
       end_among false channel has = has.0
 
   -- elsewhere no edge goes
-  stays_at : (end : Edge → Point) → ((e : Edge) → (is_among ends e.from ≡ true) × (is_among ends e.to ≡ true)
+  stays_at : (end : PointEdge → Point) → ((e : PointEdge) → (is_among ends e.from ≡ true) × (is_among ends e.to ≡ true)
       → is_among ends (end e) ≡ true) → (q : Point) → is_among ends q ≡ false
       → filter (λ e. is_point q (end e)) (filter (λ e. not (is_banned banned e.from || is_banned banned e.to))
       (carrying rows)) ≡ filter (λ e. is_point q (end e)) (carrying rows)
@@ -289,7 +288,7 @@ module _ (known : Option (List ℕ)) (rows : Rows) (banned : List Point) (lawful
       (All-to _ _ (filter (λ e. is_point q (end e)) (carrying rows)) each (passing (IsOfChannel rows.channels)
       (λ e. is_point q (end e)) (carrying rows) (carrying_of rows.channels rows.updates)))
     where
-      each : (e : Edge) → IsOfChannel rows.channels e × (is_point q (end e) ≡ true) → not (is_banned banned e.from || is_banned banned e.to) ≡ true
+      each : (e : PointEdge) → IsOfChannel rows.channels e × (is_point q (end e) ≡ true) → not (is_banned banned e.from || is_banned banned e.to) ≡ true
       each e both = by (is_banned banned e.from || is_banned banned e.to) refl
         where
           by : (b : Bool) → (is_banned banned e.from || is_banned banned e.to) ≡ b → not b ≡ true
@@ -333,34 +332,34 @@ module _ (known : Option (List ℕ)) (rows : Rows) (banned : List Point) (lawful
 
   -- ---- all of it
 
-  links_parted : (end : Edge → Point) (points : List Point) → AllByRecursion (IsJoined points) (carrying rows)
-      → ((e : Edge) → (is_among ends e.from ≡ true) × (is_among ends e.to ≡ true) → is_among ends (end e) ≡ true) → (q : Point)
-      → changed_among (λ q ls. filter (is_allowed points banned) ls) ends (links_at end points
-      (carrying rows)) q ≡ filter (is_allowed points banned) (links_at end points (carrying rows) q)
-  links_parted end points joined which q = by (is_among ends q) refl
+  edges_parted : (end : PointEdge → Point) (points : List Point) → AllByRecursion (IsJoined points) (carrying rows)
+      → ((e : PointEdge) → (is_among ends e.from ≡ true) × (is_among ends e.to ≡ true) → is_among ends (end e) ≡ true) → (q : Point)
+      → changed_among (λ q ls. filter (is_allowed points banned) ls) ends (edges_at end points
+      (carrying rows)) q ≡ filter (is_allowed points banned) (edges_at end points (carrying rows) q)
+  edges_parted end points joined which q = by (is_among ends q) refl
     where
-      kept : filter (is_allowed points banned) (links_at end points (carrying rows) q) ≡ links_at end points
+      kept : filter (is_allowed points banned) (edges_at end points (carrying rows) q) ≡ edges_at end points
           (filter (λ e. not (is_banned banned e.from || is_banned banned e.to)) (carrying rows)) q
       kept =
-          links_keep end points (λ e. not (is_banned banned e.from || is_banned banned e.to))
+          edges_keep end points (λ e. not (is_banned banned e.from || is_banned banned e.to))
           (is_allowed points banned) (carrying rows) q (banned_tests banned points (carrying rows) joined)
 
       by : (b : Bool) → is_among ends q ≡ b → changed_among (λ q ls.
-          filter (is_allowed points banned) ls) ends (links_at end points (carrying rows)) q
-          ≡ filter (is_allowed points banned) (links_at end points (carrying rows) q)
+          filter (is_allowed points banned) ls) ends (edges_at end points (carrying rows)) q
+          ≡ filter (is_allowed points banned) (edges_at end points (carrying rows) q)
       by true is = rw is refl
-      by false is = rw is (sym (kept ∙ ap (map (link_of points)) (stays_at end which q is)))
+      by false is = rw is (sym (kept ∙ ap (map (numbered_in points)) (stays_at end which q is)))
 
-  map_twice : (f : List Link → List Link) (g : Point → List Link) (qs : List Point) → map f (map g qs) ≡ map (λ q. f (g q)) qs
+  map_twice : (f : List Edge → List Edge) (g : Point → List Edge) (qs : List Point) → map f (map g qs) ≡ map (λ q. f (g q)) qs
   map_twice f g [] = refl
   map_twice f g (q ∷ qs) = ap (λ l. f (g q) ∷ l) (map_twice f g qs)
 
   pub node_parted : (after : Rows) → after ≡ banning rows banned → (old new : Nodes)
       → IsGraphOf rows (graph_in known old) → new.points.keys ≡ old.points.keys
       → AreInto (changed_among (λ q ls. filter (is_allowed old.points.keys after.banned) ls) ends
-      (links_at (λ e. e.to) old.points.keys (carrying rows))) new
+      (edges_at (λ e. e.to) old.points.keys (carrying rows))) new
       → AreOut (changed_among (λ q ls. filter (is_allowed old.points.keys after.banned) ls) ends
-      (links_at (λ e. e.from) old.points.keys (carrying rows))) new
+      (edges_at (λ e. e.from) old.points.keys (carrying rows))) new
       → AreFlags (changed_among (λ q b. takes_payments known after.nodes q) ends (takes_payments known rows.nodes)) new
       → IsGraphOf after (graph_in known new)
   node_parted after is old new graph points into out flags =
@@ -368,11 +367,11 @@ module _ (known : Option (List ℕ)) (rows : Rows) (banned : List Point) (lawful
       let joined = graph.shows.joined in
       node_banned known rows banned lawful after is old new new graph points
       (into ∙ rw (is, points, graph.shows.into_is)
-      (lists_alike _ _ keys (links_parted (λ e. e.to) keys joined (λ e both. both.1)) ∙ sym
-      (map_twice (filter (is_allowed keys banned)) (links_at (λ e. e.to) keys (carrying rows)) keys)))
+      (lists_alike _ _ keys (edges_parted (λ e. e.to) keys joined (λ e both. both.1)) ∙ sym
+      (map_twice (filter (is_allowed keys banned)) (edges_at (λ e. e.to) keys (carrying rows)) keys)))
       (out ∙ rw (is, points, graph.shows.out_is)
-      (lists_alike _ _ keys (links_parted (λ e. e.from) keys joined (λ e both. both.0)) ∙ sym
-      (map_twice (filter (is_allowed keys banned)) (links_at (λ e. e.from) keys (carrying rows)) keys)))
+      (lists_alike _ _ keys (edges_parted (λ e. e.from) keys joined (λ e both. both.0)) ∙ sym
+      (map_twice (filter (is_allowed keys banned)) (edges_at (λ e. e.from) keys (carrying rows)) keys)))
       refl refl refl
       (flags ∙ rw (is, points) (flags_alike _ (takes_payments known (banning rows banned).nodes) keys looked))
     where

@@ -13,10 +13,10 @@ use Rattle.lgm_wire.specs.declared.point.Point.{Point}
 use Rattle.lgm_store.specs.Rows.{is_point}
 use Rattle.lgm_store.proofs.ListLaws.{All-append, All-filter, All-to}
 use Rattle.lgm_store.proofs.Points.{same_point, is_point-self}
+use Rattle.lgm_graph.specs.Edges.{PointEdge}
 use Rattle.lgm_graph.specs.declared.edge.Edge.{Edge}
-use Rattle.lgm_graph.specs.declared.link.Link.{Link}
-use Rattle.lgm_graph.specs.Graph.{number_of, IsNumbered, IsJoined, link_of, links_by, Shows}
-use Rattle.lgm_graph.specs.inner.Lists.{to_key, link_key, IsCut, put_at}
+use Rattle.lgm_graph.specs.Graph.{number_of, IsNumbered, IsJoined, numbered_in, edges_by, Shows}
+use Rattle.lgm_graph.specs.inner.Lists.{to_key, edge_key, IsCut, put_at}
 use Rattle.lgm_graph.specs.inner.Walk.{KeepsNumbers}
 use Rattle.lgm_graph.proofs.Carrying.{IsCut-filter, put_at-none, option_filter, filter-put}
 use Rattle.lgm_graph.proofs.Numbers.{get_number}
@@ -90,37 +90,37 @@ map_at F G (q ∷ qs) p distinct there other = by (map_at F G qs p (IsDistinct-t
         let fits : suc (number_of qs p) < suc (length qs) = rw (e, next) at lt in
         rw (e, next, sym (other q e)) (ap (λ l. G q ∷ l) (others (omega (arith, fits)) other))
 
-module _ (end : Edge → Point) (points : List Point) where
-  -- the links of a point
-  abbrev pub links_at : List Edge → Point → List Link
-  links_at edges point = map (link_of points) (filter (λ edge. is_point point (end edge)) edges)
+module _ (end : PointEdge → Point) (points : List Point) where
+  -- the edges of a point
+  abbrev pub edges_at : List PointEdge → Point → List Edge
+  edges_at edges point = map (numbered_in points) (filter (λ edge. is_point point (end edge)) edges)
 
-  pub get_links : (edges : List Edge) (p : Point) → IsNumbered points p
-      → get_or (links_by end points edges) (number_of points p) [] ≡ links_at edges p
-  get_links edges p there = get_map (links_at edges) points (number_of points p) p [] there ∙ ap (links_at edges) (get_number points p p there)
+  pub get_edges : (edges : List PointEdge) (p : Point) → IsNumbered points p
+      → get_or (edges_by end points edges) (number_of points p) [] ≡ edges_at edges p
+  get_edges edges p there = get_map (edges_at edges) points (number_of points p) p [] there ∙ ap (edges_at edges) (get_number points p p there)
 
   -- the edges change at one point
-  pub links_by-set : (edges new : List Edge) (p : Point) → IsDistinct is_point points → IsNumbered points p
-      → ((q : Point) → is_point p q ≡ false → links_at new q ≡ links_at edges q)
-      → set (links_by end points edges) (number_of points p) (links_at new p) ≡ links_by end points new
-  links_by-set edges new p distinct there other = map_at (links_at edges) (links_at new) points p distinct there other
+  pub edges_by-set : (edges new : List PointEdge) (p : Point) → IsDistinct is_point points → IsNumbered points p
+      → ((q : Point) → is_point p q ≡ false → edges_at new q ≡ edges_at edges q)
+      → set (edges_by end points edges) (number_of points p) (edges_at new p) ≡ edges_by end points new
+  edges_by-set edges new p distinct there other = map_at (edges_at edges) (edges_at new) points p distinct there other
 
   -- ---- a further edge
 
-  pub links_push : (edges : List Edge) (edge : Edge) → IsDistinct is_point points → IsNumbered points (end edge)
-      → set (links_by end points edges) (number_of points (end edge))
-      (get_or (links_by end points edges) (number_of points (end edge)) [] ++ link_of points edge ∷ [])
-      ≡ links_by end points (edges ++ edge ∷ [])
-  links_push edges edge distinct there =
-      ap (set (links_by end points edges) (number_of points (end edge))) (rw (get_links edges (end edge) there) (sym own))
-      ∙ links_by-set edges (edges ++ edge ∷ []) (end edge) distinct there other
+  pub edges_push : (edges : List PointEdge) (edge : PointEdge) → IsDistinct is_point points → IsNumbered points (end edge)
+      → set (edges_by end points edges) (number_of points (end edge))
+      (get_or (edges_by end points edges) (number_of points (end edge)) [] ++ numbered_in points edge ∷ [])
+      ≡ edges_by end points (edges ++ edge ∷ [])
+  edges_push edges edge distinct there =
+      ap (set (edges_by end points edges) (number_of points (end edge))) (rw (get_edges edges (end edge) there) (sym own))
+      ∙ edges_by-set edges (edges ++ edge ∷ []) (end edge) distinct there other
     where
-      own : links_at (edges ++ edge ∷ []) (end edge) ≡ links_at edges (end edge) ++ link_of points edge ∷ []
+      own : edges_at (edges ++ edge ∷ []) (end edge) ≡ edges_at edges (end edge) ++ numbered_in points edge ∷ []
       own =
           rw (filter-append (λ e. is_point (end edge) (end e)) edges (edge ∷ []), is_point-self (end edge))
-          (map-append (link_of points) (filter (λ e. is_point (end edge) (end e)) edges) (edge ∷ []))
+          (map-append (numbered_in points) (filter (λ e. is_point (end edge) (end e)) edges) (edge ∷ []))
 
-      other : (q : Point) → is_point (end edge) q ≡ false → links_at (edges ++ edge ∷ []) q ≡ links_at edges q
+      other : (q : Point) → is_point (end edge) q ≡ false → edges_at (edges ++ edge ∷ []) q ≡ edges_at edges q
       other q apart =
           rw (
             filter-append (λ e. is_point q (end e)) edges (edge ∷ []),
@@ -130,50 +130,50 @@ module _ (end : Edge → Point) (points : List Point) where
 
   -- ---- an edge put in its place
 
-  module _ (id : ℕ) (second : Bool) (edges : List Edge) (edge : Option Edge) (target : Point) (cut : IsCut (to_key id second) edges)
-      (all : AllByRecursion (λ e. to_key id second e ≡ Equal → end e ≡ target) edges) (own : (e : Edge) → edge ≡ Some e → end e ≡ target) where
-    -- the links of a point are in order
-    pub links_cut : (p : Point) → IsCut (link_key id second) (links_at edges p)
-    links_cut p = IsCut-links (filter (λ e. is_point p (end e)) edges) (IsCut-filter (to_key id second) (λ e. is_point p (end e)) edges cut)
+  module _ (id : ℕ) (second : Bool) (edges : List PointEdge) (edge : Option PointEdge) (target : Point) (cut : IsCut (to_key id second) edges)
+      (all : AllByRecursion (λ e. to_key id second e ≡ Equal → end e ≡ target) edges) (own : (e : PointEdge) → edge ≡ Some e → end e ≡ target) where
+    -- the edges of a point are in order
+    pub edges_cut : (p : Point) → IsCut (edge_key id second) (edges_at edges p)
+    edges_cut p = IsCut-edges (filter (λ e. is_point p (end e)) edges) (IsCut-filter (to_key id second) (λ e. is_point p (end e)) edges cut)
       where
-        above : (es : List Edge) → AllByRecursion (λ e. to_key id second e ≡ Greater) es
-            → AllByRecursion (λ l. link_key id second l ≡ Greater) (map (link_of points) es)
+        above : (es : List PointEdge) → AllByRecursion (λ e. to_key id second e ≡ Greater) es
+            → AllByRecursion (λ l. edge_key id second l ≡ Greater) (map (numbered_in points) es)
         above [] a = tt
         above (e ∷ es) a = (a.0, above es a.1)
 
-        IsCut-links : (es : List Edge) → IsCut (to_key id second) es → IsCut (link_key id second) (map (link_of points) es)
-        IsCut-links [] cut = tt
-        IsCut-links (e ∷ es) (inl below) = inl (below.0, IsCut-links es below.1)
-        IsCut-links (e ∷ es) (inr more) = inr (more.0, above es more.1)
+        IsCut-edges : (es : List PointEdge) → IsCut (to_key id second) es → IsCut (edge_key id second) (map (numbered_in points) es)
+        IsCut-edges [] cut = tt
+        IsCut-edges (e ∷ es) (inl below) = inl (below.0, IsCut-edges es below.1)
+        IsCut-edges (e ∷ es) (inr more) = inr (more.0, above es more.1)
 
-    pub links_put : IsDistinct is_point points → IsNumbered points target
-        → set (links_by end points edges) (number_of points target) (put_at (link_key id second)
-        (get_or (links_by end points edges) (number_of points target) []) (option_map (link_of points) edge))
-        ≡ links_by end points (put_at (to_key id second) edges edge)
-    links_put distinct there =
-        ap (set (links_by end points edges) (number_of points target)) (rw (get_links edges target there) (sym at_target))
-        ∙ links_by-set edges (put_at (to_key id second) edges edge) target distinct there other
+    pub edges_put : IsDistinct is_point points → IsNumbered points target
+        → set (edges_by end points edges) (number_of points target) (put_at (edge_key id second)
+        (get_or (edges_by end points edges) (number_of points target) []) (option_map (numbered_in points) edge))
+        ≡ edges_by end points (put_at (to_key id second) edges edge)
+    edges_put distinct there =
+        ap (set (edges_by end points edges) (number_of points target)) (rw (get_edges edges target there) (sym at_target))
+        ∙ edges_by-set edges (put_at (to_key id second) edges edge) target distinct there other
       where
-        test : Point → Edge → Bool
+        test : Point → PointEdge → Bool
         test = λ p e. is_point p (end e)
 
-        stays : (o : Option Edge) → edge ≡ o → option_filter (λ e. is_point target (end e)) o ≡ o
+        stays : (o : Option PointEdge) → edge ≡ o → option_filter (λ e. is_point target (end e)) o ≡ o
         stays None is = refl
         stays (Some e) is = let self : is_point target (end e) ≡ true = ap (is_point target) (own e is) ∙ is_point-self target in rw self refl
 
-        at_target : links_at (put_at (to_key id second) edges edge) target
-            ≡ put_at (link_key id second) (links_at edges target) (option_map (link_of points) edge)
-        at_target = ap (map (link_of points)) (filter-put (to_key id second) (λ e. is_point target (end e)) edges edge
+        at_target : edges_at (put_at (to_key id second) edges edge) target
+            ≡ put_at (edge_key id second) (edges_at edges target) (option_map (numbered_in points) edge)
+        at_target = ap (map (numbered_in points)) (filter-put (to_key id second) (λ e. is_point target (end e)) edges edge
             ∙ ap (put_at (to_key id second) (filter (λ e. is_point target (end e)) edges)) (stays edge refl))
-            ∙ sym (put_at-map (link_of points) (link_key id second) (filter (λ e. is_point target (end e)) edges) edge)
+            ∙ sym (put_at-map (numbered_in points) (edge_key id second) (filter (λ e. is_point target (end e)) edges) edge)
 
-        never : (p : Point) → is_point target p ≡ false → (e : Edge) → end e ≡ target → is_point p (end e) ≡ true → ⊥
+        never : (p : Point) → is_point target p ≡ false → (e : PointEdge) → end e ≡ target → is_point p (end e) ≡ true → ⊥
         never p other e is passes =
             let same : p ≡ target = same_point p (end e) passes ∙ is in
             let self : is_point target p ≡ true = ap (is_point target) same ∙ is_point-self target in
             true≢false (sym self ∙ other)
 
-        gone : (p : Point) → is_point target p ≡ false → (o : Option Edge) → edge ≡ o → option_filter (λ e. is_point p (end e)) o ≡ None
+        gone : (p : Point) → is_point target p ≡ false → (o : Option PointEdge) → edge ≡ o → option_filter (λ e. is_point p (end e)) o ≡ None
         gone p other None is = refl
         gone p other (Some e) is = by (is_point p (end e)) refl
           where
@@ -185,8 +185,8 @@ module _ (end : Edge → Point) (points : List Point) where
         apart p other = All-to (λ e. (to_key id second e ≡ Equal → end e ≡ target) × (is_point p (end e) ≡ true)) (λ e. to_key id second e ≢ Equal) _
             (λ e is k. never p other e (is.0 k) is.1) (passing (λ e. to_key id second e ≡ Equal → end e ≡ target) (λ e. is_point p (end e)) edges all)
 
-        other : (q : Point) → is_point target q ≡ false → links_at (put_at (to_key id second) edges edge) q ≡ links_at edges q
-        other q away = ap (map (link_of points)) (filter-put (to_key id second) (λ e. is_point q (end e)) edges edge
+        other : (q : Point) → is_point target q ≡ false → edges_at (put_at (to_key id second) edges edge) q ≡ edges_at edges q
+        other q away = ap (map (numbered_in points)) (filter-put (to_key id second) (λ e. is_point q (end e)) edges edge
             ∙ ap (put_at (to_key id second) (filter (λ e. is_point q (end e)) edges)) (gone q away edge refl)
             ∙ put_at-none (to_key id second) (filter (λ e. is_point q (end e)) edges)
             (IsCut-filter (to_key id second) (λ e. is_point q (end e)) edges cut) (apart q away))
@@ -223,13 +223,13 @@ numbered_last (r ∷ rs) p new = by (numbered_last rs p) (is_point p r) refl new
         rw e (omega (arith, rest.0), omega (arith, rest.1))
 
 -- edges by numbers stay
-pub links_kept : (points more : List Point) (edges : List Edge) → KeepsNumbers points more → AllByRecursion (IsJoined points) edges
-    → AllByRecursion (λ e. link_of points e ≡ link_of more e) edges
-links_kept points more edges keeps joined = All-to (IsJoined points) (λ e. link_of points e ≡ link_of more e) edges
+pub edges_kept : (points more : List Point) (edges : List PointEdge) → KeepsNumbers points more → AllByRecursion (IsJoined points) edges
+    → AllByRecursion (λ e. numbered_in points e ≡ numbered_in more e) edges
+edges_kept points more edges keeps joined = All-to (IsJoined points) (λ e. numbered_in points e ≡ numbered_in more e) edges
     (λ e both. let from = keeps e.from both.0 in let to = keeps e.to both.1 in rw (from.0, to.0) refl) joined
 
 -- no edge has an end without a number
-none_at : (end : Edge → Point) (points : List Point) (p : Point) (edges : List Edge)
+none_at : (end : PointEdge → Point) (points : List Point) (p : Point) (edges : List PointEdge)
     → (IsNumbered points p → ⊥) → AllByRecursion (λ e. IsNumbered points (end e)) edges
     → filter (λ e. is_point p (end e)) edges ≡ []
 none_at end points p [] new all = refl
@@ -240,48 +240,48 @@ none_at end points p (e ∷ es) new all = by (none_at end points p es new all.1)
     by others true is = absurd (new (rw (same_point p (end e) is) all.0))
     by others false is = rw is others
 
-pub links_more : (end : Edge → Point) (points : List Point) (p : Point) (edges : List Edge)
+pub edges_more : (end : PointEdge → Point) (points : List Point) (p : Point) (edges : List PointEdge)
     → (IsNumbered points p → ⊥) → AllByRecursion (λ e. IsNumbered points (end e)) edges
-    → AllByRecursion (IsJoined points) edges → links_by end points edges ++ [] ∷ [] ≡ links_by end (points ++ p ∷ []) edges
-links_more end points p edges new all joined =
-    sym (map-append (links_at end (points ++ p ∷ []) edges) points (p ∷ [])
+    → AllByRecursion (IsJoined points) edges → edges_by end points edges ++ [] ∷ [] ≡ edges_by end (points ++ p ∷ []) edges
+edges_more end points p edges new all joined =
+    sym (map-append (edges_at end (points ++ p ∷ []) edges) points (p ∷ [])
     ∙ rw (
       none_at end points p edges new all,
-      map_alike (links_at end (points ++ p ∷ []) edges) (links_at end points edges) points (each points),
+      map_alike (edges_at end (points ++ p ∷ []) edges) (edges_at end points edges) points (each points),
     ) refl)
   where
-    each : (qs : List Point) → AllByRecursion (λ q. links_at end (points ++ p ∷ []) edges q ≡ links_at end points edges q) qs
+    each : (qs : List Point) → AllByRecursion (λ q. edges_at end (points ++ p ∷ []) edges q ≡ edges_at end points edges q) qs
     each [] = tt
     each (q ∷ qs) = (
-      sym (map_alike (link_of points) (link_of (points ++ p ∷ [])) (filter (λ e. is_point q (end e)) edges)
-          (All-filter (λ e. link_of points e ≡ link_of (points ++ p ∷ []) e) (λ e. is_point q (end e)) edges
-          (links_kept points (points ++ p ∷ []) edges (numbered_append points p) joined))),
+      sym (map_alike (numbered_in points) (numbered_in (points ++ p ∷ [])) (filter (λ e. is_point q (end e)) edges)
+          (All-filter (λ e. numbered_in points e ≡ numbered_in (points ++ p ∷ []) e) (λ e. is_point q (end e)) edges
+          (edges_kept points (points ++ p ∷ []) edges (numbered_append points p) joined))),
       each qs,
     )
 
-pub shows_more : (edges : List Edge) (points : List Point) (into out : List (List Link)) (p : Point)
+pub shows_more : (edges : List PointEdge) (points : List Point) (into out : List (List Edge)) (p : Point)
     → (IsNumbered points p → ⊥) → Shows edges points into out
     → Shows edges (points ++ p ∷ []) (into ++ [] ∷ []) (out ++ [] ∷ [])
 shows_more edges points into out p new shows = record {
   joined = All-to (IsJoined points) (IsJoined (points ++ p ∷ [])) edges
       (λ e both. ((numbered_append points p e.from both.0).1, (numbered_append points p e.to both.1).1)) shows.joined;
   into_is =
-      ap (λ ls. ls ++ [] ∷ []) shows.into_is ∙ links_more (λ e. e.to) points p edges new (All-to
+      ap (λ ls. ls ++ [] ∷ []) shows.into_is ∙ edges_more (λ e. e.to) points p edges new (All-to
       (IsJoined points) (λ e. IsNumbered points e.to) edges (λ e both. both.1) shows.joined) shows.joined;
   out_is =
-      ap (λ ls. ls ++ [] ∷ []) shows.out_is ∙ links_more (λ e. e.from) points p edges new (All-to
+      ap (λ ls. ls ++ [] ∷ []) shows.out_is ∙ edges_more (λ e. e.from) points p edges new (All-to
       (IsJoined points) (λ e. IsNumbered points e.from) edges (λ e both. both.0) shows.joined) shows.joined;
 }
 
 -- ---- whole
 
-pub shows_push : (edges : List Edge) (points : List Point) (into out : List (List Link)) (edge : Edge)
+pub shows_push : (edges : List PointEdge) (points : List Point) (into out : List (List Edge)) (edge : PointEdge)
     → IsDistinct is_point points → IsJoined points edge → Shows edges points into out
     → Shows (edges ++ edge ∷ []) points
-    (set into (number_of points edge.to) (get_or into (number_of points edge.to) [] ++ link_of points edge ∷ []))
-    (set out (number_of points edge.from) (get_or out (number_of points edge.from) [] ++ link_of points edge ∷ []))
+    (set into (number_of points edge.to) (get_or into (number_of points edge.to) [] ++ numbered_in points edge ∷ []))
+    (set out (number_of points edge.from) (get_or out (number_of points edge.from) [] ++ numbered_in points edge ∷ []))
 shows_push edges points into out edge distinct both shows = record {
   joined = All-append (IsJoined points) edges (edge ∷ []) shows.joined (both, tt);
-  into_is = rw (shows.into_is) (links_push (λ e. e.to) points edges edge distinct both.1);
-  out_is = rw (shows.out_is) (links_push (λ e. e.from) points edges edge distinct both.0);
+  into_is = rw (shows.into_is) (edges_push (λ e. e.to) points edges edge distinct both.1);
+  out_is = rw (shows.out_is) (edges_push (λ e. e.from) points edges edge distinct both.0);
 }

@@ -14,18 +14,17 @@ use Rattle.lgm_store.specs.History.{with_update}
 use Rattle.lgm_store.proofs.ListLaws.{All-append, All-filter, All-to}
 use Rattle.lgm_store.proofs.Lists.{same_id, same_bool}
 use Rattle.lgm_graph.specs.declared.edge.Edge.{Edge}
-use Rattle.lgm_graph.specs.declared.link.Link.{Link}
 use Rattle.lgm_graph.specs.declared.nodes.Nodes.{Nodes}
-use Rattle.lgm_graph.specs.Edges.{edge_of, edge_on, edge_in, end_of, carrying}
-use Rattle.lgm_graph.specs.Graph.{number_of, IsGraphOf, IsNumbered, IsJoined, link_of, linked}
-use Rattle.lgm_graph.specs.inner.Lists.{to_key, link_key, IsCut, put_at}
-use Rattle.lgm_graph.specs.inner.Sound.{graph_in, links_in}
+use Rattle.lgm_graph.specs.Edges.{PointEdge, edge_of, edge_on, edge_in, end_of, carrying}
+use Rattle.lgm_graph.specs.Graph.{number_of, IsGraphOf, IsNumbered, IsJoined, numbered_in, numbered_as}
+use Rattle.lgm_graph.specs.inner.Lists.{to_key, edge_key, IsCut, put_at}
+use Rattle.lgm_graph.specs.inner.Sound.{graph_in, edges_in}
 use Rattle.lgm_graph.proofs.Numbers.{ends_numbered}
 use Rattle.lgm_graph.proofs.Making.{same_points, same_takes, same_into, same_out}
 use Rattle.lgm_graph.proofs.Carrying.{IsOfChannel, carrying_of, carrying_cut, carrying_put, edge_in-some}
-use Rattle.lgm_graph.proofs.Showing.{get_links, links_cut, links_put}
+use Rattle.lgm_graph.proofs.Showing.{get_edges, edges_cut, edges_put}
 
-at_key : (id : ℕ) (second : Bool) (edge : Edge) → to_key id second edge ≡ Equal → (edge.scid ≡ id) × (edge.second ≡ second)
+at_key : (id : ℕ) (second : Bool) (edge : PointEdge) → to_key id second edge ≡ Equal → (edge.scid ≡ id) × (edge.second ≡ second)
 at_key id second edge e = by (nat_cmp edge.scid id) refl e
   where
     by : (o : Ordering) → nat_cmp edge.scid id ≡ o → ordering_then o (bool_cmp edge.second second) ≡ Equal → (edge.scid ≡ id) × (edge.second ≡ second)
@@ -46,7 +45,7 @@ All_put P f xs o all new = All-append P (filter (λ x. is_lt (f x)) xs ++ option
 module _ (known : Option (List ℕ)) (rows : Rows) (row : UpdateRow) (channel : ChannelRow)
     (held : channel_of rows.channels row.message.short_channel_id ≡ Some channel)
     (ascend : IsAscending rows) where
-  abbrev key : Edge → Ordering
+  abbrev key : PointEdge → Ordering
   key = to_key row.message.short_channel_id (is_second row)
 
   -- the nodes that the update's edge joins
@@ -60,7 +59,7 @@ module _ (known : Option (List ℕ)) (rows : Rows) (row : UpdateRow) (channel : 
   updated = rw held refl
 
   -- an edge of the update's key is of the channel
-  of_key : (edge : Edge) → IsOfChannel rows.channels edge → key edge ≡ Equal → (edge.from ≡ start) × (edge.to ≡ target)
+  of_key : (edge : PointEdge) → IsOfChannel rows.channels edge → key edge ≡ Equal → (edge.from ≡ start) × (edge.to ≡ target)
   of_key edge of e =
       let same = at_key row.message.short_channel_id (is_second row) edge e in
       let found : channel_of rows.channels row.message.short_channel_id ≡ Some of.channel = ap (channel_of rows.channels) (sym same.0) ∙ of.held in
@@ -71,7 +70,7 @@ module _ (known : Option (List ℕ)) (rows : Rows) (row : UpdateRow) (channel : 
       )
 
   -- and so is its own
-  own_ends : (edge : Edge) → edge_in rows.channels row ≡ Some edge → (edge.from ≡ start) × (edge.to ≡ target)
+  own_ends : (edge : PointEdge) → edge_in rows.channels row ≡ Some edge → (edge.from ≡ start) × (edge.to ≡ target)
   unfolding edge_of
   own_ends edge is =
       let found = edge_in-some rows.channels row edge is in
@@ -95,7 +94,7 @@ module _ (known : Option (List ℕ)) (rows : Rows) (row : UpdateRow) (channel : 
   in_row : edge_in rows.channels row ≡ edge_on channel row
   in_row = ap (λ o. option_and_then (λ channel. edge_on channel row) o) held
 
-  module _ (points : List Point) (takes : List Bool) (into out : List (List Link)) (graph : IsGraphOf rows
+  module _ (points : List Point) (takes : List Bool) (into out : List (List Edge)) (graph : IsGraphOf rows
       (record { known = known; points = points; takes = takes; into = into; out = out })) where
     pub start_there : IsNumbered points start
     start_there = ends_numbered points rows.channels row.message.short_channel_id channel (is_second row) graph.ends held
@@ -103,40 +102,40 @@ module _ (known : Option (List ℕ)) (rows : Rows) (row : UpdateRow) (channel : 
     pub target_there : IsNumbered points target
     target_there = ends_numbered points rows.channels row.message.short_channel_id channel (not (is_second row)) graph.ends held
 
-    -- the links of both ends are in order
-    pub into_cut : IsCut (link_key row.message.short_channel_id (is_second row)) (get_or into (number_of points target) [])
-    into_cut = rw (graph.shows.into_is, get_links (λ e. e.to) points (carrying rows) target target_there)
-        (links_cut (λ e. e.to) points row.message.short_channel_id (is_second row) (carrying rows)
+    -- the edges of both ends are in order
+    pub into_cut : IsCut (edge_key row.message.short_channel_id (is_second row)) (get_or into (number_of points target) [])
+    into_cut = rw (graph.shows.into_is, get_edges (λ e. e.to) points (carrying rows) target target_there)
+        (edges_cut (λ e. e.to) points row.message.short_channel_id (is_second row) (carrying rows)
         (edge_in rows.channels row) target cut all_to (λ e is. (own_ends e is).1) target)
 
-    pub out_cut : IsCut (link_key row.message.short_channel_id (is_second row)) (get_or out (number_of points start) [])
-    out_cut = rw (graph.shows.out_is, get_links (λ e. e.from) points (carrying rows) start start_there)
-        (links_cut (λ e. e.from) points row.message.short_channel_id (is_second row) (carrying rows)
+    pub out_cut : IsCut (edge_key row.message.short_channel_id (is_second row)) (get_or out (number_of points start) [])
+    out_cut = rw (graph.shows.out_is, get_edges (λ e. e.from) points (carrying rows) start start_there)
+        (edges_cut (λ e. e.from) points row.message.short_channel_id (is_second row) (carrying rows)
         (edge_in rows.channels row) start cut all_from (λ e is. (own_ends e is).0) start)
 
-    own_joined : (o : Option Edge) → edge_in rows.channels row ≡ o → IfSome o (IsJoined points)
+    own_joined : (o : Option PointEdge) → edge_in rows.channels row ≡ o → IfSome o (IsJoined points)
     own_joined None is = tt
     own_joined (Some edge) is = let ends = own_ends edge is in (rw (ends.0) start_there, rw (ends.1) target_there)
 
     -- the edge by the numbers of its ends
-    numbered : (o : Option Edge) → edge_in rows.channels row ≡ o → option_map (λ e.
-        linked e (number_of points start) (number_of points target)) o ≡ option_map (link_of points) o
+    numbered : (o : Option PointEdge) → edge_in rows.channels row ≡ o → option_map (λ e.
+        numbered_as e (number_of points start) (number_of points target)) o ≡ option_map (numbered_in points) o
     numbered None is = refl
     numbered (Some edge) is = let ends = own_ends edge is in rw (ends.0, ends.1) refl
 
     carrying_updated : carrying (with_update rows row) ≡ put_at key (carrying rows) (edge_in rows.channels row)
     carrying_updated = ap carrying updated ∙ carrying_put rows.channels rows.updates row
 
-    -- the view, where the link is put at both ends
-    pub graph_updated : (edge : Option Edge) (link : Option Link) (new_into new_out : List (List Link))
-        → IsDistinct is_point points → edge ≡ edge_on channel row
-        → link ≡ option_map (λ e. linked e (number_of points start) (number_of points target)) edge
-        → new_into ≡ set into (number_of points target) (put_at (link_key row.message.short_channel_id
-        (is_second row)) (get_or into (number_of points target) []) link)
+    -- the view, where the edge is put at both ends
+    pub graph_updated : (edge : Option Edge) (new_into new_out : List (List Edge))
+        → IsDistinct is_point points
+        → edge ≡ option_map (λ e. numbered_as e (number_of points start) (number_of points target)) (edge_on channel row)
+        → new_into ≡ set into (number_of points target) (put_at (edge_key row.message.short_channel_id
+        (is_second row)) (get_or into (number_of points target) []) edge)
         → new_out ≡ set out (number_of points start) (put_at
-        (link_key row.message.short_channel_id (is_second row)) (get_or out (number_of points start) []) link)
+        (edge_key row.message.short_channel_id (is_second row)) (get_or out (number_of points start) []) edge)
         → IsGraphOf (with_update rows row) (record { known = known; points = points; takes = takes; into = new_into; out = new_out })
-    graph_updated edge link new_into new_out distinct edge_is link_is into_new out_new = record {
+    graph_updated edge new_into new_out distinct edge_is into_new out_new = record {
       ends = rw (ap (λ (r : Rows). r.channels) updated) graph.ends;
       takes = rw (ap (λ (r : Rows). r.nodes) updated) graph.takes;
       shows = record {
@@ -144,43 +143,43 @@ module _ (known : Option (List ℕ)) (rows : Rows) (row : UpdateRow) (channel : 
             rw carrying_updated (All_put (IsJoined points) key (carrying rows) (edge_in rows.channels row)
             graph.shows.joined (own_joined (edge_in rows.channels row) refl));
         into_is = into_new ∙ rw (own, graph.shows.into_is, carrying_updated)
-            (links_put (λ e. e.to) points row.message.short_channel_id (is_second row) (carrying rows)
+            (edges_put (λ e. e.to) points row.message.short_channel_id (is_second row) (carrying rows)
             (edge_in rows.channels row) target cut all_to (λ e is. (own_ends e is).1) distinct
             target_there);
         out_is = out_new ∙ rw (own, graph.shows.out_is, carrying_updated)
-            (links_put (λ e. e.from) points row.message.short_channel_id (is_second row) (carrying rows)
+            (edges_put (λ e. e.from) points row.message.short_channel_id (is_second row) (carrying rows)
             (edge_in rows.channels row) start cut all_from (λ e is. (own_ends e is).0)
             distinct start_there);
       };
     }
       where
-        own : link ≡ option_map (link_of points) (edge_in rows.channels row)
+        own : edge ≡ option_map (numbered_in points) (edge_in rows.channels row)
         own =
-            link_is ∙ ap (option_map (λ e. linked e (number_of points start) (number_of points target)))
-            (edge_is ∙ sym in_row) ∙ numbered (edge_in rows.channels row) refl
+            edge_is ∙ ap (option_map (λ e. numbered_as e (number_of points start) (number_of points target))) (sym in_row)
+            ∙ numbered (edge_in rows.channels row) refl
 
 -- the same of the nodes as they are kept
 pub node_updated : (known : Option (List ℕ)) (rows after : Rows) (row : UpdateRow) (channel : ChannelRow)
     (held : channel_of rows.channels row.message.short_channel_id ≡ Some channel) → IsAscending rows
     → after ≡ with_update rows row → (old mid new : Nodes) → IsDistinct is_point old.points.keys
     → IsGraphOf rows (graph_in known old) → ((k : Option (List ℕ)) → graph_in k mid ≡ graph_in k old)
-    → (id from to : ℕ) (second : Bool) (edge : Option Edge) (link : Option Link) → id ≡ row.message.short_channel_id → second ≡ is_second row
+    → (id from to : ℕ) (second : Bool) (edge : Option Edge) → id ≡ row.message.short_channel_id → second ≡ is_second row
     → from ≡ number_of old.points.keys (end_of channel second) → to ≡ number_of old.points.keys (end_of channel (not second))
-    → edge ≡ edge_on channel row → link ≡ option_map (λ e. linked e from to) edge
+    → edge ≡ option_map (λ e. numbered_as e from to) (edge_on channel row)
     → new.points.keys ≡ mid.points.keys → new.takes.items ≡ mid.takes.items
-    → map links_in new.into.items ≡ set (map links_in mid.into.items) to
-    (put_at (link_key id second) (get_or (map links_in mid.into.items) to []) link)
-    → map links_in new.out.items ≡ set (map links_in mid.out.items) from
-    (put_at (link_key id second) (get_or (map links_in mid.out.items) from []) link)
+    → map edges_in new.into.items ≡ set (map edges_in mid.into.items) to
+    (put_at (edge_key id second) (get_or (map edges_in mid.into.items) to []) edge)
+    → map edges_in new.out.items ≡ set (map edges_in mid.out.items) from
+    (put_at (edge_key id second) (get_or (map edges_in mid.out.items) from []) edge)
     → IsGraphOf after (graph_in known new)
 node_updated known rows after row channel held ascend after_is old mid new distinct graph same id from to
-    second edge link id_is second_is from_is to_is edge_is link_is points takes into out =
+    second edge id_is second_is from_is to_is edge_is points takes into out =
     let starts = from_is ∙ ap (λ b. number_of old.points.keys (end_of channel b)) second_is in
     let ends = to_is ∙ ap (λ b. number_of old.points.keys (end_of channel (not b))) second_is in
     rw (after_is, points, takes, same_points old mid same, same_takes old mid same)
     (graph_updated known rows row channel held ascend old.points.keys old.takes.items
-    (map links_in old.into.items) (map links_in old.out.items) graph edge link
-    (map links_in new.into.items) (map links_in new.out.items)
-    distinct edge_is (link_is ∙ rw (starts, ends) refl)
+    (map edges_in old.into.items) (map edges_in old.out.items) graph edge
+    (map edges_in new.into.items) (map edges_in new.out.items)
+    distinct (edge_is ∙ rw (starts, ends) refl)
     (into ∙ rw (same_into old mid same, ends, id_is, second_is) refl)
     (out ∙ rw (same_out old mid same, starts, id_is, second_is) refl))

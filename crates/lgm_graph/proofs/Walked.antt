@@ -9,12 +9,11 @@ use Rattle.lgm_store.specs.declared.held.Held.{Held}
 use Rattle.lgm_store.specs.Held.{update_in, held_at}
 use Rattle.lgm_store.specs.Rows.{Rows, IsAscending, update_of}
 use Rattle.lgm_graph.specs.declared.edge.Edge.{Edge}
-use Rattle.lgm_graph.specs.declared.link.Link.{Link}
 use Rattle.lgm_graph.specs.declared.nodes.Nodes.{Nodes}
-use Rattle.lgm_graph.specs.Edges.{carrying}
+use Rattle.lgm_graph.specs.Edges.{PointEdge, carrying}
 use Rattle.lgm_graph.specs.Graph.{Graph, IsGraphOf, IsNumbered}
 use Rattle.lgm_graph.specs.inner.Sound.{graph_in, ShowsIn, AreLookedAt}
-use Rattle.lgm_graph.specs.inner.Walk.{AreLinksOf, KeepsNumbers, HasWalked, edges_of_channel}
+use Rattle.lgm_graph.specs.inner.Walk.{AreEdgesOf, KeepsNumbers, HasWalked, edges_of_channel}
 use Rattle.lgm_graph.proofs.ByChannel.{by_channel}
 use Rattle.lgm_store.proofs.ListLaws.{All-append, All-to}
 
@@ -25,9 +24,9 @@ held_update rows channel true = refl
 held_update rows channel false = refl
 
 -- the next one is a channel with its updates
-pub walked_own : (rows : Rows) (held : Held) (left : List Held) (links : List Link) (graph : Graph)
-    → HasWalked rows (held ∷ left) links graph → held ≡ held_at rows held.channel
-walked_own rows held left links graph walked = by walked.rest walked.left_is
+pub walked_own : (rows : Rows) (held : Held) (left : List Held) (listed : List Edge) (graph : Graph)
+    → HasWalked rows (held ∷ left) listed graph → held ≡ held_at rows held.channel
+walked_own rows held left listed graph walked = by walked.rest walked.left_is
   where
     by : (rest : List ChannelRow) → held ∷ left ≡ map (held_at rows) rest → held ≡ held_at rows held.channel
     by [] is = absurd cc
@@ -35,13 +34,13 @@ walked_own rows held left links graph walked = by walked.rest walked.left_is
         let own : held ≡ held_at rows channel = cc in
         own ∙ ap (held_at rows) (sym (ap (λ (h : Held). h.channel) own))
 
-module _ (known : Option (List ℕ)) (rows : Rows) (held : Held) (left : List Held) (old new : Nodes) (before after : List Link)
+module _ (known : Option (List ℕ)) (rows : Rows) (held : Held) (left : List Held) (old new : Nodes) (before after : List Edge)
     (few : length new.points.keys ≤ length old.points.keys + 2) (kept : KeepsNumbers old.points.keys new.points.keys)
     (first : IsNumbered new.points.keys held.channel.message.node_id_1) (second : IsNumbered new.points.keys held.channel.message.node_id_2)
     (takes : AreLookedAt known rows.nodes old → AreLookedAt known rows.nodes new)
     (bare : ShowsIn [] old → ShowsIn [] new)
-    (links : (edges : List Edge) → AreLinksOf edges old.points.keys before
-    → AreLinksOf (edges ++ edges_of_channel rows.updates held.channel) new.points.keys after) where
+    (listed : (edges : List PointEdge) → AreEdgesOf edges old.points.keys before
+    → AreEdgesOf (edges ++ edges_of_channel rows.updates held.channel) new.points.keys after) where
   pub walked_more : HasWalked rows (held ∷ left) before (graph_in known old) → HasWalked rows left after (graph_in known new)
   walked_more walked = by walked.rest walked.parts walked.left_is
     where
@@ -71,21 +70,21 @@ module _ (known : Option (List ℕ)) (rows : Rows) (held : Held) (left : List He
                 ((first, second), tt);
             takes = takes walked.takes;
             bare = bare walked.bare;
-            links_are =
-                subst (λ es. AreLinksOf es new.points.keys after) (sym more)
-                (links (flat_map (edges_of_channel rows.updates) walked.done) walked.links_are);
+            edges_are =
+                subst (λ es. AreEdgesOf es new.points.keys after) (sym more)
+                (listed (flat_map (edges_of_channel rows.updates) walked.done) walked.edges_are);
           }
 
--- the whole walk, once the links are put in their lists
-pub walked_all : (known : Option (List ℕ)) (rows : Rows) (links : List Link) (old new : Nodes)
-    → IsAscending rows → HasWalked rows [] links (graph_in known old)
+-- the whole walk, once the edges are put in their lists
+pub walked_all : (known : Option (List ℕ)) (rows : Rows) (listed : List Edge) (old new : Nodes)
+    → IsAscending rows → HasWalked rows [] listed (graph_in known old)
     → new.points.keys ≡ old.points.keys → new.takes.items ≡ old.takes.items
-    → ((edges : List Edge) → AreLinksOf edges old.points.keys links → ShowsIn edges new)
+    → ((edges : List PointEdge) → AreEdgesOf edges old.points.keys listed → ShowsIn edges new)
     → IsGraphOf rows (graph_in known new)
-walked_all known rows links old new ascend walked points takes shows = record {
+walked_all known rows listed old new ascend walked points takes shows = record {
   ends = rw (points, all) walked.ends;
   takes = rw (takes, points) walked.takes;
-  shows = subst (λ es. ShowsIn es new) edges (shows (flat_map (edges_of_channel rows.updates) walked.done) walked.links_are);
+  shows = subst (λ es. ShowsIn es new) edges (shows (flat_map (edges_of_channel rows.updates) walked.done) walked.edges_are);
 }
   where
     none : (rest : List ChannelRow) → [] ≡ map (held_at rows) rest → rest ≡ []

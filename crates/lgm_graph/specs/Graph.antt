@@ -1,14 +1,13 @@
--- The graph of a view: numbered points, and the links between them.
+-- The graph of a view: numbered points, and the edges between them.
 use Rattle.std.specs.Prelude.{◌≡◌, ℕ, ◌<◌, Bool, false, List, [], map, filter, flat_map, zip}
 use Rattle.std.specs.Prelude.{length, slice_index_or, Contains, Option, if◌then◌else◌}
 use Rattle.std.specs.List.{AllByRecursion, IsDistinct, position_or_len}
 use Rattle.lgm_wire.specs.declared.point.Point.{Point}
 use Rattle.lgm_store.specs.Rows.{Rows, is_point}
 use Rattle.lgm_graph.specs.declared.edge.Edge.{Edge}
-use Rattle.lgm_graph.specs.declared.link.Link.{Link}
-use Rattle.lgm_graph.specs.Edges.{carrying, takes_payments}
+use Rattle.lgm_graph.specs.Edges.{PointEdge, carrying, takes_payments}
 
--- points by number, with whether each takes payments and its links
+-- points by number, with whether each takes payments and its edges
 pub record Graph : Type 0 where
   -- the known feature bits, or none if all are known
   pub known : Option (List ℕ)
@@ -16,10 +15,10 @@ pub record Graph : Type 0 where
   pub points : List Point
   -- whether the node takes payments
   pub takes : List Bool
-  -- the links into the node
-  pub into : List (List Link)
-  -- the links out of the node
-  pub out : List (List Link)
+  -- the edges into the node
+  pub into : List (List Edge)
+  -- the edges out of the node
+  pub out : List (List Edge)
 
 -- the number of a point, or the number of points if it has none
 abbrev pub number_of : List Point → Point → ℕ
@@ -29,9 +28,9 @@ number_of points point = position_or_len (is_point point) points
 abbrev pub IsNumbered : List Point → Point → Type 0
 IsNumbered points point = number_of points point < length points
 
--- an edge, with numbers for its nodes
-abbrev pub linked : Edge → ℕ → ℕ → Link
-linked edge from to = record {
+-- an edge, with these numbers for its nodes
+abbrev pub numbered_as : PointEdge → ℕ → ℕ → Edge
+numbered_as edge from to = record {
   scid = edge.scid;
   max = edge.max;
   min = edge.min;
@@ -44,25 +43,25 @@ linked edge from to = record {
 }
 
 -- an edge by the numbers of its nodes
-abbrev pub link_of : List Point → Edge → Link
-link_of points edge = linked edge (number_of points edge.from) (number_of points edge.to)
+abbrev pub numbered_in : List Point → PointEdge → Edge
+numbered_in points edge = numbered_as edge (number_of points edge.from) (number_of points edge.to)
 
 -- a placeholder if no point has the number
 abbrev pub no_point : Point
 no_point = record { 0 = [] }
 
--- a link as an edge between points
-abbrev pub edge_at : List Point → Link → Edge
-edge_at points link = record {
-  scid = link.scid;
-  second = link.second;
-  from = slice_index_or points link.from no_point;
-  to = slice_index_or points link.to no_point;
-  base = link.base;
-  millionths = link.millionths;
-  delta = link.delta;
-  min = link.min;
-  max = link.max;
+-- an edge as one between points
+abbrev pub edge_between : List Point → Edge → PointEdge
+edge_between points edge = record {
+  scid = edge.scid;
+  second = edge.second;
+  from = slice_index_or points edge.from no_point;
+  to = slice_index_or points edge.to no_point;
+  base = edge.base;
+  millionths = edge.millionths;
+  delta = edge.delta;
+  min = edge.min;
+  max = edge.max;
 }
 
 -- ---- the contents of a view
@@ -71,59 +70,59 @@ edge_at points link = record {
 abbrev pub takes_at : Graph → ℕ → Bool
 takes_at graph number = slice_index_or graph.takes number false
 
--- the links into the node of a number: none if it takes no payments
-abbrev pub links_into : Graph → ℕ → List Link
-links_into graph number = if takes_at graph number then slice_index_or graph.into number [] else []
+-- the edges into the node of a number: none if it takes no payments
+abbrev pub edges_into : Graph → ℕ → List Edge
+edges_into graph number = if takes_at graph number then slice_index_or graph.into number [] else []
 
--- the links out of the node of a number, whether or not the nodes that they go to take payments
-abbrev pub links_leaving : Graph → ℕ → List Link
-links_leaving graph number = slice_index_or graph.out number []
-
--- the links that payments can take
-abbrev pub links : Graph → List Link
-links graph = flat_map (λ node. if node.0 then node.1 else []) (zip graph.takes graph.into)
+-- the edges out of the node of a number, whether or not the nodes that they go to take payments
+abbrev pub edges_leaving : Graph → ℕ → List Edge
+edges_leaving graph number = slice_index_or graph.out number []
 
 -- the edges that payments can take
 abbrev pub edges : Graph → List Edge
-edges graph = map (edge_at graph.points) (links graph)
+edges graph = flat_map (λ node. if node.0 then node.1 else []) (zip graph.takes graph.into)
 
--- a link is between numbered nodes, and in the lists of both
-pub record IsLinked (graph : Graph) (link : Link) : Type 0 where
-  pub from : link.from < length graph.points
-  pub to : link.to < length graph.points
-  pub there : Contains (links_into graph link.to) link
-  pub leaves : Contains (links_leaving graph link.from) link
+-- those edges, between points
+abbrev pub point_edges : Graph → List PointEdge
+point_edges graph = map (edge_between graph.points) (edges graph)
+
+-- an edge is between numbered nodes, and in the lists of both
+pub record IsListed (graph : Graph) (edge : Edge) : Type 0 where
+  pub from : edge.from < length graph.points
+  pub to : edge.to < length graph.points
+  pub there : Contains (edges_into graph edge.to) edge
+  pub leaves : Contains (edges_leaving graph edge.from) edge
   -- the numbers are those of its nodes
-  pub back : link_of graph.points (edge_at graph.points link) ≡ link
+  pub back : numbered_in graph.points (edge_between graph.points edge) ≡ edge
 
--- different points have different numbers, and each link is in the lists of its nodes and nowhere else
-pub record AreLinked (graph : Graph) : Type 0 where
+-- different points have different numbers, and each edge is in the lists of its nodes and nowhere else
+pub record AreListed (graph : Graph) : Type 0 where
   -- each number has an entry
   pub long : length graph.takes ≡ length graph.points
   pub wide : length graph.into ≡ length graph.points
   pub unique : IsDistinct is_point graph.points
-  pub each : (link : Link) → Contains (links graph) link → IsLinked graph link
-  pub into : (number : ℕ) (link : Link) → Contains (links_into graph number) link
-      → (link.to ≡ number) × Contains (links graph) link
-  pub leaving : (number : ℕ) (link : Link) → Contains (links_leaving graph number) link
-      → (link.from ≡ number) × (link.to < length graph.points)
+  pub each : (edge : Edge) → Contains (edges graph) edge → IsListed graph edge
+  pub into : (number : ℕ) (edge : Edge) → Contains (edges_into graph number) edge
+      → (edge.to ≡ number) × Contains (edges graph) edge
+  pub leaving : (number : ℕ) (edge : Edge) → Contains (edges_leaving graph number) edge
+      → (edge.from ≡ number) × (edge.to < length graph.points)
 
 -- ---- the view of rows
 
--- the links of the edges that have each of the points as an end
-abbrev pub links_by : (Edge → Point) → List Point → List Edge → List (List Link)
-links_by end points edges =
-    map (λ point. map (link_of points) (filter (λ edge. is_point point (end edge)) edges)) points
+-- for each of the points, the edges that have it as an end, by number
+abbrev pub edges_by : (PointEdge → Point) → List Point → List PointEdge → List (List Edge)
+edges_by end points edges =
+    map (λ point. map (numbered_in points) (filter (λ edge. is_point point (end edge)) edges)) points
 
 -- both nodes of an edge are numbered
-abbrev pub IsJoined : List Point → Edge → Type 0
+abbrev pub IsJoined : List Point → PointEdge → Type 0
 IsJoined points edge = IsNumbered points edge.from × IsNumbered points edge.to
 
 -- these edges are in the lists of both of their nodes
-pub record Shows (edges : List Edge) (points : List Point) (into out : List (List Link)) : Type 0 where
+pub record Shows (edges : List PointEdge) (points : List Point) (into out : List (List Edge)) : Type 0 where
   pub joined : AllByRecursion (IsJoined points) edges
-  pub into_is : into ≡ links_by (λ edge. edge.to) points edges
-  pub out_is : out ≡ links_by (λ edge. edge.from) points edges
+  pub into_is : into ≡ edges_by (λ edge. edge.to) points edges
+  pub out_is : out ≡ edges_by (λ edge. edge.from) points edges
 
 -- the view is that of the rows: the nodes of each channel are numbered, each node's features are checked, and the edges
 -- are in the lists of their nodes

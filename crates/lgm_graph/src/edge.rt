@@ -1,60 +1,73 @@
 //! Edges: directions of channels.
 
-ghost use Rattle.std.specs.Prelude.{◌≡◌};
+ghost use Rattle.std.specs.Prelude.{◌≡◌, ◌^◌, ◌<◌};
+ghost use Rattle.std.specs.Option.{option_map};
+ghost use Rattle.lgm_check.specs.declared.row.ChannelRow.{ChannelRow as AChannel};
 ghost use Rattle.lgm_graph.specs.Edges.{can_carry, edge_of, edge_on};
+ghost use Rattle.lgm_graph.specs.Graph.{numbered_as};
 
 use lgm_check::{ChannelRow, UpdateRow};
-use lgm_gossip::{Point, Scid, has_even_bit};
+use lgm_gossip::{Scid, has_even_bit};
 
-/// A direction of a channel that payments can use: from one node to the other, on the terms of its
-/// `channel_update` (BOLT 7).
+/// A direction of a channel that payments can use: from one numbered node to another, on the terms of its
+/// `channel_update` (BOLT 7). It has 48 bytes.
 #[derive(Clone, Copy, Debug)]
 pub struct Edge {
     pub scid: Scid,
-    /// Whether it is from node 2.
-    pub second: bool,
-    pub from: Point,
-    pub to: Point,
+    /// The greatest amount that it forwards, in msat.
+    pub max: u64,
+    /// The least amount that it forwards, in msat.
+    pub min: u64,
+    /// The number of the node that it leaves.
+    pub from: u32,
+    /// The number of the node that it goes to.
+    pub to: u32,
     /// The base fee, in msat.
     pub base: u32,
     /// The proportional fee, in millionths of the amount.
     pub millionths: u32,
     /// The `cltv_expiry_delta`, in blocks.
     pub delta: u16,
-    /// The least amount that it forwards, in msat.
-    pub min: u64,
-    /// The greatest amount that it forwards, in msat.
-    pub max: u64,
+    /// Whether it is from node 2.
+    pub second: bool,
 }
 
-/// The edge of an update of a channel, if it can carry payments.
-pub(crate) fn edge_on(channel: &ChannelRow, update: &UpdateRow) -> Option<Edge>
-    ensures { result ≡ edge_on channel.now update.now }
+/// The edge of an update of a channel, between nodes with these numbers, if it can carry payments.
+pub(crate) fn edge_on(
+    channel: &ChannelRow,
+    update: &UpdateRow,
+    from: usize,
+    to: usize,
+) -> Option<Edge>
+    requires from { from < 2 ^ 32 }
+    requires to { to < 2 ^ 32 }
+    ensures { result ≡ option_map (λ e. numbered_as e from to) (edge_on channel.now update.now) }
 {
     if can_carry(channel, update) {
-        Some(edge_of(channel, update))
+        Some(edge_of(update, from, to))
     } else {
         None
     }
 }
 
-/// The edge of an update of a channel.
+/// The edge of an update, between nodes with these numbers.
 #[tactic(auto, unfolding(crate::specs::Edges::edge_of))]
-fn edge_of(channel: &ChannelRow, update: &UpdateRow) -> Edge
-    ensures { result ≡ edge_of channel.now update.now }
+fn edge_of(update: &UpdateRow, from: usize, to: usize) -> Edge
+    requires from { from < 2 ^ 32 }
+    requires to { to < 2 ^ 32 }
+    ensures { (channel : AChannel) → result ≡ numbered_as (edge_of channel update.now) from to }
 {
-    let second = update.is_second();
     let message = &update.message;
     Edge {
         scid: message.short_channel_id,
-        second,
-        from: channel.node(second),
-        to: channel.node(!second),
+        max: message.htlc_maximum_msat,
+        min: message.htlc_minimum_msat,
+        from: from as u32,
+        to: to as u32,
         base: message.fee_base_msat,
         millionths: message.fee_proportional_millionths,
         delta: message.cltv_expiry_delta,
-        min: message.htlc_minimum_msat,
-        max: message.htlc_maximum_msat,
+        second: update.is_second(),
     }
 }
 

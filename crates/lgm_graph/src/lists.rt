@@ -1,4 +1,4 @@
-//! Lists of links, by node.
+//! Lists of edges, by node.
 
 ghost use Rattle.std.specs.Prelude.{◌≡◌, ◌++◌, ◌∷◌, [], ◌<◌, ◌≤◌, suc, take, drop, map};
 ghost use Rattle.std.specs.Prelude.{filter, length, slice_index_or, slice_set, option_to_list};
@@ -6,117 +6,117 @@ ghost use Rattle.std.specs.Prelude.{IfOk, OnOk, MatchResult, vec_len};
 ghost use Rattle.std.specs.List.{HoldsAt};
 ghost use Rattle.std.specs.Vec.{vec_capacity};
 ghost use Rattle.std.specs.Ordering.{is_lt, is_gt};
-ghost use Rattle.lgm_graph.specs.inner.Lists.{link_key, IsCut, put_at};
-ghost use Rattle.lgm_graph.specs.inner.Sound.{links_in, HasRoom, is_not_of, is_allowed, banned_at};
+ghost use Rattle.lgm_graph.specs.inner.Lists.{edge_key, IsCut, put_at};
+ghost use Rattle.lgm_graph.specs.inner.Sound.{edges_in, HasRoom, is_not_of, is_allowed, banned_at};
 
-use crate::link::Link;
-use crate::nodes::Links;
+use crate::edge::Edge;
+use crate::nodes::Edges;
 use indexmap::IndexSet;
 use lgm_gossip::{Point, Scid};
 use lgm_store::{Map, Seed};
 use std::alloc::{AllocError, Global};
 use std::cmp::Ordering;
 
-/// The order of a link relative to an id and direction.
-fn order(link: &Link, scid: Scid, second: bool) -> Ordering
-    ensures { result ≡ link_key scid second link.now }
+/// The order of an edge relative to an id and direction.
+fn order(edge: &Edge, scid: Scid, second: bool) -> Ordering
+    ensures { result ≡ edge_key scid second edge.now }
 {
-    link.scid.cmp(&scid).then(link.second.cmp(&second))
+    edge.scid.cmp(&scid).then(edge.second.cmp(&second))
 }
 
-/// The index of the link with an id and direction, or the index at which it would be inserted.
-fn place(links: &[Link], scid: Scid, second: bool) -> Result<usize, usize>
-    requires { IsCut (link_key scid second) links.now }
+/// The index of the edge with an id and direction, or the index at which it would be inserted.
+fn place(edges: &[Edge], scid: Scid, second: bool) -> Result<usize, usize>
+    requires { IsCut (edge_key scid second) edges.now }
     ensures found { MatchResult result
-        (λ i. (i < length links.now)
-        × (take i links.now ≡ filter (λ x. is_lt (link_key scid second x)) links.now)
-        × (drop (suc i) links.now ≡ filter (λ x. is_gt (link_key scid second x)) links.now))
-        (λ i. (i ≤ length links.now)
-        × (take i links.now ≡ filter (λ x. is_lt (link_key scid second x)) links.now)
-        × (drop i links.now ≡ filter (λ x. is_gt (link_key scid second x)) links.now)) }
+        (λ i. (i < length edges.now)
+        × (take i edges.now ≡ filter (λ x. is_lt (edge_key scid second x)) edges.now)
+        × (drop (suc i) edges.now ≡ filter (λ x. is_gt (edge_key scid second x)) edges.now))
+        (λ i. (i ≤ length edges.now)
+        × (take i edges.now ≡ filter (λ x. is_lt (edge_key scid second x)) edges.now)
+        × (drop i edges.now ≡ filter (λ x. is_gt (edge_key scid second x)) edges.now)) }
 {
-    links.binary_search_by(
-        |link: &Link| -> Ordering
-            ensures { result ≡ link_key scid second link.now }
-        { order(link, scid, second) },
+    edges.binary_search_by(
+        |edge: &Edge| -> Ordering
+            ensures { result ≡ edge_key scid second edge.now }
+        { order(edge, scid, second) },
     )
 }
 
-/// Replaces the link at an index, or removes it.
-fn replace(links: &mut Vec<Link>, place: usize, link: Option<Link>)
-    requires { place < length links.old.items }
-    ensures { links.new.items
-        ≡ take place links.old.items ++ option_to_list link ++ drop (suc place) links.old.items }
+/// Replaces the edge at an index, or removes it.
+fn replace(edges: &mut Vec<Edge>, place: usize, edge: Option<Edge>)
+    requires { place < length edges.old.items }
+    ensures { edges.new.items
+        ≡ take place edges.old.items ++ option_to_list edge ++ drop (suc place) edges.old.items }
 {
-    match link {
-        Some(link) => links[place] = link,
+    match edge {
+        Some(edge) => edges[place] = edge,
         None => {
-            links.remove(place);
+            edges.remove(place);
         }
     }
 }
 
-/// Inserts a link at an index, if there is one.
-fn insert(links: &mut Vec<Link>, place: usize, link: Option<Link>)
-    requires room { vec_len links.old < vec_capacity links.old }
-    requires within { place ≤ vec_len links.old }
-    ensures { links.new.items
-        ≡ take place links.old.items ++ option_to_list link ++ drop place links.old.items }
+/// Inserts an edge at an index, if there is one.
+fn insert(edges: &mut Vec<Edge>, place: usize, edge: Option<Edge>)
+    requires room { vec_len edges.old < vec_capacity edges.old }
+    requires within { place ≤ vec_len edges.old }
+    ensures { edges.new.items
+        ≡ take place edges.old.items ++ option_to_list edge ++ drop place edges.old.items }
 {
-    if let Some(link) = link {
-        match links.insert(place, link) {
+    if let Some(edge) = edge {
+        match edges.insert(place, edge) {
             Ok(()) => {}
             Err(_) => unreachable!(),
         }
     }
 }
 
-impl Links {
-    /// Reserves capacity for exactly this many more links.
+impl Edges {
+    /// Reserves capacity for exactly this many more edges.
     fn reserve_exact(&mut self, more: usize) -> Result<(), AllocError>
-        ensures { self.new.links.items ≡ self.old.links.items }
+        ensures { self.new.edges.items ≡ self.old.edges.items }
     {
-        self.links.reserve_exact(more)
+        self.edges.reserve_exact(more)
     }
 
-    /// Reserves capacity for one more link.
+    /// Reserves capacity for one more edge.
     fn reserve(&mut self) -> Result<(), AllocError>
-        ensures same { self.new.links.items ≡ self.old.links.items }
+        ensures same { self.new.edges.items ≡ self.old.edges.items }
         ensures room { OnOk result (HasRoom self.new) }
     {
-        self.links.reserve(1)
+        self.edges.reserve(1)
     }
 
-    /// Inserts a link or replaces the one with its id and direction, or removes that one.
-    fn put(&mut self, scid: Scid, second: bool, link: Option<Link>)
+    /// Inserts an edge or replaces the one with its id and direction, or removes that one.
+    fn put(&mut self, scid: Scid, second: bool, edge: Option<Edge>)
         requires room { HasRoom self.old }
-        requires cut { IsCut (link_key scid second) self.old.links.items }
-        ensures { self.new.links.items ≡ put_at (link_key scid second) self.old.links.items link }
+        requires cut { IsCut (edge_key scid second) self.old.edges.items }
+        ensures { self.new.edges.items ≡ put_at (edge_key scid second) self.old.edges.items edge }
     {
-        match place(self.links.as_slice(), scid, second) {
-            Ok(place) => replace(&mut self.links, place, link),
-            Err(place) => insert(&mut self.links, place, link),
+        match place(self.edges.as_slice(), scid, second) {
+            Ok(place) => replace(&mut self.edges, place, edge),
+            Err(place) => insert(&mut self.edges, place, edge),
         }
     }
 
-    /// Appends a link.
-    fn push(&mut self, link: Link)
+    /// Appends an edge.
+    fn push(&mut self, edge: Edge)
         requires { HasRoom self.old }
-        ensures { self.new.links.items ≡ self.old.links.items ++ link ∷ [] }
+        ensures { self.new.edges.items ≡ self.old.edges.items ++ edge ∷ [] }
     {
-        self.links.push_reserved(link);
+        self.edges.push_reserved(edge);
     }
 }
 
-impl Links {
-    /// Removes the links of a channel.
+impl Edges {
+    /// Removes the edges of a channel.
     fn drop_channel(&mut self, scid: Scid)
-        ensures { self.new.links.items ≡ filter (is_not_of scid) self.old.links.items }
+        ensures { self.new.edges.items ≡ filter (is_not_of scid) self.old.edges.items }
     {
-        self.links.retain(
-            |link: &Link| -> bool
-                ensures { result ≡ is_not_of scid link.now }
-            { link.scid != scid },
+        self.edges.retain(
+            |edge: &Edge| -> bool
+                ensures { result ≡ is_not_of scid edge.now }
+            { edge.scid != scid },
         );
     }
 }
@@ -131,59 +131,59 @@ fn is_banned(points: &IndexSet<Point, Seed>, held: &Map, number: u32) -> bool
     }
 }
 
-impl Links {
-    /// Removes the links from or to a banned node.
+impl Edges {
+    /// Removes the edges from or to a banned node.
     fn drop_banned(&mut self, points: &IndexSet<Point, Seed>, held: &Map)
-        ensures { self.new.links.items
-            ≡ filter (is_allowed points.now.keys held.now.banned) self.old.links.items }
+        ensures { self.new.edges.items
+            ≡ filter (is_allowed points.now.keys held.now.banned) self.old.edges.items }
     {
-        self.links.retain(
-            |link: &Link| -> bool
-                ensures { result ≡ is_allowed points.entry.now.keys held.entry.now.banned link.now }
-            { !(is_banned(points, held, link.from) || is_banned(points, held, link.to)) },
+        self.edges.retain(
+            |edge: &Edge| -> bool
+                ensures { result ≡ is_allowed points.entry.now.keys held.entry.now.banned edge.now }
+            { !(is_banned(points, held, edge.from) || is_banned(points, held, edge.to)) },
         );
     }
 }
 
 /// Copies of lists. The only error is out of memory.
-pub(crate) fn copies(alloc: Global, lists: &[Links]) -> Result<Vec<Links>, AllocError>
-    ensures { IfOk result (λ copies. map links_in copies.items ≡ map links_in lists.now) }
+pub(crate) fn copies(alloc: Global, lists: &[Edges]) -> Result<Vec<Edges>, AllocError>
+    ensures { IfOk result (λ copies. map edges_in copies.items ≡ map edges_in lists.now) }
 {
     let mut copies = Vec::with_capacity(alloc, lists.len())?;
     for list in lists {
-        let links = Vec::from_slice(alloc, &list.links)?;
-        copies.push(Links { links })?;
+        let edges = Vec::from_slice(alloc, &list.edges)?;
+        copies.push(Edges { edges })?;
     }
     Ok(copies)
 }
 
-/// Removes the links from or to a banned node at a node.
+/// Removes the edges from or to a banned node at a node.
 pub(crate) fn drop_banned_at(
-    lists: &mut Vec<Links>,
+    lists: &mut Vec<Edges>,
     number: usize,
     points: &IndexSet<Point, Seed>,
     held: &Map,
 )
     requires { number < length lists.old.items }
     ensures long { length lists.new.items ≡ length lists.old.items }
-    ensures links { map links_in lists.new.items
-        ≡ slice_set (map links_in lists.old.items) number (filter (is_allowed points.now.keys held.now.banned)
-        (slice_index_or (map links_in lists.old.items) number [])) }
+    ensures edges { map edges_in lists.new.items
+        ≡ slice_set (map edges_in lists.old.items) number (filter (is_allowed points.now.keys held.now.banned)
+        (slice_index_or (map edges_in lists.old.items) number [])) }
 {
     lists[number].drop_banned(points, held);
 }
 
-/// Removes the links of a channel at a node.
-pub(crate) fn drop_at(lists: &mut Vec<Links>, number: usize, scid: Scid)
+/// Removes the edges of a channel at a node.
+pub(crate) fn drop_at(lists: &mut Vec<Edges>, number: usize, scid: Scid)
     requires { number < length lists.old.items }
     ensures long { length lists.new.items ≡ length lists.old.items }
-    ensures links { map links_in lists.new.items ≡ slice_set (map links_in lists.old.items) number
-        (filter (is_not_of scid) (slice_index_or (map links_in lists.old.items) number [])) }
+    ensures edges { map edges_in lists.new.items ≡ slice_set (map edges_in lists.old.items) number
+        (filter (is_not_of scid) (slice_index_or (map edges_in lists.old.items) number [])) }
 {
     lists[number].drop_channel(scid);
 }
 
-/// The number of links, by node.
+/// The number of edges, by node.
 #[derive(Drop)]
 pub(crate) struct Counts {
     /// Those to the node.
@@ -193,13 +193,13 @@ pub(crate) struct Counts {
 }
 
 impl Counts {
-    /// Counts links among this many nodes.
-    pub(crate) fn of(alloc: Global, nodes: usize, links: &[Link]) -> Result<Counts, AllocError> {
+    /// Counts edges among this many nodes.
+    pub(crate) fn of(alloc: Global, nodes: usize, edges: &[Edge]) -> Result<Counts, AllocError> {
         let mut into = vec![in alloc; 0; nodes]?;
         let mut out = vec![in alloc; 0; nodes]?;
-        for link in links {
-            count(&mut into, link.to);
-            count(&mut out, link.from);
+        for edge in edges {
+            count(&mut into, edge.to);
+            count(&mut out, edge.from);
         }
         Ok(Counts { into, out })
     }
@@ -212,9 +212,9 @@ fn count(counts: &mut [u32], number: u32) {
     }
 }
 
-/// Reserves capacity at each node for as many more links as are counted there.
-pub(crate) fn reserve_all(lists: &mut Vec<Links>, counts: &[u32]) -> Result<(), AllocError>
-    ensures { map links_in lists.new.items ≡ map links_in lists.old.items }
+/// Reserves capacity at each node for as many more edges as are counted there.
+pub(crate) fn reserve_all(lists: &mut Vec<Edges>, counts: &[u32]) -> Result<(), AllocError>
+    ensures { map edges_in lists.new.items ≡ map edges_in lists.old.items }
 {
     for i in 0..lists.len() {
         if let Some(count) = counts.get(i) {
@@ -224,38 +224,38 @@ pub(crate) fn reserve_all(lists: &mut Vec<Links>, counts: &[u32]) -> Result<(), 
     Ok(())
 }
 
-/// Reserves capacity for one more link at a node.
-pub(crate) fn reserve_at(lists: &mut Vec<Links>, number: usize) -> Result<(), AllocError>
+/// Reserves capacity for one more edge at a node.
+pub(crate) fn reserve_at(lists: &mut Vec<Edges>, number: usize) -> Result<(), AllocError>
     requires { number < length lists.old.items }
-    ensures same { map links_in lists.new.items ≡ map links_in lists.old.items }
+    ensures same { map edges_in lists.new.items ≡ map edges_in lists.old.items }
     ensures room { OnOk result (HoldsAt HasRoom lists.new.items number) }
 {
     lists[number].reserve()
 }
 
-/// Inserts a link at a node or replaces the one with its id and direction, or removes that one.
+/// Inserts an edge at a node or replaces the one with its id and direction, or removes that one.
 pub(crate) fn put_at(
-    lists: &mut Vec<Links>,
+    lists: &mut Vec<Edges>,
     number: usize,
     scid: Scid,
     second: bool,
-    link: Option<Link>,
+    edge: Option<Edge>,
 )
     requires within { number < length lists.old.items }
     requires room { HoldsAt HasRoom lists.old.items number }
-    requires cut { IsCut (link_key scid second) (slice_index_or (map links_in lists.old.items) number []) }
-    ensures { map links_in lists.new.items ≡ slice_set (map links_in lists.old.items) number
-        (put_at (link_key scid second) (slice_index_or (map links_in lists.old.items) number []) link) }
+    requires cut { IsCut (edge_key scid second) (slice_index_or (map edges_in lists.old.items) number []) }
+    ensures { map edges_in lists.new.items ≡ slice_set (map edges_in lists.old.items) number
+        (put_at (edge_key scid second) (slice_index_or (map edges_in lists.old.items) number []) edge) }
 {
-    lists[number].put(scid, second, link);
+    lists[number].put(scid, second, edge);
 }
 
-/// Appends a link at a node.
-pub(crate) fn push_at(lists: &mut Vec<Links>, number: usize, link: Link)
+/// Appends an edge at a node.
+pub(crate) fn push_at(lists: &mut Vec<Edges>, number: usize, edge: Edge)
     requires within { number < length lists.old.items }
     requires room { HoldsAt HasRoom lists.old.items number }
-    ensures { map links_in lists.new.items ≡ slice_set (map links_in lists.old.items) number
-        (slice_index_or (map links_in lists.old.items) number [] ++ link ∷ []) }
+    ensures { map edges_in lists.new.items ≡ slice_set (map edges_in lists.old.items) number
+        (slice_index_or (map edges_in lists.old.items) number [] ++ edge ∷ []) }
 {
-    lists[number].push(link);
+    lists[number].push(edge);
 }

@@ -1,21 +1,21 @@
-//! Numbered nodes, and the links of each.
+//! Numbered nodes, and the edges of each.
 
 ghost use Rattle.std.specs.Prelude.{◌≡◌, ◌++◌, ◌∷◌, [], ℕ, ◌+◌, ◌<◌, ◌≤◌, List, map, length, slice_set};
 ghost use Rattle.std.specs.Prelude.{slice_index_or, OnOk, IfOk, Option, Bool, false, true, if◌then◌else◌};
 ghost use Rattle.std.specs.List.{HoldsAt, list_any};
 ghost use Rattle.indexmap.specs.IndexSet.{spare};
 ghost use Rattle.lgm_wire.specs.declared.point.Point.{Point as APoint};
-ghost use Rattle.lgm_graph.specs.declared.link.Link.{Link as ALink};
+ghost use Rattle.lgm_graph.specs.declared.edge.Edge.{Edge as AnEdge};
 ghost use Rattle.lgm_graph.specs.inner.Walk.{HasNumbered};
 ghost use Rattle.lgm_store.specs.Rows.{is_point};
 ghost use Rattle.lgm_graph.specs.Edges.{takes_payments};
-ghost use Rattle.lgm_graph.specs.inner.Lists.{link_key, IsCut, put_at};
+ghost use Rattle.lgm_graph.specs.inner.Lists.{edge_key, IsCut, put_at};
 ghost use Rattle.lgm_graph.specs.Graph.{number_of, IsNumbered};
-ghost use Rattle.lgm_graph.specs.inner.Sound.{graph_in, links_in, HasRoom, HasPlaces, AreFlags, AreInto};
+ghost use Rattle.lgm_graph.specs.inner.Sound.{graph_in, edges_in, HasRoom, HasPlaces, AreFlags, AreInto};
 ghost use Rattle.lgm_graph.specs.inner.Sound.{AreOut, closed_at, allowed_at};
 
+use crate::edge::Edge;
 use crate::known::Known;
-use crate::link::Link;
 use crate::lists;
 use crate::lists::Counts;
 use indexmap::IndexSet;
@@ -23,19 +23,19 @@ use lgm_gossip::{Point, Scid};
 use lgm_store::{Map, Seed};
 use std::alloc::{AllocError, Global};
 
-/// Links, by id and direction.
+/// Edges, by id and direction.
 #[derive(Drop)]
-pub(crate) struct Links {
-    pub(crate) links: Vec<Link>,
+pub(crate) struct Edges {
+    pub(crate) edges: Vec<Edge>,
 }
 
-/// Points by number, and for each whether its node takes payments, the links into it and the links out of it.
+/// Points by number, and for each whether its node takes payments, the edges into it and the edges out of it.
 #[derive(Drop)]
 pub(crate) struct Nodes {
     pub(crate) points: IndexSet<Point, Seed>,
     pub(crate) takes: Vec<bool>,
-    pub(crate) into: Vec<Links>,
-    pub(crate) out: Vec<Links>,
+    pub(crate) into: Vec<Edges>,
+    pub(crate) out: Vec<Edges>,
 }
 
 /// Whether a node takes payments. If all features are known, its announcement isn't looked up.
@@ -122,29 +122,29 @@ impl Nodes {
         requires other { list_any (is_point point) self.old.points.keys ≡ false }
         ensures points { self.new.points.keys ≡ self.old.points.keys ++ point ∷ [] }
         ensures takes { self.new.takes.items ≡ self.old.takes.items ++ takes ∷ [] }
-        ensures into { map links_in self.new.into.items ≡ map links_in self.old.into.items ++ [] ∷ [] }
-        ensures out { map links_in self.new.out.items ≡ map links_in self.old.out.items ++ [] ∷ [] }
+        ensures into { map edges_in self.new.into.items ≡ map edges_in self.old.into.items ++ [] ∷ [] }
+        ensures out { map edges_in self.new.out.items ≡ map edges_in self.old.out.items ++ [] ∷ [] }
         ensures places { (more : ℕ) → HasPlaces (more + 1) self.old → HasPlaces more self.new }
     {
         push_point(&mut self.points, point);
         self.takes.push_reserved(takes);
-        let links = Vec::new(alloc);
-        self.into.push_reserved(Links { links });
-        let links = Vec::new(alloc);
-        self.out.push_reserved(Links { links });
+        let edges = Vec::new(alloc);
+        self.into.push_reserved(Edges { edges });
+        let edges = Vec::new(alloc);
+        self.out.push_reserved(Edges { edges });
     }
 
-    /// Reserves capacity for exactly these links at their nodes, so that no list grows step by step.
-    pub(crate) fn reserve_for(&mut self, alloc: Global, links: &[Link]) -> Result<(), AllocError>
+    /// Reserves capacity for exactly these edges at their nodes, so that no list grows step by step.
+    pub(crate) fn reserve_for(&mut self, alloc: Global, edges: &[Edge]) -> Result<(), AllocError>
         ensures same { (known : Option (List ℕ)) → graph_in known self.new ≡ graph_in known self.old }
     {
-        let counts = Counts::of(alloc, self.points.len(), links)?;
+        let counts = Counts::of(alloc, self.points.len(), edges)?;
         lists::reserve_all(&mut self.into, &counts.into)?;
         lists::reserve_all(&mut self.out, &counts.out)
     }
 
-    /// Reserves capacity for one more link from one node to another.
-    pub(crate) fn reserve_links(&mut self, from: usize, to: usize) -> Result<(), AllocError>
+    /// Reserves capacity for one more edge from one node to another.
+    pub(crate) fn reserve_edges(&mut self, from: usize, to: usize) -> Result<(), AllocError>
         requires from { from < length self.old.out.items }
         requires to { to < length self.old.into.items }
         ensures same { (known : Option (List ℕ)) → graph_in known self.new ≡ graph_in known self.old }
@@ -155,51 +155,51 @@ impl Nodes {
         lists::reserve_at(&mut self.out, from)
     }
 
-    /// Appends a link at both of its nodes.
-    pub(crate) fn push_link(&mut self, from: usize, to: usize, link: Link)
+    /// Appends an edge at both of its nodes.
+    pub(crate) fn push_edge(&mut self, from: usize, to: usize, edge: Edge)
         requires from { from < length self.old.out.items }
         requires to { to < length self.old.into.items }
         requires leaving { HoldsAt HasRoom self.old.out.items from }
         requires into { HoldsAt HasRoom self.old.into.items to }
         ensures points { self.new.points.keys ≡ self.old.points.keys }
         ensures takes { self.new.takes.items ≡ self.old.takes.items }
-        ensures into { map links_in self.new.into.items ≡ slice_set (map links_in self.old.into.items) to
-            (slice_index_or (map links_in self.old.into.items) to [] ++ link ∷ []) }
-        ensures out { map links_in self.new.out.items ≡ slice_set (map links_in self.old.out.items) from
-            (slice_index_or (map links_in self.old.out.items) from [] ++ link ∷ []) }
+        ensures into { map edges_in self.new.into.items ≡ slice_set (map edges_in self.old.into.items) to
+            (slice_index_or (map edges_in self.old.into.items) to [] ++ edge ∷ []) }
+        ensures out { map edges_in self.new.out.items ≡ slice_set (map edges_in self.old.out.items) from
+            (slice_index_or (map edges_in self.old.out.items) from [] ++ edge ∷ []) }
     {
-        let copy = link;
+        let copy = edge;
         lists::push_at(&mut self.into, to, copy);
-        lists::push_at(&mut self.out, from, link);
+        lists::push_at(&mut self.out, from, edge);
     }
 
-    /// At both of its nodes, inserts a link or replaces the one with its id and direction, or removes that one.
-    pub(crate) fn put_link(
+    /// At both of its nodes, inserts an edge or replaces the one with its id and direction, or removes that one.
+    pub(crate) fn put_edge(
         &mut self,
         from: usize,
         to: usize,
         scid: Scid,
         second: bool,
-        link: Option<Link>,
+        edge: Option<Edge>,
     )
         requires from { from < length self.old.out.items }
         requires to { to < length self.old.into.items }
         requires leaving { HoldsAt HasRoom self.old.out.items from }
         requires into { HoldsAt HasRoom self.old.into.items to }
-        requires cut_into { IsCut (link_key scid second)
-            (slice_index_or (map links_in self.old.into.items) to []) }
-        requires cut_out { IsCut (link_key scid second)
-            (slice_index_or (map links_in self.old.out.items) from []) }
+        requires cut_into { IsCut (edge_key scid second)
+            (slice_index_or (map edges_in self.old.into.items) to []) }
+        requires cut_out { IsCut (edge_key scid second)
+            (slice_index_or (map edges_in self.old.out.items) from []) }
         ensures points { self.new.points.keys ≡ self.old.points.keys }
         ensures takes { self.new.takes.items ≡ self.old.takes.items }
-        ensures into { map links_in self.new.into.items ≡ slice_set (map links_in self.old.into.items) to
-            (put_at (link_key scid second) (slice_index_or (map links_in self.old.into.items) to []) link) }
-        ensures out { map links_in self.new.out.items ≡ slice_set (map links_in self.old.out.items) from
-            (put_at (link_key scid second) (slice_index_or (map links_in self.old.out.items) from []) link) }
+        ensures into { map edges_in self.new.into.items ≡ slice_set (map edges_in self.old.into.items) to
+            (put_at (edge_key scid second) (slice_index_or (map edges_in self.old.into.items) to []) edge) }
+        ensures out { map edges_in self.new.out.items ≡ slice_set (map edges_in self.old.out.items) from
+            (put_at (edge_key scid second) (slice_index_or (map edges_in self.old.out.items) from []) edge) }
     {
-        let copy = link;
+        let copy = edge;
         lists::put_at(&mut self.into, to, scid, second, copy);
-        lists::put_at(&mut self.out, from, scid, second, link);
+        lists::put_at(&mut self.out, from, scid, second, edge);
     }
 
     /// Determines again whether a node takes payments, if it is numbered.
@@ -219,7 +219,7 @@ impl Nodes {
         }
     }
 
-    /// Removes the links of a closed channel at a node, and determines again whether the node takes payments.
+    /// Removes the edges of a closed channel at a node, and determines again whether the node takes payments.
     pub(crate) fn close_at(&mut self, known: &Known, map: &Map, node: &Point, scid: Scid)
         requires numbered { IsNumbered self.old.points.keys node.now }
         requires takes { length self.old.takes.items ≡ length self.old.points.keys }
@@ -228,9 +228,9 @@ impl Nodes {
         ensures points { self.new.points.keys ≡ self.old.points.keys }
         ensures into_long { length self.new.into.items ≡ length self.old.into.items }
         ensures out_long { length self.new.out.items ≡ length self.old.out.items }
-        ensures into { (before : APoint → List ALink) → AreInto before self.old
+        ensures into { (before : APoint → List AnEdge) → AreInto before self.old
             → AreInto (closed_at node.now scid before) self.new }
-        ensures out { (before : APoint → List ALink) → AreOut before self.old
+        ensures out { (before : APoint → List AnEdge) → AreOut before self.old
             → AreOut (closed_at node.now scid before) self.new }
         ensures takes { (before : APoint → Bool) → AreFlags before self.old
             → AreFlags (λ q. if is_point node.now q then takes_payments known.now map.now.nodes q
@@ -257,7 +257,7 @@ impl Nodes {
         self.add(alloc, point, takes);
     }
 
-    /// Removes the links to banned nodes at a node, if it is numbered, and checks again whether it takes payments.
+    /// Removes the edges to banned nodes at a node, if it is numbered, and checks again whether it takes payments.
     pub(crate) fn ban_at(&mut self, known: &Known, map: &Map, node: &Point)
         requires takes { length self.old.takes.items ≡ length self.old.points.keys }
         requires into { length self.old.into.items ≡ length self.old.points.keys }
@@ -266,9 +266,9 @@ impl Nodes {
         ensures takes_long { length self.new.takes.items ≡ length self.old.takes.items }
         ensures into_long { length self.new.into.items ≡ length self.old.into.items }
         ensures out_long { length self.new.out.items ≡ length self.old.out.items }
-        ensures into { (before : APoint → List ALink) → AreInto before self.old
+        ensures into { (before : APoint → List AnEdge) → AreInto before self.old
             → AreInto (allowed_at node.now self.old.points.keys map.now.banned before) self.new }
-        ensures out { (before : APoint → List ALink) → AreOut before self.old
+        ensures out { (before : APoint → List AnEdge) → AreOut before self.old
             → AreOut (allowed_at node.now self.old.points.keys map.now.banned before) self.new }
         ensures takes { (before : APoint → Bool) → AreFlags before self.old
             → AreFlags (λ q. if is_point node.now q then takes_payments known.now map.now.nodes q

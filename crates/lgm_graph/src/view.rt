@@ -7,27 +7,25 @@ ghost use Rattle.std.specs.List.Sorted.{IsPermutation};
 ghost use Rattle.std.specs.Option.{option_copied};
 ghost use Rattle.lgm_store.specs.Rows.{Rows, is_point};
 ghost use Rattle.lgm_store.specs.History.{absorbed};
-ghost use Rattle.lgm_graph.specs.declared.edge.Edge.{Edge as AnEdge};
-ghost use Rattle.lgm_graph.specs.Edges.{edges_of};
-ghost use Rattle.lgm_graph.specs.Graph.{AreLinked, IsGraphOf, edge_at, edges};
-ghost use Rattle.lgm_graph.specs.Graph.{takes_at, links_into, links_leaving};
+ghost use Rattle.lgm_graph.specs.Edges.{PointEdge, edges_of};
+ghost use Rattle.lgm_graph.specs.Graph.{AreListed, IsGraphOf, edges, point_edges};
+ghost use Rattle.lgm_graph.specs.Graph.{takes_at, edges_into, edges_leaving};
 
 mod applying;
 mod hints;
-mod linking;
+mod listing;
 mod making;
 mod parting;
 
 use crate::edge::Edge;
 use crate::known::Known;
-use crate::link::Link;
 use crate::nodes::Nodes;
 use lgm_gossip::Point;
 use lgm_store::{Map, Op};
 use std::alloc::{AllocError, Global};
 use std::marker::Model;
 
-/// The edges of a map, between numbered nodes. Contracts see the points by number, and the links into and out of each
+/// The edges of a map, between numbered nodes. Contracts see the points by number, and the edges into and out of each
 /// node.
 #[derive(Drop)]
 pub struct View {
@@ -54,7 +52,7 @@ impl View {
     pub fn nodes(&self) -> usize
         ensures count { result ≡ length self.now.points }
         ensures few { result < 2 ^ 32 }
-        ensures linked { AreLinked self.now }
+        ensures listed { AreListed self.now }
     {
         self.nodes.points.len()
     }
@@ -86,49 +84,30 @@ impl View {
 
     /// The edges into the node with a number, by id and direction: none if it takes no payments or there is no such
     /// number.
-    pub fn links_into(&self, number: u32) -> &[Link]
-        ensures { result.now ≡ links_into self.now number }
+    pub fn edges_into(&self, number: u32) -> &[Edge]
+        ensures { result.now ≡ edges_into self.now number }
     {
         if !self.takes_payments(number) {
             return &[];
         }
         match self.nodes.into.get(number as usize) {
-            Some(list) => list.links.as_slice(),
+            Some(list) => list.edges.as_slice(),
             None => &[],
         }
     }
 
     /// The edges out of the node with a number, by id and direction, including those to nodes that take no payments.
-    pub fn links_leaving(&self, number: u32) -> &[Link]
-        ensures { result.now ≡ links_leaving self.now number }
+    pub fn edges_leaving(&self, number: u32) -> &[Edge]
+        ensures { result.now ≡ edges_leaving self.now number }
     {
         match self.nodes.out.get(number as usize) {
-            Some(list) => list.links.as_slice(),
+            Some(list) => list.edges.as_slice(),
             None => &[],
         }
     }
 }
 
 impl View {
-    /// A link as an edge between points.
-    pub fn edge_between(&self, link: &Link) -> Edge
-        requires from { link.now.from < length self.now.points }
-        requires to { link.now.to < length self.now.points }
-        ensures { result ≡ edge_at self.now.points link.now }
-    {
-        Edge {
-            scid: link.scid,
-            second: link.second,
-            from: self.nodes.points.as_slice()[link.from as usize],
-            to: self.nodes.points.as_slice()[link.to as usize],
-            base: link.base,
-            millionths: link.millionths,
-            delta: link.delta,
-            min: link.min,
-            max: link.max,
-        }
-    }
-
     /// The number of edges, or 2^64 - 1 if there were more, for which there is no memory.
     pub fn edge_count(&self) -> usize
         ensures { result ≡ min (length (edges self.now)) (2 ^ 64 - 1) }
@@ -136,36 +115,36 @@ impl View {
         let nodes = self.nodes();
         let mut count: usize = 0;
         for number in 0..nodes {
-            count = count.saturating_add(self.links_into(number as u32).len());
+            count = count.saturating_add(self.edges_into(number as u32).len());
         }
         count
     }
 
     /// The edge at an index below that number, ordered by the node that they go to. Traverses the nodes up to that one.
-    pub fn edge(&self, place: usize) -> Option<Edge>
-        ensures { result ≡ slice_get (edges self.now) place }
+    pub fn edge(&self, place: usize) -> Option<&Edge>
+        ensures { option_copied result ≡ slice_get (edges self.now) place }
     {
-        // The contract of `nodes` says that the nodes of links are numbered.
+        // The contract of `nodes` says that each number has a list.
         let nodes = self.nodes();
         let mut left = place;
         for number in 0..nodes {
-            let links = self.links_into(number as u32);
-            if left < links.len() {
-                return Some(self.edge_between(&links[left]));
+            let edges = self.edges_into(number as u32);
+            if left < edges.len() {
+                return Some(&edges[left]);
             }
-            left -= links.len();
+            left -= edges.len();
         }
         None
     }
 }
 
 impl View {
-    /// A view of rows has exactly their edges, each once. The call does nothing: its contract is the law.
+    /// A view of rows has exactly their edges between points, each once. The call does nothing: its contract is the law.
     pub fn shows_the_edges(&self)
-        ensures found { (rows : Rows) → IsGraphOf rows self.now → (edge : AnEdge)
-            → Contains (edges self.now) edge ↔ Contains (edges_of self.now.known rows) edge }
+        ensures found { (rows : Rows) → IsGraphOf rows self.now → (edge : PointEdge)
+            → Contains (point_edges self.now) edge ↔ Contains (edges_of self.now.known rows) edge }
         ensures once { (rows : Rows) → IsGraphOf rows self.now
-            → IsPermutation (edges_of self.now.known rows) (edges self.now) }
+            → IsPermutation (edges_of self.now.known rows) (point_edges self.now) }
     {
         // Different points have different numbers.
         self.nodes();

@@ -4,17 +4,17 @@ use Rattle.std.proofs.Common.{set, Bool, true, false, refl, sym, ◌∙◌, ap, 
 use Rattle.std.specs.List.{Contains}
 use Rattle.std.proofs.lemmas.List.{get_or_default, get_or_push, length_push, get_or_append_left}
 use Rattle.lgm_graph.specs.Fee.{fee_of}
-use Rattle.lgm_graph.specs.Graph.{Graph, links, links_leaving, AreLinked}
-use Rattle.lgm_graph.specs.declared.link.Link.{Link}
+use Rattle.lgm_graph.specs.Graph.{Graph, edges, edges_leaving, AreListed}
+use Rattle.lgm_graph.specs.declared.edge.Edge.{Edge}
 use Rattle.lgm_route.specs.declared.numbered_request.NumberedRequest.{NumberedRequest}
-use Rattle.lgm_route.specs.inner.Searching.{number_at, no_link, link_at}
+use Rattle.lgm_route.specs.inner.Searching.{number_at, no_edge, edge_at}
 use Rattle.lgm_route.specs.inner.Bounding.{AreLow, IsLowered, IsSpread, IsRadius, AreCut, AreReached, bounds_in, is_closed, IsNear, IsLooked}
 use Rattle.lgm_route.proofs.Rests.{trichotomy}
 
 abbrev pub IsCut : ℕ → ℕ → ℕ → Type 0
 IsCut most old new = ((new ≡ old) × (old ≤ most)) ⊎ ((new ≡ most) × (most ≤ old))
 
-pub near_later : (request : NumberedRequest) (start nodes : ℕ) (dist after : List ℕ) (edge : Link)
+pub near_later : (request : NumberedRequest) (start nodes : ℕ) (dist after : List ℕ) (edge : Edge)
     → ((other : ℕ) → number_at after other ≤ number_at dist other) →
     IsNear request start nodes dist edge → IsNear request start nodes after edge
 near_later request start nodes dist after edge falls near =
@@ -24,7 +24,7 @@ near_later request start nodes dist after edge falls near =
     }
 
 -- lowered, the closed nodes tell the same
-pub spread_lowered : (edges : List Link) (request : NumberedRequest) (dist : List ℕ) (closed : List Bool)
+pub spread_lowered : (edges : List Edge) (request : NumberedRequest) (dist : List ℕ) (closed : List Bool)
     (node amount : ℕ) (after : List ℕ) (now : List Bool) →
     IsLowered dist closed node amount after now → IsSpread edges request dist closed → IsSpread edges request after now
 spread_lowered edges request dist closed node amount after now low is =
@@ -45,7 +45,7 @@ start_lowered dist closed node amount after now start at low h k = by (low.least
     by (inr p) = omega arith
 
 -- what a look at an edge leaves
-pub looked : (request : NumberedRequest) (start amount node : ℕ) (edge : Link) (dist : List ℕ)
+pub looked : (request : NumberedRequest) (start amount node : ℕ) (edge : Edge) (dist : List ℕ)
     (closed : List Bool) (after : List ℕ) (now : List Bool) →
     IsLowered dist closed node amount after now → node ≡ edge.to → start ≤ amount → (edge.from ≡ request.payer
     → amount ≤ start) → amount ≤ start + fee_of request.amount edge.base edge.millionths →
@@ -64,45 +64,45 @@ looked request start amount node edge dist closed after now low to more first mo
     }
 
 -- one more edge out of the node was looked at
-pub near_more : (request : NumberedRequest) (start nodes place : ℕ) (leaving : List Link) (dist after : List ℕ) →
+pub near_more : (request : NumberedRequest) (start nodes place : ℕ) (leaving : List Edge) (dist after : List ℕ) →
     ((other : ℕ) → number_at after other ≤ number_at dist other) →
-    ((j : ℕ) → j < place → IsNear request start nodes dist (link_at leaving j)) → IsNear request start nodes after (link_at leaving place) →
-    (j : ℕ) → j < place + 1 → IsNear request start nodes after (link_at leaving j)
+    ((j : ℕ) → j < place → IsNear request start nodes dist (edge_at leaving j)) → IsNear request start nodes after (edge_at leaving place) →
+    (j : ℕ) → j < place + 1 → IsNear request start nodes after (edge_at leaving j)
 near_more request start nodes place leaving dist after falls before new j to = by (trichotomy j place)
   where
-    by : (j < place) ⊎ (j ≡ place) ⊎ (place < j) → IsNear request start nodes after (link_at leaving j)
-    by (inl p) = near_later request start nodes dist after (link_at leaving j) falls (before j p)
-    by (inr (inl e)) = subst (λ n. IsNear request start nodes after (link_at leaving n)) (sym e) new
+    by : (j < place) ⊎ (j ≡ place) ⊎ (place < j) → IsNear request start nodes after (edge_at leaving j)
+    by (inl p) = near_later request start nodes dist after (edge_at leaving j) falls (before j p)
+    by (inr (inl e)) = subst (λ n. IsNear request start nodes after (edge_at leaving n)) (sym e) new
     by (inr (inr p)) = absurd (omega arith)
 
 -- the node is closed
 pub spread_closed : (graph : Graph) (request : NumberedRequest) (dist : List ℕ) (closed : List Bool) (node start : ℕ) →
-    AreLinked graph → length graph.points ≡ length dist → node < length closed → (node ≡ request.payer → start ≡ 0) → start ≤ number_at dist node →
-    ((j : ℕ) → j < length (links_leaving graph node) → IsNear request start (length dist) dist (link_at (links_leaving graph node) j)) →
-    IsSpread (links graph) request dist closed → IsSpread (links graph) request dist (set closed node true)
-spread_closed graph request dist closed node start linked long within none low near is =
+    AreListed graph → length graph.points ≡ length dist → node < length closed → (node ≡ request.payer → start ≡ 0) → start ≤ number_at dist node →
+    ((j : ℕ) → j < length (edges_leaving graph node) → IsNear request start (length dist) dist (edge_at (edges_leaving graph node) j)) →
+    IsSpread (edges graph) request dist closed → IsSpread (edges graph) request dist (set closed node true)
+spread_closed graph request dist closed node start listed long within none low near is =
     record {
       near = λ edge there shut min max. at edge there min max shut (trichotomy edge.from node);
       first = λ edge there shut min max from. at_first edge there min max from shut (trichotomy edge.from node);
       payer = is.payer;
     }
   where
-    run : List Link
-    run = links_leaving graph node
+    run : List Edge
+    run = edges_leaving graph node
 
-    found : (edge : Link) → Contains (links graph) edge → edge.from ≡ node → IsNear request start (length dist) dist edge
+    found : (edge : Edge) → Contains (edges graph) edge → edge.from ≡ node → IsNear request start (length dist) dist edge
     found edge there from =
-        let place : Contains run edge = subst (λ n. Contains (links_leaving graph n) edge) from (linked.each edge there).leaves in
-        let same : link_at run place.0 ≡ edge = subst (λ e. e ≡ edge) (get_or_default run place.0 edge no_link place.1) place.2 in
+        let place : Contains run edge = subst (λ n. Contains (edges_leaving graph n) edge) from (listed.each edge there).leaves in
+        let same : edge_at run place.0 ≡ edge = subst (λ e. e ≡ edge) (get_or_default run place.0 edge no_edge place.1) place.2 in
         subst (λ e. IsNear request start (length dist) dist e) same (near place.0 place.1)
 
-    inside : (edge : Link) → Contains (links graph) edge → edge.to < length dist
-    inside edge there = omega (arith, (linked.each edge there).to, long)
+    inside : (edge : Edge) → Contains (edges graph) edge → edge.to < length dist
+    inside edge there = omega (arith, (listed.each edge there).to, long)
 
     before : (other : ℕ) → other ≢ node → is_closed (set closed node true) other ≡ true → is_closed closed other ≡ true
     before other apart shut = sym (get_or-set_other closed node other true false apart) ∙ shut
 
-    at : (edge : Link) → Contains (links graph) edge → edge.min ≤ request.amount → request.amount ≤ edge.max
+    at : (edge : Edge) → Contains (edges graph) edge → edge.min ≤ request.amount → request.amount ≤ edge.max
         → is_closed (set closed node true) edge.from ≡ true →
         (edge.from < node) ⊎ (edge.from ≡ node) ⊎ (node < edge.from) → number_at dist edge.to
         ≤ number_at dist edge.from + fee_of request.amount edge.base edge.millionths
@@ -110,7 +110,7 @@ spread_closed graph request dist closed node start linked long within none low n
     at edge there min max shut (inr (inl e)) = omega (arith, (found edge there e).over (inside edge there) min max, ap (λ n. number_at dist n) e)
     at edge there min max shut (inr (inr p)) = is.near edge there (before edge.from (λ e. omega (arith, p)) shut) min max
 
-    at_first : (edge : Link) → Contains (links graph) edge → edge.min ≤ request.amount → request.amount
+    at_first : (edge : Edge) → Contains (edges graph) edge → edge.min ≤ request.amount → request.amount
         ≤ edge.max → edge.from ≡ request.payer → is_closed (set closed node true) edge.from ≡ true →
         (edge.from < node) ⊎ (edge.from ≡ node) ⊎ (node < edge.from) → number_at dist edge.to ≤ 0
     at_first edge there min max from shut (inl p) = is.first edge there (before edge.from (λ e. omega (arith, p)) shut) min max from
@@ -119,8 +119,8 @@ spread_closed graph request dist closed node start linked long within none low n
     at_first edge there min max from shut (inr (inr p)) = is.first edge there (before edge.from (λ e. omega (arith, p)) shut) min max from
 
 -- cut at the least of the open nodes these are bounds
-pub low_of : (edges : List Link) (request : NumberedRequest) (dist : List ℕ) (closed : List Bool) (most : ℕ) (after : List ℕ) →
-    ((edge : Link) → Contains edges edge → (edge.from < length dist) × (edge.to < length dist))
+pub low_of : (edges : List Edge) (request : NumberedRequest) (dist : List ℕ) (closed : List Bool) (most : ℕ) (after : List ℕ) →
+    ((edge : Edge) → Contains edges edge → (edge.from < length dist) × (edge.to < length dist))
     → IsSpread edges request dist closed → IsRadius dist closed most → AreCut dist most after
     → AreLow edges request after
 low_of edges request dist closed most after range is radius cut =
@@ -131,10 +131,10 @@ low_of edges request dist closed most after range is radius cut =
       none = λ edge there min max from. none edge there min max from (is_closed closed edge.from) refl (cut.each edge.to (inside edge there).1);
     }
   where
-    inside : (edge : Link) → Contains edges edge → (edge.from < length dist) × (edge.to < length dist)
+    inside : (edge : Edge) → Contains edges edge → (edge.from < length dist) × (edge.to < length dist)
     inside edge there = range edge there
 
-    rises : (edge : Link) → Contains edges edge → edge.min ≤ request.amount → request.amount ≤ edge.max
+    rises : (edge : Edge) → Contains edges edge → edge.min ≤ request.amount → request.amount ≤ edge.max
         → (b : Bool) → is_closed closed edge.from ≡ b →
         IsCut most (number_at dist edge.from) (number_at after edge.from) → IsCut most (number_at dist edge.to) (number_at after edge.to) →
         number_at after edge.to ≤ number_at after edge.from + fee_of request.amount edge.base edge.millionths
@@ -147,7 +147,7 @@ low_of edges request dist closed most after range is radius cut =
     rises edge there min max false e (inr p) (inl q) = omega (arith, p.0, q.0, q.1)
     rises edge there min max false e (inr p) (inr q) = omega (arith, p.0, q.0)
 
-    none : (edge : Link) → Contains edges edge → edge.min ≤ request.amount → request.amount ≤ edge.max
+    none : (edge : Edge) → Contains edges edge → edge.min ≤ request.amount → request.amount ≤ edge.max
         → edge.from ≡ request.payer → (b : Bool) → is_closed closed edge.from ≡ b →
         IsCut most (number_at dist edge.to) (number_at after edge.to) → number_at after edge.to ≡ 0
     none edge there min max from true e (inl q) = omega (arith, q.0, is.first edge there e min max from)
@@ -250,7 +250,7 @@ reached_same dist after reached node long here charged others are other within =
 
 -- ---- before the first step
 
-pub spread_first : (edges : List Link) (request : NumberedRequest) (dist : List ℕ) (closed : List Bool)
+pub spread_first : (edges : List Edge) (request : NumberedRequest) (dist : List ℕ) (closed : List Bool)
     → ((node : ℕ) → is_closed closed node ≡ false) → number_at dist request.payer ≡ 0 →
     IsSpread edges request dist closed
 spread_first edges request dist closed none payer = record {

@@ -2,7 +2,7 @@
 use Rattle.std.proofs.Common.{◌≡◌, ℕ, ◌-◌, ◌<◌, List, [], ◌∷◌, ◌++◌, length, sym, ◌∙◌, ap, subst, inl, inr, arith}
 use Rattle.std.proofs.lemmas.List.{append_assoc}
 use Rattle.lgm_graph.specs.Graph.{Graph}
-use Rattle.lgm_graph.specs.declared.link.Link.{Link}
+use Rattle.lgm_graph.specs.declared.edge.Edge.{Edge}
 use Rattle.lgm_route.specs.declared.label.Label.{Label}
 use Rattle.lgm_route.specs.inner.Numbered.{ids}
 use Rattle.lgm_route.specs.inner.Searching.{NotAfter, label_at, Spells, IsSpelled, IdsFirst, Begins, first_of}
@@ -11,10 +11,10 @@ use Rattle.lgm_route.proofs.Labels.{Spells-unique}
 
 -- so many edges from the end the chains are at these labels, and what comes then decides
 pub record AreBeside (graph : Graph) (labels : List Label) (label other here there : Label) (count : ℕ) : Type 0 where
-  pub rest : List Link
+  pub rest : List Edge
   pub spells : Spells graph labels here rest
   pub long : length rest ≡ count
-  pub also : List Link
+  pub also : List Edge
   pub spells_also : Spells graph labels there also
   pub long_also : length also ≡ count
   pub first : NotAfter (ids rest) (ids also) → IdsFirst graph labels label other
@@ -35,20 +35,20 @@ beside_start graph labels label other h k e =
       after = λ p also rest t s n m. move_back rest also s t m n p;
     }
   where
-    same : (rest : List Link) → Spells graph labels label rest → length rest ≡ label.count → h.0 ≡ rest
+    same : (rest : List Edge) → Spells graph labels label rest → length rest ≡ label.count → h.0 ≡ rest
     same rest s m = Spells-unique graph labels label h.0 rest h.1 s (h.2 ∙ sym m)
 
-    same_also : (also : List Link) → Spells graph labels other also → length also ≡ other.count → k.0 ≡ also
+    same_also : (also : List Edge) → Spells graph labels other also → length also ≡ other.count → k.0 ≡ also
     same_also also t n = Spells-unique graph labels other k.0 also k.1 t (k.2 ∙ sym n)
 
-    move : (rest also : List Link) → Spells graph labels label rest → Spells graph labels other also
+    move : (rest also : List Edge) → Spells graph labels label rest → Spells graph labels other also
         → length rest ≡ label.count → length also ≡ other.count →
         NotAfter (ids h.0) (ids k.0) → NotAfter (ids rest) (ids also)
     move rest also s t m n p =
         subst (λ r. NotAfter (ids r) (ids also)) (same rest s m)
         (subst (λ r. NotAfter (ids h.0) (ids r)) (same_also also t n) p)
 
-    move_back : (rest also : List Link) → Spells graph labels label rest → Spells graph labels other also
+    move_back : (rest also : List Edge) → Spells graph labels label rest → Spells graph labels other also
         → length rest ≡ label.count → length also ≡ other.count →
         NotAfter (ids k.0) (ids h.0) → NotAfter (ids also) (ids rest)
     move_back rest also s t m n p =
@@ -56,38 +56,38 @@ beside_start graph labels label other h k e =
         (subst (λ r. NotAfter (ids r) (ids h.0)) (same_also also t n) p)
 
 -- where edges are left, each label has one, and leads on
-pub record HasMore (graph : Graph) (labels : List Label) (label : Label) (rest : List Link) (count : ℕ) : Type 0 where
+pub record HasMore (graph : Graph) (labels : List Label) (label : Label) (rest : List Edge) (count : ℕ) : Type 0 where
   pub begins : Begins graph labels label
-  pub tail : List Link
+  pub tail : List Edge
   pub is : rest ≡ first_of graph labels label ∷ tail
   pub spells : Spells graph labels (label_at labels label.next) tail
   pub long : length tail ≡ count - 1
 
-pub has_more : (graph : Graph) (labels : List Label) (label : Label) (rest : List Link) (count : ℕ) →
+pub has_more : (graph : Graph) (labels : List Label) (label : Label) (rest : List Edge) (count : ℕ) →
     Spells graph labels label rest → length rest ≡ count → 0 < count → HasMore graph labels label rest count
 has_more graph labels label [] count s e p = absurd (omega arith)
 has_more graph labels label (edge ∷ rest) count s e p =
     record { begins = s.1; tail = rest; is = ap (λ x. x ∷ rest) (sym s.0); spells = s.2; long = omega arith }
 
 -- no edges are spelled anywhere
-pub spells_none : (graph : Graph) (labels : List Label) (label : Label) (rest : List Link) → length rest ≡ 0 → Spells graph labels label rest
+pub spells_none : (graph : Graph) (labels : List Label) (label : Label) (rest : List Edge) → length rest ≡ 0 → Spells graph labels label rest
 spells_none graph labels label [] e = tt
 spells_none graph labels label (edge ∷ rest) e = absurd (omega arith)
 
 -- the edges so far, before those that the label spells, are the walk
-pub record IsOnTheWay (graph : Graph) (labels : List Label) (found here : Label) (count : ℕ) (walk : List Link) : Type 0 where
-  pub rest : List Link
+pub record IsOnTheWay (graph : Graph) (labels : List Label) (found here : Label) (count : ℕ) (walk : List Edge) : Type 0 where
+  pub rest : List Edge
   pub spells : Spells graph labels here rest
   pub long : length rest ≡ count
   pub whole : Spells graph labels found (walk ++ rest)
   pub all : length (walk ++ rest) ≡ found.count
 
-pub way_more : (graph : Graph) (labels : List Label) (found here : Label) (count : ℕ) (walk : List Link)
+pub way_more : (graph : Graph) (labels : List Label) (found here : Label) (count : ℕ) (walk : List Edge)
     → (way : IsOnTheWay graph labels found here count walk) → 0 < count →
     HasMore graph labels here way.rest count
 way_more graph labels found here count walk way left = has_more graph labels here way.rest count way.spells way.long left
 
-pub way_step : (graph : Graph) (labels : List Label) (found here : Label) (count : ℕ) (walk : List Link)
+pub way_step : (graph : Graph) (labels : List Label) (found here : Label) (count : ℕ) (walk : List Edge)
     → IsOnTheWay graph labels found here count walk → 0 < count →
     IsOnTheWay graph labels found (label_at labels here.next) (count - 1) (walk ++ first_of graph labels here ∷ [])
 way_step graph labels found here count walk way left =
@@ -102,7 +102,7 @@ way_step graph labels found here count walk way left =
       all = subst (λ r. length r ≡ found.count) same way.all;
     }
 
-pub way_last : (graph : Graph) (labels : List Label) (found here other : Label) (count : ℕ) (walk : List Link) → count ≡ 0 →
+pub way_last : (graph : Graph) (labels : List Label) (found here other : Label) (count : ℕ) (walk : List Edge) → count ≡ 0 →
     IsOnTheWay graph labels found here count walk → IsOnTheWay graph labels found other count walk
 way_last graph labels found here other count walk e way =
     record { rest = way.rest; spells = spells_none graph labels other way.rest (way.long ∙ e); long = way.long; whole = way.whole; all = way.all }
@@ -167,7 +167,7 @@ module _ {graph : Graph} {labels : List Label} {label other here there : Label} 
   pub beside_end : count ≡ 0 → IdsFirst graph labels label other
   beside_end e = by beside.rest beside.also (beside.long ∙ e) (beside.long_also ∙ e) beside.first
     where
-      by : (rest also : List Link) → length rest ≡ 0 → length also ≡ 0 → (NotAfter (ids rest) (ids also)
+      by : (rest also : List Edge) → length rest ≡ 0 → length also ≡ 0 → (NotAfter (ids rest) (ids also)
           → IdsFirst graph labels label other) → IdsFirst graph labels label other
       by [] [] m n f = f (NotAfter-refl [])
       by [] (edge ∷ also) m n f = absurd (omega arith)

@@ -11,8 +11,7 @@ use Rattle.std.proofs.lemmas.Bool.Decides.{nat_tests}
 use Rattle.lgm_wire.specs.declared.point.Point.{Point}
 use Rattle.lgm_store.specs.Rows.{is_point}
 use Rattle.lgm_store.proofs.Points.{same_point, is_point-self}
-use Rattle.lgm_graph.specs.Edges.{AreDirections}
-use Rattle.lgm_graph.specs.declared.edge.Edge.{Edge}
+use Rattle.lgm_graph.specs.Edges.{PointEdge, AreDirections}
 use Rattle.lgm_graph.proofs.Members.{Among, Contains-Among, Among-Contains, Among-passes, Among-passed}
 use Rattle.lgm_graph.proofs.Members.{Among-mapped, Among-map, Among-flat, Among-flattened}
 use Rattle.lgm_route.specs.declared.request.Request.{Request}
@@ -29,12 +28,12 @@ use Rattle.lgm_route.proofs.Visits.{least-unique, not_after}
 -- ---- the lists of edges
 
 -- each edge of the list is one of these
-abbrev AreOf : List Edge → List Edge → Type 0
+abbrev AreOf : List PointEdge → List PointEdge → Type 0
 AreOf edges [] = Unit {0}
 AreOf edges (edge ∷ rest) = Contains edges edge × AreOf edges rest
 
 -- lists of these edges are found
-found_list : (edges walk : List Edge) (most : ℕ) → AreOf edges walk → length walk ≤ most → Among (lists_of edges most) walk
+found_list : (edges walk : List PointEdge) (most : ℕ) → AreOf edges walk → length walk ≤ most → Among (lists_of edges most) walk
 found_list edges [] zero of few = inl refl
 found_list edges [] (suc more) of few = inl refl
 found_list edges (edge ∷ rest) zero of few = absurd (omega (arith, few))
@@ -43,7 +42,7 @@ found_list edges (edge ∷ rest) (suc more) of few =
     (Among-map (λ r. edge ∷ r) (lists_of edges more) rest (found_list edges rest more of.1 (omega (arith, few)))))
 
 -- what is found is a list of these edges
-list_found : (edges walk : List Edge) (most : ℕ) → Among (lists_of edges most) walk → AreOf edges walk × (length walk ≤ most)
+list_found : (edges walk : List PointEdge) (most : ℕ) → Among (lists_of edges most) walk → AreOf edges walk × (length walk ≤ most)
 list_found edges walk zero (inl same) = subst (λ w. AreOf edges w × (length w ≤ zero)) same (tt, omega arith)
 list_found edges walk zero (inr none) = absurd none
 list_found edges walk (suc more) (inl same) = subst (λ w. AreOf edges w × (length w ≤ suc more)) same (tt, omega arith)
@@ -61,7 +60,7 @@ le_true a b h = grind (arith, nat_tests)
 true_le : (a b : ℕ) → nat_le a b ≡ true → a ≤ b
 true_le a b h = grind (arith, nat_tests)
 
-rests_lead : (edges : List Edge) (request : Request) (node : Point) (walk : List Edge)
+rests_lead : (edges : List PointEdge) (request : Request) (node : Point) (walk : List PointEdge)
     → IsRest edges request node walk → (leads request node walk ≡ true) × AreOf edges walk
 rests_lead edges request node [] joins = (subst (λ p. is_point node p ≡ true) joins (is_point-self node), tt)
 rests_lead edges request node (edge ∷ rest) joins =
@@ -71,7 +70,7 @@ rests_lead edges request node (edge ∷ rest) joins =
     let most = le_true (owed request.amount rest) edge.max joins.0.below_max in
     (rw (here, least, most, later.0) refl, (joins.0.there, later.1))
 
-leads_rest : (edges : List Edge) (request : Request) (node : Point) (walk : List Edge)
+leads_rest : (edges : List PointEdge) (request : Request) (node : Point) (walk : List PointEdge)
     → leads request node walk ≡ true → AreOf edges walk → IsRest edges request node walk
 leads_rest edges request node [] h of = same_point node request.payee h
 leads_rest edges request node (edge ∷ rest) h of =
@@ -89,16 +88,16 @@ leads_rest edges request node (edge ∷ rest) h of =
       leads_rest edges request edge.to rest last.1 of.1,
     )
 
-abbrev is_usable : Request → List Edge → Bool
+abbrev is_usable : Request → List PointEdge → Bool
 is_usable request walk = nat_le 1 (length walk) && leads request request.payer walk
 
-usable_found : (edges : List Edge) (request : Request) (walk : List Edge) → IsUsable edges request walk → Among (usable_walks edges request) walk
+usable_found : (edges : List PointEdge) (request : Request) (walk : List PointEdge) → IsUsable edges request walk → Among (usable_walks edges request) walk
 usable_found edges request walk usable =
     let of = rests_lead edges request request.payer walk usable.joins in
     let some = le_true 1 (length walk) usable.some in
     Among-passes (is_usable request) (lists_of edges 20) walk (found_list edges walk 20 of.1 usable.few) (rw (some, of.0) refl)
 
-found_usable : (edges : List Edge) (request : Request) (walk : List Edge) → Among (usable_walks edges request) walk → IsUsable edges request walk
+found_usable : (edges : List PointEdge) (request : Request) (walk : List PointEdge) → Among (usable_walks edges request) walk → IsUsable edges request walk
 found_usable edges request walk there =
     let passed = Among-passed (is_usable request) (lists_of edges 20) walk there in
     let list = list_found edges walk 20 passed.0 in
@@ -108,16 +107,16 @@ found_usable edges request walk there =
 -- ---- the least of them
 
 -- no walk of the list has a lesser key
-abbrev NoneBefore : Request → List Edge → List (List Edge) → Type 0
-NoneBefore request best walks = (other : List Edge) → Among walks other → NotAfter (walk_key request best) (walk_key request other)
+abbrev NoneBefore : Request → List PointEdge → List (List PointEdge) → Type 0
+NoneBefore request best walks = (other : List PointEdge) → Among walks other → NotAfter (walk_key request best) (walk_key request other)
 
 -- the better of two walks
-abbrev IsLesser : Request → List Edge → List Edge → List Edge → Type 0
+abbrev IsLesser : Request → List PointEdge → List PointEdge → List PointEdge → Type 0
 IsLesser request walk other best =
     (NotAfter (walk_key request best) (walk_key request walk)
     × NotAfter (walk_key request best) (walk_key request other)) × ((best ≡ walk) ⊎ (best ≡ other))
 
-lesser_of : (request : Request) (walk other : List Edge) → IsLesser request walk other (lesser request walk other)
+lesser_of : (request : Request) (walk other : List PointEdge) → IsLesser request walk other (lesser request walk other)
 lesser_of request walk other = by (slice_cmp nat_cmp (walk_key request other) (walk_key request walk)) refl
   where
     kept : (slice_cmp nat_cmp (walk_key request other) (walk_key request walk) ≡ Less → ⊥) → IsLesser request walk other walk
@@ -134,7 +133,7 @@ lesser_of request walk other = by (slice_cmp nat_cmp (walk_key request other) (w
     by Greater e = rw e (kept (λ less. let bad = sym e ∙ less in absurd cc))
 
 -- with a walk more in front
-one_more : (request : Request) (best walk next last : List Edge) (walks : List (List Edge)) → IsLesser request best walk next →
+one_more : (request : Request) (best walk next last : List PointEdge) (walks : List (List PointEdge)) → IsLesser request best walk next →
     Among (next ∷ walks) last × NoneBefore request last (next ∷ walks)
     → Among (best ∷ walk ∷ walks) last × NoneBefore request last (best ∷ walk ∷ walks)
 one_more request best walk next last walks is later = (among later.0 is.1, none)
@@ -156,7 +155,7 @@ one_more request best walk next last walks is later = (among later.0 is.1, none)
         (walk_key request last) (walk_key request next) (walk_key request walk) before (is.0).1)
     none other (inr (inr there)) = later.1 other (inr there)
 
-folded : (request : Request) (best : List Edge) (walks : List (List Edge)) →
+folded : (request : Request) (best : List PointEdge) (walks : List (List PointEdge)) →
     Among (best ∷ walks) (fold (lesser request) best walks) × NoneBefore request (fold (lesser request) best walks) (best ∷ walks)
 folded request best [] = (inl refl, none)
   where
@@ -169,13 +168,13 @@ folded request best (walk ∷ walks) =
 
 -- ---- the answer
 
-least_found : (edges : List Edge) (request : Request) (walks : List (List Edge)) → walks ≡ usable_walks edges request →
+least_found : (edges : List PointEdge) (request : Request) (walks : List (List PointEdge)) → walks ≡ usable_walks edges request →
     IsFoundOver edges request (found_by request (least_of request walks))
 least_found edges request [] same =
     (refl, λ walk usable. subst (λ ws. Among ws walk) (sym same) (usable_found edges request walk usable))
 least_found edges request (walk ∷ walks) same = (best, record { usable = usable; first = first }, refl)
   where
-    best : List Edge
+    best : List PointEdge
     best = fold (lesser request) walk walks
 
     is : Among (walk ∷ walks) best × NoneBefore request best (walk ∷ walks)
@@ -184,13 +183,13 @@ least_found edges request (walk ∷ walks) same = (best, record { usable = usabl
     usable : IsUsable edges request best
     usable = found_usable edges request best (subst (λ ws. Among ws best) same is.0)
 
-    first : (other : List Edge) → IsUsable edges request other → Precedes request other best → ⊥
+    first : (other : List PointEdge) → IsUsable edges request other → Precedes request other best → ⊥
     first other able before =
         NotAfter-excludes (walk_key request best) (walk_key request other) (is.1 other
         (subst (λ ws. Among ws other) (sym same) (usable_found edges request other able))) before
 
 -- trial gives an answer
-pub tried : (edges : List Edge) (request : Request) → IsAnswer edges request (answer_of edges request)
+pub tried : (edges : List PointEdge) (request : Request) → IsAnswer edges request (answer_of edges request)
 unfolding answer_of least_walk
 tried edges request = by (refusal request)
   where
@@ -218,7 +217,7 @@ point_apart request none same =
     let some : is_some (refusal request) ≡ true = rw self refused in
     false≢true (sym (ap is_some none) ∙ some)
 
-both_found : (edges : List Edge) (request : Request) (answer other : Result (List Hop) RouteFault)
+both_found : (edges : List PointEdge) (request : Request) (answer other : Result (List Hop) RouteFault)
     → AreDirections edges → request.payer ≢ request.payee →
     IsFoundOver edges request answer → IsFoundOver edges request other → answer ≡ other
 both_found edges request (Ok hops) (Ok hops') directions apart found also =
@@ -229,7 +228,7 @@ both_found edges request (Err fault) (Ok hops) directions apart found also = abs
 both_found edges request (Err fault) (Err fault') directions apart found also = ap Err (found.0 ∙ sym also.0)
 
 -- a request has one answer
-pub answer-unique : (edges : List Edge) (request : Request) (answer other : Result (List Hop) RouteFault) → AreDirections edges →
+pub answer-unique : (edges : List PointEdge) (request : Request) (answer other : Result (List Hop) RouteFault) → AreDirections edges →
     IsAnswer edges request answer → IsAnswer edges request other → answer ≡ other
 answer-unique edges request answer other directions is also = by (refusal request) refl is also
   where
@@ -240,11 +239,11 @@ answer-unique edges request answer other directions is also = by (refusal reques
 
 -- ---- lists of the same edges have the same answers
 
-abbrev HaveSame : List Edge → List Edge → Type 0
-HaveSame edges others = (edge : Edge) → Contains edges edge ↔ Contains others edge
+abbrev HaveSame : List PointEdge → List PointEdge → Type 0
+HaveSame edges others = (edge : PointEdge) → Contains edges edge ↔ Contains others edge
 
-rest_over : (edges others : List Edge) (request : Request) (node : Point) (walk : List Edge)
-    → ((edge : Edge) → Contains edges edge → Contains others edge) →
+rest_over : (edges others : List PointEdge) (request : Request) (node : Point) (walk : List PointEdge)
+    → ((edge : PointEdge) → Contains edges edge → Contains others edge) →
     IsRest edges request node walk → IsRest others request node walk
 rest_over edges others request node [] held joins = joins
 rest_over edges others request node (edge ∷ rest) held joins = (
@@ -252,12 +251,12 @@ rest_over edges others request node (edge ∷ rest) held joins = (
   rest_over edges others request edge.to rest held joins.1,
 )
 
-usable_over : (edges others : List Edge) (request : Request) (walk : List Edge) → ((edge : Edge) → Contains edges edge → Contains others edge) →
+usable_over : (edges others : List PointEdge) (request : Request) (walk : List PointEdge) → ((edge : PointEdge) → Contains edges edge → Contains others edge) →
     IsUsable edges request walk → IsUsable others request walk
 usable_over edges others request walk held usable =
     record { some = usable.some; few = usable.few; joins = rest_over edges others request request.payer walk held usable.joins }
 
-found_over : (edges others : List Edge) (request : Request) (answer : Result (List Hop) RouteFault) → HaveSame edges others →
+found_over : (edges others : List PointEdge) (request : Request) (answer : Result (List Hop) RouteFault) → HaveSame edges others →
     IsFoundOver edges request answer → IsFoundOver others request answer
 found_over edges others request (Ok hops) same found = (
   found.0,
@@ -270,7 +269,7 @@ found_over edges others request (Ok hops) same found = (
 found_over edges others request (Err fault) same found =
     (found.0, λ walk usable. found.1 walk (usable_over others edges request walk (λ edge. (same edge).1) usable))
 
-pub answer-over : (edges others : List Edge) (request : Request) (answer : Result (List Hop) RouteFault) → HaveSame edges others →
+pub answer-over : (edges others : List PointEdge) (request : Request) (answer : Result (List Hop) RouteFault) → HaveSame edges others →
     IsAnswer edges request answer → IsAnswer others request answer
 answer-over edges others request answer same is = by (refusal request) is
   where
@@ -279,14 +278,14 @@ answer-over edges others request answer same is = by (refusal request) is
     by None is = found_over edges others request answer same is
 
 -- the answer is that of trial
-pub answer-tried : (edges others : List Edge) (request : Request) (answer : Result (List Hop) RouteFault)
+pub answer-tried : (edges others : List PointEdge) (request : Request) (answer : Result (List Hop) RouteFault)
     → AreDirections others → HaveSame edges others →
     IsAnswer edges request answer → answer ≡ answer_of others request
 answer-tried edges others request answer directions same is =
     answer-unique others request answer (answer_of others request) directions (answer-over edges others request answer same is) (tried others request)
 
 -- so it is over the edges of the rows, where memory sufficed
-pub answered : {E : Type 0} (edges others : List Edge) (request : Request) (answer : Result (List Hop) RouteFault)
+pub answered : {E : Type 0} (edges others : List PointEdge) (request : Request) (answer : Result (List Hop) RouteFault)
     → AreDirections others → HaveSame edges others → E ⊎ IsAnswer edges request answer
     → E ⊎ (answer ≡ answer_of others request)
 answered edges others request answer directions same (inl none) = inl none

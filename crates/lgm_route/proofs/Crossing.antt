@@ -1,4 +1,4 @@
--- From numbered nodes to points: walks over links are walks over edges, and no others are.
+-- From numbered nodes to points: the walks over numbered edges are those over edges between points.
 use Rattle.std.proofs.Common.{◌≡◌, ℕ, zero, suc, ◌+◌, ◌<◌, List, []}
 use Rattle.std.proofs.Common.{◌∷◌, length, get_or, map, Some, None, refl, sym, ◌∙◌, ap, subst, arith}
 use Rattle.std.specs.Prelude.{Contains}
@@ -9,9 +9,9 @@ use Rattle.std.proofs.lemmas.List.{length-map}
 use Rattle.lgm_wire.specs.declared.point.Point.{Point}
 use Rattle.lgm_store.specs.Rows.{is_point}
 use Rattle.lgm_graph.specs.Fee.{fee_of}
+use Rattle.lgm_graph.specs.Edges.{PointEdge}
 use Rattle.lgm_graph.specs.declared.edge.Edge.{Edge}
-use Rattle.lgm_graph.specs.declared.link.Link.{Link}
-use Rattle.lgm_graph.specs.Graph.{Graph, number_of, IsNumbered, no_point, edge_at, links, edges, AreLinked}
+use Rattle.lgm_graph.specs.Graph.{Graph, number_of, IsNumbered, no_point, edge_between, edges, point_edges, AreListed}
 use Rattle.lgm_graph.proofs.Numbers.{number_none, number_some, get_number}
 use Rattle.lgm_route.specs.declared.request.Request.{Request}
 use Rattle.lgm_route.specs.declared.numbered_request.NumberedRequest.{NumberedRequest}
@@ -41,33 +41,33 @@ contained_map f (x ∷ xs) y (suc i) lt e =
 
 -- ---- what walks cost
 
-abbrev pub over : List Point → List Link → List Edge
-over points walk = map (edge_at points) walk
+abbrev pub over : List Point → List Edge → List PointEdge
+over points walk = map (edge_between points) walk
 
-pub owed_over : (points : List Point) (amount : ℕ) (walk : List Link) → routes.owed amount (over points walk) ≡ walks.owed amount walk
+pub owed_over : (points : List Point) (amount : ℕ) (walk : List Edge) → routes.owed amount (over points walk) ≡ walks.owed amount walk
 owed_over points amount [] = refl
-owed_over points amount (link ∷ rest) = ap (λ passed. passed + fee_of passed link.base link.millionths) (owed_over points amount rest)
+owed_over points amount (by_number ∷ rest) = ap (λ passed. passed + fee_of passed by_number.base by_number.millionths) (owed_over points amount rest)
 
-sent_over : (points : List Point) (amount : ℕ) (walk : List Link) → routes.sent amount (over points walk) ≡ walks.sent amount walk
+sent_over : (points : List Point) (amount : ℕ) (walk : List Edge) → routes.sent amount (over points walk) ≡ walks.sent amount walk
 sent_over points amount [] = refl
-sent_over points amount (link ∷ rest) = owed_over points amount rest
+sent_over points amount (by_number ∷ rest) = owed_over points amount rest
 
-ids_over : (points : List Point) (walk : List Link) → routes.ids (over points walk) ≡ walks.ids walk
+ids_over : (points : List Point) (walk : List Edge) → routes.ids (over points walk) ≡ walks.ids walk
 ids_over points [] = refl
-ids_over points (link ∷ rest) = ap (λ l. link.scid ∷ l) (ids_over points rest)
+ids_over points (by_number ∷ rest) = ap (λ l. by_number.scid ∷ l) (ids_over points rest)
 
-abbrev key : ℕ → List Link → List ℕ
+abbrev key : ℕ → List Edge → List ℕ
 key amount walk = walks.sent amount walk ∷ length walk ∷ walks.ids walk
 
-abbrev key_over : ℕ → List Edge → List ℕ
+abbrev key_over : ℕ → List PointEdge → List ℕ
 key_over amount walk = routes.sent amount walk ∷ length walk ∷ routes.ids walk
 
-keys_same : (points : List Point) (amount : ℕ) (walk : List Link) → key_over amount (over points walk) ≡ key amount walk
-keys_same points amount walk = rw (sent_over points amount walk, length-map walk (edge_at points), ids_over points walk) refl
+keys_same : (points : List Point) (amount : ℕ) (walk : List Edge) → key_over amount (over points walk) ≡ key amount walk
+keys_same points amount walk = rw (sent_over points amount walk, length-map walk (edge_between points), ids_over points walk) refl
 
 -- ---- walks
 
-module _ (graph : Graph) (linked : AreLinked graph) (request : Request) (payer payee : ℕ)
+module _ (graph : Graph) (listed : AreListed graph) (request : Request) (payer payee : ℕ)
     (payer_is : position (is_point request.payer) graph.points ≡ Some payer)
     (payee_is : position (is_point request.payee) graph.points ≡ Some payee) where
   abbrev numbered : NumberedRequest
@@ -82,23 +82,23 @@ module _ (graph : Graph) (linked : AreLinked graph) (request : Request) (payer p
       ap point_at (sym number.0)
       ∙ get_number graph.points p no_point (subst (λ (k : ℕ). k < length graph.points) (sym number.0) number.1)
 
-  -- a walk over links is one over edges
-  rest_over : (walk : List Link) (node : ℕ) → walks.IsRest (links graph) numbered node walk
-      → routes.IsRest (edges graph) request (point_at node) (over graph.points walk)
+  -- a walk over numbered edges is one over edges between points
+  rest_over : (walk : List Edge) (node : ℕ) → walks.IsRest (edges graph) numbered node walk
+      → routes.IsRest (point_edges graph) request (point_at node) (over graph.points walk)
   rest_over [] node joins = ap point_at joins ∙ stands request.payee payee payee_is
-  rest_over (link ∷ rest) node joins = (
+  rest_over (by_number ∷ rest) node joins = (
     record {
-      there = contains_map (edge_at graph.points) (links graph) link joins.0.there;
+      there = contains_map (edge_between graph.points) (edges graph) by_number joins.0.there;
       leaves = ap point_at joins.0.leaves;
       above_min = joins.0.above_min;
       below_max = let same = owed_over graph.points request.amount rest in let h = joins.0.below_max in omega arith;
     },
-    rest_over rest link.to joins.1,
+    rest_over rest by_number.to joins.1,
   )
 
-  -- and each walk over edges is one over links
-  rest_back : (walk : List Edge) (point : Point) (node : ℕ) → number_of graph.points point ≡ node → routes.IsRest (edges graph) request point walk →
-      (back : List Link) × (over graph.points back ≡ walk) × walks.IsRest (links graph) numbered node back
+  -- and each walk over edges between points is one over numbered edges
+  rest_back : (walk : List PointEdge) (point : Point) (node : ℕ) → number_of graph.points point ≡ node → routes.IsRest (point_edges graph) request point walk →
+      (back : List Edge) × (over graph.points back ≡ walk) × walks.IsRest (edges graph) numbered node back
   rest_back [] point node number joins = (
     [],
     refl,
@@ -106,57 +106,57 @@ module _ (graph : Graph) (linked : AreLinked graph) (request : Request) (payer p
         ∙ (number_some graph.points request.payee payee payee_is).0,
   )
   rest_back (edge ∷ rest) point node number joins =
-      let found = contained_map (edge_at graph.points) (links graph) edge joins.0.there.0 joins.0.there.1 joins.0.there.2 in
-      let link = found.0 in
-      let same : edge_at graph.points link ≡ edge = found.2 in
-      let numbers = (linked.each link found.1).back in
-      let from : link.from ≡ node =
+      let found = contained_map (edge_between graph.points) (edges graph) edge joins.0.there.0 joins.0.there.1 joins.0.there.2 in
+      let by_number = found.0 in
+      let same : edge_between graph.points by_number ≡ edge = found.2 in
+      let numbers = (listed.each by_number found.1).back in
+      let from : by_number.from ≡ node =
       sym (ap (λ l. l.from) numbers) ∙ ap (λ e. number_of graph.points e.from) same
       ∙ ap (number_of graph.points) joins.0.leaves ∙ number in
-      let to : number_of graph.points edge.to ≡ link.to = ap (λ e. number_of graph.points e.to) (sym same) ∙ ap (λ l. l.to) numbers in
-      let later = rest_back rest edge.to link.to to joins.1 in
+      let to : number_of graph.points edge.to ≡ by_number.to = ap (λ e. number_of graph.points e.to) (sym same) ∙ ap (λ l. l.to) numbers in
+      let later = rest_back rest edge.to by_number.to to joins.1 in
       let cost : walks.owed request.amount later.0 ≡ routes.owed request.amount rest =
       sym (owed_over graph.points request.amount later.0) ∙ ap (routes.owed request.amount) later.1 in (
-        link ∷ later.0,
+        by_number ∷ later.0,
         ap (λ e. e ∷ over graph.points later.0) same ∙ ap (λ r. edge ∷ r) later.1,
         (
           record {
             there = found.1;
             leaves = from;
-            above_min = let h = joins.0.above_min in let e : link.min ≡ edge.min = ap (λ x. x.min) same in omega arith;
-            below_max = let h = joins.0.below_max in let e : link.max ≡ edge.max = ap (λ x. x.max) same in omega arith;
+            above_min = let h = joins.0.above_min in let e : by_number.min ≡ edge.min = ap (λ x. x.min) same in omega arith;
+            below_max = let h = joins.0.below_max in let e : by_number.max ≡ edge.max = ap (λ x. x.max) same in omega arith;
           },
           later.2,
         ),
       )
 
-  usable_back : (walk : List Edge) → routes.IsUsable (edges graph) request walk
-      → (back : List Link) × (over graph.points back ≡ walk) × walks.IsUsable (links graph) numbered back
+  usable_back : (walk : List PointEdge) → routes.IsUsable (point_edges graph) request walk
+      → (back : List Edge) × (over graph.points back ≡ walk) × walks.IsUsable (edges graph) numbered back
   usable_back walk usable =
       let back = rest_back walk request.payer payer (number_some graph.points request.payer payer payer_is).0 usable.joins in
-      let long : length back.0 ≡ length walk = sym (length-map back.0 (edge_at graph.points)) ∙ ap length back.1 in
+      let long : length back.0 ≡ length walk = sym (length-map back.0 (edge_between graph.points)) ∙ ap length back.1 in
       (back.0, back.1, record { some = let h = usable.some in omega arith; few = let h = usable.few in omega arith; joins = back.2 })
 
-  pub none_over : ((walk : List Link) → walks.IsUsable (links graph) numbered walk → ⊥) → (walk : List Edge)
-      → routes.IsUsable (edges graph) request walk → ⊥
+  pub none_over : ((walk : List Edge) → walks.IsUsable (edges graph) numbered walk → ⊥) → (walk : List PointEdge)
+      → routes.IsUsable (point_edges graph) request walk → ⊥
   none_over none walk usable = let back = usable_back walk usable in none back.0 back.2
 
-  pub least_over : (walk : List Link) → walks.IsLeast (links graph) numbered walk → routes.IsLeast (edges graph) request (over graph.points walk)
+  pub least_over : (walk : List Edge) → walks.IsLeast (edges graph) numbered walk → routes.IsLeast (point_edges graph) request (over graph.points walk)
   least_over walk least =
-      let long = length-map walk (edge_at graph.points) in
+      let long = length-map walk (edge_between graph.points) in
       record {
         usable = record {
           some = let h = least.usable.some in omega arith;
           few = let h = least.usable.few in omega arith;
           joins =
-              subst (λ p. routes.IsRest (edges graph) request p (over graph.points walk))
+              subst (λ p. routes.IsRest (point_edges graph) request p (over graph.points walk))
               (stands request.payer payer payer_is) (rest_over walk payer least.usable.joins);
         };
         first = λ other usable before. first (usable_back other usable) before;
       }
     where
-      first : {other : List Edge} → (back : List Link) × (over graph.points back ≡ other) × walks.IsUsable
-          (links graph) numbered back → routes.Precedes request other (over graph.points walk) → ⊥
+      first : {other : List PointEdge} → (back : List Edge) × (over graph.points back ≡ other) × walks.IsUsable
+          (edges graph) numbered back → routes.Precedes request other (over graph.points walk) → ⊥
       first {other} back before =
           let left : key request.amount back.0 ≡ key_over request.amount other =
           sym (keys_same graph.points request.amount back.0) ∙ ap (key_over request.amount) back.1 in
@@ -167,34 +167,34 @@ module _ (graph : Graph) (linked : AreLinked graph) (request : Request) (payer p
 -- ---- ends without a number
 
 -- both ends of an edge have one
-edge_numbered : (graph : Graph) → AreLinked graph → (edge : Edge) → Contains (edges graph) edge
+edge_numbered : (graph : Graph) → AreListed graph → (edge : PointEdge) → Contains (point_edges graph) edge
     → IsNumbered graph.points edge.from × IsNumbered graph.points edge.to
-edge_numbered graph linked edge there =
-    let found = contained_map (edge_at graph.points) (links graph) edge there.0 there.1 there.2 in
-    let link = found.0 in
-    let is = linked.each link found.1 in
-    let from : number_of graph.points edge.from ≡ link.from = ap (λ e. number_of graph.points e.from) (sym found.2) ∙ ap (λ l. l.from) is.back in
-    let to : number_of graph.points edge.to ≡ link.to = ap (λ e. number_of graph.points e.to) (sym found.2) ∙ ap (λ l. l.to) is.back in
+edge_numbered graph listed edge there =
+    let found = contained_map (edge_between graph.points) (edges graph) edge there.0 there.1 there.2 in
+    let by_number = found.0 in
+    let is = listed.each by_number found.1 in
+    let from : number_of graph.points edge.from ≡ by_number.from = ap (λ e. number_of graph.points e.from) (sym found.2) ∙ ap (λ l. l.from) is.back in
+    let to : number_of graph.points edge.to ≡ by_number.to = ap (λ e. number_of graph.points e.to) (sym found.2) ∙ ap (λ l. l.to) is.back in
     (let h = is.from in omega arith, let h = is.to in omega arith)
 
-pub none_from : (graph : Graph) (request : Request) → AreLinked graph → position (is_point request.payer)
-    graph.points ≡ None → (walk : List Edge) → routes.IsUsable (edges graph) request walk → ⊥
-none_from graph request linked none [] usable = omega (arith, usable.some)
-none_from graph request linked none (edge ∷ rest) usable =
+pub none_from : (graph : Graph) (request : Request) → AreListed graph → position (is_point request.payer)
+    graph.points ≡ None → (walk : List PointEdge) → routes.IsUsable (point_edges graph) request walk → ⊥
+none_from graph request listed none [] usable = omega (arith, usable.some)
+none_from graph request listed none (edge ∷ rest) usable =
     let step = usable.joins.0 in
-    number_none graph.points request.payer (subst (IsNumbered graph.points) step.leaves (edge_numbered graph linked edge step.there).0)
+    number_none graph.points request.payer (subst (IsNumbered graph.points) step.leaves (edge_numbered graph listed edge step.there).0)
     none
 
-numbered_to : (graph : Graph) (request : Request) → AreLinked graph → (walk : List Edge) (point : Point)
-    → IsNumbered graph.points point → routes.IsRest (edges graph) request point walk
+numbered_to : (graph : Graph) (request : Request) → AreListed graph → (walk : List PointEdge) (point : Point)
+    → IsNumbered graph.points point → routes.IsRest (point_edges graph) request point walk
     → IsNumbered graph.points request.payee
-numbered_to graph request linked [] point number joins = subst (IsNumbered graph.points) joins number
-numbered_to graph request linked (edge ∷ rest) point number joins =
-    numbered_to graph request linked rest edge.to (edge_numbered graph linked edge joins.0.there).1 joins.1
+numbered_to graph request listed [] point number joins = subst (IsNumbered graph.points) joins number
+numbered_to graph request listed (edge ∷ rest) point number joins =
+    numbered_to graph request listed rest edge.to (edge_numbered graph listed edge joins.0.there).1 joins.1
 
-pub none_to : (graph : Graph) (request : Request) → AreLinked graph → position (is_point request.payee)
-    graph.points ≡ None → (walk : List Edge) → routes.IsUsable (edges graph) request walk → ⊥
-none_to graph request linked none [] usable = omega (arith, usable.some)
-none_to graph request linked none (edge ∷ rest) usable =
+pub none_to : (graph : Graph) (request : Request) → AreListed graph → position (is_point request.payee)
+    graph.points ≡ None → (walk : List PointEdge) → routes.IsUsable (point_edges graph) request walk → ⊥
+none_to graph request listed none [] usable = omega (arith, usable.some)
+none_to graph request listed none (edge ∷ rest) usable =
     number_none graph.points request.payee
-    (numbered_to graph request linked rest edge.to (edge_numbered graph linked edge usable.joins.0.there).1 usable.joins.1) none
+    (numbered_to graph request listed rest edge.to (edge_numbered graph listed edge usable.joins.0.there).1 usable.joins.1) none

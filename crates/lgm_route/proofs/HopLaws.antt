@@ -3,9 +3,9 @@ use Rattle.std.proofs.Common.{◌≡◌, ℕ, zero, suc, ◌+◌, ◌-◌, ◌*�
 use Rattle.std.proofs.Common.{◌++◌, length, get_or, drop, reverse, refl, sym, ◌∙◌, ap, arith}
 use Rattle.std.proofs.lemmas.List.{drop_more, reverse-append}
 use Rattle.lgm_graph.specs.Fee.{fee_of}
+use Rattle.lgm_graph.specs.Edges.{PointEdge}
+use Rattle.lgm_graph.specs.Graph.{Graph, edges, AreListed}
 use Rattle.lgm_graph.specs.declared.edge.Edge.{Edge}
-use Rattle.lgm_graph.specs.Graph.{Graph, links, AreLinked}
-use Rattle.lgm_graph.specs.declared.link.Link.{Link}
 use Rattle.lgm_route.specs.declared.request.Request.{Request}
 use Rattle.lgm_route.specs.declared.numbered_request.NumberedRequest.{NumberedRequest}
 use Rattle.lgm_route.specs.declared.route.Hop.{Hop}
@@ -16,51 +16,51 @@ use Rattle.lgm_route.specs.inner.Best.{edges_in, hop_over, AreNumbered}
 use Rattle.lgm_route.proofs.Crossing.{over, owed_over}
 use Rattle.lgm_route.proofs.Rests.{carried_at}
 
-pub all_at : (graph : Graph) (walk : List Link) (i : ℕ) (d : Link) → AreNumbered graph walk → i < length walk
+pub all_at : (graph : Graph) (walk : List Edge) (i : ℕ) (d : Edge) → AreNumbered graph walk → i < length walk
     → ((get_or walk i d).from < length graph.points) × ((get_or walk i d).to < length graph.points)
 all_at graph [] i d all lt = absurd (omega arith)
-all_at graph (link ∷ rest) zero d all lt = all.0
-all_at graph (link ∷ rest) (suc i) d all lt = all_at graph rest i d all.1 (omega arith)
+all_at graph (edge ∷ rest) zero d all lt = all.0
+all_at graph (edge ∷ rest) (suc i) d all lt = all_at graph rest i d all.1 (omega arith)
 
 -- ---- hop by hop
 
 -- the hops of the last edges, so many of them, and what is owed and due before them
-pub record AreHops (graph : Graph) (request : Request) (walk : List Link) (i owes falls : ℕ) (hops : List Hop) : Type 0 where
+pub record AreHops (graph : Graph) (request : Request) (walk : List Edge) (i owes falls : ℕ) (hops : List Hop) : Type 0 where
   pub owed_is : owes ≡ owed request.amount (edges_in graph (drop (length walk - i) walk))
   pub due_is : falls ≡ due request.expiry (edges_in graph (drop (length walk - i) walk))
   pub due_low : falls ≤ 498000000 + 65535 * i
   pub hops_are : reverse hops ≡ hops_of request (edges_in graph (drop (length walk - i) walk))
 
-pub hops_more : (graph : Graph) (request : Request) (walk : List Link) (i owes falls : ℕ)
-    (hops after : List Hop) (d link : Link) (hop : Hop) (fee : ℕ) → i < length walk →
-    link ≡ get_or walk (length walk - 1 - i) d → link.delta < 2 ^ 16 → hop ≡ hop_over graph link owes falls
-    → fee ≡ fee_of owes link.base link.millionths →
+pub hops_more : (graph : Graph) (request : Request) (walk : List Edge) (i owes falls : ℕ)
+    (hops after : List Hop) (d edge : Edge) (hop : Hop) (fee : ℕ) → i < length walk →
+    edge ≡ get_or walk (length walk - 1 - i) d → edge.delta < 2 ^ 16 → hop ≡ hop_over graph edge owes falls
+    → fee ≡ fee_of owes edge.base edge.millionths →
     after ≡ hops ++ hop ∷ [] → AreHops graph request walk i owes falls hops
-    → AreHops graph request walk (i + 1) (owes + fee) (falls + link.delta) after
-hops_more graph request walk i owes falls hops after d link hop fee lt is small over charged more before =
+    → AreHops graph request walk (i + 1) (owes + fee) (falls + edge.delta) after
+hops_more graph request walk i owes falls hops after d edge hop fee lt is small over charged more before =
     let k : ℕ = length walk - 1 - i in
-    let back : List Link = drop (length walk - i) walk in
+    let back : List Edge = drop (length walk - i) walk in
     let here : drop (length walk - (i + 1)) walk ≡ drop k walk = ap (λ n. drop n walk) (omega arith) in
     let behind : drop (k + 1) walk ≡ back = ap (λ n. drop n walk) (omega arith) in
-    let parts : drop (length walk - (i + 1)) walk ≡ link ∷ back =
+    let parts : drop (length walk - (i + 1)) walk ≡ edge ∷ back =
     here ∙ drop_more walk k d (omega arith) ∙ ap (λ r. get_or walk k d ∷ r) behind
     ∙ ap (λ a. a ∷ back) (sym is) in
-    let made : hop ≡ hop_over graph link (owed request.amount (edges_in graph back))
+    let made : hop ≡ hop_over graph edge (owed request.amount (edges_in graph back))
     (due request.expiry (edges_in graph back)) =
-    over ∙ ap (λ n. hop_over graph link n falls) before.owed_is
-    ∙ ap (λ n. hop_over graph link (owed request.amount (edges_in graph back)) n) before.due_is in
+    over ∙ ap (λ n. hop_over graph edge n falls) before.owed_is
+    ∙ ap (λ n. hop_over graph edge (owed request.amount (edges_in graph back)) n) before.due_is in
     record {
-      owed_is = rw parts (rw charged (ap (λ n. n + fee_of n link.base link.millionths) before.owed_is));
-      due_is = rw parts (ap (λ n. n + link.delta) before.due_is);
+      owed_is = rw parts (rw charged (ap (λ n. n + fee_of n edge.base edge.millionths) before.owed_is));
+      due_is = rw parts (ap (λ n. n + edge.delta) before.due_is);
       due_low = let le = before.due_low in omega arith;
       hops_are =
           rw (parts, more) (reverse-append hops (hop ∷ []) ∙ ap (λ h. h ∷ reverse hops) made
-          ∙ ap (λ r. hop_over graph link (owed request.amount (edges_in graph back))
+          ∙ ap (λ r. hop_over graph edge (owed request.amount (edges_in graph back))
           (due request.expiry (edges_in graph back)) ∷ r) before.hops_are);
     }
 
 -- what is owed at each place fits
-pub owed_fits : (graph : Graph) (request : Request) (walk : List Link) (i owes falls : ℕ) (hops : List Hop)
+pub owed_fits : (graph : Graph) (request : Request) (walk : List Edge) (i owes falls : ℕ) (hops : List Hop)
     → i < length walk → AreCarried request.amount (walk) → AreHops graph request walk i owes falls hops
     → owes < 2 ^ 64
 owed_fits graph request walk i owes falls hops lt carried are =
@@ -75,13 +75,13 @@ owed_fits graph request walk i owes falls hops lt carried are =
 
 -- ---- the walk that was found
 
-pub walk_numbered : (graph : Graph) → AreLinked graph → (numbered : NumberedRequest) (walk : List Link)
-    (node : ℕ) → walks.IsRest (links graph) numbered node (walk) → AreNumbered graph walk
-walk_numbered graph linked numbered [] node joins = tt
-walk_numbered graph linked numbered (link ∷ rest) node joins =
-    let is = linked.each link joins.0.there in
-    ((is.from, is.to), walk_numbered graph linked numbered rest link.to joins.1)
+pub walk_numbered : (graph : Graph) → AreListed graph → (numbered : NumberedRequest) (walk : List Edge)
+    (node : ℕ) → walks.IsRest (edges graph) numbered node (walk) → AreNumbered graph walk
+walk_numbered graph listed numbered [] node joins = tt
+walk_numbered graph listed numbered (edge ∷ rest) node joins =
+    let is = listed.each edge joins.0.there in
+    ((is.from, is.to), walk_numbered graph listed numbered rest edge.to joins.1)
 
-pub length_hops : (request : Request) (walk : List Edge) → length (hops_of request walk) ≡ length walk
+pub length_hops : (request : Request) (walk : List PointEdge) → length (hops_of request walk) ≡ length walk
 length_hops request [] = refl
 length_hops request (edge ∷ rest) = ap suc (length_hops request rest)

@@ -3,20 +3,20 @@ use Rattle.std.proofs.Common.{◌≡◌, ◌⊎◌, ℕ, ◌+◌, ◌*◌, ◌<�
 use Rattle.std.proofs.Common.{Some, None, refl, sym, ◌∙◌, ap, subst, inl, inr, arith}
 use Rattle.std.proofs.Common.{length-append}
 use Rattle.std.proofs.lemmas.List.{get_or_append_left, append_assoc, append-nil}
-use Rattle.lgm_graph.specs.Graph.{Graph, links, links_into}
-use Rattle.lgm_graph.specs.declared.link.Link.{Link}
+use Rattle.lgm_graph.specs.Graph.{Graph, edges, edges_into}
+use Rattle.lgm_graph.specs.declared.edge.Edge.{Edge}
 use Rattle.lgm_route.specs.declared.numbered_request.NumberedRequest.{NumberedRequest}
 use Rattle.lgm_route.specs.declared.label.Label.{Label}
 use Rattle.lgm_route.specs.inner.Numbered.{owed, sent, IsRest, IsStep, IsUsable}
 use Rattle.lgm_route.specs.inner.Searching.{walk_key, Serves, label_at, no_label, number_at, Spells, IsLabel, IsWalk, bound_of, IsNoBetter, Has}
-use Rattle.lgm_route.specs.inner.Searching.{IsHopeless, Reaches, IsPassed, IsLeft, IsSettled, AreLabels, IsFound, Grows, Begins, first_of, link_at}
+use Rattle.lgm_route.specs.inner.Searching.{IsHopeless, Reaches, IsPassed, IsLeft, IsSettled, AreLabels, IsFound, Grows, Begins, first_of, edge_at}
 use Rattle.lgm_route.specs.inner.Bounding.{AreLow}
 use Rattle.lgm_route.proofs.Orders.{NotAfter-trans}
 use Rattle.lgm_route.proofs.Rests.{Serves-refl, Serves-trans, Serves-owed, Serves-prepend, Serves-walk}
 use Rattle.lgm_route.proofs.Rests.{step-cheaper, walk_less, fee-monotone, owed-least}
 
 -- a label stands for one rest
-pub Spells-unique : (graph : Graph) (labels : List Label) (label : Label) (rest also : List Link) →
+pub Spells-unique : (graph : Graph) (labels : List Label) (label : Label) (rest also : List Edge) →
     Spells graph labels label rest → Spells graph labels label also → length rest ≡ length also → rest ≡ also
 Spells-unique graph labels label [] [] h k e = refl
 Spells-unique graph labels label [] (other ∷ also) h k e = absurd (omega arith)
@@ -26,7 +26,7 @@ Spells-unique graph labels label (edge ∷ rest) (other ∷ also) h k e =
     let tail : rest ≡ also = Spells-unique graph labels (label_at labels label.next) rest also h.2 k.2 (omega arith) in
     cc
 
-pub label-unique : (graph : Graph) (request : NumberedRequest) (labels : List Label) (label : Label) (rest also : List Link) →
+pub label-unique : (graph : Graph) (request : NumberedRequest) (labels : List Label) (label : Label) (rest also : List Edge) →
     IsLabel graph request labels label rest → IsLabel graph request labels label also → rest ≡ also
 label-unique graph request labels label rest also h k = Spells-unique graph labels label rest also h.spells k.spells (h.long ∙ sym k.long)
 
@@ -40,14 +40,14 @@ longer labels more = omega (arith, length-append labels more)
 pub Begins-grows : (graph : Graph) (labels more : List Label) (label : Label) → Begins graph labels label → Begins graph (labels ++ more) label
 Begins-grows graph labels more label h = record {
   next = omega (arith, longer labels more, h.next);
-  at = subst (λ l. label.at < length (links_into graph l.node)) (sym (label_left labels more label.next h.next)) h.at;
+  at = subst (λ l. label.at < length (edges_into graph l.node)) (sym (label_left labels more label.next h.next)) h.at;
 }
 
 pub first-grows : (graph : Graph) (labels more : List Label) (label : Label) → label.next < length labels
     → first_of graph (labels ++ more) label ≡ first_of graph labels label
-first-grows graph labels more label within = ap (λ l. link_at (links_into graph l.node) label.at) (label_left labels more label.next within)
+first-grows graph labels more label within = ap (λ l. edge_at (edges_into graph l.node) label.at) (label_left labels more label.next within)
 
-pub Spells-grows : (graph : Graph) (labels more : List Label) (label : Label) (rest : List Link) →
+pub Spells-grows : (graph : Graph) (labels more : List Label) (label : Label) (rest : List Edge) →
     Spells graph labels label rest → Spells graph (labels ++ more) label rest
 Spells-grows graph labels more label [] h = tt
 Spells-grows graph labels more label (edge ∷ rest) h = (
@@ -57,12 +57,12 @@ Spells-grows graph labels more label (edge ∷ rest) h = (
       (Spells-grows graph labels more (label_at labels label.next) rest h.2),
 )
 
-pub label-grows : (graph : Graph) (request : NumberedRequest) (labels more : List Label) (label : Label) (rest : List Link) →
+pub label-grows : (graph : Graph) (request : NumberedRequest) (labels more : List Label) (label : Label) (rest : List Edge) →
     IsLabel graph request labels label rest → IsLabel graph request (labels ++ more) label rest
 label-grows graph request labels more label rest h =
     record { spells = Spells-grows graph labels more label rest h.spells; long = h.long; joins = h.joins; owes = h.owes }
 
-pub walk-grows : (graph : Graph) (request : NumberedRequest) (labels more : List Label) (label : Label) (walk : List Link) →
+pub walk-grows : (graph : Graph) (request : NumberedRequest) (labels more : List Label) (label : Label) (walk : List Edge) →
     IsWalk graph request labels label walk → IsWalk graph request (labels ++ more) label walk
 walk-grows graph request labels more label walk h =
     record {
@@ -74,7 +74,7 @@ walk-grows graph request labels more label walk h =
       sends = h.sends;
     }
 
-pub has-grows : (graph : Graph) (request : NumberedRequest) (labels more : List Label) (node : ℕ) (rest : List Link) →
+pub has-grows : (graph : Graph) (request : NumberedRequest) (labels more : List Label) (node : ℕ) (rest : List Edge) →
     Has graph request labels node rest → Has graph request (labels ++ more) node rest
 has-grows graph request labels more node rest h =
     let same = label_left labels more h.place h.within in
@@ -89,7 +89,7 @@ has-grows graph request labels more node rest h =
       serves = h.serves;
     }
 
-pub no_better-grows : (graph : Graph) (request : NumberedRequest) (labels more : List Label) (start : ℕ) (found : Option Label) (walk : List Link) →
+pub no_better-grows : (graph : Graph) (request : NumberedRequest) (labels more : List Label) (start : ℕ) (found : Option Label) (walk : List Edge) →
     IsNoBetter graph request labels start found walk → IsNoBetter graph request (labels ++ more) start found walk
 no_better-grows graph request labels more start None walk h = h
 no_better-grows graph request labels more start (Some found) walk h = (h.0, walk-grows graph request labels more found h.0 h.1, h.2)
@@ -100,12 +100,12 @@ found-grows graph request labels more start None h = tt
 found-grows graph request labels more start (Some found) h = (((h.0).0, walk-grows graph request labels more found (h.0).0 (h.0).1), h.1)
 
 -- a rest that serves in another's place is hopeless only if that one is
-pub hopeless-serves : (request : NumberedRequest) (low : List ℕ) (bound node : ℕ) (a b : List Link) → Serves request a b →
+pub hopeless-serves : (request : NumberedRequest) (low : List ℕ) (bound node : ℕ) (a b : List Edge) → Serves request a b →
     IsHopeless request low bound node a → IsHopeless request low bound node b
 hopeless-serves request low bound node a b h hopeless = omega (arith, hopeless, h.fewer, Serves-owed request a b h)
 
 pub reaches-serves : (graph : Graph) (request : NumberedRequest) (low : List ℕ) (start : ℕ)
-    (labels : List Label) (found : Option Label) (node : ℕ) (a b : List Link) → Serves request a b →
+    (labels : List Label) (found : Option Label) (node : ℕ) (a b : List Edge) → Serves request a b →
     Reaches graph request low start labels found node a → Reaches graph request low start labels found node b
 reaches-serves graph request low start labels found node a b h (inl has) =
     inl (record {
@@ -123,10 +123,10 @@ reaches-serves graph request low start labels found node a b h (inr hopeless) =
 module _ (graph : Graph) (request : NumberedRequest) (low : List ℕ) (start : ℕ) (labels : List Label)
     (found : Option Label) (after : List Label) (now : Option Label)
     (grows : Grows graph request start labels found after now) where
-  pub has-later : (node : ℕ) (rest : List Link) → Has graph request labels node rest → Has graph request after node rest
+  pub has-later : (node : ℕ) (rest : List Edge) → Has graph request labels node rest → Has graph request after node rest
   has-later node rest h = subst (λ l. Has graph request l node rest) (sym grows.is) (has-grows graph request labels grows.more node rest h)
 
-  pub label-later : (label : Label) (rest : List Link) → IsLabel graph request labels label rest → IsLabel graph request after label rest
+  pub label-later : (label : Label) (rest : List Edge) → IsLabel graph request labels label rest → IsLabel graph request after label rest
   label-later label rest h = subst (λ l. IsLabel graph request l label rest) (sym grows.is) (label-grows graph request labels grows.more label rest h)
 
   pub at-later : (i : ℕ) → i < length labels → label_at after i ≡ label_at labels i
@@ -135,26 +135,26 @@ module _ (graph : Graph) (request : NumberedRequest) (low : List ℕ) (start : �
   pub long-later : length labels ≤ length after
   long-later = omega (arith, longer labels grows.more, ap length grows.is)
 
-  pub reaches-later : (node : ℕ) (rest : List Link) → Reaches graph request low start labels found node rest
+  pub reaches-later : (node : ℕ) (rest : List Edge) → Reaches graph request low start labels found node rest
       → Reaches graph request low start after now node rest
   reaches-later node rest (inl h) = inl (has-later node rest h)
   reaches-later node rest (inr h) = inr (omega (arith, h, grows.lower))
 
-  pub passed-later : (edge : Link) (rest : List Link) → IsPassed graph request low start labels found edge
+  pub passed-later : (edge : Edge) (rest : List Edge) → IsPassed graph request low start labels found edge
       rest → IsPassed graph request low start after now edge rest
   passed-later edge rest h =
       record { whole = λ from. grows.first (edge ∷ rest) (h.whole from); longer = λ few. reaches-later edge.from (edge ∷ rest) (h.longer few) }
 
-  pub left-later : (node : ℕ) (rest : List Link) → IsLeft graph request low start labels found node rest
+  pub left-later : (node : ℕ) (rest : List Edge) → IsLeft graph request low start labels found node rest
       → IsLeft graph request low start after now node rest
   left-later node rest h = λ edge there to min max. passed-later edge rest (h edge there to min max)
 
   pub settled-later : (label : Label) → IsSettled graph request low start labels found label → IsSettled graph request low start after now label
   settled-later label h = record { rest = h.rest; is = label-later label h.rest h.is; done = by h.done }
     where
-      by : IsHopeless request low (bound_of start found) label.node h.rest ⊎ ((other : List Link)
+      by : IsHopeless request low (bound_of start found) label.node h.rest ⊎ ((other : List Edge)
           × Serves request other h.rest × IsLeft graph request low start labels found label.node other) →
-          IsHopeless request low (bound_of start now) label.node h.rest ⊎ ((other : List Link)
+          IsHopeless request low (bound_of start now) label.node h.rest ⊎ ((other : List Edge)
           × Serves request other h.rest × IsLeft graph request low start after now label.node other)
       by (inl p) = inl (omega (arith, p, grows.lower))
       by (inr p) = inr (p.0, p.1, left-later label.node p.0 p.2)
@@ -175,15 +175,15 @@ grows-trans graph request start a b c x y z h k =
 
 -- once all labels are settled, every rest is reached
 module _ (graph : Graph) (request : NumberedRequest) (low : List ℕ) (start : ℕ) (labels : List Label) (found : Option Label)
-    (labelled : AreLabels graph request labels) (are_low : AreLow (links graph) request low)
+    (labelled : AreLabels graph request labels) (are_low : AreLow (edges graph) request low)
     (settled : (i : ℕ) → i < length labels → IsSettled graph request low start labels found (label_at labels i)) where
   -- a rest with a label is hopeless, or one that serves in its place was led on
-  abbrev Onward : ℕ → List Link → Type 0
+  abbrev Onward : ℕ → List Edge → Type 0
   Onward node rest =
-      IsHopeless request low (bound_of start found) node rest ⊎ ((other : List Link)
+      IsHopeless request low (bound_of start found) node rest ⊎ ((other : List Edge)
       × Serves request other rest × IsLeft graph request low start labels found node other)
 
-  onward : (node : ℕ) (rest : List Link) → Reaches graph request low start labels found node rest → Onward node rest
+  onward : (node : ℕ) (rest : List Edge) → Reaches graph request low start labels found node rest → Onward node rest
   onward node rest (inr hopeless) = inl hopeless
   onward node rest (inl h) = by (subst (λ n. Onward n s.rest) h.at s.done)
     where
@@ -200,7 +200,7 @@ module _ (graph : Graph) (request : NumberedRequest) (low : List ℕ) (start : �
       by (inl p) = inl (hopeless-serves request low (bound_of start found) node s.rest rest serves p)
       by (inr p) = inr (p.0, Serves-trans request p.0 s.rest rest p.1 serves, p.2)
 
-  hopeless_on : (node : ℕ) (edge : Link) (rest : List Link) → IsStep (links graph) request node edge rest →
+  hopeless_on : (node : ℕ) (edge : Edge) (rest : List Edge) → IsStep (edges graph) request node edge rest →
       IsHopeless request low (bound_of start found) edge.to rest → IsHopeless request low (bound_of start found) node (edge ∷ rest)
   hopeless_on node edge rest step h =
       let least = owed-least request.amount rest in
@@ -209,7 +209,7 @@ module _ (graph : Graph) (request : NumberedRequest) (low : List ℕ) (start : �
       let from = ap (λ n. number_at low n) step.leaves in
       omega (arith, h, rises, fees, from)
 
-  pub all_reached : (rest : List Link) (node : ℕ) → IsRest (links graph) request node rest → length rest ≤ 19
+  pub all_reached : (rest : List Edge) (node : ℕ) → IsRest (edges graph) request node rest → length rest ≤ 19
       → Reaches graph request low start labels found node rest
   all_reached [] node joins few =
       inl (record {
@@ -221,10 +221,10 @@ module _ (graph : Graph) (request : NumberedRequest) (low : List ℕ) (start : �
         serves = Serves-refl request [];
       })
     where
-      s : (rest : List Link) × IsLabel graph request labels (label_at labels 0) rest
+      s : (rest : List Edge) × IsLabel graph request labels (label_at labels 0) rest
       s = labelled.sound 0 (omega (arith, labelled.some))
 
-      empty : (rest : List Link) → length rest ≡ 0 → rest ≡ []
+      empty : (rest : List Edge) → length rest ≡ 0 → rest ≡ []
       empty [] e = refl
       empty (edge ∷ rest) e = absurd (omega arith)
 
@@ -235,14 +235,14 @@ module _ (graph : Graph) (request : NumberedRequest) (low : List ℕ) (start : �
       by : Onward edge.to rest → Reaches graph request low start labels found node (edge ∷ rest)
       by (inl h) = inr (hopeless_on node edge rest joins.0 h)
       by (inr h) =
-          let cheaper = step-cheaper (links graph) request node edge h.0 rest (Serves-owed request h.0 rest h.1) joins.0 in
+          let cheaper = step-cheaper (edges graph) request node edge h.0 rest (Serves-owed request h.0 rest h.1) joins.0 in
           let passed = h.2 edge joins.0.there refl joins.0.above_min cheaper.below_max in
           subst (λ n. Reaches graph request low start labels found n (edge ∷ rest)) joins.0.leaves
           (reaches-serves graph request low start labels found edge.from (edge ∷ h.0) (edge ∷ rest) (Serves-prepend request edge h.0 rest h.1)
           (passed.longer (omega (arith, h.1.fewer))))
 
   -- so no usable walk is better than the best
-  no_better_by : (walk : List Link) (o : Option Label) → IsFound graph request labels start o
+  no_better_by : (walk : List Edge) (o : Option Label) → IsFound graph request labels start o
       → length walk ≤ 20 → bound_of start o < sent request.amount walk * 32 + length walk →
       IsNoBetter graph request labels start o walk
   no_better_by walk None is few p = omega arith
@@ -250,7 +250,7 @@ module _ (graph : Graph) (request : NumberedRequest) (low : List ℕ) (start : �
       let w = (is.0).1 in
       ((is.0).0, w, walk_less request (is.0).0 walk (omega (arith, w.long, w.few)) few (omega (arith, p, w.sends, w.long)))
 
-  served_by : (edge : Link) (a b : List Link) (o : Option Label) → Serves request a b → IsNoBetter graph
+  served_by : (edge : Edge) (a b : List Edge) (o : Option Label) → Serves request a b → IsNoBetter graph
       request labels start o (edge ∷ a) → IsNoBetter graph request labels start o (edge ∷ b)
   served_by edge a b None h p = omega (arith, p, Serves-owed request a b h)
   served_by edge a b (Some best) h p = (
@@ -260,12 +260,12 @@ module _ (graph : Graph) (request : NumberedRequest) (low : List ℕ) (start : �
         (Serves-walk request edge a b h),
   )
 
-  pub none_better : IsFound graph request labels start found → (walk : List Link)
-      → IsUsable (links graph) request walk → IsNoBetter graph request labels start found walk
+  pub none_better : IsFound graph request labels start found → (walk : List Edge)
+      → IsUsable (edges graph) request walk → IsNoBetter graph request labels start found walk
   none_better is [] usable = absurd (omega (arith, usable.some))
   none_better is (edge ∷ rest) usable = by (onward edge.to rest (all_reached rest edge.to usable.joins.1 (omega (arith, usable.few))))
     where
-      step : IsStep (links graph) request request.payer edge rest
+      step : IsStep (edges graph) request request.payer edge rest
       step = usable.joins.0
 
       by : Onward edge.to rest → IsNoBetter graph request labels start found (edge ∷ rest)
@@ -273,6 +273,6 @@ module _ (graph : Graph) (request : NumberedRequest) (low : List ℕ) (start : �
           let none = are_low.none edge step.there step.above_min (omega (arith, step.below_max, owed-least request.amount rest)) step.leaves in
           no_better_by (edge ∷ rest) found is usable.few (omega (arith, h, none))
       by (inr h) =
-          let cheaper = step-cheaper (links graph) request request.payer edge h.0 rest (Serves-owed request h.0 rest h.1) step in
+          let cheaper = step-cheaper (edges graph) request request.payer edge h.0 rest (Serves-owed request h.0 rest h.1) step in
           let passed = h.2 edge step.there refl step.above_min cheaper.below_max in
           served_by edge h.0 rest found h.1 (passed.whole step.leaves)

@@ -2,7 +2,7 @@
 use Rattle.std.proofs.Common.{◌≡◌, ◌⊎◌, ℕ, suc, ◌+◌, ◌*◌, ◌^◌, ◌<◌, ◌≤◌, List, [], ◌∷◌, length, drop, zero, refl, ap, inl, inr, arith}
 use Rattle.std.proofs.Math.Nat.{mul-le-mul_right}
 use Rattle.lgm_graph.specs.Fee.{fee_of}
-use Rattle.lgm_graph.specs.declared.link.Link.{Link}
+use Rattle.lgm_graph.specs.declared.edge.Edge.{Edge}
 use Rattle.lgm_route.specs.declared.numbered_request.NumberedRequest.{NumberedRequest}
 use Rattle.lgm_route.specs.inner.Numbered.{owed, sent, ids, IsStep}
 use Rattle.lgm_route.specs.inner.Searching.{NotAfter, rest_key, walk_key, Serves, AreCarried}
@@ -24,16 +24,16 @@ pub raised-le : (a b base millionths : ℕ) → a ≤ b → a + fee_of a base mi
 raised-le a b base millionths h = let grown = fee-monotone a b base millionths h in omega (arith, grown)
 
 -- lemma 3: what owes no more may be passed on wherever the other may
-pub step-cheaper : (edges : List Link) (request : NumberedRequest) (node : ℕ) (edge : Link) (rest other : List Link) →
+pub step-cheaper : (edges : List Edge) (request : NumberedRequest) (node : ℕ) (edge : Edge) (rest other : List Edge) →
     owed request.amount rest ≤ owed request.amount other →
     IsStep edges request node edge other → IsStep edges request node edge rest
 step-cheaper edges request node edge rest other h step =
     record { there = step.there; leaves = step.leaves; above_min = step.above_min; below_max = omega (arith, step.below_max) }
 
-pub Serves-refl : (request : NumberedRequest) (rest : List Link) → Serves request rest rest
+pub Serves-refl : (request : NumberedRequest) (rest : List Edge) → Serves request rest rest
 Serves-refl request rest = record { fewer = omega arith; before = NotAfter-refl (rest_key request rest) }
 
-pub Serves-trans : (request : NumberedRequest) (a b c : List Link) → Serves request a b → Serves request b c → Serves request a c
+pub Serves-trans : (request : NumberedRequest) (a b c : List Edge) → Serves request a b → Serves request b c → Serves request a c
 Serves-trans request a b c h k =
     record {
       fewer = omega (arith, h.fewer, k.fewer);
@@ -41,14 +41,14 @@ Serves-trans request a b c h k =
           NotAfter-trans (rest_key request a) (rest_key request b) (rest_key request c) h.before k.before;
     }
 
-pub Serves-owed : (request : NumberedRequest) (a b : List Link) → Serves request a b → owed request.amount a ≤ owed request.amount b
+pub Serves-owed : (request : NumberedRequest) (a b : List Edge) → Serves request a b → owed request.amount a ≤ owed request.amount b
 Serves-owed request a b h = NotAfter-heads (owed request.amount a) (owed request.amount b) (length a ∷ ids a) (length b ∷ ids b) h.before
 
 -- lemma 2: an edge put before two rests keeps their order
-abbrev Tails : List Link → List Link → Type 0
+abbrev Tails : List Edge → List Edge → Type 0
 Tails a b = NotAfter (length a ∷ ids a) (length b ∷ ids b)
 
-tails_prepend : (edge : Link) (a b : List Link) → Tails a b → Tails (edge ∷ a) (edge ∷ b)
+tails_prepend : (edge : Edge) (a b : List Edge) → Tails a b → Tails (edge ∷ a) (edge ∷ b)
 tails_prepend edge a b h = by (NotAfter-split (length a) (length b) (ids a) (ids b) h)
   where
     by : (length a < length b) ⊎ ((length a ≡ length b) × NotAfter (ids a) (ids b)) → Tails (edge ∷ a) (edge ∷ b)
@@ -56,7 +56,7 @@ tails_prepend edge a b h = by (NotAfter-split (length a) (length b) (ids a) (ids
     by (inr p) = NotAfter-join (suc (length a)) (suc (length b)) (ids (edge ∷ a)) (ids (edge ∷ b))
         (inr (ap suc p.0, NotAfter-join edge.scid edge.scid (ids a) (ids b) (inr (refl, p.1))))
 
-pub Serves-prepend : (request : NumberedRequest) (edge : Link) (a b : List Link) → Serves request a b → Serves request (edge ∷ a) (edge ∷ b)
+pub Serves-prepend : (request : NumberedRequest) (edge : Edge) (a b : List Edge) → Serves request a b → Serves request (edge ∷ a) (edge ∷ b)
 Serves-prepend request edge a b h =
     record { fewer = omega (arith, h.fewer); before = by (NotAfter-split x y (length a ∷ ids a) (length b ∷ ids b) h.before) }
   where
@@ -77,7 +77,7 @@ Serves-prepend request edge a b h =
         (inr (ap (λ z. z + fee_of z edge.base edge.millionths) p.0, tails_prepend edge a b p.1))
 
 -- and as whole walks, where the first edge charges nothing
-pub Serves-walk : (request : NumberedRequest) (edge : Link) (a b : List Link) → Serves request a b
+pub Serves-walk : (request : NumberedRequest) (edge : Edge) (a b : List Edge) → Serves request a b
     → NotAfter (walk_key request (edge ∷ a)) (walk_key request (edge ∷ b))
 Serves-walk request edge a b h = by (NotAfter-split x y (length a ∷ ids a) (length b ∷ ids b) h.before)
   where
@@ -92,7 +92,7 @@ Serves-walk request edge a b h = by (NotAfter-split x y (length a ∷ ids a) (le
     by (inr p) = NotAfter-join x y (length (edge ∷ a) ∷ ids (edge ∷ a)) (length (edge ∷ b) ∷ ids (edge ∷ b)) (inr (p.0, tails_prepend edge a b p.1))
 
 -- what is sent, and then how many edges, in one number
-pub walk_less : (request : NumberedRequest) (walk other : List Link) → length walk ≤ 20 → length other ≤ 20 →
+pub walk_less : (request : NumberedRequest) (walk other : List Edge) → length walk ≤ 20 → length other ≤ 20 →
     sent request.amount walk * 32 + length walk < sent request.amount other * 32 + length other →
     NotAfter (walk_key request walk) (walk_key request other)
 walk_less request walk other few also p = by (trichotomy (sent request.amount walk) (sent request.amount other))
@@ -106,20 +106,20 @@ walk_less request walk other few also p = by (trichotomy (sent request.amount wa
     by (inr (inr r)) = absurd (omega arith)
 
 -- a rest owes no less than the amount
-pub owed-least : (amount : ℕ) (rest : List Link) → amount ≤ owed amount rest
+pub owed-least : (amount : ℕ) (rest : List Edge) → amount ≤ owed amount rest
 owed-least amount [] = omega arith
 owed-least amount (edge ∷ rest) = omega (arith, owed-least amount rest)
 
-sent_below : (amount : ℕ) (walk : List Link) → sent amount walk ≤ owed amount walk
+sent_below : (amount : ℕ) (walk : List Edge) → sent amount walk ≤ owed amount walk
 sent_below amount [] = omega arith
 sent_below amount (edge ∷ rest) = omega arith
 
-pub carried_under : (amount : ℕ) (walk : List Link) → sent amount walk < 2 ^ 64 → AreCarried amount walk
+pub carried_under : (amount : ℕ) (walk : List Edge) → sent amount walk < 2 ^ 64 → AreCarried amount walk
 carried_under amount [] small = tt
 carried_under amount (edge ∷ rest) small = (small, carried_under amount rest (omega (arith, sent_below amount rest)))
 
 -- what is owed behind the edge at a place fits
-pub carried_at : (amount : ℕ) (walk : List Link) (k : ℕ) → AreCarried amount walk → k < length walk → owed amount (drop (suc k) walk) < 2 ^ 64
+pub carried_at : (amount : ℕ) (walk : List Edge) (k : ℕ) → AreCarried amount walk → k < length walk → owed amount (drop (suc k) walk) < 2 ^ 64
 carried_at amount [] k carried within = absurd (omega arith)
 carried_at amount (edge ∷ rest) zero carried within = carried.0
 carried_at amount (edge ∷ rest) (suc k) carried within = carried_at amount rest k carried.1 (omega arith)

@@ -2,13 +2,13 @@
 use Rattle.std.proofs.Common.{◌≡◌, ◌≢◌, ◌⊎◌, ℕ, zero, suc, ◌+◌, ◌*◌, ◌^◌, ◌<◌, ◌≤◌, List, [], ◌∷◌, length, get_or}
 use Rattle.std.proofs.Common.{Option, Some, None, Bool, true, false, refl, sym, ◌∙◌, ap, subst, inl, inr, arith}
 use Rattle.std.proofs.lemmas.List.{get_or_default}
-use Rattle.lgm_graph.specs.Graph.{Graph, links, links_into, AreLinked}
-use Rattle.lgm_graph.specs.declared.link.Link.{Link}
+use Rattle.lgm_graph.specs.Graph.{Graph, edges, edges_into, AreListed}
+use Rattle.lgm_graph.specs.declared.edge.Edge.{Edge}
 use Rattle.lgm_route.specs.declared.numbered_request.NumberedRequest.{NumberedRequest}
 use Rattle.lgm_route.specs.declared.label.Label.{Label}
 use Rattle.lgm_route.specs.inner.Bounding.{AreLow}
 use Rattle.lgm_route.specs.inner.Numbered.{sent, IsLeast}
-use Rattle.lgm_route.specs.inner.Searching.{label_at, link_at, no_link, Spells, first_of, bound_of, number_at, IsSettled, AreLabels, IsFound}
+use Rattle.lgm_route.specs.inner.Searching.{label_at, edge_at, no_edge, Spells, first_of, bound_of, number_at, IsSettled, AreLabels, IsFound}
 use Rattle.lgm_route.specs.inner.Searching.{Grows, IsMarked, IsOffered, IsBetter, PassesOn, AreSpelled, SomeRest, IsNoBetter, StandsIn}
 use Rattle.lgm_route.specs.inner.Leading.{IsInto, IsLed, AreLeads}
 use Rattle.lgm_route.specs.inner.State.{Ground, State, state_of, IsGround, IsSearch, Extends, IsSettledAt, IsMarkedAt}
@@ -47,32 +47,32 @@ pub long_later : (a b : State) → Extends a b → length a.labels ≤ length b.
 long_later a b h = long-later a.ground.graph a.ground.request a.ground.low a.ground.start a.labels a.best b.labels b.best h.grows
 
 -- the edge is still the one at its place
-pub into_later : (a b : State) (i at : ℕ) (edge : Link) → Extends a b → IsIntoAt a i at edge → IsIntoAt b i at edge
+pub into_later : (a b : State) (i at : ℕ) (edge : Edge) → Extends a b → IsIntoAt a i at edge → IsIntoAt b i at edge
 into_later a b i at edge h into =
     subst (λ g. IsInto g.graph b.labels i at edge) (sym h.ground)
     (let same = at_later a b i h into.within in
     record {
       within = omega (arith, into.within, long_later a b h);
-      inside = subst (λ l. at < length (links_into a.ground.graph l.node)) (sym same) into.inside;
-      is = subst (λ l. link_at (links_into a.ground.graph l.node) at ≡ edge) (sym same) into.is;
+      inside = subst (λ l. at < length (edges_into a.ground.graph l.node)) (sym same) into.inside;
+      is = subst (λ l. edge_at (edges_into a.ground.graph l.node) at ≡ edge) (sym same) into.is;
     })
 
-abbrev Passing : Ground → List Label → ℕ → State → Link → Type 0
+abbrev Passing : Ground → List Label → ℕ → State → Edge → Type 0
 Passing ground labels i after edge = PassesOn ground.graph ground.request ground.low ground.start labels i after.labels after.best edge
 
 -- passing over an edge, seen from an earlier state, or in a later one
-pub passed_from : (a b c : State) (i : ℕ) (edge : Link) → Extends a b → i < length a.labels → IsPassedOn b i edge c → IsPassedOn a i edge c
+pub passed_from : (a b c : State) (i : ℕ) (edge : Edge) → Extends a b → i < length a.labels → IsPassedOn b i edge c → IsPassedOn a i edge c
 passed_from a b c i edge h within passed =
     passes_from a.ground.graph a.ground.request a.ground.low a.ground.start i a.labels a.best b.labels b.best c.labels c.best edge h.grows within
     (subst (λ g. Passing g b.labels i c edge) h.ground passed)
 
-pub passed_later : (a b c : State) (i : ℕ) (edge : Link) → Extends a b → Extends b c → IsPassedOn a i edge b → IsPassedOn a i edge c
+pub passed_later : (a b c : State) (i : ℕ) (edge : Edge) → Extends a b → Extends b c → IsPassedOn a i edge b → IsPassedOn a i edge c
 passed_later a b c i edge h k passed =
     passes_later a.ground.graph a.ground.request a.ground.low a.ground.start i a.labels b.labels b.best c.labels c.best edge
     (subst (λ g. Growing g b c) h.ground k.grows) passed
 
 -- one more of several edges was passed over
-pub passed_more : (a b c : State) (at : ℕ → Link) (i place : ℕ) → i < length a.labels → Extends a b → Extends b c →
+pub passed_more : (a b c : State) (at : ℕ → Edge) (i place : ℕ) → i < length a.labels → Extends a b → Extends b c →
     ((j : ℕ) → j < place → IsPassedOn a i (at j) b) → IsPassedOn b i (at place) c → (j : ℕ) → j < place + 1 → IsPassedOn a i (at j) c
 passed_more a b c at i place within h k before new j to = by (trichotomy j place)
   where
@@ -83,11 +83,11 @@ passed_more a b c at i place within h k before new j to = by (trichotomy j place
 
 -- over all edges into the node
 pub left_all : (a b : State) (i : ℕ) → IsGround a.ground →
-    ((j : ℕ) → j < length (links_into a.ground.graph (label_at a.labels i).node)
-    → IsPassedOn a i (link_at (links_into a.ground.graph (label_at a.labels i).node) j) b) →
+    ((j : ℕ) → j < length (edges_into a.ground.graph (label_at a.labels i).node)
+    → IsPassedOn a i (edge_at (edges_into a.ground.graph (label_at a.labels i).node) j) b) →
     IsLeftAt a i b
 left_all a b i ground passed =
-    all_passed a.ground.graph a.ground.request a.ground.low a.ground.start i a.labels b.labels b.best ground.linked passed
+    all_passed a.ground.graph a.ground.request a.ground.low a.ground.start i a.labels b.labels b.best ground.listed passed
 
 -- ---- what the fields of a search keep
 
@@ -212,9 +212,9 @@ finished s is all =
     is.ground.low (λ i within. (is.settled i (all i within)).1) is.found
 
 -- the best walk is the least
-pub walk_least : (s : State) (best : Label) (walk : List Link) → s.best ≡ Some best → IsSearch s → IsFinished s →
+pub walk_least : (s : State) (best : Label) (walk : List Edge) → s.best ≡ Some best → IsSearch s → IsFinished s →
     Spells s.ground.graph s.labels best walk × (length walk ≡ best.count) →
-    IsLeast (links s.ground.graph) s.ground.request walk × (sent s.ground.request.amount walk < 2 ^ 64)
+    IsLeast (edges s.ground.graph) s.ground.request walk × (sent s.ground.request.amount walk < 2 ^ 64)
 walk_least s best walk some is finished spelled =
     let found = subst (λ o. IsFound s.ground.graph s.ground.request s.labels s.ground.start o) some is.found in (
       least_of s.ground.graph s.ground.request s.labels s.ground.start best walk
@@ -224,14 +224,14 @@ walk_least s best walk some is finished spelled =
     )
 
 -- a search that begins
-pub begun : (graph : Graph) (request : NumberedRequest) (low : List ℕ) (start : ℕ) → AreLinked graph
-    → length low ≡ length graph.points → AreLow (links graph) request low → start ≤ 2 ^ 64 →
+pub begun : (graph : Graph) (request : NumberedRequest) (low : List ℕ) (start : ℕ) → AreListed graph
+    → length low ≡ length graph.points → AreLow (edges graph) request low → start ≤ 2 ^ 64 →
     (labels : List Label)
     → labels ≡ record { owed = request.amount; next = 0; at = 0; node = request.payee; count = 0 } ∷ []
     → (done : List Bool) → done ≡ [] →
     IsSearch (state_of graph request low start labels None done)
-begun graph request low start linked long are_low small labels one done none = record {
-  ground = record { linked = linked; long = long; low = are_low; small = small };
+begun graph request low start listed long are_low small labels one done none = record {
+  ground = record { listed = listed; long = long; low = are_low; small = small };
   labelled = rw one first;
   found = tt;
   settled = rw none (λ i h. absurd (no i h));
@@ -255,15 +255,15 @@ begun graph request low start linked long are_low small labels one done none = r
     first = record { some = omega arith; first = (refl, refl); sound = sound; few = few }
 
 -- an edge read from a run is the one at its place
-pub into_at : (s : State) (i at : ℕ) (label : Label) (run : List Link) (edge : Link) → i < length s.labels
-    → label ≡ label_at s.labels i → run ≡ links_into s.ground.graph label.node →
+pub into_at : (s : State) (i at : ℕ) (label : Label) (run : List Edge) (edge : Edge) → i < length s.labels
+    → label ≡ label_at s.labels i → run ≡ edges_into s.ground.graph label.node →
     at < length run → edge ≡ get_or run at edge → IsIntoAt s i at edge
 into_at s i at label run edge within is run_is inside read =
-    let same : run ≡ links_into s.ground.graph (label_at s.labels i).node = run_is ∙ ap (λ l. links_into s.ground.graph l.node) is in
+    let same : run ≡ edges_into s.ground.graph (label_at s.labels i).node = run_is ∙ ap (λ l. edges_into s.ground.graph l.node) is in
     record {
       within = within;
       inside = subst (λ r. at < length r) same inside;
-      is = subst (λ r. link_at r at ≡ edge) same (sym (get_or_default run at edge no_link inside) ∙ sym read);
+      is = subst (λ r. edge_at r at ≡ edge) same (sym (get_or_default run at edge no_edge inside) ∙ sym read);
     }
 
 -- ---- taking leads
@@ -277,21 +277,21 @@ leads_at_later a b i leads h within are =
     (leads_later a.ground.graph a.ground.request a.ground.low a.ground.start a.labels a.best b.labels b.best i leads h.grows within are)
 
 -- what was led on leads from the label that it names
-pub led_self : (s : State) (i : ℕ) (edge : Link) (new : Label) → IsLed s.ground.graph s.ground.request s.labels i edge new →
+pub led_self : (s : State) (i : ℕ) (edge : Edge) (new : Label) → IsLed s.ground.graph s.ground.request s.labels i edge new →
     IsLed s.ground.graph s.ground.request s.labels new.next (first_of s.ground.graph s.labels new) new
 led_self s i edge new led =
     subst (λ n. IsLed s.ground.graph s.ground.request s.labels n (first_of s.ground.graph s.labels new) new) (sym led.next)
     (subst (λ e. IsLed s.ground.graph s.ground.request s.labels i e new) (sym led.over) led)
 
-pub passed_self : (a b : State) (i : ℕ) (edge : Link) (new : Label) → IsLed a.ground.graph a.ground.request a.labels i edge new →
+pub passed_self : (a b : State) (i : ℕ) (edge : Edge) (new : Label) → IsLed a.ground.graph a.ground.request a.labels i edge new →
     IsPassedOn a new.next (first_of a.ground.graph a.labels new) b → IsPassedOn a i edge b
 passed_self a b i edge new led passed = subst (λ n. IsPassedOn a n edge b) led.next (subst (λ e. IsPassedOn a new.next e b) led.over passed)
 
 -- what was led on, later
-abbrev IsLedBy : Ground → List Label → ℕ → Link → Label → Type 0
+abbrev IsLedBy : Ground → List Label → ℕ → Edge → Label → Type 0
 IsLedBy ground labels i edge new = IsLed ground.graph ground.request labels i edge new
 
-pub led_at_later : (a b : State) (i : ℕ) (edge : Link) (new : Label) → Extends a b → i < length a.labels
+pub led_at_later : (a b : State) (i : ℕ) (edge : Edge) (new : Label) → Extends a b → i < length a.labels
     → IsLed a.ground.graph a.ground.request a.labels i edge new →
     IsLed b.ground.graph b.ground.request b.labels i edge new
 led_at_later a b i edge new h within led =
@@ -299,7 +299,7 @@ led_at_later a b i edge new h within led =
     (led_later a.ground.graph a.ground.request a.ground.low a.ground.start a.labels a.best b.labels b.best h.grows i within edge new led)
 
 -- where nothing is led on, that was needless
-pub passed_none : (s : State) (i : ℕ) (edge : Link) → IsLeadAt s i edge None → IsPassedOn s i edge s
+pub passed_none : (s : State) (i : ℕ) (edge : Edge) → IsLeadAt s i edge None → IsPassedOn s i edge s
 passed_none s i edge needless =
     passed_needless s.ground.graph s.ground.request s.ground.low s.ground.start (bound_in s) i s.labels s.labels s.best edge (omega arith) needless
 
@@ -327,4 +327,4 @@ passed_rest s after new is led other same offered =
 pub left_taken : (a b : State) (i : ℕ) (leads : List Label) → IsGround a.ground → Extends a b → AreLeadsAt a i leads →
     ((k : ℕ) → k < length leads → IsPassedOn a i (first_of a.ground.graph a.labels (label_at leads k)) b) → IsLeftAt a i b
 left_taken a b i leads ground h are taken =
-    all_taken a.ground.graph a.ground.request a.ground.low a.ground.start i a.labels a.best b.labels b.best leads ground.linked h.grows are taken
+    all_taken a.ground.graph a.ground.request a.ground.low a.ground.start i a.labels a.best b.labels b.best leads ground.listed h.grows are taken

@@ -5,12 +5,12 @@ use Rattle.std.specs.Prelude.{if◌then◌else◌}
 use Rattle.std.specs.List.{Contains}
 use Rattle.std.proofs.lemmas.List.{get_or_push, length_push, get_or_default, append-nil}
 use Rattle.lgm_graph.specs.Fee.{fee_of}
-use Rattle.lgm_graph.specs.Graph.{Graph, links, links_into, links_leaving, AreLinked}
-use Rattle.lgm_graph.specs.declared.link.Link.{Link}
+use Rattle.lgm_graph.specs.Graph.{Graph, edges, edges_into, edges_leaving, AreListed}
+use Rattle.lgm_graph.specs.declared.edge.Edge.{Edge}
 use Rattle.lgm_route.specs.declared.numbered_request.NumberedRequest.{NumberedRequest}
 use Rattle.lgm_route.specs.declared.label.Label.{Label}
 use Rattle.lgm_route.specs.inner.Numbered.{sent, ids, IsUsable, IsLeast, Precedes}
-use Rattle.lgm_route.specs.inner.Searching.{NotAfter, walk_key, Serves, no_link, link_at, label_at, no_label, number_at, Spells}
+use Rattle.lgm_route.specs.inner.Searching.{NotAfter, walk_key, Serves, no_edge, edge_at, label_at, no_label, number_at, Spells}
 use Rattle.lgm_route.specs.inner.Searching.{IdsFirst, IsLabel, IsWalk, DoesServe, SomeRest, SomeWalk, bound_of, IsNoBetter, IsHopeless}
 use Rattle.lgm_route.specs.inner.Searching.{IsPassed, IsLeft, IsSettled, AreLabels, IsFound, Grows, IsBetter, IsOffered, PassesOn}
 use Rattle.lgm_route.specs.inner.Searching.{LeadsOn, StandsIn, AreSpelled, AreSettled, IsMarked, IsStart}
@@ -27,7 +27,7 @@ IsBefore graph labels x y =
     ⊎ ((x.owed ≡ y.owed) × (x.count ≡ y.count) × IdsFirst graph labels x y)
 
 pub before_walk : (graph : Graph) (request : NumberedRequest) (labels : List Label) (x y : Label)
-    (walk other : List Link) → IsWalk graph request labels x walk → IsWalk graph request labels y other →
+    (walk other : List Edge) → IsWalk graph request labels x walk → IsWalk graph request labels y other →
     IsBefore graph labels x y → NotAfter (walk_key request walk) (walk_key request other)
 before_walk graph request labels x y walk other h k (inl p) =
     NotAfter-join (sent request.amount walk) (sent request.amount other) (length walk ∷ ids walk)
@@ -208,7 +208,7 @@ offered_new graph request labels new are some few =
 -- passing over an edge, seen from an earlier state, or in a later one
 pub passes_from : (graph : Graph) (request : NumberedRequest) (low : List ℕ) (start i : ℕ)
     (labels : List Label) (found : Option Label) (after : List Label) (now : Option Label) (last : List Label)
-    (best : Option Label) (edge : Link) →
+    (best : Option Label) (edge : Edge) →
     Grows graph request start labels found after now → i < length labels → PassesOn graph request low start
     after i last best edge → PassesOn graph request low start labels i last best edge
 passes_from graph request low start i labels found after now last best edge grows within passes rest is to min max =
@@ -219,36 +219,36 @@ passes_from graph request low start i labels found after now last best edge grow
 
 pub passes_later : (graph : Graph) (request : NumberedRequest) (low : List ℕ) (start i : ℕ)
     (labels : List Label) (after : List Label) (now : Option Label) (last : List Label) (best : Option Label)
-    (edge : Link) →
+    (edge : Edge) →
     Grows graph request start after now last best → PassesOn graph request low start labels i after now edge
     → PassesOn graph request low start labels i last best edge
 passes_later graph request low start i labels after now last best edge grows passes rest is to min max =
     passed-later graph request low start after now last best grows edge rest (passes rest is to min max)
 
 -- an edge of the graph into a node, both ends of which are numbered
-pub record IsEdgeInto (graph : Graph) (node : ℕ) (edge : Link) : Type 0 where
-  pub there : Contains (links graph) edge
+pub record IsEdgeInto (graph : Graph) (node : ℕ) (edge : Edge) : Type 0 where
+  pub there : Contains (edges graph) edge
   pub to : edge.to ≡ node
   pub from : edge.from < length graph.points
 
 -- those of the run of edges into it are
-pub into_node : (graph : Graph) (labels : List Label) (i at : ℕ) (edge : Link) → AreLinked graph → IsInto graph labels i at edge →
+pub into_node : (graph : Graph) (labels : List Label) (i at : ℕ) (edge : Edge) → AreListed graph → IsInto graph labels i at edge →
     IsEdgeInto graph (label_at labels i).node edge
-into_node graph labels i at edge linked into =
+into_node graph labels i at edge listed into =
     let node = (label_at labels i).node in
-    let run = links_into graph node in
-    let here : Contains run edge = (at, into.inside, get_or_default run at edge no_link into.inside ∙ into.is) in
-    let found = linked.into node edge here in
-    record { there = found.1; to = found.0; from = (linked.each edge found.1).from }
+    let run = edges_into graph node in
+    let here : Contains run edge = (at, into.inside, get_or_default run at edge no_edge into.inside ∙ into.is) in
+    let found = listed.into node edge here in
+    record { there = found.1; to = found.0; from = (listed.each edge found.1).from }
 
 -- a label, relaxed over an edge into its node that can carry it
-pub led : (graph : Graph) (request : NumberedRequest) (labels : List Label) (i at owed : ℕ) (label : Label) (edge : Link)
-    → AreLinked graph → IsInto graph labels i at edge → label ≡ label_at labels i → edge.min ≤ request.amount → label.owed ≤ edge.max
+pub led : (graph : Graph) (request : NumberedRequest) (labels : List Label) (i at owed : ℕ) (label : Label) (edge : Edge)
+    → AreListed graph → IsInto graph labels i at edge → label ≡ label_at labels i → edge.min ≤ request.amount → label.owed ≤ edge.max
     → (edge.from ≡ request.payer → owed ≡ label.owed)
     → (edge.from ≢ request.payer → (label.count < 19) × (owed ≡ label.owed + fee_of label.owed edge.base edge.millionths))
     → IsLed graph request labels i edge (record { owed = owed; next = i; at = at; node = edge.from; count = label.count + 1 })
-led graph request labels i at owed label edge linked into is min max whole longer =
-    let e = into_node graph labels i at edge linked into in
+led graph request labels i at owed label edge listed into is min max whole longer =
+    let e = into_node graph labels i at edge listed into in
     let same = ap (λ (l : Label). l.owed) is in
     record {
       within = into.within;
@@ -267,21 +267,21 @@ led graph request labels i at owed label edge linked into is min max whole longe
 
 -- each edge into the label's node is in the run of edges into it
 pub all_passed : (graph : Graph) (request : NumberedRequest) (low : List ℕ) (start i : ℕ)
-    (labels after : List Label) (now : Option Label) → AreLinked graph →
-    ((j : ℕ) → j < length (links_into graph (label_at labels i).node) → PassesOn graph request low start
-    labels i after now (link_at (links_into graph (label_at labels i).node) j)) →
+    (labels after : List Label) (now : Option Label) → AreListed graph →
+    ((j : ℕ) → j < length (edges_into graph (label_at labels i).node) → PassesOn graph request low start
+    labels i after now (edge_at (edges_into graph (label_at labels i).node) j)) →
     LeadsOn graph request low start labels i after now
-all_passed graph request low start i labels after now linked passes rest is edge there to min max =
-    let run = links_into graph (label_at labels i).node in
-    let place : Contains run edge = subst (λ n. Contains (links_into graph n) edge) to (linked.each edge there).there in
-    let same : link_at run place.0 ≡ edge = subst (λ e. e ≡ edge) (get_or_default run place.0 edge no_link place.1) place.2 in
+all_passed graph request low start i labels after now listed passes rest is edge there to min max =
+    let run = edges_into graph (label_at labels i).node in
+    let place : Contains run edge = subst (λ n. Contains (edges_into graph n) edge) to (listed.each edge there).there in
+    let same : edge_at run place.0 ≡ edge = subst (λ e. e ≡ edge) (get_or_default run place.0 edge no_edge place.1) place.2 in
     subst (λ e. IsPassed graph request low start after now e rest) same
     (passes place.0 place.1 rest is (ap (λ e. e.to) same ∙ to) (omega (arith, ap (λ e. e.min) same, min)) (omega (arith, ap (λ e. e.max) same, max)))
 
 -- a label is settled where one is that serves in its place
 pub settled_serves : (graph : Graph) (request : NumberedRequest) (low : List ℕ) (start : ℕ)
-    (labels : List Label) (found : Option Label) (x y : Label) (rest : List Link) →
-    x.node ≡ y.node → ((a b : List Link) → IsLabel graph request labels x a → IsLabel graph request labels y b
+    (labels : List Label) (found : Option Label) (x y : Label) (rest : List Edge) →
+    x.node ≡ y.node → ((a b : List Edge) → IsLabel graph request labels x a → IsLabel graph request labels y b
     → Serves request a b) → IsLabel graph request labels y rest
     → IsSettled graph request low start labels found x → IsSettled graph request low start labels found y
 settled_serves graph request low start labels found x y rest node serves is settled =
@@ -289,7 +289,7 @@ settled_serves graph request low start labels found x y rest node serves is sett
       rest = rest;
       is = is;
       done =
-          subst (λ n. IsHopeless request low (bound_of start found) n rest ⊎ ((other : List Link)
+          subst (λ n. IsHopeless request low (bound_of start found) n rest ⊎ ((other : List Edge)
           × Serves request other rest × IsLeft graph request low start labels found n other)) node
           (by settled.done);
     }
@@ -297,9 +297,9 @@ settled_serves graph request low start labels found x y rest node serves is sett
     better : Serves request settled.rest rest
     better = serves settled.rest rest settled.is is
 
-    by : IsHopeless request low (bound_of start found) x.node settled.rest ⊎ ((other : List Link)
+    by : IsHopeless request low (bound_of start found) x.node settled.rest ⊎ ((other : List Edge)
         × Serves request other settled.rest × IsLeft graph request low start labels found x.node other) →
-        IsHopeless request low (bound_of start found) x.node rest ⊎ ((other : List Link)
+        IsHopeless request low (bound_of start found) x.node rest ⊎ ((other : List Edge)
         × Serves request other rest × IsLeft graph request low start labels found x.node other)
     by (inl p) = inl (hopeless-serves request low (bound_of start found) x.node settled.rest rest better p)
     by (inr p) = inr (p.0, Serves-trans request p.0 settled.rest rest p.1 better, p.2)
@@ -373,7 +373,7 @@ module _ (graph : Graph) (request : NumberedRequest) (low : List ℕ) (start : �
       mine : SomeRest graph request after (label_at after i)
       mine = later i within
 
-      serves : (a b : List Link) → IsLabel graph request after (label_at after place) a
+      serves : (a b : List Edge) → IsLabel graph request after (label_at after place) a
           → IsLabel graph request after (label_at after i) b → Serves request a b
       serves a b is_a is_b =
           let p = are.sound place stands.within in
@@ -383,25 +383,25 @@ module _ (graph : Graph) (request : NumberedRequest) (low : List ℕ) (start : �
           subst (λ r. Serves request a r) two (subst (λ r. Serves request r q.0) one (stands.serves request p.0 q.0 p.1 q.1))
 
 -- over the payer's edges goes no more than the most
-pub start_of : (graph : Graph) (most : ℕ) (request : NumberedRequest) → AreLinked graph →
-    ((j : ℕ) → j < length (links_leaving graph request.payer)
-    → (link_at (links_leaving graph request.payer) j).max < most) → IsStart (links graph) request most
-start_of graph most request linked above [] usable = absurd (omega (arith, usable.some))
-start_of graph most request linked above (edge ∷ rest) usable =
+pub start_of : (graph : Graph) (most : ℕ) (request : NumberedRequest) → AreListed graph →
+    ((j : ℕ) → j < length (edges_leaving graph request.payer)
+    → (edge_at (edges_leaving graph request.payer) j).max < most) → IsStart (edges graph) request most
+start_of graph most request listed above [] usable = absurd (omega (arith, usable.some))
+start_of graph most request listed above (edge ∷ rest) usable =
     let step = usable.joins.0 in
-    let run = links_leaving graph request.payer in
-    let place : Contains run edge = subst (λ n. Contains (links_leaving graph n) edge) step.leaves (linked.each edge step.there).leaves in
-    let same : link_at run place.0 ≡ edge = subst (λ e. e ≡ edge) (get_or_default run place.0 edge no_link place.1) place.2 in
+    let run = edges_leaving graph request.payer in
+    let place : Contains run edge = subst (λ n. Contains (edges_leaving graph n) edge) step.leaves (listed.each edge step.there).leaves in
+    let same : edge_at run place.0 ≡ edge = subst (λ e. e ≡ edge) (get_or_default run place.0 edge no_edge place.1) place.2 in
     let max = above place.0 place.1 in
     (edge ∷ rest, usable, omega (arith, step.below_max, max, ap (λ e. e.max) same))
 
 -- the best walk, once none is better, is the least
-pub least_of : (graph : Graph) (request : NumberedRequest) (labels : List Label) (start : ℕ) (found : Label) (walk : List Link) →
-    ((other : List Link) → IsUsable (links graph) request other → IsNoBetter graph request labels start
+pub least_of : (graph : Graph) (request : NumberedRequest) (labels : List Label) (start : ℕ) (found : Label) (walk : List Edge) →
+    ((other : List Edge) → IsUsable (edges graph) request other → IsNoBetter graph request labels start
     (Some found) other) → IsFound graph request labels start (Some found) →
-    Spells graph labels found walk → length walk ≡ found.count → IsLeast (links graph) request walk
+    Spells graph labels found walk → length walk ≡ found.count → IsLeast (edges graph) request walk
 least_of graph request labels start found walk best is spells long =
-    subst (λ w. IsLeast (links graph) request w) (same (is.0).0 (is.0).1)
+    subst (λ w. IsLeast (edges graph) request w) (same (is.0).0 (is.0).1)
     (record {
       usable =
           record {
@@ -412,15 +412,15 @@ least_of graph request labels start found walk best is spells long =
       first = λ other usable before. by other (best other usable) before;
     })
   where
-    same : (w : List Link) → IsWalk graph request labels found w → w ≡ walk
+    same : (w : List Edge) → IsWalk graph request labels found w → w ≡ walk
     same w k = Spells-unique graph labels found w walk k.spells spells (k.long ∙ sym long)
 
-    by : (other : List Link) → IsNoBetter graph request labels start (Some found) other → Precedes request other (is.0).0 → ⊥
+    by : (other : List Edge) → IsNoBetter graph request labels start (Some found) other → Precedes request other (is.0).0 → ⊥
     by other h before =
         NotAfter-excludes (walk_key request (is.0).0) (walk_key request other)
         (subst (λ w. NotAfter (walk_key request w) (walk_key request other)) (same h.0 h.1 ∙ sym (same (is.0).0 (is.0).1)) h.2) before
 
-pub sent_small : (graph : Graph) (request : NumberedRequest) (labels : List Label) (start : ℕ) (found : Label) (walk : List Link) → start ≤ 2 ^ 64 →
+pub sent_small : (graph : Graph) (request : NumberedRequest) (labels : List Label) (start : ℕ) (found : Label) (walk : List Edge) → start ≤ 2 ^ 64 →
     IsFound graph request labels start (Some found) → Spells graph labels found walk → length walk ≡ found.count → sent request.amount walk < 2 ^ 64
 sent_small graph request labels start found walk low is spells long =
     let same = Spells-unique graph labels found (is.0).0 walk (is.0).1.spells spells ((is.0).1.long ∙ sym long) in

@@ -9,25 +9,24 @@ use Rattle.std.proofs.lemmas.Bool.{false≢true}
 use Rattle.lgm_wire.specs.declared.point.Point.{Point}
 use Rattle.lgm_store.specs.Rows.{is_point}
 use Rattle.lgm_store.proofs.Points.{same_point, is_point-self}
-use Rattle.lgm_graph.specs.Edges.{AreDirections}
-use Rattle.lgm_graph.specs.declared.edge.Edge.{Edge}
+use Rattle.lgm_graph.specs.Edges.{PointEdge, AreDirections}
 use Rattle.lgm_route.specs.declared.request.Request.{Request}
 use Rattle.lgm_route.specs.Routes.{owed, sent, ids, IsRest, IsStep, walk_key, Precedes, IsLeast, Visits, IsSimple}
 use Rattle.lgm_route.specs.inner.Searching.{NotAfter}
 use Rattle.lgm_route.proofs.Orders.{NotAfter-split, NotAfter-heads}
 use Rattle.lgm_route.proofs.Rests.{raised-le}
 
-sent_below : (amount : ℕ) (walk : List Edge) → sent amount walk ≤ owed amount walk
+sent_below : (amount : ℕ) (walk : List PointEdge) → sent amount walk ≤ owed amount walk
 sent_below amount [] = omega arith
 sent_below amount (edge ∷ rest) = omega arith
 
 -- a walk from the node, of fewer edges, over which no more is sent
-abbrev Shorter : List Edge → Request → Point → List Edge → Type 0
+abbrev Shorter : List PointEdge → Request → Point → List PointEdge → Type 0
 Shorter edges request node walk =
-    (other : List Edge) × IsRest edges request node other × (length other < length walk) × (owed request.amount other ≤ sent request.amount walk)
+    (other : List PointEdge) × IsRest edges request node other × (length other < length walk) × (owed request.amount other ≤ sent request.amount walk)
 
 -- from a node that is visited the rest of the walk leads on
-from_visit : (edges : List Edge) (request : Request) (node visited : Point) (walk : List Edge)
+from_visit : (edges : List PointEdge) (request : Request) (node visited : Point) (walk : List PointEdge)
     → IsRest edges request node walk → Visits visited walk →
     Shorter edges request visited walk
 from_visit edges request node visited [] joins h = absurd h
@@ -44,7 +43,7 @@ same_or_not p q = by (is_point p q) refl
     by true e = inl (same_point p q e)
     by false e = inr (λ same. false≢true (sym e ∙ ap (is_point p) (sym same) ∙ is_point-self p))
 
-visits_or_not : (node : Point) (walk : List Edge) → Visits node walk ⊎ (Visits node walk → ⊥)
+visits_or_not : (node : Point) (walk : List PointEdge) → Visits node walk ⊎ (Visits node walk → ⊥)
 visits_or_not node [] = inr (λ h. h)
 visits_or_not node (edge ∷ rest) = by (same_or_not edge.to node) (visits_or_not node rest)
   where
@@ -58,21 +57,21 @@ visits_or_not node (edge ∷ rest) = by (same_or_not edge.to node) (visits_or_no
         none (inr h) = f h
 
 -- what owes no more may be passed on wherever the other may
-step-cheaper : (edges : List Edge) (request : Request) (node : Point) (edge : Edge) (rest other : List Edge) →
+step-cheaper : (edges : List PointEdge) (request : Request) (node : Point) (edge : PointEdge) (rest other : List PointEdge) →
     owed request.amount rest ≤ owed request.amount other →
     IsStep edges request node edge other → IsStep edges request node edge rest
 step-cheaper edges request node edge rest other h step =
     record { there = step.there; leaves = step.leaves; above_min = step.above_min; below_max = omega (arith, step.below_max) }
 
 -- a walk from the node, of fewer edges, over which neither more is sent nor more is owed
-abbrev Better : List Edge → Request → Point → List Edge → Type 0
+abbrev Better : List PointEdge → Request → Point → List PointEdge → Type 0
 Better edges request node walk =
-    (other : List Edge) × IsRest edges request node other × (length other < length walk)
+    (other : List PointEdge) × IsRest edges request node other × (length other < length walk)
     × (owed request.amount other ≤ owed request.amount walk)
     × (sent request.amount other ≤ sent request.amount walk)
 
 -- a walk comes back to no node, or a better one does without the way round
-simple_or_better : (edges : List Edge) (request : Request) (node : Point) (walk : List Edge) → IsRest edges request node walk →
+simple_or_better : (edges : List PointEdge) (request : Request) (node : Point) (walk : List PointEdge) → IsRest edges request node walk →
     IsSimple node walk ⊎ Better edges request node walk
 simple_or_better edges request node [] joins = inl tt
 simple_or_better edges request node (edge ∷ rest) joins = by (visits_or_not node (edge ∷ rest)) (simple_or_better edges request edge.to rest joins.1)
@@ -93,7 +92,7 @@ simple_or_better edges request node (edge ∷ rest) joins = by (visits_or_not no
           b.3,
         )
 
-precedes_of : (request : Request) (walk other : List Edge) → length other < length walk
+precedes_of : (request : Request) (walk other : List PointEdge) → length other < length walk
     → sent request.amount other ≤ sent request.amount walk → Precedes request other walk
 precedes_of request walk other fewer less = by (slice_cmp nat_cmp (walk_key request other) (walk_key request walk)) refl
   where
@@ -120,13 +119,13 @@ precedes_of request walk other fewer less = by (slice_cmp nat_cmp (walk_key requ
     by Equal e = absurd (not_back (ap is_gt (turned Equal e)))
     by Greater e = absurd (not_back (ap is_gt (turned Greater e)))
 
-some_edges : (edges : List Edge) (request : Request) (walk : List Edge) → request.payer ≢ request.payee
+some_edges : (edges : List PointEdge) (request : Request) (walk : List PointEdge) → request.payer ≢ request.payee
     → IsRest edges request request.payer walk → 1 ≤ length walk
 some_edges edges request [] apart joins = absurd (apart joins)
 some_edges edges request (edge ∷ rest) apart joins = omega arith
 
 -- the least walk comes back to no node
-pub least-simple : (edges : List Edge) (request : Request) (walk : List Edge) → request.payer ≢ request.payee
+pub least-simple : (edges : List PointEdge) (request : Request) (walk : List PointEdge) → request.payer ≢ request.payee
     → IsLeast edges request walk → IsSimple request.payer walk
 least-simple edges request walk apart least = by (simple_or_better edges request request.payer walk least.usable.joins)
   where
@@ -164,7 +163,7 @@ tail_of : (x y : ℕ) (xs ys : List ℕ) → x ∷ xs ≡ y ∷ ys → xs ≡ ys
 tail_of x y xs ys e = cc
 
 -- the ids of a walk that comes back to no node name it
-pub ids_name : (edges : List Edge) (request : Request) (node : Point) (walk other : List Edge) → AreDirections edges →
+pub ids_name : (edges : List PointEdge) (request : Request) (node : Point) (walk other : List PointEdge) → AreDirections edges →
     IsRest edges request node walk → IsRest edges request node other → IsSimple node walk → ids walk ≡ ids other → walk ≡ other
 ids_name edges request node [] [] directions joins also simple e = refl
 ids_name edges request node [] (edge ∷ rest) directions joins also simple e = absurd (cc)
@@ -179,7 +178,7 @@ ids_name edges request node (edge ∷ rest) (edge' ∷ rest') directions joins a
     by (inr back) tails = absurd (simple.0 (inl (back.1 ∙ also.0.leaves)))
 
 -- there is one least walk
-pub least-unique : (edges : List Edge) (request : Request) (walk other : List Edge) → AreDirections edges → request.payer ≢ request.payee →
+pub least-unique : (edges : List PointEdge) (request : Request) (walk other : List PointEdge) → AreDirections edges → request.payer ≢ request.payee →
     IsLeast edges request walk → IsLeast edges request other → walk ≡ other
 least-unique edges request walk other directions apart least also =
     ids_name edges request request.payer walk other directions least.usable.joins also.usable.joins (least-simple edges request walk apart least)

@@ -1,7 +1,7 @@
 -- The answer to a request.
 use Rattle.std.specs.Prelude.{◌≡◌, List, Option, Some, None, Result, Ok, Err, nat_eq, nat_lt, if◌then◌else◌}
 use Rattle.lgm_store.specs.Rows.{is_point}
-use Rattle.lgm_graph.specs.declared.edge.Edge.{Edge}
+use Rattle.lgm_graph.specs.Edges.{PointEdge}
 use Rattle.lgm_route.specs.declared.request.Request.{Request}
 use Rattle.lgm_route.specs.declared.route.Hop.{Hop}
 use Rattle.lgm_route.specs.declared.fault.RouteFault.{RouteFault}
@@ -19,16 +19,16 @@ refusal request =
     else None
 
 -- the hops of the best walk, or no route if no walk is usable
-abbrev pub IsFoundOver : List Edge → Request → Result (List Hop) RouteFault → Type 0
+abbrev pub IsFoundOver : List PointEdge → Request → Result (List Hop) RouteFault → Type 0
 IsFoundOver edges request (Ok hops) =
-    (walk : List Edge) × IsLeast edges request walk × (hops ≡ hops_of request walk)
+    (walk : List PointEdge) × IsLeast edges request walk × (hops ≡ hops_of request walk)
 IsFoundOver edges request (Err fault) =
-    (fault ≡ NoRoute) × ((walk : List Edge) → IsUsable edges request walk → ⊥)
+    (fault ≡ NoRoute) × ((walk : List PointEdge) → IsUsable edges request walk → ⊥)
 
 -- the refusal, if there is one, else what is found
-abbrev pub IsAnswerBy : Option RouteFault → List Edge → Request → Result (List Hop) RouteFault → Type 0
+abbrev pub IsAnswerBy : Option RouteFault → List PointEdge → Request → Result (List Hop) RouteFault → Type 0
 IsAnswerBy (Some fault) edges request answer = answer ≡ Err fault
 IsAnswerBy None edges request answer = IsFoundOver edges request answer
 
-abbrev pub IsAnswer : List Edge → Request → Result (List Hop) RouteFault → Type 0
+abbrev pub IsAnswer : List PointEdge → Request → Result (List Hop) RouteFault → Type 0
 IsAnswer edges request answer = IsAnswerBy (refusal request) edges request answer

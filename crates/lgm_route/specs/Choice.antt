@@ -6,8 +6,7 @@ use Rattle.std.specs.Ordering.{nat_cmp, is_lt}
 use Rattle.std.specs.Cmp.Lexicographic.{slice_cmp}
 use Rattle.lgm_wire.specs.declared.point.Point.{Point}
 use Rattle.lgm_store.specs.Rows.{is_point}
-use Rattle.lgm_graph.specs.Edges.{AreDirections}
-use Rattle.lgm_graph.specs.declared.edge.Edge.{Edge}
+use Rattle.lgm_graph.specs.Edges.{PointEdge, AreDirections}
 use Rattle.lgm_route.specs.declared.request.Request.{Request}
 use Rattle.lgm_route.specs.declared.route.Hop.{Hop}
 use Rattle.lgm_route.specs.declared.fault.RouteFault.{RouteFault}
@@ -16,51 +15,51 @@ use Rattle.lgm_route.specs.Routes.{owed, walk_key, hops_of}
 use Rattle.lgm_route.specs.Answers.{refusal, IsAnswer}
 
 -- all lists of at most the given number of edges
-abbrev pub lists_of : List Edge → ℕ → List (List Edge)
+abbrev pub lists_of : List PointEdge → ℕ → List (List PointEdge)
 lists_of edges zero = [] ∷ []
 lists_of edges (suc more) = [] ∷ flat_map (λ edge. map (λ rest. edge ∷ rest) (lists_of edges more)) edges
 
 -- whether edges are consecutive, from the node to the payee, and each can carry what the edges after it need
-abbrev pub leads : Request → Point → List Edge → Bool
+abbrev pub leads : Request → Point → List PointEdge → Bool
 leads request node [] = is_point node request.payee
 leads request node (edge ∷ rest) =
     is_point edge.from node && nat_le edge.min request.amount && nat_le (owed request.amount rest) edge.max
     && leads request edge.to rest
 
 -- the usable walks of 1 to 20 of the edges
-abbrev pub usable_walks : List Edge → Request → List (List Edge)
+abbrev pub usable_walks : List PointEdge → Request → List (List PointEdge)
 usable_walks edges request =
     filter (λ walk. nat_le 1 (length walk) && leads request request.payer walk) (lists_of edges 20)
 
 -- the second walk if it precedes the first
-abbrev pub lesser : Request → List Edge → List Edge → List Edge
+abbrev pub lesser : Request → List PointEdge → List PointEdge → List PointEdge
 lesser request walk other =
     if is_lt (slice_cmp nat_cmp (walk_key request other) (walk_key request walk)) then other else walk
 
-abbrev pub least_of : Request → List (List Edge) → Option (List Edge)
+abbrev pub least_of : Request → List (List PointEdge) → Option (List PointEdge)
 least_of request [] = None
 least_of request (walk ∷ walks) = Some (fold (lesser request) walk walks)
 
 -- the best of the usable walks
-unfoldable pub least_walk : List Edge → Request → Option (List Edge)
+unfoldable pub least_walk : List PointEdge → Request → Option (List PointEdge)
 least_walk edges request = least_of request (usable_walks edges request)
 
-abbrev pub found_by : Request → Option (List Edge) → Result (List Hop) RouteFault
+abbrev pub found_by : Request → Option (List PointEdge) → Result (List Hop) RouteFault
 found_by request (Some walk) = Ok (hops_of request walk)
 found_by request None = Err NoRoute
 
-abbrev pub answer_by : Option RouteFault → Request → Option (List Edge) → Result (List Hop) RouteFault
+abbrev pub answer_by : Option RouteFault → Request → Option (List PointEdge) → Result (List Hop) RouteFault
 answer_by (Some fault) request walk = Err fault
 answer_by None request walk = found_by request walk
 
 -- the first refusal, or the hops of the best walk, or that no walk is usable
-unfoldable pub answer_of : List Edge → Request → Result (List Hop) RouteFault
+unfoldable pub answer_of : List PointEdge → Request → Result (List Hop) RouteFault
 answer_of edges request = answer_by (refusal request) request (least_walk edges request)
 
 -- exhaustive search returns an answer; if two edges of one id are the same or have opposite directions, each answer is
 -- that one
 pub record AnswerIsOne : Type 0 where
-  pub found : (edges : List Edge) (request : Request) → IsAnswer edges request (answer_of edges request)
-  pub one : (edges : List Edge) (request : Request) (answer : Result (List Hop) RouteFault)
+  pub found : (edges : List PointEdge) (request : Request) → IsAnswer edges request (answer_of edges request)
+  pub one : (edges : List PointEdge) (request : Request) (answer : Result (List Hop) RouteFault)
       → AreDirections edges →
       IsAnswer edges request answer → answer ≡ answer_of edges request

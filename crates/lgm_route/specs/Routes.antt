@@ -6,67 +6,66 @@ use Rattle.std.specs.Ordering.{nat_cmp}
 use Rattle.std.specs.Cmp.Lexicographic.{slice_cmp}
 use Rattle.lgm_wire.specs.declared.point.Point.{Point}
 use Rattle.lgm_graph.specs.Fee.{fee_of}
-use Rattle.lgm_graph.specs.Edges.{AreDirections}
-use Rattle.lgm_graph.specs.declared.edge.Edge.{Edge}
+use Rattle.lgm_graph.specs.Edges.{PointEdge, AreDirections}
 use Rattle.lgm_route.specs.declared.request.Request.{Request}
 use Rattle.lgm_route.specs.declared.route.Hop.{Hop}
 
 -- what has to reach the first node of these edges so that the amount reaches their end, with the fee of each node on
 -- the way: each edge carries what is owed at the edges after it
-abbrev pub owed : ℕ → List Edge → ℕ
+abbrev pub owed : ℕ → List PointEdge → ℕ
 owed amount [] = amount
 owed amount (edge ∷ rest) = let passed = owed amount rest in passed + fee_of passed edge.base edge.millionths
 
 -- what the payer sends: the first edge is its own, and charges nothing
-abbrev pub sent : ℕ → List Edge → ℕ
+abbrev pub sent : ℕ → List PointEdge → ℕ
 sent amount [] = amount
 sent amount (edge ∷ rest) = owed amount rest
 
 -- the expiry that has to reach the first node of these edges
-abbrev pub due : ℕ → List Edge → ℕ
+abbrev pub due : ℕ → List PointEdge → ℕ
 due expiry [] = expiry
 due expiry (edge ∷ rest) = due expiry rest + edge.delta
 
 -- an edge of the list from the node: the amount is at least its minimum, and what it carries, as the edges after it
 -- need it, at most its maximum
-pub record IsStep (edges : List Edge) (request : Request) (node : Point) (edge : Edge)
-    (rest : List Edge) : Type 0 where
+pub record IsStep (edges : List PointEdge) (request : Request) (node : Point) (edge : PointEdge)
+    (rest : List PointEdge) : Type 0 where
   pub there : Contains edges edge
   pub leaves : edge.from ≡ node
   pub above_min : edge.min ≤ request.amount
   pub below_max : owed request.amount rest ≤ edge.max
 
 -- consecutive edges, from the node to the payee
-abbrev pub IsRest : List Edge → Request → Point → List Edge → Type 0
+abbrev pub IsRest : List PointEdge → Request → Point → List PointEdge → Type 0
 IsRest edges request node [] = node ≡ request.payee
 IsRest edges request node (edge ∷ rest) =
     IsStep edges request node edge rest × IsRest edges request edge.to rest
 
 -- a walk of 1 to 20 edges, from the payer to the payee
-pub record IsUsable (edges : List Edge) (request : Request) (walk : List Edge) : Type 0 where
+pub record IsUsable (edges : List PointEdge) (request : Request) (walk : List PointEdge) : Type 0 where
   pub some : 1 ≤ length walk
   pub few : length walk ≤ 20
   pub joins : IsRest edges request request.payer walk
 
 -- the ids of its channels, from the payer on
-abbrev pub ids : List Edge → List ℕ
+abbrev pub ids : List PointEdge → List ℕ
 ids walk = map (λ edge. edge.scid) walk
 
 -- what is sent, then the number of edges, then the ids
-abbrev pub walk_key : Request → List Edge → List ℕ
+abbrev pub walk_key : Request → List PointEdge → List ℕ
 walk_key request walk = sent request.amount walk ∷ length walk ∷ ids walk
 
 -- lexicographic order of the keys
-abbrev pub Precedes : Request → List Edge → List Edge → Type 0
+abbrev pub Precedes : Request → List PointEdge → List PointEdge → Type 0
 Precedes request walk other = slice_cmp nat_cmp (walk_key request walk) (walk_key request other) ≡ Less
 
 -- a usable walk that no usable walk precedes
-pub record IsLeast (edges : List Edge) (request : Request) (walk : List Edge) : Type 0 where
+pub record IsLeast (edges : List PointEdge) (request : Request) (walk : List PointEdge) : Type 0 where
   pub usable : IsUsable edges request walk
-  pub first : (other : List Edge) → IsUsable edges request other → Precedes request other walk → ⊥
+  pub first : (other : List PointEdge) → IsUsable edges request other → Precedes request other walk → ⊥
 
 -- the walk as hops: each edge carries what is owed and due at the edges after it
-abbrev pub hops_of : Request → List Edge → List Hop
+abbrev pub hops_of : Request → List PointEdge → List Hop
 hops_of request [] = []
 hops_of request (edge ∷ rest) =
     record {
@@ -79,18 +78,18 @@ hops_of request (edge ∷ rest) =
     ∷ hops_of request rest
 
 -- the hops of the best walk, or none if no walk is usable
-abbrev pub IsBest : List Edge → Request → Option (List Hop) → Type 0
-IsBest edges request None = (walk : List Edge) → IsUsable edges request walk → ⊥
+abbrev pub IsBest : List PointEdge → Request → Option (List Hop) → Type 0
+IsBest edges request None = (walk : List PointEdge) → IsUsable edges request walk → ⊥
 IsBest edges request (Some hops) =
-    (walk : List Edge) × IsLeast edges request walk × (hops ≡ hops_of request walk)
+    (walk : List PointEdge) × IsLeast edges request walk × (hops ≡ hops_of request walk)
 
 -- some edge of the walk ends at the node
-abbrev pub Visits : Point → List Edge → Type 0
+abbrev pub Visits : Point → List PointEdge → Type 0
 Visits node [] = ⊥
 Visits node (edge ∷ rest) = (edge.to ≡ node) ⊎ Visits node rest
 
 -- a walk from the node visits no node twice
-abbrev pub IsSimple : Point → List Edge → Type 0
+abbrev pub IsSimple : Point → List PointEdge → Type 0
 IsSimple node [] = Unit {0}
 IsSimple node (edge ∷ rest) = (Visits node (edge ∷ rest) → ⊥) × IsSimple edge.to rest
 
@@ -98,6 +97,6 @@ IsSimple node (edge ∷ rest) = (Visits node (edge ∷ rest) → ⊥) × IsSimpl
 -- best walk, which visits no node twice
 abbrev pub LeastIsOne : Type 0
 LeastIsOne =
-    (edges : List Edge) (request : Request) (walk other : List Edge) → AreDirections edges
+    (edges : List PointEdge) (request : Request) (walk other : List PointEdge) → AreDirections edges
     → request.payer ≢ request.payee →
     IsLeast edges request walk → IsLeast edges request other → (walk ≡ other) × IsSimple request.payer walk

@@ -1,7 +1,7 @@
 //! Lower bounds by a pass from the payer.
 
 ghost use Rattle.std.specs.Prelude.{◌≡◌, length, IfOk};
-ghost use Rattle.lgm_graph.specs.Graph.{links};
+ghost use Rattle.lgm_graph.specs.Graph.{edges};
 ghost use Rattle.lgm_route.specs.inner.Bounding.{AreLow};
 
 use crate::bounds::Bounds;
@@ -27,7 +27,7 @@ pub(crate) fn bounds(
     request: &NumberedRequest,
 ) -> Result<Bounds, AllocError>
     ensures long { IfOk result (λ low. length low ≡ length view.now.points) }
-    ensures low { IfOk result (λ low. AreLow (links view.now) request.now low) }
+    ensures low { IfOk result (λ low. AreLow (edges view.now) request.now low) }
 {
     let mut pass = Pass::new(alloc, view, request)?;
     pass.take(steps_for(view.nodes()))?;

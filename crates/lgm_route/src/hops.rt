@@ -8,7 +8,7 @@ ghost use Rattle.lgm_route.specs.inner.Searching.{AreCarried};
 use crate::request::Request;
 use crate::route::Hop;
 use lgm_gossip::Point;
-use lgm_graph::{Link, View, fee};
+use lgm_graph::{Edge, View, fee};
 use std::alloc::{AllocError, Global};
 
 /// The point of a node's number.
@@ -23,15 +23,15 @@ fn point_at(view: &View, number: u32) -> Point
 }
 
 /// The hop over one edge.
-fn hop_over(view: &View, link: &Link, amount: u64, expiry: u32) -> Hop
-    requires from { link.now.from < length view.now.points }
-    requires to { link.now.to < length view.now.points }
-    ensures { result ≡ hop_over view.now link.now amount expiry }
+fn hop_over(view: &View, edge: &Edge, amount: u64, expiry: u32) -> Hop
+    requires from { edge.now.from < length view.now.points }
+    requires to { edge.now.to < length view.now.points }
+    ensures { result ≡ hop_over view.now edge.now amount expiry }
 {
     Hop {
-        scid: link.scid,
-        from: point_at(view, link.from),
-        to: point_at(view, link.to),
+        scid: edge.scid,
+        from: point_at(view, edge.from),
+        to: point_at(view, edge.to),
         amount,
         expiry,
     }
@@ -42,7 +42,7 @@ pub(crate) fn hops(
     alloc: Global,
     view: &View,
     request: &Request,
-    walk: &[Link],
+    walk: &[Edge],
 ) -> Result<Vec<Hop>, AllocError>
     requires few { length walk.now ≤ 20 }
     requires expiry { request.now.expiry ≤ 498000000 }
@@ -54,11 +54,11 @@ pub(crate) fn hops(
     let mut owed = request.amount as u128;
     let mut due = request.expiry;
     for i in 0..walk.len() {
-        let link = &walk[walk.len() - 1 - i];
-        let delta = link.delta;
+        let edge = &walk[walk.len() - 1 - i];
+        let delta = edge.delta;
         let amount = owed as u64;
-        hops.push(hop_over(view, link, amount, due))?;
-        owed += fee(amount, link.base, link.millionths);
+        hops.push(hop_over(view, edge, amount, due))?;
+        owed += fee(amount, edge.base, edge.millionths);
         due += delta as u32;
     }
     hops.reverse();

@@ -3,7 +3,7 @@
 ghost use Rattle.std.specs.Prelude.{◌≡◌};
 ghost use Rattle.lgm_route.specs.inner.Searching.{Begins, first_of};
 
-use lgm_graph::{Link, View};
+use lgm_graph::{Edge, View};
 
 /// The rest of a walk from a node to the payee: its first edge, followed by the rest of another
 /// label. A label without edges is at the payee. A whole walk is stored as a label too, which owes
@@ -23,10 +23,10 @@ pub(crate) struct Label {
 }
 
 /// The first edge of a label.
-pub(crate) fn first_of<'a>(view: &'a View, labels: &[Label], label: &Label) -> &'a Link
+pub(crate) fn first_of<'a>(view: &'a View, labels: &[Label], label: &Label) -> &'a Edge
     requires { Begins view.now labels.now label.now }
     ensures { result.now ≡ first_of view.now labels.now label.now }
 {
     let node = labels[label.next].node;
-    &view.links_into(node)[label.at]
+    &view.edges_into(node)[label.at]
 }

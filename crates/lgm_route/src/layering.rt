@@ -114,7 +114,7 @@ impl<'a> Search<'a> {
         ensures { IfOk result (λ leads. AreLeadsAt self.now i leads.items) }
     {
         let label = self.label(i);
-        let edges = self.links_into(label.node);
+        let edges = self.edges_into(label.node);
         let mut leads = Vec::new(alloc);
         for at in 0..edges.len() {
             push(&mut leads, self.lead(i, &label, at, &edges[at]))?;

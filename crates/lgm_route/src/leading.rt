@@ -7,7 +7,7 @@ ghost use Rattle.lgm_route.specs.inner.State.{Extends, IsIntoAt, IsLeadAt, IsPas
 
 use crate::label::Label;
 use crate::search::Search;
-use lgm_graph::{Link, fee};
+use lgm_graph::{Edge, fee};
 use std::alloc::AllocError;
 
 /// The maximum number of edges of a rest that is extended to a longer one.
@@ -17,7 +17,7 @@ impl<'a> Search<'a> {
     /// The relaxation of a label over one edge into its node: a whole walk if the edge is the payer's, else a longer
     /// rest. None if the edge can't carry it, or if a longer rest would be too long or is pruned.
     #[inline(always)]
-    pub(crate) fn lead(&self, i: usize, label: &Label, at: usize, edge: &Link) -> Option<Label>
+    pub(crate) fn lead(&self, i: usize, label: &Label, at: usize, edge: &Edge) -> Option<Label>
         requires label { label.now ≡ label_at self.now.labels i }
         requires into { IsIntoAt self.now i at edge.now }
         ensures { IsLeadAt self.now i edge.now result }
@@ -80,7 +80,7 @@ impl<'a> Search<'a> {
         i: usize,
         label: &Label,
         at: usize,
-        edge: &Link,
+        edge: &Edge,
     ) -> Result<(), AllocError>
         requires label { label.now ≡ label_at self.old.labels i }
         requires into { IsIntoAt self.old i at edge.now }
@@ -103,7 +103,7 @@ impl<'a> Search<'a> {
         ensures left { IfOk result (λ _. IsLeftAt self.old i self.new) }
     {
         let label = self.label(i);
-        let edges = self.links_into(label.node);
+        let edges = self.edges_into(label.node);
         for at in 0..edges.len() {
             self.pass(i, &label, at, &edges[at])?;
         }
@@ -120,7 +120,7 @@ impl<'a> Search<'a> {
         for _step in 0..MOST_EDGES {
             let last = self.len();
             let label = self.label(here);
-            let edges = self.links_into(label.node);
+            let edges = self.edges_into(label.node);
             let Some(at) = self.next_edge(label.node, edges) else {
                 break;
             };
@@ -134,7 +134,7 @@ impl<'a> Search<'a> {
     }
 
     /// The index of the edge that leads to a node on the way from the payer, among those into the node.
-    fn next_edge(&self, node: u32, edges: &[Link]) -> Option<usize>
+    fn next_edge(&self, node: u32, edges: &[Edge]) -> Option<usize>
         ensures { IfSome result (λ at. at < length edges.now) }
     {
         let over = self.channel_to(node)?;

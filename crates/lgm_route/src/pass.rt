@@ -2,7 +2,7 @@
 
 ghost use Rattle.std.specs.Prelude.{◌≡◌, ◌^◌, ◌-◌, ◌<◌, ◌≤◌, ◌⊎◌, ℕ, length, IfOk, false};
 ghost use Rattle.lgm_graph.specs.Fee.{fee_of};
-ghost use Rattle.lgm_graph.specs.Graph.{links, links_leaving};
+ghost use Rattle.lgm_graph.specs.Graph.{edges, edges_leaving};
 ghost use Rattle.lgm_route.specs.inner.Searching.{number_at};
 ghost use Rattle.lgm_route.specs.inner.Bounding.{AreLow, IsLowered, IsLooked, IsRadius, is_closed};
 ghost use Rattle.lgm_route.specs.inner.Passing.{IsPass, IsSamePass, AreNear};
@@ -11,7 +11,7 @@ use crate::bounds::Bounds;
 use crate::numbered_request::NumberedRequest;
 use crate::trail::Trail;
 use lgm_gossip::Scid;
-use lgm_graph::{Link, View, fee};
+use lgm_graph::{Edge, View, fee};
 use std::alloc::{AllocError, Global};
 use std::marker::Model;
 
@@ -59,7 +59,7 @@ fn lower_at(dist: &mut Vec<u64>, closed: &mut Vec<bool>, node: usize, amount: u1
 }
 
 /// The fee of an edge for the request's amount, or 0 if the edge is the payer's own.
-fn charge(request: &NumberedRequest, edge: &Link) -> u128
+fn charge(request: &NumberedRequest, edge: &Edge) -> u128
     ensures first { edge.now.from ≡ request.now.payer → result ≡ 0 }
     ensures most { result ≤ fee_of request.now.amount edge.now.base edge.now.millionths }
     ensures low { result < 2 ^ 97 }
@@ -145,10 +145,10 @@ impl<'a> Pass<'a> {
     }
 
     /// The edges out of a node.
-    fn links_leaving(&self, node: u32) -> &'a [Link]
-        ensures { result.now ≡ links_leaving self.now.graph node }
+    fn edges_leaving(&self, node: u32) -> &'a [Edge]
+        ensures { result.now ≡ edges_leaving self.now.graph node }
     {
-        self.view.links_leaving(node)
+        self.view.edges_leaving(node)
     }
 
     /// Lowers the fees to a node, if they are higher, and returns whether they were. The node is then reached and open.
@@ -172,7 +172,7 @@ impl<'a> Pass<'a> {
     }
 
     /// Relaxes an edge out of a node to which these fees lead: lowers the fees to its end.
-    fn look(&mut self, edge: &Link, start: u64) -> Result<(), AllocError>
+    fn look(&mut self, edge: &Edge, start: u64) -> Result<(), AllocError>
         ensures same { IsSamePass self.old self.new }
         ensures looked { IfOk result (λ _. IsLooked self.old.request start edge.now
             self.old.dist self.old.closed self.new.dist self.new.closed) }
@@ -205,8 +205,8 @@ impl<'a> Pass<'a> {
         ensures { IsSamePass self.old self.new }
     {
         let start = self.fees_to(node);
-        for link in self.links_leaving(node) {
-            self.look(link, start)?;
+        for edge in self.edges_leaving(node) {
+            self.look(edge, start)?;
         }
         self.close(node);
         Ok(())
@@ -236,7 +236,7 @@ impl<'a> Pass<'a> {
             if steps.saturating_mul(EDGES) <= looked || self.is_payee(node) {
                 break;
             }
-            looked = looked.saturating_add(self.links_leaving(node).len());
+            looked = looked.saturating_add(self.edges_leaving(node).len());
             if !self.is_closed(node) {
                 self.spread(node)?;
             }
@@ -259,7 +259,7 @@ impl<'a> Pass<'a> {
     /// The fees, which up to the least of an open node are lower bounds.
     pub(crate) fn into_bounds(self) -> Bounds
         ensures long { length result ≡ length self.entry.graph.points }
-        ensures low { AreLow (links self.entry.graph) self.entry.request result }
+        ensures low { AreLow (edges self.entry.graph) self.entry.request result }
     {
         let radius = self.radius();
         let Pass { dist, trail, .. } = self;

@@ -4,7 +4,7 @@ ghost use Rattle.std.specs.Prelude.{◌≡◌, length, IfOk};
 ghost use Rattle.lgm_route.specs.inner.Searching.{IsSpelled, Spells};
 
 use crate::label::{Label, first_of};
-use lgm_graph::{Link, View};
+use lgm_graph::{Edge, View};
 use std::alloc::{AllocError, Global};
 
 /// The walk that a label represents.
@@ -13,7 +13,7 @@ pub(crate) fn rebuild(
     view: &View,
     labels: &[Label],
     found: &Label,
-) -> Result<Vec<Link>, AllocError>
+) -> Result<Vec<Edge>, AllocError>
     requires { IsSpelled view.now labels.now found.now }
     ensures { IfOk result
         (λ walk. Spells view.now labels.now found.now walk.items × (length walk.items ≡ found.now.count)) }

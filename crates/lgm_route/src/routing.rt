@@ -2,7 +2,7 @@
 
 ghost use Rattle.std.specs.Prelude.{◌≡◌, ◌⊎◌, ◌≤◌, Some, Err, IfOk};
 ghost use Rattle.std.specs.Option.{option_map};
-ghost use Rattle.lgm_graph.specs.Graph.{edges, links};
+ghost use Rattle.lgm_graph.specs.Graph.{edges, point_edges};
 ghost use Rattle.lgm_route.specs.Answers.{refusal, IsAnswer, IsFoundOver};
 ghost use Rattle.lgm_route.specs.inner.Best.{IsBestWalk, IsNumberingOf};
 ghost use Rattle.lgm_route.specs.Routes.{IsBest};
@@ -17,7 +17,7 @@ use crate::request::Request;
 use crate::route::{Hop, Route};
 use crate::search::Search;
 use crate::starting::most_sent;
-use lgm_graph::{Link, View};
+use lgm_graph::{Edge, View};
 use lgm_par::{Gate, Pool};
 use std::alloc::{AllocError, Global};
 use std::thread::Threads;
@@ -48,9 +48,9 @@ fn best_walk(
     alloc: Global,
     view: &View,
     request: &NumberedRequest,
-) -> Result<Option<Vec<Link>>, AllocError>
+) -> Result<Option<Vec<Edge>>, AllocError>
     ensures { IfOk result
-        (λ best. IsBestWalk (links view.now) request.now (option_map (λ walk. walk.items) best)) }
+        (λ best. IsBestWalk (edges view.now) request.now (option_map (λ walk. walk.items) best)) }
 {
     let mut search = begin(alloc, view, request)?;
     search.settle_best_first(alloc, usize::MAX)?;
@@ -63,9 +63,9 @@ fn best_walk_chunked<Rt: Threads + Sync, G: Gate>(
     pool: &Pool<'_, Rt, G>,
     view: &View,
     request: &NumberedRequest,
-) -> Result<Option<Vec<Link>>, AllocError>
+) -> Result<Option<Vec<Edge>>, AllocError>
     ensures { IfOk result
-        (λ best. IsBestWalk (links view.now) request.now (option_map (λ walk. walk.items) best)) }
+        (λ best. IsBestWalk (edges view.now) request.now (option_map (λ walk. walk.items) best)) }
 {
     let mut search = begin(pool.alloc, view, request)?;
     search.settle_chunked(pool)?;
@@ -77,7 +77,7 @@ fn best_walk_chunked<Rt: Threads + Sync, G: Gate>(
 fn numbering_of(view: &View, request: &Request) -> Option<NumberedRequest>
     ensures { IsNumberingOf view.now request.now result }
 {
-    // The contract of `nodes` says that the nodes of links are numbered.
+    // The contract of `nodes` says that the nodes of edges are numbered.
     let _nodes = view.nodes();
     let Some(payer) = view.node_number(&request.payer) else {
         return None;
@@ -98,15 +98,15 @@ fn hops_of(
     view: &View,
     request: &Request,
     numbered: &NumberedRequest,
-    walk: Option<Vec<Link>>,
+    walk: Option<Vec<Edge>>,
 ) -> Result<Option<Vec<Hop>>, AllocError>
     requires expiry { request.now.expiry ≤ 498000000 }
     requires numbered { IsNumberingOf view.now request.now (Some numbered.now) }
-    requires walk { IsBestWalk (links view.now) numbered.now (option_map (λ walk. walk.items) walk) }
+    requires walk { IsBestWalk (edges view.now) numbered.now (option_map (λ walk. walk.items) walk) }
     ensures { IfOk result
-        (λ best. IsBest (edges view.now) request.now (option_map (λ hops. hops.items) best)) }
+        (λ best. IsBest (point_edges view.now) request.now (option_map (λ hops. hops.items) best)) }
 {
-    // The contract of `nodes` says that the nodes of links are numbered.
+    // The contract of `nodes` says that the nodes of edges are numbered.
     let _nodes = view.nodes();
     match walk {
         None => Ok(None),
@@ -123,12 +123,12 @@ fn route_over(
     view: &View,
     request: &Request,
     numbered: &NumberedRequest,
-    walk: Option<Vec<Link>>,
+    walk: Option<Vec<Edge>>,
 ) -> Result<Route, RouteFault>
     requires expiry { request.now.expiry ≤ 498000000 }
     requires numbered { IsNumberingOf view.now request.now (Some numbered.now) }
-    requires walk { IsBestWalk (links view.now) numbered.now (option_map (λ walk. walk.items) walk) }
-    ensures { (result ≡ Err RouteFault.NoMemory) ⊎ IsFoundOver (edges view.now) request.now result }
+    requires walk { IsBestWalk (edges view.now) numbered.now (option_map (λ walk. walk.items) walk) }
+    ensures { (result ≡ Err RouteFault.NoMemory) ⊎ IsFoundOver (point_edges view.now) request.now result }
 {
     match hops_of(alloc, view, request, numbered, walk)? {
         Some(hops) => Ok(Route::from_vec(hops)),
@@ -168,7 +168,7 @@ pub fn least(alloc: Global, view: &View, request: &Request) -> Result<Route, Rou
     ensures refused { (fault : RouteFault) → refusal request.now ≡ Some fault → result ≡ Err fault }
 
     // Otherwise the answer is the best route, or that there is none, unless memory runs out.
-    ensures answer { (result ≡ Err RouteFault.NoMemory) ⊎ IsAnswer (edges view.now) request.now result }
+    ensures answer { (result ≡ Err RouteFault.NoMemory) ⊎ IsAnswer (point_edges view.now) request.now result }
 {
     if let Some(fault) = refusal(request) {
         return Err(fault);
@@ -204,7 +204,7 @@ pub fn least_chunked<Rt: Threads + Sync, G: Gate>(
     ensures refused { (fault : RouteFault) → refusal request.now ≡ Some fault → result ≡ Err fault }
 
     // Otherwise the answer is the best route, or that there is none, unless memory runs out.
-    ensures answer { (result ≡ Err RouteFault.NoMemory) ⊎ IsAnswer (edges view.now) request.now result }
+    ensures answer { (result ≡ Err RouteFault.NoMemory) ⊎ IsAnswer (point_edges view.now) request.now result }
 {
     if workers == 1 {
         return least(alloc, view, request);

@@ -1,7 +1,7 @@
 //! The search for the best walk as one value.
 
 ghost use Rattle.std.specs.Prelude.{◌≡◌, ◌^◌, ◌<◌, ◌≤◌, length, IfOk, false, slice_index_or};
-ghost use Rattle.lgm_graph.specs.Graph.{links, links_into, AreLinked};
+ghost use Rattle.lgm_graph.specs.Graph.{edges, edges_into, AreListed};
 ghost use Rattle.lgm_route.specs.inner.Bounding.{AreLow};
 ghost use Rattle.lgm_route.specs.inner.Searching.{label_at, number_at, SomeRest, SomeWalk};
 ghost use Rattle.lgm_route.specs.inner.Searching.{IsOffered, IsBetter, IsStart, StandsIn};
@@ -18,7 +18,7 @@ use crate::numbered_request::NumberedRequest;
 use crate::offering::{mark, offer};
 use crate::rebuilding::rebuild;
 use lgm_gossip::Scid;
-use lgm_graph::{Link, View};
+use lgm_graph::{Edge, View};
 use std::alloc::{AllocError, Global};
 use std::marker::Model;
 
@@ -80,9 +80,9 @@ impl<'a> Search<'a> {
         low: Bounds,
         start: u128,
     ) -> Result<Search<'a>, AllocError>
-        requires linked { AreLinked view.now }
+        requires listed { AreListed view.now }
         requires long { length low ≡ length view.now.points }
-        requires low { AreLow (links view.now) request low }
+        requires low { AreLow (edges view.now) request low }
         requires small { start ≤ 2 ^ 64 }
         ensures { IfOk result (λ search. search.ground
             ≡ record { graph = view.entry.now; request = request; low = low; start = start }) }
@@ -131,10 +131,10 @@ impl<'a> Search<'a> {
 
     /// The edges into a node.
     #[inline(always)]
-    pub(crate) fn links_into(&self, node: u32) -> &'a [Link]
-        ensures { result.now ≡ links_into self.now.ground.graph node }
+    pub(crate) fn edges_into(&self, node: u32) -> &'a [Edge]
+        ensures { result.now ≡ edges_into self.now.ground.graph node }
     {
-        self.view.links_into(node)
+        self.view.edges_into(node)
     }
 
     /// A lower bound on the fees from the payer to a node, in msat.
@@ -246,10 +246,10 @@ impl<'a> Search<'a> {
 
 impl<'a> Search<'a> {
     /// The best walk, once the search is finished, if one is usable.
-    pub(crate) fn best_walk(&self, alloc: Global) -> Result<Option<Vec<Link>>, AllocError>
+    pub(crate) fn best_walk(&self, alloc: Global) -> Result<Option<Vec<Edge>>, AllocError>
         requires finished { IsFinished self.now }
-        requires start { IsStart (links self.now.ground.graph) self.now.ground.request self.now.ground.start }
-        ensures { IfOk result (λ best. IsBestWalk (links self.now.ground.graph) self.now.ground.request
+        requires start { IsStart (edges self.now.ground.graph) self.now.ground.request self.now.ground.start }
+        ensures { IfOk result (λ best. IsBestWalk (edges self.now.ground.graph) self.now.ground.request
             (option_map (λ walk. walk.items) best)) }
     {
         match &self.best {

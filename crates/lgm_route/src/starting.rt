@@ -2,7 +2,7 @@
 
 ghost use Rattle.std.specs.Prelude.{◌^◌, ◌≤◌};
 ghost use Rattle.lgm_route.specs.inner.Searching.{IsStart};
-ghost use Rattle.lgm_graph.specs.Graph.{links, AreLinked};
+ghost use Rattle.lgm_graph.specs.Graph.{edges, AreListed};
 
 use crate::numbered_request::NumberedRequest;
 use lgm_graph::View;
@@ -10,13 +10,13 @@ use lgm_graph::View;
 /// More than any walk sends: its first edge carries at most the greatest maximum of the edges out
 /// of the payer.
 pub(crate) fn most_sent(view: &View, request: &NumberedRequest) -> u128
-    requires { AreLinked view.now }
+    requires { AreListed view.now }
     ensures low { result ≤ 2 ^ 64 }
-    ensures start { IsStart (links view.now) request.now result }
+    ensures start { IsStart (edges view.now) request.now result }
 {
     let mut most = 0;
-    for link in view.links_leaving(request.payer) {
-        let max = link.max as u128 + 1;
+    for edge in view.edges_leaving(request.payer) {
+        let max = edge.max as u128 + 1;
         if most < max {
             most = max;
         }

@@ -5,16 +5,16 @@ use Rattle.std.specs.declared.cmp.Ordering.{Ordering}
 use Rattle.std.specs.declared.cmp.Ordering.TheVariants.{Less, Greater}
 use Rattle.std.specs.Ordering.{is_lt, is_gt}
 use Rattle.lgm_store.specs.inner.Sound.{direction_cmp}
+use Rattle.lgm_graph.specs.Edges.{PointEdge}
 use Rattle.lgm_graph.specs.declared.edge.Edge.{Edge}
-use Rattle.lgm_graph.specs.declared.link.Link.{Link}
 
--- the order of an edge relative to an id and direction
-abbrev pub to_key : ℕ → Bool → Edge → Ordering
+-- the order of an edge between points relative to an id and direction
+abbrev pub to_key : ℕ → Bool → PointEdge → Ordering
 to_key id second edge = direction_cmp (edge.scid, edge.second) (id, second)
 
--- that of a link
-abbrev pub link_key : ℕ → Bool → Link → Ordering
-link_key id second link = direction_cmp (link.scid, link.second) (id, second)
+-- that of an edge between numbered nodes
+abbrev pub edge_key : ℕ → Bool → Edge → Ordering
+edge_key id second edge = direction_cmp (edge.scid, edge.second) (id, second)
 
 -- along the list the results are Less, then at most once Equal, and then Greater
 abbrev pub IsCut : {X : Type 0} → (X → Ordering) → List X → Type 0

@@ -8,16 +8,15 @@ use Rattle.std.specs.List.{list_any}
 use Rattle.lgm_check.specs.declared.row.ChannelRow.{ChannelRow}
 use Rattle.lgm_check.specs.declared.row.NodeRow.{NodeRow}
 use Rattle.lgm_graph.specs.declared.edge.Edge.{Edge}
-use Rattle.lgm_graph.specs.declared.link.Link.{Link}
-use Rattle.lgm_graph.specs.declared.nodes.Links.{Links}
+use Rattle.lgm_graph.specs.declared.nodes.Edges.{Edges}
 use Rattle.lgm_graph.specs.declared.nodes.Nodes.{Nodes}
 use Rattle.std.specs.Option.{option_map_or}
 use Rattle.lgm_store.specs.Rows.{is_point, is_banned}
-use Rattle.lgm_graph.specs.Edges.{takes_payments}
+use Rattle.lgm_graph.specs.Edges.{PointEdge, takes_payments}
 use Rattle.lgm_graph.specs.Graph.{Graph, Shows}
 
-abbrev pub links_in : Links → List Link
-links_in list = list.links.items
+abbrev pub edges_in : Edges → List Edge
+edges_in list = list.edges.items
 
 -- the graph of numbered nodes
 abbrev pub graph_in : Option (List ℕ) → Nodes → Graph
@@ -25,20 +24,20 @@ graph_in known nodes = record {
   known = known;
   points = nodes.points.keys;
   takes = nodes.takes.items;
-  into = map links_in nodes.into.items;
-  out = map links_in nodes.out.items;
+  into = map edges_in nodes.into.items;
+  out = map edges_in nodes.out.items;
 }
 
 -- numbers have 32 bits, and some edges are in the lists of both of their nodes
 pub record IsSound (graph : Graph) : Type 0 where
   pub few : length graph.points < 2 ^ 32
   pub long : length graph.takes ≡ length graph.points
-  pub edges : List Edge
+  pub edges : List PointEdge
   pub shows : Shows edges graph.points graph.into graph.out
 
--- one more link fits the capacity
-abbrev pub HasRoom : Links → Type 0
-HasRoom list = vec_len list.links < vec_capacity list.links
+-- one more edge fits the capacity
+abbrev pub HasRoom : Edges → Type 0
+HasRoom list = vec_len list.edges < vec_capacity list.edges
 
 -- this many more nodes fit the capacity
 pub record HasPlaces (more : ℕ) (nodes : Nodes) : Type 0 where
@@ -48,9 +47,9 @@ pub record HasPlaces (more : ℕ) (nodes : Nodes) : Type 0 where
   pub out : vec_len nodes.out + more ≤ vec_capacity nodes.out
 
 -- these edges are in the lists of both of their nodes
-abbrev pub ShowsIn : List Edge → Nodes → Type 0
+abbrev pub ShowsIn : List PointEdge → Nodes → Type 0
 ShowsIn edges nodes =
-    Shows edges nodes.points.keys (map links_in nodes.into.items) (map links_in nodes.out.items)
+    Shows edges nodes.points.keys (map edges_in nodes.into.items) (map edges_in nodes.out.items)
 
 -- whether each of the nodes takes payments
 abbrev pub AreFlags : (Point → Bool) → Nodes → Type 0
@@ -60,19 +59,19 @@ AreFlags takes nodes = nodes.takes.items ≡ map takes nodes.points.keys
 abbrev pub AreLookedAt : Option (List ℕ) → List NodeRow → Nodes → Type 0
 AreLookedAt known rows nodes = AreFlags (takes_payments known rows) nodes
 
--- the links into each node, and out of it
-abbrev pub AreInto : (Point → List Link) → Nodes → Type 0
-AreInto lists nodes = map links_in nodes.into.items ≡ map lists nodes.points.keys
+-- the edges into each node, and out of it
+abbrev pub AreInto : (Point → List Edge) → Nodes → Type 0
+AreInto lists nodes = map edges_in nodes.into.items ≡ map lists nodes.points.keys
 
-abbrev pub AreOut : (Point → List Link) → Nodes → Type 0
-AreOut lists nodes = map links_in nodes.out.items ≡ map lists nodes.points.keys
+abbrev pub AreOut : (Point → List Edge) → Nodes → Type 0
+AreOut lists nodes = map edges_in nodes.out.items ≡ map lists nodes.points.keys
 
--- a link of another channel
-abbrev pub is_not_of : ℕ → Link → Bool
-is_not_of id link = not (link.scid == id)
+-- an edge of another channel
+abbrev pub is_not_of : ℕ → Edge → Bool
+is_not_of id edge = not (edge.scid == id)
 
--- without a channel's links at one node
-abbrev pub closed_at : Point → ℕ → (Point → List Link) → Point → List Link
+-- without a channel's edges at one node
+abbrev pub closed_at : Point → ℕ → (Point → List Edge) → Point → List Edge
 closed_at node id lists point =
     if is_point node point then filter (is_not_of id) (lists point) else lists point
 
@@ -80,12 +79,12 @@ closed_at node id lists point =
 abbrev pub banned_at : List Point → List Point → ℕ → Bool
 banned_at points banned number = option_map_or (is_banned banned) (slice_get points number) false
 
--- a link between nodes that aren't banned
-abbrev pub is_allowed : List Point → List Point → Link → Bool
-is_allowed points banned link = not (banned_at points banned link.from || banned_at points banned link.to)
+-- an edge between nodes that aren't banned
+abbrev pub is_allowed : List Point → List Point → Edge → Bool
+is_allowed points banned edge = not (banned_at points banned edge.from || banned_at points banned edge.to)
 
--- without the links of banned nodes at one node
-abbrev pub allowed_at : Point → List Point → List Point → (Point → List Link) → Point → List Link
+-- without the edges of banned nodes at one node
+abbrev pub allowed_at : Point → List Point → List Point → (Point → List Edge) → Point → List Edge
 allowed_at node points banned lists point =
     if is_point node point then filter (is_allowed points banned) (lists point) else lists point
 

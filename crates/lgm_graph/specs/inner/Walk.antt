@@ -11,10 +11,9 @@ use Rattle.lgm_store.specs.declared.held.Held.{Held}
 use Rattle.lgm_store.specs.Held.{held_at}
 use Rattle.lgm_store.specs.Rows.{Rows, update_of}
 use Rattle.lgm_graph.specs.declared.edge.Edge.{Edge}
-use Rattle.lgm_graph.specs.declared.link.Link.{Link}
 use Rattle.lgm_graph.specs.declared.nodes.Nodes.{Nodes}
-use Rattle.lgm_graph.specs.Edges.{edge_on, takes_payments}
-use Rattle.lgm_graph.specs.Graph.{Graph, Shows, IsJoined, IsNumbered, link_of, number_of}
+use Rattle.lgm_graph.specs.Edges.{PointEdge, edge_on, takes_payments}
+use Rattle.lgm_graph.specs.Graph.{Graph, Shows, IsJoined, IsNumbered, numbered_in, number_of}
 use Rattle.lgm_graph.specs.inner.Sound.{AreLookedAt, ShowsIn}
 
 -- points keep their numbers
@@ -30,27 +29,27 @@ pub record HasNumbered (known : Option (List ℕ)) (rows : List NodeRow) (point 
   pub kept : KeepsNumbers old.points.keys new.points.keys
   pub numbered : IsNumbered new.points.keys point
   pub takes : AreLookedAt known rows old → AreLookedAt known rows new
-  pub shows : (edges : List Edge) → ShowsIn edges old → ShowsIn edges new
+  pub shows : (point_edges : List PointEdge) → ShowsIn point_edges old → ShowsIn point_edges new
 
 -- the edge of a direction of a channel
-abbrev pub edge_of_direction : List UpdateRow → ChannelRow → Bool → Option Edge
+abbrev pub edge_of_direction : List UpdateRow → ChannelRow → Bool → Option PointEdge
 edge_of_direction updates channel second =
     option_and_then (edge_on channel) (update_of updates channel.message.short_channel_id second)
 
 -- the edges of a channel
-abbrev pub edges_of_channel : List UpdateRow → ChannelRow → List Edge
+abbrev pub edges_of_channel : List UpdateRow → ChannelRow → List PointEdge
 edges_of_channel updates channel =
     option_to_list (edge_of_direction updates channel false)
     ++ option_to_list (edge_of_direction updates channel true)
 
--- the links of edges between numbered points, in order
-pub record AreLinksOf (edges : List Edge) (points : List Point) (links : List Link) : Type 0 where
-  pub joined : AllByRecursion (IsJoined points) edges
-  pub links_are : links ≡ map (link_of points) edges
+-- the edges between points, all numbered, by the numbers of their nodes, in order
+pub record AreEdgesOf (point_edges : List PointEdge) (points : List Point) (edges : List Edge) : Type 0 where
+  pub joined : AllByRecursion (IsJoined points) point_edges
+  pub edges_are : edges ≡ map (numbered_in points) point_edges
 
--- the state of the traversal with these channels still to come: the nodes of those before are numbered, and their links
--- listed. No node has links yet
-pub record HasWalked (rows : Rows) (left : List Held) (links : List Link) (graph : Graph) : Type 0 where
+-- the state of the traversal with these channels still to come: the nodes of those before are numbered, and their
+-- edges listed. No node has edges yet
+pub record HasWalked (rows : Rows) (left : List Held) (edges : List Edge) (graph : Graph) : Type 0 where
   pub done : List ChannelRow
   pub rest : List ChannelRow
   pub parts : rows.channels ≡ done ++ rest
@@ -60,4 +59,4 @@ pub record HasWalked (rows : Rows) (left : List Held) (links : List Link) (graph
       × IsNumbered graph.points channel.message.node_id_2) done
   pub takes : graph.takes ≡ map (takes_payments graph.known rows.nodes) graph.points
   pub bare : Shows [] graph.points graph.into graph.out
-  pub links_are : AreLinksOf (flat_map (edges_of_channel rows.updates) done) graph.points links
+  pub edges_are : AreEdgesOf (flat_map (edges_of_channel rows.updates) done) graph.points edges

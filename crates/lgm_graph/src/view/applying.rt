@@ -8,7 +8,6 @@ ghost use Rattle.lgm_graph.specs.inner.Applying.{IsDoneToBoth};
 
 use crate::edge::edge_on;
 use crate::known::Known;
-use crate::link::linked_if;
 use crate::nodes::Nodes;
 use crate::view::parting::parted;
 use lgm_check::BanRow;
@@ -37,14 +36,13 @@ pub(super) fn apply_update(
     let Some(channel) = map.channel(scid) else {
         return map.absorb(op);
     };
-    let edge = edge_on(&channel, &row.row());
     let (from, to) = (channel.node(second), channel.node(!second));
     let from = nodes.number_of(&from);
     let to = nodes.number_of(&to);
-    let link = linked_if(&edge, from, to);
-    nodes.reserve_links(from, to)?;
+    let edge = edge_on(&channel, &row.row(), from, to);
+    nodes.reserve_edges(from, to)?;
     map.absorb(op)?;
-    nodes.put_link(from, to, scid, second, link);
+    nodes.put_edge(from, to, scid, second, edge);
     Ok(())
 }
 

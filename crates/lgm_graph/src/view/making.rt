@@ -1,6 +1,6 @@
 //! Building the view of a map.
 //!
-//! A first traversal of the channels numbers their nodes and lists the links one after the other. Only then are the
+//! A first traversal of the channels numbers their nodes and lists the edges one after the other. Only then are the
 //! lists per node made, each of its final length.
 
 ghost use Rattle.std.specs.Prelude.{◌≡◌, ◌+◌, ◌*◌, ◌<◌, ◌≤◌, ◌^◌, ◌++◌, [], List};
@@ -8,18 +8,16 @@ ghost use Rattle.std.specs.Prelude.{length, IfOk, OnOk, option_to_list};
 ghost use Rattle.std.specs.Option.{option_and_then, option_map};
 ghost use Rattle.lgm_store.specs.Held.{update_in};
 ghost use Rattle.lgm_store.specs.Held.{held_at};
-ghost use Rattle.lgm_graph.specs.declared.edge.Edge.{Edge as AnEdge};
-ghost use Rattle.lgm_graph.specs.Edges.{edge_on};
-ghost use Rattle.lgm_graph.specs.Graph.{IsGraphOf, IsNumbered, linked, number_of};
+ghost use Rattle.lgm_graph.specs.Edges.{PointEdge, edge_on};
+ghost use Rattle.lgm_graph.specs.Graph.{IsGraphOf, IsNumbered, numbered_as, number_of};
 ghost use Rattle.lgm_graph.specs.inner.Sound.{AreLookedAt, ShowsIn};
-ghost use Rattle.lgm_graph.specs.inner.Walk.{AreLinksOf, HasNumbered, KeepsNumbers, edges_of_channel};
+ghost use Rattle.lgm_graph.specs.inner.Walk.{AreEdgesOf, HasNumbered, KeepsNumbers, edges_of_channel};
 
 use super::View;
 use super::hints::Hints;
-use super::linking::put_links;
-use crate::edge::edge_on;
+use super::listing::put_edges;
+use crate::edge::{Edge, edge_on};
 use crate::known::Known;
-use crate::link::{Link, linked};
 use crate::nodes::{Nodes, takes_payments};
 use lgm_gossip::Point;
 use lgm_store::{Held, Map};
@@ -36,11 +34,11 @@ impl View {
         map.rows_are_lawful();
         let mut nodes = Nodes::new(alloc, map.seed());
         let mut hints = Hints::new(alloc, map.count())?;
-        let mut links = Vec::with_capacity(alloc, map.count())?;
+        let mut edges = Vec::with_capacity(alloc, map.count())?;
         for held in map.channels() {
-            add_channel(alloc, &mut nodes, &mut hints, &mut links, known, map, held)?;
+            add_channel(alloc, &mut nodes, &mut hints, &mut edges, known, map, held)?;
         }
-        put_links(alloc, &mut nodes, &links)?;
+        put_edges(alloc, &mut nodes, &edges)?;
         let known = known.copy(alloc)?;
         Ok(View {
             alloc,
@@ -50,12 +48,12 @@ impl View {
     }
 }
 
-/// Numbers the nodes of a channel, and appends its links.
+/// Numbers the nodes of a channel, and appends its edges.
 fn add_channel(
     alloc: Global,
     nodes: &mut Nodes,
     hints: &mut Hints,
-    links: &mut Vec<Link>,
+    edges: &mut Vec<Edge>,
     known: &Known,
     map: &Map,
     held: &Held,
@@ -69,15 +67,15 @@ fn add_channel(
     ensures takes { OnOk result
         (AreLookedAt known.now map.now.nodes nodes.old → AreLookedAt known.now map.now.nodes nodes.new) }
     ensures bare { OnOk result (ShowsIn [] nodes.old → ShowsIn [] nodes.new) }
-    ensures links { OnOk result
-        ((edges : List AnEdge) → AreLinksOf edges nodes.old.points.keys links.old.items
-        → AreLinksOf (edges ++ edges_of_channel map.now.updates held.now.channel) nodes.new.points.keys
-        links.new.items) }
+    ensures edges { OnOk result ((point_edges : List PointEdge)
+        → AreEdgesOf point_edges nodes.old.points.keys edges.old.items
+        → AreEdgesOf (point_edges ++ edges_of_channel map.now.updates held.now.channel)
+        nodes.new.points.keys edges.new.items) }
 {
     let first = number_end(alloc, nodes, hints, known, map, *held.node(false))?;
     let second = number_end(alloc, nodes, hints, known, map, *held.node(true))?;
-    add_direction(links, held, false, first, second)?;
-    add_direction(links, held, true, second, first)?;
+    add_direction(edges, held, false, first, second)?;
+    add_direction(edges, held, true, second, first)?;
     Ok(())
 }
 
@@ -122,9 +120,9 @@ fn number(
     Ok(number)
 }
 
-/// Appends the link of a direction of a channel, if there is one.
+/// Appends the edge of a direction of a channel, if there is one.
 fn add_direction(
-    links: &mut Vec<Link>,
+    edges: &mut Vec<Edge>,
     held: &Held,
     second: bool,
     from: usize,
@@ -132,16 +130,15 @@ fn add_direction(
 ) -> Result<(), AllocError>
     requires from { from < 2 ^ 32 }
     requires to { to < 2 ^ 32 }
-    ensures { OnOk result (links.new.items ≡ links.old.items ++ option_to_list
-        (option_map (λ e. linked e from to)
+    ensures { OnOk result (edges.new.items ≡ edges.old.items ++ option_to_list
+        (option_map (λ e. numbered_as e from to)
         (option_and_then (edge_on held.now.channel) (update_in second held.now)))) }
 {
     let Some(update) = held.update(second) else {
         return Ok(());
     };
-    let Some(edge) = edge_on(&held.row(), &update) else {
-        return Ok(());
-    };
-    links.push(linked(&edge, from, to))?;
+    if let Some(edge) = edge_on(&held.row(), &update, from, to) {
+        edges.push(edge)?;
+    }
     Ok(())
 }

@@ -1,10 +1,10 @@
--- The result of the search: the best walk over numbered links, whose amount fits 64 bits.
+-- The result of the search: the best walk over numbered edges, whose amount fits 64 bits.
 use Rattle.std.specs.Prelude.{◌≡◌, ℕ, ◌<◌, ◌^◌, List, Option, Some, None, map, length, slice_index_or}
 use Rattle.std.specs.List.{AllByRecursion, position}
 use Rattle.lgm_wire.specs.declared.point.Point.{Point}
+use Rattle.lgm_graph.specs.Edges.{PointEdge}
 use Rattle.lgm_graph.specs.declared.edge.Edge.{Edge}
-use Rattle.lgm_graph.specs.declared.link.Link.{Link}
-use Rattle.lgm_graph.specs.Graph.{Graph, edge_at, edges, no_point}
+use Rattle.lgm_graph.specs.Graph.{Graph, edge_between, no_point, point_edges}
 use Rattle.lgm_store.specs.Rows.{is_point}
 use Rattle.lgm_route.specs.declared.request.Request.{Request}
 use Rattle.lgm_route.specs.declared.route.Hop.{Hop}
@@ -12,36 +12,36 @@ use Rattle.lgm_route.specs.declared.numbered_request.NumberedRequest.{NumberedRe
 use Rattle.lgm_route.specs.inner.Numbered.{sent, IsUsable, IsLeast}
 use Rattle.lgm_route.specs.Routes as routes
 
-abbrev pub IsBestWalk : List Link → NumberedRequest → Option (List Link) → Type 0
-IsBestWalk edges request None = (walk : List Link) → IsUsable edges request walk → ⊥
+abbrev pub IsBestWalk : List Edge → NumberedRequest → Option (List Edge) → Type 0
+IsBestWalk edges request None = (walk : List Edge) → IsUsable edges request walk → ⊥
 IsBestWalk edges request (Some walk) = IsLeast edges request walk × (sent request.amount walk < 2 ^ 64)
 
--- a walk over links as one over edges between points
-abbrev pub edges_in : Graph → List Link → List Edge
-edges_in graph walk = map (edge_at graph.points) walk
+-- a walk over numbered edges as one over edges between points
+abbrev pub edges_in : Graph → List Edge → List PointEdge
+edges_in graph walk = map (edge_between graph.points) walk
 
 -- the point of a number
 abbrev pub point_at : Graph → ℕ → Point
 point_at graph number = slice_index_or graph.points number no_point
 
--- the hop over a link
-abbrev pub hop_over : Graph → Link → ℕ → ℕ → Hop
-hop_over graph link amount expiry = record {
-  scid = link.scid;
-  from = point_at graph link.from;
-  to = point_at graph link.to;
+-- the hop over an edge
+abbrev pub hop_over : Graph → Edge → ℕ → ℕ → Hop
+hop_over graph edge amount expiry = record {
+  scid = edge.scid;
+  from = point_at graph edge.from;
+  to = point_at graph edge.to;
   amount = amount;
   expiry = expiry;
 }
 
--- both nodes of each link are numbered
-abbrev pub AreNumbered : Graph → List Link → Type 0
+-- both nodes of each edge are numbered
+abbrev pub AreNumbered : Graph → List Edge → Type 0
 AreNumbered graph walk =
-    AllByRecursion (λ link. (link.from < length graph.points) × (link.to < length graph.points)) walk
+    AllByRecursion (λ edge. (edge.from < length graph.points) × (edge.to < length graph.points)) walk
 
 -- a request between numbered nodes, or none, if a node has no number and so no walk is usable
 abbrev pub IsNumberingOf : Graph → Request → Option NumberedRequest → Type 0
-IsNumberingOf graph request None = (walk : List Edge) → routes.IsUsable (edges graph) request walk → ⊥
+IsNumberingOf graph request None = (walk : List PointEdge) → routes.IsUsable (point_edges graph) request walk → ⊥
 IsNumberingOf graph request (Some numbered) =
     (position (is_point request.payer) graph.points ≡ Some numbered.payer)
     × (position (is_point request.payee) graph.points ≡ Some numbered.payee) ×

@@ -2,15 +2,15 @@
 use Rattle.std.specs.Prelude.{◌≡◌, ◌⊎◌, ℕ, ◌+◌, ◌^◌, ◌-◌, ◌<◌, ◌≤◌, min, List, length}
 use Rattle.std.specs.Prelude.{map, Contains, Bool, true, slice_index_or, false}
 use Rattle.lgm_graph.specs.Fee.{fee_of}
-use Rattle.lgm_graph.specs.declared.link.Link.{Link}
+use Rattle.lgm_graph.specs.declared.edge.Edge.{Edge}
 use Rattle.lgm_route.specs.declared.numbered_request.NumberedRequest.{NumberedRequest}
 use Rattle.lgm_route.specs.inner.Searching.{number_at}
 
 -- lower bounds on what is charged from the payer to each node: over an edge they grow by at most its fee
-pub record AreLow (edges : List Link) (request : NumberedRequest) (low : List ℕ) : Type 0 where
-  pub rises : (edge : Link) → Contains edges edge → edge.min ≤ request.amount → request.amount ≤ edge.max →
+pub record AreLow (edges : List Edge) (request : NumberedRequest) (low : List ℕ) : Type 0 where
+  pub rises : (edge : Edge) → Contains edges edge → edge.min ≤ request.amount → request.amount ≤ edge.max →
       number_at low edge.to ≤ number_at low edge.from + fee_of request.amount edge.base edge.millionths
-  pub none : (edge : Link) → Contains edges edge → edge.min ≤ request.amount → request.amount ≤ edge.max
+  pub none : (edge : Edge) → Contains edges edge → edge.min ≤ request.amount → request.amount ≤ edge.max
       → edge.from ≡ request.payer → number_at low edge.to ≡ 0
 
 abbrev pub is_closed : List Bool → ℕ → Bool
@@ -27,28 +27,28 @@ pub record IsLowered (dist : List ℕ) (closed : List Bool) (node amount : ℕ) 
       → (is_closed closed other ≡ true) × (number_at after other ≡ number_at dist other)
 
 -- over the edges out of a closed node the fees grow by at most the edge's fee, and from the payer by nothing
-pub record IsSpread (edges : List Link) (request : NumberedRequest) (dist : List ℕ)
+pub record IsSpread (edges : List Edge) (request : NumberedRequest) (dist : List ℕ)
     (closed : List Bool) : Type 0 where
-  pub near : (edge : Link) → Contains edges edge → is_closed closed edge.from ≡ true
+  pub near : (edge : Edge) → Contains edges edge → is_closed closed edge.from ≡ true
       → edge.min ≤ request.amount → request.amount ≤ edge.max →
       number_at dist edge.to ≤ number_at dist edge.from + fee_of request.amount edge.base edge.millionths
-  pub first : (edge : Link) → Contains edges edge → is_closed closed edge.from ≡ true
+  pub first : (edge : Edge) → Contains edges edge → is_closed closed edge.from ≡ true
       → edge.min ≤ request.amount → request.amount ≤ edge.max →
       edge.from ≡ request.payer → number_at dist edge.to ≤ 0
   pub payer : number_at dist request.payer ≡ 0
 
 -- the fees to the edge's end are at most those to its start plus its fee, which is 0 from the payer
-pub record IsNear (request : NumberedRequest) (start nodes : ℕ) (dist : List ℕ) (edge : Link) : Type 0 where
+pub record IsNear (request : NumberedRequest) (start nodes : ℕ) (dist : List ℕ) (edge : Edge) : Type 0 where
   pub over : edge.to < nodes → edge.min ≤ request.amount → request.amount ≤ edge.max
       → number_at dist edge.to ≤ start + fee_of request.amount edge.base edge.millionths
   pub first : edge.to < nodes → edge.min ≤ request.amount → request.amount ≤ edge.max
       → edge.from ≡ request.payer → number_at dist edge.to ≤ start
 
 -- the effect of relaxing an edge
-pub record IsLooked (request : NumberedRequest) (start : ℕ) (edge : Link) (dist : List ℕ) (closed : List Bool)
+pub record IsLooked (request : NumberedRequest) (start : ℕ) (edge : Edge) (dist : List ℕ) (closed : List Bool)
     (after : List ℕ) (now : List Bool) : Type 0 where
   pub falls : (other : ℕ) → number_at after other ≤ number_at dist other
-  pub keeps : (edges : List Link) → IsSpread edges request dist closed → IsSpread edges request after now
+  pub keeps : (edges : List Edge) → IsSpread edges request dist closed → IsSpread edges request after now
   pub stays : (at : ℕ) → start ≤ number_at dist at → start ≤ number_at after at
   pub near : IsNear request start (length dist) after edge
 

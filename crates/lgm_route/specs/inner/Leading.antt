@@ -2,21 +2,21 @@
 use Rattle.std.specs.Prelude.{◌≡◌, ◌≢◌, ◌⊎◌, ℕ, ◌+◌, ◌*◌, ◌<◌, ◌≤◌, List, []}
 use Rattle.std.specs.Prelude.{◌∷◌, length, Contains, Option, Some, None}
 use Rattle.lgm_graph.specs.Fee.{fee_of}
-use Rattle.lgm_graph.specs.Graph.{Graph, links, links_into}
-use Rattle.lgm_graph.specs.declared.link.Link.{Link}
+use Rattle.lgm_graph.specs.Graph.{Graph, edges, edges_into}
+use Rattle.lgm_graph.specs.declared.edge.Edge.{Edge}
 use Rattle.lgm_route.specs.declared.numbered_request.NumberedRequest.{NumberedRequest}
 use Rattle.lgm_route.specs.declared.label.Label.{Label}
-use Rattle.lgm_route.specs.inner.Searching.{number_at, label_at, link_at, first_of, Begins, PassesOn}
+use Rattle.lgm_route.specs.inner.Searching.{number_at, label_at, edge_at, first_of, Begins, PassesOn}
 
 -- the edge is the one at the index among those into the label's node
-pub record IsInto (graph : Graph) (labels : List Label) (i at : ℕ) (edge : Link) : Type 0 where
+pub record IsInto (graph : Graph) (labels : List Label) (i at : ℕ) (edge : Edge) : Type 0 where
   pub within : i < length labels
-  pub inside : at < length (links_into graph (label_at labels i).node)
-  pub is : link_at (links_into graph (label_at labels i).node) at ≡ edge
+  pub inside : at < length (edges_into graph (label_at labels i).node)
+  pub is : edge_at (edges_into graph (label_at labels i).node) at ≡ edge
 
 -- if the edge can carry it, the label needn't be relaxed over it: the edge isn't the payer's, and a longer rest would
 -- be too long, or is pruned
-abbrev pub IsNeedless : NumberedRequest → List ℕ → ℕ → Label → Link → Type 0
+abbrev pub IsNeedless : NumberedRequest → List ℕ → ℕ → Label → Edge → Type 0
 IsNeedless request low bound label edge =
     edge.min ≤ request.amount → label.owed ≤ edge.max →
     (edge.from ≢ request.payer) ×
@@ -24,10 +24,10 @@ IsNeedless request low bound label edge =
     + number_at low edge.from) * 32 + (label.count + 1))
 
 -- the label at the index, relaxed over the edge: a walk if that is the payer's, else a longer rest
-pub record IsLed (graph : Graph) (request : NumberedRequest) (labels : List Label) (i : ℕ) (edge : Link)
+pub record IsLed (graph : Graph) (request : NumberedRequest) (labels : List Label) (i : ℕ) (edge : Edge)
     (new : Label) : Type 0 where
   pub within : i < length labels
-  pub there : Contains (links graph) edge
+  pub there : Contains (edges graph) edge
   pub to : edge.to ≡ (label_at labels i).node
   pub above_min : edge.min ≤ request.amount
   pub below_max : (label_at labels i).owed ≤ edge.max
@@ -42,7 +42,7 @@ pub record IsLed (graph : Graph) (request : NumberedRequest) (labels : List Labe
       × (new.owed ≡ (label_at labels i).owed + fee_of (label_at labels i).owed edge.base edge.millionths)
 
 -- the relaxation of the label at the index over the edge, if it is needed
-abbrev pub IsLead : Graph → NumberedRequest → List ℕ → ℕ → List Label → ℕ → Link → Option Label → Type 0
+abbrev pub IsLead : Graph → NumberedRequest → List ℕ → ℕ → List Label → ℕ → Edge → Option Label → Type 0
 IsLead graph request low bound labels i edge None = IsNeedless request low bound (label_at labels i) edge
 IsLead graph request low bound labels i edge (Some new) = IsLed graph request labels i edge new
 
@@ -57,7 +57,7 @@ IsTaken graph request start labels new after now =
     (low : List ℕ) → PassesOn graph request low start labels new.next after now (first_of graph labels new)
 
 -- one of the labels is a relaxation over the edge
-abbrev pub IsAmong : Graph → List Label → List Label → Link → Type 0
+abbrev pub IsAmong : Graph → List Label → List Label → Edge → Type 0
 IsAmong graph labels leads edge =
     (k : ℕ) × (k < length leads) × (first_of graph labels (label_at leads k) ≡ edge)
 
@@ -66,7 +66,7 @@ pub record AreLeads (graph : Graph) (request : NumberedRequest) (low : List ℕ)
     (labels : List Label) (i : ℕ) (leads : List Label) : Type 0 where
   pub led : (k : ℕ) → k < length leads
       → IsLed graph request labels i (first_of graph labels (label_at leads k)) (label_at leads k)
-  pub each : (j : ℕ) → j < length (links_into graph (label_at labels i).node) →
+  pub each : (j : ℕ) → j < length (edges_into graph (label_at labels i).node) →
       IsNeedless request low bound (label_at labels i)
-      (link_at (links_into graph (label_at labels i).node) j) ⊎
-      IsAmong graph labels leads (link_at (links_into graph (label_at labels i).node) j)
+      (edge_at (edges_into graph (label_at labels i).node) j) ⊎
+      IsAmong graph labels leads (edge_at (edges_into graph (label_at labels i).node) j)

@@ -1,8 +1,8 @@
 -- A pass from the payer as one value, and its invariant.
 use Rattle.std.specs.Prelude.{◌≡◌, ℕ, ◌<◌, List, length, Bool}
-use Rattle.lgm_graph.specs.Graph.{Graph, links, links_leaving, AreLinked}
+use Rattle.lgm_graph.specs.Graph.{Graph, edges, edges_leaving, AreListed}
 use Rattle.lgm_route.specs.declared.numbered_request.NumberedRequest.{NumberedRequest}
-use Rattle.lgm_route.specs.inner.Searching.{number_at, link_at}
+use Rattle.lgm_route.specs.inner.Searching.{number_at, edge_at}
 use Rattle.lgm_route.specs.inner.Bounding.{IsSpread, IsNear, AreReached}
 
 -- the edges and the request, the fees to each node, which nodes are closed, and which were reached
@@ -24,10 +24,10 @@ passing graph request dist closed reached = record {
 
 -- the edges out of closed nodes were relaxed, and of nodes that weren't reached nothing is known
 pub record IsPass (pass : Passing) : Type 0 where
-  pub linked : AreLinked pass.graph
+  pub listed : AreListed pass.graph
   pub nodes : length pass.graph.points ≡ length pass.dist
   pub long : length pass.closed ≡ length pass.dist
-  pub spread : IsSpread (links pass.graph) pass.request pass.dist pass.closed
+  pub spread : IsSpread (edges pass.graph) pass.request pass.dist pass.closed
   pub reached : AreReached pass.dist pass.reached
 
 -- a pass of the same edges and request
@@ -38,6 +38,6 @@ pub record IsSamePass (before after : Passing) : Type 0 where
 
 -- the edges out of a node were relaxed
 abbrev pub AreNear : Passing → ℕ → Type 0
-AreNear pass node = (j : ℕ) → j < length (links_leaving pass.graph node)
+AreNear pass node = (j : ℕ) → j < length (edges_leaving pass.graph node)
     → IsNear pass.request (number_at pass.dist node) (length pass.dist) pass.dist
-    (link_at (links_leaving pass.graph node) j)
+    (edge_at (edges_leaving pass.graph node) j)

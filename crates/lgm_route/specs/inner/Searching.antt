@@ -3,8 +3,8 @@ use Rattle.std.specs.Prelude.{◌≡◌, ◌⊎◌, ℕ, ◌+◌, ◌*◌, ◌^�
 use Rattle.std.specs.Prelude.{Contains, Option, Some, None, Bool, true, slice_index_or, false}
 use Rattle.std.specs.Ordering.{nat_cmp, is_gt}
 use Rattle.std.specs.Cmp.Lexicographic.{slice_cmp}
-use Rattle.lgm_graph.specs.Graph.{Graph, links, links_into}
-use Rattle.lgm_graph.specs.declared.link.Link.{Link}
+use Rattle.lgm_graph.specs.Graph.{Graph, edges, edges_into}
+use Rattle.lgm_graph.specs.declared.edge.Edge.{Edge}
 use Rattle.lgm_route.specs.declared.numbered_request.NumberedRequest.{NumberedRequest}
 use Rattle.lgm_route.specs.declared.label.Label.{Label}
 use Rattle.lgm_route.specs.inner.Numbered.{owed, sent, ids, IsRest, IsUsable}
@@ -13,20 +13,20 @@ use Rattle.lgm_route.specs.inner.Numbered.{owed, sent, ids, IsRest, IsUsable}
 abbrev pub NotAfter : List ℕ → List ℕ → Type 0
 NotAfter xs ys = is_gt (slice_cmp nat_cmp xs ys) ≡ false
 
-abbrev pub rest_key : NumberedRequest → List Link → List ℕ
+abbrev pub rest_key : NumberedRequest → List Edge → List ℕ
 rest_key request rest = owed request.amount rest ∷ length rest ∷ ids rest
 
-abbrev pub walk_key : NumberedRequest → List Link → List ℕ
+abbrev pub walk_key : NumberedRequest → List Edge → List ℕ
 walk_key request walk = sent request.amount walk ∷ length walk ∷ ids walk
 
 -- a rest that dominates another: it has no more edges, and isn't after it
-pub record Serves (request : NumberedRequest) (rest other : List Link) : Type 0 where
+pub record Serves (request : NumberedRequest) (rest other : List Edge) : Type 0 where
   pub fewer : length rest ≤ length other
   pub before : NotAfter (rest_key request rest) (rest_key request other)
 
--- a placeholder if a list has no link
-abbrev pub no_link : Link
-no_link =
+-- a placeholder if a list has no edge
+abbrev pub no_edge : Edge
+no_edge =
     record {
       scid = 0;
       max = 0;
@@ -39,8 +39,8 @@ no_link =
       second = false;
     }
 
-abbrev pub link_at : List Link → ℕ → Link
-link_at links i = slice_index_or links i no_link
+abbrev pub edge_at : List Edge → ℕ → Edge
+edge_at edges i = slice_index_or edges i no_edge
 
 abbrev pub no_label : Label
 no_label = record { owed = 0; next = 0; at = 0; node = 0; count = 0 }
@@ -52,16 +52,16 @@ abbrev pub number_at : List ℕ → ℕ → ℕ
 number_at numbers i = slice_index_or numbers i 0
 
 -- the first edge of a label: the one at its index among those into the node of the label after it
-abbrev pub first_of : Graph → List Label → Label → Link
-first_of graph labels label = link_at (links_into graph (label_at labels label.next).node) label.at
+abbrev pub first_of : Graph → List Label → Label → Edge
+first_of graph labels label = edge_at (edges_into graph (label_at labels label.next).node) label.at
 
 -- a label has a first edge
 pub record Begins (graph : Graph) (labels : List Label) (label : Label) : Type 0 where
   pub next : label.next < length labels
-  pub at : label.at < length (links_into graph (label_at labels label.next).node)
+  pub at : label.at < length (edges_into graph (label_at labels label.next).node)
 
 -- the edges of a label: its first one, and those of the label after it
-abbrev pub Spells : Graph → List Label → Label → List Link → Type 0
+abbrev pub Spells : Graph → List Label → Label → List Edge → Type 0
 Spells graph labels label [] = Unit {0}
 Spells graph labels label (edge ∷ rest) =
     (first_of graph labels label ≡ edge) × Begins graph labels label
@@ -69,45 +69,45 @@ Spells graph labels label (edge ∷ rest) =
 
 -- the rest that a label represents
 pub record IsLabel (graph : Graph) (request : NumberedRequest) (labels : List Label) (label : Label)
-    (rest : List Link) : Type 0 where
+    (rest : List Edge) : Type 0 where
   pub spells : Spells graph labels label rest
   pub long : length rest ≡ label.count
-  pub joins : IsRest (links graph) request label.node rest
+  pub joins : IsRest (edges graph) request label.node rest
   pub owes : owed request.amount rest ≡ label.owed
 
 -- the walk that a label represents, which owes what is sent
 pub record IsWalk (graph : Graph) (request : NumberedRequest) (labels : List Label) (label : Label)
-    (walk : List Link) : Type 0 where
+    (walk : List Edge) : Type 0 where
   pub spells : Spells graph labels label walk
   pub long : length walk ≡ label.count
   pub some : 1 ≤ label.count
   pub few : label.count ≤ 20
-  pub joins : IsRest (links graph) request request.payer walk
+  pub joins : IsRest (edges graph) request request.payer walk
   pub sends : sent request.amount walk ≡ label.owed
 
 -- a label represents as many edges as it counts
 abbrev pub IsSpelled : Graph → List Label → Label → Type 0
 IsSpelled graph labels label =
-    (rest : List Link) × Spells graph labels label rest × (length rest ≡ label.count)
+    (rest : List Edge) × Spells graph labels label rest × (length rest ≡ label.count)
 
 -- the ids of one label's edges precede or equal those of another's
 abbrev pub IdsFirst : Graph → List Label → Label → Label → Type 0
 IdsFirst graph labels label other =
-    (rest also : List Link) → Spells graph labels label rest → Spells graph labels other also →
+    (rest also : List Edge) → Spells graph labels label rest → Spells graph labels other also →
     length rest ≡ label.count → length also ≡ other.count → NotAfter (ids rest) (ids also)
 
 -- the one label's rest dominates the other's
 abbrev pub DoesServe : Graph → List Label → Label → Label → Type 0
 DoesServe graph labels label other =
-    (request : NumberedRequest) (rest also : List Link) →
+    (request : NumberedRequest) (rest also : List Edge) →
     IsLabel graph request labels label rest → IsLabel graph request labels other also
     → Serves request rest also
 
 abbrev pub SomeRest : Graph → NumberedRequest → List Label → Label → Type 0
-SomeRest graph request labels label = (rest : List Link) × IsLabel graph request labels label rest
+SomeRest graph request labels label = (rest : List Edge) × IsLabel graph request labels label rest
 
 abbrev pub SomeWalk : Graph → NumberedRequest → List Label → Label → Type 0
-SomeWalk graph request labels label = (walk : List Link) × IsWalk graph request labels label walk
+SomeWalk graph request labels label = (walk : List Edge) × IsWalk graph request labels label walk
 
 -- the bound that a better walk is below: what is sent, and then the number of edges, in one number
 abbrev pub bound_of : ℕ → Option Label → ℕ
@@ -115,51 +115,51 @@ bound_of start None = start * 32
 bound_of start (Some found) = found.owed * 32 + found.count
 
 -- the walk is no better than the best so far, or sends no less than the start of the search
-abbrev pub IsNoBetter : Graph → NumberedRequest → List Label → ℕ → Option Label → List Link → Type 0
+abbrev pub IsNoBetter : Graph → NumberedRequest → List Label → ℕ → Option Label → List Edge → Type 0
 IsNoBetter graph request labels start None walk = start ≤ sent request.amount walk
 IsNoBetter graph request labels start (Some found) walk =
-    (best : List Link) × IsWalk graph request labels found best
+    (best : List Edge) × IsWalk graph request labels found best
     × NotAfter (walk_key request best) (walk_key request walk)
 
 -- a label at the node represents a rest that dominates this one
 pub record Has (graph : Graph) (request : NumberedRequest) (labels : List Label) (node : ℕ)
-    (rest : List Link) : Type 0 where
+    (rest : List Edge) : Type 0 where
   pub place : ℕ
   pub within : place < length labels
   pub at : (label_at labels place).node ≡ node
-  pub other : List Link
+  pub other : List Edge
   pub is : IsLabel graph request labels (label_at labels place) other
   pub serves : Serves request other rest
 
 -- no walk over this rest is better than the best so far: it is pruned
-abbrev pub IsHopeless : NumberedRequest → List ℕ → ℕ → ℕ → List Link → Type 0
+abbrev pub IsHopeless : NumberedRequest → List ℕ → ℕ → ℕ → List Edge → Type 0
 IsHopeless request low bound node rest =
     bound ≤ (owed request.amount rest + number_at low node) * 32 + length rest
 
-abbrev pub Reaches : Graph → NumberedRequest → List ℕ → ℕ → List Label → Option Label → ℕ → List Link → Type 0
+abbrev pub Reaches : Graph → NumberedRequest → List ℕ → ℕ → List Label → Option Label → ℕ → List Edge → Type 0
 Reaches graph request low start labels found node rest =
     Has graph request labels node rest ⊎ IsHopeless request low (bound_of start found) node rest
 
 -- the rest was relaxed over this edge: to a walk, or else to a longer rest
 pub record IsPassed (graph : Graph) (request : NumberedRequest) (low : List ℕ) (start : ℕ)
-    (labels : List Label) (found : Option Label) (edge : Link) (rest : List Link) : Type 0 where
+    (labels : List Label) (found : Option Label) (edge : Edge) (rest : List Edge) : Type 0 where
   pub whole : edge.from ≡ request.payer → IsNoBetter graph request labels start found (edge ∷ rest)
   pub longer : length rest < 19 → Reaches graph request low start labels found edge.from (edge ∷ rest)
 
 -- over every edge into the node that can carry it
-abbrev pub IsLeft : Graph → NumberedRequest → List ℕ → ℕ → List Label → Option Label → ℕ → List Link → Type 0
+abbrev pub IsLeft : Graph → NumberedRequest → List ℕ → ℕ → List Label → Option Label → ℕ → List Edge → Type 0
 IsLeft graph request low start labels found node rest =
-    (edge : Link) → Contains (links graph) edge → edge.to ≡ node → edge.min ≤ request.amount
+    (edge : Edge) → Contains (edges graph) edge → edge.to ≡ node → edge.min ≤ request.amount
     → owed request.amount rest ≤ edge.max →
     IsPassed graph request low start labels found edge rest
 
 -- a label is pruned, or its rest or one that dominates it was relaxed
 pub record IsSettled (graph : Graph) (request : NumberedRequest) (low : List ℕ) (start : ℕ)
     (labels : List Label) (found : Option Label) (label : Label) : Type 0 where
-  pub rest : List Link
+  pub rest : List Edge
   pub is : IsLabel graph request labels label rest
   pub done : IsHopeless request low (bound_of start found) label.node rest ⊎
-      ((other : List Link) × Serves request other rest
+      ((other : List Edge) × Serves request other rest
       × IsLeft graph request low start labels found label.node other)
 
 -- the labels represent rests, the first of them the one without edges
@@ -167,14 +167,14 @@ pub record AreLabels (graph : Graph) (request : NumberedRequest) (labels : List 
   pub some : 1 ≤ length labels
   pub first : ((label_at labels 0).node ≡ request.payee) × ((label_at labels 0).count ≡ 0)
   pub sound : (i : ℕ) → i < length labels
-      → (rest : List Link) × IsLabel graph request labels (label_at labels i) rest
+      → (rest : List Edge) × IsLabel graph request labels (label_at labels i) rest
   pub few : (i : ℕ) → i < length labels → (label_at labels i).count ≤ 19
 
 -- the best walk so far is one, and sends less than the start of the search
 abbrev pub IsFound : Graph → NumberedRequest → List Label → ℕ → Option Label → Type 0
 IsFound graph request labels start None = Unit {0}
 IsFound graph request labels start (Some found) =
-    ((walk : List Link) × IsWalk graph request labels found walk) × (found.owed < start)
+    ((walk : List Edge) × IsWalk graph request labels found walk) × (found.owed < start)
 
 -- labels were added, and the best walk so far is no worse
 pub record Grows (graph : Graph) (request : NumberedRequest) (start : ℕ) (labels : List Label)
@@ -182,7 +182,7 @@ pub record Grows (graph : Graph) (request : NumberedRequest) (start : ℕ) (labe
   pub more : List Label
   pub is : after ≡ labels ++ more
   pub lower : bound_of start now ≤ bound_of start found
-  pub first : (walk : List Link) → IsNoBetter graph request labels start found walk
+  pub first : (walk : List Edge) → IsNoBetter graph request labels start found walk
       → IsNoBetter graph request after start now walk
 
 -- the better of the best walk so far and the new one
@@ -191,9 +191,9 @@ pub record IsBetter (graph : Graph) (request : NumberedRequest) (labels : List L
   pub found_is : IsFound graph request labels start now
   pub lower : bound_of start now ≤ bound_of start found
   pub below : bound_of start now ≤ new.owed * 32 + new.count
-  pub keeps : (walk : List Link) → IsNoBetter graph request labels start found walk
+  pub keeps : (walk : List Edge) → IsNoBetter graph request labels start found walk
       → IsNoBetter graph request labels start now walk
-  pub takes : (walk : List Link) → IsWalk graph request labels new walk
+  pub takes : (walk : List Edge) → IsWalk graph request labels new walk
       → IsNoBetter graph request labels start now walk
 
 -- there is a label that dominates the new one
@@ -202,13 +202,13 @@ pub record IsOffered (graph : Graph) (request : NumberedRequest) (labels : List 
   pub labelled : AreLabels graph request after
   pub more : List Label
   pub is : after ≡ labels ++ more
-  pub has : (rest : List Link) → IsLabel graph request labels new rest → Has graph request after new.node rest
+  pub has : (rest : List Edge) → IsLabel graph request labels new rest → Has graph request after new.node rest
 
 -- the label was relaxed over the edge, if that can carry it
 abbrev pub PassesOn : Graph → NumberedRequest → List ℕ → ℕ → List Label → ℕ → List Label → Option Label
-    → Link → Type 0
+    → Edge → Type 0
 PassesOn graph request low start labels i after now edge =
-    (rest : List Link) → IsLabel graph request labels (label_at labels i) rest →
+    (rest : List Edge) → IsLabel graph request labels (label_at labels i) rest →
     edge.to ≡ (label_at labels i).node → edge.min ≤ request.amount → owed request.amount rest ≤ edge.max →
     IsPassed graph request low start after now edge rest
 
@@ -216,7 +216,7 @@ PassesOn graph request low start labels i after now edge =
 abbrev pub LeadsOn : Graph → NumberedRequest → List ℕ → ℕ → List Label → ℕ → List Label
     → Option Label → Type 0
 LeadsOn graph request low start labels i after now =
-    (rest : List Link) → IsLabel graph request labels (label_at labels i) rest
+    (rest : List Edge) → IsLabel graph request labels (label_at labels i) rest
     → IsLeft graph request low start after now (label_at labels i).node rest
 
 -- the index is marked, and no other that wasn't
@@ -240,10 +240,10 @@ abbrev pub StandsIn : Graph → List Label → ℕ → ℕ → Type 0
 StandsIn graph labels i place = IsServer graph labels (label_at labels i) place
 
 -- if some walk is usable, one sends less than this
-abbrev pub IsStart : List Link → NumberedRequest → ℕ → Type 0
+abbrev pub IsStart : List Edge → NumberedRequest → ℕ → Type 0
 IsStart edges request start =
-    (walk : List Link) → IsUsable edges request walk
-    → (other : List Link) × IsUsable edges request other × (sent request.amount other < start)
+    (walk : List Edge) → IsUsable edges request walk
+    → (other : List Edge) × IsUsable edges request other × (sent request.amount other < start)
 
 -- every marked label is settled
 abbrev pub AreSettled : Graph → NumberedRequest → List ℕ → ℕ → List Label → Option Label → List Bool → Type 0
@@ -252,6 +252,6 @@ AreSettled graph request low start labels found done =
     → (i < length labels) × IsSettled graph request low start labels found (label_at labels i)
 
 -- what is owed at the edges after each edge fits 64 bits
-abbrev pub AreCarried : ℕ → List Link → Type 0
+abbrev pub AreCarried : ℕ → List Edge → Type 0
 AreCarried amount [] = Unit {0}
 AreCarried amount (edge ∷ rest) = (owed amount rest < 2 ^ 64) × AreCarried amount rest

@@ -1,7 +1,7 @@
 -- A search as one value: its input, and its state.
 use Rattle.std.specs.Prelude.{◌≡◌, ℕ, ◌^◌, ◌≤◌, List, length, Option, Bool, true, false, slice_index_or}
-use Rattle.lgm_graph.specs.Graph.{Graph, links, AreLinked}
-use Rattle.lgm_graph.specs.declared.link.Link.{Link}
+use Rattle.lgm_graph.specs.Graph.{Graph, edges, AreListed}
+use Rattle.lgm_graph.specs.declared.edge.Edge.{Edge}
 use Rattle.lgm_route.specs.declared.numbered_request.NumberedRequest.{NumberedRequest}
 use Rattle.lgm_route.specs.declared.label.Label.{Label}
 use Rattle.lgm_route.specs.inner.Numbered.{IsUsable}
@@ -33,9 +33,9 @@ state_of graph request low start labels best done = record {
 }
 
 pub record IsGround (ground : Ground) : Type 0 where
-  pub linked : AreLinked ground.graph
+  pub listed : AreListed ground.graph
   pub long : length ground.low ≡ length ground.graph.points
-  pub low : AreLow (links ground.graph) ground.request ground.low
+  pub low : AreLow (edges ground.graph) ground.request ground.low
   pub small : ground.start ≤ 2 ^ 64
 
 -- labels represent rests, the best walk is one, and marked labels are settled
@@ -68,11 +68,11 @@ abbrev pub IsMarkedAt : State → ℕ → Type 0
 IsMarkedAt state i = slice_index_or state.done i false ≡ true
 
 -- the edge is the one at the index among those into the label's node
-abbrev pub IsIntoAt : State → ℕ → ℕ → Link → Type 0
+abbrev pub IsIntoAt : State → ℕ → ℕ → Edge → Type 0
 IsIntoAt state i at edge = IsInto state.ground.graph state.labels i at edge
 
 -- the relaxation of the label at the index over the edge, if it is needed
-abbrev pub IsLeadAt : State → ℕ → Link → Option Label → Type 0
+abbrev pub IsLeadAt : State → ℕ → Edge → Option Label → Type 0
 IsLeadAt state i edge lead =
     IsLead state.ground.graph state.ground.request state.ground.low (bound_in state) state.labels i edge lead
 
@@ -82,7 +82,7 @@ AreLeadsAt state i leads =
     AreLeads state.ground.graph state.ground.request state.ground.low (bound_in state) state.labels i leads
 
 -- the label was relaxed over the edge, if that can carry it
-abbrev pub IsPassedOn : State → ℕ → Link → State → Type 0
+abbrev pub IsPassedOn : State → ℕ → Edge → State → Type 0
 IsPassedOn before i edge after =
     PassesOn before.ground.graph before.ground.request before.ground.low before.ground.start before.labels i
     after.labels after.best edge
@@ -90,7 +90,7 @@ IsPassedOn before i edge after =
 -- no usable walk is better than the best
 abbrev pub IsFinished : State → Type 0
 IsFinished state =
-    (walk : List Link) → IsUsable (links state.ground.graph) state.ground.request walk →
+    (walk : List Edge) → IsUsable (edges state.ground.graph) state.ground.request walk →
     IsNoBetter state.ground.graph state.ground.request state.labels state.ground.start state.best walk
 
 -- the label was relaxed over all edges into its node
@@ -103,4 +103,4 @@ IsLeftAt before i after =
 pub record IsBegun (graph : Graph) (request : NumberedRequest) (state : State) : Type 0 where
   pub graph_is : state.ground.graph ≡ graph
   pub request_is : state.ground.request ≡ request
-  pub start : IsStart (links state.ground.graph) state.ground.request state.ground.start
+  pub start : IsStart (edges state.ground.graph) state.ground.request state.ground.start

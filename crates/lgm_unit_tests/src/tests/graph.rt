@@ -1,8 +1,8 @@
 //! `lgm_graph`: edges as operations change them, and what a view tells of them.
 
-use super::made::{FREE, channel, node, point, update};
+use super::made::{FREE, Terms, ban, channel, node, point, update};
 use lgm_gossip::{Point, Scid};
-use lgm_graph::{Known, Network, View, fee};
+use lgm_graph::{Edge, Known, Network, View, fee};
 use lgm_store::{Map, Op};
 use std::alloc::{AllocError, Global};
 use std::test::Fail;
@@ -24,12 +24,17 @@ fn event(alloc: Global, step: u8) -> Result<Op, AllocError> {
     }
 }
 
-/// How many edges there are once the network has absorbed one more operation.
-fn edges_after(network: &mut Network, op: &Op) -> Result<usize, AllocError> {
+/// The network absorbs one more operation.
+fn absorb(network: &mut Network, op: &Op) -> Result<(), AllocError> {
     if network.view().nodes() > 4_294_967_290 {
         return Err(AllocError);
     }
-    network.absorb(op)?;
+    network.absorb(op)
+}
+
+/// How many edges there are once the network has absorbed one more operation.
+fn edges_after(network: &mut Network, op: &Op) -> Result<usize, AllocError> {
+    absorb(network, op)?;
     Ok(network.view().edge_count())
 }
 
@@ -59,7 +64,7 @@ fn one_way(alloc: Global) -> Result<Network, AllocError> {
 /// The ends of the edge at a place, and whether it leaves the channel's second node.
 fn ends_of(view: &View, place: usize) -> Option<(Point, Point, bool)> {
     let edge = view.edge(place)?;
-    Some((edge.from, edge.to, edge.second))
+    Some((*view.point(edge.from)?, *view.point(edge.to)?, edge.second))
 }
 
 #[test]
@@ -70,9 +75,178 @@ fn an_edge_joins_its_points(rt: HostRuntime) -> Result<(), Fail> {
     assert!(rt; ends_of(view, 1).is_none());
     assert_eq!(rt; view.node_number(&point(3)), Some(1));
     assert!(rt; view.point(1) == Some(&point(3)));
-    assert_eq!(rt; view.links_into(0).len(), 1);
-    assert_eq!(rt; view.links_leaving(1).len(), 1);
+    assert_eq!(rt; view.edges_into(0).len(), 1);
+    assert_eq!(rt; view.edges_leaving(1).len(), 1);
     assert!(rt; view.takes_payments(0));
+    Ok(())
+}
+
+/// An operation, with each channel named by its block and its place there.
+#[derive(Clone, Copy)]
+enum Step {
+    /// A channel between two nodes.
+    Channel((u32, u32), (u16, u16)),
+    /// An update of a direction, with the greatest amount that it forwards, in msat.
+    Update((u32, u32), u8, u64),
+    /// The announcement of a node.
+    Node(u16),
+    Close((u32, u32)),
+    Ban([u16; 4]),
+}
+
+/// The greatest amount of an update that asks for nothing, in msat.
+const MOST: u64 = FREE.max;
+
+/// One direction, and then one with a lower maximum.
+const LOWERED: [Step; 3] = [
+    Step::Channel((600_000, 0), (10, 11)),
+    Step::Update((600_000, 0), 0, 50_000),
+    Step::Update((600_000, 0), 0, 49_999),
+];
+
+/// A channel both ways, one behind it, and two beside them.
+const BESIDE: [Step; 9] = [
+    Step::Channel((600_000, 0), (10, 11)),
+    Step::Update((600_000, 0), 0, MOST),
+    Step::Update((600_000, 0), 1, MOST),
+    Step::Channel((600_001, 0), (11, 12)),
+    Step::Update((600_001, 0), 0, MOST),
+    Step::Channel((600_009, 0), (10, 12)),
+    Step::Update((600_009, 0), 0, MOST),
+    Step::Channel((600_008, 0), (10, 12)),
+    Step::Update((600_008, 0), 0, MOST),
+];
+
+/// Channels without updates, closed between announcements of their node.
+const CLOSED: [Step; 6] = [
+    Step::Channel((1, 0), (10, 11)),
+    Step::Channel((2, 0), (11, 12)),
+    Step::Node(11),
+    Step::Close((1, 0)),
+    Step::Node(11),
+    Step::Close((2, 0)),
+];
+
+/// A ban of the nodes of channels without updates, and then a channel of a node that lost its own.
+const BANNED: [Step; 6] = [
+    Step::Channel((1, 0), (10, 11)),
+    Step::Channel((2, 0), (11, 12)),
+    Step::Node(12),
+    Step::Ban([10, 11, 1, 10]),
+    Step::Channel((3, 0), (2, 12)),
+    Step::Node(12),
+];
+
+/// The same with updates, and one that isn't banned.
+const BANNED_EDGES: [Step; 8] = [
+    Step::Channel((1, 0), (10, 11)),
+    Step::Update((1, 0), 0, MOST),
+    Step::Channel((2, 0), (11, 12)),
+    Step::Update((2, 0), 1, MOST),
+    Step::Channel((3, 0), (2, 12)),
+    Step::Update((3, 0), 0, MOST),
+    Step::Update((3, 0), 1, MOST),
+    Step::Ban([10, 11, 1, 10]),
+];
+
+/// The operation of a step.
+fn operation(alloc: Global, step: Step) -> Result<Op, AllocError> {
+    match step {
+        Step::Channel((block, place), nodes) => {
+            channel(alloc, Scid::new(block, place, 0), nodes, 100_000, &[])
+        }
+        Step::Update((block, place), direction, max) => {
+            update(
+                alloc,
+                Scid::new(block, place, 0),
+                direction,
+                &Terms { max, ..FREE },
+            )
+        }
+        Step::Node(number) => node(alloc, number, &[]),
+        Step::Close((block, place)) => Ok(Op::Close(Scid::new(block, place, 0))),
+        Step::Ban(nodes) => ban(alloc, nodes),
+    }
+}
+
+/// Whether an edge of one view and an edge of another have the same terms and are between the same points.
+fn is_same(view: &View, edge: &Edge, other_view: &View, other: &Edge) -> bool {
+    let from = view.point(edge.from);
+    let to = view.point(edge.to);
+    from.is_some()
+        && to.is_some()
+        && from == other_view.point(other.from)
+        && to == other_view.point(other.to)
+        && edge.scid == other.scid
+        && edge.second == other.second
+        && (edge.base, edge.millionths) == (other.base, other.millionths)
+        && (edge.delta, edge.min, edge.max) == (other.delta, other.min, other.max)
+}
+
+/// Whether a view has an edge of another view.
+fn has(view: &View, other_view: &View, other: &Edge) -> bool {
+    for place in 0..view.edge_count() {
+        if let Some(edge) = view.edge(place) {
+            if is_same(view, edge, other_view, other) {
+                return true;
+            }
+        }
+    }
+    false
+}
+
+/// Whether a view has each edge of another view, whose last is the one before the number of its edges.
+fn has_each(view: &View, other: &View) -> bool {
+    for place in 0..other.edge_count() {
+        match other.edge(place) {
+            Some(edge) => {
+                if !has(view, other, edge) {
+                    return false;
+                }
+            }
+            None => return false,
+        }
+    }
+    other.edge(other.edge_count()).is_none()
+}
+
+/// Whether a view has the edges of one that is made of the map, and no others.
+pub fn is_as_made(
+    alloc: Global,
+    view: &View,
+    map: &Map,
+    known: &Known,
+) -> Result<bool, AllocError> {
+    if map.count() > 2_000_000_000 {
+        return Err(AllocError);
+    }
+    let made = View::of(alloc, map, known)?;
+    let count = view.edge_count() == made.edge_count();
+    Ok(count && has_each(view, &made) && has_each(&made, view))
+}
+
+/// Whether the network's view is as one that is made of its map after each step, and how many edges it has in the end.
+fn kept_edges(alloc: Global, steps: &[Step]) -> Result<(bool, usize), AllocError> {
+    let known = Known::all();
+    let mut network = Network::new(alloc, &known)?;
+    let mut same = true;
+    for step in steps {
+        absorb(&mut network, &operation(alloc, *step)?)?;
+        same = is_as_made(alloc, network.view(), network.map(), &known)? && same;
+    }
+    Ok((same, network.view().edge_count()))
+}
+
+#[test]
+fn the_kept_view_and_a_view_of_the_committed_map_have_the_same_edges(
+    rt: HostRuntime,
+) -> Result<(), Fail> {
+    let alloc = rt.alloc();
+    assert_eq!(rt; kept_edges(alloc, &LOWERED)?, (true, 1));
+    assert_eq!(rt; kept_edges(alloc, &BESIDE)?, (true, 5));
+    assert_eq!(rt; kept_edges(alloc, &CLOSED)?, (true, 0));
+    assert_eq!(rt; kept_edges(alloc, &BANNED)?, (true, 0));
+    assert_eq!(rt; kept_edges(alloc, &BANNED_EDGES)?, (true, 2));
     Ok(())
 }
 

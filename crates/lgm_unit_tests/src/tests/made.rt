@@ -3,7 +3,7 @@
 ghost use Rattle.std.specs.Prelude.{IfOk};
 ghost use Rattle.lgm_gossip.specs.Message.{Wire};
 
-use lgm_check::{ChannelRow, NodeRow, UpdateRow};
+use lgm_check::{BanRow, ChannelRow, NodeRow, UpdateRow};
 use lgm_gossip::{
     Announce, Bytes, ChainHash, ChannelUpdate, Lent, Message, NodeAnnounce, Point, Scid, Signature,
     encode,
@@ -120,4 +120,16 @@ pub fn node(alloc: Global, number: u16, features: &[u8]) -> Result<Op, AllocErro
     let raw = Lent::new(bytes.as_slice());
     let kept = KeptNode::of(alloc, &NodeRow { message, raw })?;
     Ok(Op::Node(Shared::new(alloc, kept)?))
+}
+
+/// A ban of four nodes: those of the channel that a map holds, and those of the conflicting one.
+pub fn ban(alloc: Global, nodes: [u16; 4]) -> Result<Op, AllocError> {
+    let [held1, held2, new1, new2] = nodes;
+    let row = BanRow {
+        held1: point(held1),
+        held2: point(held2),
+        new1: point(new1),
+        new2: point(new2),
+    };
+    Ok(Op::Ban(Shared::new(alloc, row)?))
 }

@@ -12,7 +12,7 @@ overflow_cast-amount c =
 pub loop-i-preserved : goal.loop-i-preserved
 loop-i-preserved c =
     let walk = c.args.walk.now in
-    let link = c.index-walk-walk.result in
+    let edge = c.index-walk-walk.result in
     hops_more c.args.view.now c.args.request.now walk c.loop-i.i c.loop-i.owed c.loop-i.due
-    c.loop-i.hops.items c.push.new.self.items link link c.hop_over.result c.fee-owed.result
+    c.loop-i.hops.items c.push.new.self.items edge edge c.hop_over.result c.fee-owed.result
     c.loop-i-test.true c.index-walk-walk.is (omega arith) c.hop_over.ensures c.fee-owed.ensures.value c.in_ok-push.ensures.items c.loop-i.invariant

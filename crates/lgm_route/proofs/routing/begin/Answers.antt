@@ -1,5 +1,5 @@
 use Rattle.std.proofs.Common.{ap, sym, subst}
-use Rattle.lgm_graph.specs.Graph.{links}
+use Rattle.lgm_graph.specs.Graph.{edges}
 use Rattle.lgm_route.specs.inner.Searching.{IsStart}
 use Rattle.lgm_route.specs.inner.State.{Ground}
 use Rattle.lgm_route.proofs.routing.begin.Goals as goal
@@ -10,5 +10,5 @@ returns c =
     record {
       graph_is = ap (λ (g : Ground). g.graph) ground;
       request_is = ap (λ (g : Ground). g.request) ground;
-      start = subst (λ (g : Ground). IsStart (links g.graph) g.request g.start) (sym ground) c.most_sent-start.ensures.start;
+      start = subst (λ (g : Ground). IsStart (edges g.graph) g.request g.start) (sym ground) c.most_sent-start.ensures.start;
     }

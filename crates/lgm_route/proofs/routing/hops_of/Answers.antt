@@ -1,7 +1,7 @@
 use Rattle.std.proofs.Common.{◌≡◌, ◌∙◌, ℕ, List, Option, ap, sym, subst}
 use Rattle.std.specs.Option.{option_map}
-use Rattle.lgm_graph.specs.Graph.{links}
-use Rattle.lgm_graph.specs.declared.link.Link.{Link}
+use Rattle.lgm_graph.specs.Graph.{edges}
+use Rattle.lgm_graph.specs.declared.edge.Edge.{Edge}
 use Rattle.lgm_route.specs.declared.numbered_request.NumberedRequest.{NumberedRequest}
 use Rattle.lgm_route.specs.inner.Searching.{AreCarried}
 use Rattle.lgm_route.specs.inner.Best.{IsBestWalk, AreNumbered, edges_in}
@@ -12,11 +12,11 @@ use Rattle.lgm_route.proofs.HopLaws.{walk_numbered}
 use Rattle.lgm_route.proofs.routing.hops_of.Goals as goal
 
 -- the best walk of a numbered request, whose amount has two names
-best_for : (graph : _) (n : NumberedRequest) (amount : ℕ) (walk found : Option (List Link))
-    → n ≡ record { payer = n.payer; payee = n.payee; amount = amount } → walk ≡ found → IsBestWalk (links graph) n walk
-    → IsBestWalk (links graph) (record { payer = n.payer; payee = n.payee; amount = amount }) found
+best_for : (graph : _) (n : NumberedRequest) (amount : ℕ) (walk found : Option (List Edge))
+    → n ≡ record { payer = n.payer; payee = n.payee; amount = amount } → walk ≡ found → IsBestWalk (edges graph) n walk
+    → IsBestWalk (edges graph) (record { payer = n.payer; payee = n.payee; amount = amount }) found
 best_for graph n amount walk found same is best =
-    subst (IsBestWalk (links graph) _) is (subst (λ m. IsBestWalk (links graph) m walk) same best)
+    subst (IsBestWalk (edges graph) _) is (subst (λ m. IsBestWalk (edges graph) m walk) same best)
 
 pub hops-requires-clause-carried : goal.hops-requires-clause-carried
 hops-requires-clause-carried c =
@@ -28,9 +28,9 @@ hops-requires-clause-carried c =
 
 pub hops-requires-clause-ends : goal.hops-requires-clause-ends
 hops-requires-clause-ends c =
-    let best = subst (λ b. IsBestWalk (links c.args.view.now) c.args.numbered.now (option_map (λ walk. walk.items) b)) c.in-Some.is c.requires.walk in
+    let best = subst (λ b. IsBestWalk (edges c.args.view.now) c.args.numbered.now (option_map (λ walk. walk.items) b)) c.in-Some.is c.requires.walk in
     subst (AreNumbered c.args.view.now) (sym c.deref.ensures.value)
-    (walk_numbered c.args.view.now c.nodes-nodes.ensures.linked c.args.numbered.now c.in-Some.walk.items
+    (walk_numbered c.args.view.now c.nodes-nodes.ensures.listed c.args.numbered.now c.in-Some.walk.items
     c.args.numbered.now.payer best.0.usable.joins)
 
 pub returns-in-None : goal.returns-in-None
@@ -38,7 +38,7 @@ returns-in-None c =
     let none =
     best_for c.args.view.now c.args.numbered.now c.args.request.now.amount _ _
     c.requires.numbered.2 (ap (λ w. option_map (λ walk. walk.items) w) c.in-None.is) c.requires.walk in
-    none_over c.args.view.now c.nodes-nodes.ensures.linked c.args.request.now c.args.numbered.now.payer
+    none_over c.args.view.now c.nodes-nodes.ensures.listed c.args.request.now c.args.numbered.now.payer
     c.args.numbered.now.payee c.requires.numbered.0 c.requires.numbered.1 none
 
 pub returns-in_ok-hops-in-Some : goal.returns-in_ok-hops-in-Some
@@ -51,7 +51,7 @@ returns-in_ok-hops-in-Some c =
     (ap (λ w. option_map (λ walk. walk.items) w) c.in-Some.is) c.requires.walk in
     let hops = c.in_ok-hops-in-Some.hops.items in (
       over graph.points walk,
-      least_over graph c.nodes-nodes.ensures.linked request c.args.numbered.now.payer
+      least_over graph c.nodes-nodes.ensures.listed request c.args.numbered.now.payer
           c.args.numbered.now.payee c.requires.numbered.0 c.requires.numbered.1 walk least.0,
       c.in_ok-hops-in-Some.ensures ∙ ap (λ w. hops_of request (edges_in graph w)) c.deref.ensures.value,
     )

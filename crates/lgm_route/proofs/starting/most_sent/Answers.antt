@@ -1,10 +1,10 @@
 use Rattle.std.proofs.Common.{◌<◌, ℕ, length, subst, arith}
-use Rattle.lgm_route.specs.inner.Searching.{link_at}
+use Rattle.lgm_route.specs.inner.Searching.{edge_at}
 use Rattle.lgm_route.proofs.Steps.{start_of}
 use Rattle.lgm_route.proofs.starting.most_sent.Goals as goal
 
 pub returns-clause-start : goal.returns-clause-start
 returns-clause-start c =
-    start_of c.args.view.now c.loop-link.most c.args.request.now c.requires
-    (subst (λ r. (j : ℕ) → j < length r → (link_at r j).max < c.loop-link.most) c.links_leaving-link-items.ensures
-    (λ j to. c.loop-link.invariant.above j (omega (arith, to, c.loop-link-test.false))))
+    start_of c.args.view.now c.loop-edge.most c.args.request.now c.requires
+    (subst (λ r. (j : ℕ) → j < length r → (edge_at r j).max < c.loop-edge.most) c.edges_leaving-edge-items.ensures
+    (λ j to. c.loop-edge.invariant.above j (omega (arith, to, c.loop-edge-test.false))))

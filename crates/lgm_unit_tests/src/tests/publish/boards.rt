@@ -3,6 +3,7 @@
 ghost use Rattle.std.specs.Prelude.{◌≡◌};
 
 use super::{channel, scid, update};
+use crate::tests::graph::is_as_made;
 use crate::tests::made::node;
 use lgm_graph::Known;
 use lgm_publish::{Eye, Guard, Pen, board};
@@ -280,6 +281,34 @@ fn an_eye_that_was_told_and_one_that_was_not(rt: HostRuntime) -> Result<(), Fail
     assert_eq!(rt; story.copied, Some(whole));
     assert_eq!(rt; story.published, 3);
     assert!(rt; story.other == Some(0) || story.other == Some(2) || story.other == Some(3));
+    Ok(())
+}
+
+/// The version of an eye's guard, and whether its view has the edges of one that is made of its map.
+fn looks_as_made(alloc: Global, eye: Eye) -> Option<(u64, bool)> {
+    let guard = match eye.enter() {
+        Ok(guard) => guard,
+        Err(_eye) => return None,
+    };
+    let same = is_as_made(alloc, guard.view(), guard.map(), &Known::all());
+    let version = guard.version();
+    guard.leave();
+    match same {
+        Ok(same) => Some((version, same)),
+        Err(_) => None,
+    }
+}
+
+#[test]
+fn a_guard_has_the_edges_of_a_view_of_its_map(rt: HostRuntime) -> Result<(), Fail> {
+    let alloc = rt.alloc();
+    let (one, two, three) = (channel(alloc)?, update(alloc, 0)?, update(alloc, 1)?);
+    let (mut pen, mut first, _second) = pen_and_two_eyes(&rt, alloc)?;
+    publish_two(&rt, &mut pen, one, two);
+    publish_one(&rt, &mut pen, three);
+    first.learn(pen.tell());
+    assert_eq!(rt; looks_as_made(alloc, first), Some((3, true)));
+    pen.end(&rt);
     Ok(())
 }
 

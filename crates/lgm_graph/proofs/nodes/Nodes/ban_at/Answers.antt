@@ -11,7 +11,7 @@ pub returns-in-Some-clause-into : goal.returns-in-Some-clause-into
 returns-in-Some-clause-into c = λ before lists.
     let place = number_some c.args.self.now.points.keys c.args.node.now c.in-Some.number (sym c.get_index_of.ensures.index ∙ c.in-Some.is) in
     let there = rw (← place.0) at place.1 in
-    rw (c.drop_banned_at.ensures.links, lists, ← place.0)
+    rw (c.drop_banned_at.ensures.edges, lists, ← place.0)
     (map_change before (λ q ls. filter (is_allowed c.args.self.now.points.keys c.args.map.now.banned) ls)
     c.args.self.now.points.keys c.args.node.now [] c.len.ensures.unique there)
 
@@ -19,7 +19,7 @@ pub returns-in-Some-clause-out : goal.returns-in-Some-clause-out
 returns-in-Some-clause-out c = λ before lists.
     let place = number_some c.args.self.now.points.keys c.args.node.now c.in-Some.number (sym c.get_index_of.ensures.index ∙ c.in-Some.is) in
     let there = rw (← place.0) at place.1 in
-    rw (c.drop_banned_at-in-Some.ensures.links, lists, ← place.0)
+    rw (c.drop_banned_at-in-Some.ensures.edges, lists, ← place.0)
     (map_change before (λ q ls. filter (is_allowed c.args.self.now.points.keys c.args.map.now.banned) ls)
     c.args.self.now.points.keys c.args.node.now [] c.len.ensures.unique there)
 

@@ -3,48 +3,48 @@ use Rattle.std.proofs.lemmas.List.{length-map}
 use Rattle.lgm_graph.specs.Edges.{carrying, takes_payments}
 use Rattle.lgm_graph.specs.Graph.{IsGraphOf}
 use Rattle.lgm_graph.specs.inner.Sound.{graph_in}
-use Rattle.lgm_graph.specs.inner.Walk.{AreLinksOf, HasWalked}
+use Rattle.lgm_graph.specs.inner.Walk.{AreEdgesOf, HasWalked}
 use Rattle.lgm_graph.proofs.Walked.{walked_own, walked_more, walked_all}
 use Rattle.lgm_graph.proofs.view.View.of.Goals as goal
 
 pub add_channel-requires-clause-own : goal.add_channel-requires-clause-own
 add_channel-requires-clause-own c =
-    walked_own c.args.map.now c.in-Some.held.now c.next.new.self c.loop-held.links.items (graph_in c.args.known.now c.loop-held.nodes)
-    (subst (λ left. HasWalked c.args.map.now left c.loop-held.links.items
+    walked_own c.args.map.now c.in-Some.held.now c.next.new.self c.loop-held.edges.items (graph_in c.args.known.now c.loop-held.nodes)
+    (subst (λ left. HasWalked c.args.map.now left c.loop-held.edges.items
     (graph_in c.args.known.now c.loop-held.nodes)) c.in-Some.ensures.steps c.loop-held.invariant)
 
 pub loop-held-preserved : goal.loop-held-preserved
 loop-held-preserved c =
     walked_more c.args.known.now c.args.map.now c.in-Some.held.now c.next.new.self c.loop-held.nodes
-    c.add_channel.new.nodes c.loop-held.links.items c.add_channel.new.links.items
+    c.add_channel.new.nodes c.loop-held.edges.items c.add_channel.new.edges.items
     c.in_ok-add_channel.ensures.few c.in_ok-add_channel.ensures.kept c.in_ok-add_channel.ensures.first
     c.in_ok-add_channel.ensures.second c.in_ok-add_channel.ensures.takes c.in_ok-add_channel.ensures.bare
-    c.in_ok-add_channel.ensures.links
-    (subst (λ left. HasWalked c.args.map.now left c.loop-held.links.items
+    c.in_ok-add_channel.ensures.edges
+    (subst (λ left. HasWalked c.args.map.now left c.loop-held.edges.items
     (graph_in c.args.known.now c.loop-held.nodes)) c.in-Some.ensures.steps c.loop-held.invariant)
 
 pub invariant_of-result : goal.invariant_of-result
 invariant_of-result c =
     let walked = c.loop-held.invariant in
     let all = ap length walked.parts ∙ length-append walked.done walked.rest in
-    let points = c.in_ok-put_links.ensures.points in
-    let beside : IsGraphOf c.args.map.now (graph_in c.args.known.now c.put_links.new.nodes) =
-    walked_all c.args.known.now c.args.map.now c.loop-held.links.items c.loop-held.nodes c.put_links.new.nodes c.rows_are_lawful.ensures.ascend
-    (subst (λ left. HasWalked c.args.map.now left c.loop-held.links.items (graph_in c.args.known.now
-    c.loop-held.nodes)) c.in-None.ensures.steps.0 walked) points c.in_ok-put_links.ensures.takes
-    (λ edges are. c.in_ok-put_links.ensures.shows edges (subst (AreLinksOf edges c.loop-held.nodes.points.keys) (sym c.deref.ensures.value) are)) in
+    let points = c.in_ok-put_edges.ensures.points in
+    let beside : IsGraphOf c.args.map.now (graph_in c.args.known.now c.put_edges.new.nodes) =
+    walked_all c.args.known.now c.args.map.now c.loop-held.edges.items c.loop-held.nodes c.put_edges.new.nodes c.rows_are_lawful.ensures.ascend
+    (subst (λ left. HasWalked c.args.map.now left c.loop-held.edges.items (graph_in c.args.known.now
+    c.loop-held.nodes)) c.in-None.ensures.steps.0 walked) points c.in_ok-put_edges.ensures.takes
+    (λ edges are. c.in_ok-put_edges.ensures.shows edges (subst (AreEdgesOf edges c.loop-held.nodes.points.keys) (sym c.deref.ensures.value) are)) in
     record {
       few = omega (arith, c.requires, walked.few, all, ap length points);
-      long = ap length beside.takes ∙ length-map c.put_links.new.nodes.points.keys (takes_payments c.args.known.now c.args.map.now.nodes);
+      long = ap length beside.takes ∙ length-map c.put_edges.new.nodes.points.keys (takes_payments c.args.known.now c.args.map.now.nodes);
       edges = carrying c.args.map.now;
       shows = beside.shows;
     }
 
 pub returns-clause-beside : goal.returns-clause-beside
 returns-clause-beside c =
-    subst (λ k. IsGraphOf c.args.map.now (graph_in k c.put_links.new.nodes)) (sym c.in_ok-known.ensures)
-    (walked_all c.args.known.now c.args.map.now c.loop-held.links.items c.loop-held.nodes c.put_links.new.nodes c.rows_are_lawful.ensures.ascend
-    (subst (λ left. HasWalked c.args.map.now left c.loop-held.links.items
+    subst (λ k. IsGraphOf c.args.map.now (graph_in k c.put_edges.new.nodes)) (sym c.in_ok-known.ensures)
+    (walked_all c.args.known.now c.args.map.now c.loop-held.edges.items c.loop-held.nodes c.put_edges.new.nodes c.rows_are_lawful.ensures.ascend
+    (subst (λ left. HasWalked c.args.map.now left c.loop-held.edges.items
     (graph_in c.args.known.now c.loop-held.nodes)) c.in-None.ensures.steps.0 c.loop-held.invariant)
-    c.in_ok-put_links.ensures.points c.in_ok-put_links.ensures.takes
-    (λ edges are. c.in_ok-put_links.ensures.shows edges (subst (AreLinksOf edges c.loop-held.nodes.points.keys) (sym c.deref.ensures.value) are)))
+    c.in_ok-put_edges.ensures.points c.in_ok-put_edges.ensures.takes
+    (λ edges are. c.in_ok-put_edges.ensures.shows edges (subst (AreEdgesOf edges c.loop-held.nodes.points.keys) (sym c.deref.ensures.value) are)))

@@ -1,6 +1,6 @@
 use Rattle.std.proofs.Common.{◌≡◌, Bool, List, filter, length, take}
 use Rattle.lgm_wire.specs.declared.point.Point.{Point}
-use Rattle.lgm_graph.specs.declared.link.Link.{Link}
+use Rattle.lgm_graph.specs.declared.edge.Edge.{Edge}
 use Rattle.lgm_graph.specs.Edges.{takes_payments}
 use Rattle.lgm_graph.specs.inner.Sound.{is_allowed, AreInto, AreOut, AreFlags}
 use Rattle.lgm_graph.proofs.Parting.{changed_among}
@@ -13,10 +13,10 @@ invariant-loop-node l = record {
   takes_long : length l.nodes.takes.items ≡ length l.initial.nodes.takes.items;
   into_long : length l.nodes.into.items ≡ length l.initial.nodes.into.items;
   out_long : length l.nodes.out.items ≡ length l.initial.nodes.out.items;
-  into : (before : Point → List Link) → AreInto before l.initial.nodes
+  into : (before : Point → List Edge) → AreInto before l.initial.nodes
       → AreInto (changed_among (λ q ls. filter (is_allowed l.initial.nodes.points.keys l.map.banned) ls)
       (take l.node-index l.node-items) before) l.nodes;
-  out : (before : Point → List Link) → AreOut before l.initial.nodes
+  out : (before : Point → List Edge) → AreOut before l.initial.nodes
       → AreOut (changed_among (λ q ls. filter (is_allowed l.initial.nodes.points.keys l.map.banned) ls)
       (take l.node-index l.node-items) before) l.nodes;
   takes : (before : Point → Bool) → AreFlags before l.initial.nodes

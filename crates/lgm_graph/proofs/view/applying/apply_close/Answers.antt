@@ -3,7 +3,7 @@ use Rattle.lgm_store.specs.History.{absorbed}
 use Rattle.lgm_graph.specs.Edges.{takes_payments, carrying}
 use Rattle.lgm_graph.specs.inner.Sound.{closed_at}
 use Rattle.lgm_graph.proofs.Numbers.{ends_numbered, in_both}
-use Rattle.lgm_graph.proofs.Showing.{links_at}
+use Rattle.lgm_graph.proofs.Showing.{edges_at}
 use Rattle.lgm_graph.proofs.Closing.{node_closed}
 use Rattle.lgm_graph.proofs.view.applying.apply_close.Goals as goal
 
@@ -35,11 +35,11 @@ returns c = record {
       c.args.nodes.now c.close_at-2.new.self c.node-first.result c.node-second.result c.node-first.ensures c.node-second.ensures c.requires.beside
       (c.close_at-2.ensures.points ∙ c.close_at.ensures.points)
       (c.close_at-2.ensures.into
-      (closed_at c.node-first.result c.args.scid (links_at (λ e. e.to) points edges))
-      (c.close_at.ensures.into (links_at (λ e. e.to) points edges) c.requires.beside.shows.into_is))
+      (closed_at c.node-first.result c.args.scid (edges_at (λ e. e.to) points edges))
+      (c.close_at.ensures.into (edges_at (λ e. e.to) points edges) c.requires.beside.shows.into_is))
       (c.close_at-2.ensures.out
-      (closed_at c.node-first.result c.args.scid (links_at (λ e. e.from) points edges))
-      (c.close_at.ensures.out (links_at (λ e. e.from) points edges) c.requires.beside.shows.out_is))
+      (closed_at c.node-first.result c.args.scid (edges_at (λ e. e.from) points edges))
+      (c.close_at.ensures.out (edges_at (λ e. e.from) points edges) c.requires.beside.shows.out_is))
       (c.close_at-2.ensures.takes _ (c.close_at.ensures.takes (takes_payments c.args.known.now c.args.map.now.nodes) c.requires.beside.takes));
   few = search rules;
 }

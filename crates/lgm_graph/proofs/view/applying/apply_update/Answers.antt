@@ -1,8 +1,9 @@
 use Rattle.std.proofs.Common.{rules, refl, ◌∙◌, sym, ap, arith, not, length}
+use Rattle.std.specs.Option.{option_map}
 use Rattle.lgm_store.specs.Rows.{channel_of}
 use Rattle.lgm_store.specs.History.{absorbed}
 use Rattle.lgm_graph.specs.Edges.{end_of, carrying, edge_on}
-use Rattle.lgm_graph.specs.Graph.{number_of}
+use Rattle.lgm_graph.specs.Graph.{number_of, numbered_as}
 use Rattle.lgm_graph.proofs.Numbers.{ends_numbered, in_both}
 use Rattle.lgm_graph.proofs.Making.{into_long, out_long, same_points, same_into, same_out, same_shows}
 use Rattle.lgm_graph.proofs.Updating.{node_updated, into_cut, out_cut}
@@ -20,58 +21,58 @@ number_of-to-requires c =
     (ends_numbered c.args.nodes.now.points.keys c.args.map.now.channels c.scid-scid.result
     c.in-Some.channel (not c.is_second-second.result) c.requires.beside.ends (sym c.in-Some.ensures))
 
-pub linked_if-link-requires-clause-from : goal.linked_if-link-requires-clause-from
-linked_if-link-requires-clause-from c =
+pub edge_on-edge-requires-clause-from : goal.edge_on-edge-requires-clause-from
+edge_on-edge-requires-clause-from c =
     omega (arith, c.number_of-from.ensures.less, c.requires.few)
 
-pub linked_if-link-requires-clause-to : goal.linked_if-link-requires-clause-to
-linked_if-link-requires-clause-to c =
+pub edge_on-edge-requires-clause-to : goal.edge_on-edge-requires-clause-to
+edge_on-edge-requires-clause-to c =
     omega (arith, c.number_of-to.ensures.less, c.requires.few)
 
-pub reserve_links-requires-clause-from : goal.reserve_links-requires-clause-from
-reserve_links-requires-clause-from c =
+pub reserve_edges-requires-clause-from : goal.reserve_edges-requires-clause-from
+reserve_edges-requires-clause-from c =
     let long = out_long (carrying c.args.map.now) c.args.nodes.now c.requires.beside.shows in
     omega (arith, c.number_of-from.ensures.less, long)
 
-pub reserve_links-requires-clause-to : goal.reserve_links-requires-clause-to
-reserve_links-requires-clause-to c =
+pub reserve_edges-requires-clause-to : goal.reserve_edges-requires-clause-to
+reserve_edges-requires-clause-to c =
     let long = into_long (carrying c.args.map.now) c.args.nodes.now c.requires.beside.shows in
     omega (arith, c.number_of-to.ensures.less, long)
 
-pub put_link-requires-clause-from : goal.put_link-requires-clause-from
-put_link-requires-clause-from c =
-    let points = ap length (same_points c.args.nodes.now c.reserve_links.new.self c.reserve_links.ensures.same) in
+pub put_edge-requires-clause-from : goal.put_edge-requires-clause-from
+put_edge-requires-clause-from c =
+    let points = ap length (same_points c.args.nodes.now c.reserve_edges.new.self c.reserve_edges.ensures.same) in
     let long =
-    out_long (carrying c.args.map.now) c.reserve_links.new.self
-    (same_shows c.args.nodes.now c.reserve_links.new.self c.reserve_links.ensures.same
+    out_long (carrying c.args.map.now) c.reserve_edges.new.self
+    (same_shows c.args.nodes.now c.reserve_edges.new.self c.reserve_edges.ensures.same
     (carrying c.args.map.now) c.requires.beside.shows) in
     omega (arith, c.number_of-from.ensures.less, long, points)
 
-pub put_link-requires-clause-to : goal.put_link-requires-clause-to
-put_link-requires-clause-to c =
-    let points = ap length (same_points c.args.nodes.now c.reserve_links.new.self c.reserve_links.ensures.same) in
+pub put_edge-requires-clause-to : goal.put_edge-requires-clause-to
+put_edge-requires-clause-to c =
+    let points = ap length (same_points c.args.nodes.now c.reserve_edges.new.self c.reserve_edges.ensures.same) in
     let long =
-    into_long (carrying c.args.map.now) c.reserve_links.new.self
-    (same_shows c.args.nodes.now c.reserve_links.new.self c.reserve_links.ensures.same
+    into_long (carrying c.args.map.now) c.reserve_edges.new.self
+    (same_shows c.args.nodes.now c.reserve_edges.new.self c.reserve_edges.ensures.same
     (carrying c.args.map.now) c.requires.beside.shows) in
     omega (arith, c.number_of-to.ensures.less, long, points)
 
-pub put_link-requires-clause-cut_into : goal.put_link-requires-clause-cut_into
-put_link-requires-clause-cut_into c =
+pub put_edge-requires-clause-cut_into : goal.put_edge-requires-clause-cut_into
+put_edge-requires-clause-cut_into c =
     let held = ap (channel_of c.args.map.now.channels) (sym c.scid-scid.ensures) ∙ sym c.in-Some.ensures in
     let place =
     c.number_of-to.ensures.number ∙ ap (number_of c.args.nodes.now.points.keys) (c.node-to.ensures
     ∙ ap (λ b. end_of c.in-Some.channel (not b)) c.is_second-second.ensures) in
-    rw (same_into c.args.nodes.now c.reserve_links.new.self c.reserve_links.ensures.same, place, c.scid-scid.ensures, c.is_second-second.ensures)
+    rw (same_into c.args.nodes.now c.reserve_edges.new.self c.reserve_edges.ensures.same, place, c.scid-scid.ensures, c.is_second-second.ensures)
     (into_cut c.args.known.now c.args.map.now c.args.row.now c.in-Some.channel held c.rows_are_lawful.ensures.ascend _ _ _ _ c.requires.beside)
 
-pub put_link-requires-clause-cut_out : goal.put_link-requires-clause-cut_out
-put_link-requires-clause-cut_out c =
+pub put_edge-requires-clause-cut_out : goal.put_edge-requires-clause-cut_out
+put_edge-requires-clause-cut_out c =
     let held = ap (channel_of c.args.map.now.channels) (sym c.scid-scid.ensures) ∙ sym c.in-Some.ensures in
     let place =
     c.number_of-from.ensures.number ∙ ap (number_of c.args.nodes.now.points.keys) (c.node-from.ensures
     ∙ ap (end_of c.in-Some.channel) c.is_second-second.ensures) in
-    rw (same_out c.args.nodes.now c.reserve_links.new.self c.reserve_links.ensures.same, place, c.scid-scid.ensures, c.is_second-second.ensures)
+    rw (same_out c.args.nodes.now c.reserve_edges.new.self c.reserve_edges.ensures.same, place, c.scid-scid.ensures, c.is_second-second.ensures)
     (out_cut c.args.known.now c.args.map.now c.args.row.now c.in-Some.channel held c.rows_are_lawful.ensures.ascend _ _ _ _ c.requires.beside)
 
 pub returns-in_default : goal.returns-in_default
@@ -86,16 +87,17 @@ returns c = record {
       let held = ap (channel_of c.args.map.now.channels) (sym c.scid-scid.ensures) ∙ sym c.in-Some.ensures in
       let after = c.in_ok-absorb.ensures.ok ∙ ap (absorbed c.args.map.now) c.requires.op in
       node_updated c.args.known.now c.args.map.now c.absorb-2.new.self c.args.row.now c.in-Some.channel held c.rows_are_lawful.ensures.ascend after
-      c.args.nodes.now c.reserve_links.new.self c.put_link.new.self c.len.ensures.unique c.requires.beside c.reserve_links.ensures.same
+      c.args.nodes.now c.reserve_edges.new.self c.put_edge.new.self c.len.ensures.unique c.requires.beside c.reserve_edges.ensures.same
       c.scid-scid.result c.number_of-from.result c.number_of-to.result c.is_second-second.result
-      c.edge_on-edge.result c.linked_if-link.result c.scid-scid.ensures c.is_second-second.ensures
+      c.edge_on-edge.result c.scid-scid.ensures c.is_second-second.ensures
       (c.number_of-from.ensures.number ∙ ap (number_of c.args.nodes.now.points.keys) c.node-from.ensures)
       (c.number_of-to.ensures.number ∙ ap (number_of c.args.nodes.now.points.keys) c.node-to.ensures)
-      (c.edge_on-edge.ensures ∙ ap (edge_on c.in-Some.channel) c.row.ensures.row) c.linked_if-link.ensures
-      c.put_link.ensures.points c.put_link.ensures.takes c.put_link.ensures.into c.put_link.ensures.out;
+      (c.edge_on-edge.ensures ∙ ap (λ row. option_map (λ e. numbered_as e c.number_of-from.result c.number_of-to.result)
+      (edge_on c.in-Some.channel row)) c.row.ensures.row)
+      c.put_edge.ensures.points c.put_edge.ensures.takes c.put_edge.ensures.into c.put_edge.ensures.out;
   few =
       let points =
-      ap length (c.put_link.ensures.points
-      ∙ same_points c.args.nodes.now c.reserve_links.new.self c.reserve_links.ensures.same) in
+      ap length (c.put_edge.ensures.points
+      ∙ same_points c.args.nodes.now c.reserve_edges.new.self c.reserve_edges.ensures.same) in
       omega (arith, points);
 }

@@ -4,9 +4,9 @@ use Rattle.lgm_route.specs.inner.Passing.{IsSamePass}
 use Rattle.lgm_route.proofs.Passes.{AreNearTo}
 use Rattle.lgm_route.proofs.pass.Pass.spread.Given as goal
 
-abbrev pub invariant-loop-link : goal.invariant-loop-link
-invariant-loop-link l = record {
+abbrev pub invariant-loop-edge : goal.invariant-loop-edge
+invariant-loop-edge l = record {
   same : IsSamePass l.fn.self l.self;
   start : l.start ≤ number_at l.self.dist l.node;
-  near : AreNearTo l.fn.self l.self l.start l.link-items l.link-index;
+  near : AreNearTo l.fn.self l.self l.start l.edge-items l.edge-index;
 }

@@ -1,5 +1,5 @@
 use Rattle.std.proofs.Common.{◌≡◌, ◌<◌, ◌^◌, length, sym, subst}
-use Rattle.lgm_graph.specs.Graph.{links}
+use Rattle.lgm_graph.specs.Graph.{edges}
 use Rattle.lgm_route.specs.inner.Numbered.{sent, IsLeast}
 use Rattle.lgm_route.specs.inner.Searching.{Spells}
 use Rattle.lgm_route.specs.inner.State.{State, state_of, IsFinished}
@@ -15,5 +15,5 @@ returns-in_ok-walk-in-Some c =
     let spelled =
     subst (λ ls. Spells s.ground.graph ls c.in-Some.best walk × (length walk ≡ c.in-Some.best.count))
     c.deref.ensures.value c.in_ok-walk-in-Some.ensures in
-    subst (λ t. IsLeast (links t.ground.graph) t.ground.request walk × (sent t.ground.request.amount walk < 2 ^ 64)) c.self.view_is
+    subst (λ t. IsLeast (edges t.ground.graph) t.ground.request walk × (sent t.ground.request.amount walk < 2 ^ 64)) c.self.view_is
     (walk_least s c.in-Some.best walk c.in-Some.is c.self.invariant (subst IsFinished (sym c.self.view_is) c.requires.finished) spelled)

@@ -9,7 +9,7 @@ returns-then-edge-request c =
     let request = c.request-request.ensures in
     let amount = ap (λ r. r.amount) request in
     led s.ground.graph s.ground.request s.labels c.args.i c.args.at label.owed label c.args.edge.now
-    c.len-len.ensures.search.ground.linked c.requires.into c.requires.label
+    c.len-len.ensures.search.ground.listed c.requires.into c.requires.label
     (omega (arith, amount, c.if-request-edge.false)) (omega (arith, c.if-edge-label.false))
     (λ from. refl) (λ other. absurd (other (c.if-edge-request.true ∙ ap (λ r. r.payer) request)))
 
@@ -20,7 +20,7 @@ returns c =
     let request = c.request-request.ensures in
     let amount = ap (λ r. r.amount) request in
     led s.ground.graph s.ground.request s.labels c.args.i c.args.at _ label c.args.edge.now
-    c.len-len.ensures.search.ground.linked c.requires.into c.requires.label
+    c.len-len.ensures.search.ground.listed c.requires.into c.requires.label
     (omega (arith, amount, c.if-request-edge.false)) (omega (arith, c.if-edge-label.false))
     (λ from. absurd (c.if-edge-request.false (from ∙ ap (λ r. r.payer) (sym request))))
     (λ other. (omega (arith, c.if-label-ge-MOST_EDGES.false), ap (λ f. label.owed + f) c.fee.ensures.value))

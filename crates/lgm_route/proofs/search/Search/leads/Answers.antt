@@ -1,7 +1,7 @@
 use Rattle.std.proofs.Common.{◌≡◌, ◌+◌, ◌∙◌, ap, sym, subst, arith}
 use Rattle.std.proofs.lemmas.List.{get_or_default}
-use Rattle.lgm_graph.specs.Graph.{links_into}
-use Rattle.lgm_route.specs.inner.Searching.{link_at, no_link}
+use Rattle.lgm_graph.specs.Graph.{edges_into}
+use Rattle.lgm_route.specs.inner.Searching.{edge_at, no_edge}
 use Rattle.lgm_route.specs.inner.State.{bound_in, IsLeadAt}
 use Rattle.lgm_route.proofs.Leads.{AreLeadsTo, leads_next, leads_all}
 use Rattle.lgm_route.proofs.search.Search.leads.Goals as goal
@@ -9,10 +9,10 @@ use Rattle.lgm_route.proofs.search.Search.leads.Goals as goal
 pub loop-at-preserved : goal.loop-at-preserved
 loop-at-preserved c =
     let s = c.args.self.now in
-    let run = c.links_into-edges.result.now in
-    let same : c.index-edges-at.result ≡ link_at run c.loop-at.at =
+    let run = c.edges_into-edges.result.now in
+    let same : c.index-edges-at.result ≡ edge_at run c.loop-at.at =
     c.index-edges-at.is
-    ∙ get_or_default run c.loop-at.at c.index-edges-at.result no_link c.loop-at-test.true in
+    ∙ get_or_default run c.loop-at.at c.index-edges-at.result no_edge c.loop-at-test.true in
     subst (AreLeadsTo s.ground.graph s.ground.request s.ground.low (bound_in s) s.labels c.args.i run (c.loop-at.at + 1)) (sym c.in_ok-push.ensures)
     (leads_next s.ground.graph s.ground.request s.ground.low (bound_in s) s.labels c.args.i run c.loop-at.at
     c.loop-at.leads.items c.lead.result c.loop-at.invariant
@@ -22,6 +22,6 @@ pub returns : goal.returns
 returns c =
     let s = c.args.self.now in
     leads_all s.ground.graph s.ground.request s.ground.low (bound_in s) s.labels c.args.i
-    c.links_into-edges.result.now c.loop-at.at c.loop-at.leads.items
-    (c.links_into-edges.ensures ∙ ap (λ l. links_into s.ground.graph l.node) c.label-label.ensures.label)
+    c.edges_into-edges.result.now c.loop-at.at c.loop-at.leads.items
+    (c.edges_into-edges.ensures ∙ ap (λ l. edges_into s.ground.graph l.node) c.label-label.ensures.label)
     (omega (arith, c.loop-at-test.false)) c.loop-at.invariant

@@ -1,4 +1,4 @@
--- Each link stands with its ends, and nowhere else.
+-- Each edge stands with its ends, and nowhere else.
 use Rattle.std.proofs.Common.{◌≡◌, ◌⊎◌, inl, inr, ℕ, ◌<◌, Bool, true, false, List, [], ◌∷◌, length}
 use Rattle.std.proofs.Common.{map, get_or, zero, suc, refl, sym, ap, subst, ◌∙◌, arith, true≢false}
 use Rattle.std.specs.Prelude.{if◌then◌else◌}
@@ -8,15 +8,15 @@ use Rattle.std.proofs.lemmas.Map.Keys.{IsDistinct-head, IsDistinct-tail}
 use Rattle.lgm_wire.specs.declared.point.Point.{Point}
 use Rattle.lgm_store.specs.Rows.{is_point}
 use Rattle.lgm_store.proofs.Points.{same_point, is_point-self}
+use Rattle.lgm_graph.specs.Edges.{PointEdge}
 use Rattle.lgm_graph.specs.declared.edge.Edge.{Edge}
-use Rattle.lgm_graph.specs.declared.link.Link.{Link}
-use Rattle.lgm_graph.specs.Graph.{Graph, IsLinked, AreLinked, IsJoined, IsNumbered, number_of, no_point}
-use Rattle.lgm_graph.specs.Graph.{link_of, edge_at, links, links_into, links_leaving, links_by}
+use Rattle.lgm_graph.specs.Graph.{Graph, IsListed, AreListed, IsJoined, IsNumbered, number_of, no_point}
+use Rattle.lgm_graph.specs.Graph.{numbered_in, edge_between, edges, edges_into, edges_leaving, edges_by}
 use Rattle.lgm_graph.specs.inner.Sound.{IsSound}
 use Rattle.lgm_graph.proofs.Members.{Among, Contains-Among, Among-Contains, Among-left, Among-right, Among-either}
 use Rattle.lgm_graph.proofs.Members.{Among-passes, Among-passed, All_among, Among-mapped, Among-map}
 use Rattle.lgm_graph.proofs.Numbers.{get_number}
-use Rattle.lgm_graph.proofs.Showing.{links_at, get_links, turned}
+use Rattle.lgm_graph.proofs.Showing.{edges_at, get_edges, turned}
 
 -- ---- lists by number
 
@@ -70,15 +70,15 @@ number_at (p ∷ ps) (suc n) d distinct lt =
     at (q ∷ qs) zero all lt = all.0
     at (q ∷ qs) (suc m) all lt = at qs m all.1 (omega (arith, lt))
 
--- ---- links
+-- ---- edges
 
-module _ (points : List Point) (distinct : IsDistinct is_point points) (edges : List Edge) (joined : AllByRecursion (IsJoined points) edges) where
-  -- a link at a node is that of an edge with this end
-  pub link_at : (end : Edge → Point) (n : ℕ) (link : Link) → Among (get_or (links_by end points edges) n []) link
-      → (edge : Edge) × Among edges edge × (link_of points edge ≡ link) × (number_of points (end edge) ≡ n)
-  link_at end n link there =
-      let here = among_at (links_at end points edges) points n no_point link there in
-      let made = Among-mapped (link_of points) (filter (λ e. is_point (get_or points n no_point) (end e)) edges) link here.1 in
+module _ (points : List Point) (distinct : IsDistinct is_point points) (edges : List PointEdge) (joined : AllByRecursion (IsJoined points) edges) where
+  -- a listed edge at a node is that of an edge between points with this end
+  pub edge_at : (end : PointEdge → Point) (n : ℕ) (listed : Edge) → Among (get_or (edges_by end points edges) n []) listed
+      → (edge : PointEdge) × Among edges edge × (numbered_in points edge ≡ listed) × (number_of points (end edge) ≡ n)
+  edge_at end n listed there =
+      let here = among_at (edges_at end points edges) points n no_point listed there in
+      let made = Among-mapped (numbered_in points) (filter (λ e. is_point (get_or points n no_point) (end e)) edges) listed here.1 in
       let passed = Among-passed (λ e. is_point (get_or points n no_point) (end e)) edges made.0 made.1 in (
         made.0,
         passed.0,
@@ -87,73 +87,73 @@ module _ (points : List Point) (distinct : IsDistinct is_point points) (edges : 
             ∙ number_at points n no_point distinct here.0,
       )
 
-  -- and an edge's link is at its ends
-  pub link_there : (end : Edge → Point) (edge : Edge) → Among edges edge → IsNumbered points (end edge)
-      → Among (get_or (links_by end points edges) (number_of points (end edge)) []) (link_of points edge)
-  link_there end edge there numbered =
-      rw (get_links end points edges (end edge) numbered)
-      (Among-map (link_of points) (filter (λ e. is_point (end edge) (end e)) edges) edge
+  -- and each edge between points is listed at its ends
+  pub edge_there : (end : PointEdge → Point) (edge : PointEdge) → Among edges edge → IsNumbered points (end edge)
+      → Among (get_or (edges_by end points edges) (number_of points (end edge)) []) (numbered_in points edge)
+  edge_there end edge there numbered =
+      rw (get_edges end points edges (end edge) numbered)
+      (Among-map (numbered_in points) (filter (λ e. is_point (end edge) (end e)) edges) edge
       (Among-passes (λ e. is_point (end edge) (end e)) edges edge there (is_point-self (end edge))))
 
-  pub back_again : (edge : Edge) → IsJoined points edge → edge_at points (link_of points edge) ≡ edge
+  pub back_again : (edge : PointEdge) → IsJoined points edge → edge_between points (numbered_in points edge) ≡ edge
   back_again edge both = rw (get_number points edge.from no_point both.0, get_number points edge.to no_point both.1) refl
 
-pub are_linked : (graph : Graph) → IsDistinct is_point graph.points → IsSound graph → AreLinked graph
-are_linked graph distinct sound = record {
+pub are_listed : (graph : Graph) → IsDistinct is_point graph.points → IsSound graph → AreListed graph
+are_listed graph distinct sound = record {
   long = sound.long;
-  wide = ap length sound.shows.into_is ∙ length-map graph.points (links_at (λ e. e.to) graph.points sound.edges);
+  wide = ap length sound.shows.into_is ∙ length-map graph.points (edges_at (λ e. e.to) graph.points sound.edges);
   unique = distinct;
-  each = λ link there. each link (zipped_out graph.takes graph.into link (Among-Contains (links graph) link there));
-  into = λ n link there. into n link (Among-Contains (links_into graph n) link there);
-  leaving = λ n link there. leaving n link (Among-Contains (links_leaving graph n) link there);
+  each = λ listed there. each listed (zipped_out graph.takes graph.into listed (Among-Contains (edges graph) listed there));
+  into = λ n listed there. into n listed (Among-Contains (edges_into graph n) listed there);
+  leaving = λ n listed there. leaving n listed (Among-Contains (edges_leaving graph n) listed there);
 }
   where
     points : List Point
     points = graph.points
 
-    joined : (edge : Edge) → Among sound.edges edge → IsJoined graph.points edge
+    joined : (edge : PointEdge) → Among sound.edges edge → IsJoined graph.points edge
     joined edge there = All_among (IsJoined graph.points) sound.edges edge sound.shows.joined there
 
-    made_into : (n : ℕ) (link : Link) → Among (get_or graph.into n []) link → (edge : Edge)
-        × Among sound.edges edge × (link_of graph.points edge ≡ link) × (number_of graph.points edge.to ≡ n)
-    made_into n link there = link_at graph.points distinct sound.edges sound.shows.joined (λ e. e.to) n link (rw (sound.shows.into_is) at there)
+    made_into : (n : ℕ) (listed : Edge) → Among (get_or graph.into n []) listed → (edge : PointEdge)
+        × Among sound.edges edge × (numbered_in graph.points edge ≡ listed) × (number_of graph.points edge.to ≡ n)
+    made_into n listed there = edge_at graph.points distinct sound.edges sound.shows.joined (λ e. e.to) n listed (rw (sound.shows.into_is) at there)
 
-    made_out : (n : ℕ) (link : Link) → Among (get_or graph.out n []) link → (edge : Edge)
-        × Among sound.edges edge × (link_of graph.points edge ≡ link) × (number_of graph.points edge.from ≡ n)
-    made_out n link there = link_at graph.points distinct sound.edges sound.shows.joined (λ e. e.from) n link (rw (sound.shows.out_is) at there)
+    made_out : (n : ℕ) (listed : Edge) → Among (get_or graph.out n []) listed → (edge : PointEdge)
+        × Among sound.edges edge × (numbered_in graph.points edge ≡ listed) × (number_of graph.points edge.from ≡ n)
+    made_out n listed there = edge_at graph.points distinct sound.edges sound.shows.joined (λ e. e.from) n listed (rw (sound.shows.out_is) at there)
 
-    takes_it : (n : ℕ) (link : Link) → Among (links_into graph n) link → (get_or graph.takes n false ≡ true) × Among (get_or graph.into n []) link
-    takes_it n link there = by (get_or graph.takes n false) refl there
+    takes_it : (n : ℕ) (listed : Edge) → Among (edges_into graph n) listed → (get_or graph.takes n false ≡ true) × Among (get_or graph.into n []) listed
+    takes_it n listed there = by (get_or graph.takes n false) refl there
       where
         by : (b : Bool) → get_or graph.takes n false ≡ b
-            → Among (if get_or graph.takes n false then get_or graph.into n [] else []) link
-            → (get_or graph.takes n false ≡ true) × Among (get_or graph.into n []) link
+            → Among (if get_or graph.takes n false then get_or graph.into n [] else []) listed
+            → (get_or graph.takes n false ≡ true) × Among (get_or graph.into n []) listed
         by true e there = (e, rw e at there)
         by false e there = let none : ⊥ = rw e at there in absurd none
 
-    into : (n : ℕ) (link : Link) → Among (links_into graph n) link → (link.to ≡ n) × Contains (links graph) link
-    into n link there =
-        let is = takes_it n link there in
-        let made = made_into n link is.1 in
-        (ap (λ (l : Link). l.to) (sym made.2) ∙ made.3, Contains-Among (links graph) link (zipped_in graph.takes graph.into n link is.0 is.1))
+    into : (n : ℕ) (listed : Edge) → Among (edges_into graph n) listed → (listed.to ≡ n) × Contains (edges graph) listed
+    into n listed there =
+        let is = takes_it n listed there in
+        let made = made_into n listed is.1 in
+        (ap (λ (l : Edge). l.to) (sym made.2) ∙ made.3, Contains-Among (edges graph) listed (zipped_in graph.takes graph.into n listed is.0 is.1))
 
-    leaving : (n : ℕ) (link : Link) → Among (links_leaving graph n) link → (link.from ≡ n) × (link.to < length graph.points)
-    leaving n link there =
-        let made = made_out n link there in
-        (ap (λ (l : Link). l.from) (sym made.2) ∙ made.3, rw (← made.2) (joined made.0 made.1).1)
+    leaving : (n : ℕ) (listed : Edge) → Among (edges_leaving graph n) listed → (listed.from ≡ n) × (listed.to < length graph.points)
+    leaving n listed there =
+        let made = made_out n listed there in
+        (ap (λ (l : Edge). l.from) (sym made.2) ∙ made.3, rw (← made.2) (joined made.0 made.1).1)
 
-    each : (link : Link) → (n : ℕ) × (get_or graph.takes n false ≡ true) × Among (get_or graph.into n []) link → IsLinked graph link
-    each link place =
-        let made = made_into place.0 link place.2 in
+    each : (listed : Edge) → (n : ℕ) × (get_or graph.takes n false ≡ true) × Among (get_or graph.into n []) listed → IsListed graph listed
+    each listed place =
+        let made = made_into place.0 listed place.2 in
         let both = joined made.0 made.1 in
-        let end : link.to ≡ place.0 = ap (λ (l : Link). l.to) (sym made.2) ∙ made.3 in
-        let here : Among (links_into graph place.0) link = rw (place.1) place.2 in
-        let out : Among (get_or graph.out (number_of graph.points made.0.from) []) (link_of graph.points made.0) =
-        rw (sound.shows.out_is) (link_there graph.points distinct sound.edges sound.shows.joined (λ e. e.from) made.0 made.1 both.0) in
+        let end : listed.to ≡ place.0 = ap (λ (l : Edge). l.to) (sym made.2) ∙ made.3 in
+        let here : Among (edges_into graph place.0) listed = rw (place.1) place.2 in
+        let out : Among (get_or graph.out (number_of graph.points made.0.from) []) (numbered_in graph.points made.0) =
+        rw (sound.shows.out_is) (edge_there graph.points distinct sound.edges sound.shows.joined (λ e. e.from) made.0 made.1 both.0) in
         record {
           from = rw (← made.2) both.0;
           to = rw (← made.2) both.1;
-          there = Contains-Among (links_into graph link.to) link (subst (λ n. Among (links_into graph n) link) (sym end) here);
-          leaves = Contains-Among (links_leaving graph link.from) link (rw (← made.2) out);
-          back = rw (← made.2) (ap (link_of graph.points) (back_again graph.points distinct sound.edges sound.shows.joined made.0 both));
+          there = Contains-Among (edges_into graph listed.to) listed (subst (λ n. Among (edges_into graph n) listed) (sym end) here);
+          leaves = Contains-Among (edges_leaving graph listed.from) listed (rw (← made.2) out);
+          back = rw (← made.2) (ap (numbered_in graph.points) (back_again graph.points distinct sound.edges sound.shows.joined made.0 both));
         }
