@@ -1,5 +1,4 @@
-use Rattle.std.proofs.Common.{◌<◌, ◌≤◌, ◌∙◌, add-one, arith, length, Some, sym, ap, subst}
-use Rattle.std.specs.List.{Contains}
+use Rattle.std.proofs.Common.{◌<◌, ◌≤◌, add-one, arith, length, sym}
 use Rattle.lgm_graph.proofs.Counted.{edge_here, edge_later, edge_none}
 use Rattle.lgm_graph.proofs.view.View.edge.Goals as goal
 
