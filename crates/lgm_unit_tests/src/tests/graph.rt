@@ -81,16 +81,16 @@ fn an_edge_joins_its_points(rt: HostRuntime) -> Result<(), Fail> {
     Ok(())
 }
 
-/// An operation, with each channel named by its block and its place there.
+/// An operation, with each channel named by its block.
 #[derive(Clone, Copy)]
 enum Step {
     /// A channel between two nodes.
-    Channel((u32, u32), (u16, u16)),
+    Channel(u32, (u16, u16)),
     /// An update of a direction, with the greatest amount that it forwards, in msat.
-    Update((u32, u32), u8, u64),
+    Update(u32, u8, u64),
     /// The announcement of a node.
     Node(u16),
-    Close((u32, u32)),
+    Close(u32),
     Ban([u16; 4]),
 }
 
@@ -99,72 +99,70 @@ const MOST: u64 = FREE.max;
 
 /// One direction, and then one with a lower maximum.
 const LOWERED: [Step; 3] = [
-    Step::Channel((600_000, 0), (10, 11)),
-    Step::Update((600_000, 0), 0, 50_000),
-    Step::Update((600_000, 0), 0, 49_999),
+    Step::Channel(600_000, (10, 11)),
+    Step::Update(600_000, 0, 50_000),
+    Step::Update(600_000, 0, 49_999),
 ];
 
 /// A channel both ways, one behind it, and two beside them.
 const BESIDE: [Step; 9] = [
-    Step::Channel((600_000, 0), (10, 11)),
-    Step::Update((600_000, 0), 0, MOST),
-    Step::Update((600_000, 0), 1, MOST),
-    Step::Channel((600_001, 0), (11, 12)),
-    Step::Update((600_001, 0), 0, MOST),
-    Step::Channel((600_009, 0), (10, 12)),
-    Step::Update((600_009, 0), 0, MOST),
-    Step::Channel((600_008, 0), (10, 12)),
-    Step::Update((600_008, 0), 0, MOST),
+    Step::Channel(600_000, (10, 11)),
+    Step::Update(600_000, 0, MOST),
+    Step::Update(600_000, 1, MOST),
+    Step::Channel(600_001, (11, 12)),
+    Step::Update(600_001, 0, MOST),
+    Step::Channel(600_009, (10, 12)),
+    Step::Update(600_009, 0, MOST),
+    Step::Channel(600_008, (10, 12)),
+    Step::Update(600_008, 0, MOST),
 ];
 
 /// Channels without updates, closed between announcements of their node.
 const CLOSED: [Step; 6] = [
-    Step::Channel((1, 0), (10, 11)),
-    Step::Channel((2, 0), (11, 12)),
+    Step::Channel(1, (10, 11)),
+    Step::Channel(2, (11, 12)),
     Step::Node(11),
-    Step::Close((1, 0)),
+    Step::Close(1),
     Step::Node(11),
-    Step::Close((2, 0)),
+    Step::Close(2),
 ];
 
 /// A ban of the nodes of channels without updates, and then a channel of a node that lost its own.
 const BANNED: [Step; 6] = [
-    Step::Channel((1, 0), (10, 11)),
-    Step::Channel((2, 0), (11, 12)),
+    Step::Channel(1, (10, 11)),
+    Step::Channel(2, (11, 12)),
     Step::Node(12),
     Step::Ban([10, 11, 1, 10]),
-    Step::Channel((3, 0), (2, 12)),
+    Step::Channel(3, (2, 12)),
     Step::Node(12),
 ];
 
 /// The same with updates, and one that isn't banned.
 const BANNED_EDGES: [Step; 8] = [
-    Step::Channel((1, 0), (10, 11)),
-    Step::Update((1, 0), 0, MOST),
-    Step::Channel((2, 0), (11, 12)),
-    Step::Update((2, 0), 1, MOST),
-    Step::Channel((3, 0), (2, 12)),
-    Step::Update((3, 0), 0, MOST),
-    Step::Update((3, 0), 1, MOST),
+    Step::Channel(1, (10, 11)),
+    Step::Update(1, 0, MOST),
+    Step::Channel(2, (11, 12)),
+    Step::Update(2, 1, MOST),
+    Step::Channel(3, (2, 12)),
+    Step::Update(3, 0, MOST),
+    Step::Update(3, 1, MOST),
     Step::Ban([10, 11, 1, 10]),
 ];
+
+/// The id of the first output of a block's first transaction.
+fn first_of(block: u32) -> Scid {
+    Scid::from_u64(u64::from(block).wrapping_mul(0x100_0000_0000))
+}
 
 /// The operation of a step.
 fn operation(alloc: Global, step: Step) -> Result<Op, AllocError> {
     match step {
-        Step::Channel((block, place), nodes) => {
-            channel(alloc, Scid::new(block, place, 0), nodes, 100_000, &[])
-        }
-        Step::Update((block, place), direction, max) => {
-            update(
-                alloc,
-                Scid::new(block, place, 0),
-                direction,
-                &Terms { max, ..FREE },
-            )
+        Step::Channel(block, nodes) => channel(alloc, first_of(block), nodes, 100_000, &[]),
+        Step::Update(block, direction, max) => {
+            update(alloc, first_of(block), direction, &Terms { max, ..FREE })
         }
         Step::Node(number) => node(alloc, number, &[]),
-        Step::Close((block, place)) => Ok(Op::Close(Scid::new(block, place, 0))),
+        Step::Close(block) => Ok(Op::Close(first_of(block))),
         Step::Ban(nodes) => ban(alloc, nodes),
     }
 }
