@@ -5,7 +5,7 @@ use Rattle.lgm_par.proofs.Zipping.{zip_at}
 use Rattle.lgm_route.specs.declared.label.Label.{Label}
 use Rattle.lgm_route.specs.inner.State.{AreLeadsAt}
 use Rattle.lgm_route.proofs.Searches.{leads_at_later}
-use Rattle.lgm_route.proofs.search.Search.share_layer.Goals as goal
+use Rattle.lgm_route.proofs.search.Search.settle_in_chunks.Goals as goal
 
 pub index-requires : goal.index-requires
 index-requires g c =
