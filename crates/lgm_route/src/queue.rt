@@ -1,4 +1,4 @@
-//! Settling labels best-first (A\*).
+//! Settling labels best-first (A\*), and the frontiers of the most promising ones.
 
 ghost use Rattle.std.specs.Prelude.{◌<◌, length, All, IfOk, IfSome};
 ghost use Rattle.lgm_route.specs.inner.State.{Extends};
@@ -68,7 +68,7 @@ impl Queue {
 }
 
 impl Queue {
-    /// The next label that is open, unless all are pruned.
+    /// The most promising open label, unless the remaining ones can be pruned.
     fn next_open(&mut self, search: &Search) -> Option<usize>
         ensures { IfSome result (λ i. i < length search.now.labels) }
     {
@@ -93,7 +93,7 @@ impl Queue {
     }
 
     /// The next frontier: the most promising open labels, which have the smallest lower bound, and of these those with
-    /// the fewest edges. Empty if all labels are pruned.
+    /// the fewest edges. Empty if the remaining labels can be pruned.
     pub(crate) fn frontier(
         &mut self,
         alloc: Global,
