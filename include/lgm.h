@@ -35,7 +35,7 @@ extern "C" {
 
 /*
  * What a call returns: LGM_OK, or the number of the first fault. After a fault the map is unchanged, and so are the
- * buffers, except for the lengths that are written with LGM_ROOM.
+ * buffers, except for the lengths that are written with LGM_ROOM, and the node of lgm_node.
  */
 enum {
     LGM_OK = 0,
@@ -101,7 +101,7 @@ uint32_t lgm_version(void);
 
 /*
  * The word of a number that a call returned, as `lgm run` writes it: "accepted" for 0, "malformed" for 1 and so on,
- * padded with zeros. A number that no call returns has the empty word.
+ * padded with zeros. A number that isn't one of an outcome or a fault has the empty word.
  */
 void lgm_word(uint32_t number, uint8_t word[LGM_WORD_LEN]);
 

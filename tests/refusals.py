@@ -1,12 +1,13 @@
 #!/usr/bin/env python3
-"""Runs the examples with one call of the program refused, and looks at how each run ends.
+"""Runs scripts with one call of the program refused, and looks at how each run ends.
 
     python3 tests/refusals.py [PROGRAM]
 
 Each request for memory, each start of a thread, each read and each write is refused in turn, for `lgm run` and `lgm live`
-with one and with three workers. A run answers the whole script, or ends with status 1, the line of that fault on standard
-error, and a beginning of the text on standard output. It needs a C compiler (`cc`) and the GNU C library. PROGRAM is
-crates/lgm/out/lgm if left out.
+with one and with three workers: over the program's stored script (two channels, their terms, a commit and a payment), a
+script of closes, queries and filters, one with a payment for each of two workers, and the examples. A run answers the
+whole script, or ends with status 1, the line of that fault on standard error, and a beginning of the text on standard
+output. It needs a C compiler (`cc`) and the GNU C library. PROGRAM is crates/lgm/out/lgm if left out.
 """
 
 import os
@@ -17,12 +18,13 @@ from pathlib import Path
 
 HERE = Path(__file__).resolve().parent
 PROGRAM = sys.argv[1] if len(sys.argv) > 1 else HERE.parent / "crates/lgm/out/lgm"
-EXAMPLES = HERE.parent / "examples"
+SCRIPTS = (HERE.parent / "crates/lgm/stdin", *sorted((HERE / "scripts").glob("*.txt")),
+           *sorted((HERE.parent / "examples").glob("*.txt")))
 WORKERS = (1, 3)
 SECONDS = 60
 # The lines that a run may end with where a call of this kind is refused. Where none is named, the text is whole.
 FAULTS = {
-    "memory": (b"lgm: out of memory\n", b"lgm: board closed\n"),
+    "memory": (b"lgm: out of memory\n",),
     "thread": (),
     "read": (b"lgm: read failed\n",),
     "write": (b"lgm: write failed\n",),
@@ -79,7 +81,7 @@ def main():
         folder = Path(name)
         shim = folder / "refuse.so"
         subprocess.run(["cc", "-O1", "-shared", "-fPIC", "-o", shim, HERE / "refuse.c", "-ldl"], check=True)
-        for script in sorted(EXAMPLES.glob("*.txt")):
+        for script in SCRIPTS:
             for mode in ("run", "live"):
                 for workers in WORKERS:
                     counts = []

@@ -1,31 +1,27 @@
 //! The program `lgm`: a Lightning gossip map and route server that answers a script.
 #![tactic(auto)]
 
-mod answering;
-#[cfg(test)]
-mod deciding;
-mod options;
-mod starting;
-#[cfg(test)]
-mod tests;
-
 use lgm_par::Open;
+use lgm_run::Remains;
 use lgm_script::{FromRead, ToWrite};
-use lgm_server::Remains;
+use lgm_start::{read_words, refuse, start_keeping};
 use std::mem::forget;
 use std::process::ExitCode;
 
 fn main(rt: HostRuntime) -> ExitCode {
-    let mut reader = FromRead::new(rt.stdin());
-    let mut writer = ToWrite::new(rt.stdout());
     let mut errors = ToWrite::new(rt.stderr());
+    let words = match read_words(&rt) {
+        Ok(words) => words,
+        Err(bad) => return ExitCode::from(refuse(rt.alloc(), &mut errors, &bad)),
+    };
     let mut remains = Remains::none();
-    let status = starting::start(
+    let status = start_keeping(
         &rt,
-        &rt,
+        rt.alloc(),
+        words.as_slice(),
         &Open,
-        &mut reader,
-        &mut writer,
+        &mut FromRead::new(rt.stdin()),
+        &mut ToWrite::new(rt.stdout()),
         &mut errors,
         &mut remains,
     );

@@ -10,36 +10,37 @@ use Rattle.lgm_script.specs.Device.{AppendsSome}
 use Rattle.lgm_live.specs.declared.fault.LiveFault.{LiveFault}
 use Rattle.lgm_live.specs.declared.fault.LiveFault.TheVariants as live
 use Rattle.lgm_live.specs.declared.report.LiveReport.{LiveReport}
-use Rattle.lgm_live.specs.declared.run_live_fault.RunLiveFault.{RunLiveFault}
-use Rattle.lgm_live.specs.declared.run_live_fault.RunLiveFault.TheVariants as faults
-use Rattle.lgm_live.specs.Running.{live_fault, send_fault, IsToldInPart, ComesFirst}
+use Rattle.lgm_answers.specs.declared.run_fault.RunFault.{RunFault}
+use Rattle.lgm_answers.specs.declared.run_fault.RunFault.TheVariants as faults
+use Rattle.lgm_answers.specs.Faults.{send_fault}
+use Rattle.lgm_live.specs.Running.{live_fault, IsToldInPart, ComesFirst}
 use Rattle.lgm_live.specs.RunsLive.{RunsLive}
 use Rattle.lgm_live.specs.inner.Reading.{HasRead}
 
-abbrev fails : {T : Type 0} → RunLiveFault → Result T RunLiveFault
+abbrev fails : {T : Type 0} → RunFault → Result T RunFault
 fails fault = Err fault
 
-fault_is : (e f : RunLiveFault) → fails {T = LiveReport} e ≡ fails f → e ≡ f
+fault_is : (e f : RunFault) → fails {T = LiveReport} e ≡ fails f → e ≡ f
 fault_is e f same = cc
 
 abbrev sends : SendFault → Result (Unit {0}) SendFault
 sends fault = Err fault
 
 -- a fault of the script or of a device, of which more is promised
-abbrev says_more : RunLiveFault → Bool
+abbrev says_more : RunFault → Bool
 says_more faults.TooManyLines = true
 says_more faults.LineTooLong = true
 says_more faults.Read = true
 says_more faults.Write = true
 says_more _ = false
 
-never : (e f : RunLiveFault) → says_more e ≡ false → says_more f ≡ true → fails {T = LiveReport} e ≡ fails f → ⊥
+never : (e f : RunFault) → says_more e ≡ false → says_more f ≡ true → fails {T = LiveReport} e ≡ fails f → ⊥
 never e f less more same = true≢false (sym more ∙ ap says_more (sym (fault_is e f same)) ∙ less)
 
 module _ {R W : Type 0} (left : R → Option (List ℕ)) (read_failures : R → ℕ) (taken : W → Option (List ℕ))
     (write_failures : W → ℕ) (chain : ChainHash) (known : Option (List ℕ)) (workers : ℕ) (reader reader' : R)
     (writer writer' : W) where
-  abbrev Ends : RunLiveFault → Type 0
+  abbrev Ends : RunFault → Type 0
   Ends fault =
       RunsLive left read_failures taken write_failures chain known workers reader reader' writer writer' (fails fault)
 
@@ -47,7 +48,7 @@ module _ {R W : Type 0} (left : R → Option (List ℕ)) (read_failures : R → 
   abbrev IsInPart : Type 0
   IsInPart = IfSome (left reader) (IsToldInPart chain known workers (AppendsSome (taken writer) (taken writer')))
 
-  other : (fault : RunLiveFault) → says_more fault ≡ false → (ComesFirst fault → taken writer' ≡ taken writer)
+  other : (fault : RunFault) → says_more fault ≡ false → (ComesFirst fault → taken writer' ≡ taken writer)
       → (taken writer' ≡ taken writer) ⊎ IsInPart → Ends fault
   other fault less silent written = record {
     ok = tt;
@@ -87,7 +88,7 @@ module _ {R W : Type 0} (left : R → Option (List ℕ)) (read_failures : R → 
 -- the script wasn't read to its end
 pub not_read : {R W T : Type 0} (left : R → Option (List ℕ)) (read_failures : R → ℕ)
     (taken : W → Option (List ℕ)) (write_failures : W → ℕ) (chain : ChainHash) (known : Option (List ℕ))
-    (workers : ℕ) (source source' : R) (output output' : Output W) {whole : T → Type 0} (fault : RunLiveFault)
+    (workers : ℕ) (source source' : R) (output output' : Output W) {whole : T → Type 0} (fault : RunFault)
     → HasRead left read_failures taken write_failures source source' output output' whole (fails fault)
     → RunsLive left read_failures taken write_failures chain known workers source source' output.writer.now
     output'.writer.now (fails fault)

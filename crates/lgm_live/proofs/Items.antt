@@ -13,8 +13,8 @@ use Rattle.lgm_store.specs.Rows.{empty}
 use Rattle.lgm_store.specs.History.{fold, absorbed}
 use Rattle.lgm_store.proofs.Histories.{fold_from-push}
 use Rattle.lgm_script.specs.declared.item.Item.{Item}
-use Rattle.lgm_server.specs.Outcomes.{outcome_of, with_outcome, outcomes_behind, outcomes, history_of}
-use Rattle.lgm_server.proofs.Stepping.{outcome_joins}
+use Rattle.lgm_answers.specs.Outcomes.{outcome_of, with_outcome, outcomes_behind, outcomes, history_of}
+use Rattle.lgm_answers.proofs.Outcomes.{outcome_joins}
 use Rattle.lgm_live.specs.declared.writing.Written.{Written}
 use Rattle.lgm_live.specs.Batches.{items_of, ends_behind, ends_of}
 use Rattle.lgm_live.specs.inner.Written.{IsWritten}

@@ -8,7 +8,7 @@ use Rattle.lgm_route.specs.declared.request.Request.{Request as RouteRequest}
 use Rattle.lgm_script.specs.declared.payment.Payment.{Payment}
 use Rattle.lgm_script.specs.declared.request.Request.{Request}
 use Rattle.lgm_script.specs.declared.request.Request.TheVariants as requests
-use Rattle.lgm_server.specs.Routing.{asked_route}
+use Rattle.lgm_answers.specs.Routing.{asked_route}
 use Rattle.lgm_live.specs.Agenda.{batches_behind, payments_of, dealt_from, list_for}
 use Rattle.lgm_live.specs.inner.Gathered.{Gathered, slot_of, given, with_request, with_line, IsAgenda}
 use Rattle.lgm_live.specs.inner.Reading.{with_lines}

@@ -10,28 +10,17 @@ use Rattle.lgm_script.specs.Device.{IsAtEnd}
 use Rattle.lgm_script.specs.Lines.{ahead, IsFirstLine, IsLongerThan}
 use Rattle.lgm_script.specs.Output.{Sends, SendsPart, seen}
 use Rattle.lgm_script.specs.Request.{request_of}
-use Rattle.lgm_server.proofs.LineFaults.{failed, ends_at}
-use Rattle.lgm_live.specs.declared.run_live_fault.RunLiveFault.{RunLiveFault}
-use Rattle.lgm_live.specs.declared.run_live_fault.RunLiveFault.TheVariants as faults
-use Rattle.lgm_live.specs.Running.{line_fault, HasMoreLines}
+use Rattle.lgm_answers.proofs.LineFaults.{failed, ends_at}
+use Rattle.lgm_answers.specs.declared.run_fault.RunFault.{RunFault}
+use Rattle.lgm_answers.specs.declared.run_fault.RunFault.TheVariants as faults
+use Rattle.lgm_answers.specs.Faults.{line_fault}
+use Rattle.lgm_live.specs.Running.{HasMoreLines}
 use Rattle.lgm_live.specs.inner.Gathered.{Gathered}
 use Rattle.lgm_live.specs.inner.Reading.{HasRead, IsNoted, with_lines}
 use Rattle.lgm_live.proofs.WholeLines.{SoFar, step, ends, many, long, silent, silent_fault}
 
-abbrev ended : RunLiveFault → Result (Unit {0}) RunLiveFault
+abbrev ended : RunFault → Result (Unit {0}) RunFault
 ended e = Err e
-
--- the fault of a line, from that of the run
-abbrev line_of : RunLiveFault → Option LineFault
-line_of faults.LineTooLong = Some lines.TooLong
-line_of faults.Read = Some lines.Read
-line_of faults.Write = Some lines.Write
-line_of _ = None
-
-line_back : (fault : LineFault) → line_of (line_fault fault) ≡ Some fault
-line_back lines.Read = refl
-line_back lines.Write = refl
-line_back lines.TooLong = refl
 
 -- these were asked so far, nothing was written meanwhile, and no device failed
 pub record IsReadTo {R W : Type 0} (left : R → Option (List ℕ)) (read_failures : R → ℕ)
@@ -67,11 +56,11 @@ module _ {R W : Type 0} {left : R → Option (List ℕ)} {read_failures : R → 
       silent_fault {T = T} fault (seen taken write_failures between) (seen taken write_failures output')
       read_to.clear told part in
       let end =
-      ends_at (Unit {0}) line_fault line_of line_back {U = T} fault faults.TooManyLines refl read_to.read_same
+      ends_at (Unit {0}) {U = T} fault read_to.read_same
       read_to.write_same (λ not. (told not).well) (λ is. (part is).cause refl) read in
       record {
         ok = tt;
-        too_many = λ same. absurd (end.not_other same);
+        too_many = λ same. absurd (end.not_many same);
         too_long = λ same. let is = end.too_long same in
             long (left source) asked input (subst (SoFar (left source) asked) (sym kept) read_to.so_far)
             (longer is).0 (longer is).1;
@@ -112,7 +101,7 @@ module _ {R W : Type 0} {left : R → Option (List ℕ)} {read_failures : R → 
       }
 
   -- it ended otherwise after what was read, and no device failed
-  has_ended : (whole : Unit {0} → Type 0) (result : Result (Unit {0}) RunLiveFault) → IfOk result whole
+  has_ended : (whole : Unit {0} → Type 0) (result : Result (Unit {0}) RunFault) → IfOk result whole
       → (result ≡ ended faults.TooManyLines → IfSome (left source) HasMoreLines)
       → result ≢ ended faults.LineTooLong → result ≢ ended faults.Read → result ≢ ended faults.Write
       → HasRead left read_failures taken write_failures source mid output between whole result

@@ -25,9 +25,9 @@ use Rattle.lgm_script.specs.declared.item.Item.{Item}
 use Rattle.lgm_script.specs.declared.payment.Payment.{Payment}
 use Rattle.lgm_script.specs.declared.request.Request.{Request}
 use Rattle.lgm_script.specs.declared.request.Request.TheVariants as requests
-use Rattle.lgm_server.specs.Outcomes.{outcome_of, with_outcome, outcomes_behind, outcomes}
-use Rattle.lgm_server.specs.Routing.{asked_route}
-use Rattle.lgm_server.specs.Script.{item_in, items_of, is_commit}
+use Rattle.lgm_answers.specs.Outcomes.{outcome_of, with_outcome, outcomes_behind, outcomes}
+use Rattle.lgm_answers.specs.Routing.{asked_route}
+use Rattle.lgm_answers.specs.Script.{item_in, items_of, is_commit}
 use Rattle.lgm_live.specs.declared.report.LiveAnswer.{LiveAnswer}
 use Rattle.lgm_live.specs.declared.report.LiveReport.{LiveReport}
 use Rattle.lgm_live.specs.Agenda.{batches_behind, batches_of, payments_of, dealt_from, list_for, lists_of}

@@ -10,9 +10,9 @@ use Rattle.std.proofs.lemmas.List.Sums.{sum_by-cons}
 use Rattle.lgm_script.specs.declared.payment.Payment.{Payment}
 use Rattle.lgm_script.specs.declared.request.Request.{Request}
 use Rattle.lgm_script.specs.declared.request.Request.TheVariants as requests
-use Rattle.lgm_server.specs.Answer.{outcome_text, route_text}
+use Rattle.lgm_answers.specs.Answer.{outcome_text, route_text}
 use Rattle.lgm_script.specs.Text.{commit_line}
-use Rattle.lgm_server.specs.Script.{item_in, items_of, is_commit}
+use Rattle.lgm_answers.specs.Script.{item_in, items_of, is_commit}
 use Rattle.lgm_live.specs.declared.report.LiveAnswer.{LiveAnswer}
 use Rattle.lgm_live.specs.declared.report.LiveReport.{LiveReport}
 use Rattle.lgm_live.specs.declared.slot.Slot.{Slot}

@@ -14,8 +14,8 @@ use Rattle.lgm_script.specs.Output.{OutputState, Tells, TellsPart}
 use Rattle.lgm_script.specs.Request.{request_of}
 use Rattle.lgm_script.proofs.FirstLines.{each-push}
 use Rattle.lgm_script.proofs.Splitting.{next_of}
-use Rattle.lgm_server.proofs.LineFaults.{failed}
-use Rattle.lgm_server.proofs.Progress.{has_line, some_is}
+use Rattle.lgm_answers.proofs.LineFaults.{failed}
+use Rattle.lgm_answers.proofs.Lines.{some_bytes, some_is, has_line}
 use Rattle.lgm_live.specs.Running.{AreShort, HasMoreLines, HasLongLine}
 use Rattle.lgm_live.specs.inner.Reading.{IsAsked}
 
@@ -35,9 +35,6 @@ SoFar script asked input = IfSome script (λ bytes. IsAt bytes asked input)
 pub starts : (script : Option (List ℕ)) → SoFar script [] (ahead [] script)
 starts None = tt
 starts (Some script) = record { rest = script; input_is = refl; left = refl; few = omega arith; short = tt; asked_is = refl }
-
-abbrev some_bytes : List ℕ → Option (List ℕ)
-some_bytes bytes = Some bytes
 
 -- ---- one line
 

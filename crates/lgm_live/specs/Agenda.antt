@@ -6,7 +6,7 @@ use Rattle.lgm_script.specs.declared.item.Item.{Item}
 use Rattle.lgm_script.specs.declared.payment.Payment.{Payment}
 use Rattle.lgm_script.specs.declared.request.Request.{Request}
 use Rattle.lgm_script.specs.declared.request.Request.TheVariants as requests
-use Rattle.lgm_server.specs.Routing.{asked_route}
+use Rattle.lgm_answers.specs.Routing.{asked_route}
 
 -- the batches, the first of which begins with these items
 abbrev pub batches_behind : List Item → List Request → List (List Item)

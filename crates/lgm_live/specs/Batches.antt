@@ -2,7 +2,7 @@
 use Rattle.std.specs.Prelude.{ℕ, List, [], ◌∷◌, ◌++◌, length, flat_map}
 use Rattle.lgm_wire.specs.declared.chain_hash.ChainHash.{ChainHash}
 use Rattle.lgm_script.specs.declared.item.Item.{Item}
-use Rattle.lgm_server.specs.Outcomes.{history_of}
+use Rattle.lgm_answers.specs.Outcomes.{history_of}
 
 -- the items of all batches, in order
 abbrev pub items_of : List (List Item) → List Item

@@ -6,33 +6,21 @@ use Rattle.lgm_wire.specs.declared.chain_hash.ChainHash.{ChainHash}
 use Rattle.lgm_route.specs.declared.request.Request.{Request as RouteRequest}
 use Rattle.lgm_script.specs.declared.item.Item.{Item}
 use Rattle.lgm_script.specs.declared.request.Request.{Request}
-use Rattle.lgm_script.specs.declared.output.SendFault.{SendFault}
-use Rattle.lgm_script.specs.declared.output.SendFault.TheVariants as sending
-use Rattle.lgm_script.specs.declared.reading.LineFault.{LineFault}
-use Rattle.lgm_script.specs.declared.reading.LineFault.TheVariants as lines
 use Rattle.lgm_script.specs.Lines.{lines_of}
-use Rattle.lgm_server.specs.Outcomes.{outcomes, history_of}
-use Rattle.lgm_server.specs.Script.{requests_of}
+use Rattle.lgm_answers.specs.Outcomes.{outcomes, history_of}
+use Rattle.lgm_answers.specs.Script.{requests_of}
 use Rattle.lgm_live.specs.declared.fault.LiveFault.{LiveFault}
 use Rattle.lgm_live.specs.declared.fault.LiveFault.TheVariants as live
 use Rattle.lgm_live.specs.declared.report.LiveReport.{LiveReport}
-use Rattle.lgm_live.specs.declared.run_live_fault.RunLiveFault.{RunLiveFault}
-use Rattle.lgm_live.specs.declared.run_live_fault.RunLiveFault.TheVariants as faults
+use Rattle.lgm_answers.specs.declared.run_fault.RunFault.{RunFault}
+use Rattle.lgm_answers.specs.declared.run_fault.RunFault.TheVariants as faults
 use Rattle.lgm_live.specs.Answers.{AreAnsweredBy, NeverFall, IsAtEnd}
 use Rattle.lgm_live.specs.Batches.{items_of, ends_of}
 use Rattle.lgm_live.specs.Agenda.{batches_of, payments_of, lists_of}
 use Rattle.lgm_live.specs.Text.{live_text, AreSame}
 
-abbrev pub line_fault : LineFault → RunLiveFault
-line_fault lines.Read = faults.Read
-line_fault lines.Write = faults.Write
-line_fault lines.TooLong = faults.LineTooLong
-
-abbrev pub send_fault : SendFault → RunLiveFault
-send_fault sending.Write = faults.Write
-send_fault sending.NoMemory = faults.NoMemory
-
-abbrev pub live_fault : LiveFault → RunLiveFault
+-- the same fault as one of a script
+abbrev pub live_fault : LiveFault → RunFault
 live_fault live.NoMemory = faults.NoMemory
 live_fault live.Closed = faults.Closed
 live_fault live.Versions = faults.Versions
@@ -94,7 +82,7 @@ pub record HasLongLine (script : List ℕ) : Type 0 where
   pub short : AreShort script place
 
 -- a fault that comes before anything is written
-abbrev pub ComesFirst : RunLiveFault → Type 0
+abbrev pub ComesFirst : RunFault → Type 0
 ComesFirst faults.Write = ⊥
 ComesFirst faults.NoMemory = ⊥
 ComesFirst _ = Unit {0}

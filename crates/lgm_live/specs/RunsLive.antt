@@ -3,14 +3,14 @@ use Rattle.std.specs.Prelude.{◌≡◌, ◌⊎◌, ℕ, ◌<◌, List, Option, 
 use Rattle.lgm_wire.specs.declared.chain_hash.ChainHash.{ChainHash}
 use Rattle.lgm_script.specs.Device.{Appends, AppendsSome}
 use Rattle.lgm_live.specs.declared.report.LiveReport.{LiveReport}
-use Rattle.lgm_live.specs.declared.run_live_fault.RunLiveFault.{RunLiveFault}
-use Rattle.lgm_live.specs.declared.run_live_fault.RunLiveFault.TheVariants as faults
+use Rattle.lgm_answers.specs.declared.run_fault.RunFault.{RunFault}
+use Rattle.lgm_answers.specs.declared.run_fault.RunFault.TheVariants as faults
 use Rattle.lgm_live.specs.Running.{IsToldWhole, IsToldInPart, HasMoreLines, HasLongLine, ComesFirst}
 
 pub record RunsLive {R W : Type 0} (left : R → Option (List ℕ)) (read_failures : R → ℕ)
     (taken : W → Option (List ℕ)) (write_failures : W → ℕ) (chain : ChainHash) (known : Option (List ℕ))
     (workers : ℕ) (reader reader' : R) (writer writer' : W)
-    (result : Result LiveReport RunLiveFault) : Type 0 where
+    (result : Result LiveReport RunFault) : Type 0 where
   -- the report is one as `live` promises for the whole script, and exactly its text was written
   pub ok : IfOk result (λ report.
       IfSome (left reader) (IsToldWhole chain known workers (Appends (taken writer) (taken writer')) report))

@@ -3,7 +3,7 @@
 ghost use Rattle.std.specs.Prelude.{◌≡◌, IfOk, OnErr};
 ghost use Rattle.lgm_wire.specs.reading.Reading.{Gives};
 ghost use Rattle.lgm_store.specs.History.{absorbed};
-ghost use Rattle.lgm_server.specs.Outcomes.{outcome_of};
+ghost use Rattle.lgm_answers.specs.Outcomes.{outcome_of};
 
 use lgm_check::{Refusal, precheck};
 use lgm_gossip::ChainHash;
@@ -12,7 +12,7 @@ use lgm_store::{Map, Op};
 use std::alloc::Global;
 
 /// Admits an item and applies its operation, which is returned. A refusal or out of memory leaves the map unchanged.
-#[tactic(auto, unfolding(lgm_server::specs::Outcomes::outcome_of))]
+#[tactic(auto, unfolding(lgm_answers::specs::Outcomes::outcome_of))]
 pub(crate) fn admit(
     alloc: Global,
     chain: &ChainHash,

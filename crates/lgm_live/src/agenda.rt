@@ -6,9 +6,9 @@ ghost use Rattle.lgm_live.specs.inner.Gathered.{slot_of, given, with_request, wi
 use crate::batches::Batches;
 use crate::requests::RequestLists;
 use crate::slot::Slot;
+use lgm_answers::asked_route;
 use lgm_route::Request as RouteRequest;
 use lgm_script::{Item, Request};
-use lgm_server::asked_route;
 use std::alloc::{AllocError, Global};
 use std::marker::Model;
 use std::mem;

@@ -1,8 +1,10 @@
 //! Why there is no report.
 
 ghost use Rattle.std.specs.Prelude.{◌≡◌};
+ghost use Rattle.lgm_live.specs.Running.{live_fault};
 ghost use Rattle.lgm_live.specs.declared.fault.LiveFault.TheVariants.{NoMemory};
 
+use lgm_answers::RunFault;
 use std::alloc::{AllocError, AllocFailed};
 use thiserror::Error;
 
@@ -33,5 +35,17 @@ impl<T: Drop> From<AllocFailed<T>> for LiveFault {
 
     fn from(_e: AllocFailed<T>) -> LiveFault {
         LiveFault::NoMemory
+    }
+}
+
+impl From<LiveFault> for RunFault {
+    ghost from_gives = { λ fault e. e ≡ live_fault fault };
+
+    fn from(fault: LiveFault) -> RunFault {
+        match fault {
+            LiveFault::NoMemory => RunFault::NoMemory,
+            LiveFault::Closed => RunFault::Closed,
+            LiveFault::Versions => RunFault::Versions,
+        }
     }
 }

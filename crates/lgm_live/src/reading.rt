@@ -6,9 +6,8 @@ ghost use Rattle.lgm_live.specs.inner.Gathered.{with_line};
 ghost use Rattle.lgm_live.specs.inner.Reading.{IsNoted, IsRead, HasRead};
 
 use crate::agenda::Agenda;
-use crate::run_live_fault::RunLiveFault;
+use lgm_answers::{MAX_LINES, RunFault};
 use lgm_script::{LineReader, Output, Sink, Source, more_begins, next_line, parse};
-use lgm_server::MAX_LINES;
 use std::alloc::{AllocError, Global};
 
 /// Adds the request of the first line, which has this many bytes, and drops the line.
@@ -39,7 +38,7 @@ fn read_lines<R: Source, W: Sink>(
     source: &mut R,
     output: &mut Output<'_, W>,
     agenda: &mut Agenda,
-) -> Result<(), RunLiveFault>
+) -> Result<(), RunFault>
     requires lines { lines.old ≡ [] }
     requires some { 0 < length agenda.old.lists }
     requires none { agenda.old.payments ≡ 0 }
@@ -59,7 +58,7 @@ fn read_lines<R: Source, W: Sink>(
         number += 1;
     }
     if more_begins(lines, source, output)? {
-        return Err(RunLiveFault::TooManyLines);
+        return Err(RunFault::TooManyLines);
     }
     Ok(())
 }
@@ -71,7 +70,7 @@ pub(crate) fn read_script<R: Source, W: Sink>(
     workers: usize,
     source: &mut R,
     output: &mut Output<'_, W>,
-) -> Result<Agenda, RunLiveFault>
+) -> Result<Agenda, RunFault>
     requires some { 0 < workers }
     requires gathered { output.old.gathered.now.items ≡ [] }
     requires source { R.failures source.old + 1 < 2 ^ 64 }

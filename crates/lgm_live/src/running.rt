@@ -7,8 +7,8 @@ use crate::growing::live;
 use crate::pacing::Paced;
 use crate::reading::read_script;
 use crate::report::LiveReport;
-use crate::run_live_fault::RunLiveFault;
 use crate::telling::tell;
+use lgm_answers::RunFault;
 use lgm_gossip::ChainHash;
 use lgm_graph::Known;
 use lgm_par::{Gate, Pool};
@@ -26,7 +26,7 @@ fn run_all<Rt: Threads + Wait + Sync + RandomSource, G: Gate, R: Source, W: Sink
     output: &mut Output<'_, W>,
     chain: &ChainHash,
     known: &Known,
-) -> Result<LiveReport, RunLiveFault>
+) -> Result<LiveReport, RunFault>
     requires gathered { output.old.gathered.now.items ≡ [] }
     requires source { R.failures source.old + 1 < 2 ^ 64 }
     requires writer { W.failures output.old.writer.now + 1 < 2 ^ 64 }
@@ -54,7 +54,7 @@ fn run_all<Rt: Threads + Wait + Sync + RandomSource, G: Gate, R: Source, W: Sink
 /// the end. Payments are dealt to 1 to 64 workers round-robin, from worker 0 on. A payment waits until the batches
 /// whose `commit` is before it are published, so it is answered on these or on later ones.
 ///
-/// Items and commits are answered as by `lgm_server::run` if no peer has a filter. The answer to a payment has the
+/// Items and commits are answered as by `run` if no peer has a filter. The answer to a payment has the
 /// version of its map, `same`, and the answer itself; `same` says that the map of that many operations gives this
 /// answer. Queries and filters are `not-live`. The gate is that of [`live`].
 ///
@@ -69,7 +69,7 @@ pub fn run_live<Rt: Threads + Wait + Sync + RandomSource, G: Gate, R: Source, W:
     known: &Known,
     workers: usize,
     gate: &G,
-) -> Result<LiveReport, RunLiveFault>
+) -> Result<LiveReport, RunFault>
     requires workers { (1 ≤ workers) × (workers ≤ 64) }
     requires reader { R.failures reader.old + 1 < 2 ^ 64 }
     requires writer { W.failures writer.old + 1 < 2 ^ 64 }

@@ -4,7 +4,7 @@ ghost use Rattle.std.specs.Prelude.{◌≡◌, ◌≤◌, ◌+◌, ◌<◌, ◌^
 ghost use Rattle.std.specs.Option.{option_map};
 ghost use Rattle.lgm_script.specs.Device.{Appends, AppendsSome};
 ghost use Rattle.lgm_script.specs.Output.{Writes};
-ghost use Rattle.lgm_server.specs.Answer.{route_text};
+ghost use Rattle.lgm_answers.specs.Answer.{route_text};
 ghost use Rattle.lgm_live.specs.Text.{answer_at};
 ghost use Rattle.lgm_live.specs.inner.Telling.{place_passed, same_text, slot_text};
 ghost use Rattle.lgm_live.specs.inner.Telling.{slots_before, IsThere, AreThere};
@@ -12,10 +12,10 @@ ghost use Rattle.lgm_live.specs.declared.report.LiveAnswer.{LiveAnswer};
 
 use crate::report::{LiveAnswer, LiveReport};
 use crate::slot::Slot;
+use lgm_answers::{outcome_word, send_route};
 use lgm_payload::build;
 use lgm_route::{Route, RouteFault};
 use lgm_script::{Output, SendFault, Sink};
-use lgm_server::{outcome_word, send_route};
 use std::alloc::Global;
 
 /// The indices of the next outcome, end and answer of a report.

@@ -1,9 +1,9 @@
 //! Devices that fail, and limits, in whole scripts whose payments are answered beside.
 
 use crate::runs::{self, run_by};
-use lgm_live::RunLiveFault;
 use lgm_par::Open;
-use lgm_test_scripts::{FailingSink, FailingSource};
+use lgm_server::RunFault;
+use lgm_test_scripts::{FailingSink, FailingSource, spelled};
 use std::alloc::{AllocError, Global};
 use std::marker::Sync;
 use std::random::RandomSource;
@@ -11,11 +11,34 @@ use std::sync::Wait;
 use std::test::Fail;
 use std::thread::Threads;
 
-/// A script of six lines.
-const SCRIPT: &str = "hello\n# a note\nclose 1x0x0\ncommit\nq 00\nm 0010 all 1";
+/// Two channels, a payment for each of two workers, and lines that have no answer of the map.
+const SCRIPT: &str = "m ca(600000x0x0,A,B) all 100000\n\
+    m ca(600000x1x0,B,C) all 100000\n\
+    m cu(600000x0x0,0,1,delta=10) A -\n\
+    m cu(600000x1x0,0,1,delta=20,base=200,millionths=2000) B -\n\
+    commit\n\
+    route A C 4999999 700009 S\n\
+    route A C 4999999 700009 S\n\
+    hello\n\
+    # a note\n\
+    q 00\n";
 
 /// Its text.
-const TEXT: &str = "1 bad\n3 unknown-channel\n4 commit 0\n5 not-live\n6 unknown-even\n";
+const TEXT: &str = "1 accepted\n\
+    2 accepted\n\
+    3 accepted\n\
+    4 accepted\n\
+    5 commit 4\n\
+    6 at 4 same\n\
+    6 route 5010198 700029 2\n\
+    6 hop 600000x0x0 [14 02034c4b3f 04030aae69 0608 0927c00000010000]\n\
+    6 hop 600000x1x0 [2f 02034c4b3f 04030aae69 0823 S 4c4b3f]\n\
+    7 at 4 same\n\
+    7 route 5010198 700029 2\n\
+    7 hop 600000x0x0 [14 02034c4b3f 04030aae69 0608 0927c00000010000]\n\
+    7 hop 600000x1x0 [2f 02034c4b3f 04030aae69 0823 S 4c4b3f]\n\
+    8 bad\n\
+    10 not-live\n";
 
 /// How the script ends where a read and a write fail, each by its number, and what is written then.
 fn ended<Rt: Threads + Wait + Sync + RandomSource>(
@@ -24,15 +47,15 @@ fn ended<Rt: Threads + Wait + Sync + RandomSource>(
     script: &[u8],
     read: usize,
     write: usize,
-) -> Result<(Option<RunLiveFault>, Vec<u8>), AllocError> {
+) -> Result<(Option<RunFault>, Vec<u8>), AllocError> {
     let mut reader = FailingSource::new(script, read);
     let mut writer = FailingSink {
-        taken: Vec::with_capacity(alloc, TEXT.len())?,
+        taken: Vec::new(alloc),
         writes: 0,
         fails_at: write,
         failures: 0,
     };
-    let ended = run_by(rt, alloc, &mut reader, &mut writer, 3, &Open);
+    let ended = run_by(rt, alloc, &mut reader, &mut writer, 2, &Open);
     Ok((ended.err(), writer.taken))
 }
 
@@ -41,37 +64,41 @@ fn ended_at_once<Rt: Threads + Wait + Sync + RandomSource>(
     rt: &Rt,
     alloc: Global,
     script: &[u8],
-) -> (Option<RunLiveFault>, usize) {
+) -> (Option<RunFault>, usize) {
     let (fault, writer) = runs::ended(rt, alloc, script, 1_000_000, 3, &Open);
     (fault, writer.taken().len())
 }
 
-// Each read of ten bytes, and the two that find the end: behind the last line, and for a further one.
+// Each read of ten bytes, and those that find the end.
 #[test]
 fn failing_reads(rt: HostRuntime) -> Result<(), Fail> {
-    let script = SCRIPT.as_bytes();
-    let reads = script.len() / 10 + 3;
-    for read in 1..=reads {
+    let (script, text) = (spelled(rt.alloc(), SCRIPT)?, spelled(rt.alloc(), TEXT)?);
+    let script = script.as_bytes();
+    let mut reads = 0;
+    for read in 1usize..10_000 {
         let (fault, written) = ended(&rt, rt.alloc(), script, read, 0)?;
-        assert_eq!(rt; fault, Some(RunLiveFault::Read), "read {read}");
+        if fault.is_none() {
+            assert_eq!(rt; written.as_slice(), text.as_bytes());
+            break;
+        }
+        assert_eq!(rt; fault, Some(RunFault::Read), "read {read}");
         assert!(rt; written.is_empty(), "read {read}");
+        reads = read;
     }
-    let (fault, written) = ended(&rt, rt.alloc(), script, reads + 1, 0)?;
-    assert_eq!(rt; fault, None);
-    assert_eq!(rt; written.as_slice(), TEXT.as_bytes());
+    assert!(rt; reads > script.len() / 10);
     Ok(())
 }
 
 // Each byte that is written.
 #[test]
 fn failing_writes(rt: HostRuntime) -> Result<(), Fail> {
-    let script = SCRIPT.as_bytes();
-    for write in 1..=TEXT.len() {
-        let (fault, written) = ended(&rt, rt.alloc(), script, 0, write)?;
-        assert_eq!(rt; fault, Some(RunLiveFault::Write), "write {write}");
+    let (script, text) = (spelled(rt.alloc(), SCRIPT)?, spelled(rt.alloc(), TEXT)?);
+    for write in 1..=text.len() {
+        let (fault, written) = ended(&rt, rt.alloc(), script.as_bytes(), 0, write)?;
+        assert_eq!(rt; fault, Some(RunFault::Write), "write {write}");
         assert_eq!(rt; written.len() + 1, write);
         assert!(rt;
-            TEXT.as_bytes().starts_with(written.as_slice()),
+            text.as_bytes().starts_with(written.as_slice()),
             "write {write}"
         );
     }
@@ -84,7 +111,7 @@ fn a_line_that_is_too_long(rt: HostRuntime) -> Result<(), Fail> {
     let mut script = Vec::from_slice(rt.alloc(), b"commit\n")?;
     script.resize(140_008, b'x')?;
     let (fault, written) = ended(&rt, rt.alloc(), script.as_slice(), 0, 0)?;
-    assert_eq!(rt; fault, Some(RunLiveFault::LineTooLong));
+    assert_eq!(rt; fault, Some(RunFault::LineTooLong));
     assert!(rt; written.is_empty());
     Ok(())
 }
@@ -101,7 +128,7 @@ fn empty_lines(alloc: Global, count: usize) -> Result<Vec<u8>, AllocError> {
 fn lines_beyond_the_limit(rt: HostRuntime) -> Result<(), Fail> {
     let script = empty_lines(rt.alloc(), 10_000_001)?;
     let (fault, written) = ended_at_once(&rt, rt.alloc(), script.as_slice());
-    assert_eq!(rt; fault, Some(RunLiveFault::TooManyLines));
+    assert_eq!(rt; fault, Some(RunFault::TooManyLines));
     assert_eq!(rt; written, 0);
     Ok(())
 }
@@ -113,7 +140,7 @@ fn a_long_line_before_the_limit(rt: HostRuntime) -> Result<(), Fail> {
     script.resize(140_002, b'x')?;
     script.resize(10_140_003, b'\n')?;
     let (fault, written) = ended_at_once(&rt, rt.alloc(), script.as_slice());
-    assert_eq!(rt; fault, Some(RunLiveFault::LineTooLong));
+    assert_eq!(rt; fault, Some(RunFault::LineTooLong));
     assert_eq!(rt; written, 0);
     Ok(())
 }

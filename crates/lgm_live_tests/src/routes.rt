@@ -2,9 +2,9 @@
 //! out by hand.
 
 use crate::runs::{TWO_CHANNELS, ended};
-use lgm_live::RunLiveFault;
 use lgm_par::{Gate, Open};
 use lgm_script::MemorySink;
+use lgm_server::RunFault;
 use lgm_test_scripts::{FREE, Line, SECRET, script_of};
 use std::alloc::{AllocError, Global};
 use std::marker::Sync;
@@ -94,7 +94,7 @@ fn told<Rt: Threads + Wait + Sync + RandomSource, G: Gate>(
     script: &[u8],
     workers: usize,
     gate: &G,
-) -> (Option<RunLiveFault>, MemorySink) {
+) -> (Option<RunFault>, MemorySink) {
     ended(rt, alloc, script, 1_000, workers, gate)
 }
 
@@ -161,7 +161,7 @@ fn refused_memory(rt: HostRuntime) -> Result<(), Fail> {
     match fault {
         None => assert_eq!(rt; writer.taken(), want.as_bytes()),
         Some(fault) => {
-            assert!(rt; fault != RunLiveFault::Read && fault != RunLiveFault::Versions);
+            assert!(rt; fault != RunFault::Read && fault != RunFault::Versions);
             assert!(rt; want.as_bytes().starts_with(writer.taken()));
         }
     }
@@ -195,5 +195,65 @@ fn a_payment_waits_for_what_is_above_it(rt: HostRuntime) -> Result<(), Fail> {
         let last = b"5 accepted\n6 commit 3\n7 at 3 same\n7 no-route\n8 at 3 same\n8 no-route\n";
         assert!(rt; writer.taken().ends_with(last), "{workers} workers");
     }
+    Ok(())
+}
+
+/// Holds the writer's second publication until the only worker has begun its second payment.
+#[derive(Drop)]
+struct Between {
+    begun: AtomicU64,
+    publications: AtomicU64,
+    turns: AtomicU64,
+}
+
+impl Gate for Between {
+    fn pass(&self, piece: usize) {
+        if piece == 0 {
+            self.begun.fetch_add(1, Ordering::SeqCst);
+            return;
+        }
+        if self.publications.fetch_add(1, Ordering::SeqCst) != 1 {
+            return;
+        }
+        let mut turns = 0;
+        for turn in 0..LIMIT {
+            turns = turn + 1;
+            if self.begun.load(Ordering::SeqCst) >= 2 {
+                break;
+            }
+            thread::yield_now();
+        }
+        self.turns.store(turns, Ordering::SeqCst);
+    }
+}
+
+/// A payment behind the first commit is answered while the writer is held before its second publication: the worker's
+/// second payment begins only then.
+#[test]
+fn a_payment_is_answered_beside_the_writer(rt: HostRuntime) -> Result<(), Fail> {
+    let alloc = rt.alloc();
+    let lines = [
+        Line::Open(7, 0, 1, FREE),
+        Line::Commit,
+        Line::Pay(0, 1, 1_000, 700_000),
+        Line::Pay(0, 1, 1_000, 700_000),
+        Line::Close(7),
+        Line::Commit,
+    ];
+    let script = script_of(alloc, &lines)?;
+    let gate = Between {
+        begun: AtomicU64::new(0),
+        publications: AtomicU64::new(0),
+        turns: AtomicU64::new(0),
+    };
+    let (fault, writer) = told(&rt, alloc, script.as_bytes(), 1, &gate);
+    assert_eq!(rt; fault, None);
+    assert!(rt;
+        gate.turns.load(Ordering::SeqCst) < LIMIT,
+        "ended at the limit"
+    );
+    let first =
+        b"1 accepted\n2 accepted\n3 commit 2\n4 at 2 same\n4 route 1000 700000 1\n".as_slice();
+    assert!(rt; writer.taken().starts_with(first));
     Ok(())
 }

@@ -4,9 +4,9 @@ ghost use Rattle.std.specs.Prelude.{◌+◌, ◌<◌, ◌^◌};
 
 use lgm_gossip::ChainHash;
 use lgm_graph::Known;
-use lgm_live::{LiveReport, RunLiveFault, run_live};
 use lgm_par::Gate;
 use lgm_script::{MemorySink, MemorySource, Sink, Source};
+use lgm_server::{LiveReport, RunFault, run_live};
 use lgm_test_scripts::{FREE, Line, Terms};
 use std::alloc::Global;
 use std::marker::Sync;
@@ -41,7 +41,7 @@ pub fn run_by<Rt: Threads + Wait + Sync + RandomSource, R: Source, W: Sink, G: G
     writer: &mut W,
     workers: usize,
     gate: &G,
-) -> Result<LiveReport, RunLiveFault>
+) -> Result<LiveReport, RunFault>
     requires reader { R.failures reader.old + 1 < 2 ^ 64 }
     requires writer { W.failures writer.old + 1 < 2 ^ 64 }
 {
@@ -58,7 +58,7 @@ pub fn ended<Rt: Threads + Wait + Sync + RandomSource, G: Gate>(
     piece: usize,
     workers: usize,
     gate: &G,
-) -> (Option<RunLiveFault>, MemorySink) {
+) -> (Option<RunFault>, MemorySink) {
     let mut reader = MemorySource::new(script, piece);
     let mut writer = MemorySink::new(alloc);
     let ended = run_by(rt, alloc, &mut reader, &mut writer, workers, gate);

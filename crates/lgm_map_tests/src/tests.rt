@@ -1,5 +1,6 @@
 mod beside;
 mod comparing;
+mod filters;
 mod histories;
 mod item;
 mod made;

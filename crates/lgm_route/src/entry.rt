@@ -49,4 +49,9 @@ impl Entry {
     pub(crate) fn is_exact(&self) -> bool {
         self.amount() < MOST_AMOUNT
     }
+
+    /// Whether both have the same amount, up to 2^33 - 1 msat, and the same number of edges.
+    pub(crate) fn is_level_with(self, other: Entry) -> bool {
+        (u64::MAX - self.key) / PLACES == (u64::MAX - other.key) / PLACES
+    }
 }

@@ -1,11 +1,9 @@
-//! Settling labels layer by layer, by their number of edges, in parallel.
+//! Settling labels by several workers: frontier by frontier, then best-first, and then by layers.
 
-ghost use Rattle.std.specs.Prelude.{◌≡◌, ◌<◌, ◌++◌, length, All, IfOk};
-ghost use Rattle.std.specs.List.{AllZip};
-ghost use Rattle.lgm_route.specs.inner.Leading.{in_list};
-ghost use Rattle.lgm_route.specs.inner.State.{AreLeadsAt, Extends};
+ghost use Rattle.std.specs.Prelude.{◌<◌, ◌≤◌, length, All, IfOk};
+ghost use Rattle.lgm_route.specs.inner.State.{Extends};
 
-use crate::label::Label;
+use crate::queue::Queue;
 use crate::search::Search;
 use lgm_par::{Gate, Pool};
 use std::alloc::{AllocError, Global};
@@ -14,7 +12,10 @@ use std::thread::Threads;
 /// The maximum number of edges of a walk.
 const LAYERS: u32 = 20;
 
-/// The number of labels that are settled before layers are worthwhile.
+/// The number of labels that are settled frontier by frontier, so that workers share the search of a small network, too.
+const EARLY: usize = 64;
+
+/// The number of labels that are then settled best-first before layers are worthwhile.
 const ALONE: usize = 2_048;
 
 /// The number of labels that are worth a worker: relaxing them takes longer than starting a thread.
@@ -23,6 +24,8 @@ const SHARE: usize = 512;
 /// Labels by their number of edges, as linked lists of indices. They are hints.
 #[derive(Drop)]
 struct Layers {
+    /// The number of edges of the next layer.
+    next: u32,
     /// The last label with each number of edges.
     last: Vec<usize>,
     /// The label before each label.
@@ -33,6 +36,7 @@ impl Layers {
     fn new(alloc: Global) -> Result<Layers, AllocError> {
         let last = vec![in alloc; usize::MAX; LAYERS as usize]?;
         Ok(Layers {
+            next: 0,
             last,
             before: Vec::new(alloc),
         })
@@ -52,8 +56,8 @@ impl Layers {
         Ok(())
     }
 
-    /// The labels with this many edges that are neither settled, pruned nor dominated.
-    fn frontier(&self, alloc: Global, search: &Search, count: u32) -> Result<Vec<usize>, AllocError>
+    /// The open labels with this many edges.
+    fn layer(&self, alloc: Global, search: &Search, count: u32) -> Result<Vec<usize>, AllocError>
         ensures { IfOk result (λ frontier. All (λ i. i < length search.now.labels) frontier.items) }
     {
         let mut frontier = Vec::new(alloc);
@@ -72,119 +76,55 @@ impl Layers {
         }
         Ok(frontier)
     }
-}
 
-/// Appends a label, if there is one.
-#[inline(always)]
-fn push(labels: &mut Vec<Label>, label: Option<Label>) -> Result<(), AllocError>
-    ensures { IfOk result (λ _. labels.new.items ≡ labels.old.items ++ in_list label) }
-{
-    if let Some(label) = label {
-        labels.push(label)?;
+    /// The next frontier: the open labels with the fewest edges, but more edges than those of the frontiers before. Empty
+    /// if there are none.
+    fn frontier(&mut self, alloc: Global, search: &Search) -> Result<Vec<usize>, AllocError>
+        ensures { IfOk result (λ frontier. All (λ i. i < length search.now.labels) frontier.items) }
+    {
+        for count in self.next..LAYERS {
+            self.next = count + 1;
+            let frontier = self.layer(alloc, search, count)?;
+            if !frontier.is_empty() {
+                return Ok(frontier);
+            }
+        }
+        Ok(Vec::new(alloc))
     }
-    Ok(())
-}
-
-/// The relaxations of each label of the frontier, computed in chunks.
-fn all_leads<Rt: Threads + Sync, G: Gate>(
-    pool: &Pool<'_, Rt, G>,
-    search: &Search,
-    frontier: &[usize],
-) -> Result<Vec<Result<Vec<Label>, AllocError>>, AllocError>
-    requires { All (λ i. i < length search.now.labels) frontier.now }
-    ensures { IfOk result (λ all. AllZip
-        (λ i leads. IfOk leads (λ leads. AreLeadsAt search.now i leads.items)) frontier.now all.items) }
-{
-    let alloc = pool.alloc;
-    pool.map(frontier, &|i| search.leads(alloc, *i))
 }
 
 impl<'a> Search<'a> {
-    /// Whether a label is neither settled, pruned nor dominated.
-    fn is_open(&self, i: usize) -> bool
-        requires { i < length self.now.labels }
+    /// The number of labels of an early frontier that are worth a worker: an eighth of the network's nodes, so that the
+    /// search of a large network hardly ever starts threads early.
+    fn early_share(&self) -> usize
+        ensures { 1 ≤ result }
     {
-        let label = self.label(i);
-        !self.is_done(i) && self.hope(&label) < self.bound() && self.stand_in(i) == i
+        (self.nodes() / 8).clamp(1, SHARE)
     }
 
-    /// The relaxations of a label.
-    fn leads(&self, alloc: Global, i: usize) -> Result<Vec<Label>, AllocError>
-        requires { i < length self.now.labels }
-        ensures { IfOk result (λ leads. AreLeadsAt self.now i leads.items) }
-    {
-        let label = self.label(i);
-        let edges = self.edges_into(label.node);
-        let mut leads = Vec::new(alloc);
-        for at in 0..edges.len() {
-            push(&mut leads, self.lead(i, &label, at, &edges[at]))?;
-        }
-        Ok(leads)
-    }
-
-    /// Applies the relaxations of a label, and marks the label.
-    fn merge(&mut self, i: usize, leads: &[Label]) -> Result<(), AllocError>
-        requires label { i < length self.old.labels }
-        requires leads { AreLeadsAt self.old i leads.now }
-        ensures { IfOk result (λ _. Extends self.old self.new) }
-    {
-        // The contract of `len` says that labels represent rests.
-        let _len = self.len();
-        for new in leads {
-            self.take(*new)?;
-        }
-        self.mark(i)?;
-        Ok(())
-    }
-
-    /// Relaxes the labels of a frontier, in chunks.
-    fn share_layer<Rt: Threads + Sync, G: Gate>(
+    /// Settles the first labels frontier by frontier: those that are equally promising together.
+    fn settle_early<Rt: Threads + Sync, G: Gate>(
         &mut self,
         pool: &Pool<'_, Rt, G>,
-        frontier: &[usize],
+        queue: &mut Queue,
     ) -> Result<(), AllocError>
-        requires { All (λ i. i < length self.old.labels) frontier.now }
         ensures { IfOk result (λ _. Extends self.old self.new) }
     {
-        let all = all_leads(pool, self, frontier)?;
-        for k in 0..frontier.len() {
-            match &all[k] {
-                Ok(leads) => self.merge(frontier[k], leads)?,
-                Err(e) => return Err(*e),
+        let share = self.early_share();
+        let mut settled = 0;
+        while settled < EARLY {
+            let frontier = queue.frontier(pool.alloc, self)?;
+            if frontier.is_empty() {
+                break;
             }
+            self.settle_frontier(pool, &frontier, share)?;
+            settled += frontier.len();
+            queue.fill(self)?;
         }
         Ok(())
     }
 
-    /// Settles the labels of a frontier.
-    fn settle_layer(&mut self, frontier: &[usize]) -> Result<(), AllocError>
-        requires { All (λ i. i < length self.old.labels) frontier.now }
-        ensures { IfOk result (λ _. Extends self.old self.new) }
-    {
-        for i in frontier {
-            self.settle(*i)?;
-        }
-        Ok(())
-    }
-
-    /// Relaxes the labels of a frontier, by as many of the workers as are worthwhile.
-    fn lead_layer<Rt: Threads + Sync, G: Gate>(
-        &mut self,
-        pool: &Pool<'_, Rt, G>,
-        frontier: &[usize],
-    ) -> Result<(), AllocError>
-        requires { All (λ i. i < length self.old.labels) frontier.now }
-        ensures { IfOk result (λ _. Extends self.old self.new) }
-    {
-        let hands = frontier.len() / SHARE;
-        if hands <= 1 {
-            self.settle_layer(frontier)
-        } else {
-            self.share_layer(&pool.at_most(hands), frontier)
-        }
-    }
-
-    /// Settles labels by their number of edges.
+    /// Settles labels layer by layer, by their number of edges, until none with more edges is open.
     fn settle_layers<Rt: Threads + Sync, G: Gate>(
         &mut self,
         pool: &Pool<'_, Rt, G>,
@@ -192,22 +132,28 @@ impl<'a> Search<'a> {
         ensures { IfOk result (λ _. Extends self.old self.new) }
     {
         let mut layers = Layers::new(pool.alloc)?;
-        for count in 0..LAYERS {
+        for _layer in 0..LAYERS {
             layers.fill(self)?;
-            let frontier = layers.frontier(pool.alloc, self, count)?;
-            self.lead_layer(pool, &frontier)?;
+            let frontier = layers.frontier(pool.alloc, self)?;
+            if frontier.is_empty() {
+                break;
+            }
+            self.settle_frontier(pool, &frontier, SHARE)?;
         }
         Ok(())
     }
 
-    /// Settles labels best-first, and then, if many remain, by their number of edges.
+    /// Settles labels: the first ones frontier by frontier, then best-first, and, if many remain, by their number of
+    /// edges.
     pub(crate) fn settle_chunked<Rt: Threads + Sync, G: Gate>(
         &mut self,
         pool: &Pool<'_, Rt, G>,
     ) -> Result<(), AllocError>
         ensures { IfOk result (λ _. Extends self.old self.new) }
     {
-        if self.settle_best_first(pool.alloc, ALONE)? {
+        let mut queue = Queue::of(pool.alloc, self)?;
+        self.settle_early(pool, &mut queue)?;
+        if self.settle_queue(&mut queue, ALONE)? {
             return Ok(());
         }
         self.settle_layers(pool)?;

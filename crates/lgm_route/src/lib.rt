@@ -11,6 +11,7 @@ mod comparing;
 mod diving;
 mod entry;
 mod fault;
+mod frontier;
 mod fronts;
 mod hops;
 mod label;

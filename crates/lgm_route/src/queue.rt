@@ -1,6 +1,6 @@
-//! Settling labels best-first (A\*).
+//! Settling labels best-first (A\*), and the frontiers of the most promising ones.
 
-ghost use Rattle.std.specs.Prelude.{◌<◌, length, IfOk, IfSome};
+ghost use Rattle.std.specs.Prelude.{◌<◌, length, All, IfOk, IfSome};
 ghost use Rattle.lgm_route.specs.inner.State.{Extends};
 
 use crate::diving::Dives;
@@ -11,7 +11,7 @@ use std::collections::BinaryHeap;
 
 /// Labels that wait to be settled, by the lower bound of their walks.
 #[derive(Drop)]
-struct Queue {
+pub(crate) struct Queue {
     heap: BinaryHeap<Entry>,
     /// The number of labels queued so far.
     queued: usize,
@@ -19,16 +19,21 @@ struct Queue {
 }
 
 impl Queue {
-    fn new(alloc: Global) -> Queue {
-        Queue {
+    /// A queue of all labels, and of those that dives from them add.
+    pub(crate) fn of(alloc: Global, search: &mut Search) -> Result<Queue, AllocError>
+        ensures { IfOk result (λ _. Extends search.old search.new) }
+    {
+        let mut queue = Queue {
             heap: BinaryHeap::new(alloc),
             queued: 0,
             dives: Dives::new(),
-        }
+        };
+        queue.fill(search)?;
+        Ok(queue)
     }
 
     /// Queues the new labels, and those that dives from them add.
-    fn fill(&mut self, search: &mut Search) -> Result<(), AllocError>
+    pub(crate) fn fill(&mut self, search: &mut Search) -> Result<(), AllocError>
         ensures { IfOk result (λ _. Extends search.old search.new) }
     {
         for i in self.queued..usize::MAX {
@@ -62,6 +67,60 @@ impl Queue {
     }
 }
 
+impl Queue {
+    /// The most promising open label, unless the remaining ones can be pruned.
+    fn next_open(&mut self, search: &Search) -> Option<usize>
+        ensures { IfSome result (λ i. i < length search.now.labels) }
+    {
+        for _turn in 0..usize::MAX {
+            let i = self.next(search)?;
+            if search.is_open(i) {
+                return Some(i);
+            }
+        }
+        None
+    }
+
+    /// Whether the next label has the lower bound and the number of edges of this one.
+    fn is_next_level_with(&self, search: &Search, i: usize) -> bool
+        requires { i < length search.now.labels }
+    {
+        let entry = Entry::new(search.promise(i), search.label(i).count, i);
+        match self.heap.peek() {
+            Some(next) => next.is_level_with(entry),
+            None => false,
+        }
+    }
+
+    /// The next frontier: the most promising open labels, which have the smallest lower bound, and of these those with
+    /// the fewest edges. Empty if the remaining labels can be pruned.
+    pub(crate) fn frontier(
+        &mut self,
+        alloc: Global,
+        search: &Search,
+    ) -> Result<Vec<usize>, AllocError>
+        ensures { IfOk result (λ frontier. All (λ i. i < length search.now.labels) frontier.items) }
+    {
+        let mut frontier = Vec::new(alloc);
+        let Some(first) = self.next_open(search) else {
+            return Ok(frontier);
+        };
+        frontier.push(first)?;
+        for _turn in 0..usize::MAX {
+            if !self.is_next_level_with(search, first) {
+                break;
+            }
+            let Some(i) = self.next(search) else {
+                break;
+            };
+            if search.is_open(i) {
+                frontier.push(i)?;
+            }
+        }
+        Ok(frontier)
+    }
+}
+
 impl<'a> Search<'a> {
     /// A lower bound on what walks over a label send above the request's amount, in msat.
     #[inline(always)]
@@ -73,17 +132,24 @@ impl<'a> Search<'a> {
         above.saturating_add(self.low(label.node))
     }
 
-    /// Settles labels best-first until the remaining ones can be pruned; or, once `most` are settled, until some walk
-    /// is found. Returns whether the remaining ones can be pruned.
-    pub(crate) fn settle_best_first(
+    /// Settles labels best-first until the remaining ones can be pruned.
+    pub(crate) fn settle_best_first(&mut self, alloc: Global) -> Result<(), AllocError>
+        ensures { IfOk result (λ _. Extends self.old self.new) }
+    {
+        let mut queue = Queue::of(alloc, self)?;
+        self.settle_queue(&mut queue, usize::MAX)?;
+        Ok(())
+    }
+
+    /// Settles the labels of a queue best-first until the remaining ones can be pruned; or, once `most` are settled,
+    /// until some walk is found. Returns whether the remaining ones can be pruned.
+    pub(crate) fn settle_queue(
         &mut self,
-        alloc: Global,
+        queue: &mut Queue,
         most: usize,
     ) -> Result<bool, AllocError>
         ensures { IfOk result (λ _. Extends self.old self.new) }
     {
-        let mut queue = Queue::new(alloc);
-        queue.fill(self)?;
         for turn in 0..usize::MAX {
             if most <= turn && self.has_walk() {
                 return Ok(false);

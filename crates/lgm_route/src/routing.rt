@@ -53,7 +53,7 @@ fn best_walk(
         (λ best. IsBestWalk (edges view.now) request.now (option_map (λ walk. walk.items) best)) }
 {
     let mut search = begin(alloc, view, request)?;
-    search.settle_best_first(alloc, usize::MAX)?;
+    search.settle_best_first(alloc)?;
     search.sweep()?;
     search.best_walk(alloc)
 }
@@ -183,11 +183,15 @@ pub fn least(alloc: Global, view: &View, request: &Request) -> Result<Route, Rou
 /// The same route as [`least`], found by several workers, for any number of them from 1 to 64, and whatever the gate
 /// does.
 ///
-/// The search is best-first, on one thread, for some thousands of labels and until some walk is found: most searches
-/// finish there. Then it goes on by layers: the labels with one number of edges are relaxed by several threads, and one
-/// thread merges the results. There are at most 20 layers. A layer of a thousand labels or more is split into as many
-/// chunks as it is worth threads, and each chunk passes the gate with its number, from 0; what runs on one thread
-/// passes no gate.
+/// The first 64 labels leave the queue frontier by frontier: all that are equally promising and have as many edges. A
+/// frontier is relaxed by one call of [`map_chunks`](lgm_par::map_chunks), in as many chunks as it has eighths of the
+/// network's nodes (512 labels are always enough for a chunk), and merged in order by one thread. Then the search is
+/// best-first, on one thread, for some thousands of labels and until some walk is found: most searches finish there. If
+/// not, it goes on by layers: the labels with one number of edges are a frontier, with 512 labels for each chunk. There
+/// are at most 20 layers.
+///
+/// Each chunk passes the gate with its number, from 0. A frontier with too few labels for a chunk is relaxed on the
+/// caller's thread, as is all that comes best-first, and passes no gate.
 ///
 /// The refusals are those of [`least`].
 pub fn least_chunked<Rt: Threads + Sync, G: Gate>(

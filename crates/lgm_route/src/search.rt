@@ -121,6 +121,11 @@ impl<'a> Search<'a> {
         self.labels[i]
     }
 
+    /// The number of nodes.
+    pub(crate) fn nodes(&self) -> usize {
+        self.view.nodes()
+    }
+
     /// The request.
     #[inline(always)]
     pub(crate) fn request(&self) -> NumberedRequest

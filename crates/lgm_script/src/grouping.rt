@@ -22,15 +22,17 @@ pub enum Kind {
     Other,
 }
 
-/// The maximum number of lines of a kind that are answered together. What is prepared for items and questions is kept
-/// until their turn, which for replies to queries can be much.
+/// The maximum number of items, or of questions, that are answered together. What is prepared for them is kept until
+/// their turn.
+const TOGETHER: usize = 1_024;
+
+/// The maximum number of lines of a kind that are answered together.
 fn most_of(kind: Kind) -> usize
     ensures some { 0 < result }
     ensures alone { kind ≡ Kind.Other → result ≡ 1 }
 {
     match kind {
-        Kind::Item => 1_024,
-        Kind::Question => 64,
+        Kind::Item | Kind::Question => TOGETHER,
         Kind::Other => 1,
     }
 }
@@ -98,7 +100,7 @@ fn next_of_kind(bytes: &[u8], kind: Kind) -> Option<(&[u8], &[u8])>
 }
 
 /// The first line of what was read ahead, which has `first` bytes, with the complete lines of its kind that follow it:
-/// at most `most` lines, 1,024 for items and 64 for questions; others are answered alone.
+/// at most `most` and at most 1,024 lines of items or of questions; others are answered alone.
 pub fn next_group(
     alloc: Global,
     buffered: &[u8],

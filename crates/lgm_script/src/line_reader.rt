@@ -14,8 +14,9 @@ use std::marker::Model;
 /// The maximum length of a line in bytes, without its line feed.
 pub const MAX_LINE: usize = 140_000;
 
-/// The maximum number of bytes that are read ahead: more than three of the longest lines.
-const ROOM: usize = 524_288;
+/// The maximum number of bytes that are read ahead: more than seven of the longest lines, or 1,024 announcements of
+/// channels.
+const ROOM: usize = 1_048_576;
 
 /// What was read ahead of a source. All memory is allocated when it is made.
 ///

@@ -1,8 +1,6 @@
 mod announcements;
 mod answers;
-mod bans;
 mod closes;
-mod faults;
 mod filter_lines;
 mod limits;
 mod messages;

@@ -1,34 +1,11 @@
-//! The route server: scripts of gossip, answered line by line.
+//! The route server: whole scripts of gossip, and maps that are queried while they grow.
 //!
-//! [`run`] takes a whole script from a [`Source`](lgm_script::Source) and writes its text to a
-//! [`Sink`](lgm_script::Sink). Its contract defines that text, line by line, however the bytes of the script arrive.
+//! [`run`] answers a script line by line. [`live`] has one writer admit items batch by batch while workers answer
+//! payments, and [`run_live`] does this with a script. The devices that scripts are read from and answered to, and the
+//! types of what these calls take and return, are here too.
 #![tactic(auto)]
 
-mod answer;
-mod answering;
-mod chart;
-mod checking;
-mod context;
-mod engine;
-mod filter_reading;
-mod filters;
-mod leveling;
-mod maps;
-mod objection;
-mod offering;
-mod query_answering;
-mod questions;
-mod remains;
-mod route_sending;
-mod routing;
-mod run_fault;
-mod running;
-mod sending;
-
-pub use answer::outcome_word;
-pub use context::Context;
-pub use remains::Remains;
-pub use route_sending::send_route;
-pub use routing::asked_route;
-pub use run_fault::RunFault;
-pub use running::{Counts, MAX_LINES, run, run_keeping};
+pub use lgm_answers::{MAX_LINES, RunFault};
+pub use lgm_live::{Batches, LiveAnswer, LiveFault, LiveReport, RequestLists, live, run_live};
+pub use lgm_run::{Context, Counts, Remains, run, run_keeping};
+pub use lgm_script::{Failed, FromRead, Item, MemorySink, MemorySource, Sink, Source, ToWrite};

@@ -4,6 +4,7 @@
 mod devices;
 mod line;
 mod messages;
+mod notation;
 mod numbers;
 mod runs;
 mod transcript;
@@ -14,6 +15,7 @@ pub use messages::{
     CHAIN, OTHER_CHAIN, announcement, announcement_with, node_announcement, node_announcement_with,
     point, update, update_with,
 };
+pub use notation::spelled;
 pub use numbers::Numbers;
 pub use runs::{Differing, ended, find_differing, run_by, written};
 pub use transcript::text_of;

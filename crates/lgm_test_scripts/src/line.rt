@@ -73,7 +73,8 @@ fn channel(
     Ok(format!(in alloc; "m {message} all {sat}\n")?)
 }
 
-fn terms_of(alloc: Global, terms: &Terms) -> Result<String, AllocError> {
+/// Terms as the digits of an update.
+pub(crate) fn terms_of(alloc: Global, terms: &Terms) -> Result<String, AllocError> {
     let Terms {
         delta,
         min,

@@ -12,6 +12,9 @@ use std::random::RandomSource;
 use std::test::Fail;
 use std::thread::Threads;
 
+/// As many bytes at each read as are read ahead at most.
+const WHOLE: usize = 1_048_576;
+
 /// A run of a script that writes something else than another one, or than it should.
 #[derive(Debug, Drop)]
 pub struct Differing {
@@ -62,7 +65,7 @@ pub fn ended<Rt: Threads + Sync + RandomSource, G: Gate>(
     (ended, writer)
 }
 
-/// Runs the script, cut into pieces of several sizes and by several workers, where these features of nodes are known.
+/// Runs the script, seven bytes and all bytes at a time, by 1, 3 and 64 workers, where these features of nodes are known.
 /// Gives the first run that writes something else than what is wanted.
 pub fn find_differing<Rt: Threads + Sync + RandomSource>(
     rt: &Rt,
@@ -71,7 +74,7 @@ pub fn find_differing<Rt: Threads + Sync + RandomSource>(
     script: &[u8],
     want: &str,
 ) -> Result<Option<Differing>, Fail> {
-    for (piece, workers) in [(7usize, 3usize), (100_000, 1), (100_000, 64)] {
+    for (piece, workers) in [(7usize, 3usize), (WHOLE, 1), (WHOLE, 3), (WHOLE, 64)] {
         let (ended, writer) = ended(rt, alloc, known, script, piece, workers, &Open);
         ended?;
         if writer.taken() != want.as_bytes() {
@@ -91,7 +94,7 @@ pub fn written<Rt: Threads + Sync + RandomSource>(
     alloc: Global,
     script: &[u8],
 ) -> Result<Vec<u8>, Fail> {
-    let (ended, writer) = ended(rt, alloc, &Known::all(), script, 100_000, 4, &Open);
+    let (ended, writer) = ended(rt, alloc, &Known::all(), script, WHOLE, 4, &Open);
     ended?;
     Ok(Vec::from_slice(alloc, writer.taken())?)
 }

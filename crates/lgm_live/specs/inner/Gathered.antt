@@ -4,7 +4,7 @@ use Rattle.lgm_route.specs.declared.request.Request.{Request as RouteRequest}
 use Rattle.lgm_script.specs.declared.item.Item.{Item}
 use Rattle.lgm_script.specs.declared.request.Request.{Request}
 use Rattle.lgm_script.specs.declared.request.Request.TheVariants as requests
-use Rattle.lgm_server.specs.Routing.{asked_route}
+use Rattle.lgm_answers.specs.Routing.{asked_route}
 use Rattle.lgm_live.specs.declared.slot.Slot.{Slot}
 use Rattle.lgm_live.specs.declared.slot.Slot.TheVariants as slots
 use Rattle.lgm_live.specs.Agenda.{batches_of, lists_of}

@@ -2,9 +2,9 @@
 use Rattle.std.specs.Prelude.{◌≡◌, ◌≢◌, ℕ, ◌<◌, ◌≤◌, List, [], ◌∷◌, length, Option, Result, Err, IfSome, IfOk}
 use Rattle.lgm_script.specs.declared.output.Output.{Output}
 use Rattle.lgm_script.specs.declared.request.Request.{Request}
-use Rattle.lgm_server.specs.Script.{requests_of}
-use Rattle.lgm_live.specs.declared.run_live_fault.RunLiveFault.{RunLiveFault}
-use Rattle.lgm_live.specs.declared.run_live_fault.RunLiveFault.TheVariants as faults
+use Rattle.lgm_answers.specs.Script.{requests_of}
+use Rattle.lgm_answers.specs.declared.run_fault.RunFault.{RunFault}
+use Rattle.lgm_answers.specs.declared.run_fault.RunFault.TheVariants as faults
 use Rattle.lgm_live.specs.inner.Gathered.{Gathered, with_line, IsAgenda}
 use Rattle.lgm_live.specs.Running.{IsWithin, HasMoreLines, HasLongLine}
 
@@ -35,7 +35,7 @@ pub record IsRead (workers : ℕ) (script : Option (List ℕ)) (agenda : Gathere
 -- how reading a script ends: with what was read of it, or it exceeds a limit, or a device failed. Nothing was written
 pub record HasRead {R W T : Type 0} (left : R → Option (List ℕ)) (read_failures : R → ℕ)
     (taken : W → Option (List ℕ)) (write_failures : W → ℕ) (source source' : R) (output output' : Output W)
-    (whole : T → Type 0) (result : Result T RunLiveFault) : Type 0 where
+    (whole : T → Type 0) (result : Result T RunFault) : Type 0 where
   pub ok : IfOk result whole
   pub too_many : result ≡ Err faults.TooManyLines → IfSome (left source) HasMoreLines
   pub too_long : result ≡ Err faults.LineTooLong → IfSome (left source) HasLongLine

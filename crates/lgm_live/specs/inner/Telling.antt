@@ -2,7 +2,7 @@
 use Rattle.std.specs.Prelude.{ℕ, zero, suc, ◌+◌, ◌<◌, Bool, true, false, List, [], ◌++◌, length}
 use Rattle.std.specs.Prelude.{take, Option, Some, None, IsSome, codes, count_by, slice_index_or}
 use Rattle.lgm_script.specs.Text.{word_line, commit_line}
-use Rattle.lgm_server.specs.Answer.{outcome_text, route_text}
+use Rattle.lgm_answers.specs.Answer.{outcome_text, route_text}
 use Rattle.lgm_live.specs.declared.report.LiveAnswer.{LiveAnswer}
 use Rattle.lgm_live.specs.declared.report.LiveReport.{LiveReport}
 use Rattle.lgm_live.specs.declared.slot.Slot.{Slot}

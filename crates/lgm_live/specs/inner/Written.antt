@@ -5,7 +5,7 @@ use Rattle.lgm_wire.specs.declared.chain_hash.ChainHash.{ChainHash}
 use Rattle.lgm_script.specs.declared.item.Item.{Item}
 use Rattle.lgm_store.specs.History.{fold}
 use Rattle.lgm_store.specs.declared.op.Op.{Op}
-use Rattle.lgm_server.specs.Outcomes.{outcomes, history_of}
+use Rattle.lgm_answers.specs.Outcomes.{outcomes, history_of}
 use Rattle.lgm_live.specs.Batches.{items_of, ends_of}
 use Rattle.lgm_live.specs.declared.writing.Written.{Written}
 

@@ -5,28 +5,6 @@ use lgm_test_scripts::Line::{Channel, Commit, Open, Pay, Update};
 use lgm_test_scripts::{FREE, Terms};
 use std::test::Fail;
 
-/// The second channel charges 200 msat and 2,000 millionths of 4,999,999 msat: 10,199 msat. The first one's fee is the
-/// payer's own.
-#[test]
-fn two_channels(rt: HostRuntime) -> Result<(), Fail> {
-    let first = Terms {
-        delta: 10,
-        base: 7,
-        ..FREE
-    };
-    let second = Terms {
-        delta: 20,
-        base: 200,
-        millionths: 2000,
-        ..FREE
-    };
-    let answer = "route 5010198 700029 2\n\
-        hop 1x0x0 1402034c4b3f04030aae6906080000020000000000\n\
-        hop 2x0x0 2f02034c4b3f04030aae690823S4c4b3f";
-    let row = [first, second];
-    assert_over(&rt, rt.alloc(), &row, (4_999_999, 700_009), answer)
-}
-
 /// The third channel charges 5 msat and a hundredth of 100,000 msat, the second one 1 msat and a tenth of 101,005 msat,
 /// rounded down: 10,101 msat.
 #[test]

@@ -11,30 +11,6 @@ fn filter(alloc: Global, first: &str, range: &str) -> Result<String, AllocError>
     format!(in alloc; "0109{CHAIN}{first}{range}")
 }
 
-/// An update of the first channel by its node 1, and its announcement, which passes as soon as the update does.
-#[test]
-fn news_of_a_channel(rt: HostRuntime) -> Result<(), Fail> {
-    let alloc = rt.alloc();
-    let (a, b) = two_nodes(alloc)?;
-    let channel = announced(alloc, FIRST)?;
-    let five = update(alloc, CHAIN, FIRST, ("01", "00"), 5)?;
-    let six = update(alloc, CHAIN, FIRST, ("01", "00"), 6)?;
-    let (all, later) = (
-        filter(alloc, "00000000", "ffffffff")?,
-        filter(alloc, "00000006", "00000001")?,
-    );
-    let script = format!(in alloc;
-        "filter 7 {all}\nm {channel} all 1\ncommit\nm {five} {a} -\ncommit\nm {six} {a} -\n\
-        commit\nfilter 7 {later}\ncommit\n"
-    )?;
-    let want = format!(in alloc;
-        "1 filter\n2 accepted\n3 commit 1\n4 accepted\n5 commit 2\n5 to 7 {channel}\n\
-        5 to 7 {five}\n6 accepted\n7 commit 3\n7 to 7 {six}\n8 filter\n8 to 7 {channel}\n\
-        8 to 7 {six}\n9 commit 3\n"
-    )?;
-    assert_answers(&rt, alloc, script.as_bytes(), want.as_str())
-}
-
 /// A close and the same bytes again are no news.
 #[test]
 fn the_same_bytes_again(rt: HostRuntime) -> Result<(), Fail> {

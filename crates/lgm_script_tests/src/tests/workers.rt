@@ -3,7 +3,7 @@
 use super::messages::announced;
 use lgm_graph::Known;
 use lgm_par::Gate;
-use lgm_test_scripts::{CHAIN, ended};
+use lgm_test_scripts::{CHAIN, ended, spelled};
 use std::alloc::{AllocError, Global};
 use std::process::Abort;
 use std::random::RandomSource;
@@ -135,22 +135,27 @@ fn questions_side_by_side(rt: HostRuntime) -> Result<(), Fail> {
     assert_side_by_side(&rt, alloc, query.as_bytes(), reply.as_bytes())
 }
 
-/// More items than are taken together: two groups, each of which is a single piece.
+/// More announcements than are taken together: a group of 1,024, in two pieces and one more for each 128 KiB of its
+/// text, at most one a worker, and a group of one.
 #[test]
 fn more_items_than_a_group_has(rt: HostRuntime) -> Result<(), Fail> {
     let alloc = rt.alloc();
     let mut script = String::new(alloc);
     let mut want = String::new(alloc);
     for line in 1..=1_025u32 {
-        script.push_str(format!(in alloc; "close {line}x0x0\n")?.as_str())?;
-        want.push_str(format!(in alloc; "{line} unknown-channel\n")?.as_str())?;
+        let item = format!(in alloc; "m ca({line}x0x0,A,B) all 100000\n")?;
+        script.push_str(spelled(alloc, &item)?.as_str())?;
+        want.push_str(format!(in alloc; "{line} accepted\n")?.as_str())?;
     }
-    for workers in [1usize, 2, 64] {
+    for (workers, pieces) in [(1usize, 1usize), (2, 2), (3, 3), (64, 8)] {
         let gate = counter(255);
         let text = answered(&rt, alloc, script.as_bytes(), workers, &gate)?;
         assert_eq!(rt; text.as_slice(), want.as_bytes(), "by {workers} workers");
         assert_eq!(rt; gate.of_piece(0), 2, "by {workers} workers");
-        assert_eq!(rt; gate.of_piece(1), 0, "by {workers} workers");
+        for piece in 1usize..8 {
+            let passes = u64::from(piece < pieces);
+            assert_eq!(rt; gate.of_piece(piece), passes, "by {workers} workers");
+        }
     }
     Ok(())
 }

@@ -248,6 +248,44 @@ fn the_kept_view_and_a_view_of_the_committed_map_have_the_same_edges(
     Ok(())
 }
 
+/// Absorbs an operation, a second time where it was refused memory. Whether the refusal left the channels and the edges.
+fn absorb_or_again(network: &mut Network, op: &Op) -> Result<bool, AllocError> {
+    let channels = network.map().count();
+    let edges = network.view().edge_count();
+    if absorb(network, op).is_ok() {
+        return Ok(true);
+    }
+    let same = network.map().count() == channels && network.view().edge_count() == edges;
+    absorb(network, op)?;
+    Ok(same)
+}
+
+/// Whether each refused step left the network as it was, and the last view is as one that is made of the map.
+fn edges_after_refusals(alloc: Global, steps: &[Step]) -> Result<(bool, usize), AllocError> {
+    let known = Known::all();
+    let mut network = Network::new(alloc, &known)?;
+    let mut same = true;
+    for step in steps {
+        same = absorb_or_again(&mut network, &operation(alloc, *step)?)? && same;
+    }
+    same = is_as_made(alloc, network.view(), network.map(), &known)? && same;
+    Ok((same, network.view().edge_count()))
+}
+
+/// To be run with each allocation refused in turn.
+#[test]
+fn a_refused_step_leaves_map_and_view(rt: HostRuntime) {
+    for (steps, edges) in [
+        (BESIDE.as_slice(), 5),
+        (CLOSED.as_slice(), 0),
+        (BANNED.as_slice(), 0),
+    ] {
+        if let Ok(ended) = edges_after_refusals(rt.alloc(), steps) {
+            assert_eq!(rt; ended, (true, edges));
+        }
+    }
+}
+
 #[test]
 fn fees_and_features(rt: HostRuntime) -> Result<(), Fail> {
     let alloc = rt.alloc();

@@ -111,22 +111,54 @@ fn fee_of_the_second_channel(rt: HostRuntime) -> Result<(), Fail> {
     Ok(())
 }
 
-/// The most turns that a piece is held.
+/// 20 channels, each with a delta of 40 blocks, are a route; 21 are none.
+#[test]
+fn twenty_channels(rt: HostRuntime) -> Result<(), Fail> {
+    let alloc = rt.alloc();
+    let mut map = Map::new(alloc)?;
+    let mut expected = vec![in alloc; 1000, 700_760]?;
+    for node in 1..=21 {
+        let scid = Scid::new(u32::from(node), 0, 0);
+        join(&mut map, alloc, scid, node - 1, node, &FREE)?;
+        if node <= 20 {
+            expected.push(scid.to_u64())?;
+        }
+    }
+    let found = answer(&rt, alloc, &map, 20, 1000, 700_000)?;
+    assert_route(&rt, alloc, found, &expected)?;
+    let none = answer(&rt, alloc, &map, 21, 1000, 700_000)?;
+    assert_eq!(rt; none.err(), Some(RouteFault::NoRoute));
+    Ok(())
+}
+
+/// The most turns that a chunk is held.
 const LIMIT: u64 = 100_000_000;
 
-/// Holds piece 0 until piece 1 has passed.
+/// Lets the first pass through, and then holds chunk 0 until chunk 1 has passed.
 #[derive(Drop)]
 struct Pairs {
+    passes: AtomicU64,
     ones: AtomicU64,
     turns: AtomicU64,
 }
 
+impl Pairs {
+    fn new() -> Pairs {
+        Pairs {
+            passes: AtomicU64::new(0),
+            ones: AtomicU64::new(0),
+            turns: AtomicU64::new(0),
+        }
+    }
+}
+
 impl Gate for Pairs {
     fn pass(&self, piece: usize) {
+        let first = self.passes.fetch_add(1, Ordering::SeqCst) == 0;
         if piece == 1 {
             self.ones.fetch_add(1, Ordering::SeqCst);
         }
-        if piece != 0 {
+        if first || piece != 0 {
             return;
         }
         let mut turns = 0;
@@ -141,49 +173,76 @@ impl Gate for Pairs {
     }
 }
 
-/// How many nodes are enough for two workers.
-const MANY: u16 = 3_200;
+/// The route of a payment from node 0 that two workers find behind this gate.
+fn found_by_two(
+    rt: &(impl Abort + Threads + Sync),
+    alloc: Global,
+    gate: &Pairs,
+    map: &Map,
+    to: u16,
+    amount: u64,
+) -> Result<Result<Route, RouteFault>, AllocError> {
+    assert!(rt; map.count() <= 2_000_000_000);
+    let view = View::of(alloc, map, &Known::all())?;
+    let request = Request {
+        payer: point(0),
+        payee: point(to),
+        amount,
+        expiry: 700_000,
+    };
+    Ok(least_chunked(rt, alloc, 2, gate, &view, &request))
+}
 
-/// The nodes between the payer, 0, and the payee are led on at once, in two pieces. Of routes that send the same over as
-/// many channels the one of the least ids is taken.
+/// The payee is relaxed alone, which is the first pass, and then both nodes before it at once, a chunk for each. Of
+/// routes that send the same over as many channels the one of the least ids is taken.
 #[test]
 fn two_pieces_at_once(rt: HostRuntime) -> Result<(), Fail> {
     let alloc = rt.alloc();
     let mut map = Map::new(alloc)?;
-    for node in 1..=MANY {
-        let block = u32::from(node);
-        join(&mut map, alloc, Scid::new(block, 0, 0), 0, node, &FREE)?;
-        join(
-            &mut map,
-            alloc,
-            Scid::new(4_000 + block, 0, 0),
-            node,
-            MANY + 1,
-            &FREE,
-        )?;
+    for (block, from, to) in [(1, 0, 1), (2, 0, 2), (3, 1, 3), (4, 2, 3)] {
+        join(&mut map, alloc, Scid::new(block, 0, 0), from, to, &FREE)?;
     }
-    assert!(rt; map.count() <= 2_000_000_000);
-    let view = View::of(alloc, &map, &Known::all())?;
-    let request = Request {
-        payer: point(0),
-        payee: point(MANY + 1),
-        amount: 1000,
-        expiry: 700_000,
-    };
-    let gate = Pairs {
-        ones: AtomicU64::new(0),
-        turns: AtomicU64::new(0),
-    };
-    let found = least_chunked(&rt, alloc, 2, &gate, &view, &request);
+    let gate = Pairs::new();
+    let found = found_by_two(&rt, alloc, &gate, &map, 3, 1000)?;
     let ids = [
         1000,
         700_040,
         Scid::new(1, 0, 0).to_u64(),
-        Scid::new(4_001, 0, 0).to_u64(),
+        Scid::new(3, 0, 0).to_u64(),
     ];
     assert_route(&rt, alloc, found, &ids)?;
     let turns = gate.turns.load(Ordering::SeqCst);
     assert!(rt; 0 < turns && turns < LIMIT, "ended at the limit");
+    assert_eq!(rt; gate.passes.load(Ordering::SeqCst), 3);
+    Ok(())
+}
+
+/// How many nodes with one channel, to the payee, are enough for two workers late in a search.
+const MANY: u16 = 3_200;
+
+/// Nodes 1 and 2 each charge as much as they pass on: the only route sends 40,000 msat, of which the payee gets 10,000.
+/// The other nodes each charge less, so they are relaxed before it is known that they lead nowhere: the last ones by two
+/// workers at once.
+#[test]
+fn two_pieces_of_a_layer(rt: HostRuntime) -> Result<(), Fail> {
+    let alloc = rt.alloc();
+    let mut map = Map::new(alloc)?;
+    let twice = Terms {
+        millionths: 1_000_000,
+        ..FREE
+    };
+    join(&mut map, alloc, Scid::from_u64(1), 0, 1, &FREE)?;
+    join(&mut map, alloc, Scid::from_u64(2), 1, 2, &twice)?;
+    let payee = MANY + 3;
+    join(&mut map, alloc, Scid::from_u64(3), 2, payee, &twice)?;
+    for node in 3..payee {
+        let base = u32::from(node);
+        let scid = Scid::new(base, 0, 0);
+        join(&mut map, alloc, scid, node, payee, &Terms { base, ..FREE })?;
+    }
+    let gate = Pairs::new();
+    let found = found_by_two(&rt, alloc, &gate, &map, payee, 10_000)?;
+    assert_route(&rt, alloc, found, &[40_000, 700_080, 1, 2, 3])?;
     assert_eq!(rt; gate.ones.load(Ordering::SeqCst), 1);
     Ok(())
 }
@@ -244,18 +303,20 @@ fn two_hops(rt: HostRuntime) -> Result<(), Fail> {
     Ok(())
 }
 
-/// The words of the refusals, as an answer spells them.
+/// The numbers of the refusals, and their words, as an answer spells them.
 #[test]
 fn words(rt: HostRuntime) -> Result<(), Fail> {
     let words = [
-        (RouteFault::AmountZero, "amount-zero"),
-        (RouteFault::AmountTooLarge, "amount-too-large"),
-        (RouteFault::ExpiryTooLarge, "expiry-too-large"),
-        (RouteFault::SelfPayment, "self-payment"),
-        (RouteFault::NoRoute, "no-route"),
+        (21, RouteFault::AmountZero, "amount-zero"),
+        (22, RouteFault::AmountTooLarge, "amount-too-large"),
+        (23, RouteFault::ExpiryTooLarge, "expiry-too-large"),
+        (24, RouteFault::SelfPayment, "self-payment"),
+        (25, RouteFault::NoRoute, "no-route"),
     ];
-    for (fault, word) in words {
+    for (number, fault, word) in words {
+        assert_eq!(rt; fault.number(), number);
         assert_eq!(rt; format!(in rt.alloc(); "{fault}")?.as_str(), word);
     }
+    assert_eq!(rt; RouteFault::NoMemory.number(), 26);
     Ok(())
 }

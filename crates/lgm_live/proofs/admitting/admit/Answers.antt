@@ -12,7 +12,7 @@ use Rattle.lgm_store.specs.Admission.{admitted, Offers}
 use Rattle.lgm_store.proofs.Verdicts.{offers_gives}
 use Rattle.lgm_script.specs.declared.item.Item.{Item}
 use Rattle.lgm_script.specs.declared.item.Item.TheVariants.{Gossip}
-use Rattle.lgm_server.specs.Outcomes.{outcome_of}
+use Rattle.lgm_answers.specs.Outcomes.{outcome_of}
 use Rattle.lgm_live.proofs.admitting.admit.Goals as goal
 
 -- a message that is lawful by itself has the outcome of its admission

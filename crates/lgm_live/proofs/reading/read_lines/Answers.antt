@@ -1,7 +1,7 @@
 use Rattle.std.proofs.Common.{[], ◌∷◌, ◌++◌, length, take, refl, sym, ap, ◌∙◌, length-append, arith, rules}
 use Rattle.std.proofs.lemmas.Result.{err_from_is_err_and}
 use Rattle.lgm_script.specs.Request.{request_of}
-use Rattle.lgm_server.proofs.LineFaults.{failed}
+use Rattle.lgm_answers.proofs.LineFaults.{failed}
 use Rattle.lgm_live.specs.inner.Gathered.{with_line}
 use Rattle.lgm_live.proofs.Noting.{with_lines-push, workers_are, payments_few}
 use Rattle.lgm_live.proofs.WholeLines.{starts}

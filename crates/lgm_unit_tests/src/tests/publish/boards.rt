@@ -299,16 +299,27 @@ fn looks_as_made(alloc: Global, eye: Eye) -> Option<(u64, bool)> {
     }
 }
 
+/// What an eye is shown that was told of three operations, two of which were published before the third.
+fn told_of_three<R: Wait + RandomSource + Abort>(
+    rt: &R,
+    alloc: Global,
+    (one, two, three): (Op, Op, Op),
+) -> Result<Option<(u64, bool)>, Fail> {
+    let (mut pen, mut eyes) = board(rt, alloc, 2, &Known::all())?;
+    let mut first = eyes.pop().expect(rt, "an eye");
+    publish_two(rt, &mut pen, one, two);
+    publish_one(rt, &mut pen, three);
+    first.learn(pen.tell());
+    let shown = looks_as_made(alloc, first);
+    pen.end(rt);
+    Ok(shown)
+}
+
 #[test]
 fn a_guard_has_the_edges_of_a_view_of_its_map(rt: HostRuntime) -> Result<(), Fail> {
     let alloc = rt.alloc();
-    let (one, two, three) = (channel(alloc)?, update(alloc, 0)?, update(alloc, 1)?);
-    let (mut pen, mut first, _second) = pen_and_two_eyes(&rt, alloc)?;
-    publish_two(&rt, &mut pen, one, two);
-    publish_one(&rt, &mut pen, three);
-    first.learn(pen.tell());
-    assert_eq!(rt; looks_as_made(alloc, first), Some((3, true)));
-    pen.end(&rt);
+    let ops = (channel(alloc)?, update(alloc, 0)?, update(alloc, 1)?);
+    assert_eq!(rt; told_of_three(&rt, alloc, ops)?, Some((3, true)));
     Ok(())
 }
 

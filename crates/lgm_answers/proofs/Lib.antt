@@ -1,0 +1,5 @@
+pub mod Outcomes
+pub mod Lines
+pub mod LineFaults
+mod Hops
+mod Messages

@@ -1,0 +1,9 @@
+pub mod Outcomes
+pub mod Filters
+pub mod Filtering
+pub mod Query
+pub mod Routing
+pub mod Answer
+pub mod Setting
+pub mod Script
+pub mod Faults

@@ -1,0 +1,109 @@
+-- The text for the requests of a script, each depending on the requests before it.
+use Rattle.std.specs.Prelude.{ℕ, zero, suc, ◌+◌, ◌==◌, Bool, true, false, List, [], ◌∷◌, ◌++◌, length}
+use Rattle.std.specs.Prelude.{take, map, Option, Some, None, slice_index_or, codes, if◌then◌else◌}
+use Rattle.std.specs.List.{filter_map, last_or, list_any}
+use Rattle.std.specs.Result.{result_ok, result_err}
+use Rattle.lgm_wire.specs.declared.chain_hash.ChainHash.{ChainHash}
+use Rattle.lgm_store.specs.Rows.{Rows}
+use Rattle.lgm_store.specs.History.{fold}
+use Rattle.lgm_query.specs.declared.filter.Filter.{Filter}
+use Rattle.lgm_script.specs.declared.item.Item.{Item}
+use Rattle.lgm_script.specs.declared.request.Request.{Request}
+use Rattle.lgm_script.specs.declared.request.Request.TheVariants as requests
+use Rattle.lgm_script.specs.Lines.{lines_of}
+use Rattle.lgm_script.specs.Request.{request_of}
+use Rattle.lgm_script.specs.Text.{word_line}
+use Rattle.lgm_answers.specs.declared.filters.PeerFilter.{PeerFilter}
+use Rattle.lgm_answers.specs.Outcomes.{outcome_of, history_of}
+use Rattle.lgm_answers.specs.Filters.{filters_from}
+use Rattle.lgm_answers.specs.Filtering.{filter_read}
+use Rattle.lgm_answers.specs.Query.{query_answer}
+use Rattle.lgm_answers.specs.Answer.{outcome_text, query_text, filter_text, commit_text, route_text}
+use Rattle.lgm_answers.specs.Routing.{route_answer}
+
+-- what the lines of a script request
+abbrev pub requests_of : List ℕ → List Request
+requests_of script = map request_of (lines_of script)
+
+-- ---- the effect of requests
+
+-- the item that is offered
+abbrev pub item_in : Request → Option Item
+item_in (requests.Offer item) = Some item
+item_in _ = None
+
+abbrev pub items_of : List Request → List Item
+items_of asked = filter_map item_in asked
+
+abbrev pub is_commit : Request → Bool
+is_commit requests.Commit = true
+is_commit _ = false
+
+-- the requests before the last commit, and none if there is none
+abbrev pub before_commit : List Request → List Request
+before_commit [] = []
+before_commit (request ∷ others) = if list_any is_commit others then request ∷ before_commit others else []
+
+-- the filter that a request sets for a peer, if it sets one
+abbrev pub filter_given : ChainHash → ℕ → Request → Option Filter
+filter_given chain peer (requests.Filter other bytes) =
+    if other == peer then result_ok (filter_read chain bytes) else None
+filter_given chain peer _ = None
+
+-- the filter of a peer: the last one that was set
+abbrev pub filter_of : ChainHash → List Request → ℕ → Option Filter
+filter_of chain asked peer = last_or None (filter_map (filter_given chain peer) asked)
+
+-- the filters of the peers, which are numbers below 1,000
+unfoldable pub filters_of : ChainHash → List Request → List PeerFilter
+filters_of chain asked = filters_from (filter_of chain asked) 0 1000
+
+-- the state on which a request is answered
+pub record State : Type 0 where
+  -- the known feature bits of nodes, or none if all are known
+  pub known : Option (List ℕ)
+  -- the rows of all accepted items
+  pub rows : Rows
+  -- the rows of those before the last commit
+  pub committed : Rows
+  -- the number of accepted items
+  pub accepted : ℕ
+  -- the filters of peers, by ascending peer
+  pub filters : List PeerFilter
+
+-- the state after these requests
+abbrev pub state_of : ChainHash → Option (List ℕ) → List Request → State
+state_of chain known asked = record {
+  known = known;
+  rows = fold (history_of chain (items_of asked));
+  committed = fold (history_of chain (items_of (before_commit asked)));
+  accepted = length (history_of chain (items_of asked));
+  filters = filters_of chain asked;
+}
+
+-- ---- the text for them
+
+-- the text for a request, for the line with this number
+abbrev pub text_for : ChainHash → ℕ → State → Request → List ℕ
+text_for chain number state requests.Quiet = []
+text_for chain number state requests.Bad = word_line number (codes "bad")
+text_for chain number state (requests.Offer item) =
+    outcome_text number (result_err (outcome_of chain state.rows item))
+text_for chain number state requests.Commit =
+    commit_text number state.accepted state.committed state.rows state.filters
+text_for chain number state (requests.Query bytes) =
+    query_text number (query_answer chain state.committed bytes)
+text_for chain number state (requests.Filter peer bytes) =
+    filter_text number peer state.committed (filter_read chain bytes)
+text_for chain number state (requests.Route payment) =
+    route_text number payment.secret (route_answer state.known state.committed payment)
+
+-- the text for the request at an index, from 0
+unfoldable pub text_at : ChainHash → Option (List ℕ) → List Request → ℕ → List ℕ
+text_at chain known asked k =
+    text_for chain (k + 1) (state_of chain known (take k asked)) (slice_index_or asked k requests.Quiet)
+
+-- the text for the first k requests
+unfoldable pub text_before : ChainHash → Option (List ℕ) → List Request → ℕ → List ℕ
+text_before chain known asked zero = []
+text_before chain known asked (suc k) = text_before chain known asked k ++ text_at chain known asked k

@@ -1,0 +1,122 @@
+//! Writing messages, one per line.
+
+ghost use Rattle.std.specs.Prelude.{◌≡◌, ◌+◌, ◌<◌, ◌^◌, ℕ, List, Ok, Some};
+ghost use Rattle.std.specs.Iterator.{IsFinite, AlwaysYields};
+ghost use Rattle.std.specs.List.{flat_map};
+ghost use Rattle.lgm_script.specs.Output.{Writes};
+ghost use Rattle.lgm_script.specs.Text.{message_line};
+ghost use Rattle.lgm_answers.specs.Answer.{query_text, range_text, filter_text, news_text, commit_text};
+
+use crate::answer::RangeAsked;
+use crate::filters::{Filters, PeerFilter};
+use lgm_query::{Backlog, Differences, Reply, answer_range};
+use lgm_script::{Output, SendFault, Sink};
+use lgm_store::Map;
+use std::alloc::Global;
+
+/// Writes the messages of the reply to a query.
+pub(crate) fn send_messages<W: Sink>(
+    number: u64,
+    messages: &[Reply<'_>],
+    output: &mut Output<'_, W>,
+) -> Result<(), SendFault>
+    requires { W.failures output.old.writer.now + 1 < 2 ^ 64 }
+    ensures writer { output.new.writer.ghost_name ≡ output.old.writer.ghost_name }
+    ensures written { Writes W.taken W.failures output.old output.new
+        (query_text number (Ok messages.now)) result }
+{
+    for message in messages {
+        output.send_message(number, None, message.as_slice())?;
+    }
+    Ok(())
+}
+
+/// Makes the replies to a query of a range, and writes them.
+pub(crate) fn send_range<W: Sink>(
+    alloc: Global,
+    number: u64,
+    asked: &RangeAsked<'_>,
+    output: &mut Output<'_, W>,
+) -> Result<(), SendFault>
+    requires { W.failures output.old.writer.now + 1 < 2 ^ 64 }
+    ensures writer { output.new.writer.ghost_name ≡ output.old.writer.ghost_name }
+    ensures written { Writes W.taken W.failures output.old output.new
+        (range_text number asked.now) result }
+{
+    let replies = answer_range(alloc, &asked.chain, asked.map, &asked.query)?;
+    send_messages(number, replies.as_slice(), output)
+}
+
+/// Writes messages for a peer, one after the other.
+fn send_to<'a, I: Iterator<Item = &'a [u8]> + Drop, W: Sink>(
+    number: u64,
+    peer: u16,
+    messages: I,
+    output: &mut Output<'_, W>,
+) -> Result<(), SendFault>
+    requires can { I.can_next messages }
+    requires ends { IsFinite (I.remaining messages) }
+    requires writer { W.failures output.old.writer.now + 1 < 2 ^ 64 }
+    ensures writer { output.new.writer.ghost_name ≡ output.old.writer.ghost_name }
+    ensures written { (all : List (List ℕ)) → AlwaysYields I.next_gives (λ message. message.now) messages all
+        → Writes W.taken W.failures output.old output.new
+        (flat_map (message_line number (Some peer)) all) result }
+{
+    for message in messages {
+        output.send_message(number, Some(peer), message)?;
+    }
+    Ok(())
+}
+
+/// Writes that a peer has a filter, and then what passes it of a map.
+pub(crate) fn send_filtered<W: Sink>(
+    number: u64,
+    own: &PeerFilter,
+    map: &Map,
+    output: &mut Output<'_, W>,
+) -> Result<(), SendFault>
+    requires { W.failures output.old.writer.now + 1 < 2 ^ 64 }
+    ensures writer { output.new.writer.ghost_name ≡ output.old.writer.ghost_name }
+    ensures written { Writes W.taken W.failures output.old output.new
+        (filter_text number own.now.peer map.now (Ok own.now.filter)) result }
+{
+    output.send_word(number, "filter")?;
+    send_to(number, own.peer, Backlog::of(map, &own.filter), output)
+}
+
+/// Writes the news of each peer with a filter, by ascending peer.
+fn send_all_news<W: Sink>(
+    number: u64,
+    filters: &Filters,
+    differences: &Differences<'_>,
+    output: &mut Output<'_, W>,
+) -> Result<(), SendFault>
+    requires { W.failures output.old.writer.now + 1 < 2 ^ 64 }
+    ensures writer { output.new.writer.ghost_name ≡ output.old.writer.ghost_name }
+    ensures written { Writes W.taken W.failures output.old output.new
+        (flat_map (news_text number differences.now.before differences.now.after) filters.now)
+        result }
+{
+    for (_, own) in filters.as_map() {
+        send_to(number, own.peer, differences.news(&own.filter), output)?;
+    }
+    Ok(())
+}
+
+/// Writes the number of accepted items, and then the news of each peer.
+pub(crate) fn send_news<W: Sink>(
+    number: u64,
+    accepted: u64,
+    filters: &Filters,
+    differences: &Differences<'_>,
+    output: &mut Output<'_, W>,
+) -> Result<(), SendFault>
+    requires { W.failures output.old.writer.now + 1 < 2 ^ 64 }
+    ensures writer { output.new.writer.ghost_name ≡ output.old.writer.ghost_name }
+    ensures written { Writes W.taken W.failures output.old output.new
+        (commit_text number accepted differences.now.before differences.now.after filters.now)
+        result }
+{
+    output.send_count(number, accepted)?;
+    send_all_news(number, filters, differences, output)
+}

@@ -1,5 +1,0 @@
-use Rattle.lgm_route.specs.inner.State.{Extends}
-use Rattle.lgm_route.proofs.search.Search.settle_layer.Given as goal
-
-abbrev pub invariant-loop-i : goal.invariant-loop-i
-invariant-loop-i l = Extends l.fn.self l.self

@@ -1,0 +1,124 @@
+//! Relaxing the labels of a frontier, by several workers.
+
+ghost use Rattle.std.specs.Prelude.{◌≡◌, ◌<◌, ◌≤◌, ◌++◌, length, All, IfOk};
+ghost use Rattle.std.specs.List.{AllZip};
+ghost use Rattle.lgm_route.specs.inner.Leading.{in_list};
+ghost use Rattle.lgm_route.specs.inner.State.{AreLeadsAt, Extends};
+
+use crate::label::Label;
+use crate::search::Search;
+use lgm_par::{Gate, Pool};
+use std::alloc::{AllocError, Global};
+use std::thread::Threads;
+
+/// Appends a label, if there is one.
+#[inline(always)]
+fn push(labels: &mut Vec<Label>, label: Option<Label>) -> Result<(), AllocError>
+    ensures { IfOk result (λ _. labels.new.items ≡ labels.old.items ++ in_list label) }
+{
+    if let Some(label) = label {
+        labels.push(label)?;
+    }
+    Ok(())
+}
+
+/// The relaxations of each label of a frontier, computed in chunks.
+fn all_leads<Rt: Threads + Sync, G: Gate>(
+    pool: &Pool<'_, Rt, G>,
+    search: &Search,
+    frontier: &[usize],
+) -> Result<Vec<Result<Vec<Label>, AllocError>>, AllocError>
+    requires { All (λ i. i < length search.now.labels) frontier.now }
+    ensures { IfOk result (λ all. AllZip
+        (λ i leads. IfOk leads (λ leads. AreLeadsAt search.now i leads.items)) frontier.now all.items) }
+{
+    let alloc = pool.alloc;
+    pool.map(frontier, &|i| search.leads(alloc, *i))
+}
+
+impl<'a> Search<'a> {
+    /// Whether a label is neither settled, pruned nor dominated.
+    pub(crate) fn is_open(&self, i: usize) -> bool
+        requires { i < length self.now.labels }
+    {
+        let label = self.label(i);
+        !self.is_done(i) && self.hope(&label) < self.bound() && self.stand_in(i) == i
+    }
+
+    /// The relaxations of a label.
+    fn leads(&self, alloc: Global, i: usize) -> Result<Vec<Label>, AllocError>
+        requires { i < length self.now.labels }
+        ensures { IfOk result (λ leads. AreLeadsAt self.now i leads.items) }
+    {
+        let label = self.label(i);
+        let edges = self.edges_into(label.node);
+        let mut leads = Vec::new(alloc);
+        for at in 0..edges.len() {
+            push(&mut leads, self.lead(i, &label, at, &edges[at]))?;
+        }
+        Ok(leads)
+    }
+
+    /// Applies the relaxations of a label, and marks the label.
+    fn merge(&mut self, i: usize, leads: &[Label]) -> Result<(), AllocError>
+        requires label { i < length self.old.labels }
+        requires leads { AreLeadsAt self.old i leads.now }
+        ensures { IfOk result (λ _. Extends self.old self.new) }
+    {
+        // The contract of `len` says that labels represent rests.
+        let _len = self.len();
+        for new in leads {
+            self.take(*new)?;
+        }
+        self.mark(i)?;
+        Ok(())
+    }
+
+    /// Relaxes the labels of a frontier in chunks, and then merges the results, in the order of the frontier.
+    fn settle_in_chunks<Rt: Threads + Sync, G: Gate>(
+        &mut self,
+        pool: &Pool<'_, Rt, G>,
+        frontier: &[usize],
+    ) -> Result<(), AllocError>
+        requires { All (λ i. i < length self.old.labels) frontier.now }
+        ensures { IfOk result (λ _. Extends self.old self.new) }
+    {
+        let all = all_leads(pool, self, frontier)?;
+        for k in 0..frontier.len() {
+            match &all[k] {
+                Ok(leads) => self.merge(frontier[k], leads)?,
+                Err(e) => return Err(*e),
+            }
+        }
+        Ok(())
+    }
+
+    /// Settles the labels of a frontier one after the other.
+    fn settle_in_turn(&mut self, frontier: &[usize]) -> Result<(), AllocError>
+        requires { All (λ i. i < length self.old.labels) frontier.now }
+        ensures { IfOk result (λ _. Extends self.old self.new) }
+    {
+        for i in frontier {
+            self.settle(*i)?;
+        }
+        Ok(())
+    }
+
+    /// Settles the labels of a frontier: in one chunk for each `share` of them, or one after the other if they are fewer.
+    pub(crate) fn settle_frontier<Rt: Threads + Sync, G: Gate>(
+        &mut self,
+        pool: &Pool<'_, Rt, G>,
+        frontier: &[usize],
+        share: usize,
+    ) -> Result<(), AllocError>
+        requires share { 1 ≤ share }
+        requires within { All (λ i. i < length self.old.labels) frontier.now }
+        ensures { IfOk result (λ _. Extends self.old self.new) }
+    {
+        let chunks = frontier.len() / share;
+        if chunks == 0 {
+            return self.settle_in_turn(frontier);
+        }
+        self.settle_in_chunks(&pool.at_most(chunks), frontier)
+    }
+}

@@ -1,0 +1,172 @@
+-- What was written, from what was told.
+use Rattle.std.proofs.Common.{◌≡◌, ◌⊎◌, inl, inr, ℕ, List, [], Option, Some, None, Result, Ok, Err, refl, sym, subst, ◌∙◌, arith}
+use Rattle.std.specs.Prelude.{◌≢◌, IfSome, IfOk, IfErr}
+use Rattle.std.proofs.lemmas.Option.{IfSome_then}
+use Rattle.std.proofs.lemmas.Result.{IfOk-weaker}
+use Rattle.lgm_wire.specs.declared.chain_hash.ChainHash.{ChainHash}
+use Rattle.lgm_script.specs.declared.output.SendFault.TheVariants.{Write as SendWrite}
+use Rattle.lgm_script.specs.Device.{Appends, AppendsSome}
+use Rattle.lgm_script.specs.Output.{OutputState, Tells, TellsSome}
+use Rattle.lgm_script.proofs.Appending.{appends_nothing}
+use Rattle.lgm_script.proofs.Telling.{taken_all, taken_some, some_flushed, some_flushed_part}
+use Rattle.lgm_answers.specs.declared.run_fault.RunFault.{RunFault}
+use Rattle.lgm_answers.specs.declared.run_fault.RunFault.TheVariants as faults
+use Rattle.lgm_run.specs.declared.running.Counts.{Counts}
+use Rattle.lgm_run.specs.Running.{NeedsNoBoard, IsTold, IsAnswered, IsTooMany, IsTooLong, IsCutShort}
+use Rattle.lgm_run.specs.Runs.{Runs}
+use Rattle.lgm_run.specs.inner.Ending.{IsFlushed, FailsThen, HasFailed}
+
+-- how it ended: flushed, failed then, or failed before
+abbrev Ended : OutputState → OutputState → Result Counts RunFault → Result Counts RunFault → Type 0
+Ended mid new answered result = IsFlushed mid new answered result ⊎ (FailsThen mid new result ⊎ HasFailed mid new answered result)
+
+told_as : (chain : ChainHash) (known : Option (List ℕ)) (script : List ℕ) (n : ℕ) (old mid new : OutputState)
+    → old.gathered ≡ [] → Tells mid new [] → new.gathered ≡ [] → IsTold chain known (Tells old mid) script n
+    → IsTold chain known (Appends old.taken new.taken) script n
+told_as chain known script n old mid new empty flushed clear told =
+    record {
+      few = told.few;
+      short = told.short;
+      text = taken_all old mid new _ empty told.text flushed clear;
+    }
+
+abbrev fails : RunFault → Result Counts RunFault
+fails fault = Err fault
+
+-- what holds at a fault that comes before the rest is written, also holds of what was written
+flushed_at : {P Q : Type 0} (mid new : OutputState) (answered result : Result Counts RunFault)
+    (fault : RunFault)
+    → Ended mid new answered result → fails fault ≢ fails faults.Write → (answered ≡ fails fault → P)
+    → result ≡ fails fault → (IsFlushed mid new answered result → P → Q) → Q
+flushed_at mid new answered result fault ended other told is by =
+    elim ended [
+      | inl flushed ↦ by flushed (told (sym flushed.same ∙ is))
+      | inr unwritten ↦ elim unwritten [
+        | inl failed ↦ absurd (other (sym is ∙ failed.write))
+        | inr before ↦ absurd (other (sym is ∙ before.same ∙ before.failed))
+      ]
+    ]
+
+-- a script that was cut short, of which another text is told
+cut_by : (chain : ChainHash) (known : Option (List ℕ)) (left script : Option (List ℕ))
+    (told told' : List ℕ → Type 0)
+    → ((text : List ℕ) → told text → told' text) → IfSome script (IsCutShort chain known told left)
+    → IfSome script (IsCutShort chain known told' left)
+cut_by chain known left script told told' by cut = IfSome_then script cut (λ s cut. record {
+  answered = cut.answered;
+  limit = cut.limit;
+  read = cut.read;
+  text = record { few = cut.text.few; short = cut.text.short; text = by _ cut.text.text };
+})
+
+if_err : {P : Type 0} (result : Result Counts RunFault) → P → IfErr result (λ _. P)
+if_err (Ok counts) holds = tt
+if_err (Err fault) holds = holds
+
+module _ (chain : ChainHash) (known : Option (List ℕ)) (script : Option (List ℕ)) (old mid new : OutputState)
+    (answered result : Result Counts RunFault) (empty : old.gathered ≡ [])
+    (ended : Ended mid new answered result) where
+  ok_flushed : (counts : Counts) → IsFlushed mid new answered result
+      → IfSome script (IsAnswered chain known (Tells old mid) counts)
+      → IfSome script (IsAnswered chain known (Appends old.taken new.taken) counts)
+  ok_flushed counts flushed told = IfSome_then script told (λ s told. record {
+    lines = told.lines;
+    limit = told.limit;
+    accepted = told.accepted;
+    text = told_as chain known s counts.lines old mid new empty flushed.told flushed.clear told.text;
+  })
+
+  pub ok_written : IfOk answered (λ counts. IfSome script (IsAnswered chain known (Tells old mid) counts))
+      → IfOk result (λ counts. IfSome script (IsAnswered chain known (Appends old.taken new.taken) counts))
+  ok_written told =
+      elim ended [
+        | inl flushed ↦ subst (λ r. IfOk r (λ counts. IfSome script (IsAnswered chain known
+            (Appends old.taken new.taken) counts))) (sym flushed.same)
+            (IfOk-weaker answered _ _ (λ counts. ok_flushed counts flushed) told)
+        | inr other ↦
+            elim other [ inl failed ↦ rw failed.write tt | inr before ↦ rw (before.same, before.failed) tt ]
+      ]
+
+  pub many_written : (answered ≡ fails faults.TooManyLines
+      → IfSome script (IsTooMany chain known (Tells old mid)))
+      → result ≡ fails faults.TooManyLines
+      → IfSome script (IsTooMany chain known (Appends old.taken new.taken))
+  many_written told is =
+      flushed_at mid new answered result faults.TooManyLines ended (λ same. cc) told is
+      (λ flushed told. IfSome_then script told (λ s told. record {
+        more = told.more;
+        text = told_as chain known s 10000000 old mid new empty flushed.told flushed.clear told.text;
+      }))
+
+  pub long_written : (answered ≡ fails faults.LineTooLong
+      → IfSome script (IsTooLong chain known (Tells old mid)))
+      → result ≡ fails faults.LineTooLong
+      → IfSome script (IsTooLong chain known (Appends old.taken new.taken))
+  long_written told is =
+      flushed_at mid new answered result faults.LineTooLong ended (λ same. cc) told is
+      (λ flushed told. IfSome_then script told (λ s told. record {
+        place = told.place;
+        limit = told.limit;
+        long = told.long;
+        text = told_as chain known s told.place old mid new empty flushed.told flushed.clear told.text;
+      }))
+
+  -- what was told at a fault, or a whole text that couldn't be written
+  cut_written : (left : Option (List ℕ)) → IfSome script (IsCutShort chain known (TellsSome old new) left)
+      → IfErr result (λ _. IfSome script (IsCutShort chain known (AppendsSome old.taken new.taken) left))
+  cut_written left cut =
+      if_err result (cut_by chain known left script (TellsSome old new) (AppendsSome old.taken new.taken)
+      (λ t. taken_some old new t empty) cut)
+
+  pub fault_written : (left : Option (List ℕ))
+      → IfSome script (IsCutShort chain known (TellsSome old mid) left)
+      → IfErr result (λ _. IfSome script (IsCutShort chain known (AppendsSome old.taken new.taken) left))
+  fault_written left told =
+      elim ended [
+        | inl flushed ↦ cut_written left (cut_by chain known left script (TellsSome old mid)
+            (TellsSome old new)
+            (λ t part. some_flushed old mid new t part flushed.told) told)
+        | inr other ↦ elim other [
+          | inl failed ↦ cut_written left (cut_by chain known left script (TellsSome old mid)
+              (TellsSome old new)
+              (λ t part. some_flushed_part old mid new t SendWrite part failed.part) told)
+          | inr before ↦ cut_written left (subst (λ (t : OutputState).
+              IfSome script (IsCutShort chain known (TellsSome old t) left)) (sym before.still) told)
+        ]
+      ]
+
+  -- writing what is left asks no board either
+  pub own_ended : IfErr answered NeedsNoBoard → IfErr result NeedsNoBoard
+  own_ended own =
+      elim ended [
+        | inl flushed ↦ subst (λ r. IfErr r NeedsNoBoard) (sym flushed.same) own
+        | inr other ↦ elim other [
+          | inl failed ↦ subst (λ r. IfErr r NeedsNoBoard) (sym failed.write) tt
+          | inr before ↦ subst (λ r. IfErr r NeedsNoBoard) (sym before.same) own
+        ]
+      ]
+
+-- where no memory was there at the start, nothing was read or written
+pub nothing_written : (chain : ChainHash) (known : Option (List ℕ)) (script taken : Option (List ℕ))
+    → IfSome script (IsCutShort chain known (AppendsSome taken taken) script)
+nothing_written chain known None taken = tt
+nothing_written chain known (Some script) taken = record {
+  answered = 0;
+  limit = omega arith;
+  read = record { front = []; rest = script; parts = refl; left_is = refl; whole = inl (omega arith) };
+  text = record { few = omega arith; short = tt; text = (0, appends_nothing taken) };
+}
+
+pub nothing_ran : {R W : Type 0} (left : R → Option (List ℕ)) (read_failures : R → ℕ)
+    (taken : W → Option (List ℕ)) (write_failures : W → ℕ) (chain : ChainHash) (known : Option (List ℕ))
+    (reader : R) (writer : W)
+    → Runs left read_failures taken write_failures chain known reader reader writer writer (fails faults.NoMemory)
+nothing_ran left read_failures taken write_failures chain known reader writer = record {
+  ok = tt;
+  too_many = λ is. absurd cc;
+  too_long = λ is. absurd cc;
+  fault = nothing_written chain known (left reader) (taken writer);
+  read = λ is. absurd cc;
+  write = λ is. absurd cc;
+  own = tt;
+}

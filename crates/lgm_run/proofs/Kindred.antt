@@ -1,0 +1,186 @@
+-- Requests of one kind, and what they leave and are told.
+use Rattle.std.proofs.Common.{◌≡◌, ℕ, ◌+◌, List, [], ◌∷◌, ◌++◌, length, get_or, Bor, Option, Some, None, Result, refl, sym, ap, subst, ◌∙◌, arith}
+use Rattle.std.specs.Prelude.{map, IfOk, IfSome, OnOk}
+use Rattle.std.proofs.lemmas.List.{append-nil, length-map}
+use Rattle.std.proofs.lemmas.Result.{IfOk-weaker}
+use Rattle.std.specs.List.{AllByRecursion, AllZip}
+use Rattle.std.specs.Result.{result_err}
+use Rattle.lgm_wire.specs.declared.chain_hash.ChainHash.{ChainHash}
+use Rattle.lgm_script.specs.declared.grouping.Kind.{Kind}
+use Rattle.lgm_script.specs.declared.grouping.Kind.TheVariants as kinds
+use Rattle.lgm_script.specs.declared.request.Request.{Request}
+use Rattle.lgm_script.specs.declared.request.Request.TheVariants as requests
+use Rattle.lgm_script.specs.Groups.{AreAlike, IsOfKind}
+use Rattle.lgm_script.specs.Request.{request_of}
+use Rattle.lgm_run.specs.declared.checking.Offered.{Offered}
+use Rattle.lgm_answers.specs.Answer.{outcome_text}
+use Rattle.lgm_answers.specs.Script.{State, text_for}
+use Rattle.lgm_run.specs.inner.Steps.{state_behind, state_after, state_from, text_from, state_alone, text_alone}
+use Rattle.lgm_run.specs.inner.Offered.{offered_in, state_by, offered_text, WasChecked}
+use Rattle.lgm_run.specs.inner.Questions.{asked_in, question_text, filters_after, filters_behind, questions_text}
+use Rattle.lgm_run.proofs.Keeping.{outcome_checked}
+
+-- ---- items
+
+item_leaves : (chain : ChainHash) (state : State) (request : Request) → IsOfKind kinds.Item request
+    → state_by state (offered_in chain request) ≡ state_after chain state request
+item_leaves chain state requests.Bad kind = refl
+item_leaves chain state (requests.Offer item) kind = ap (state_behind state) (sym (outcome_checked chain state.rows item))
+item_leaves chain state _ kind = absurd kind
+
+item_is_told : (chain : ChainHash) (number : ℕ) (state : State) (request : Request) → IsOfKind kinds.Item
+    request → offered_text number state.rows (offered_in chain request) ≡ text_for chain number state request
+item_is_told chain number state requests.Bad kind = refl
+item_is_told chain number state (requests.Offer item) kind =
+    ap (λ outcome. outcome_text number (result_err outcome)) (sym (outcome_checked chain state.rows item))
+item_is_told chain number state _ kind = absurd kind
+
+was_checked : (chain : ChainHash) (request : Request) (item : Offered) → offered_in chain request ≡ Some item → WasChecked item
+was_checked chain (requests.Offer own) item is = (chain, own, cc)
+was_checked chain _ item is = absurd cc
+
+was_checked_if : (chain : ChainHash) (request : Request) (item : Option Offered)
+    → item ≡ offered_in chain request → IfSome item WasChecked
+was_checked_if chain request None is = tt
+was_checked_if chain request (Some item) is = was_checked chain request item (sym is)
+
+-- a line's item after its check: the request is to offer it
+pub record IsItemOf (chain : ChainHash) (request : Request) (item : Option Offered) : Type 0 where
+  pub checked : IfSome item WasChecked
+  pub leaves : (state : State) → state_by state item ≡ state_after chain state request
+  pub is_told : (number : ℕ) (state : State) → offered_text number state.rows item ≡ text_for chain number
+      state request
+
+item_of : (chain : ChainHash) (request : Request) (item : Option Offered) → IsOfKind kinds.Item request
+    → item ≡ offered_in chain request → IsItemOf chain request item
+item_of chain request item kind is = record {
+  checked = was_checked_if chain request item is;
+  leaves = λ state. ap (state_by state) is ∙ item_leaves chain state request kind;
+  is_told =
+      λ number state. ap (offered_text number state.rows) is ∙ item_is_told chain number state request kind;
+}
+
+-- the items of several lines
+pub items_of : {E : Type 0} (chain : ChainHash) (asked : List Request)
+    (items : List (Result (Option Offered) E))
+    → AllByRecursion (IsOfKind kinds.Item) asked
+    → AllZip (λ request item. IfOk item (λ own. own ≡ offered_in chain request)) asked items
+    → AllZip (λ request item. IfOk item (IsItemOf chain request)) asked items
+items_of chain [] [] kind all = tt
+items_of chain [] (item ∷ items) kind all = absurd all
+items_of chain (request ∷ asked) [] kind all = absurd all
+items_of chain (request ∷ asked) (item ∷ items) kind all = (
+  IfOk-weaker item (λ own. own ≡ offered_in chain request) (IsItemOf chain request)
+      (λ own is. item_of chain request own kind.0 is) all.0,
+  items_of chain asked items kind.1 all.1,
+)
+
+-- ---- questions
+
+question_leaves : (chain : ChainHash) (state : State) (request : Request) → IsOfKind kinds.Question request
+    → record state { filters = filters_after chain state.filters request } ≡ state_after chain state request
+question_leaves chain state requests.Quiet kind = absurd kind
+question_leaves chain state requests.Commit kind = absurd kind
+question_leaves chain state (requests.Offer item) kind = absurd kind
+question_leaves chain state _ kind = refl
+
+question_is_told : (chain : ChainHash) (number : ℕ) (state : State) (request : Request)
+    → IsOfKind kinds.Question request
+    → question_text chain state.known state.committed number request ≡ text_for chain number state request
+question_is_told chain number state requests.Quiet kind = absurd kind
+question_is_told chain number state requests.Commit kind = absurd kind
+question_is_told chain number state (requests.Offer item) kind = absurd kind
+question_is_told chain number state _ kind = refl
+
+-- several
+pub questions_leave : (chain : ChainHash) (state : State) (asked : List Request) → AllByRecursion (IsOfKind kinds.Question) asked
+    → record state { filters = filters_behind chain state.filters asked } ≡ state_from chain state asked
+questions_leave chain state [] kind = refl
+questions_leave chain state (request ∷ asked) kind =
+    questions_leave chain (record state { filters = filters_after chain state.filters request }) asked kind.1
+    ∙ ap (λ s. state_from chain s asked) (question_leaves chain state request kind.0)
+
+pub questions_are_told : (chain : ChainHash) (number : ℕ) (state : State) (asked : List Request) → AllByRecursion (IsOfKind kinds.Question) asked
+    → questions_text chain state.known state.committed number state.filters asked ≡ text_from chain number state asked
+questions_are_told chain number state [] kind = refl
+questions_are_told chain number state (request ∷ asked) kind =
+    ap (λ text. text ++ questions_text chain state.known state.committed (number + 1) (filters_after chain
+    state.filters request) asked) (question_is_told chain number state request kind.0)
+    ∙ ap (λ text. text_for chain number state request ++ text)
+    (questions_are_told chain (number + 1) (record state { filters = filters_after chain state.filters request }) asked kind.1
+    ∙ ap (λ s. text_from chain (number + 1) s asked) (question_leaves chain state request kind.0))
+
+-- ---- lines that stand alone
+
+alone_leaves : (chain : ChainHash) (state : State) (request : Request) → IsOfKind kinds.Other request
+    → state_alone state request ≡ state_after chain state request
+alone_leaves chain state requests.Quiet kind = refl
+alone_leaves chain state requests.Bad kind = refl
+alone_leaves chain state requests.Commit kind = refl
+alone_leaves chain state _ kind = absurd kind
+
+alone_is_told : (chain : ChainHash) (number : ℕ) (state : State) (request : Request)
+    → IsOfKind kinds.Other request → text_alone number state request ≡ text_for chain number state request
+alone_is_told chain number state requests.Quiet kind = refl
+alone_is_told chain number state requests.Bad kind = refl
+alone_is_told chain number state requests.Commit kind = refl
+alone_is_told chain number state _ kind = absurd kind
+
+-- ---- what lines ask
+
+-- what lines ask, by their texts
+pub asked_texts : (lines : List (Bor (List ℕ))) → asked_in lines ≡ map request_of (map (λ line. line.now) lines)
+asked_texts [] = refl
+asked_texts (line ∷ lines) = ap (λ asked. request_of line.now ∷ asked) (asked_texts lines)
+
+-- lines of a kind ask for what that kind can ask
+kinds_of : (kind : Kind) (lines : List (Bor (List ℕ))) → AllByRecursion (λ line. IsOfKind kind
+    (request_of line)) (map (λ line. line.now) lines) → AllByRecursion (IsOfKind kind) (asked_in lines)
+kinds_of kind [] all = tt
+kinds_of kind (line ∷ lines) all = (all.0, kinds_of kind lines all.1)
+
+asked_alone : (lines : List (Bor (List ℕ))) (d : Bor (List ℕ)) → length lines ≡ 1
+    → asked_in lines ≡ request_of (get_or lines 0 d).now ∷ []
+asked_alone [] d one = absurd (omega (arith, one))
+asked_alone (line ∷ []) d one = refl
+asked_alone (line ∷ other ∷ lines) d one = absurd (omega (arith, one))
+
+-- the lines of a group ask for what its kind can ask
+pub asked_as : {kind own : Kind} {lines items : List (Bor (List ℕ))}
+    → AreAlike kind (map (λ line. line.now) items)
+    → kind ≡ own → lines ≡ items → AllByRecursion (IsOfKind own) (asked_in lines)
+asked_as {kind} {own} {lines} {items} alike is same =
+    subst (λ lines. AllByRecursion (IsOfKind own) (asked_in lines)) (sym same)
+    (kinds_of own items (subst (λ kind. AllByRecursion (λ line. IsOfKind kind (request_of line))
+    (map (λ line. line.now) items)) is alike.each))
+
+-- what a line that stands alone asks for
+pub record IsAlone (asked : List Request) (request : Request) : Type 0 where
+  pub one : asked ≡ request ∷ []
+  pub kind : IsOfKind kinds.Other request
+
+pub is_alone : {kind : Kind} {lines items : List (Bor (List ℕ))} (d : Bor (List ℕ))
+    → AreAlike kind (map (λ line. line.now) items)
+    → kind ≡ kinds.Other → lines ≡ items → IsAlone (asked_in items) (request_of (get_or lines 0 d).now)
+is_alone {kind} {lines} {items} d alike is same =
+    let one : length lines ≡ 1 =
+    ap length same ∙ sym (length-map items (λ line. line.now)) ∙ alike.alone is in
+    let asked = ap asked_in (sym same) ∙ asked_alone lines d one in
+    let each = subst (AllByRecursion (IsOfKind kinds.Other)) asked (asked_as alike is refl) in
+    record { one = asked; kind = each.0 }
+
+-- what it leaves, and is told
+module _ (chain : ChainHash) (number : ℕ) (state : State) {asked : List Request} {request : Request}
+    (alone : IsAlone asked request) where
+  pub other_leaves : {T E : Type 0} (result : Result T E) (new : State) → OnOk result (new ≡ state_alone state request)
+      → OnOk result (new ≡ state_from chain state asked)
+  other_leaves result new is =
+      subst (λ s. OnOk result (new ≡ s)) (alone_leaves chain state request alone.kind
+      ∙ ap (state_from chain state) (sym alone.one)) is
+
+  pub other_is_told : (Told : List ℕ → Type 0) → Told (text_alone number state request)
+      → Told (text_from chain number state asked)
+  other_is_told Told told =
+      subst Told (alone_is_told chain number state request alone.kind
+      ∙ sym (append-nil (text_for chain number state request))
+      ∙ ap (text_from chain number state) (sym alone.one)) told

@@ -1,0 +1,16 @@
+use Rattle.std.proofs.Common.{rules}
+use Rattle.std.specs.Prelude.{IfOk}
+use Rattle.lgm_script.specs.Request.{request_of}
+use Rattle.lgm_par.proofs.Zipping.{zip_weaker_ok}
+use Rattle.lgm_run.specs.inner.Questions.{IsAnswerTo}
+use Rattle.lgm_run.proofs.Zips.{zip_of_ok}
+use Rattle.lgm_run.proofs.questions.decide_all.Goals as goal
+
+pub returns : goal.returns
+returns g c =
+    zip_of_ok (λ line. request_of line.now) (λ request answer.
+    IfOk answer (IsAnswerTo c.args.context.now.chain c.args.chart.now.known c.args.committed.now request))
+    c.args.lines.now c.map.result
+    (zip_weaker_ok _ (λ line answer. IfOk answer (IsAnswerTo c.args.context.now.chain c.args.chart.now.known
+    c.args.committed.now (request_of line.now))) (λ x y h. search rules) c.args.lines.now c.map.result
+    c.map.ensures)

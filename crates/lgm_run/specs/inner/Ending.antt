@@ -1,0 +1,32 @@
+-- How a run ends.
+use Rattle.std.specs.Prelude.{◌≡◌, ◌⊎◌, ℕ, List, [], Option, Result, Err}
+use Rattle.lgm_script.specs.declared.output.Output.{Output}
+use Rattle.lgm_script.specs.declared.output.SendFault.TheVariants as sending
+use Rattle.lgm_script.specs.Output.{seen, OutputState, Tells, TellsPart}
+use Rattle.lgm_answers.specs.declared.run_fault.RunFault.{RunFault}
+use Rattle.lgm_answers.specs.declared.run_fault.RunFault.TheVariants.{Write}
+use Rattle.lgm_run.specs.declared.running.Counts.{Counts}
+
+-- all that was buffered was written
+pub record IsFlushed (old new : OutputState) (answered result : Result Counts RunFault) : Type 0 where
+  pub same : result ≡ answered
+  pub told : Tells old new []
+  pub clear : new.gathered ≡ []
+
+-- the sink failed while it was written
+pub record FailsThen (old new : OutputState) (result : Result Counts RunFault) : Type 0 where
+  pub write : result ≡ Err Write
+  pub part : TellsPart old new [] sending.Write
+
+-- the sink had failed before
+pub record HasFailed (old new : OutputState) (answered result : Result Counts RunFault) : Type 0 where
+  pub failed : answered ≡ Err Write
+  pub same : result ≡ answered
+  pub still : new ≡ old
+
+abbrev pub IsEnded : {W : Type 0} → (W → Option (List ℕ)) → (W → ℕ) → Output W → Output W
+    → Result Counts RunFault → Result Counts RunFault → Type 0
+IsEnded taken failures old new answered result =
+    IsFlushed (seen taken failures old) (seen taken failures new) answered result
+    ⊎ (FailsThen (seen taken failures old) (seen taken failures new) result
+    ⊎ HasFailed (seen taken failures old) (seen taken failures new) answered result)

@@ -1,0 +1,59 @@
+-- How a group of lines advances a script.
+use Rattle.std.specs.Prelude.{◌≡◌, ◌≢◌, ℕ, ◌<◌, ◌≤◌, List, length, map, drop, Option, Result, Err, IfOk, IfErr, IfSome}
+use Rattle.std.specs.List.{AllByRecursion}
+use Rattle.lgm_wire.specs.declared.chain_hash.ChainHash.{ChainHash}
+use Rattle.lgm_script.specs.Lines.{IsFirstLine}
+use Rattle.lgm_script.specs.Groups.{AreFirstLines}
+use Rattle.lgm_script.specs.Request.{request_of}
+use Rattle.lgm_script.specs.Output.{Sends, SendsSome}
+use Rattle.lgm_script.specs.declared.output.Output.{Output}
+use Rattle.lgm_answers.specs.declared.run_fault.RunFault.{RunFault}
+use Rattle.lgm_answers.specs.declared.run_fault.RunFault.TheVariants as faults
+use Rattle.lgm_run.specs.declared.running.Counts.{Counts}
+use Rattle.lgm_run.specs.Running.{NeedsNoBoard, IsAnswered, IsTooMany, IsTooLong, IsCutShort}
+use Rattle.lgm_answers.specs.Script.{State}
+use Rattle.lgm_run.specs.inner.Steps.{state_from, text_from}
+
+-- these are the next lines of what was read ahead, they have this many bytes, and none is too long
+pub record AreNext (buffered : List ℕ) (first len : ℕ) (lines : List (List ℕ)) : Type 0 where
+  pub some : 0 < length lines
+  pub few : len ≤ length buffered
+  pub short : AllByRecursion (λ line. length line ≤ 140000) lines
+  pub front : (left : Option (List ℕ)) → IsFirstLine buffered left first
+      → AreFirstLines buffered left lines (drop len buffered)
+
+-- this many next lines were answered, which have this many bytes
+pub record HaveAnswers (chain : ChainHash) (number : ℕ) (state state' : State) (buffered : List ℕ) (first : ℕ)
+    (told : List ℕ → Type 0) (count len : ℕ) : Type 0 where
+  pub lines : List (List ℕ)
+  pub next : AreNext buffered first len lines
+  pub count_is : count ≡ length lines
+  pub state_is : state' ≡ state_from chain state (map request_of lines)
+  pub text : told (text_from chain number state (map request_of lines))
+
+-- a prefix of the text of next lines was written, at most this many
+pub record HaveBegun (chain : ChainHash) (number most : ℕ) (state : State) (buffered : List ℕ) (first : ℕ)
+    (told_part : List ℕ → Type 0) : Type 0 where
+  pub lines : List (List ℕ)
+  pub len : ℕ
+  pub next : AreNext buffered first len lines
+  pub limit : length lines ≤ most
+  pub text : told_part (text_from chain number state (map request_of lines))
+
+-- how answering the lines of a script ends: all are answered, or it exceeds a limit, or a device failed. Some of the
+-- text may still be buffered
+pub record HasAnswered {R W : Type 0} (left : R → Option (List ℕ)) (read_failures : R → ℕ)
+    (taken : W → Option (List ℕ)) (write_failures : W → ℕ) (chain : ChainHash) (known : Option (List ℕ))
+    (source source' : R) (output output' : Output W) (result : Result Counts RunFault) : Type 0 where
+  pub ok : IfOk result (λ counts.
+      IfSome (left source) (IsAnswered chain known (Sends taken write_failures output output') counts))
+  pub too_many : result ≡ Err faults.TooManyLines
+      → IfSome (left source) (IsTooMany chain known (Sends taken write_failures output output'))
+  pub too_long : result ≡ Err faults.LineTooLong
+      → IfSome (left source) (IsTooLong chain known (Sends taken write_failures output output'))
+  pub some : IfSome (left source) (IsCutShort chain known (SendsSome taken write_failures output output')
+      (left source'))
+  pub read : result ≡ Err faults.Read → read_failures source < read_failures source'
+  pub write : result ≡ Err faults.Write → write_failures output.writer.now < write_failures output'.writer.now
+  pub well : result ≢ Err faults.Write → write_failures output'.writer.now ≡ write_failures output.writer.now
+  pub own : IfErr result NeedsNoBoard

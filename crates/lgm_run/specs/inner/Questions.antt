@@ -1,0 +1,66 @@
+-- Questions: they are answered on the committed rows, and change only the filters of peers.
+use Rattle.std.specs.Prelude.{◌≡◌, ℕ, List, map, Option, codes}
+use Rattle.std.specs.Borrow.{Bor}
+use Rattle.lgm_wire.specs.declared.chain_hash.ChainHash.{ChainHash}
+use Rattle.lgm_store.specs.Rows.{Rows}
+use Rattle.lgm_script.specs.declared.request.Request.{Request}
+use Rattle.lgm_script.specs.declared.request.Request.TheVariants as requests
+use Rattle.lgm_script.specs.Request.{request_of}
+use Rattle.lgm_script.specs.Groups.{IsNoRoute}
+use Rattle.lgm_script.specs.Text.{word_line}
+use Rattle.lgm_answers.specs.declared.answer.Answer.{Answer}
+use Rattle.lgm_run.specs.declared.chart.Chart.{Chart}
+use Rattle.lgm_run.specs.declared.chart.Kept.{Kept}
+use Rattle.lgm_run.specs.declared.chart.Kept.TheVariants as views
+use Rattle.lgm_answers.specs.declared.filters.PeerFilter.{PeerFilter}
+use Rattle.lgm_answers.specs.Answer.{answer_text, query_text, filter_text, route_text}
+use Rattle.lgm_run.specs.inner.Chart.{IsViewOf}
+use Rattle.lgm_answers.specs.Filtering.{filter_read}
+use Rattle.lgm_answers.specs.Filters.{filters_with}
+use Rattle.lgm_answers.specs.Setting.{filters_by}
+use Rattle.lgm_answers.specs.Query.{query_answer}
+use Rattle.lgm_answers.specs.Routing.{route_answer}
+use Rattle.lgm_run.specs.inner.Turns.{behind_all, texts_of}
+
+-- the text for a question, from the committed rows alone
+abbrev pub question_text : ChainHash → Option (List ℕ) → Rows → ℕ → Request → List ℕ
+question_text chain known committed number (requests.Query bytes) =
+    query_text number (query_answer chain committed bytes)
+question_text chain known committed number (requests.Filter peer bytes) =
+    filter_text number peer committed (filter_read chain bytes)
+question_text chain known committed number (requests.Route payment) =
+    route_text number payment.secret (route_answer known committed payment)
+question_text chain known committed number _ = word_line number (codes "bad")
+
+-- the filters after a question
+abbrev pub filters_after : ChainHash → List PeerFilter → Request → List PeerFilter
+filters_after chain filters (requests.Filter peer bytes) = filters_with filters peer (filter_read chain bytes)
+filters_after chain filters _ = filters
+
+-- the answer to a question: its text, and the filters after it
+pub record IsAnswerTo (chain : ChainHash) (known : Option (List ℕ)) (committed : Rows) (request : Request)
+    (answer : Answer) : Type 0 where
+  pub text : (n : ℕ) → answer_text n answer ≡ question_text chain known committed n request
+  pub filters : (filters : List PeerFilter) → filters_by filters answer ≡ filters_after chain filters request
+
+-- the filters after several
+abbrev pub filters_behind : ChainHash → List PeerFilter → List Request → List PeerFilter
+filters_behind chain = behind_all (filters_after chain)
+
+-- their text, for the lines from this number on
+abbrev pub questions_text : ChainHash → Option (List ℕ) → Rows → ℕ → List PeerFilter → List Request → List ℕ
+questions_text chain known committed =
+    texts_of (filters_after chain)
+    (λ number filters request. question_text chain known committed number request)
+
+-- what lines request
+abbrev pub asked_in : List (Bor (List ℕ)) → List Request
+asked_in lines = map (λ line. request_of line.now) lines
+
+-- the view is that of the committed rows, or no route is requested
+abbrev pub IsReadyAs : Option (List ℕ) → Rows → Kept → Request → Type 0
+IsReadyAs known committed (views.Beside view) request = IsViewOf known committed view
+IsReadyAs known committed _ request = IsNoRoute request
+
+abbrev pub IsReady : Chart → Rows → Request → Type 0
+IsReady chart committed request = IsReadyAs chart.known committed chart.kept request

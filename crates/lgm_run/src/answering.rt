@@ -1,0 +1,160 @@
+//! Answering lines in groups.
+
+ghost use Rattle.std.specs.Prelude.{◌≡◌, ◌≤◌, ◌+◌, ◌<◌, ◌^◌, [], ◌∷◌, length, map, IfOk, IfSome, OnOk};
+ghost use Rattle.std.specs.List.{AllByRecursion};
+ghost use Rattle.lgm_script.specs.Groups.{IsOfKind, AreAlike};
+ghost use Rattle.lgm_script.specs.Output.{Writes};
+ghost use Rattle.lgm_script.specs.Request.{request_of};
+ghost use Rattle.lgm_script.specs.declared.request.Request.TheVariants.{Route as AsksRoute};
+ghost use Rattle.lgm_run.specs.inner.Offered.{WasChecked, state_by, offered_text};
+ghost use Rattle.lgm_run.specs.inner.Questions.{asked_in};
+ghost use Rattle.lgm_run.specs.inner.Steps.{state_alone, text_alone, state_from, text_from};
+
+use crate::checking::{Offered, check_lines};
+use crate::context::Context;
+use crate::engine::Engine;
+use lgm_answers::Answer;
+use lgm_check::Refusal;
+use lgm_par::Gate;
+use lgm_script::{Group, Kind, Output, Payment, Request, SendFault, Sink, may_ask_routes, parse};
+use std::alloc::{AllocError, Global};
+use std::thread::Threads;
+
+/// Offers the checked item of a line in its turn, if there is one, and writes its outcome.
+fn offer<W: Sink>(
+    alloc: Global,
+    number: u64,
+    item: Option<Offered>,
+    engine: &mut Engine,
+    output: &mut Output<'_, W>,
+) -> Result<(), SendFault>
+    requires checked { IfSome item WasChecked }
+    requires few { engine.old.accepted + 1 < 2 ^ 64 }
+    requires writer { W.failures output.old.writer.now + 1 < 2 ^ 64 }
+    ensures writer { output.new.writer.ghost_name ≡ output.old.writer.ghost_name }
+    ensures state { OnOk result (engine.new ≡ state_by engine.old item) }
+    ensures written { Writes W.taken W.failures output.old output.new
+        (offered_text number engine.old.rows item) result }
+{
+    let Some(item) = item else {
+        return Answer::Bad.send(alloc, number, output);
+    };
+    let refusal = match engine.offer(alloc, item) {
+        Ok(()) => None,
+        Err(Refusal::NoMemory) => return Err(SendFault::NoMemory),
+        Err(refusal) => Some(refusal),
+    };
+    Answer::Outcome(refusal).send(alloc, number, output)
+}
+
+/// Answers lines of items, the first of which has this number: they are checked in parallel, and offered in order.
+fn answer_items<Rt: Threads + Sync, G: Gate, W: Sink>(
+    context: &Context<'_, Rt, G>,
+    first: u64,
+    lines: &[&[u8]],
+    engine: &mut Engine,
+    output: &mut Output<'_, W>,
+) -> Result<(), SendFault>
+    requires items { AllByRecursion (IsOfKind Kind.Item) (asked_in lines.now) }
+    requires number { first + length lines.now < 2 ^ 64 }
+    requires few { engine.old.accepted + length lines.now ≤ 10000000 }
+    requires writer { W.failures output.old.writer.now + 1 < 2 ^ 64 }
+    ensures writer { output.new.writer.ghost_name ≡ output.old.writer.ghost_name }
+    ensures state { OnOk result (engine.new ≡ state_from context.now.chain engine.old (asked_in lines.now)) }
+    ensures written { Writes W.taken W.failures output.old output.new
+        (text_from context.now.chain first engine.old (asked_in lines.now)) result }
+{
+    let all = check_lines(context, lines)?;
+    let mut number = first;
+    for item in all {
+        offer(context.pool.alloc, number, item?, engine, output)?;
+        number += 1;
+    }
+    Ok(())
+}
+
+/// The payment of a group of one line, if that requests a route.
+fn lone_payment(alloc: Global, lines: &[&[u8]]) -> Result<Option<Payment>, AllocError>
+    ensures { IfOk result (λ payment. IfSome payment (λ own. asked_in lines.now ≡ AsksRoute own ∷ [])) }
+{
+    if lines.len() != 1 || !may_ask_routes(lines) {
+        return Ok(None);
+    }
+    match parse(alloc, lines[0])? {
+        Request::Route(payment) => Ok(Some(payment)),
+        _ => Ok(None),
+    }
+}
+
+/// Answers lines that request something of the committed map, the first of which has this number.
+fn answer_questions<Rt: Threads + Sync, G: Gate, W: Sink>(
+    context: &Context<'_, Rt, G>,
+    first: u64,
+    lines: &[&[u8]],
+    engine: &mut Engine,
+    output: &mut Output<'_, W>,
+) -> Result<(), SendFault>
+    requires questions { AllByRecursion (IsOfKind Kind.Question) (asked_in lines.now) }
+    requires number { first + length lines.now < 2 ^ 64 }
+    requires few { engine.old.accepted ≤ 10000000 }
+    requires writer { W.failures output.old.writer.now + 1 < 2 ^ 64 }
+    ensures writer { output.new.writer.ghost_name ≡ output.old.writer.ghost_name }
+    ensures state { OnOk result (engine.new ≡ state_from context.now.chain engine.old (asked_in lines.now)) }
+    ensures written { Writes W.taken W.failures output.old output.new
+        (text_from context.now.chain first engine.old (asked_in lines.now)) result }
+{
+    if let Some(payment) = lone_payment(context.pool.alloc, lines)? {
+        let answer = engine.answer_route(&context.pool, &payment)?;
+        return answer.send(context.pool.alloc, first, output);
+    }
+    engine.answer_questions(context, first, lines, output)
+}
+
+/// Answers a line that is alone in its group: a commit, an empty line, a comment, or a malformed line.
+fn answer_alone<W: Sink>(
+    alloc: Global,
+    number: u64,
+    line: &[u8],
+    engine: &mut Engine,
+    output: &mut Output<'_, W>,
+) -> Result<(), SendFault>
+    requires other { IsOfKind Kind.Other (request_of line.now) }
+    requires writer { W.failures output.old.writer.now + 1 < 2 ^ 64 }
+    ensures writer { output.new.writer.ghost_name ≡ output.old.writer.ghost_name }
+    ensures state { OnOk result (engine.new ≡ state_alone engine.old (request_of line.now)) }
+    ensures written { Writes W.taken W.failures output.old output.new
+        (text_alone number engine.old (request_of line.now)) result }
+{
+    match parse(alloc, line)? {
+        Request::Quiet => Ok(()),
+        Request::Commit => engine.commit(alloc, number, output),
+        _ => Answer::Bad.send(alloc, number, output),
+    }
+}
+
+/// Answers the lines of a group, the first of which has this number. Afterwards their accepted items are in the map,
+/// their filters are set, and what was accepted is committed if they request that.
+pub fn answer<Rt: Threads + Sync, G: Gate, W: Sink>(
+    context: &Context<'_, Rt, G>,
+    first: u64,
+    group: &Group<'_>,
+    engine: &mut Engine,
+    output: &mut Output<'_, W>,
+) -> Result<(), SendFault>
+    requires alike { AreAlike group.now.kind (map (λ line. line.now) group.now.lines.items) }
+    requires number { first + length group.now.lines.items < 2 ^ 64 }
+    requires few { engine.old.accepted + length group.now.lines.items ≤ 10000000 }
+    requires writer { W.failures output.old.writer.now + 1 < 2 ^ 64 }
+    ensures writer { output.new.writer.ghost_name ≡ output.old.writer.ghost_name }
+    ensures state { OnOk result
+        (engine.new ≡ state_from context.now.chain engine.old (asked_in group.now.lines.items)) }
+    ensures written { Writes W.taken W.failures output.old output.new
+        (text_from context.now.chain first engine.old (asked_in group.now.lines.items)) result }
+{
+    let lines = group.lines.as_slice();
+    match group.kind {
+        Kind::Item => answer_items(context, first, lines, engine, output),
+        Kind::Question => answer_questions(context, first, lines, engine, output),
+        Kind::Other => answer_alone(context.pool.alloc, first, lines[0], engine, output),
+    }
+}

@@ -1,0 +1,117 @@
+//! Checking items in parallel.
+
+ghost use Rattle.std.specs.Prelude.{◌≡◌, ◌≤◌, IfOk};
+ghost use Rattle.std.specs.List.{AllZip};
+ghost use Rattle.lgm_check.specs.Precheck.{checked_of};
+ghost use Rattle.lgm_script.specs.Request.{request_of};
+ghost use Rattle.lgm_run.specs.inner.Offered.{offered_by, offered_of, offered_in};
+ghost use Rattle.lgm_run.specs.inner.Questions.{asked_in};
+
+use crate::context::Context;
+use lgm_check::{Evidence, Refusal};
+use lgm_gossip::{ChainHash, Scid};
+use lgm_par::Gate;
+use lgm_script::{Item, parse_item};
+use lgm_store::Candidate;
+use std::alloc::{AllocError, Global};
+use std::mem::replace;
+use std::thread::Threads;
+
+/// An item after its check, which needs no map.
+#[derive(Drop)]
+pub enum Offered {
+    /// A message that is valid by itself, ready for the map.
+    Message(Candidate),
+    /// The close of a channel.
+    Close(Scid),
+    /// A message that was refused.
+    Refused(Refusal),
+}
+
+/// Checks a message.
+fn check(
+    alloc: Global,
+    chain: &ChainHash,
+    bytes: &[u8],
+    evidence: &Evidence,
+) -> Result<Offered, AllocError>
+    ensures { IfOk result
+        (λ offered. offered ≡ offered_by (checked_of chain.now bytes.now evidence.now)) }
+{
+    match Candidate::precheck(alloc, chain, bytes, evidence) {
+        Ok(candidate) => Ok(Offered::Message(candidate)),
+        Err(Refusal::NoMemory) => Err(AllocError),
+        Err(refusal) => Ok(Offered::Refused(refusal)),
+    }
+}
+
+/// Checks an item. The vector of a message is left in `room`.
+fn check_item(
+    alloc: Global,
+    chain: &ChainHash,
+    item: Item,
+    room: &mut Vec<u8>,
+) -> Result<Offered, AllocError>
+    ensures { IfOk result (λ offered. offered ≡ offered_of chain.now item) }
+{
+    match item {
+        Item::Gossip(bytes, evidence) => {
+            let checked = check(alloc, chain, bytes.as_slice(), &evidence);
+            *room = bytes.into_vec();
+            checked
+        }
+        Item::Close(scid) => Ok(Offered::Close(scid)),
+    }
+}
+
+/// Parses a line and checks the item that it offers, if any. A message is decoded into `room`, which is left for that
+/// of the next line.
+fn check_line(
+    alloc: Global,
+    chain: &ChainHash,
+    line: &[u8],
+    room: &mut Vec<u8>,
+) -> Result<Option<Offered>, AllocError>
+    ensures { IfOk result (λ offered. offered ≡ offered_in chain.now (request_of line.now)) }
+{
+    match parse_item(replace(room, Vec::new(alloc)), line)? {
+        Some(item) => Ok(Some(check_item(alloc, chain, item, room)?)),
+        None => Ok(None),
+    }
+}
+
+/// The number of lines of which each may be a chunk of its own.
+const FEW: usize = 64;
+
+/// The length of text, in bytes, that is worth one more worker: checking it takes longer than starting a thread.
+const SHARE: usize = 131_072;
+
+/// The most chunks that lines are worth: one each if they are few, else two, and one more for each [`SHARE`] of text.
+fn most_chunks(lines: &[&[u8]]) -> usize
+    ensures { 2 ≤ result }
+{
+    if lines.len() <= FEW {
+        return FEW;
+    }
+    let mut text: usize = 0;
+    for line in lines {
+        text = text.saturating_add(line.len());
+    }
+    text / SHARE + 2
+}
+
+/// Checks the items of lines, in chunks side by side. Each may run out of memory on its own.
+pub fn check_lines<Rt: Threads + Sync, G: Gate>(
+    context: &Context<'_, Rt, G>,
+    lines: &[&[u8]],
+) -> Result<Vec<Result<Option<Offered>, AllocError>>, AllocError>
+    ensures { IfOk result (λ all. AllZip (λ request offered. IfOk offered
+        (λ o. o ≡ offered_in context.now.chain request)) (asked_in lines.now) all.items) }
+{
+    let alloc = context.pool.alloc;
+    let chain = &context.chain;
+    context.pool.at_most(most_chunks(lines)).map(
+        lines,
+        &|line| check_line(alloc, chain, line, &mut Vec::new(alloc)),
+    )
+}

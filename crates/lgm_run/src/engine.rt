@@ -1,0 +1,181 @@
+//! The state between two lines.
+
+ghost use Rattle.std.specs.Prelude.{◌≡◌, ◌+◌, ◌≤◌, ◌<◌, ◌^◌, ℕ, length, IfOk, OnOk, OnErr};
+ghost use Rattle.lgm_wire.specs.reading.Reading.{Gives};
+ghost use Rattle.lgm_script.specs.Output.{Writes};
+ghost use Rattle.lgm_answers.specs.Answer.{commit_text, route_text, answer_text};
+ghost use Rattle.lgm_run.specs.inner.Offered.{outcome_on, settled, WasChecked};
+ghost use Rattle.lgm_run.specs.inner.Questions.{asked_in, filters_behind, questions_text};
+ghost use Rattle.lgm_answers.specs.Routing.{route_answer};
+ghost use Rattle.lgm_run.specs.inner.Steps.{opening, state_behind, state_committed};
+
+use crate::checking::Offered;
+use crate::context::Context;
+use crate::maps::Maps;
+use lgm_answers::{Answer, Filters, answer_found, asked_route};
+use lgm_check::Refusal;
+use lgm_graph::Known;
+use lgm_par::{Gate, Pool};
+use lgm_script::{Output, Payment, SendFault, Sink};
+use lgm_store::Seed;
+use std::alloc::{AllocError, Global};
+use std::marker::Model;
+use std::thread::Threads;
+
+/// The state between two lines. Contracts see the known feature bits, the rows of all accepted items, those of the
+/// items before the last commit, the number of accepted items, and the filters of peers.
+#[derive(Drop)]
+pub struct Engine {
+    maps: Maps,
+    accepted: u64,
+    filters: Filters,
+}
+
+impl Model for Engine {
+    ghost use Rattle.lgm_run.specs.inner.Engine.{IsFew};
+    ghost use Rattle.lgm_answers.specs.Script.{State};
+
+    ghost Value = { State };
+
+    ghost view = { λ e. record {
+      known = e.maps.known;
+      rows = e.maps.rows;
+      committed = e.maps.committed;
+      accepted = e.accepted;
+      filters = e.filters;
+    } };
+
+    ghost invariant = { λ e. IsFew e.maps e.accepted };
+}
+
+impl Engine {
+    /// No item was accepted. Points will be hashed with the seed, and the known feature bits are copied.
+    pub fn new(alloc: Global, seed: Seed, known: &Known) -> Result<Engine, AllocError>
+        ensures { IfOk result (λ engine. engine ≡ opening known.now) }
+    {
+        Ok(Engine {
+            maps: Maps::new(alloc, seed, known)?,
+            accepted: 0,
+            filters: Filters::new(alloc),
+        })
+    }
+
+    /// The number of accepted items.
+    pub fn accepted(&self) -> u64
+        ensures { result ≡ self.now.accepted }
+    {
+        self.accepted
+    }
+
+    /// Offers a checked item. A refusal or out of memory leaves all unchanged.
+    pub fn offer(&mut self, alloc: Global, item: Offered) -> Result<(), Refusal>
+        requires checked { WasChecked item }
+        requires few { self.old.accepted + 1 < 2 ^ 64 }
+        ensures outcome { Gives Refusal.NoMemory (λ done. done) result
+            (settled (outcome_on self.old.rows item)) }
+        ensures state { OnOk result (self.new ≡ state_behind self.old (outcome_on self.old.rows item)) }
+        ensures same { OnErr result (self.new ≡ self.old) }
+    {
+        self.maps.offer(alloc, item)?;
+        self.accepted += 1;
+        Ok(())
+    }
+
+    /// The answer to a payment on the committed map, found by several workers.
+    pub fn answer_route<Rt: Threads + Sync, G: Gate>(
+        &mut self,
+        pool: &Pool<'_, Rt, G>,
+        payment: &Payment,
+    ) -> Result<Answer<'static>, AllocError>
+        requires few { self.old.accepted ≤ 2000000000 }
+        ensures same { self.new ≡ self.old }
+        ensures answer { IfOk result (λ answer. (n : ℕ) → answer_text n answer
+            ≡ route_text n payment.now.secret (route_answer self.old.known self.old.committed payment.now)) }
+    {
+        let found = self.maps.find_route(pool, &asked_route(payment));
+        answer_found(pool.alloc, &payment.secret, found)
+    }
+
+    /// Answers lines that request something of the committed map, the first with this number, and sets their filters.
+    pub fn answer_questions<Rt: Threads + Sync, G: Gate, W: Sink>(
+        &mut self,
+        context: &Context<'_, Rt, G>,
+        number: u64,
+        lines: &[&[u8]],
+        output: &mut Output<'_, W>,
+    ) -> Result<(), SendFault>
+        requires few { self.old.accepted ≤ 2000000000 }
+        requires number { number + length lines.now < 2 ^ 64 }
+        requires writer { W.failures output.old.writer.now + 1 < 2 ^ 64 }
+        ensures writer { output.new.writer.ghost_name ≡ output.old.writer.ghost_name }
+        ensures state { OnOk result (self.new ≡ record self.old
+            { filters = filters_behind context.now.chain self.old.filters (asked_in lines.now) }) }
+        ensures written { Writes W.taken W.failures output.old output.new
+            (questions_text context.now.chain self.old.known self.old.committed number
+            self.old.filters (asked_in lines.now)) result }
+    {
+        self.maps
+            .answer_questions(context, number, lines, &mut self.filters, output)
+    }
+
+    /// Makes all accepted items committed ones, and writes the news of peers. The cost is that of what was accepted
+    /// since the last commit.
+    pub fn commit<W: Sink>(
+        &mut self,
+        alloc: Global,
+        number: u64,
+        output: &mut Output<'_, W>,
+    ) -> Result<(), SendFault>
+        requires { W.failures output.old.writer.now + 1 < 2 ^ 64 }
+        ensures writer { output.new.writer.ghost_name ≡ output.old.writer.ghost_name }
+        ensures state { OnOk result (self.new ≡ state_committed self.old) }
+        ensures written { Writes W.taken W.failures output.old output.new
+            (commit_text number self.old.accepted self.old.committed self.old.rows
+            self.old.filters) result }
+    {
+        tell_commit(
+            alloc,
+            number,
+            self.accepted,
+            &self.maps,
+            &self.filters,
+            output,
+        )?;
+        self.maps.commit();
+        Ok(())
+    }
+}
+
+/// The answer to a commit.
+fn committed<'a>(
+    alloc: Global,
+    accepted: u64,
+    maps: &'a Maps,
+    filters: &'a Filters,
+) -> Result<Answer<'a>, AllocError>
+    ensures { IfOk result (λ answer. (n : ℕ)
+        → answer_text n answer ≡ commit_text n accepted maps.now.committed maps.now.rows filters.now) }
+{
+    if filters.as_map().is_empty() {
+        return Ok(Answer::Committed(accepted));
+    }
+    Ok(Answer::News(accepted, filters, maps.differences(alloc)?))
+}
+
+/// Writes the answer to a commit.
+fn tell_commit<W: Sink>(
+    alloc: Global,
+    number: u64,
+    accepted: u64,
+    maps: &Maps,
+    filters: &Filters,
+    output: &mut Output<'_, W>,
+) -> Result<(), SendFault>
+    requires { W.failures output.old.writer.now + 1 < 2 ^ 64 }
+    ensures writer { output.new.writer.ghost_name ≡ output.old.writer.ghost_name }
+    ensures written { Writes W.taken W.failures output.old output.new
+        (commit_text number accepted maps.now.committed maps.now.rows filters.now) result }
+{
+    let answer = committed(alloc, accepted, maps, filters)?;
+    answer.send(alloc, number, output)
+}

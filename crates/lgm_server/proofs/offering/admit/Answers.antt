@@ -1,5 +1,0 @@
-use Rattle.lgm_server.proofs.Keeping.{message_offers}
-use Rattle.lgm_server.proofs.offering.admit.Goals as goal
-
-pub returns-in-Message-clause-outcome : goal.returns-in-Message-clause-outcome
-returns-in-Message-clause-outcome c = message_offers c.args.map.now c.args.item _ _ c.in-Message.is c.offer_candidate.ensures.admission

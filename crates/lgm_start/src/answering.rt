@@ -1,0 +1,65 @@
+//! Answering a script according to the options.
+
+ghost use Rattle.std.specs.Prelude.{◌+◌, ◌<◌, ◌≤◌, ◌^◌};
+ghost use Rattle.lgm_start.specs.Ended.{AnswersAs};
+
+use crate::options::{Mode, Options};
+use lgm_answers::RunFault;
+use lgm_live::{LiveReport, run_live};
+use lgm_par::{Gate, Pool};
+use lgm_run::{Context, Counts, Remains, run_keeping};
+use lgm_script::{Sink, Source};
+use std::alloc::Global;
+use std::marker::Sync;
+use std::random::RandomSource;
+use std::sync::Wait;
+use std::thread::Threads;
+
+/// How a script ended.
+#[derive(Drop)]
+pub enum Ended {
+    /// By `lgm run`.
+    Ran(Result<Counts, RunFault>),
+    /// By `lgm live`.
+    RanLive(Result<LiveReport, RunFault>),
+}
+
+/// Answers a script according to the options: by their command, on their chain and known bits, and with their number of
+/// workers, all of whose chunks pass the gate. The maps of `lgm run` are left in `remains`.
+pub fn answer<Rt: Threads + Wait + Sync + RandomSource, G: Gate, R: Source, W: Sink>(
+    rt: &Rt,
+    alloc: Global,
+    options: &Options,
+    gate: &G,
+    reader: &mut R,
+    writer: &mut W,
+    remains: &mut Remains,
+) -> Ended
+    requires workers { (1 ≤ options.now.workers) × (options.now.workers ≤ 64) }
+    requires reader { R.failures reader.old + 1 < 2 ^ 64 }
+    requires writer { W.failures writer.old + 1 < 2 ^ 64 }
+    ensures { AnswersAs R.left R.failures W.taken W.failures options.now.mode options.now reader.old
+        reader.new writer.old writer.new result }
+{
+    let chain = &options.chain;
+    let known = &options.known;
+    let workers = options.workers;
+    match options.mode {
+        Mode::Run => {
+            let pool = Pool {
+                rt,
+                alloc,
+                workers,
+                gate,
+            };
+            let context = Context {
+                pool,
+                chain: *chain,
+            };
+            Ended::Ran(run_keeping(&context, known, reader, writer, remains))
+        }
+        Mode::Live => Ended::RanLive(run_live(
+            rt, alloc, reader, writer, chain, known, workers, gate,
+        )),
+    }
+}

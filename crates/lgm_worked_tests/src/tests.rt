@@ -1,0 +1,6 @@
+mod examples;
+mod faults;
+mod filters;
+mod items;
+mod payments;
+mod queries;
