@@ -1,5 +1,5 @@
 -- How far a script was answered.
-use Rattle.std.proofs.Common.{◌≡◌, ◌⊎◌, inl, inr, ℕ, suc, ◌+◌, ◌<◌, ◌≤◌, Bool, true, false, cond, eqb, List, [], ◌∷◌, ◌++◌, length, get_or}
+use Rattle.std.proofs.Common.{◌≡◌, ◌⊎◌, inl, inr, ℕ, suc, ◌+◌, ◌<◌, ◌≤◌, List, [], ◌∷◌, ◌++◌, length, get_or}
 use Rattle.std.proofs.Common.{take, drop, min, Option, Some, None, refl, sym, ap, subst, ◌∙◌, append_assoc, add-one, arith}
 use Rattle.std.specs.Prelude.{IfSome, filter, map}
 use Rattle.std.specs.List.{AllByRecursion}
@@ -10,7 +10,7 @@ use Rattle.lgm_wire.specs.declared.chain_hash.ChainHash.{ChainHash}
 use Rattle.lgm_script.specs.declared.request.Request.{Request}
 use Rattle.lgm_script.specs.declared.request.Request.TheVariants as requests
 use Rattle.lgm_script.specs.Device.{IsAtEnd}
-use Rattle.lgm_script.specs.Lines.{ends_line, lines_of, onto_first, ahead, IsFirstLine, IsLongerThan}
+use Rattle.lgm_script.specs.Lines.{ends_line, lines_of, ahead, IsFirstLine, IsLongerThan}
 use Rattle.lgm_script.specs.Groups.{AreFirstLines}
 use Rattle.lgm_script.specs.Request.{request_of}
 use Rattle.lgm_script.specs.Output.{OutputState, Tells, TellsSome}
