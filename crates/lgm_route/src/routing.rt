@@ -22,12 +22,6 @@ use lgm_par::{Gate, Pool};
 use std::alloc::{AllocError, Global};
 use std::thread::Threads;
 
-/// The greatest amount of a payment, in msat.
-const MOST_AMOUNT: u64 = 2_100_000_000_000_000_000;
-
-/// The greatest expiry of a payment, a block height.
-const MOST_EXPIRY: u32 = 498_000_000;
-
 /// A new search.
 fn begin<'a>(
     alloc: Global,
@@ -136,23 +130,6 @@ fn route_over(
     }
 }
 
-/// The first reason to refuse a request, whatever the edges are.
-fn refusal(request: &Request) -> Option<RouteFault>
-    ensures { result ≡ refusal request.now }
-{
-    if request.amount == 0 {
-        Some(RouteFault::AmountZero)
-    } else if MOST_AMOUNT < request.amount {
-        Some(RouteFault::AmountTooLarge)
-    } else if MOST_EXPIRY < request.expiry {
-        Some(RouteFault::ExpiryTooLarge)
-    } else if request.payer == request.payee {
-        Some(RouteFault::SelfPayment)
-    } else {
-        None
-    }
-}
-
 /// The best route of a payment over the edges of a view: the one that sends least among all usable walks of 1 to 20
 /// edges from the payer to the payee (BOLT 7, "HTLC Fees").
 ///
@@ -170,7 +147,7 @@ pub fn least(alloc: Global, view: &View, request: &Request) -> Result<Route, Rou
     // Otherwise the answer is the best route, or that there is none, unless memory runs out.
     ensures answer { (result ≡ Err RouteFault.NoMemory) ⊎ IsAnswer (point_edges view.now) request.now result }
 {
-    if let Some(fault) = refusal(request) {
+    if let Some(fault) = request.refusal() {
         return Err(fault);
     }
     let Some(numbered) = numbering_of(view, request) else {
@@ -213,7 +190,7 @@ pub fn least_chunked<Rt: Threads + Sync, G: Gate>(
     if workers == 1 {
         return least(alloc, view, request);
     }
-    if let Some(fault) = refusal(request) {
+    if let Some(fault) = request.refusal() {
         return Err(fault);
     }
     let Some(numbered) = numbering_of(view, request) else {

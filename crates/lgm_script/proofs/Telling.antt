@@ -54,6 +54,7 @@ tells_part_behind old mid new a b fault first then = record {
   whole = whole_behind old mid new a b first.written then.written then.lost first.whole then.whole;
   cause = λ e. let rise = then.cause e in let same = first.well in omega arith;
   well = λ e. then.well e ∙ first.well;
+  empty = then.empty;
 }
 
 -- a part of a text is a part of a longer one
@@ -68,6 +69,7 @@ tells_part_more old new a b fault part = record {
       ∙ append_assoc old.gathered a b;
   cause = part.cause;
   well = part.well;
+  empty = part.empty;
 }
 
 -- where memory was refused, nothing was told
@@ -79,6 +81,7 @@ tells_none told text = record {
   whole = refl;
   cause = λ e. absurd cc;
   well = λ e. refl;
+  empty = λ e. absurd cc;
 }
 
 -- where memory was refused and nothing was gathered, nothing was told
@@ -103,6 +106,7 @@ tells_some taken taken' failures failures' gathered bytes gathered' same some dr
       ∙ take-append-drop some.0 bytes ∙ same ∙ sym (append-nil gathered);
   cause = λ e. rise;
   well = λ e. absurd cc;
+  empty = λ e. dropped;
 }
 
 -- ---- a text that is told line by line

@@ -1,5 +1,5 @@
 -- Text for a sink: what the sink accepted, and after it what is buffered for it.
-use Rattle.std.specs.Prelude.{◌≡◌, ℕ, ◌<◌, List, ◌++◌, Option, Result, MatchResult}
+use Rattle.std.specs.Prelude.{◌≡◌, ℕ, ◌<◌, List, [], ◌++◌, Option, Result, MatchResult}
 use Rattle.std.specs.Option.{option_map}
 use Rattle.lgm_script.specs.declared.output.Output.{Output}
 use Rattle.lgm_script.specs.declared.output.SendFault.{SendFault}
@@ -39,6 +39,7 @@ pub record TellsPart (old new : OutputState) (text : List ℕ) (fault : SendFaul
   pub whole : (written ++ new.gathered) ++ lost ≡ old.gathered ++ text
   pub cause : fault ≡ Write → old.failures < new.failures
   pub well : fault ≡ NoMemory → new.failures ≡ old.failures
+  pub empty : fault ≡ Write → new.gathered ≡ []
 
 -- a text was written to an output
 abbrev pub Sends : {W : Type 0} → (W → Option (List ℕ)) → (W → ℕ) → Output W → Output W → List ℕ → Type 0
