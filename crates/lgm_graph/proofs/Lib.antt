@@ -15,7 +15,6 @@ mod Updating
 mod Noding
 mod Keeping
 mod Closing
-mod Each
 mod Adding
 mod Banning
 mod Parting

@@ -4,7 +4,6 @@ use Rattle.std.proofs.Common.{map, set, get_or, refl, sym, ap, subst, ◌∙◌,
 use Rattle.std.proofs.lemmas.List.{length-map}
 use Rattle.std.specs.Bool.{beq}
 use Rattle.std.specs.List.{IsDistinct, find}
-use Rattle.std.specs.Option.{option_and_then}
 use Rattle.std.proofs.lemmas.Bool.{and_parts}
 use Rattle.lgm_wire.specs.declared.point.Point.{Point}
 use Rattle.lgm_check.specs.declared.row.ChannelRow.{ChannelRow}
@@ -15,7 +14,6 @@ use Rattle.lgm_graph.specs.declared.nodes.Nodes.{Nodes}
 use Rattle.lgm_graph.specs.Edges.{PointEdge, edge_of, edge_on, end_of}
 use Rattle.lgm_graph.specs.Graph.{Graph, number_of, IsNumbered, IsJoined, numbered_as, Shows}
 use Rattle.lgm_graph.specs.inner.Sound.{graph_in, edges_in, ShowsIn}
-use Rattle.lgm_graph.specs.inner.Walk.{edge_of_direction}
 use Rattle.lgm_graph.proofs.Carrying.{edge_on-is}
 use Rattle.lgm_graph.proofs.Showing.{edges_at, shows_push}
 
@@ -84,13 +82,6 @@ pub edge_to : (channel : ChannelRow) (row : UpdateRow) (edge : PointEdge) → So
     → edge.to ≡ end_of channel (not (is_second row))
 unfolding edge_of
 edge_to channel row edge is = rw (edge_on-is channel row edge (sym is)) refl
-
--- the edge of a direction
-pub direction_some : (updates : List UpdateRow) (channel : ChannelRow) (id : ℕ) (second : Bool)
-    (row : UpdateRow) (edge : PointEdge) → id ≡ channel.message.short_channel_id
-    → Some row ≡ update_of updates id second → Some edge ≡ edge_on channel row → edge_of_direction updates channel second ≡ Some edge
-direction_some updates channel id second row edge own found is =
-    ap (option_and_then (edge_on channel)) (ap (λ id. update_of updates id second) (sym own) ∙ sym found) ∙ sym is
 
 -- ---- a further edge
 

@@ -4,7 +4,7 @@ use Rattle.std.proofs.Common.{take, drop, Option, Some, None, refl, sym, ap, sub
 use Rattle.std.specs.List.{AllByRecursion}
 use Rattle.std.specs.Option.{option_map}
 use Rattle.std.proofs.lemmas.Bool.{eqb-true, eq-eqb, ne_eqb}
-use Rattle.std.proofs.lemmas.List.{take_more, take_all, drop_more, take-append-drop, map-append}
+use Rattle.std.proofs.lemmas.List.{take_more, drop_more, take-append-drop, map-append}
 use Rattle.std.specs.Int.{w64, from_be_bytes}
 use Rattle.lgm_wire.specs.TruncatedInteger.{number_of}
 use Rattle.lgm_wire.specs.declared.tlv.Tlv.{Tlv}
@@ -79,10 +79,6 @@ told_more tlvs i d known after lt told none is =
       faultless = first_fault-none xs (r ∷ []) told.faultless ∙ ap (λ f. or_later f None) none;
       is = is ∙ ap (λ k. with_record k r) told.is ∙ sym (known_in-push xs r);
     })
-
-pub told_all : (tlvs : List Tlv) (i : ℕ) (known : Known) → length tlvs ≤ i
-    → AreTold (records_of (take i tlvs)) known → AreTold (records_of tlvs) known
-told_all tlvs i known le told = subst (λ ts. AreTold (records_of ts) known) (take_all i tlvs le) told
 
 pub fault_at : (tlvs : List Tlv) (i : ℕ) (d : Tlv) (known : Known) (fault : PayloadFault) → i < length tlvs → AreTold (records_of (take i tlvs)) known
     → record_fault (record_of (get_or tlvs i d)) ≡ Some fault → first_fault (records_of tlvs) ≡ Some fault

@@ -189,31 +189,6 @@ IsLeastOf dist closed reached place most =
     (k : ℕ) → k < place → get_or reached k 0 < length dist → is_closed closed (get_or reached k 0) ≡ false
     → most ≤ number_at dist (get_or reached k 0)
 
-pub least_more : (dist : List ℕ) (closed : List Bool) (reached : List ℕ) (place most less : ℕ)
-    → IsLeastOf dist closed reached place most → less ≤ most →
-    (get_or reached place 0 < length dist → is_closed closed (get_or reached place 0) ≡ false → less ≤ number_at dist (get_or reached place 0)) →
-    IsLeastOf dist closed reached (place + 1) less
-least_more dist closed reached place most less before low new k to within shut = by (trichotomy k place)
-  where
-    by : (k < place) ⊎ (k ≡ place) ⊎ (place < k) → less ≤ number_at dist (get_or reached k 0)
-    by (inl p) = omega (arith, low, before k p within shut)
-    by (inr (inl e)) =
-        subst (λ n. get_or reached n 0 < length dist → is_closed closed (get_or reached n 0) ≡ false
-        → less ≤ number_at dist (get_or reached n 0)) (sym e) new within shut
-    by (inr (inr p)) = absurd (omega arith)
-
-pub least_all : (dist : List ℕ) (closed : List Bool) (reached : List ℕ) (place most : ℕ)
-    → IsLeastOf dist closed reached place most → length reached ≤ place → most ≤ 2 ^ 64 - 1 →
-    AreReached dist reached → IsRadius dist closed most
-least_all dist closed reached place most least all small are node within shut = by (are node within)
-  where
-    by : (number_at dist node ≡ 2 ^ 64 - 1) ⊎ Contains reached node → most ≤ number_at dist node
-    by (inl e) = omega (arith, e, small)
-    by (inr there) =
-        let at : get_or reached there.0 0 ≡ node = sym (get_or_default reached there.0 node 0 there.1) ∙ there.2 in
-        subst (λ n. n < length dist → is_closed closed n ≡ false → most ≤ number_at dist n) at
-        (least there.0 (omega (arith, there.1, all))) within shut
-
 -- a node more in the list, and what is charged up to it lowered
 pub reached_more : (dist after : List ℕ) (reached : List ℕ) (node : ℕ) → length after ≡ length dist
     → ((other : ℕ) → (other ≡ node) ⊎ (number_at after other ≡ number_at dist other)) →

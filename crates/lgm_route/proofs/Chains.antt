@@ -69,11 +69,6 @@ has_more graph labels label [] count s e p = absurd (omega arith)
 has_more graph labels label (edge ∷ rest) count s e p =
     record { begins = s.1; tail = rest; is = ap (λ x. x ∷ rest) (sym s.0); spells = s.2; long = omega arith }
 
--- no edges are spelled anywhere
-pub spells_none : (graph : Graph) (labels : List Label) (label : Label) (rest : List Edge) → length rest ≡ 0 → Spells graph labels label rest
-spells_none graph labels label [] e = tt
-spells_none graph labels label (edge ∷ rest) e = absurd (omega arith)
-
 -- the edges so far, before those that the label spells, are the walk
 pub record IsOnTheWay (graph : Graph) (labels : List Label) (found here : Label) (count : ℕ) (walk : List Edge) : Type 0 where
   pub rest : List Edge
@@ -101,11 +96,6 @@ way_step graph labels found here count walk way left =
       whole = subst (λ r. Spells graph labels found r) same way.whole;
       all = subst (λ r. length r ≡ found.count) same way.all;
     }
-
-pub way_last : (graph : Graph) (labels : List Label) (found here other : Label) (count : ℕ) (walk : List Edge) → count ≡ 0 →
-    IsOnTheWay graph labels found here count walk → IsOnTheWay graph labels found other count walk
-way_last graph labels found here other count walk e way =
-    record { rest = way.rest; spells = spells_none graph labels other way.rest (way.long ∙ e); long = way.long; whole = way.whole; all = way.all }
 
 module _ {graph : Graph} {labels : List Label} {label other here there : Label} {count : ℕ}
     (beside : AreBeside graph labels label other here there count) (left : 0 < count) where

@@ -1,5 +1,5 @@
 -- The hops of a walk, made from its end on.
-use Rattle.std.proofs.Common.{◌≡◌, ℕ, zero, suc, ◌+◌, ◌-◌, ◌*◌, ◌^◌, ◌<◌, ◌≤◌, List, [], ◌∷◌}
+use Rattle.std.proofs.Common.{◌≡◌, ℕ, suc, ◌+◌, ◌-◌, ◌*◌, ◌^◌, ◌<◌, ◌≤◌, List, [], ◌∷◌}
 use Rattle.std.proofs.Common.{◌++◌, length, get_or, drop, reverse, refl, sym, ◌∙◌, ap, arith}
 use Rattle.std.proofs.lemmas.List.{drop_more, reverse-append}
 use Rattle.lgm_graph.specs.Fee.{fee_of}
@@ -15,12 +15,6 @@ use Rattle.lgm_route.specs.inner.Searching.{AreCarried}
 use Rattle.lgm_route.specs.inner.Best.{edges_in, hop_over, AreNumbered}
 use Rattle.lgm_route.proofs.Crossing.{over, owed_over}
 use Rattle.lgm_route.proofs.Rests.{carried_at}
-
-pub all_at : (graph : Graph) (walk : List Edge) (i : ℕ) (d : Edge) → AreNumbered graph walk → i < length walk
-    → ((get_or walk i d).from < length graph.points) × ((get_or walk i d).to < length graph.points)
-all_at graph [] i d all lt = absurd (omega arith)
-all_at graph (edge ∷ rest) zero d all lt = all.0
-all_at graph (edge ∷ rest) (suc i) d all lt = all_at graph rest i d all.1 (omega arith)
 
 -- ---- hop by hop
 

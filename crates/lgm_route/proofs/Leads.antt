@@ -8,9 +8,9 @@ use Rattle.lgm_graph.specs.declared.edge.Edge.{Edge}
 use Rattle.lgm_route.specs.declared.numbered_request.NumberedRequest.{NumberedRequest}
 use Rattle.lgm_route.specs.declared.label.Label.{Label}
 use Rattle.lgm_route.specs.inner.Numbered.{IsRest}
-use Rattle.lgm_route.specs.inner.Searching.{edge_at, first_of, label_at, no_label, number_at, Has, Spells, IsLabel, IsWalk, SomeRest}
-use Rattle.lgm_route.specs.inner.Searching.{SomeWalk, AreLabels, bound_of, Grows, IsBetter, IsOffered, PassesOn, LeadsOn}
-use Rattle.lgm_route.specs.inner.Leading.{IsNeedless, IsLed, IsLead, in_list, IsTaken, IsAmong, AreLeads}
+use Rattle.lgm_route.specs.inner.Searching.{edge_at, first_of, label_at, no_label, number_at, Spells, IsLabel, IsWalk, SomeRest}
+use Rattle.lgm_route.specs.inner.Searching.{SomeWalk, AreLabels, bound_of, Grows, PassesOn, LeadsOn}
+use Rattle.lgm_route.specs.inner.Leading.{IsNeedless, IsLed, IsLead, in_list, IsAmong, AreLeads}
 use Rattle.lgm_route.proofs.Rests.{trichotomy}
 use Rattle.lgm_route.proofs.Labels.{label_left, at-later, long-later}
 use Rattle.lgm_route.proofs.Steps.{all_passed}
@@ -66,30 +66,6 @@ module _ (graph : Graph) (request : NumberedRequest) (labels : List Label) (new 
         led_rest graph request labels new.next (first_of graph labels new) new led s.0 s.1
             (λ e. other (led.node ∙ e)),
       )
-
-  pub few_edges : new.node ≢ request.payer → new.count ≤ 19
-  few_edges other = (led.longer (λ e. other (led.node ∙ e))).0
-
-  pub taken_walk : (start : ℕ) (found now : Option Label) → new.node ≡ request.payer
-      → IsBetter graph request labels start found new now → IsTaken graph request start labels new labels now
-  taken_walk start found now at better low rest is to min max =
-      let walk =
-      led_walk graph request labels new.next (first_of graph labels new) new led rest is (sym led.node ∙ at)
-      (are.few new.next led.within) in
-      record {
-        whole = λ from. better.takes (first_of graph labels new ∷ rest) walk;
-        longer = λ few. inr (omega (arith, better.below, walk.sends, walk.long));
-      }
-
-  pub taken_rest : (start : ℕ) (found : Option Label) (after : List Label) → new.node ≢ request.payer
-      → IsOffered graph request labels new after → IsTaken graph request start labels new after found
-  taken_rest start found after other offered low rest is to min max =
-      record {
-        whole = λ from. absurd (other (led.node ∙ from));
-        longer = λ few. inl (subst (λ n. Has graph request after n (first_of graph labels new ∷ rest)) led.node
-            (offered.has (first_of graph labels new ∷ rest) (led_rest graph request labels new.next
-            (first_of graph labels new) new led rest is (λ e. other (led.node ∙ e)))));
-      }
 
 -- where leading on is needless it counts as done
 pub passed_needless : (graph : Graph) (request : NumberedRequest) (low : List ℕ) (start bound i : ℕ)

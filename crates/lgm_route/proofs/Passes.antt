@@ -1,6 +1,6 @@
 -- The steps of a pass.
 use Rattle.std.proofs.Common.{◌≡◌, ◌⊎◌, ◌∙◌, ℕ, ◌+◌, ◌-◌, ◌^◌, ◌<◌, ◌≤◌, List, [], ◌∷◌, ◌++◌, length, set, Bool, true, false}
-use Rattle.std.proofs.Common.{refl, sym, ap, subst, inl, inr, arith, length-set}
+use Rattle.std.proofs.Common.{sym, ap, subst, inl, inr, arith, length-set}
 use Rattle.std.specs.List.{Contains}
 use Rattle.lgm_graph.specs.Graph.{Graph, edges, edges_leaving, AreListed}
 use Rattle.lgm_graph.specs.declared.edge.Edge.{Edge}
@@ -9,9 +9,6 @@ use Rattle.lgm_route.specs.inner.Searching.{number_at, edge_at}
 use Rattle.lgm_route.specs.inner.Bounding.{IsNear, IsLooked, IsLowered, IsRadius, AreLow, AreReached, bounds_in, is_closed}
 use Rattle.lgm_route.specs.inner.Passing.{Passing, passing, IsPass, IsSamePass, AreNear}
 use Rattle.lgm_route.proofs.Bounded.{near_more, spread_lowered, spread_closed, spread_first, reached_more, reached_same, low_of, cut_bounds}
-
-pub same_pass : (pass : Passing) → IsSamePass pass pass
-same_pass pass = record { graph = refl; request = refl; long = refl }
 
 pub same_pass-trans : (a b c : Passing) → IsSamePass a b → IsSamePass b c → IsSamePass a c
 same_pass-trans a b c first second = record {

@@ -1,32 +1,24 @@
 -- A search as one value, from step to step.
-use Rattle.std.proofs.Common.{◌≡◌, ◌≢◌, ◌⊎◌, ℕ, zero, suc, ◌+◌, ◌*◌, ◌^◌, ◌<◌, ◌≤◌, List, [], ◌∷◌, length, get_or}
-use Rattle.std.proofs.Common.{Option, Some, None, Bool, true, false, refl, sym, ◌∙◌, ap, subst, inl, inr, arith}
-use Rattle.std.proofs.lemmas.List.{get_or_default}
+use Rattle.std.proofs.Common.{◌≡◌, ◌⊎◌, ℕ, zero, suc, ◌+◌, ◌*◌, ◌^◌, ◌<◌, ◌≤◌, List, [], ◌∷◌, length, get_or}
+use Rattle.std.proofs.Common.{Option, Some, None, Bool, true, false, refl, sym, ◌∙◌, subst, inl, inr, arith}
 use Rattle.lgm_graph.specs.Graph.{Graph, edges, edges_into, AreListed}
 use Rattle.lgm_graph.specs.declared.edge.Edge.{Edge}
 use Rattle.lgm_route.specs.declared.numbered_request.NumberedRequest.{NumberedRequest}
 use Rattle.lgm_route.specs.declared.label.Label.{Label}
 use Rattle.lgm_route.specs.inner.Bounding.{AreLow}
 use Rattle.lgm_route.specs.inner.Numbered.{sent, IsLeast}
-use Rattle.lgm_route.specs.inner.Searching.{label_at, edge_at, no_edge, Spells, first_of, bound_of, number_at, IsSettled, AreLabels, IsFound}
-use Rattle.lgm_route.specs.inner.Searching.{Grows, IsMarked, IsOffered, IsBetter, PassesOn, AreSpelled, SomeRest, IsNoBetter, StandsIn}
-use Rattle.lgm_route.specs.inner.Leading.{IsInto, IsLed, AreLeads}
+use Rattle.lgm_route.specs.inner.Searching.{label_at, edge_at, Spells, first_of, bound_of, number_at, IsSettled, AreLabels, IsFound}
+use Rattle.lgm_route.specs.inner.Searching.{Grows, IsOffered, IsBetter, PassesOn, AreSpelled, SomeRest, IsNoBetter, StandsIn}
+use Rattle.lgm_route.specs.inner.Leading.{IsLed, AreLeads}
 use Rattle.lgm_route.specs.inner.State.{Ground, State, state_of, IsGround, IsSearch, Extends, IsSettledAt, IsMarkedAt}
-use Rattle.lgm_route.specs.inner.State.{IsIntoAt, IsLeadAt, AreLeadsAt, IsPassedOn, IsLeftAt, IsFinished, bound_in}
+use Rattle.lgm_route.specs.inner.State.{AreLeadsAt, IsPassedOn, IsLeftAt, IsFinished, bound_in}
 use Rattle.lgm_route.proofs.Rests.{trichotomy}
-use Rattle.lgm_route.proofs.Labels.{grows-refl, grows-trans, found-grows, no_better-grows, at-later, long-later, none_better}
-use Rattle.lgm_route.proofs.Steps.{least_of, sent_small, still_settled, settled_more, settled_left, settled_hopeless}
+use Rattle.lgm_route.proofs.Labels.{grows-refl, grows-trans, found-grows, no_better-grows, none_better}
+use Rattle.lgm_route.proofs.Steps.{least_of, sent_small, still_settled, settled_left, settled_hopeless}
 use Rattle.lgm_route.proofs.Steps.{settled_for, passes_from, passes_later, all_passed, spelled_labels}
-use Rattle.lgm_route.proofs.Leads.{leads_later, led_later, all_taken, passed_needless, taken_walk, taken_rest}
+use Rattle.lgm_route.proofs.Leads.{leads_later, led_later, all_taken}
 
 -- ---- one search, later
-
-pub extends-refl : (s : State) → Extends s s
-extends-refl s = record {
-  ground = refl;
-  grows = grows-refl s.ground.graph s.ground.request s.ground.start s.labels s.best;
-  still = λ i h. h;
-}
 
 -- what the ground says holds of the later search too
 abbrev Growing : Ground → State → State → Type 0
@@ -39,23 +31,6 @@ extends-trans a b c h k = record {
       (subst (λ g. Growing g b c) h.ground k.grows);
   still = λ i m. k.still i (h.still i m);
 }
-
-pub at_later : (a b : State) (i : ℕ) → Extends a b → i < length a.labels → label_at b.labels i ≡ label_at a.labels i
-at_later a b i h within = at-later a.ground.graph a.ground.request a.ground.low a.ground.start a.labels a.best b.labels b.best h.grows i within
-
-pub long_later : (a b : State) → Extends a b → length a.labels ≤ length b.labels
-long_later a b h = long-later a.ground.graph a.ground.request a.ground.low a.ground.start a.labels a.best b.labels b.best h.grows
-
--- the edge is still the one at its place
-pub into_later : (a b : State) (i at : ℕ) (edge : Edge) → Extends a b → IsIntoAt a i at edge → IsIntoAt b i at edge
-into_later a b i at edge h into =
-    subst (λ g. IsInto g.graph b.labels i at edge) (sym h.ground)
-    (let same = at_later a b i h into.within in
-    record {
-      within = omega (arith, into.within, long_later a b h);
-      inside = subst (λ l. at < length (edges_into a.ground.graph l.node)) (sym same) into.inside;
-      is = subst (λ l. edge_at (edges_into a.ground.graph l.node) at ≡ edge) (sym same) into.is;
-    })
 
 abbrev Passing : Ground → List Label → ℕ → State → Edge → Type 0
 Passing ground labels i after edge = PassesOn ground.graph ground.request ground.low ground.start labels i after.labels after.best edge
@@ -144,29 +119,6 @@ pub extends_better : (s : State) (new : Label) (best : Option Label)
     Extends s (record s { best = best })
 extends_better s new best better = record { ground = refl; grows = better_grows s new best better; still = λ i h. h }
 
--- a settled label was marked
-pub search_marked : (s : State) (i : ℕ) (done : List Bool) → IsSearch s → i < length s.labels
-    → IsSettledAt s i → IsMarked s.done i done → IsSearch (record s { done = done })
-search_marked s i done is within settled marked = record {
-  ground = is.ground;
-  labelled = is.labelled;
-  found = is.found;
-  settled = settled_more s.ground.graph s.ground.request s.ground.low s.ground.start s.labels s.best s.labels s.best s.done done i
-      (grows-refl s.ground.graph s.ground.request s.ground.start s.labels s.best) is.settled marked within settled;
-}
-
-pub extends_marked : (s : State) (i : ℕ) (done : List Bool) → IsMarked s.done i done → Extends s (record s { done = done })
-extends_marked s i done marked = record {
-  ground = refl;
-  grows = grows-refl s.ground.graph s.ground.request s.ground.start s.labels s.best;
-  still = marked.still;
-}
-
--- marks that say the same
-pub search_same : (s : State) (done : List Bool) → IsSearch s
-    → ((j : ℕ) → get_or done j false ≡ get_or s.done j false) → IsSearch (record s { done = done })
-search_same s done is same = record { ground = is.ground; labelled = is.labelled; found = is.found; settled = λ j h. is.settled j (sym (same j) ∙ h) }
-
 -- ---- settling
 
 pub spelled : (s : State) → IsSearch s → AreSpelled s.ground.graph s.labels
@@ -254,18 +206,6 @@ begun graph request low start listed long are_low small labels one done none = r
     first : AreLabels graph request (label ∷ [])
     first = record { some = omega arith; first = (refl, refl); sound = sound; few = few }
 
--- an edge read from a run is the one at its place
-pub into_at : (s : State) (i at : ℕ) (label : Label) (run : List Edge) (edge : Edge) → i < length s.labels
-    → label ≡ label_at s.labels i → run ≡ edges_into s.ground.graph label.node →
-    at < length run → edge ≡ get_or run at edge → IsIntoAt s i at edge
-into_at s i at label run edge within is run_is inside read =
-    let same : run ≡ edges_into s.ground.graph (label_at s.labels i).node = run_is ∙ ap (λ l. edges_into s.ground.graph l.node) is in
-    record {
-      within = within;
-      inside = subst (λ r. at < length r) same inside;
-      is = subst (λ r. edge_at r at ≡ edge) same (sym (get_or_default run at edge no_edge inside) ∙ sym read);
-    }
-
 -- ---- taking leads
 
 abbrev Led : Ground → State → ℕ → List Label → Type 0
@@ -297,32 +237,6 @@ pub led_at_later : (a b : State) (i : ℕ) (edge : Edge) (new : Label) → Exten
 led_at_later a b i edge new h within led =
     subst (λ g. IsLedBy g b.labels i edge new) (sym h.ground)
     (led_later a.ground.graph a.ground.request a.ground.low a.ground.start a.labels a.best b.labels b.best h.grows i within edge new led)
-
--- where nothing is led on, that was needless
-pub passed_none : (s : State) (i : ℕ) (edge : Edge) → IsLeadAt s i edge None → IsPassedOn s i edge s
-passed_none s i edge needless =
-    passed_needless s.ground.graph s.ground.request s.ground.low s.ground.start (bound_in s) i s.labels s.labels s.best edge (omega arith) needless
-
--- a walk was taken
-pub passed_walk : (s after : State) (new : Label) → IsSearch s
-    → IsLed s.ground.graph s.ground.request s.labels new.next (first_of s.ground.graph s.labels new) new →
-    new.node ≡ s.ground.request.payer → after.labels ≡ s.labels →
-    IsBetter s.ground.graph s.ground.request s.labels s.ground.start s.best new after.best
-    → IsPassedOn s new.next (first_of s.ground.graph s.labels new) after
-passed_walk s after new is led at same better =
-    subst (λ ls. PassesOn s.ground.graph s.ground.request s.ground.low s.ground.start s.labels new.next ls
-    after.best (first_of s.ground.graph s.labels new)) (sym same)
-    (taken_walk s.ground.graph s.ground.request s.labels new is.labelled led s.ground.start s.best after.best at better s.ground.low)
-
--- a rest was offered
-pub passed_rest : (s after : State) (new : Label) → IsSearch s
-    → IsLed s.ground.graph s.ground.request s.labels new.next (first_of s.ground.graph s.labels new) new →
-    new.node ≢ s.ground.request.payer → after.best ≡ s.best →
-    IsOffered s.ground.graph s.ground.request s.labels new after.labels → IsPassedOn s new.next (first_of s.ground.graph s.labels new) after
-passed_rest s after new is led other same offered =
-    subst (λ o. PassesOn s.ground.graph s.ground.request s.ground.low s.ground.start s.labels new.next
-    after.labels o (first_of s.ground.graph s.labels new)) (sym same)
-    (taken_rest s.ground.graph s.ground.request s.labels new is.labelled led s.ground.start s.best after.labels other offered s.ground.low)
 
 pub left_taken : (a b : State) (i : ℕ) (leads : List Label) → IsGround a.ground → Extends a b → AreLeadsAt a i leads →
     ((k : ℕ) → k < length leads → IsPassedOn a i (first_of a.ground.graph a.labels (label_at leads k)) b) → IsLeftAt a i b

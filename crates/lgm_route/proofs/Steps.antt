@@ -1,7 +1,7 @@
 -- One step of the search: labels compared, added and led on.
-use Rattle.std.proofs.Common.{◌≡◌, ◌≢◌, ◌⊎◌, ℕ, ◌+◌, ◌*◌, ◌^◌, ◌<◌, ◌≤◌, List, [], ◌∷◌, ◌++◌, length, get_or, Option}
-use Rattle.std.proofs.Common.{Some, None, Bool, true, false, refl, sym, ◌∙◌, ap, subst, inl, inr, arith}
 use Rattle.std.specs.Prelude.{if◌then◌else◌}
+use Rattle.std.proofs.Common.{◌≡◌, ◌≢◌, ◌⊎◌, ℕ, ◌+◌, ◌*◌, ◌^◌, ◌<◌, ◌≤◌, List, [], ◌∷◌, ◌++◌, length, Option}
+use Rattle.std.proofs.Common.{Some, None, Bool, true, false, refl, sym, ◌∙◌, ap, subst, inl, inr, arith}
 use Rattle.std.specs.List.{Contains}
 use Rattle.std.proofs.lemmas.List.{get_or_push, length_push, get_or_default, append-nil}
 use Rattle.lgm_graph.specs.Fee.{fee_of}
@@ -13,7 +13,7 @@ use Rattle.lgm_route.specs.inner.Numbered.{sent, ids, IsUsable, IsLeast, Precede
 use Rattle.lgm_route.specs.inner.Searching.{NotAfter, walk_key, Serves, no_edge, edge_at, label_at, no_label, number_at, Spells}
 use Rattle.lgm_route.specs.inner.Searching.{IdsFirst, IsLabel, IsWalk, DoesServe, SomeRest, SomeWalk, bound_of, IsNoBetter, IsHopeless}
 use Rattle.lgm_route.specs.inner.Searching.{IsPassed, IsLeft, IsSettled, AreLabels, IsFound, Grows, IsBetter, IsOffered, PassesOn}
-use Rattle.lgm_route.specs.inner.Searching.{LeadsOn, StandsIn, AreSpelled, AreSettled, IsMarked, IsStart}
+use Rattle.lgm_route.specs.inner.Searching.{LeadsOn, StandsIn, AreSpelled, AreSettled, IsStart}
 use Rattle.lgm_route.specs.inner.Leading.{IsInto, IsLed}
 use Rattle.lgm_route.proofs.Orders.{NotAfter-refl, NotAfter-trans, NotAfter-join, NotAfter-excludes}
 use Rattle.lgm_route.proofs.Rests.{trichotomy, Serves-refl, Serves-trans}
@@ -321,19 +321,6 @@ module _ (graph : Graph) (request : NumberedRequest) (low : List ℕ) (start : �
     subst (λ l. IsSettled graph request low start after now l) (sym (at-later graph request low start labels found after now grows j (settled j h).0))
         (settled-later graph request low start labels found after now grows (label_at labels j) (settled j h).1),
   )
-
-  pub settled_more : (labels : List Label) (found : Option Label) (after : List Label) (now : Option Label) (done marked : List Bool) (i : ℕ) →
-      Grows graph request start labels found after now → AreSettled graph request low start labels found done
-      → IsMarked done i marked → i < length labels →
-      IsSettled graph request low start after now (label_at after i) → AreSettled graph request low start after now marked
-  settled_more labels found after now done marked i grows settled mark within new j is = by (mark.others j is)
-    where
-      long : length labels ≤ length after
-      long = long-later graph request low start labels found after now grows
-
-      by : (j ≡ i) ⊎ (get_or done j false ≡ true) → (j < length after) × IsSettled graph request low start after now (label_at after j)
-      by (inl e) = (omega (arith, long), subst (λ n. IsSettled graph request low start after now (label_at after n)) (sym e) new)
-      by (inr h) = still_settled labels found after now done grows settled j h
 
   -- a label whose rest was led on
   pub settled_left : (labels : List Label) (found : Option Label) (after : List Label) (now : Option Label) (i : ℕ) →

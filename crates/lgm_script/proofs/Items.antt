@@ -74,16 +74,6 @@ pub no_message : (bytes : Taken) → message bytes None ≡ None
 no_message None = refl
 no_message (Some b) = refl
 
--- where there are fewer than three fields, there is no message
-pub too_few : (text : List ℕ) → fields_of 32 text ≡ text ∷ [] → gossip_of (fields_of 32 text) ≡ None
-too_few text one = ap gossip_of one ∙ no_message (bytes_of text)
-
-pub too_few_still : (text front output : List ℕ) → fields_of 32 text ≡ fields_of 32 front ++ output ∷ []
-    → fields_of 32 front ≡ front ∷ [] → gossip_of (fields_of 32 text) ≡ None
-too_few_still text front output cut one =
-    ap gossip_of (cut ∙ ap (λ (fields : List (List ℕ)). fields ++ output ∷ []) one)
-    ∙ no_message (bytes_of front)
-
 -- where there are more, there is none either
 too_many : (hex more : List ℕ) (others : List (List ℕ)) (signer output : List ℕ)
     → gossip_of ((hex ∷ more ∷ others ++ signer ∷ []) ++ output ∷ []) ≡ None

@@ -40,10 +40,6 @@ module _ {K R : Type 0} (cmp : K → K → Ordering) (key : R → K) where
   ascend-values [] keyed sorted = tt
   ascend-values (e ∷ es) keyed sorted = (above_all e.0 e.1 es keyed.0 keyed.1 sorted.0, ascend-values es keyed.1 sorted.1)
 
-pub ascend-channels : (entries : List (ℕ × ChannelRow)) → IsKeyed id_of entries
-    → IsStrictlySortedBy nat_cmp (keys_of entries) → IsStrictlySortedBy by_id (values_of entries)
-ascend-channels entries keyed sorted = ascend-values nat_cmp id_of entries keyed sorted
-
 pub IsAscending-sound : (channels : List (ℕ × ChannelRow)) (updates : List ((ℕ × Bool) × UpdateRow))
     (nodes : List (Point × NodeRow)) (ends : List (Point × List ℕ)) (rows : Rows)
     → IsSound channels updates nodes ends → IsStrictlySortedBy point_cmp rows.banned → values_of channels

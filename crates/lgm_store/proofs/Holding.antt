@@ -1,5 +1,5 @@
 -- Channels with their updates, in one ordered map, as two ordered maps.
-use Rattle.std.proofs.Common.{◌≡◌, ℕ, Bool, true, false, cond, List, [], ◌∷◌, ◌++◌, length, Option, Some, None, refl, sym, ap, ◌∙◌, eqb, arith}
+use Rattle.std.proofs.Common.{◌≡◌, ℕ, Bool, true, false, cond, List, [], ◌∷◌, ◌++◌, Option, Some, None, refl, sym, ap, ◌∙◌, eqb, arith}
 use Rattle.std.specs.Option.{option_map, option_and_then}
 use Rattle.std.specs.List.{AllByRecursion, filter}
 use Rattle.std.specs.List.Sorted.{IsStrictlySortedBy}
@@ -29,10 +29,6 @@ keys-channels (e ∷ es) = rw (keys-channels es) refl
 
 pub ascend-held : (es : List (ℕ × Held)) → IsStrictlySortedBy nat_cmp (keys_of (channel_entries es)) → IsStrictlySortedBy nat_cmp (keys_of es)
 ascend-held es sorted = rw (keys-channels es) at sorted
-
-pub length-channels : (es : List (ℕ × Held)) → length (channel_entries es) ≡ length es
-length-channels [] = refl
-length-channels (e ∷ es) = rw (length-channels es) refl
 
 pub lookup-channels : (test : ℕ → Bool) (es : List (ℕ × Held)) → lookup test (channel_entries es) ≡ option_map (λ held. held.channel) (lookup test es)
 lookup-channels test [] = refl

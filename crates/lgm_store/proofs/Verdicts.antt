@@ -6,8 +6,6 @@ use Rattle.lgm_wire.specs.declared.chain_hash.ChainHash.{ChainHash}
 use Rattle.lgm_gossip.specs.declared.announce.Announce.{Announce}
 use Rattle.lgm_gossip.specs.declared.channel_update.ChannelUpdate.{ChannelUpdate}
 use Rattle.lgm_gossip.specs.declared.node_announce.NodeAnnounce.{NodeAnnounce}
-use Rattle.lgm_gossip.specs.Message.{Wire}
-use Rattle.lgm_gossip.specs.declared.message.Message.TheVariants as wired
 use Rattle.lgm_check.specs.declared.evidence.Evidence.{Evidence}
 use Rattle.lgm_check.specs.declared.row.ChannelRow.{ChannelRow}
 use Rattle.lgm_check.specs.declared.row.UpdateRow.{UpdateRow}
@@ -23,7 +21,6 @@ use Rattle.lgm_check.proofs.AcceptedLaws.{only}
 use Rattle.lgm_rows.proofs.AnnounceLaws as announces
 use Rattle.lgm_rows.proofs.UpdateLaws as updates
 use Rattle.lgm_rows.proofs.NodeLaws as nodes
-use Rattle.lgm_store.specs.Spelled.{IsSpelled}
 use Rattle.lgm_store.specs.inner.Candidate.{Fits, checked_by}
 use Rattle.lgm_store.specs.declared.op.Op.{Op}
 use Rattle.lgm_store.specs.Admission.{Offers}
@@ -49,13 +46,6 @@ accepted_made chain bytes evidence (messages.Update row signer) is =
 accepted_made chain bytes evidence (messages.Node row) is =
     let with : NodeAnnounce → List ℕ → Checked = λ m raw. let same : NodeRow = record { message = m; raw = raw } in messages.Node same in
     ap (λ m. with m bytes) (nodes.spelled_in row.message bytes is.spelled).1 ∙ ap (with row.message) (sym is.raw)
-
--- the bytes of its row spell it
-pub accepted_spelled : (chain : ChainHash) (bytes : List ℕ) (evidence : Evidence) (made : Checked)
-    → IsAccepted chain bytes evidence made → IsSpelled made
-accepted_spelled chain bytes evidence (messages.Channel row) is = subst (Wire (wired.Announce row.message)) (sym is.raw) is.spelled
-accepted_spelled chain bytes evidence (messages.Update row signer) is = subst (Wire (wired.ChannelUpdate row.message)) (sym is.raw) is.spelled
-accepted_spelled chain bytes evidence (messages.Node row) is = subst (Wire (wired.NodeAnnounce row.message)) (sym is.raw) is.spelled
 
 -- ---- what was found of it
 

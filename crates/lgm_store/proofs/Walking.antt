@@ -1,6 +1,6 @@
 -- Walks along an ordered map, from a key on.
 use Rattle.std.proofs.Common.{◌≡◌, ℕ, ◌*◌, ◌^◌, ◌<◌, ◌≤◌, Bool, true, false, not, ◌&&◌, cond, List}
-use Rattle.std.proofs.Common.{[], ◌∷◌, map, Option, Some, None, refl, sym, ap, ◌∙◌, arith}
+use Rattle.std.proofs.Common.{[], ◌∷◌, Option, Some, None, refl, sym, ap, ◌∙◌, arith}
 use Rattle.std.specs.Prelude.{nat_lt, nat_le}
 use Rattle.std.specs.List.{AllByRecursion, filter, find}
 use Rattle.std.specs.Map.{values_of}
@@ -44,24 +44,6 @@ module _ {K R : Type 0} where
       along : (es : List (K × R)) → IsKeyed key es → AllByRecursion (λ e. p e ≡ q e.1) es
       along [] keyed = tt
       along (e ∷ es) keyed = (agree e keyed.0, along es keyed.1)
-
-  -- a filter of keys that asks no less than an earlier one of entries
-  filter-filter_keys : (t : K → Bool) (p : K × R → Bool) → ((e : K × R) → t e.0 ≡ true → p e ≡ true) → (entries : List (K × R))
-      → filter t (map (λ e. e.0) (filter p entries)) ≡ filter t (map (λ e. e.0) entries)
-  filter-filter_keys t p more [] = refl
-  filter-filter_keys t p more (e ∷ es) = by (filter-filter_keys t p more es) (p e) refl (t e.0) refl
-    where
-      by : filter t (map (λ e. e.0) (filter p es)) ≡ filter t (map (λ e. e.0) es) → (b : Bool) → p e ≡ b → (d : Bool) → t e.0 ≡ d
-          → filter t (map (λ e. e.0) (cond (p e) (e ∷ filter p es) (filter p es)))
-          ≡ cond (t e.0) (e.0 ∷ filter t (map (λ e. e.0) es)) (filter t (map (λ e. e.0) es))
-      by others true is d t_is = rw (is, others) refl
-      by others false is true t_is = let never : true ≡ false = sym (more e t_is) ∙ is in absurd cc
-      by others false is false t_is = rw (is, t_is) others
-
-  -- the keys are the rows' own
-  keys-keyed : (key : R → K) (entries : List (K × R)) → IsKeyed key entries → map (λ e. e.0) entries ≡ map key (values_of entries)
-  keys-keyed key [] keyed = refl
-  keys-keyed key (e ∷ es) keyed = rw (keyed.0, keys-keyed key es keyed.1) refl
 
 and_true : (b : Bool) → (b && true) ≡ b
 and_true true = refl
