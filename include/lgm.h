@@ -74,7 +74,10 @@ enum {
     /* The handle is closed; the handle is open already. */
     LGM_CLOSED = 100,
     LGM_OPEN = 101,
-    /* Out of memory. The same call may be made again. */
+    /*
+     * Out of memory. The same call may be made again. It comes only if the call would have succeeded, or was to search
+     * for a route, or to decode a query or a reply with lists: any other fault is returned even if memory is short.
+     */
     LGM_NO_MEMORY = 102,
     /* A number that stands for no verdict. */
     LGM_ARGUMENT = 103,
@@ -101,7 +104,7 @@ uint32_t lgm_version(void);
 
 /*
  * The word of a number that a call returned, as `lgm run` writes it: "accepted" for 0, "malformed" for 1 and so on,
- * padded with zeros. A number that isn't one of an outcome or a fault has the empty word.
+ * padded with zeros. 13 has the word "conflict"; any other number that no call returns has the empty word.
  */
 void lgm_word(uint32_t number, uint8_t word[LGM_WORD_LEN]);
 
@@ -189,7 +192,7 @@ typedef struct {
  * Finds the route by which the payer sends the least, among all of 1 to 20 channels of the map (BOLT 7, "HTLC Fees";
  * docs/protocol.md). Writes the hops, from the payer on, to `hops`; to `payloads` the payloads for the receiving nodes,
  * one after the other, each beginning with its length as a BigSize (BOLT 4, "Payload Format"); and the numbers of both to
- * `lengths`. The first call builds the view of the map in which routes are searched; later calls update it.
+ * `lengths`. The first search builds the view of the map in which routes are searched; later calls update it.
  *
  * LGM_CLOSED; LGM_FULL; 21 to 25; LGM_ROOM; LGM_NO_MEMORY.
  */

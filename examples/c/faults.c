@@ -1,6 +1,6 @@
 /*
  * Tests that calls that fail return the number of the fault, and leave the map and the buffers unchanged, also if an
- * allocation fails: each one in turn. The exit status is 0 if all tests pass. Under valgrind it also shows that nothing
+ * allocation fails: each one in turn. What is refused is refused then, too. The exit status is 0 if all tests pass. Under valgrind it also shows that nothing
  * is freed twice, written past its end, or leaked.
  *
  * It is linked with -Wl,--wrap=malloc,--wrap=realloc, so that it can make allocations fail.
@@ -24,6 +24,8 @@ static void expect(const char *what, uint64_t found, uint64_t wanted) {
 /* The number of allocations up to the one that fails, or 0 if none does, or it has failed already. */
 static long left;
 static bool has_failed;
+/* Whether all allocations fail. */
+static bool none_left;
 
 void *__real_malloc(size_t size);
 void *__real_realloc(void *block, size_t size);
@@ -31,6 +33,7 @@ void *__wrap_malloc(size_t size);
 void *__wrap_realloc(void *block, size_t size);
 
 static bool fails_now(void) {
+    if (none_left) return true;
     if (left == 0 || --left != 0) return false;
     has_failed = true;
     return true;
@@ -295,6 +298,27 @@ static void words(void) {
         expect(what, number, wanted);             \
     } while (0)
 
+/* What is refused even if there is no memory at all. */
+static void refused_without_memory(lgm_map *map, lgm_payment payment) {
+    uint8_t channel[ANNOUNCEMENT], other[FILTER], room[1];
+    lgm_hop hop;
+    lgm_lengths lengths;
+    size_t needed;
+    announcement(channel);
+    query(other, 265);
+    payment.amount_msat = 0;
+    none_left = true;
+    expect("opening again", lgm_open(map, chain, true, room, 0, seed), LGM_OPEN);
+    expect("a known channel", lgm_offer(map, channel, ANNOUNCEMENT, LGM_SIG_ALL_FOUR, a, LGM_FUNDING_UNSPENT, 100000),
+           LGM_KNOWN);
+    expect("a close of no channel", lgm_close_channel(map, scid + 1), LGM_UNKNOWN_CHANNEL);
+    expect("no amount", lgm_route(map, &payment, &hop, 1, room, 1, &lengths), LGM_AMOUNT_ZERO);
+    expect("a filter as a query", lgm_query(map, other, FILTER, room, 1, &needed), LGM_NOT_QUERY);
+    other[2] = 0xd1;
+    expect("another chain", lgm_news(map, other, FILTER, room, 1, &needed), LGM_CHAIN);
+    none_left = false;
+}
+
 /* Each call once, while one allocation fails. */
 static void out_of_memory(void) {
     lgm_map map = {0};
@@ -316,14 +340,16 @@ static void out_of_memory(void) {
     for (uint32_t time = 1; time <= 2; time++) {
         update(terms, time);
         AGAIN("an update", lgm_offer(&map, terms, UPDATE, LGM_SIG_BY, a, LGM_FUNDING_NOT_ASKED, 0), LGM_OK);
-        AGAIN("the same", lgm_offer(&map, terms, UPDATE, LGM_SIG_BY, a, LGM_FUNDING_NOT_ASKED, 0), LGM_NOT_NEWER);
+        expect("the same", lgm_offer(&map, terms, UPDATE, LGM_SIG_BY, a, LGM_FUNDING_NOT_ASKED, 0), LGM_NOT_NEWER);
         AGAIN("news", lgm_news(&map, other, FILTER, room, sizeof room, &needed), LGM_OK);
         expect("news", needed, 8 + UPDATE + (time == 1 ? 8 + ANNOUNCEMENT : 0));
         AGAIN("a mark", lgm_mark(&map), LGM_OK);
     }
     AGAIN("a node", lgm_offer(&map, one, NODE, LGM_SIG_BY, a, LGM_FUNDING_NOT_ASKED, 0), LGM_OK);
+    refused_without_memory(&map, payment);
     AGAIN("a route", lgm_route(&map, &payment, hops, LGM_MOST_HOPS, room, sizeof room, &lengths), LGM_OK);
     expect("its hops", lengths.hops, 1);
+    refused_without_memory(&map, payment);
     AGAIN("a range", lgm_query(&map, range, QUERY, room, sizeof room, &needed), LGM_OK);
     expect("its reply", needed, 8 + 45 + 1 + 8);
     AGAIN("a filter", lgm_filter(&map, other, FILTER, room, sizeof room, &needed), LGM_OK);

@@ -3,3 +3,4 @@ mod Outcomes
 mod Marks
 mod Hops
 mod ShortWords
+mod Searches

@@ -2,6 +2,7 @@
 use Rattle.std.specs.Prelude.{◌≡◌, ◌⊎◌, ℕ, List, Option, Some, None, Result, Ok, Err}
 use Rattle.lgm_wire.specs.reading.Reading.{◌>>=◌}
 use Rattle.lgm_wire.specs.declared.chain_hash.ChainHash.{ChainHash}
+use Rattle.lgm_gossip.specs.Memory.{TakesMemory}
 use Rattle.lgm_check.specs.declared.refusal.Refusal.{Refusal}
 use Rattle.lgm_check.specs.declared.evidence.Evidence.{Evidence}
 use Rattle.lgm_check.specs.Precheck.{checked_of}
@@ -11,7 +12,7 @@ use Rattle.lgm_store.specs.Admission.{admitted, admitted_close}
 use Rattle.lgm_store.specs.History.{absorbed}
 use Rattle.lgm_c.specs.declared.fault.Fault.TheVariants as faults
 use Rattle.lgm_c.specs.Held.{Held}
-use Rattle.lgm_c.specs.Status.{number_of, no_memory, refused}
+use Rattle.lgm_c.specs.Status.{number_of, no_memory, refused, MayRunOut}
 
 -- the operation of a message on these rows, or its first refusal
 abbrev pub offered_to : ChainHash → Rows → List ℕ → Evidence → Result Op Refusal
@@ -26,20 +27,21 @@ abbrev pub outcome_number : Result Op Refusal → ℕ
 outcome_number (Ok op) = 0
 outcome_number (Err refusal) = number_of (refused refusal)
 
--- a call returns the number of the outcome and applies it, or runs out of memory and changes nothing
-abbrev pub Does : Result Op Refusal → Held → ℕ → Option Held → Type 0
-Does outcome old status new =
+-- a call returns the number of the outcome and applies it; or it runs out of memory and changes nothing
+abbrev pub Does : Type 0 → Result Op Refusal → Held → ℕ → Option Held → Type 0
+Does takes outcome old status new =
     ((status ≡ outcome_number outcome) × (new ≡ Some (held_behind old outcome)))
-    ⊎ ((status ≡ no_memory) × (new ≡ Some old))
+    ⊎ (MayRunOut takes outcome × (status ≡ no_memory) × (new ≡ Some old))
 
--- a message is offered to a handle, with the verdicts on it if the numbers stand for some
+-- a message is offered to a handle, with the verdicts on it if the numbers stand for some; a refusal is returned even if
+-- memory is short, unless decoding the message takes memory
 abbrev pub Offers : List ℕ → Option Evidence → ℕ → Option Held → Option Held → Type 0
 Offers bytes evidence status None new = (status ≡ number_of faults.Closed) × (new ≡ None)
 Offers bytes None status (Some old) new = (status ≡ number_of faults.Argument) × (new ≡ Some old)
 Offers bytes (Some evidence) status (Some old) new =
-    Does (offered_to old.chain old.rows bytes evidence) old status new
+    Does (TakesMemory bytes) (offered_to old.chain old.rows bytes evidence) old status new
 
--- a channel is closed
+-- a channel is closed; a refusal takes no memory
 abbrev pub Closes : ℕ → ℕ → Option Held → Option Held → Type 0
 Closes id status None new = (status ≡ number_of faults.Closed) × (new ≡ None)
-Closes id status (Some old) new = Does (admitted_close old.rows id) old status new
+Closes id status (Some old) new = Does ⊥ (admitted_close old.rows id) old status new

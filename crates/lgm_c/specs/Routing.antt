@@ -6,6 +6,7 @@ use Rattle.lgm_route.specs.Choice.{answer_of}
 use Rattle.lgm_route.specs.declared.request.Request.{Request}
 use Rattle.lgm_route.specs.declared.route.Hop.{Hop}
 use Rattle.lgm_route.specs.declared.fault.RouteFault.{RouteFault}
+use Rattle.lgm_route.specs.declared.fault.RouteFault.TheVariants as reasons
 use Rattle.lgm_payload.specs.Building.{payloads_of}
 use Rattle.lgm_c.specs.declared.routing.LgmPayment.{LgmPayment}
 use Rattle.lgm_c.specs.declared.routing.LgmHop.{LgmHop}
@@ -33,6 +34,11 @@ abbrev pub route_for : Request → Held → Result (List Hop) Fault
 route_for request held =
     if nat_lt 2000000000 (length held.rows.channels) then Err faults.Full
     else found_or_unrouted (answer_of (edges_of held.known held.rows) request)
+
+-- a route was searched for: it was found, or there is none
+abbrev pub IsSearched : Result (List Hop) Fault → Type 0
+IsSearched (Ok hops) = Unit {0}
+IsSearched (Err fault) = fault ≡ faults.Unrouted reasons.NoRoute
 
 abbrev pub route_asked : LgmPayment → Held → Result (List Hop) Fault
 route_asked payment held = route_for (request_of payment) held
@@ -83,7 +89,7 @@ WritesFound (Ok hops) secret status old new =
     status old new
 WritesFound (Err fault) secret status old new = (status ≡ number_of fault) × (new ≡ old)
 
--- the same, or out of memory
+-- the same, or out of memory; a fault that takes no search is returned even if memory is short
 abbrev pub WritesRoute : Result (List Hop) Fault → List ℕ → ℕ → Buffers → Buffers → Type 0
 WritesRoute answer secret status old new =
-    WritesFound answer secret status old new ⊎ ((status ≡ no_memory) × (new ≡ old))
+    WritesFound answer secret status old new ⊎ (IsSearched answer × (status ≡ no_memory) × (new ≡ old))

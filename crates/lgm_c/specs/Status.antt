@@ -46,6 +46,11 @@ abbrev pub unrouted : RouteFault → Fault
 unrouted reasons.NoMemory = faults.NoMemory
 unrouted reason = faults.Unrouted reason
 
+-- whether a call may run out of memory: one that succeeds may, one that returns a fault only if finding it takes memory
+abbrev pub MayRunOut : {A E : Type 0} → Type 0 → Result A E → Type 0
+MayRunOut takes (Ok answer) = Unit {0}
+MayRunOut takes (Err fault) = takes
+
 -- 0 if the call succeeded
 abbrev pub status_of : {A : Type 0} → Result A Fault → ℕ
 status_of (Ok answer) = 0

@@ -1,10 +1,12 @@
 -- What the caller's buffers hold after a call.
-use Rattle.std.specs.Prelude.{◌≡◌, ◌⊎◌, ℕ, ◌<◌, List, ◌++◌, length, drop, Result, Ok, Err}
+use Rattle.std.specs.Prelude.{◌≡◌, ◌⊎◌, ℕ, ◌<◌, List, ◌++◌, length, drop, Option, Some, None, Result, Ok, Err}
 use Rattle.std.specs.Int.{w64, to_le_bytes}
 use Rattle.std.specs.List.{flat_map}
+use Rattle.lgm_gossip.specs.Memory.{TakesMemory}
 use Rattle.lgm_c.specs.declared.fault.Fault.{Fault}
 use Rattle.lgm_c.specs.declared.fault.Fault.TheVariants as faults
-use Rattle.lgm_c.specs.Status.{number_of, no_memory}
+use Rattle.lgm_c.specs.Held.{Held}
+use Rattle.lgm_c.specs.Status.{number_of, no_memory, MayRunOut}
 
 -- items at the front of a buffer, whose rest is unchanged
 abbrev pub in_front : {A : Type 0} → List A → List A → List A
@@ -38,6 +40,13 @@ abbrev pub Writes : Result (List ℕ) Fault → ℕ → Buffer → Buffer → Ty
 Writes (Ok bytes) status old new = IsWritten bytes status old new
 Writes (Err fault) status old new = (status ≡ number_of fault) × (new ≡ old)
 
--- the same, or out of memory
-abbrev pub Answers : Result (List ℕ) Fault → ℕ → Buffer → Buffer → Type 0
-Answers answer status old new = Writes answer status old new ⊎ ((status ≡ no_memory) × (new ≡ old))
+-- the same for the answer to a message, or out of memory; a fault is returned even if memory is short, unless decoding
+-- the message takes memory
+abbrev pub WritesAnswer : List ℕ → Result (List ℕ) Fault → ℕ → Buffer → Buffer → Type 0
+WritesAnswer message answer status old new =
+    Writes answer status old new ⊎ (MayRunOut (TakesMemory message) answer × (status ≡ no_memory) × (new ≡ old))
+
+-- a handle answers a message; a closed one has only its fault
+abbrev pub Answers : List ℕ → Option Held → (Held → Result (List ℕ) Fault) → ℕ → Buffer → Buffer → Type 0
+Answers message None answer status old new = Writes (Err faults.Closed) status old new
+Answers message (Some held) answer status old new = WritesAnswer message (answer held) status old new

@@ -1,12 +1,12 @@
 //! Queries and filters of peers, and the messages that answer them.
 
 ghost use Rattle.std.specs.Prelude.{◌≡◌, Ok};
-ghost use Rattle.lgm_wire.specs.reading.Reading.{Gives};
+ghost use Rattle.lgm_gossip.specs.Memory.{GivesIf, TakesMemory};
 ghost use Rattle.lgm_gossip.specs.reading.MessageReading.{message_at};
 ghost use Rattle.lgm_c.specs.Asking.{replies_in, framed_answer, query_answer};
 ghost use Rattle.lgm_c.specs.Asking.{filter_in, backlog_answer, news_answer};
 ghost use Rattle.lgm_c.specs.Opening.{MovesMark};
-ghost use Rattle.lgm_c.specs.Status.{if_open};
+ghost use Rattle.lgm_c.specs.Status.{MayRunOut};
 ghost use Rattle.lgm_c.specs.Writing.{Answers, buffer};
 
 use crate::fault::{Fault, status};
@@ -21,8 +21,8 @@ use std::alloc::Global;
 
 /// The replies to a query, each after its length.
 fn replies_to(alloc: Global, inner: &Inner, message: &Message) -> Result<Vec<u8>, Fault>
-    ensures { Gives Fault.NoMemory (λ written. written.items) result
-        (framed_answer (replies_in inner.now (Ok message.now))) }
+    ensures { GivesIf (MayRunOut ⊥ (replies_in inner.now (Ok message.now))) Fault.NoMemory
+        (λ written. written.items) result (framed_answer (replies_in inner.now (Ok message.now))) }
 {
     let (chain, map) = (inner.chain(), inner.map());
     match message {
@@ -40,7 +40,8 @@ fn replies_to(alloc: Global, inner: &Inner, message: &Message) -> Result<Vec<u8>
 
 /// The same for the query that the bytes encode.
 fn answer_query(alloc: Global, inner: &Inner, bytes: &[u8]) -> Result<Vec<u8>, Fault>
-    ensures { Gives Fault.NoMemory (λ written. written.items) result (query_answer bytes.now inner.now) }
+    ensures { GivesIf (MayRunOut (TakesMemory bytes.now) (query_answer bytes.now inner.now))
+        Fault.NoMemory (λ written. written.items) result (query_answer bytes.now inner.now) }
 {
     match decode(alloc, bytes) {
         Ok(message) => replies_to(alloc, inner, &message),
@@ -66,7 +67,7 @@ fn filter_in(chain: &ChainHash, message: &Message) -> Result<Filter, Fault>
 
 /// The filter that the bytes encode.
 fn read_filter(alloc: Global, chain: &ChainHash, bytes: &[u8]) -> Result<Filter, Fault>
-    ensures { Gives Fault.NoMemory (λ filter. filter) result
+    ensures { GivesIf (TakesMemory bytes.now) Fault.NoMemory (λ filter. filter) result
         (filter_in chain.now (message_at bytes.now)) }
 {
     match decode(alloc, bytes) {
@@ -77,8 +78,8 @@ fn read_filter(alloc: Global, chain: &ChainHash, bytes: &[u8]) -> Result<Filter,
 
 /// What passes a filter, each message after its length.
 fn answer_filter(alloc: Global, inner: &Inner, bytes: &[u8]) -> Result<Vec<u8>, Fault>
-    ensures { Gives Fault.NoMemory (λ written. written.items) result
-        (backlog_answer bytes.now inner.now) }
+    ensures { GivesIf (MayRunOut (TakesMemory bytes.now) (backlog_answer bytes.now inner.now))
+        Fault.NoMemory (λ written. written.items) result (backlog_answer bytes.now inner.now) }
 {
     let filter = read_filter(alloc, inner.chain(), bytes)?;
     Ok(frame_backlog(alloc, Backlog::of(inner.map(), &filter))?)
@@ -87,8 +88,8 @@ fn answer_filter(alloc: Global, inner: &Inner, bytes: &[u8]) -> Result<Vec<u8>, 
 /// What has come to pass a filter since the mark, each message after its length.
 fn answer_news(alloc: Global, inner: &mut Inner, bytes: &[u8]) -> Result<Vec<u8>, Fault>
     ensures same { inner.new ≡ inner.old }
-    ensures news { Gives Fault.NoMemory (λ written. written.items) result
-        (news_answer bytes.now inner.old) }
+    ensures news { GivesIf (MayRunOut (TakesMemory bytes.now) (news_answer bytes.now inner.old))
+        Fault.NoMemory (λ written. written.items) result (news_answer bytes.now inner.old) }
 {
     let filter = read_filter(alloc, inner.chain(), bytes)?;
     Ok(inner.news(alloc, &filter)?)
@@ -104,7 +105,7 @@ pub extern "C" fn lgm_query(
     needed: &mut usize,
 ) -> u32
     ensures same { map.new.handle.value ≡ map.old.handle.value }
-    ensures replies { Answers (if_open map.old.handle.value (query_answer query.now)) result
+    ensures replies { Answers query.now map.old.handle.value (query_answer query.now) result
         (buffer replies.old needed.old) (buffer replies.new needed.new) }
 {
     let Some(inner) = map.take(alloc) else {
@@ -125,7 +126,7 @@ pub extern "C" fn lgm_filter(
     needed: &mut usize,
 ) -> u32
     ensures same { map.new.handle.value ≡ map.old.handle.value }
-    ensures backlog { Answers (if_open map.old.handle.value (backlog_answer filter.now)) result
+    ensures backlog { Answers filter.now map.old.handle.value (backlog_answer filter.now) result
         (buffer messages.old needed.old) (buffer messages.new needed.new) }
 {
     let Some(inner) = map.take(alloc) else {
@@ -146,7 +147,7 @@ pub extern "C" fn lgm_news(
     needed: &mut usize,
 ) -> u32
     ensures same { map.new.handle.value ≡ map.old.handle.value }
-    ensures news { Answers (if_open map.old.handle.value (news_answer filter.now)) result
+    ensures news { Answers filter.now map.old.handle.value (news_answer filter.now) result
         (buffer messages.old needed.old) (buffer messages.new needed.new) }
 {
     let Some(mut inner) = map.take(alloc) else {

@@ -1,13 +1,13 @@
 //! What a handle points to.
 
 ghost use Rattle.std.specs.Prelude.{◌≡◌, Some, IfOk, OnOk, OnErr};
-ghost use Rattle.lgm_wire.specs.reading.Reading.{Gives};
+ghost use Rattle.lgm_gossip.specs.Memory.{GivesIf, TakesMemory};
 ghost use Rattle.lgm_store.specs.Admission.{admitted_close};
 ghost use Rattle.lgm_query.specs.Backlog.{news};
 ghost use Rattle.lgm_c.specs.inner.Following.{Follows, Leads};
 ghost use Rattle.lgm_c.specs.Offering.{offered_to, Offers, Closes};
 ghost use Rattle.lgm_c.specs.Held.{opened};
-ghost use Rattle.lgm_c.specs.Routing.{route_for};
+ghost use Rattle.lgm_c.specs.Routing.{route_for, IsSearched};
 ghost use Rattle.lgm_c.specs.Status.{status_of};
 ghost use Rattle.lgm_c.specs.Writing.{all_framed};
 
@@ -54,8 +54,8 @@ fn offer_unmarked(
     bytes: &[u8],
     evidence: &Evidence,
 ) -> Result<(), Refusal>
-    ensures { Follows (offered_to chain.now chart.old.rows bytes.now evidence.now) result
-        chart.old chart.new }
+    ensures { Follows (TakesMemory bytes.now)
+        (offered_to chain.now chart.old.rows bytes.now evidence.now) result chart.old chart.new }
 {
     chart.offer(alloc, chain, bytes, evidence)?;
     Ok(())
@@ -63,7 +63,7 @@ fn offer_unmarked(
 
 /// Closes a channel, and drops the operation.
 fn close_unmarked(chart: &mut Chart, scid: Scid) -> Result<(), Refusal>
-    ensures { Follows (admitted_close chart.old.rows scid) result chart.old chart.new }
+    ensures { Follows ⊥ (admitted_close chart.old.rows scid) result chart.old chart.new }
 {
     chart.close(scid)?;
     Ok(())
@@ -93,8 +93,8 @@ impl Inner {
         bytes: &[u8],
         evidence: &Evidence,
     ) -> Result<(), Refusal>
-        ensures { Leads (offered_to self.old.chain self.old.rows bytes.now evidence.now) result
-            self.old self.new }
+        ensures { Leads (TakesMemory bytes.now)
+            (offered_to self.old.chain self.old.rows bytes.now evidence.now) result self.old self.new }
     {
         match &mut self.mark {
             Some(mark) => mark.offer(alloc, &mut self.chart, &self.chain, bytes, evidence),
@@ -104,7 +104,7 @@ impl Inner {
 
     /// Closes a channel. A refusal or out of memory changes nothing.
     fn close_held(&mut self, scid: Scid) -> Result<(), Refusal>
-        ensures { Leads (admitted_close self.old.rows scid) result self.old self.new }
+        ensures { Leads ⊥ (admitted_close self.old.rows scid) result self.old self.new }
     {
         match &mut self.mark {
             Some(mark) => mark.close(&mut self.chart, scid),
@@ -163,13 +163,17 @@ impl Inner {
         mark.news(alloc, self.chart.map(), filter)
     }
 
-    /// The best route of a payment. The first call builds the view.
+    /// The best route of a payment. The first search builds the view.
     pub(crate) fn route(&mut self, alloc: Global, request: &Request) -> Result<Route, Fault>
         ensures same { self.new ≡ self.old }
-        ensures route { Gives Fault.NoMemory (λ route. route) result (route_for request.now self.old) }
+        ensures route { GivesIf (IsSearched (route_for request.now self.old)) Fault.NoMemory
+            (λ route. route) result (route_for request.now self.old) }
     {
         if MOST_CHANNELS < self.chart.map().count() {
             return Err(Fault::Full);
+        }
+        if let Some(reason) = request.refusal() {
+            return Err(Fault::from(reason));
         }
         Ok(self.chart.route(alloc, request)?)
     }

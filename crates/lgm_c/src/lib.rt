@@ -2,8 +2,9 @@
 //!
 //! The header is `include/lgm.h`. A handle has a map of channels, the view in which routes are searched, and a mark.
 //! Messages are offered to it; it answers payments with routes, queries of peers with replies, and filters with what
-//! passes them now or has come to pass since the mark. Each call returns a number: 0 if it succeeded, else that of the
-//! first fault, which leaves the map and the buffers unchanged.
+//! passes them now or has come to pass since the mark. A call that can fail returns a number: 0 if it succeeded, else that
+//! of the first fault, which leaves the map unchanged, and the buffers but for what `LGM_ROOM` comes with: the lengths,
+//! and the node of `lgm_node`.
 #![tactic(auto)]
 
 mod asking;
@@ -19,5 +20,7 @@ mod map;
 mod mark;
 mod offering;
 mod routing;
+#[cfg(test)]
+mod tests;
 mod words;
 mod writing;

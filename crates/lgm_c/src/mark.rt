@@ -2,6 +2,7 @@
 
 ghost use Rattle.std.specs.Prelude.{◌≡◌, [], drop, IfOk, OnOk, OnErr};
 ghost use Rattle.std.specs.List.{AllByRecursion};
+ghost use Rattle.lgm_gossip.specs.Memory.{TakesMemory};
 ghost use Rattle.lgm_store.specs.Admission.{admitted_close};
 ghost use Rattle.lgm_store.specs.History.{fold_from};
 ghost use Rattle.lgm_query.specs.KeyNews.{TellKeys};
@@ -92,10 +93,12 @@ impl Mark {
         requires { self.old.rows ≡ chart.old.rows }
         ensures marked { self.new.marked ≡ self.old.marked }
         ensures beside { self.new.rows ≡ chart.new.rows }
-        ensures follows { Follows (offered_to chain.now chart.old.rows bytes.now evidence.now) result
-            chart.old chart.new }
+        ensures follows { Follows (TakesMemory bytes.now)
+            (offered_to chain.now chart.old.rows bytes.now evidence.now) result chart.old chart.new }
     {
-        self.since.reserve(1)?;
+        if self.since.reserve(1).is_err() {
+            return Err(chart.refusal_without_memory(alloc, chain, bytes, evidence));
+        }
         let op = chart.offer(alloc, chain, bytes, evidence)?;
         self.since.push_back_reserved(op);
         Ok(())
@@ -106,8 +109,9 @@ impl Mark {
         requires { self.old.rows ≡ chart.old.rows }
         ensures marked { self.new.marked ≡ self.old.marked }
         ensures beside { self.new.rows ≡ chart.new.rows }
-        ensures follows { Follows (admitted_close chart.old.rows scid) result chart.old chart.new }
+        ensures follows { Follows ⊥ (admitted_close chart.old.rows scid) result chart.old chart.new }
     {
+        chart.map().admit_close(scid)?;
         self.since.reserve(1)?;
         let op = chart.close(scid)?;
         self.since.push_back_reserved(op);

@@ -78,8 +78,8 @@ fn word_at(number: u32) -> &'static str
     }
 }
 
-/// The word of a number that a call returned, padded with zeros. A number that isn't one of an outcome or a fault has the
-/// empty word.
+/// The word of a number that a call returned, padded with zeros. 13 has the word `conflict`; any other number that no call
+/// returns has the empty word.
 #[unsafe(no_mangle)]
 pub extern "C" fn lgm_word(number: u32, word: &mut [u8; 24])
     ensures { word.new ≡ padded (word_at number) }

@@ -1,10 +1,10 @@
 //! Writing answers to the caller's buffers.
 
 ghost use Rattle.std.specs.Prelude.{◌≡◌, ◌≤◌, length, ℕ, List, Result};
-ghost use Rattle.lgm_wire.specs.reading.Reading.{Gives};
+ghost use Rattle.lgm_gossip.specs.Memory.{GivesIf, TakesMemory};
 ghost use Rattle.lgm_c.specs.declared.fault.Fault.{Fault as AFault};
-ghost use Rattle.lgm_c.specs.Status.{status_of};
-ghost use Rattle.lgm_c.specs.Writing.{in_front, IsWritten, Answers, buffer};
+ghost use Rattle.lgm_c.specs.Status.{status_of, MayRunOut};
+ghost use Rattle.lgm_c.specs.Writing.{in_front, IsWritten, WritesAnswer, buffer};
 
 use crate::fault::{Fault, status};
 
@@ -36,9 +36,11 @@ pub(crate) fn write_answer(
     room: &mut [u8],
     needed: &mut usize,
 ) -> u32
-    ensures { (expected : Result (List ℕ) AFault)
-        → Gives Fault.NoMemory (λ written. written.items) answer.now expected
-        → Answers expected result (buffer room.old needed.old) (buffer room.new needed.new) }
+    ensures { (message : List ℕ) (expected : Result (List ℕ) AFault)
+        → GivesIf (MayRunOut (TakesMemory message) expected) Fault.NoMemory (λ written. written.items)
+        answer.now expected
+        → WritesAnswer message expected result
+        (buffer room.old needed.old) (buffer room.new needed.new) }
 {
     match answer {
         Ok(bytes) => status(&write_bytes(bytes, room, needed)),

@@ -1,0 +1,45 @@
+#!/usr/bin/env python3
+"""Tests that tests/exports.py finds no difference in lgm.h as it is, and one after each change of it.
+
+    python3 tests/test_exports.py
+"""
+
+import sys
+
+sys.dont_write_bytecode = True
+
+from exports import HEADER, differences, header_functions, header_text, source_text  # noqa: E402
+
+# A text of the header, what is put in its place, and how the line begins that tells it.
+CHANGES = (
+    ("LGM_ROOM = 104", "LGM_ROOM = 106", "constant LGM_ROOM: 106"),
+    ("LGM_SIG_BY = 2", "LGM_SIG_BY = 3", "constant LGM_SIG_BY: 3"),
+    ("#define LGM_WORD_LEN 24", "#define LGM_WORD_LEN 16", "function lgm_word: "),
+    ("    LGM_BANNED = 16,\n", "", "constant LGM_BANNED: none"),
+    ("    size_t hops;\n    size_t payloads;\n", "    size_t payloads;\n    size_t hops;\n", "struct lgm_lengths: "),
+    ("    uint16_t cltv_expiry_delta;", "    uint32_t cltv_expiry_delta;", "struct lgm_direction: "),
+    ("    uint8_t rgb[3];", "    uint8_t rgb[4];", "struct lgm_node_info: "),
+    ("uint64_t scid, lgm_channel_info *channel", "uint32_t scid, lgm_channel_info *channel", "function lgm_channel: "),
+    ("const lgm_payment *payment", "lgm_payment *payment", "function lgm_route: "),
+    ("uint32_t lgm_mark(lgm_map *map);", "void lgm_mark(lgm_map *map);", "function lgm_mark: "),
+    ("void lgm_free(", "void lgm_release(", "function lgm_release: "),
+)
+
+
+def main():
+    """Tries the header, each change, and a library that lacks a function."""
+    header, sources = HEADER.read_text(), source_text()
+    exported = list(header_functions(header_text(header)[0]))
+    failed = [f"as it is: {line}" for line in differences(header, sources, exported)]
+    for old, new, begins in CHANGES:
+        found = differences(header.replace(old, new), sources, exported)
+        if header.count(old) != 1 or not any(line.startswith(begins) for line in found):
+            failed.append(f"{old!r} as {new!r}: {found}")
+    if differences(header, sources, exported[1:]) != [f"function {exported[0]}: there in lgm.h, none in the library"]:
+        failed.append(f"a library without {exported[0]}")
+    print(*failed, f"{len(CHANGES) + 2} tests, {len(failed)} failed", sep="\n")
+    return 1 if failed else 0
+
+
+if __name__ == "__main__":
+    sys.exit(main())
