@@ -53,7 +53,7 @@ fn batches(alloc: Global, empty: usize) -> Result<Batches, Fail> {
 }
 
 /// So many workers, each with the payment from node 0 to node 2 so many times.
-fn lists(alloc: Global, workers: usize, times: usize) -> Result<RequestLists, AllocError> {
+pub fn lists(alloc: Global, workers: usize, times: usize) -> Result<RequestLists, AllocError> {
     let request = Request {
         payer: node(0),
         payee: node(2),
@@ -167,7 +167,7 @@ impl Gate for Holding {
 }
 
 /// What is reported of these batches and lists, of which there are a few.
-fn report_of<R: Abort + Threads + Wait + Sync + RandomSource, G: Gate>(
+pub fn report_of<R: Abort + Threads + Wait + Sync + RandomSource, G: Gate>(
     rt: &R,
     alloc: Global,
     batches: &Batches,

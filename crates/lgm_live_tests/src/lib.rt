@@ -1,4 +1,5 @@
-//! Tests of payments that are answered while items are admitted: batches through `live`, and scripts through `run_live`.
+//! Tests of payments that are answered while items are admitted: batches through `live`, and scripts through `run_live`;
+//! and of the memory and the random bytes that both kinds of scripts take.
 #![tactic(auto)]
 
 #[cfg(test)]
@@ -6,6 +7,10 @@ mod batches;
 #[cfg(test)]
 mod faults;
 #[cfg(test)]
+mod memory;
+#[cfg(test)]
 mod routes;
 #[cfg(test)]
 mod runs;
+#[cfg(test)]
+mod seeds;

@@ -1,6 +1,7 @@
 mod announcements;
 mod answers;
 mod closes;
+mod commits;
 mod filter_lines;
 mod limits;
 mod messages;

@@ -378,6 +378,30 @@ fn a_guard_is_held_over_a_publication(rt: HostRuntime) -> Result<(), Fail> {
     Ok(())
 }
 
+/// The version of a guard that is held over one publication, and that of the next one.
+fn hold_over_one<R: Wait>(rt: &R, pen: &mut Pen, eye: Eye, op: Op) -> Option<(u64, u64)> {
+    let guard = match eye.enter() {
+        Ok(guard) => guard,
+        Err(_eye) => return None,
+    };
+    publish_one(rt, pen, op);
+    let held = guard.version();
+    let (_eye, shown) = look(guard.leave());
+    shown.map(|shown| (held, shown.version))
+}
+
+/// A publication waits for no guard of the edition right before it, so one thread can hold the guard and publish. If it
+/// published twice, this wouldn't end.
+#[test]
+fn one_publication_waits_for_no_guard(rt: HostRuntime) -> Result<(), Fail> {
+    let op = channel(rt.alloc())?;
+    let (mut pen, eye) = pen_and_eye(&rt, rt.alloc(), &Known::all())?;
+    let versions = hold_over_one(&rt, &mut pen, eye, op);
+    pen.end(&rt);
+    assert_eq!(rt; versions, Some((0, 1)));
+    Ok(())
+}
+
 /// Publishes each operation by itself, and tells what the eye is shown then.
 fn publish_each<R: Wait>(rt: &R, mut pen: Pen, eye: Eye, ops: Vec<Op>) -> Option<Shown> {
     for op in ops {
