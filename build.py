@@ -1,11 +1,14 @@
 #!/usr/bin/env python3
 """Proves and builds the program `lgm`: the libraries that it stands on, lowest first, and then the program.
 
-    python3 build.py [--at-once N]
+    python3 build.py [--at-once N] [--cpu NAME]
 
 Says on standard error which crate it is at, of how many, and how long each took; what `rt` says is shown where it fails.
 Libraries that don't need each other are proved side by side, as many as processors and memory allow, or N. A check locks
 the folders of its crate and of those below, so each of several has a copy of them in the system's temporary folder.
+
+The program is built for x86-64-v3 where this machine's processor has what that needs, and then ends with status 127 on
+one that doesn't. NAME, or LGM_CPU in the environment, is another one that `rt` knows, or `default`: x86-64-v2.
 """
 
 import argparse
@@ -25,6 +28,9 @@ MOST_AT_ONCE = 4
 MEMORY_OF_ONE = 6 << 30  # bytes, for a check that shares its work among several processors
 MEMORY_OF_JOB = 2 << 30  # bytes, for what one processor does of it
 NO_CHAIN = "00" * 32
+ANY_CPU = "default"  # what rt builds for unless it is told otherwise
+NEWER_CPU = "x86-64-v3"
+NEWER_FLAGS = {"abm", "avx2", "bmi1", "bmi2", "f16c", "fma", "movbe"}  # what /proc/cpuinfo says of one
 
 
 class Failed(Exception):
@@ -79,6 +85,16 @@ def free_memory():
         return next(int(line.split()[1]) << 10 for line in lines if line.startswith("MemAvailable:"))
     except (OSError, StopIteration):
         return 0
+
+
+def own_cpu():
+    """The kind of processor that the program is built for if nobody chooses: this machine's, or any."""
+    try:
+        lines = Path("/proc/cpuinfo").read_text().splitlines()
+    except OSError:
+        return ANY_CPU
+    flags = next((line.split(":")[1].split() for line in lines if line.startswith("flags") and ":" in line), [])
+    return NEWER_CPU if NEWER_FLAGS <= set(flags) else ANY_CPU
 
 
 def default_at_once():
@@ -163,12 +179,13 @@ def prove_all(used, crates, at_once, jobs):
                 say(f"{it}: {time.monotonic() - started[it]:.0f} s, {len(done)} of {len(crates) + 1}")
 
 
-def build_program(count, jobs):
+def build_program(count, jobs, cpu):
     """Proves, builds and runs the program, on an empty script, which writes nothing."""
     program = TOP / "crates" / PROGRAM / "out" / PROGRAM
     started, clock = time.time(), time.monotonic()
-    say(f"{PROGRAM} ..")
-    rt(PROGRAM, program.parent.parent, jobs, "run", "--", "run", "--chain", NO_CHAIN)
+    say(f"{PROGRAM}, for {cpu} processors .." if cpu != ANY_CPU else f"{PROGRAM} ..")
+    wanted = () if cpu == ANY_CPU else ("--cpu", cpu)
+    rt(PROGRAM, program.parent.parent, jobs, "run", *wanted, "--", "run", "--chain", NO_CHAIN)
     # As old as the start: a file that was edited meanwhile is newer.
     os.utime(program, (started, started))
     say(f"{PROGRAM}: {time.monotonic() - clock:.0f} s, {count} of {count}")
@@ -178,7 +195,10 @@ def main():
     """Builds what isn't fresh. The exit status is 1 where that fails."""
     parser = argparse.ArgumentParser(description=__doc__.split("\n")[0])
     parser.add_argument("--at-once", type=int, default=default_at_once(), metavar="N", help="so many checks side by side")
-    at_once = max(1, parser.parse_args().at_once)
+    parser.add_argument("--cpu", default=os.environ.get("LGM_CPU") or own_cpu(), metavar="NAME",
+                        help=f"the processor that the program is for: {NEWER_CPU}, or {ANY_CPU}, for any")
+    arguments = parser.parse_args()
+    at_once = max(1, arguments.at_once)
     used = read_crates(TOP / "crates.txt")
     crates, stale = below(used, PROGRAM), []
     for it in crates:
@@ -186,11 +206,11 @@ def main():
             stale.append(it)
     at_once = min(at_once, max(1, len(stale)))
     jobs = jobs_of_one(at_once)
-    say(f"proving and building {len(stale) + 1} of {len(crates) + 1} crates, {at_once} at once; all of them take 30 to 45 minutes")
+    say(f"proving and building {len(stale) + 1} of {len(crates) + 1} crates, {at_once} at once; all of them take 20 to 45 minutes on four processors")
     begun = time.monotonic()
     try:
         prove_all(used, stale, at_once, jobs)
-        build_program(len(stale) + 1, jobs)
+        build_program(len(stale) + 1, jobs, arguments.cpu)
     except Failed as failed:
         crate, said = failed.args
         sys.stderr.write(said)

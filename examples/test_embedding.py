@@ -3,7 +3,8 @@
 
     python3 examples/test_embedding.py [PROGRAM]
 
-PROGRAM is `lgm`. It needs rt, cc and ar. Tests that need cargo or valgrind are left out if these aren't installed.
+PROGRAM is `lgm`. It needs rt, and is left out without cc and ar, with status 77. So are those of its tests whose tool,
+cargo or valgrind, doesn't run. It says so.
 """
 
 import os
@@ -23,6 +24,12 @@ WORKLOADS = ("routes", "queries", "churn", "filters", "bans")
 VALGRIND = ("valgrind", "--quiet", "--error-exitcode=99", "--leak-check=full", "--errors-for-leak-kinds=all")
 
 failures = 0
+
+
+def runs(*words):
+    """Whether a tool is installed, and runs."""
+    quiet = {"stdout": subprocess.DEVNULL, "stderr": subprocess.DEVNULL}
+    return bool(shutil.which(words[0])) and subprocess.run(words, check=False, **quiet).returncode == 0
 
 
 def report(what, is_right):
@@ -49,6 +56,12 @@ def made_script(workload):
     return output(words)
 
 
+def test_exports(out):
+    """The header declares what the library exports, as the sources have it."""
+    words = [sys.executable, TOP / "tests" / "exports.py", out / "liblgm.so"]
+    report("exports", subprocess.run(words, check=False).returncode == 0)
+
+
 def test_c(out):
     """The program in C answers scripts as `lgm` does."""
     for script in sorted(HERE.glob("*.txt")):
@@ -66,7 +79,9 @@ def test_faults(out):
     words = ["cc", "-std=c11", "-Wall", "-Wextra", "-g", "-I", TOP / "include", "-Wl,--wrap=malloc,--wrap=realloc"]
     subprocess.run([*words, HERE / "c" / "faults.c", out / "liblgm.a", "-o", program], check=True)
     report("faults", output([program]) == b"ok\n")
-    if shutil.which("valgrind"):
+    if not runs("valgrind", "--quiet", "true"):
+        print("left out: leaks and wrong accesses of the library for C, since no valgrind runs here", flush=True)
+    else:
         report("faults, valgrind", output([*VALGRIND, program]) == b"ok\n")
         for script in sorted(HERE.glob("[!l]*.txt")):
             found = output([*VALGRIND, out / "run", CHAIN], script.read_bytes())
@@ -161,16 +176,23 @@ def test_routes(out):
     if (out / "route").exists():
         found = output([out / "route", HERE / "payments.txt"])
         report("route in Rust", found == b"10006500 msat over 3 channels\n")
+    else:
+        print("left out: the example in Rust, since no cargo of its edition runs here", flush=True)
 
 
 def main():
     """Builds and tests."""
+    missing = [tool for tool in ("cc", "ar") if not shutil.which(tool)]
+    if missing:
+        print(f"left out: examples/test_embedding.py, which needs {' and '.join(missing)}")
+        return 77
     with tempfile.TemporaryDirectory() as folder:
         out = Path(folder)
         subprocess.run([HERE / "build-c", out], check=True)
         os.environ["LGM_LIBRARY"] = str(out / "liblgm.so")
         sys.dont_write_bytecode = True
         sys.path.insert(0, str(HERE / "python"))
+        test_exports(out)
         test_c(out)
         test_faults(out)
         test_python()

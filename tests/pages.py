@@ -25,8 +25,8 @@ PAGES = sorted([*TOP.glob("*.md"), *TOP.glob("docs/*.md"), *TOP.glob("bench/*.md
 SOURCES = ("crates/*/src/**/*.rt", "crates/*/specs/**/*.antt", "crates/*/proofs/**/*.antt", "include/*.h",
            "crates/*/must-fail/*.edit", "crates/*/args", "examples/**/*.py", "examples/c/*.c", "examples/rust/**/*.rs",
            "examples/build-c", "bench/*.py", "tests/*.py", "*.py",
-           "crates.txt", "lgm", ".ci/run")
-COMMANDS = ("rt", "lgm", "./lgm", "python3", "git", "cd", "awk", "bitcoin-cli")
+           "crates.txt", "lgm", "test", ".ci/run")
+COMMANDS = ("rt", "lgm", "./lgm", "./test", "python3", "git", "cd", "awk", "bitcoin-cli")
 # Names that aren't this repository's: the kit's, clap's, the C library's, the protocol's, placeholders.
 OUTSIDE = set("""
     rt clap hex thiserror memchr itoa indexmap left_right logbook crossbeam_channel core std decimal OutOfMemory RandomState

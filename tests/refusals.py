@@ -7,10 +7,13 @@ Each request for memory, each start of a thread, each read and each write is ref
 with one and with three workers: over the program's stored script (two channels, their terms, a commit and a payment), a
 script of closes, queries and filters, one with a payment for each of two workers, and the examples. A run answers the
 whole script, or ends with status 1, the line of that fault on standard error, and a beginning of the text on standard
-output. It needs a C compiler (`cc`) and the GNU C library. PROGRAM is crates/lgm/out/lgm if left out.
+output. One that takes ten seconds hangs, as if workers waited for a writer that failed; no further call of its kind is
+refused then. It needs the GNU C library and a C compiler (`cc`), and is left out without one, with status 77. PROGRAM is
+crates/lgm/out/lgm if left out.
 """
 
 import os
+import shutil
 import subprocess
 import sys
 import tempfile
@@ -21,7 +24,8 @@ PROGRAM = sys.argv[1] if len(sys.argv) > 1 else HERE.parent / "crates/lgm/out/lg
 SCRIPTS = (HERE.parent / "crates/lgm/stdin", *sorted((HERE / "scripts").glob("*.txt")),
            *sorted((HERE.parent / "examples").glob("*.txt")))
 WORKERS = (1, 3)
-SECONDS = 60
+# Each run takes a few milliseconds.
+SECONDS = 10
 # The lines that a run may end with where a call of this kind is refused. Where none is named, the text is whole.
 FAULTS = {
     "memory": (b"lgm: out of memory\n",),
@@ -66,16 +70,23 @@ def refuse_each(shim, folder, mode, script, workers, kind):
     while True:
         call += 1
         mark.unlink(missing_ok=True)
-        ended = run(mode, script, workers, {
-            "LD_PRELOAD": str(shim), "REFUSE": kind, "REFUSE_CALL": str(call), "REFUSED": str(mark)})
+        where = f"{mode} {script.name}, {workers} workers, {kind} {call}"
+        try:
+            ended = run(mode, script, workers, {
+                "LD_PRELOAD": str(shim), "REFUSE": kind, "REFUSE_CALL": str(call), "REFUSED": str(mark)})
+        except subprocess.TimeoutExpired:
+            return call, [*wrong, f"{where}: the run hangs"]
         if not mark.exists():
             return call - 1, wrong
         found = objection(mode, kind, whole, ended)
         if found:
-            wrong.append(f"{mode} {script.name}, {workers} workers, {kind} {call}: {found}")
+            wrong.append(f"{where}: {found}")
 
 
 def main():
+    if not shutil.which("cc"):
+        print("left out: tests/refusals.py, which needs cc")
+        sys.exit(77)
     good = True
     with tempfile.TemporaryDirectory() as name:
         folder = Path(name)

@@ -5,6 +5,7 @@
 """
 
 import os
+import shutil
 import subprocess
 import tempfile
 import time
@@ -22,13 +23,14 @@ RT = """#!/bin/sh
 # Notes what it does, and leaves what the builds of rt leave.
 crate=$(basename "$PWD")
 grep -q "^$crate" ../../crates.txt || exit 3
+[ "$1" = try ] && { echo "$*"; cat; echo "run=ended" >&2; exit 5; }
 echo "begin $crate" >> "$LOG"
 [ "$crate" = "${BROKEN:-}" ] && { echo "a clause isn't proved"; exit 1; }
 case $crate in left|right) [ -f ../low/out/rlib/stamp ] || exit 4 ;; esac
-sleep 0.5
+case $crate in left|right) sleep "${PAUSE:-0.1}" ;; esac
 mkdir -p out/rlib
 echo "$*" > out/rlib/stamp
-[ "$1" = run ] && { printf '#!/bin/sh\\necho "$@"\\n' > out/lgm; chmod +x out/lgm; }
+[ "$1" = run ] && { echo "$*" > "$LOG.run"; printf '#!/bin/sh\\necho "$@"\\n' > out/lgm; chmod +x out/lgm; }
 echo "end $crate" >> "$LOG"
 """
 
@@ -53,10 +55,10 @@ class Place:
                 (self.top / "crates" / name / part).mkdir(parents=True)
             (self.top / "crates" / name / "src" / "lib.rt").write_text("//! A made crate.\n")
 
-    def run(self, *words, **more):
+    def run(self, *words, given="", **more):
         """What a command wrote, and what `rt` did."""
         self.log.write_text("")
-        done = subprocess.run(words, cwd=self.top, capture_output=True, text=True, check=False,
+        done = subprocess.run(words, cwd=self.top, input=given, capture_output=True, text=True, check=False,
                               env={**os.environ, "PATH": self.path, "LOG": str(self.log), **more})
         return done, self.log.read_text().split("\n")[:-1]
 
@@ -66,16 +68,40 @@ class Place:
         (self.top / "crates" / crate / "src" / "lib.rt").write_text("//! A changed crate.\n")
 
 
+def tries_what_is_not_built(place):
+    """Behind `try` a program that isn't built is run by `rt try`, with the caller's input and its status."""
+    done, log = place.run("./lgm", "try", "run", "a b", given="a script\n")
+    assert (done.returncode, log) == (5, []), done
+    assert done.stdout == "try --seconds 600 -- run a b\na script\n", done.stdout
+    first, *rest = done.stderr.splitlines()
+    assert "isn't proved" in first and "python3 build.py" in first and rest == ["run=ended"], done.stderr
+
+
 def builds_and_runs(place):
     """The first run builds each crate once, and says so; the next one only runs."""
     done, log = place.run("./lgm", "run", "a b")
     assert (done.returncode, done.stdout) == (0, "run a b\n"), done
     assert sorted(log) == sorted(f"{verb} {it}" for it in ("low", "left", "right", "lgm") for verb in ("begin", "end")), log
     assert log[:2] == ["begin low", "end low"] and log[-2:] == ["begin lgm", "end lgm"]
+    assert "./lgm try" in done.stderr.splitlines()[0], done.stderr
     for line in ("4 of 4 crates", "low: ", "1 of 4", "2 of 4", "3 of 4", "4 of 4"):
         assert line in done.stderr, done.stderr
     done, log = place.run("./lgm", "live")
     assert (done.stdout, done.stderr, log) == ("live\n", "", []), done
+    done, log = place.run("./lgm", "try", "run", "--workers")
+    assert (done.stdout, done.stderr, log) == ("run --workers\n", "", []), done
+
+
+def builds_for_a_processor(place):
+    """The program is built for the processor that LGM_CPU names, or for any."""
+    ran = place.log.with_name("log.run")
+    for cpu in ("x86-64-v3", "default"):
+        place.touch("lgm")
+        done, log = place.run("./lgm", "run", LGM_CPU=cpu)
+        assert done.stdout == "run\n" and log == ["begin lgm", "end lgm"], (done, log)
+        told = ran.read_text()
+        assert told.startswith("run --jobs ") and f" -- run --chain {'00' * 32}" in told, told
+        assert ("--cpu x86-64-v3" in told) == (cpu == "x86-64-v3") == ("for x86-64-v3 processors" in done.stderr), (told, done)
 
 
 def builds_what_changed(place):
@@ -91,7 +117,7 @@ def builds_what_changed(place):
 def builds_side_by_side(place):
     """Two libraries that don't need each other are built at the same time, or one after the other."""
     place.touch("low")
-    _, log = place.run("./build.py", "--at-once", "2")
+    _, log = place.run("./build.py", "--at-once", "2", PAUSE="3")
     assert log[2][:5] == log[3][:5] == "begin" and len(log) == 8, log
     place.touch("low")
     _, log = place.run("./build.py", "--at-once", "1")
@@ -109,15 +135,17 @@ def says_what_failed(place):
     bare = place.top.parent / "bare"
     bare.mkdir()
     for name in ("sh", "find", "head", "dirname", "readlink"):
-        (bare / name).symlink_to(subprocess.check_output(["which", name], text=True).strip())
+        (bare / name).symlink_to(shutil.which(name))
     place.path = str(bare)
-    done, _ = place.run("./lgm", "run")
-    assert done.returncode == 127 and "isn't on the PATH" in done.stderr, done
+    for words in (("./lgm", "run"), ("./lgm", "try", "run")):
+        done, _ = place.run(*words)
+        assert done.returncode == 127 and "isn't on the PATH" in done.stderr, done
 
 
 def main():
     """Runs each test, in order, in one place."""
-    tests = (builds_and_runs, builds_what_changed, builds_side_by_side, says_what_failed)
+    tests = (tries_what_is_not_built, builds_and_runs, builds_for_a_processor, builds_what_changed, builds_side_by_side,
+             says_what_failed)
     with tempfile.TemporaryDirectory() as folder:
         place = Place(Path(folder))
         for test in tests:

@@ -16,6 +16,7 @@ import os
 import struct
 from dataclasses import dataclass
 from pathlib import Path
+from typing import Optional
 
 _LIBRARY = os.environ.get("LGM_LIBRARY") or Path(__file__).resolve().parent.parent / "out" / "liblgm.so"
 _VERSION = 1
@@ -181,8 +182,8 @@ class Channel:
     capacity_sat: int
     node_1: bytes
     node_2: bytes
-    from_1: Direction | None
-    from_2: Direction | None
+    from_1: Optional[Direction]
+    from_2: Optional[Direction]
 
 
 @dataclass(frozen=True)
