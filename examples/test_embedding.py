@@ -7,12 +7,15 @@ PROGRAM is `lgm`. It needs rt, and is left out without cc and ar, with status 77
 cargo or valgrind, doesn't run. It says so.
 """
 
+import ctypes
 import os
+import re
 import shutil
 import struct
 import subprocess
 import sys
 import tempfile
+import threading
 from pathlib import Path
 
 HERE = Path(__file__).resolve().parent
@@ -60,6 +63,26 @@ def test_exports(out):
     """The header declares what the library exports, as the sources have it."""
     words = [sys.executable, TOP / "tests" / "exports.py", out / "liblgm.so"]
     report("exports", subprocess.run(words, check=False).returncode == 0)
+
+
+def test_installed(prefix, folder):
+    """A program is built by what lgm.pc says, and runs with the shared object of the header's version."""
+    version = re.search(r"#define LGM_VERSION (\d+)", (TOP / "include" / "lgm.h").read_text())[1]
+    report("lgm.pc, version", f"\nVersion: {version}\n" in (prefix / "lib" / "pkgconfig" / "lgm.pc").read_text())
+    if runs("pkg-config", "--version"):
+        words = ["pkg-config", "--cflags", "--libs", "lgm"]
+        environment = {**os.environ, "PKG_CONFIG_PATH": str(prefix / "lib" / "pkgconfig")}
+        flags = subprocess.run(words, env=environment, check=True, stdout=subprocess.PIPE, text=True).stdout.split()
+    else:
+        print("left out: lgm.pc as pkg-config reads it, since there is no pkg-config", flush=True)
+        flags = ["-I", prefix / "include", "-L", prefix / "lib", "-llgm"]
+    program = folder / "shared"
+    subprocess.run(["cc", "-std=c11", HERE / "c" / "run.c", *flags, "-o", program], check=True)
+    words = ["env", f"LD_LIBRARY_PATH={prefix / 'lib'}", program, CHAIN]
+    found = output(words, (HERE / "payments.txt").read_bytes())
+    report("run, with the shared object", found == (HERE / "payments.out").read_bytes())
+    (prefix / "lib" / "liblgm.so").unlink()
+    report(f"run, with liblgm.so.{version} alone", output(words) == b"")
 
 
 def test_c(out):
@@ -112,6 +135,11 @@ def test_python():
                 for hop in route.hops)
         return [f"route {route.sent_msat} {route.expiry} {len(route.hops)}", *hops]
 
+    words = {number: ctypes.create_string_buffer(24) for number in range(1, 106)}
+    for number, word in words.items():
+        lgm._load().lgm_word(ctypes.c_uint32(number), word)
+    words = {number: word.value.decode() for number, word in words.items() if word.value}
+    report("lgm.py, words", words == {number: kind.word for number, kind in lgm._FAULTS.items()})
     for workload in ("routes", "queries"):
         script = made_script(workload)
         with lgm.Map(bytes.fromhex(CHAIN)) as network:
@@ -169,6 +197,44 @@ def test_lookups():
         report("lgm.py, nodes", len(nodes) > 0 and found == nodes)
 
 
+def test_threads():
+    """Three threads offer the messages of a made network to one map, and route at once: it is as if one had done so."""
+    import lgm
+
+    lines = [line.split() for line in made_script("routes").decode().splitlines()]
+    payer, payee, amount, expiry, secret = next(line[1:] for line in lines if line[0] == "route")
+    payment = bytes.fromhex(payer), bytes.fromhex(payee), int(amount), int(expiry), bytes.fromhex(secret)
+    shares = [], [], []  # a channel's update comes after its announcement, in the same share
+    for message, sig, funding in (line[1:] for line in lines if line[0] == "m"):
+        message = bytes.fromhex(message)
+        at = {b"\1\0": 292, b"\1\2": 98}.get(message[:2])
+        if at:
+            verdicts = (sig, int(funding)) if sig == "all" else (bytes.fromhex(sig), funding)
+            shares[int.from_bytes(message[at:at + 8], "big") % 3].append((message, *verdicts))
+
+    def work(network, share):
+        for count, item in enumerate(share):
+            network.offer(*item)
+            if count % 5 == 0:
+                try:
+                    network.route(*payment)
+                except lgm.NoRoute:
+                    pass
+        ended.append(len(share))
+
+    ended = []
+    with lgm.Map(bytes.fromhex(CHAIN)) as alone, lgm.Map(bytes.fromhex(CHAIN)) as shared:
+        for share in shares:
+            work(alone, share)
+        threads = [threading.Thread(target=work, args=(shared, share)) for share in shares]
+        for thread in threads:
+            thread.start()
+        for thread in threads:
+            thread.join()
+        right = len(ended) == 6 and len(shared) == len(alone) == CHANNELS
+        report("lgm.py, three threads", right and shared.route(*payment) == alone.route(*payment))
+
+
 def test_routes(out):
     """The short examples find the route that the README works out."""
     found = output([sys.executable, HERE / "python" / "route.py"])
@@ -187,16 +253,18 @@ def main():
         print(f"left out: examples/test_embedding.py, which needs {' and '.join(missing)}")
         return 77
     with tempfile.TemporaryDirectory() as folder:
-        out = Path(folder)
-        subprocess.run([HERE / "build-c", out], check=True)
+        out, prefix = Path(folder), Path(folder, "prefix")
+        subprocess.run([HERE / "build-c", "--prefix", prefix, out], check=True)
         os.environ["LGM_LIBRARY"] = str(out / "liblgm.so")
         sys.dont_write_bytecode = True
         sys.path.insert(0, str(HERE / "python"))
         test_exports(out)
+        test_installed(prefix, out)
         test_c(out)
         test_faults(out)
         test_python()
         test_lookups()
+        test_threads()
         test_routes(out)
     return 0 if failures == 0 else 1
 

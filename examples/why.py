@@ -66,11 +66,22 @@ def funding(field):
     return why and f"is none of spent, wrong, - and a number of satoshi ({why})"
 
 
+def meant(field):
+    """The id that a number stands for, as LND writes ids, or one with colons; else an example."""
+    if field and not number(field, 2**64, "an id") and int(field) >> 40:
+        value = int(field)
+        return f"which is {value >> 40}x{value >> 16 & 0xffffff}x{value & 0xffff} for this number, as LND has it"
+    other = field.replace(b":", b"x")
+    if other.count(b"x") == 2 and not scid(other):
+        return f"which is {other.decode()}"
+    return "such as 800000x12x0"
+
+
 def scid(field):
     """Why a field isn't a SCID."""
     parts = field.split(b"x")
     if len(parts) != 3:
-        return f"{shown(field)} isn't of the form BLOCKxINDEXxOUTPUT, such as 800000x12x0"
+        return f"{shown(field)} isn't of the form BLOCKxINDEXxOUTPUT, {meant(field)}"
     bounds = ((2**24, "block"), (2**24, "index"), (2**16, "output"))
     whys = (number(part, below, name) for part, (below, name) in zip(parts, bounds))
     return next((f"{name}: {why}" for why, (_, name) in zip(whys, bounds) if why), "")

@@ -7,12 +7,15 @@
  *
  * What is proved holds for callers that meet these conditions, which nothing checks:
  *
- *   - Every pointer is valid for its type, and not null, even if a length is 0.
- *   - A pointer followed by a length points to at least that many items, in one object of at most PTRDIFF_MAX bytes.
+ *   - Every pointer is valid for its type, and not null, even where what it points to is ignored: anything else is
+ *     undefined behavior.
+ *   - A pointer followed by a length points to at least that many items, in one object of at most PTRDIFF_MAX bytes. With
+ *     the length 0 it may be null: the compiled code then takes it for a pointer to no items, as tests show.
  *   - While a call runs, nothing else reads or writes what it may write to, and no two of its arguments overlap there.
  *   - A handle is initialized with zeros, {0}, and then only written by calls.
  *   - A handle isn't copied. It may be moved, if the old place isn't used any more.
- *   - A handle is used by one call at a time, on the thread that opened it.
+ *   - A handle is used by one call at a time, on the thread that opened it. (No data is thread-local. So calls from other
+ *     threads work too if a mutex orders them, as tests show; but that isn't proved.)
  *   - An open handle is freed by lgm_free before it goes out of scope; otherwise its memory leaks.
  *   - A bool is true or false.
  *   - malloc, realloc and free are those of one allocator, and behave as the C standard says.
@@ -112,8 +115,8 @@ void lgm_word(uint32_t number, uint8_t word[LGM_WORD_LEN]);
  * Opens a closed handle, with a map of this chain without channels and nodes, and without a mark.
  *
  * Routes avoid nodes that require features other than `known`: bit 0 is the least significant bit of the last byte (BOLT
- * 9). If `all_known`, every feature is known, and `known` is ignored. The seed is 16 random bytes that nobody else knows,
- * by which points are hashed.
+ * 9). If `all_known`, every feature is known, and the bits of `known` are ignored: pass NULL and 0. The seed is 16 random
+ * bytes that nobody else knows, by which points are hashed.
  *
  * LGM_OPEN; LGM_NO_MEMORY.
  */
@@ -140,8 +143,8 @@ enum {
 };
 
 /*
- * Offers a gossip message, beginning with the two bytes of its type, with the verdicts on it (BOLT 7). `signer` is used
- * only with LGM_SIG_BY, `sat` only with LGM_FUNDING_UNSPENT.
+ * Offers a gossip message, beginning with the two bytes of its type, with the verdicts on it (BOLT 7). The bytes of
+ * `signer` are used only with LGM_SIG_BY, but it always points to 33 bytes; `sat` is used only with LGM_FUNDING_UNSPENT.
  *
  * LGM_CLOSED; LGM_ARGUMENT; 1 to 16; LGM_NO_MEMORY.
  */

@@ -170,9 +170,9 @@ def differences(header, sources, exported):
 
 
 def exports(library):
-    """The functions that a shared object exports, of those whose names begin as ours do."""
+    """All names that a shared object exports."""
     symbols = subprocess.run(["nm", "-D", "--defined-only", library], check=True, stdout=subprocess.PIPE, text=True).stdout
-    return re.findall(r" T (lgm_\w+)$", symbols, flags=re.MULTILINE)
+    return re.findall(r" [A-Za-z] (\S+)$", symbols, flags=re.MULTILINE)
 
 
 def layout_differs(sources):

@@ -13,8 +13,9 @@ import sys
 from pathlib import Path
 
 TOP = Path(__file__).resolve().parent.parent
-ALONE = ("tests/pages.py", "tests/test_build.py", "tests/test_all.py", "tests/test_exports.py")
-WITH_PROGRAM = ("examples/test_why.py", "examples/test_client.py", "examples/test_gossip_store.py",
+ALONE = ("tests/pages.py", "tests/test_build.py", "tests/test_all.py", "tests/test_exports.py",
+         "examples/python/test_lgm.py")
+WITH_PROGRAM = ("examples/test_why.py", "examples/test_client.py", "examples/test_network.py",
                 "examples/test_examples.py", "bench/test_route_picture.py")
 BUILT = "tests/refusals.py"  # over the program itself, since a shell in front of it would be refused calls too
 LEFT_OUT = 77

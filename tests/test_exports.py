@@ -27,7 +27,7 @@ CHANGES = (
 
 
 def main():
-    """Tries the header, each change, and a library that lacks a function."""
+    """Tries the header, each change, a library that lacks a function, and one that has another."""
     header, sources = HEADER.read_text(), source_text()
     exported = list(header_functions(header_text(header)[0]))
     failed = [f"as it is: {line}" for line in differences(header, sources, exported)]
@@ -37,7 +37,9 @@ def main():
             failed.append(f"{old!r} as {new!r}: {found}")
     if differences(header, sources, exported[1:]) != [f"function {exported[0]}: there in lgm.h, none in the library"]:
         failed.append(f"a library without {exported[0]}")
-    print(*failed, f"{len(CHANGES) + 2} tests, {len(failed)} failed", sep="\n")
+    if differences(header, sources, [*exported, "malloc"]) != ["function malloc: none in lgm.h, there in the library"]:
+        failed.append("a library that exports more")
+    print(*failed, f"{len(CHANGES) + 3} tests, {len(failed)} failed", sep="\n")
     return 1 if failed else 0
 
 

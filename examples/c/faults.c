@@ -271,6 +271,36 @@ static void routing(lgm_map *map) {
     expect("the lengths", lengths.hops, 77);
 }
 
+/* A pointer before the length 0 may be null. The map has one channel, with terms of node 1, and a node. */
+static void null_with_no_items(lgm_map *map) {
+    lgm_map other = {0};
+    lgm_payment payment = {.amount_msat = 1000, .expiry = 700000};
+    lgm_lengths lengths = {0, 0};
+    lgm_node_info info;
+    uint8_t range[QUERY], filter[FILTER];
+    size_t needed = 77;
+    query(range, 263);
+    query(filter, 265);
+    memcpy(payment.payer, a, 33);
+    memcpy(payment.payee, b, 33);
+    for (int all_known = 0; all_known < 2; all_known++) {
+        expect("null for known", lgm_open(&other, chain, all_known, NULL, 0, seed), LGM_OK);
+        expect("null for messages", lgm_filter(&other, filter, FILTER, NULL, 0, &needed), LGM_OK);
+        expect("no messages", needed, 0);
+        lgm_free(&other);
+    }
+    expect("null for a message", lgm_offer(map, NULL, 0, LGM_SIG_NOBODY, a, LGM_FUNDING_NOT_ASKED, 0), LGM_MALFORMED);
+    expect("null for a query", lgm_query(map, NULL, 0, NULL, 0, &needed), LGM_MALFORMED);
+    expect("null for a filter", lgm_news(map, NULL, 0, NULL, 0, &needed), LGM_MALFORMED);
+    expect("null for replies", lgm_query(map, range, QUERY, NULL, 0, &needed), LGM_ROOM);
+    expect("null for messages", lgm_filter(map, filter, FILTER, NULL, 0, &needed), LGM_ROOM);
+    expect("null for news", lgm_news(map, filter, FILTER, NULL, 0, &needed), LGM_ROOM);
+    expect("null for a route", lgm_route(map, &payment, NULL, 0, NULL, 0, &lengths), LGM_ROOM);
+    expect("its hops", lengths.hops, 1);
+    expect("null for addresses", lgm_node(map, a, &info, NULL, 0, &needed), LGM_ROOM);
+    expect("their length", needed, 2);
+}
+
 static void words(void) {
     static const struct {
         uint32_t number;
@@ -374,6 +404,7 @@ int main(void) {
     opening(&map);
     offering(&map);
     looking(&map);
+    null_with_no_items(&map);
     routing(&map);
     asking(&map);
     expect("a close", lgm_close_channel(&map, scid), LGM_OK);

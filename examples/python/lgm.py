@@ -4,17 +4,22 @@
         network.offer(message, sig=ALL_FOUR, funding=100_000)
         route = network.route(payer, payee, amount_msat=1_000_000, expiry=900_000, secret=secret)
 
-Messages, points, chains and secrets are `bytes`. A call that fails raises the class of its fault, such as `NotNewer`;
-all of these are subclasses of `Fault`. A `Map` stays on the thread that made it.
+Messages, points, chains and secrets are `bytes`, `bytearray` or `memoryview`. An argument of another type raises
+TypeError, and one out of its range ValueError, before the library is called. A call that fails raises the class of its
+fault, such as `NotNewer`; all of these are subclasses of `Fault`. Any thread may use a `Map`: its calls wait for one
+another.
 
-The library is the file that LGM_LIBRARY names, or `liblgm.so` in the folder `out` beside this one, where
-`examples/build-c` puts it.
+The library is loaded for the first `Map`. It is the file that LGM_LIBRARY names, or `liblgm.so` in the folder `out`
+beside this one, where `examples/build-c` puts it.
 """
 
 import ctypes
 import os
+import re
 import struct
+import threading
 from dataclasses import dataclass
+from functools import lru_cache, wraps
 from pathlib import Path
 from typing import Optional
 
@@ -23,7 +28,6 @@ _VERSION = 1
 _ROOM = 104
 _MOST_HOPS = 20
 _MOST_PAYLOADS = 1300
-_WORD_LEN = 24
 
 # The verdicts on signatures, beside a point (`bytes`): the one whose signature a message has.
 ALL_FOUR, NOT_ALL_FOUR, NOBODY = "all", "not-all", "nobody"
@@ -55,7 +59,6 @@ _ANSWERING = [_AT, _BYTES, _SIZE, _AT, _SIZE, _AT]
 # Each call of the library: its result and its arguments.
 _CALLS = {
     "lgm_version": (_U32, []),
-    "lgm_word": (None, [_U32, _AT]),
     "lgm_open": (_U32, [_AT, _BYTES, ctypes.c_bool, _BYTES, _SIZE, _BYTES]),
     "lgm_free": (None, [_AT]),
     "lgm_offer": (_U32, [_AT, _BYTES, _SIZE, _U32, _BYTES, _U32, _U64]),
@@ -71,6 +74,7 @@ _CALLS = {
 }
 
 
+@lru_cache(maxsize=None)
 def _load():
     library = ctypes.CDLL(str(_LIBRARY))
     for name, (result, arguments) in _CALLS.items():
@@ -79,10 +83,6 @@ def _load():
     if library.lgm_version() != _VERSION:
         raise ImportError(f"{_LIBRARY} has another version than {_VERSION}")
     return library
-
-
-_library = _load()
-_offer = _library.lgm_offer
 
 
 class Fault(Exception):
@@ -103,22 +103,23 @@ class Unrouted(Fault):
     """A payment has no route."""
 
 
-def _word(number):
-    word = ctypes.create_string_buffer(_WORD_LEN)
-    _library.lgm_word(number, word)
-    return word.value.decode()
+# The numbers of faults with their words, as `lgm_word` has them.
+_REFUSALS = {1: "malformed", 2: "unknown-even", 3: "ignored", 4: "not-gossip", 5: "chain", 6: "point", 7: "node-order",
+             8: "private", 9: "funding", 10: "signature", 11: "unknown-channel", 12: "known", 13: "conflict",
+             14: "unknown-node", 15: "not-newer", 16: "banned"}
+_REASONS = {21: "amount-zero", 22: "amount-too-large", 23: "expiry-too-large", 24: "self-payment", 25: "no-route"}
+_OTHERS = {31: "not-query", 32: "not-filter", 33: "not-announced", 100: "closed", 101: "open", 102: "no-memory",
+           103: "argument", 104: "room", 105: "full"}
 
 
-def _classes(base, numbers):
+def _classes(base, words):
     """A class for each number, named after its word: `NotNewer` for "not-newer"."""
-    words = {number: _word(number) for number in numbers}
     return {
         number: type(word.title().replace("-", ""), (base,), {"number": number, "word": word, "__module__": __name__})
         for number, word in words.items()}
 
 
-_FAULTS = {**_classes(Refused, range(1, 17)), **_classes(Unrouted, range(21, 26)),
-           **_classes(Fault, (31, 32, 33, *range(100, 106)))}
+_FAULTS = {**_classes(Refused, _REFUSALS), **_classes(Unrouted, _REASONS), **_classes(Fault, _OTHERS)}
 globals().update({kind.__name__: kind for kind in _FAULTS.values()})
 
 
@@ -198,7 +199,11 @@ class Node:
 
 def short_channel_id(text):
     """The number of an id like "600000x1x0"."""
-    block, index, output = (int(part) for part in text.split("x"))
+    found = re.fullmatch(r"([0-9]+)x([0-9]+)x([0-9]+)", text)
+    if not found:
+        raise ValueError(f"an id is of the form BLOCKxINDEXxOUTPUT, and not {text!r:.80}")
+    block, index, output = (_number(name, int(part), below) for name, part, below in zip(
+        ("the block", "the index", "the output"), found.groups(), (2**24, 2**24, 2**16)))
     return block << 40 | index << 16 | output
 
 
@@ -207,11 +212,41 @@ def _direction(buffer, at):
     return Direction(*terms) if is_held else None
 
 
-def _sized(name, value, length):
-    """The bytes, whose length C doesn't check."""
-    if len(value) != length:
-        raise ValueError(f"{name} has {length} bytes")
-    return bytes(value)
+def _number(name, value, below):
+    """A number that C would cut to its type."""
+    if not isinstance(value, int) or isinstance(value, bool):
+        raise TypeError(f"{name} is an int, and not {value!r:.80}")
+    if not 0 <= value < below:
+        raise ValueError(f"{name} is from 0 to {below - 1}, and not {value}")
+    return value
+
+
+def _octets(name, value, length=None):
+    """Bytes, of a length that C doesn't check."""
+    if not isinstance(value, (bytes, bytearray, memoryview)):
+        raise TypeError(f"{name} is bytes, and not {type(value).__name__}; bytes.fromhex makes them from digits")
+    octets = bytes(value)
+    if length is not None and len(octets) != length:
+        raise ValueError(f"{name} is of {length} bytes, and not of {len(octets)}")
+    return octets
+
+
+def _signed(sig):
+    """A verdict on signatures as C has it: its number, and the signer."""
+    if not isinstance(sig, str):
+        return _BY, _octets("a point", sig, 33)
+    if sig not in _SIGS:
+        raise ValueError(f"sig is ALL_FOUR, NOT_ALL_FOUR, NOBODY or a point in bytes, and not {sig!r:.80}")
+    return _SIGS[sig], _NO_POINT
+
+
+def _funded(funding):
+    """A verdict on a funding output as C has it: its number, and the satoshi."""
+    if not isinstance(funding, str):
+        return _UNSPENT, _number("funding in satoshi", funding, 2**64)
+    if funding not in _FUNDINGS:
+        raise ValueError(f"funding is NOT_ASKED, SPENT, WRONG or a number of satoshi, and not {funding!r:.80}")
+    return _FUNDINGS[funding], 0
 
 
 class _Buffer:
@@ -228,11 +263,21 @@ class _Buffer:
         return self._view[:length].tobytes()
 
 
+def _alone(method):
+    """A method of `Map` during which no other one runs, since all of them use the handle and the map's buffers."""
+    @wraps(method)
+    def locked(self, *arguments, **named):
+        with self._lock:
+            return method(self, *arguments, **named)
+    return locked
+
+
 class Map:
     """A map of one chain. Free it by `close`, or use it in a `with` statement."""
 
     def __init__(self, chain, known=None, seed=None):
         """`known` has the feature bits that are known, or is `None` if all are; `seed` is 16 random bytes."""
+        self._lock = threading.Lock()
         self._map = _Buffer(_SIZE_OF_HANDLE)
         self._at = self._map.at
         self._room = _Buffer(4096)
@@ -241,14 +286,17 @@ class Map:
         self._hops = _Buffer(_MOST_HOPS * _HOP.size)
         self._payloads = _Buffer(_MOST_PAYLOADS)
         self._struct = _Buffer(max(_LENGTHS.size, _CHANNEL_LEN, _NODE.size))
-        seed = os.urandom(16) if seed is None else seed
-        bits = bytes(known or b"")
-        _check(_library.lgm_open(
-            self._at, _sized("a chain", chain, 32), known is None, bits, len(bits), _sized("a seed", seed, 16)))
+        chain = _octets("a chain", chain, 32)
+        seed = _octets("a seed", os.urandom(16) if seed is None else seed, 16)
+        bits = b"" if known is None else _octets("known", known)
+        self._library = _load()
+        self._offer = self._library.lgm_offer
+        _check(self._library.lgm_open(self._at, chain, known is None, bits, len(bits), seed))
 
+    @_alone
     def close(self):
         """Frees the map. Later calls raise `Closed`."""
-        _library.lgm_free(self._at)
+        self._library.lgm_free(self._at)
 
     def __enter__(self):
         return self
@@ -257,34 +305,36 @@ class Map:
         self.close()
 
     def __del__(self):
-        if hasattr(self, "_at"):
+        if hasattr(self, "_library"):
             self.close()
 
+    @_alone
     def __len__(self):
         """The number of channels."""
-        return _library.lgm_count(self._at)
+        return self._library.lgm_count(self._at)
 
     def offer(self, message, sig=NOBODY, funding=NOT_ASKED):
         """Offers a gossip message, with the verdicts on it."""
-        if isinstance(sig, str):
-            sig, signer = _SIGS[sig], _NO_POINT
-        else:
-            sig, signer = _BY, _sized("a point", sig, 33)
-        funding, sat = (_UNSPENT, funding) if isinstance(funding, int) else (_FUNDINGS[funding], 0)
-        number = _offer(self._at, message, len(message), sig, signer, funding, sat)
+        message = _octets("a message", message)
+        sig, signer = _signed(sig)
+        funding, sat = _funded(funding)
+        with self._lock:
+            number = self._offer(self._at, message, len(message), sig, signer, funding, sat)
         if number:
             raise _FAULTS[number]()
 
+    @_alone
     def close_channel(self, scid):
         """Removes a channel, because its funding output was spent."""
-        _check(_library.lgm_close_channel(self._at, scid))
+        _check(self._library.lgm_close_channel(self._at, _number("an id", scid, 2**64)))
 
+    @_alone
     def route(self, payer, payee, amount_msat, expiry, secret):
         """The route by which the payer sends the least."""
         payment = _PAYMENT.pack(
-            amount_msat, expiry, _sized("a point", payer, 33), _sized("a point", payee, 33),
-            _sized("a secret", secret, 32))
-        _check(_library.lgm_route(
+            _number("amount_msat", amount_msat, 2**64), _number("expiry", expiry, 2**32),
+            _octets("a point", payer, 33), _octets("a point", payee, 33), _octets("a secret", secret, 32))
+        _check(self._library.lgm_route(
             self._at, payment, self._hops.at, _MOST_HOPS, self._payloads.at, _MOST_PAYLOADS, self._struct.at))
         count, length = _LENGTHS.unpack_from(self._struct.bytes)
         payloads, end = self._payloads.front(length), 0
@@ -295,33 +345,39 @@ class Map:
             hops.append(Hop(scid, amount, hop_expiry, sender, receiver, payloads[start:end]))
         return Route(tuple(hops))
 
+    @_alone
     def query(self, message):
         """The replies to a peer's query, a list of messages."""
-        return self._messages(_library.lgm_query, message)
+        return self._messages(self._library.lgm_query, message)
 
+    @_alone
     def filter(self, message):
         """The messages that pass a peer's filter."""
-        return self._messages(_library.lgm_filter, message)
+        return self._messages(self._library.lgm_filter, message)
 
+    @_alone
     def news(self, message):
         """The messages that pass a peer's filter now, and didn't at the mark."""
-        return self._messages(_library.lgm_news, message)
+        return self._messages(self._library.lgm_news, message)
 
+    @_alone
     def mark(self):
         """Moves the mark to the map as it is now."""
-        _check(_library.lgm_mark(self._at))
+        _check(self._library.lgm_mark(self._at))
 
+    @_alone
     def channel(self, scid):
         """What the map has of a channel."""
-        _check(_library.lgm_channel(self._at, scid, self._struct.at))
+        _check(self._library.lgm_channel(self._at, _number("an id", scid, 2**64), self._struct.at))
         channel = self._struct.bytes
         return Channel(
             *_CHANNEL.unpack_from(channel), _direction(channel, _CHANNEL.size),
             _direction(channel, _CHANNEL.size + _DIRECTION.size))
 
+    @_alone
     def node(self, point):
         """What the map has of a node."""
-        addresses = self._written(_library.lgm_node, _sized("a point", point, 33), self._struct.at)
+        addresses = self._written(self._library.lgm_node, _octets("a point", point, 33), self._struct.at)
         return Node(*_NODE.unpack_from(self._struct.bytes), addresses)
 
     def _written(self, call, *arguments):
@@ -334,6 +390,7 @@ class Map:
         return self._room.front(self._needed.value)
 
     def _messages(self, call, message):
+        message = _octets("a message", message)
         written = self._written(call, message, len(message))
         messages, at = [], 0
         while at < len(written):
