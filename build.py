@@ -1,7 +1,9 @@
 #!/usr/bin/env python3
 """Proves and builds the program `lgm`: the libraries that it stands on, lowest first, and then the program.
 
-    python3 build.py [--at-once N] [--cpu NAME]
+    python3 build.py [--at-once N] [--cpu NAME] [--library CRATE]
+
+With `--library` it is a library, and what that one stands on: `lgm_c`, as examples/build-c has it.
 
 Says on standard error which crate it is at, of how many, and how long each took; what `rt` says is shown where it fails.
 Libraries that don't need each other are proved side by side, as many as processors and memory allow, or N. A check locks
@@ -23,6 +25,7 @@ from pathlib import Path
 
 TOP = Path(__file__).resolve().parent
 PROGRAM = "lgm"
+TIMES = {PROGRAM: "20 to 45 minutes", "lgm_c": "25 to 50 minutes"}
 SOURCES = ("src", "specs", "proofs")
 MOST_AT_ONCE = 4
 MEMORY_OF_ONE = 6 << 30  # bytes, for a check that shares its work among several processors
@@ -179,6 +182,14 @@ def prove_all(used, crates, at_once, jobs):
                 say(f"{it}: {time.monotonic() - started[it]:.0f} s, {len(done)} of {len(crates) + 1}")
 
 
+def build_library(crate, count, jobs):
+    """Proves and builds a library that others link with."""
+    clock = time.monotonic()
+    say(f"{crate} ..")
+    prove(crate, jobs)
+    say(f"{crate}: {time.monotonic() - clock:.0f} s, {count} of {count}")
+
+
 def build_program(count, jobs, cpu):
     """Proves, builds and runs the program, on an empty script, which writes nothing."""
     program = TOP / "crates" / PROGRAM / "out" / PROGRAM
@@ -191,26 +202,36 @@ def build_program(count, jobs, cpu):
     say(f"{PROGRAM}: {time.monotonic() - clock:.0f} s, {count} of {count}")
 
 
-def main():
-    """Builds what isn't fresh. The exit status is 1 where that fails."""
+def arguments_of(used):
+    """The words of the command line."""
     parser = argparse.ArgumentParser(description=__doc__.split("\n")[0])
     parser.add_argument("--at-once", type=int, default=default_at_once(), metavar="N", help="so many checks side by side")
     parser.add_argument("--cpu", default=os.environ.get("LGM_CPU") or own_cpu(), metavar="NAME",
                         help=f"the processor that the program is for: {NEWER_CPU}, or {ANY_CPU}, for any")
-    arguments = parser.parse_args()
-    at_once = max(1, arguments.at_once)
+    parser.add_argument("--library", choices=sorted(used), metavar="CRATE", help="build this library, not the program")
+    return parser.parse_args()
+
+
+def main():
+    """Builds what isn't fresh. The exit status is 1 where that fails."""
     used = read_crates(TOP / "crates.txt")
-    crates, stale = below(used, PROGRAM), []
+    arguments = arguments_of(used)
+    target = arguments.library or PROGRAM
+    crates, stale = below(used, target), []
     for it in crates:
         if any(lower in stale for lower in used[it]) or not is_fresh(used, it):
             stale.append(it)
-    at_once = min(at_once, max(1, len(stale)))
+    at_once = min(max(1, arguments.at_once), max(1, len(stale)))
     jobs = jobs_of_one(at_once)
-    say(f"proving and building {len(stale) + 1} of {len(crates) + 1} crates, {at_once} at once; all of them take 20 to 45 minutes on four processors")
+    say(f"proving and building {len(stale) + 1} of {len(crates) + 1} crates, {at_once} at once; "
+        f"all of them take {TIMES.get(target, 'some time')} on four processors")
     begun = time.monotonic()
     try:
         prove_all(used, stale, at_once, jobs)
-        build_program(len(stale) + 1, jobs, arguments.cpu)
+        if arguments.library:
+            build_library(target, len(stale) + 1, jobs)
+        else:
+            build_program(len(stale) + 1, jobs, arguments.cpu)
     except Failed as failed:
         crate, said = failed.args
         sys.stderr.write(said)

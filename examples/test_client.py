@@ -75,7 +75,7 @@ def verdicts_are_asked_for():
 
 
 def no_news_is_lost_by_a_restart():
-    """The recipes of docs/questions.md: after a last `commit` no news is left, after a crash the new process has it."""
+    """The recipes of docs/operating.md: after a last `commit` no news is left, after a crash the new process has it."""
     gossip = [line for line in script("payments.txt") if line.startswith("m ")][:6]
     before, after, filters = gossip[:2], gossip[2:], [f"filter 0 0109{CHAIN}00000000ffffffff"]
     with Client(CHAIN, PROGRAM) as lgm:
@@ -103,6 +103,32 @@ def a_private_channel_is_for_a_map_of_its_own():
             found = lgm.ask([private, terms, "commit", payment, "close 600002x3x0", "commit", payment])
             assert found[3][0].startswith("route ") and found[6] == ["no-route"]
         assert lgm.ask([clash, private])[1] == ["banned"] and clash != private
+
+
+def a_channel_is_taken_out_for_a_payment():
+    """The recipe of docs/operating.md: no route goes over it, then one does again, and peers get its messages anew."""
+    lines = script("payments.txt")
+    gossip = [line for line in lines if line.startswith("m ")][:6]
+    payment = next(line for line in lines if line.startswith("route "))
+    own = gossip[2:4]
+    asked = f"q 0105{CHAIN}0009000927c10000020001"
+    with Client(CHAIN, PROGRAM) as lgm:
+        before = lgm.ask([*gossip, "commit", payment, f"filter 0 0109{CHAIN}00000000ffffffff"])[7]
+        closed = lgm.ask(["close 600001x2x1", "commit", payment, asked])
+        again = lgm.ask([*own, "commit", payment])
+    assert closed == [["accepted"], ["commit 7"], ["no-route"], [f"0106{CHAIN}01"]]
+    news = [f"to 0 {line.split()[1]}" for line in own]
+    assert again == [["accepted"], ["accepted"], ["commit 9", *news], before] and before[0].startswith("route ")
+
+
+def a_ping_and_a_ban():
+    """What docs/operating.md says: a line that isn't in the grammar is answered; the item that bans is `accepted`."""
+    channel = script("payments.txt")[0]
+    nodes = channel.split()[1][600:732]
+    other = channel.replace(nodes, "02" + "1a" * 32 + "02" + "1b" * 32)
+    with Client(CHAIN, PROGRAM) as lgm:
+        assert lgm.ask(["ping", channel, other, channel, other, "close 600000x1x0"]) == [
+            ["bad"], ["accepted"], ["accepted"], ["banned"], ["banned"], ["unknown-channel"]]
 
 
 def an_end_is_told():
@@ -161,7 +187,7 @@ def main():
     """Runs each test."""
     tests = (answers_have_ends, many_lines_do_not_stick, accepted_items_make_the_map_again,
              verdicts_are_asked_for, no_news_is_lost_by_a_restart, a_private_channel_is_for_a_map_of_its_own,
-             an_end_is_told,
+             a_channel_is_taken_out_for_a_payment, a_ping_and_a_ban, an_end_is_told,
              what_is_no_list_of_lines_is_refused, a_start_is_told_and_has_a_limit)
     for test in tests:
         test()

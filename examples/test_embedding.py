@@ -4,7 +4,7 @@
     python3 examples/test_embedding.py [PROGRAM]
 
 PROGRAM is `lgm`. It needs rt, and is left out without cc and ar, with status 77. So are those of its tests whose tool,
-cargo or valgrind, doesn't run. It says so.
+cargo, valgrind or Electrum's package, isn't there. It says so.
 """
 
 import ctypes
@@ -25,6 +25,7 @@ CHAIN = "c1" * 32
 CHANNELS = 2_000
 WORKLOADS = ("routes", "queries", "churn", "filters", "bans")
 VALGRIND = ("valgrind", "--quiet", "--error-exitcode=99", "--leak-check=full", "--errors-for-leak-kinds=all")
+HELGRIND = ("valgrind", "--quiet", "--tool=helgrind", "--error-exitcode=99")
 
 failures = 0
 
@@ -53,9 +54,9 @@ def answer(script):
     return output([PROGRAM, "run", "--chain", CHAIN], script)
 
 
-def made_script(workload):
+def made_script(workload, channels=CHANNELS):
     """A script over a made network."""
-    words = [sys.executable, TOP / "bench" / "make_script.py", "--channels", str(CHANNELS), "--workload", workload]
+    words = [sys.executable, TOP / "bench" / "make_script.py", "--channels", str(channels), "--workload", workload]
     return output(words)
 
 
@@ -96,19 +97,69 @@ def test_c(out):
         report(f"run, {workload} of {CHANNELS} channels", output([out / "run", CHAIN], script) == answer(script))
 
 
+def build(out, name, *words):
+    """Builds a program in C with the library."""
+    words = ["cc", "-std=c11", "-O2", "-Wall", "-Wextra", "-I", TOP / "include", *words]
+    subprocess.run([*words, HERE / "c" / f"{name}.c", out / "liblgm.a", "-o", out / name], check=True)
+
+
 def test_faults(out):
     """Calls that fail change nothing; and nothing is freed twice, leaked, or written past its end."""
-    program = out / "faults"
-    words = ["cc", "-std=c11", "-Wall", "-Wextra", "-g", "-I", TOP / "include", "-Wl,--wrap=malloc,--wrap=realloc"]
-    subprocess.run([*words, HERE / "c" / "faults.c", out / "liblgm.a", "-o", program], check=True)
-    report("faults", output([program]) == b"ok\n")
-    if not runs("valgrind", "--quiet", "true"):
+    has_valgrind = runs("valgrind", "--quiet", "true")
+    for name in ("faults", "snapshots"):
+        build(out, name, "-g", "-Wl,--wrap=malloc,--wrap=realloc")
+        report(name, output([out / name]) == b"ok\n")
+        if has_valgrind:
+            report(f"{name}, valgrind", output([*VALGRIND, out / name]) == b"ok\n")
+    if not has_valgrind:
         print("left out: leaks and wrong accesses of the library for C, since no valgrind runs here", flush=True)
     else:
-        report("faults, valgrind", output([*VALGRIND, program]) == b"ok\n")
         for script in sorted(HERE.glob("[!l]*.txt")):
             found = output([*VALGRIND, out / "run", CHAIN], script.read_bytes())
             report(f"run, {script.name}, valgrind", found == script.with_suffix(".out").read_bytes())
+
+
+def answers_at(items, payments):
+    """What `lgm` answers to payments on the map of these items, a line for each."""
+    script = b"".join([*items, b"commit\n", *payments])
+    answers = {}
+    for line in answer(script).splitlines():
+        number, text = line.split(maxsplit=1)
+        answers.setdefault(int(number), []).append(text)
+    first = len(items) + 2
+    return [b" ".join(answers[first + place]) for place in range(len(payments))]
+
+
+def served(out, channels, count, batch, pause, *before):
+    """Whether three readers beside a writer answer payments as `lgm` does on so many items as the version says."""
+    lines = made_script("routes", channels).splitlines(keepends=True)
+    items = [line for line in lines if line.startswith(b"m ")]
+    payments = [line for line in lines if line.startswith(b"route ")][:count]
+    if answer(b"".join(items)).count(b" accepted\n") != len(items):
+        return False  # versions count what is accepted
+    half = len(items) // 2
+    script = b"".join([*items[:half], b"commit\n", *items[half:], *payments])
+    found = output([*before, out / "serve", CHAIN, "3", str(batch), str(pause), "1"], script)
+    wanted = {}
+    for line in (found or b"").splitlines():
+        version, number, text = line.split(maxsplit=2)
+        if version not in wanted:
+            wanted[version] = answers_at(items[:int(version)], payments)
+        if text != wanted[version][int(number)]:
+            return False
+    return len(wanted) > 0 and max(map(int, wanted)) == len(items)
+
+
+def test_serve(out):
+    """Readers beside a writer, with a snapshot each."""
+    build(out, "serve", "-g", "-pthread")
+    report(f"serve, {CHANNELS} channels", served(out, CHANNELS, 20, 300, 0))
+    report(f"serve, {CHANNELS} channels, with pauses", served(out, CHANNELS, 20, 300, 20))
+    if runs("valgrind", "--quiet", "true"):
+        report("serve, valgrind", served(out, 200, 5, 50, 0, *VALGRIND, "--fair-sched=yes"))
+        # Two publications, so that no network takes a second turn: helgrind doesn't know that the count of owners orders
+        # what a reader did with one before what the writer does.
+        report("serve, helgrind", served(out, 100, 3, 1_000, 1, *HELGRIND))
 
 
 def test_python():
@@ -235,6 +286,67 @@ def test_threads():
         report("lgm.py, three threads", right and shared.route(*payment) == alone.route(*payment))
 
 
+def test_snapshots():
+    """Two threads route on their snapshots while a third offers and publishes: each answer is that of its version."""
+    import lgm
+
+    lines = [line.split() for line in made_script("routes").decode().splitlines()]
+    asked = [(bytes.fromhex(line[1]), bytes.fromhex(line[2]), int(line[3]), int(line[4]), bytes.fromhex(line[5]))
+             for line in lines if line[0] == "route"][:10]
+    items = [(bytes.fromhex(line[1]), line[2] if line[2] == "all" else bytes.fromhex(line[2]),
+              int(line[3]) if line[3].isdigit() else line[3]) for line in lines if line[0] == "m"]
+
+    def routes(network):
+        found = []
+        for payment in asked:
+            try:
+                found.append(network.route(*payment))
+            except lgm.Unrouted as reason:
+                found.append(reason.word)
+        return found
+
+    def read():
+        version = None
+        while version != len(items):
+            with places[0].share() as mine:
+                if mine.version != version:
+                    version = mine.version
+                    seen.append((version, routes(mine), len(mine)))
+
+    seen, kept = [], []
+    with lgm.Map(bytes.fromhex(CHAIN)) as network:
+        places = [network.publish()]
+        threads = [threading.Thread(target=read) for _ in range(2)]
+        for thread in threads:
+            thread.start()
+        for number, item in enumerate(items, 1):
+            network.offer(*item)
+            if number % 500 == 0 or number == len(items):
+                kept.append(places[0])
+                places[0] = network.publish()
+        for thread in threads:
+            thread.join()
+        kept.append(places[0])
+    wanted = {snapshot.version: (routes(snapshot), len(snapshot)) for snapshot in kept}
+    right = all((found, count) == wanted[version] for version, found, count in seen)
+    versions = [0, *range(500, len(items), 500), len(items)]
+    report("lgm.py, snapshots", right and list(wanted) == versions and kept[-1].version == len(items))
+    everything = b"\1\t" + bytes.fromhex(CHAIN) + bytes(4) + b"\xff" * 4
+    known = {message for message in kept[1].filter(everything)}
+    news = [message for message in kept[-1].filter(everything) if message not in known]
+    report("lgm.py, news of snapshots", len(news) > 0 and kept[-1].news(kept[1], everything) == news)
+    for snapshot in kept:
+        snapshot.close()
+
+
+def test_electrum():
+    """Electrum's path finder over the library; it says so where it is left out."""
+    words = [sys.executable, HERE / "electrum" / "test_path_finder.py"]
+    status = subprocess.run(words, check=False).returncode
+    if status != 77:
+        report("electrum", status == 0)
+
+
 def test_routes(out):
     """The short examples find the route that the README works out."""
     found = output([sys.executable, HERE / "python" / "route.py"])
@@ -262,9 +374,12 @@ def main():
         test_installed(prefix, out)
         test_c(out)
         test_faults(out)
+        test_serve(out)
         test_python()
         test_lookups()
         test_threads()
+        test_snapshots()
+        test_electrum()
         test_routes(out)
     return 0 if failures == 0 else 1
 

@@ -3,7 +3,8 @@
  *
  * A handle (lgm_map) has the map of one chain. The caller offers gossip messages to it, with verdicts on their signatures
  * and funding outputs. It finds routes for payments, with their payloads, and answers the queries and filters of peers.
- * docs/embedding.md is a guide; docs/protocol.md has the rules.
+ * A snapshot (lgm_snapshot) has what a map had when it was published, and answers the same: one for each thread that is to
+ * read while another one goes on with the map. docs/embedding.md is a guide; docs/protocol.md has the rules.
  *
  * What is proved holds for callers that meet these conditions, which nothing checks:
  *
@@ -14,9 +15,11 @@
  *   - While a call runs, nothing else reads or writes what it may write to, and no two of its arguments overlap there.
  *   - A handle is initialized with zeros, {0}, and then only written by calls.
  *   - A handle isn't copied. It may be moved, if the old place isn't used any more.
- *   - A handle is used by one call at a time, on the thread that opened it. (No data is thread-local. So calls from other
- *     threads work too if a mutex orders them, as tests show; but that isn't proved.)
- *   - An open handle is freed by lgm_free before it goes out of scope; otherwise its memory leaks.
+ *   - A handle is used by one call at a time, from any thread: what it holds is proved to be `Send`. Calls from different
+ *     threads on one handle are ordered by a lock, a thread's start or join, or a sequentially consistent atomic.
+ *     Different handles need no order, also those of snapshots that share a map.
+ *   - An open map is freed by lgm_free, and an open snapshot by lgm_release, before it goes out of scope; otherwise its
+ *     memory leaks.
  *   - A bool is true or false.
  *   - malloc, realloc and free are those of one allocator, and behave as the C standard says.
  *   - No call is made from a signal handler, or in the child of a fork of a process with threads.
@@ -95,6 +98,15 @@ typedef struct {
     bool is_open;
     void *at;
 } lgm_map;
+
+/*
+ * A snapshot: the map with its version that lgm_publish opened it with, which never changes, or none. All zeros are a
+ * closed snapshot. It owns its map together with the snapshots that were shared from it, and outlives the map that it is of.
+ */
+typedef struct {
+    bool is_open;
+    void *at;
+} lgm_snapshot;
 
 /* The version of this header. */
 #define LGM_VERSION 1
@@ -236,6 +248,55 @@ uint32_t lgm_news(lgm_map *map, const uint8_t *filter, size_t filter_len, uint8_
  */
 uint32_t lgm_mark(lgm_map *map);
 
+/*
+ * Opens a closed snapshot with the map as it is now, with its view.
+ *
+ * If nothing was accepted since the last publication, both share one map. Otherwise the map that was published before the
+ * last one catches up, if no snapshot of it is open any more, and if no more was accepted than the map has channels: the
+ * cost is that of applying what it lacks. Else the index of the map is copied, but not its messages, and its view is built.
+ * From the first publication on, what is accepted is kept until it is published twice, or until it is more than the map
+ * has channels.
+ *
+ * LGM_CLOSED, of the map; LGM_OPEN, of the snapshot; LGM_NO_MEMORY.
+ */
+uint32_t lgm_publish(lgm_map *map, lgm_snapshot *snapshot);
+
+/*
+ * Opens a closed snapshot with what another one has: one more owner of the same map, for another thread. Nothing is copied.
+ *
+ * LGM_CLOSED, of `from`; LGM_OPEN, of `to`; LGM_NO_MEMORY.
+ */
+uint32_t lgm_share(lgm_snapshot *from, lgm_snapshot *to);
+
+/* Closes a snapshot, if it is open. Its map is freed with the last snapshot of it, unless it is to catch up. */
+void lgm_release(lgm_snapshot *snapshot);
+
+/* How many messages and closes the map had accepted when it was published, or 0 for a closed snapshot. */
+uint64_t lgm_version_of(lgm_snapshot *snapshot);
+
+/* The number of channels, or 0 for a closed snapshot. */
+size_t lgm_snapshot_count(lgm_snapshot *snapshot);
+
+/* Finds a route as lgm_route does. The view was built when the map was published. */
+uint32_t lgm_snapshot_route(lgm_snapshot *snapshot, const lgm_payment *payment, lgm_hop *hops, size_t hops_len,
+                            uint8_t *payloads, size_t payloads_len, lgm_lengths *lengths);
+
+/* Answers a peer's query as lgm_query does. */
+uint32_t lgm_snapshot_query(lgm_snapshot *snapshot, const uint8_t *query, size_t query_len, uint8_t *replies,
+                            size_t replies_len, size_t *needed);
+
+/* Finds the messages that pass a filter as lgm_filter does. */
+uint32_t lgm_snapshot_filter(lgm_snapshot *snapshot, const uint8_t *filter, size_t filter_len, uint8_t *messages,
+                             size_t messages_len, size_t *needed);
+
+/*
+ * Finds the messages that pass a filter in a snapshot and didn't in another, earlier one. They are written as by
+ * lgm_query, and the faults are those of lgm_filter; LGM_CLOSED of either. The chain is that of `after`. Both maps are
+ * traversed. The two snapshots are different handles.
+ */
+uint32_t lgm_snapshot_news(lgm_snapshot *before, lgm_snapshot *after, const uint8_t *filter, size_t filter_len,
+                           uint8_t *messages, size_t messages_len, size_t *needed);
+
 /* The terms of a channel's direction, from its channel_update. If the map has none, all is 0. */
 typedef struct {
     bool is_held;
@@ -280,6 +341,13 @@ typedef struct {
  */
 uint32_t lgm_node(lgm_map *map, const uint8_t point[33], lgm_node_info *node, uint8_t *addresses,
                   size_t addresses_len, size_t *needed);
+
+/* Looks up a channel as lgm_channel does. */
+uint32_t lgm_snapshot_channel(lgm_snapshot *snapshot, uint64_t scid, lgm_channel_info *channel);
+
+/* Looks up a node as lgm_node does. */
+uint32_t lgm_snapshot_node(lgm_snapshot *snapshot, const uint8_t point[33], lgm_node_info *node,
+                           uint8_t *addresses, size_t addresses_len, size_t *needed);
 
 #ifdef __cplusplus
 }

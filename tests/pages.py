@@ -21,10 +21,10 @@ from collections import defaultdict
 from pathlib import Path
 
 TOP = Path(__file__).resolve().parent.parent
-PAGES = sorted([*TOP.glob("*.md"), *TOP.glob("docs/*.md"), *TOP.glob("bench/*.md")])
+PAGES = sorted([*TOP.glob("*.md"), *TOP.glob("docs/*.md"), *TOP.glob("bench/*.md"), *TOP.glob("examples/*/*.md")])
 SOURCES = ("crates/*/src/**/*.rt", "crates/*/specs/**/*.antt", "crates/*/proofs/**/*.antt", "include/*.h",
            "crates/*/must-fail/*.edit", "crates/*/args", "examples/**/*.py", "examples/c/*.c", "examples/rust/**/*.rs",
-           "examples/build-c", "bench/*.py", "tests/*.py", "*.py",
+           "examples/build-c", "bench/*.py", "tests/**/*.py", "*.py",
            "crates.txt", "lgm", "test", ".ci/run")
 COMMANDS = ("rt", "lgm", "./lgm", "./test", "python3", "git", "cd", "awk", "bitcoin-cli")
 # Names that aren't this repository's: the kit's, clap's, the C library's, the protocol's, placeholders.
@@ -37,7 +37,8 @@ OUTSIDE = set("""
     channel_announcement node_announcement channel_update query_short_channel_ids reply_short_channel_ids_end
     query_channel_range reply_channel_range gossip_timestamp_filter amt_to_forward outgoing_cltv_value payment_data
     payment_metadata short_channel_id tu16 tu32 tu64 fd fe ff c1 end d1 u64
-    ns/byte specs/declared network.txt out/ examples/out memcpy memmove memset malloc realloc free cc ar slab valgrind
+    ns/byte specs/declared network.txt out/ examples/out crates/lgm/out/lgm kept.txt shorter.txt ping KIT-ID
+    create_route_from_path memcpy memmove memset malloc realloc free cc ar slab valgrind
 """.split())
 
 HASH = re.compile(r"[0-9a-f]{64}")

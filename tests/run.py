@@ -1,10 +1,10 @@
 #!/usr/bin/env python3
 """Runs the tests that aren't of a crate and want no library for C: of the pages, the build script, `./test`, the
-comparison of the header, the examples, and the program where calls fail.
+comparison of the header, the examples, the program beside Electrum, and the program where calls fail.
 
     python3 tests/run.py [PROGRAM]
 
-PROGRAM is ./lgm if left out, which is built first where it is stale. It takes about a minute. A file of tests that ends
+PROGRAM is ./lgm if left out, which is built first where it is stale. It takes some two minutes. A file of tests that ends
 with status 77 has said what it misses, and counts neither as passed nor as failed.
 """
 
@@ -14,9 +14,11 @@ from pathlib import Path
 
 TOP = Path(__file__).resolve().parent.parent
 ALONE = ("tests/pages.py", "tests/test_build.py", "tests/test_all.py", "tests/test_exports.py",
-         "examples/python/test_lgm.py")
+         "examples/python/test_lgm.py", "examples/test_plots.py")
 WITH_PROGRAM = ("examples/test_why.py", "examples/test_client.py", "examples/test_network.py",
-                "examples/test_examples.py", "bench/test_route_picture.py")
+                "examples/test_wallet_database.py", "examples/test_examples.py", "examples/test_why_route.py",
+                "examples/test_shorten.py", "bench/test_route_picture.py",
+                "tests/electrum.py")
 BUILT = "tests/refusals.py"  # over the program itself, since a shell in front of it would be refused calls too
 LEFT_OUT = 77
 

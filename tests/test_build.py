@@ -111,7 +111,24 @@ def builds_what_changed(place):
     assert done.stdout == "run\n" and log == ["begin left", "end left", "begin lgm", "end lgm"], log
     place.touch("other_tests")
     done, log = place.run("./lgm", "run")
-    assert done.stdout == "run\n" and log == ["begin lgm", "end lgm"], log
+    assert (done.stdout, done.stderr, log) == ("run\n", "", []), (done, log)  # the program doesn't use it
+    for crate in ("low", "right", "lgm"):
+        place.touch(crate)
+        done, log = place.run("./lgm", "run")
+        assert done.stdout == "run\n" and f"begin {crate}" in log, (crate, log)
+
+
+def builds_a_library(place):
+    """A library that the program doesn't use, with those below it, and the progress."""
+    place.touch("left")
+    done, log = place.run("./build.py", "--library", "other_tests")
+    assert done.returncode == 0 and log == [f"{verb} {it}" for it in ("left", "other_tests") for verb in ("begin", "end")], log
+    for line in ("2 of 3 crates", "lgm: left ..", "1 of 2", "lgm: other_tests ..", "2 of 2", "built in "):
+        assert line in done.stderr, (line, done.stderr)
+    done, log = place.run("./build.py", "--library", "other_tests", BROKEN="other_tests")
+    assert done.returncode == 1 and "a clause isn't proved\nlgm: other_tests couldn't be built\n" in done.stderr, done
+    done, log = place.run("./build.py", "--library", "no_such")
+    assert done.returncode == 2 and log == [], done
 
 
 def builds_side_by_side(place):
@@ -134,7 +151,7 @@ def says_what_failed(place):
     (place.top.parent / "bin" / "rt").unlink()
     bare = place.top.parent / "bare"
     bare.mkdir()
-    for name in ("sh", "find", "head", "dirname", "readlink"):
+    for name in ("sh", "find", "head", "dirname", "readlink", "awk"):
         (bare / name).symlink_to(shutil.which(name))
     place.path = str(bare)
     for words in (("./lgm", "run"), ("./lgm", "try", "run")):
@@ -144,8 +161,8 @@ def says_what_failed(place):
 
 def main():
     """Runs each test, in order, in one place."""
-    tests = (tries_what_is_not_built, builds_and_runs, builds_for_a_processor, builds_what_changed, builds_side_by_side,
-             says_what_failed)
+    tests = (tries_what_is_not_built, builds_and_runs, builds_for_a_processor, builds_what_changed, builds_a_library,
+             builds_side_by_side, says_what_failed)
     with tempfile.TemporaryDirectory() as folder:
         place = Place(Path(folder))
         for test in tests:

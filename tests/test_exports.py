@@ -19,10 +19,11 @@ CHANGES = (
     ("    size_t hops;\n    size_t payloads;\n", "    size_t payloads;\n    size_t hops;\n", "struct lgm_lengths: "),
     ("    uint16_t cltv_expiry_delta;", "    uint32_t cltv_expiry_delta;", "struct lgm_direction: "),
     ("    uint8_t rgb[3];", "    uint8_t rgb[4];", "struct lgm_node_info: "),
-    ("uint64_t scid, lgm_channel_info *channel", "uint32_t scid, lgm_channel_info *channel", "function lgm_channel: "),
-    ("const lgm_payment *payment", "lgm_payment *payment", "function lgm_route: "),
+    ("lgm_map *map, uint64_t scid, lgm_channel_info", "lgm_map *map, uint32_t scid, lgm_channel_info", "function lgm_channel: "),
+    ("lgm_map *map, const lgm_payment *payment", "lgm_map *map, lgm_payment *payment", "function lgm_route: "),
     ("uint32_t lgm_mark(lgm_map *map);", "void lgm_mark(lgm_map *map);", "function lgm_mark: "),
-    ("void lgm_free(", "void lgm_release(", "function lgm_release: "),
+    ("void lgm_free(", "void lgm_drop(", "function lgm_drop: "),
+    ("lgm_share(lgm_snapshot *from", "lgm_share(const lgm_snapshot *from", "function lgm_share: "),
 )
 
 

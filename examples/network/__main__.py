@@ -1,7 +1,7 @@
 """Writes the network that a Lightning node knows as a script for `lgm run`, or a table that sums it up.
 
     python3 examples/network SOURCE > network.txt
-    python3 examples/network --summary FILE
+    python3 examples/network --summary [--plot SVG] FILE
 
 SOURCE is one of these; which one is told by its content, and said on standard error:
 
@@ -13,9 +13,10 @@ The script has the announcements of the channels, with their capacity and update
 Its first line says where it comes from, and what isn't as in the network. FILE is such a script, or a SOURCE.
 
     --chain HEX   the chain of an answer of LND, which doesn't tell it: 64 digits, as for `lgm`. Default: mainnet
+    --plot SVG    draw the network too, to this file; it needs matplotlib
 
 If something in the source isn't as expected, a line on standard error names the record, the status is 1, and the script
-has no `commit`. store.py, electrum.py, lnd.py and summary.py say more about each.
+has no `commit`. store.py, electrum.py, lnd.py, summary.py and plots.py say more about each.
 """
 
 import argparse
@@ -25,6 +26,7 @@ import sys
 
 import electrum
 import lnd
+import plots
 import store
 import summary
 from messages import MAINNET, Fault
@@ -85,12 +87,16 @@ def chain_hash(text):
 def arguments():
     """The words of the command line."""
     parser = argparse.ArgumentParser(
-        prog="examples/network", usage="python3 examples/network [--summary] [--chain HEX] FILE",
+        prog="examples/network", usage="python3 examples/network [--summary [--plot SVG]] [--chain HEX] FILE",
         description=__doc__, formatter_class=argparse.RawDescriptionHelpFormatter)
     parser.add_argument("--summary", action="store_true", help="print the table instead of the script")
     parser.add_argument("--chain", type=chain_hash, metavar="HEX", help="of an answer of LND")
+    parser.add_argument("--plot", metavar="SVG", help="for --summary: the file of a page of plots")
     parser.add_argument("file", metavar="FILE", help="a source; for --summary also a script")
-    return parser.parse_args()
+    words = parser.parse_args()
+    if words.plot and not words.summary:
+        parser.error("--plot is for --summary")
+    return words
 
 
 def written(words):
@@ -98,8 +104,18 @@ def written(words):
     kind = kind_of(words.file)
     if kind is SCRIPTS and not words.summary:
         raise Fault(f"{words.file} is a script already")
+    if words.plot:
+        plots.library()  # where it is missing this is said at once
     lines = script_lines(words.file) if kind is SCRIPTS else script_of(words.file, kind, words.chain)
-    return (f"{line}\n" for line in summary.summary(lines)) if words.summary else lines
+    return table_lines(lines, words.plot) if words.summary else lines
+
+
+def table_lines(lines, plot):
+    """The lines of the table of a script, whose plots are drawn to a file if one is given."""
+    network, about = summary.read(lines)
+    if plot:
+        plots.draw(plot, network, f"{about}\n" if about else "")
+    return [f"{line}\n" for line in summary.summary(network, about)]
 
 
 def main():

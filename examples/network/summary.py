@@ -168,11 +168,16 @@ def known(bits):
     return whole.to_bytes((whole.bit_length() + 7) // 8, "big").hex()
 
 
-def summary(lines):
-    """The lines of the table of a script, behind its first line if that is a comment, which says what it is."""
-    network, head = Network(), []
+def read(lines):
+    """The network of a script, and its first line if that is a comment, which says what it is."""
+    network, about = Network(), ""
     for count, line in enumerate(lines):
         if count == 0 and line.startswith("# "):
-            head = [line[2:].rstrip(), ""]
+            about = line[2:].rstrip()
         network.take(line)
-    return [*head, *table(network)]
+    return network, about
+
+
+def summary(network, about):
+    """The lines of the table of a network, behind what it is."""
+    return [*([about, ""] if about else []), *table(network)]

@@ -1,4 +1,5 @@
-"""lgm, a verified map of Lightning gossip, from Python: a class `Map` over the shared library of include/lgm.h.
+"""lgm, a verified map of Lightning gossip, from Python: classes `Map` and `Snapshot` over the shared library of
+include/lgm.h.
 
     with Map(chain=CHAIN) as network:
         network.offer(message, sig=ALL_FOUR, funding=100_000)
@@ -6,8 +7,11 @@
 
 Messages, points, chains and secrets are `bytes`, `bytearray` or `memoryview`. An argument of another type raises
 TypeError, and one out of its range ValueError, before the library is called. A call that fails raises the class of its
-fault, such as `NotNewer`; all of these are subclasses of `Fault`. Any thread may use a `Map`: its calls wait for one
-another.
+fault, such as `NotNewer`; all of these are subclasses of `Fault`. Any thread may use a `Map` or a `Snapshot`: the calls of
+one wait for one another. Threads that are to read at once take a snapshot each:
+
+    latest = network.publish()   # by the thread that goes on with the map
+    mine = latest.share()        # by each thread that reads: it waits for nobody, and nobody for it
 
 The library is loaded for the first `Map`. It is the file that LGM_LIBRARY names, or `liblgm.so` in the folder `out`
 beside this one, where `examples/build-c` puts it.
@@ -16,18 +20,13 @@ beside this one, where `examples/build-c` puts it.
 import ctypes
 import os
 import re
-import struct
 import threading
 from dataclasses import dataclass
-from functools import lru_cache, wraps
-from pathlib import Path
+from functools import wraps
 from typing import Optional
 
-_LIBRARY = os.environ.get("LGM_LIBRARY") or Path(__file__).resolve().parent.parent / "out" / "liblgm.so"
-_VERSION = 1
-_ROOM = 104
-_MOST_HOPS = 20
-_MOST_PAYLOADS = 1300
+import lgm_library as _c
+from lgm_library import Buffer as _Buffer, load as _load, number as _number, octets as _octets
 
 # The verdicts on signatures, beside a point (`bytes`): the one whose signature a message has.
 ALL_FOUR, NOT_ALL_FOUR, NOBODY = "all", "not-all", "nobody"
@@ -40,50 +39,6 @@ _UNSPENT = 1
 _FUNDINGS = {NOT_ASKED: 0, SPENT: 2, WRONG: 3}
 
 _NO_POINT = bytes(33)
-
-# The structs of the header, in this machine's layout. What C writes is unpacked from buffers that a `Map` keeps.
-_PAYMENT = struct.Struct("@QI33s33s32s0Q")
-_HOP = struct.Struct("@QQNI33s33s0Q")
-_LENGTHS = struct.Struct("@NN")
-_DIRECTION = struct.Struct("@?BBHIIIQQ")
-_CHANNEL = struct.Struct("@Q33s33s0Q")
-_CHANNEL_LEN = _CHANNEL.size + 2 * _DIRECTION.size
-_NODE = struct.Struct("@I3s32s0I")
-_SIZE_OF_HANDLE = struct.calcsize("@?P")
-
-# Bytes, and the address of a buffer.
-_BYTES, _AT = ctypes.c_char_p, ctypes.c_void_p
-_SIZE, _U32, _U64 = ctypes.c_size_t, ctypes.c_uint32, ctypes.c_uint64
-_ANSWERING = [_AT, _BYTES, _SIZE, _AT, _SIZE, _AT]
-
-# Each call of the library: its result and its arguments.
-_CALLS = {
-    "lgm_version": (_U32, []),
-    "lgm_open": (_U32, [_AT, _BYTES, ctypes.c_bool, _BYTES, _SIZE, _BYTES]),
-    "lgm_free": (None, [_AT]),
-    "lgm_offer": (_U32, [_AT, _BYTES, _SIZE, _U32, _BYTES, _U32, _U64]),
-    "lgm_close_channel": (_U32, [_AT, _U64]),
-    "lgm_count": (_SIZE, [_AT]),
-    "lgm_route": (_U32, [_AT, _BYTES, _AT, _SIZE, _AT, _SIZE, _AT]),
-    "lgm_query": (_U32, _ANSWERING),
-    "lgm_filter": (_U32, _ANSWERING),
-    "lgm_news": (_U32, _ANSWERING),
-    "lgm_mark": (_U32, [_AT]),
-    "lgm_channel": (_U32, [_AT, _U64, _AT]),
-    "lgm_node": (_U32, [_AT, _BYTES, _AT, _AT, _SIZE, _AT]),
-}
-
-
-@lru_cache(maxsize=None)
-def _load():
-    library = ctypes.CDLL(str(_LIBRARY))
-    for name, (result, arguments) in _CALLS.items():
-        call = getattr(library, name)
-        call.restype, call.argtypes = result, arguments
-    if library.lgm_version() != _VERSION:
-        raise ImportError(f"{_LIBRARY} has another version than {_VERSION}")
-    return library
-
 
 class Fault(Exception):
     """A call failed, and left the map unchanged. It has a `number` and a `word`."""
@@ -208,27 +163,8 @@ def short_channel_id(text):
 
 
 def _direction(buffer, at):
-    is_held, *terms = _DIRECTION.unpack_from(buffer, at)
+    is_held, *terms = _c.DIRECTION.unpack_from(buffer, at)
     return Direction(*terms) if is_held else None
-
-
-def _number(name, value, below):
-    """A number that C would cut to its type."""
-    if not isinstance(value, int) or isinstance(value, bool):
-        raise TypeError(f"{name} is an int, and not {value!r:.80}")
-    if not 0 <= value < below:
-        raise ValueError(f"{name} is from 0 to {below - 1}, and not {value}")
-    return value
-
-
-def _octets(name, value, length=None):
-    """Bytes, of a length that C doesn't check."""
-    if not isinstance(value, (bytes, bytearray, memoryview)):
-        raise TypeError(f"{name} is bytes, and not {type(value).__name__}; bytes.fromhex makes them from digits")
-    octets = bytes(value)
-    if length is not None and len(octets) != length:
-        raise ValueError(f"{name} is of {length} bytes, and not of {len(octets)}")
-    return octets
 
 
 def _signed(sig):
@@ -249,22 +185,8 @@ def _funded(funding):
     return _FUNDINGS[funding], 0
 
 
-class _Buffer:
-    """Bytes that C writes to, and their address."""
-
-    def __init__(self, length):
-        self.length = length
-        self.bytes = ctypes.create_string_buffer(length)
-        self.at = ctypes.addressof(self.bytes)
-        self._view = memoryview(self.bytes).cast("B")
-
-    def front(self, length):
-        """A copy of the first bytes."""
-        return self._view[:length].tobytes()
-
-
 def _alone(method):
-    """A method of `Map` during which no other one runs, since all of them use the handle and the map's buffers."""
+    """A method during which no other one of the object runs, since all of them use its handle and its buffers."""
     @wraps(method)
     def locked(self, *arguments, **named):
         with self._lock:
@@ -272,31 +194,34 @@ def _alone(method):
     return locked
 
 
-class Map:
-    """A map of one chain. Free it by `close`, or use it in a `with` statement."""
+class _Handle:
+    """A handle of the library, with the lock and the buffers of its calls. Free it by `close`, or use it in a `with`
+    statement."""
 
-    def __init__(self, chain, known=None, seed=None):
-        """`known` has the feature bits that are known, or is `None` if all are; `seed` is 16 random bytes."""
+    _prefix = None
+    _free = None
+
+    def __init__(self):
+        """A closed one."""
         self._lock = threading.Lock()
-        self._map = _Buffer(_SIZE_OF_HANDLE)
-        self._at = self._map.at
+        self._handle = _Buffer(_c.SIZE_OF_HANDLE)
+        self._at = self._handle.at
         self._room = _Buffer(4096)
         self._needed = ctypes.c_size_t()
         self._needed_at = ctypes.addressof(self._needed)
-        self._hops = _Buffer(_MOST_HOPS * _HOP.size)
-        self._payloads = _Buffer(_MOST_PAYLOADS)
-        self._struct = _Buffer(max(_LENGTHS.size, _CHANNEL_LEN, _NODE.size))
-        chain = _octets("a chain", chain, 32)
-        seed = _octets("a seed", os.urandom(16) if seed is None else seed, 16)
-        bits = b"" if known is None else _octets("known", known)
+        self._hops = _Buffer(_c.MOST_HOPS * _c.HOP.size)
+        self._payloads = _Buffer(_c.MOST_PAYLOADS)
+        self._struct = _Buffer(max(_c.LENGTHS.size, _c.CHANNEL_LEN, _c.NODE.size))
         self._library = _load()
-        self._offer = self._library.lgm_offer
-        _check(self._library.lgm_open(self._at, chain, known is None, bits, len(bits), seed))
+
+    def _call(self, name):
+        """The call of this kind of handle."""
+        return getattr(self._library, self._prefix + name)
 
     @_alone
     def close(self):
-        """Frees the map. Later calls raise `Closed`."""
-        self._library.lgm_free(self._at)
+        """Frees what it has. Later calls raise `Closed`."""
+        getattr(self._library, self._free)(self._at)
 
     def __enter__(self):
         return self
@@ -311,7 +236,84 @@ class Map:
     @_alone
     def __len__(self):
         """The number of channels."""
-        return self._library.lgm_count(self._at)
+        return self._call("count")(self._at)
+
+    @_alone
+    def route(self, payer, payee, amount_msat, expiry, secret):
+        """The route by which the payer sends the least."""
+        payment = _c.PAYMENT.pack(
+            _number("amount_msat", amount_msat, 2**64), _number("expiry", expiry, 2**32),
+            _octets("a point", payer, 33), _octets("a point", payee, 33), _octets("a secret", secret, 32))
+        _check(self._call("route")(
+            self._at, payment, self._hops.at, _c.MOST_HOPS, self._payloads.at, _c.MOST_PAYLOADS, self._struct.at))
+        count, length = _c.LENGTHS.unpack_from(self._struct.bytes)
+        payloads, end = self._payloads.front(length), 0
+        hops = []
+        for scid, amount, payload_len, hop_expiry, sender, receiver in _c.HOP.iter_unpack(
+                self._hops.front(count * _c.HOP.size)):
+            start, end = end, end + payload_len
+            hops.append(Hop(scid, amount, hop_expiry, sender, receiver, payloads[start:end]))
+        return Route(tuple(hops))
+
+    @_alone
+    def query(self, message):
+        """The replies to a peer's query, a list of messages."""
+        return self._messages(self._call("query"), message)
+
+    @_alone
+    def filter(self, message):
+        """The messages that pass a peer's filter."""
+        return self._messages(self._call("filter"), message)
+
+    @_alone
+    def channel(self, scid):
+        """What the map has of a channel."""
+        _check(self._call("channel")(self._at, _number("an id", scid, 2**64), self._struct.at))
+        channel = self._struct.bytes
+        return Channel(
+            *_c.CHANNEL.unpack_from(channel), _direction(channel, _c.CHANNEL.size),
+            _direction(channel, _c.CHANNEL.size + _c.DIRECTION.size))
+
+    @_alone
+    def node(self, point):
+        """What the map has of a node."""
+        addresses = self._written(self._call("node"), _octets("a point", point, 33), self._struct.at)
+        return Node(*_c.NODE.unpack_from(self._struct.bytes), addresses)
+
+    def _written(self, call, *arguments):
+        """The bytes that a call writes, to a buffer that grows if it is too short."""
+        number = call(self._at, *arguments, self._room.at, self._room.length, self._needed_at)
+        if number == _c.ROOM:
+            self._room = _Buffer(2 * self._needed.value)
+            number = call(self._at, *arguments, self._room.at, self._room.length, self._needed_at)
+        _check(number)
+        return self._room.front(self._needed.value)
+
+    def _messages(self, call, message):
+        message = _octets("a message", message)
+        written = self._written(call, message, len(message))
+        messages, at = [], 0
+        while at < len(written):
+            end = at + 8 + int.from_bytes(written[at:at + 8], "little")
+            messages.append(written[at + 8:end])
+            at = end
+        return messages
+
+
+class Map(_Handle):
+    """A map of one chain."""
+
+    _prefix = "lgm_"
+    _free = "lgm_free"
+
+    def __init__(self, chain, known=None, seed=None):
+        """`known` has the feature bits that are known, or is `None` if all are; `seed` is 16 random bytes."""
+        chain = _octets("a chain", chain, 32)
+        seed = _octets("a seed", os.urandom(16) if seed is None else seed, 16)
+        bits = b"" if known is None else _octets("known", known)
+        super().__init__()
+        self._offer = self._library.lgm_offer
+        _check(self._library.lgm_open(self._at, chain, known is None, bits, len(bits), seed))
 
     def offer(self, message, sig=NOBODY, funding=NOT_ASKED):
         """Offers a gossip message, with the verdicts on it."""
@@ -329,33 +331,6 @@ class Map:
         _check(self._library.lgm_close_channel(self._at, _number("an id", scid, 2**64)))
 
     @_alone
-    def route(self, payer, payee, amount_msat, expiry, secret):
-        """The route by which the payer sends the least."""
-        payment = _PAYMENT.pack(
-            _number("amount_msat", amount_msat, 2**64), _number("expiry", expiry, 2**32),
-            _octets("a point", payer, 33), _octets("a point", payee, 33), _octets("a secret", secret, 32))
-        _check(self._library.lgm_route(
-            self._at, payment, self._hops.at, _MOST_HOPS, self._payloads.at, _MOST_PAYLOADS, self._struct.at))
-        count, length = _LENGTHS.unpack_from(self._struct.bytes)
-        payloads, end = self._payloads.front(length), 0
-        hops = []
-        for scid, amount, payload_len, hop_expiry, sender, receiver in _HOP.iter_unpack(
-                self._hops.front(count * _HOP.size)):
-            start, end = end, end + payload_len
-            hops.append(Hop(scid, amount, hop_expiry, sender, receiver, payloads[start:end]))
-        return Route(tuple(hops))
-
-    @_alone
-    def query(self, message):
-        """The replies to a peer's query, a list of messages."""
-        return self._messages(self._library.lgm_query, message)
-
-    @_alone
-    def filter(self, message):
-        """The messages that pass a peer's filter."""
-        return self._messages(self._library.lgm_filter, message)
-
-    @_alone
     def news(self, message):
         """The messages that pass a peer's filter now, and didn't at the mark."""
         return self._messages(self._library.lgm_news, message)
@@ -366,35 +341,33 @@ class Map:
         _check(self._library.lgm_mark(self._at))
 
     @_alone
-    def channel(self, scid):
-        """What the map has of a channel."""
-        _check(self._library.lgm_channel(self._at, _number("an id", scid, 2**64), self._struct.at))
-        channel = self._struct.bytes
-        return Channel(
-            *_CHANNEL.unpack_from(channel), _direction(channel, _CHANNEL.size),
-            _direction(channel, _CHANNEL.size + _DIRECTION.size))
+    def publish(self):
+        """A `Snapshot` of the map as it is now."""
+        snapshot = Snapshot()
+        _check(self._library.lgm_publish(self._at, snapshot._at))
+        return snapshot
+
+
+class Snapshot(_Handle):
+    """What a map had when it was published, by `Map.publish`. Each thread takes one of its own, by `share`."""
+
+    _prefix = "lgm_snapshot_"
+    _free = "lgm_release"
+
+    @property
+    def version(self):
+        """How many messages and closes the map had accepted."""
+        with self._lock:
+            return self._library.lgm_version_of(self._at)
 
     @_alone
-    def node(self, point):
-        """What the map has of a node."""
-        addresses = self._written(self._library.lgm_node, _octets("a point", point, 33), self._struct.at)
-        return Node(*_NODE.unpack_from(self._struct.bytes), addresses)
+    def share(self):
+        """One more snapshot of the same map, which isn't copied."""
+        other = Snapshot()
+        _check(self._library.lgm_share(self._at, other._at))
+        return other
 
-    def _written(self, call, *arguments):
-        """The bytes that a call writes, to a buffer that grows if it is too short."""
-        number = call(self._at, *arguments, self._room.at, self._room.length, self._needed_at)
-        if number == _ROOM:
-            self._room = _Buffer(2 * self._needed.value)
-            number = call(self._at, *arguments, self._room.at, self._room.length, self._needed_at)
-        _check(number)
-        return self._room.front(self._needed.value)
-
-    def _messages(self, call, message):
-        message = _octets("a message", message)
-        written = self._written(call, message, len(message))
-        messages, at = [], 0
-        while at < len(written):
-            end = at + 8 + int.from_bytes(written[at:at + 8], "little")
-            messages.append(written[at + 8:end])
-            at = end
-        return messages
+    def news(self, before, message):
+        """The messages that pass a peer's filter here and didn't in an earlier snapshot."""
+        with before.share() as earlier, self._lock:
+            return self._messages(lambda at, *rest: self._library.lgm_snapshot_news(earlier._at, at, *rest), message)

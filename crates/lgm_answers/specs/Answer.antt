@@ -5,6 +5,8 @@ use Rattle.lgm_check.specs.declared.refusal.Refusal.{Refusal}
 use Rattle.lgm_check.specs.Refusal.{word_of}
 use Rattle.lgm_store.specs.Rows.{Rows}
 use Rattle.lgm_query.specs.declared.filter.Filter.{Filter}
+use Rattle.lgm_query.specs.declared.request.RequestFault.{RequestFault}
+use Rattle.lgm_query.specs.Requests.{request_word}
 use Rattle.lgm_query.specs.Backlog.{backlog, news}
 use Rattle.lgm_query.specs.RangeReply.{range_reply}
 use Rattle.lgm_route.specs.declared.route.Hop.{Hop}
@@ -17,14 +19,6 @@ use Rattle.lgm_answers.specs.declared.answer.Answer.{Answer}
 use Rattle.lgm_answers.specs.declared.answer.RangeAsked.{RangeAsked}
 use Rattle.lgm_answers.specs.declared.answer.Answer.TheVariants as answers
 use Rattle.lgm_answers.specs.declared.filters.PeerFilter.{PeerFilter}
-use Rattle.lgm_answers.specs.declared.objection.Objection.{Objection}
-use Rattle.lgm_answers.specs.declared.objection.Objection.TheVariants as objections
-
--- the word for a message that a line doesn't take
-abbrev pub objection_word : Objection → List ℕ
-objection_word (objections.Refused refusal) = word_of refusal
-objection_word objections.NotQuery = codes "not-query"
-objection_word objections.NotFilter = codes "not-filter"
 
 -- the word for an item that was accepted, or else refused
 abbrev pub outcome_word : Option Refusal → List ℕ
@@ -35,19 +29,19 @@ abbrev pub outcome_text : ℕ → Option Refusal → List ℕ
 outcome_text number refusal = word_line number (outcome_word refusal)
 
 -- a query is answered with messages, or why there are none
-abbrev pub query_text : ℕ → Result (List (List ℕ)) Objection → List ℕ
+abbrev pub query_text : ℕ → Result (List (List ℕ)) RequestFault → List ℕ
 query_text number (Ok messages) = flat_map (message_line number None) messages
-query_text number (Err objection) = word_line number (objection_word objection)
+query_text number (Err fault) = word_line number (request_word fault)
 
 -- a query of a range is answered with its replies
 abbrev pub range_text : ℕ → RangeAsked → List ℕ
 range_text number asked = query_text number (Ok (range_reply asked.chain asked.map.now asked.query))
 
 -- a filter is answered with its word, and then what passes it of these rows, or why it is none
-abbrev pub filter_text : ℕ → ℕ → Rows → Result Filter Objection → List ℕ
+abbrev pub filter_text : ℕ → ℕ → Rows → Result Filter RequestFault → List ℕ
 filter_text number peer rows (Ok filter) =
     word_line number (codes "filter") ++ flat_map (message_line number (Some peer)) (backlog rows filter)
-filter_text number peer rows (Err objection) = word_line number (objection_word objection)
+filter_text number peer rows (Err fault) = word_line number (request_word fault)
 
 -- the news of a peer in later rows
 abbrev pub news_text : ℕ → Rows → Rows → PeerFilter → List ℕ
@@ -79,7 +73,7 @@ answer_text number answers.Bad = word_line number (codes "bad")
 answer_text number (answers.Outcome refusal) = outcome_text number refusal
 answer_text number (answers.Messages messages) = query_text number (Ok messages)
 answer_text number (answers.Range asked) = range_text number asked
-answer_text number (answers.Objected objection) = word_line number (objection_word objection)
+answer_text number (answers.Refused fault) = word_line number (request_word fault)
 answer_text number (answers.Backlog own map) = filter_text number own.peer map.now (Ok own.filter)
 answer_text number (answers.Committed accepted) = commit_line number accepted
 answer_text number (answers.News accepted filters differences) =

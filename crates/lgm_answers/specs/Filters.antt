@@ -7,7 +7,7 @@ use Rattle.std.specs.Ordering.{nat_cmp}
 use Rattle.lgm_store.specs.Rows.{put}
 use Rattle.lgm_query.specs.declared.filter.Filter.{Filter}
 use Rattle.lgm_answers.specs.declared.filters.PeerFilter.{PeerFilter}
-use Rattle.lgm_answers.specs.declared.objection.Objection.{Objection}
+use Rattle.lgm_query.specs.declared.request.RequestFault.{RequestFault}
 
 abbrev pub peer_of : PeerFilter → ℕ
 peer_of own = own.peer
@@ -17,9 +17,9 @@ abbrev pub by_peer : PeerFilter → PeerFilter → Ordering
 by_peer a b = nat_cmp (peer_of a) (peer_of b)
 
 -- filters with that of a peer, if it is valid
-abbrev pub filters_with : List PeerFilter → ℕ → Result Filter Objection → List PeerFilter
+abbrev pub filters_with : List PeerFilter → ℕ → Result Filter RequestFault → List PeerFilter
 filters_with filters peer (Ok filter) = put by_peer filters (record { peer = peer; filter = filter })
-filters_with filters peer (Err objection) = filters
+filters_with filters peer (Err fault) = filters
 
 -- the filter of a peer, if it has one
 abbrev pub peer_filter : (ℕ → Option Filter) → ℕ → Option PeerFilter

@@ -1,7 +1,5 @@
 pub mod Outcomes
 pub mod Filters
-pub mod Filtering
-pub mod Query
 pub mod Routing
 pub mod Answer
 pub mod Setting

@@ -16,8 +16,7 @@ use Rattle.lgm_script.specs.Text.{word_line}
 use Rattle.lgm_answers.specs.declared.filters.PeerFilter.{PeerFilter}
 use Rattle.lgm_answers.specs.Outcomes.{outcome_of, history_of}
 use Rattle.lgm_answers.specs.Filters.{filters_from}
-use Rattle.lgm_answers.specs.Filtering.{filter_read}
-use Rattle.lgm_answers.specs.Query.{query_answer}
+use Rattle.lgm_query.specs.Requests.{filter_read, query_answer}
 use Rattle.lgm_answers.specs.Answer.{outcome_text, query_text, filter_text, commit_text, route_text}
 use Rattle.lgm_answers.specs.Routing.{route_answer}
 

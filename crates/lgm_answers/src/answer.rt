@@ -1,19 +1,18 @@
 //! Answers to lines.
 
-ghost use Rattle.std.specs.Prelude.{◌≡◌, ◌+◌, ◌<◌, ◌^◌};
-ghost use Rattle.lgm_script.specs.Output.{Writes};
+ghost use Rattle.std.specs.Prelude.{◌≡◌};
+ghost use Rattle.lgm_script.specs.Output.{told_by, Writes};
 ghost use Rattle.lgm_answers.specs.Answer.{answer_text, outcome_word};
 
 use crate::filters::{Filters, PeerFilter};
-use crate::objection::Objection;
 use crate::route_sending::send_route;
 use crate::sending::{send_filtered, send_messages, send_news, send_range};
 use lgm_check::Refusal;
 use lgm_gossip::{ChainHash, RangeQuery};
 use lgm_payload::Payloads;
-use lgm_query::{Differences, Replies};
+use lgm_query::{Differences, Replies, RequestFault};
 use lgm_route::{Route, RouteFault};
-use lgm_script::{Output, SendFault, Sink};
+use lgm_script::{Line, Output, SendFault, Sink};
 use lgm_store::Map;
 use std::alloc::Global;
 
@@ -40,7 +39,7 @@ pub enum Answer<'a> {
     /// A query of a range, whose replies are made when they are written.
     Range(RangeAsked<'a>),
     /// The message isn't taken.
-    Objected(Objection),
+    Refused(RequestFault),
     /// A peer now has this filter, and gets what passes it of this map.
     Backlog(PeerFilter, &'a Map),
     /// This many items were accepted, and no peer has a filter.
@@ -61,24 +60,22 @@ impl Answer<'_> {
         number: u64,
         output: &mut Output<'_, W>,
     ) -> Result<(), SendFault>
-        requires { W.failures output.old.writer.now + 1 < 2 ^ 64 }
-        ensures writer { output.new.writer.ghost_name ≡ output.old.writer.ghost_name }
-        ensures written { Writes W.taken W.failures output.old output.new
+        ensures { Writes (told_by W.seen output.old) (told_by W.seen output.new)
             (answer_text number self.now) result }
     {
         match self {
-            Answer::Bad => output.send_word(number, "bad"),
-            Answer::Outcome(refusal) => output.send_word(number, outcome_word(*refusal)),
+            Answer::Bad => output.send(number, &Line::Word("bad")),
+            Answer::Outcome(refusal) => output.send(number, &Line::Word(outcome_word(*refusal))),
             Answer::Messages(messages) => send_messages(number, messages.as_slice(), output),
             Answer::Range(asked) => send_range(alloc, number, asked, output),
-            Answer::Objected(objection) => output.send_word(number, objection.word()),
+            Answer::Refused(fault) => output.send(number, &Line::Word(fault.word())),
             Answer::Backlog(own, map) => send_filtered(number, own, map, output),
-            Answer::Committed(accepted) => output.send_count(number, *accepted),
+            Answer::Committed(accepted) => output.send(number, &Line::Commit(*accepted)),
             Answer::News(accepted, filters, differences) => {
                 send_news(number, *accepted, filters, differences, output)
             }
             Answer::Routed(route, payloads) => send_route(number, route, payloads, output),
-            Answer::Unrouted(fault) => output.send_word(number, fault.word()),
+            Answer::Unrouted(fault) => output.send(number, &Line::Word(fault.word())),
         }
     }
 }

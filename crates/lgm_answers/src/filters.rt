@@ -28,7 +28,7 @@ pub struct Filters {
 impl Model for Filters {
     ghost use Rattle.std.specs.Prelude.{List};
     ghost use Rattle.std.specs.BTreeMap.{values};
-    ghost use Rattle.lgm_store.specs.inner.Keyed.{IsKeyed};
+    ghost use Rattle.lgm_store.specs.Keys.{IsKeyed};
     ghost use Rattle.lgm_answers.specs.declared.filters.PeerFilter.{PeerFilter};
     ghost use Rattle.lgm_answers.specs.Filters.{peer_of};
 

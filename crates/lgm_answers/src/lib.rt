@@ -6,9 +6,7 @@
 #![tactic(auto)]
 
 mod answer;
-mod filter_reading;
 mod filters;
-mod objection;
 mod query_answering;
 mod route_sending;
 mod routing;
@@ -16,10 +14,8 @@ mod run_fault;
 mod sending;
 
 pub use answer::{Answer, RangeAsked, outcome_word};
-pub use filter_reading::read_filter;
 pub use filters::{Filters, PeerFilter};
-pub use objection::Objection;
-pub use query_answering::answer_query;
+pub use query_answering::{answer_filter, answer_query};
 pub use route_sending::send_route;
 pub use routing::{answer_found, asked_route};
 pub use run_fault::{MAX_LINES, RunFault};

@@ -1,16 +1,16 @@
 //! Writing messages, one per line.
 
-ghost use Rattle.std.specs.Prelude.{◌≡◌, ◌+◌, ◌<◌, ◌^◌, ℕ, List, Ok, Some};
+ghost use Rattle.std.specs.Prelude.{ℕ, List, Ok, Some};
 ghost use Rattle.std.specs.Iterator.{IsFinite, AlwaysYields};
 ghost use Rattle.std.specs.List.{flat_map};
-ghost use Rattle.lgm_script.specs.Output.{Writes};
+ghost use Rattle.lgm_script.specs.Output.{told_by, Writes};
 ghost use Rattle.lgm_script.specs.Text.{message_line};
 ghost use Rattle.lgm_answers.specs.Answer.{query_text, range_text, filter_text, news_text, commit_text};
 
 use crate::answer::RangeAsked;
 use crate::filters::{Filters, PeerFilter};
 use lgm_query::{Backlog, Differences, Reply, answer_range};
-use lgm_script::{Output, SendFault, Sink};
+use lgm_script::{Line, Output, SendFault, Sink};
 use lgm_store::Map;
 use std::alloc::Global;
 
@@ -20,13 +20,11 @@ pub(crate) fn send_messages<W: Sink>(
     messages: &[Reply<'_>],
     output: &mut Output<'_, W>,
 ) -> Result<(), SendFault>
-    requires { W.failures output.old.writer.now + 1 < 2 ^ 64 }
-    ensures writer { output.new.writer.ghost_name ≡ output.old.writer.ghost_name }
-    ensures written { Writes W.taken W.failures output.old output.new
+    ensures { Writes (told_by W.seen output.old) (told_by W.seen output.new)
         (query_text number (Ok messages.now)) result }
 {
     for message in messages {
-        output.send_message(number, None, message.as_slice())?;
+        output.send(number, &Line::Message(None, message.as_slice()))?;
     }
     Ok(())
 }
@@ -38,9 +36,7 @@ pub(crate) fn send_range<W: Sink>(
     asked: &RangeAsked<'_>,
     output: &mut Output<'_, W>,
 ) -> Result<(), SendFault>
-    requires { W.failures output.old.writer.now + 1 < 2 ^ 64 }
-    ensures writer { output.new.writer.ghost_name ≡ output.old.writer.ghost_name }
-    ensures written { Writes W.taken W.failures output.old output.new
+    ensures { Writes (told_by W.seen output.old) (told_by W.seen output.new)
         (range_text number asked.now) result }
 {
     let replies = answer_range(alloc, &asked.chain, asked.map, &asked.query)?;
@@ -56,14 +52,12 @@ fn send_to<'a, I: Iterator<Item = &'a [u8]> + Drop, W: Sink>(
 ) -> Result<(), SendFault>
     requires can { I.can_next messages }
     requires ends { IsFinite (I.remaining messages) }
-    requires writer { W.failures output.old.writer.now + 1 < 2 ^ 64 }
-    ensures writer { output.new.writer.ghost_name ≡ output.old.writer.ghost_name }
-    ensures written { (all : List (List ℕ)) → AlwaysYields I.next_gives (λ message. message.now) messages all
-        → Writes W.taken W.failures output.old output.new
+    ensures { (all : List (List ℕ)) → AlwaysYields I.next_gives (λ message. message.now) messages all
+        → Writes (told_by W.seen output.old) (told_by W.seen output.new)
         (flat_map (message_line number (Some peer)) all) result }
 {
     for message in messages {
-        output.send_message(number, Some(peer), message)?;
+        output.send(number, &Line::Message(Some(peer), message))?;
     }
     Ok(())
 }
@@ -75,12 +69,10 @@ pub(crate) fn send_filtered<W: Sink>(
     map: &Map,
     output: &mut Output<'_, W>,
 ) -> Result<(), SendFault>
-    requires { W.failures output.old.writer.now + 1 < 2 ^ 64 }
-    ensures writer { output.new.writer.ghost_name ≡ output.old.writer.ghost_name }
-    ensures written { Writes W.taken W.failures output.old output.new
+    ensures { Writes (told_by W.seen output.old) (told_by W.seen output.new)
         (filter_text number own.now.peer map.now (Ok own.now.filter)) result }
 {
-    output.send_word(number, "filter")?;
+    output.send(number, &Line::Word("filter"))?;
     send_to(number, own.peer, Backlog::of(map, &own.filter), output)
 }
 
@@ -91,9 +83,7 @@ fn send_all_news<W: Sink>(
     differences: &Differences<'_>,
     output: &mut Output<'_, W>,
 ) -> Result<(), SendFault>
-    requires { W.failures output.old.writer.now + 1 < 2 ^ 64 }
-    ensures writer { output.new.writer.ghost_name ≡ output.old.writer.ghost_name }
-    ensures written { Writes W.taken W.failures output.old output.new
+    ensures { Writes (told_by W.seen output.old) (told_by W.seen output.new)
         (flat_map (news_text number differences.now.before differences.now.after) filters.now)
         result }
 {
@@ -111,12 +101,10 @@ pub(crate) fn send_news<W: Sink>(
     differences: &Differences<'_>,
     output: &mut Output<'_, W>,
 ) -> Result<(), SendFault>
-    requires { W.failures output.old.writer.now + 1 < 2 ^ 64 }
-    ensures writer { output.new.writer.ghost_name ≡ output.old.writer.ghost_name }
-    ensures written { Writes W.taken W.failures output.old output.new
+    ensures { Writes (told_by W.seen output.old) (told_by W.seen output.new)
         (commit_text number accepted differences.now.before differences.now.after filters.now)
         result }
 {
-    output.send_count(number, accepted)?;
+    output.send(number, &Line::Commit(accepted))?;
     send_all_news(number, filters, differences, output)
 }

@@ -1,5 +1,8 @@
 mod Values
+mod MapValues
+mod SnapshotValues
 mod Outcomes
+mod Charts
 mod Marks
 mod Hops
 mod ShortWords

@@ -2,36 +2,22 @@
 use Rattle.std.proofs.Common.{◌≡◌, ℕ, List, [], ◌∷◌, ◌++◌, filter}
 use Rattle.std.proofs.Common.{Option, Some, None, Result, Ok, Err, refl, sym, ap, ◌∙◌}
 use Rattle.std.specs.Prelude.{not, IfOk}
-use Rattle.std.specs.List.{AllByRecursion}
 use Rattle.lgm_store.specs.declared.op.Op.{Op}
 use Rattle.lgm_store.specs.Rows.{Rows, empty}
 use Rattle.lgm_store.specs.History.{absorbed, fold_from}
 use Rattle.lgm_store.proofs.Histories.{fold_from-push}
 use Rattle.lgm_query.specs.declared.filter.Filter.{Filter}
 use Rattle.lgm_query.specs.Backlog.{is_among, backlog, news}
-use Rattle.lgm_query.specs.Touched.{TellsKey}
-use Rattle.lgm_c.specs.inner.Marking.{Marked, TellTheirKeys, rows_at}
+use Rattle.lgm_c.specs.inner.Marking.{Marked, rows_at}
 use Rattle.lgm_c.specs.Writing.{all_framed}
 
--- one more
-tells_one_more : (since : List Op) (op : Op) → AllByRecursion TellsKey since → TellsKey op → AllByRecursion TellsKey (since ++ op ∷ [])
-tells_one_more [] op all own = (own, tt)
-tells_one_more (o ∷ os) op all own = (all.0, tells_one_more os op all.1 own)
-
 -- an operation more, which is kept behind those since the mark
-module _ (map : Rows) (due since kept : List Op) (op : Op) (pushed : kept ≡ since ++ op ∷ []) where
-  pub keeps_telling : TellTheirKeys map due since → TellsKey op → TellTheirKeys map due kept
-  keeps_telling tell own = record {
-    map_tells = tell.map_tells;
-    due_tells = tell.due_tells;
-    since_tells = rw pushed (tells_one_more since op tell.since_tells own);
-  }
-
-  pub keeps_following : (rows new_rows : Rows) → fold_from (fold_from map due) since ≡ rows → new_rows ≡ absorbed rows op
-      → fold_from (fold_from map due) kept ≡ new_rows
-  keeps_following rows new_rows beside absorbs =
-      ap (fold_from (fold_from map due)) pushed ∙ fold_from-push (fold_from map due) since op
-      ∙ ap (λ rows. absorbed rows op) beside ∙ sym absorbs
+pub keeps_following : (map : Rows) (due since kept : List Op) (op : Op) → kept ≡ since ++ op ∷ []
+    → (rows new_rows : Rows) → fold_from (fold_from map due) since ≡ rows → new_rows ≡ absorbed rows op
+    → fold_from (fold_from map due) kept ≡ new_rows
+keeps_following map due since kept op pushed rows new_rows beside absorbs =
+    ap (fold_from (fold_from map due)) pushed ∙ fold_from-push (fold_from map due) since op
+    ∙ ap (λ rows. absorbed rows op) beside ∙ sym absorbs
 
 -- of no messages none is known
 all_news : (messages : List (List ℕ)) → filter (λ message. not (is_among [] message)) messages ≡ messages

@@ -1,6 +1,6 @@
 -- When a route is searched for.
-use Rattle.std.proofs.Common.{◌≡◌, ◌≤◌, ◌⊎◌, List, length, Option, Some, None, Result, Ok, Err, inl, inr, refl, sym, ap, ◌∙◌, nat_lt, false}
-use Rattle.std.proofs.lemmas.Bool.{le-ltb}
+use Rattle.std.proofs.Common.{◌≡◌, ℕ, ◌≤◌, ◌<◌, ◌⊎◌, List, length, Option, Some, None, Result, Ok, Err, inl, inr, refl, sym, ap, ◌∙◌, nat_lt, false}
+use Rattle.std.proofs.lemmas.Bool.{le-ltb, lt-ltb}
 use Rattle.std.specs.Result.{IsErrAnd}
 use Rattle.lgm_gossip.specs.Memory.{GivesIf}
 use Rattle.lgm_graph.specs.Edges.{PointEdge, edges_of}
@@ -12,7 +12,7 @@ use Rattle.lgm_route.specs.declared.fault.RouteFault.TheVariants as reasons
 use Rattle.lgm_route.specs.declared.route.Hop.{Hop}
 use Rattle.lgm_c.specs.declared.fault.Fault.{Fault}
 use Rattle.lgm_c.specs.declared.fault.Fault.TheVariants as faults
-use Rattle.lgm_c.specs.Held.{Held}
+use Rattle.lgm_store.specs.Rows.{Rows}
 use Rattle.lgm_c.specs.Routing.{found_or_unrouted, route_for, IsSearched}
 use Rattle.lgm_c.specs.Status.{unrouted}
 
@@ -37,31 +37,40 @@ abbrev reason_in : Result (List Hop) RouteFault → RouteFault
 reason_in (Ok hops) = reasons.NoMemory
 reason_in (Err reason) = reason
 
--- what isn't some is none
-none_of : {X : Type 0} (o : Option X) → ((x : X) → o ≡ Some x → ⊥) → o ≡ None
-none_of None not_some = refl
-none_of (Some x) not_some = absurd (not_some x refl)
+module _ (request : Request) (known : Option (List ℕ)) (rows : Rows) where
+  -- with too many channels no route is searched for
+  pub too_many : 2000000000 < length rows.channels → route_for request known rows ≡ Err faults.Full
+  too_many many = rw (lt-ltb 2000000000 (length rows.channels) many) refl
 
--- with no more channels than a search can have, a refusal is returned at once
-module _ (request : Request) (held : Held) (few : length held.rows.channels ≤ 2000000000) where
-  fits : nat_lt 2000000000 (length held.rows.channels) ≡ false
-  fits = le-ltb 2000000000 (length held.rows.channels) few
+  -- with no more, a refusal is returned at once
+  module _ (few : length rows.channels ≤ 2000000000) where
+    fits : nat_lt 2000000000 (length rows.channels) ≡ false
+    fits = le-ltb 2000000000 (length rows.channels) few
 
-  pub refuses_at_once : (reason : RouteFault) → refusal request ≡ Some reason → route_for request held ≡ Err (unrouted reason)
-  refuses_at_once reason is = rw (fits, refused_at_once (edges_of held.known held.rows) request reason is) refl
+    pub refuses_at_once : (reason : RouteFault) → refusal request ≡ Some reason → route_for request known rows ≡ Err (unrouted reason)
+    refuses_at_once reason is = rw (fits, refused_at_once (edges_of known rows) request reason is) refl
 
-  -- and a search that ran out of memory returns that
-  pub fails_in_search : {R : Type 0} (view : R → List Hop) (result : Result R Fault) (reason : RouteFault) (found : Result (List Hop) RouteFault)
-      → ((x : RouteFault) → refusal request ≡ Some x → ⊥) → found ≡ Err reason
-      → (found ≡ Err reasons.NoMemory) ⊎ (found ≡ answer_of (edges_of held.known held.rows) request)
-      → IsErrAnd result (λ fault. fault ≡ unrouted reason)
-      → GivesIf (IsSearched (route_for request held)) faults.NoMemory view result (route_for request held)
-  fails_in_search view (Ok route) reason found not_some is answer err = absurd err
-  fails_in_search view (Err fault) reason found not_some is answer err =
-      elim answer [
-        | inl none ↦ inl (
-          rw fits (searched (edges_of held.known held.rows) request (none_of (refusal request) not_some)),
-          err ∙ ap (λ answer. unrouted (reason_in answer)) (sym is ∙ none),
-        )
-        | inr e ↦ inr (rw (fits, sym e, is, err) refl)
-      ]
+    -- for any other request a route is searched for
+    module _ (lawful : refusal request ≡ None) where
+      pub is_to_search : IsSearched (route_for request known rows)
+      is_to_search = rw fits (searched (edges_of known rows) request lawful)
+
+      -- a search that failed has no route, or ran out of memory
+      pub fails_in_search : {R : Type 0} (view : R → List Hop) (result : Result R Fault) (reason : RouteFault) (found : Result (List Hop) RouteFault)
+          → found ≡ Err reason
+          → (found ≡ Err reasons.NoMemory) ⊎ (found ≡ answer_of (edges_of known rows) request)
+          → IsErrAnd result (λ fault. fault ≡ unrouted reason)
+          → GivesIf (IsSearched (route_for request known rows)) faults.NoMemory view result (route_for request known rows)
+      fails_in_search view (Ok route) reason found is answer err = absurd err
+      fails_in_search view (Err fault) reason found is answer err =
+          elim answer [
+            | inl none ↦ inl (is_to_search, err ∙ ap (λ answer. unrouted (reason_in answer)) (sym is ∙ none))
+            | inr e ↦ inr (rw (fits, sym e, is, err) refl)
+          ]
+
+      -- and so did one that didn't get to it
+      pub short_of_memory : {R : Type 0} (view : R → List Hop) (result : Result R Fault)
+          → IsErrAnd result (λ fault. fault ≡ faults.NoMemory)
+          → GivesIf (IsSearched (route_for request known rows)) faults.NoMemory view result (route_for request known rows)
+      short_of_memory view (Ok route) err = absurd err
+      short_of_memory view (Err fault) err = inl (is_to_search, err)

@@ -1,4 +1,4 @@
--- The machine values of a `Loose` and of a `Handle`. Assumes `Logic`.
+-- The machine values of a `Loose`, and of pointers. Assumes `Logic`.
 use Rattle.std.proofs.Common.{◌≡◌, ℕ, List, [], ◌∷◌, ◌++◌, refl, subst, lit<}
 use mathlib.Core.Bool.{Bool, true, ◌&&◌}
 use lib.Dec.{T}
@@ -28,9 +28,6 @@ use Rattle.std.proofs.cell.Inside.{Good}
 use Rattle.std.specs.Box.Ownership.{box_owns}
 use Rattle.std.proofs.ResultValues.{and_tt}
 use Rattle.lgm_c.specs.contracts.loose.Loose as loose
-use Rattle.lgm_c.specs.contracts.handle.Handle as handle
-use Rattle.lgm_c.specs.contracts.inner.Inner as inner
-use Rattle.lgm_c.specs.inner.Handle.{owns_box}
 use Rattle.std.specs.contracts.alloc.Global as heap
 use Rattle.std.proofs.alloc.Global.TheLaws as heap_laws
 use Rattle.std.specs.contracts.impls.GlobalAllocator.TheImpl.{ghosts}
@@ -75,21 +72,8 @@ module _ (R Z : RattleType) (L : Laws Z) (g : Ghosts Z.Denot) where
         fpack t (Valss (RawPtr ∷ Z ∷ [])) (within (shape (loose.the_type R Z g)) (block_ptr b o, (a, tt))
         (v ∷ [])) (vptr b o ∷ [], (h ∷ [], tt)) $ fjoin t $ s)
 
--- the rows at hand
-abbrev pub R : RattleType
-R = inner.the_row
-
 abbrev pub Z : RattleType
 Z = heap.the_row
-
-abbrev pub Held : RattleType
-Held = Loose R Z heap_laws.the_row_laws ghosts
-
-abbrev pub Handle : RattleType
-Handle = handle.the_row
-
-abbrev pub at_heap : Al
-at_heap = al R Z heap_laws.the_row_laws ghosts
 
 abbrev pub one : Ptr → Val
 one p = vstruct (vcons (ptr_val p) vnil)
@@ -106,38 +90,33 @@ pub ptr_good : (p : Ptr) (h : Val) → Good (layout Z) h → Good (ty_struct [] 
 ptr_good (block_ptr b o) h fits = (and_tt (has_ty (layout Z) h) fits.0, (tt, (fits.1, tt)))
 ptr_good null_ptr h fits = (and_tt (has_ty (layout Z) h) fits.0, (record { fits = lit< tt }, (fits.1, tt)))
 
-module _ {M : Type 1} {𝓤 : Ura M} {𝓛 : Logic 𝓤} {K : Type 0} {Γ : List (Item 𝓤)} {G : Goal 𝓤 𝓛.H} where
-  pub held_out : K → (d : Held.Denot) (vs : List Val)
-      → ((h : Val) → vs ≡ both (ptr_val d.at) h ∷ [] → Good (layout Z) h → Seq K 𝓛
-      (‵ (box_owns (ghosts.dealloc_token d.alloc) R d.at d.value) ∷ ‵ (Z.own_val d.alloc (h ∷ [])) ∷ Γ) G)
-      → Seq K 𝓛 (‵ (Held.own_val d vs) ∷ Γ) G
-  held_out t d vs k =
-      fsplit t $ fpick t (λ vss. fsplit t $ feq_l t (λ ev. fsplit t $ feq_l t (λ ep. fsplit t $ handle_tells
-      at_heap t d.alloc vss.1.0 (λ h ea fits. move t (1 ∷ []) $ drop t $ move t (1 ∷ []) $ k h
-      (subst (λ (ws : List Val). vs ≡ vstruct (of_list (ptr_val d.at ∷ (ws ++ []))) ∷ []) ea
-      (subst (λ (ps : List Val). vs ≡ vstruct (of_list (ps ++ (vss.1.0 ++ []))) ∷ []) ep ev)) fits))))
+-- the box of a row, taken off the heap
+module _ (R : RattleType) where
+  abbrev pub Held : RattleType
+  Held = Loose R Z heap_laws.the_row_laws ghosts
 
-  pub handle_out : K → (d : Handle.Denot) (vs : List Val)
-      → (vs ≡ one d.at ∷ [] → Seq K 𝓛 (‵ (owns_box d.at d.value) ∷ Γ) G)
-      → Seq K 𝓛 (‵ (Handle.own_val d vs) ∷ Γ) G
-  handle_out t d vs k =
-      fsplit t $ fpick t (λ vss. fsplit t $ feq_l t (λ ev. fsplit t $ feq_l t
-      (λ ep. drop t $ k (subst (λ (ps : List Val). vs ≡ vstruct (of_list (ps ++ [])) ∷ []) ep ev))))
+  abbrev pub at_heap : Al
+  at_heap = al R Z heap_laws.the_row_laws ghosts
 
-  pub held_in : K → (p : Ptr) (h : Val) (a : Z.Denot) (x : R.Denot)
-      → Step K 𝓛 (‵ (Held.own_val (record { at = p; alloc = a; value = x }) (both (ptr_val p) h ∷ [])) ∷ Γ) G
-      (‵ (box_owns (ghosts.dealloc_token a) R p x) ∷ ‵ (Z.own_val a (h ∷ [])) ∷ Γ) G
-  held_in t p h a x = step (λ s. let v : Val = both (ptr_val p) h in
-      nothing t $ move t (2 ∷ 0 ∷ []) $ fjoin t $ feq_i t (List Val) (ptr_val p ∷ []) (ptr_val p ∷ []) refl $
-      fjoin t $ feq_i t (List Val) (v ∷ []) (v ∷ []) refl $ fjoin t $
-      fpack t (Valss (RawPtr ∷ Z ∷ [])) (within (shape (loose.the_type R Z ghosts)) (p, (a, tt)) (v ∷ []))
-      (ptr_val p ∷ [], (h ∷ [], tt)) $ fjoin t $ s)
+  module _ {M : Type 1} {𝓤 : Ura M} {𝓛 : Logic 𝓤} {K : Type 0} {Γ : List (Item 𝓤)} {G : Goal 𝓤 𝓛.H} where
+    pub held_out : K → (d : Held.Denot) (vs : List Val)
+        → ((h : Val) → vs ≡ both (ptr_val d.at) h ∷ [] → Good (layout Z) h → Seq K 𝓛
+        (‵ (box_owns (ghosts.dealloc_token d.alloc) R d.at d.value) ∷ ‵ (Z.own_val d.alloc (h ∷ [])) ∷ Γ) G)
+        → Seq K 𝓛 (‵ (Held.own_val d vs) ∷ Γ) G
+    held_out t d vs k =
+        fsplit t $ fpick t (λ vss. fsplit t $ feq_l t (λ ev. fsplit t $ feq_l t (λ ep. fsplit t $ handle_tells
+        at_heap t d.alloc vss.1.0 (λ h ea fits. move t (1 ∷ []) $ drop t $ move t (1 ∷ []) $ k h
+        (subst (λ (ws : List Val). vs ≡ vstruct (of_list (ptr_val d.at ∷ (ws ++ []))) ∷ []) ea
+        (subst (λ (ps : List Val). vs ≡ vstruct (of_list (ps ++ (vss.1.0 ++ []))) ∷ []) ep ev)) fits))))
 
-  pub handle_in : K → (p : Ptr) (x : Option R.Denot)
-      → Step K 𝓛 (‵ (Handle.own_val (record { at = p; value = x }) (one p ∷ [])) ∷ Γ) G (‵ (owns_box p x) ∷ Γ) G
-  handle_in t p x = step (λ s. let v : Val = one p in
-      nothing t $ feq_i t (List Val) (ptr_val p ∷ []) (ptr_val p ∷ []) refl $ fjoin t $ feq_i t (List Val) (v ∷ []) (v ∷ []) refl $ fjoin t $
-      fpack t (Valss (RawPtr ∷ [])) (within (shape handle.the_type) (p, tt) (v ∷ [])) (ptr_val p ∷ [], tt) $ fjoin t $ s)
+    pub held_in : K → (p : Ptr) (h : Val) (a : Z.Denot) (x : R.Denot)
+        → Step K 𝓛 (‵ (Held.own_val (record { at = p; alloc = a; value = x }) (both (ptr_val p) h ∷ [])) ∷ Γ) G
+        (‵ (box_owns (ghosts.dealloc_token a) R p x) ∷ ‵ (Z.own_val a (h ∷ [])) ∷ Γ) G
+    held_in t p h a x = step (λ s. let v : Val = both (ptr_val p) h in
+        nothing t $ move t (2 ∷ 0 ∷ []) $ fjoin t $ feq_i t (List Val) (ptr_val p ∷ []) (ptr_val p ∷ []) refl $
+        fjoin t $ feq_i t (List Val) (v ∷ []) (v ∷ []) refl $ fjoin t $
+        fpack t (Valss (RawPtr ∷ Z ∷ [])) (within (shape (loose.the_type R Z ghosts)) (p, (a, tt)) (v ∷ []))
+        (ptr_val p ∷ [], (h ∷ [], tt)) $ fjoin t $ s)
 
 module _ {M : Type 1} {𝓤 : Ura M} (𝓛 : Logic 𝓤) (𝓜 : Model 𝓤 𝓛.H) (𝓡 : Running 𝓤 𝓛.H 𝓜) where
   pub fm : FmC 𝓤 𝓛.H 𝓛.laws (tables 𝓤 𝓛.H 𝓜 𝓡 𝓡.env).C

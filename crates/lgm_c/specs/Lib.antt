@@ -3,6 +3,7 @@ pub mod Status
 pub mod Writing
 pub mod Evidence
 pub mod Opening
+pub mod Published
 pub mod Offering
 pub mod Asking
 pub mod Routing

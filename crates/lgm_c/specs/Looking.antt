@@ -10,13 +10,13 @@ use Rattle.lgm_c.specs.declared.looking.LgmChannel.{LgmChannel}
 use Rattle.lgm_c.specs.declared.looking.LgmNode.{LgmNode}
 use Rattle.lgm_c.specs.declared.fault.Fault.{Fault}
 use Rattle.lgm_c.specs.declared.fault.Fault.TheVariants as faults
-use Rattle.lgm_c.specs.Held.{Held}
 use Rattle.lgm_c.specs.Status.{number_of}
 use Rattle.lgm_c.specs.Writing.{Buffer, IsWritten}
 
-abbrev pub count_of : Option Held → ℕ
+-- the number of channels, if there is a map: else 0
+abbrev pub count_of : Option Rows → ℕ
 count_of None = 0
-count_of (Some held) = length held.rows.channels
+count_of (Some rows) = length rows.channels
 
 -- the terms of a direction, or zeros if there is no update
 abbrev pub c_direction : Option UpdateRow → LgmDirection
@@ -58,8 +58,8 @@ channel_in rows id (Some row) =
 channel_in rows id None = Err (faults.Refused refusals.UnknownChannel)
 
 -- the channel with an id
-abbrev pub channel_found : ℕ → Held → Result LgmChannel Fault
-channel_found id held = channel_in held.rows id (channel_of held.rows.channels id)
+abbrev pub channel_found : ℕ → Rows → Result LgmChannel Fault
+channel_found id rows = channel_in rows id (channel_of rows.channels id)
 
 abbrev pub c_node : NodeRow → LgmNode
 c_node row =
@@ -70,8 +70,8 @@ announced (Some row) = Ok row
 announced None = Err faults.NotAnnounced
 
 -- the announcement of a node
-abbrev pub node_found : List ℕ → Held → Result NodeRow Fault
-node_found point held = announced (node_of held.rows.nodes (record { 0 = point }))
+abbrev pub node_found : List ℕ → Rows → Result NodeRow Fault
+node_found point rows = announced (node_of rows.nodes (record { 0 = point }))
 
 -- a node was written, with its addresses or only their length, or the fault was returned
 abbrev pub WritesNode : Result NodeRow Fault → ℕ → LgmNode → LgmNode → Buffer → Buffer → Type 0

@@ -11,16 +11,16 @@ use Rattle.lgm_store.specs.Rows.{Rows}
 use Rattle.lgm_store.specs.Admission.{admitted, admitted_close}
 use Rattle.lgm_store.specs.History.{absorbed}
 use Rattle.lgm_c.specs.declared.fault.Fault.TheVariants as faults
-use Rattle.lgm_c.specs.Held.{Held}
+use Rattle.lgm_c.specs.Held.{Held, next_version}
 use Rattle.lgm_c.specs.Status.{number_of, no_memory, refused, MayRunOut}
 
 -- the operation of a message on these rows, or its first refusal
 abbrev pub offered_to : ChainHash → Rows → List ℕ → Evidence → Result Op Refusal
 offered_to chain rows bytes evidence = checked_of chain bytes evidence >>= admitted rows
 
--- what is held after an outcome: its operation was applied, and nothing else changed
+-- what is held after an outcome: its operation was applied and counted, and nothing else changed
 abbrev pub held_behind : Held → Result Op Refusal → Held
-held_behind held (Ok op) = record held { rows = absorbed held.rows op }
+held_behind held (Ok op) = record held { rows = absorbed held.rows op; version = next_version held.version }
 held_behind held (Err refusal) = held
 
 abbrev pub outcome_number : Result Op Refusal → ℕ

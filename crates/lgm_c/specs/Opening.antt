@@ -9,7 +9,7 @@ abbrev pub known_of : Bool → List ℕ → Option (List ℕ)
 known_of all bits = if all then None else Some bits
 
 -- a closed handle is opened with this, unless memory runs out; an open one is unchanged
-abbrev pub Opens : Held → ℕ → Option Held → Option Held → Type 0
+abbrev pub Opens : {H : Type 0} → H → ℕ → Option H → Option H → Type 0
 Opens held status None new = ((status ≡ 0) × (new ≡ Some held)) ⊎ ((status ≡ no_memory) × (new ≡ None))
 Opens held status (Some old) new = (status ≡ number_of faults.Open) × (new ≡ Some old)
 

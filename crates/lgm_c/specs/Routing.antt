@@ -1,6 +1,7 @@
 -- The route of a payment, as C gets it.
-use Rattle.std.specs.Prelude.{◌≡◌, ◌⊎◌, ℕ, ◌<◌, nat_lt, List, map, length, Result, Ok, Err, if◌then◌else◌}
+use Rattle.std.specs.Prelude.{◌≡◌, ◌⊎◌, ℕ, ◌<◌, nat_lt, List, map, length, Option, Result, Ok, Err, if◌then◌else◌}
 use Rattle.std.specs.List.{flat_map, zip}
+use Rattle.lgm_store.specs.Rows.{Rows}
 use Rattle.lgm_graph.specs.Edges.{edges_of}
 use Rattle.lgm_route.specs.Choice.{answer_of}
 use Rattle.lgm_route.specs.declared.request.Request.{Request}
@@ -13,7 +14,6 @@ use Rattle.lgm_c.specs.declared.routing.LgmHop.{LgmHop}
 use Rattle.lgm_c.specs.declared.routing.LgmLengths.{LgmLengths}
 use Rattle.lgm_c.specs.declared.fault.Fault.{Fault}
 use Rattle.lgm_c.specs.declared.fault.Fault.TheVariants as faults
-use Rattle.lgm_c.specs.Held.{Held}
 use Rattle.lgm_c.specs.Status.{number_of, no_memory, unrouted}
 use Rattle.lgm_c.specs.Writing.{in_front}
 
@@ -29,19 +29,20 @@ abbrev pub found_or_unrouted : Result (List Hop) RouteFault → Result (List Hop
 found_or_unrouted (Ok hops) = Ok hops
 found_or_unrouted (Err reason) = Err (unrouted reason)
 
--- the hops of the best walk over the edges of the rows, or why there is none; `Full` with too many channels
-abbrev pub route_for : Request → Held → Result (List Hop) Fault
-route_for request held =
-    if nat_lt 2000000000 (length held.rows.channels) then Err faults.Full
-    else found_or_unrouted (answer_of (edges_of held.known held.rows) request)
+-- the hops of the best walk over the edges of the rows, for a payer who knows these feature bits, or why there is none;
+-- `Full` with too many channels
+abbrev pub route_for : Request → Option (List ℕ) → Rows → Result (List Hop) Fault
+route_for request known rows =
+    if nat_lt 2000000000 (length rows.channels) then Err faults.Full
+    else found_or_unrouted (answer_of (edges_of known rows) request)
 
 -- a route was searched for: it was found, or there is none
 abbrev pub IsSearched : Result (List Hop) Fault → Type 0
 IsSearched (Ok hops) = Unit {0}
 IsSearched (Err fault) = fault ≡ faults.Unrouted reasons.NoRoute
 
-abbrev pub route_asked : LgmPayment → Held → Result (List Hop) Fault
-route_asked payment held = route_for (request_of payment) held
+abbrev pub route_asked : LgmPayment → Option (List ℕ) → Rows → Result (List Hop) Fault
+route_asked payment known rows = route_for (request_of payment) known rows
 
 -- a hop, with the length of the payload for the node at its end
 abbrev pub c_hop : Hop → List ℕ → LgmHop

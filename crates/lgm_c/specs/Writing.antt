@@ -5,7 +5,6 @@ use Rattle.std.specs.List.{flat_map}
 use Rattle.lgm_gossip.specs.Memory.{TakesMemory}
 use Rattle.lgm_c.specs.declared.fault.Fault.{Fault}
 use Rattle.lgm_c.specs.declared.fault.Fault.TheVariants as faults
-use Rattle.lgm_c.specs.Held.{Held}
 use Rattle.lgm_c.specs.Status.{number_of, no_memory, MayRunOut}
 
 -- items at the front of a buffer, whose rest is unchanged
@@ -47,6 +46,6 @@ WritesAnswer message answer status old new =
     Writes answer status old new ⊎ (MayRunOut (TakesMemory message) answer × (status ≡ no_memory) × (new ≡ old))
 
 -- a handle answers a message; a closed one has only its fault
-abbrev pub Answers : List ℕ → Option Held → (Held → Result (List ℕ) Fault) → ℕ → Buffer → Buffer → Type 0
+abbrev pub Answers : {H : Type 0} → List ℕ → Option H → (H → Result (List ℕ) Fault) → ℕ → Buffer → Buffer → Type 0
 Answers message None answer status old new = Writes (Err faults.Closed) status old new
 Answers message (Some held) answer status old new = WritesAnswer message (answer held) status old new

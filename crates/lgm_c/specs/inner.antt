@@ -1,5 +1,6 @@
 -- Definitions for contracts inside the crate.
 pub mod Handle
-pub mod Charted
+pub mod SnapshotHandle
+pub mod Charts
 pub mod Marking
 pub mod Following

@@ -1,95 +1,58 @@
 //! Queries and filters of peers, and the messages that answer them.
 
-ghost use Rattle.std.specs.Prelude.{◌≡◌, Ok};
+ghost use Rattle.std.specs.Prelude.{◌≡◌};
 ghost use Rattle.lgm_gossip.specs.Memory.{GivesIf, TakesMemory};
-ghost use Rattle.lgm_gossip.specs.reading.MessageReading.{message_at};
-ghost use Rattle.lgm_c.specs.Asking.{replies_in, framed_answer, query_answer};
-ghost use Rattle.lgm_c.specs.Asking.{filter_in, backlog_answer, news_answer};
+ghost use Rattle.lgm_c.specs.Asking.{query_answer, backlog_answer, news_answer};
 ghost use Rattle.lgm_c.specs.Opening.{MovesMark};
 ghost use Rattle.lgm_c.specs.Status.{MayRunOut};
 ghost use Rattle.lgm_c.specs.Writing.{Answers, buffer};
 
-use crate::fault::{Fault, status};
+use crate::fault::Fault;
 use crate::framing::{frame_backlog, frame_replies};
 use crate::inner::Inner;
 use crate::map::LgmMap;
 use crate::writing::write_answer;
-use lgm_check::Refusal;
-use lgm_gossip::{ChainHash, Message, decode};
-use lgm_query::{Backlog, Filter, answer_ids, answer_range};
+use lgm_gossip::ChainHash;
+use lgm_query::{Backlog, read_filter, read_query};
+use lgm_store::Map;
 use std::alloc::Global;
 
-/// The replies to a query, each after its length.
-fn replies_to(alloc: Global, inner: &Inner, message: &Message) -> Result<Vec<u8>, Fault>
-    ensures { GivesIf (MayRunOut ⊥ (replies_in inner.now (Ok message.now))) Fault.NoMemory
-        (λ written. written.items) result (framed_answer (replies_in inner.now (Ok message.now))) }
+/// The replies to the query that the bytes encode, each after its length.
+pub(crate) fn answer_query(
+    alloc: Global,
+    chain: &ChainHash,
+    map: &Map,
+    bytes: &[u8],
+) -> Result<Vec<u8>, Fault>
+    ensures { GivesIf (MayRunOut (TakesMemory bytes.now) (query_answer bytes.now chain.now map.now))
+        Fault.NoMemory (λ written. written.items) result (query_answer bytes.now chain.now map.now) }
 {
-    let (chain, map) = (inner.chain(), inner.map());
-    match message {
-        Message::IdsQuery(query) => {
-            let replies = answer_ids(alloc, chain, map, query)?;
-            Ok(frame_replies(alloc, replies.as_slice())?)
-        }
-        Message::RangeQuery(query) => {
-            let replies = answer_range(alloc, chain, map, query)?;
-            Ok(frame_replies(alloc, replies.as_slice())?)
-        }
-        _ => Err(Fault::NotQuery),
-    }
+    let query = read_query(alloc, bytes)?;
+    let replies = query.answer(alloc, chain, map)?;
+    Ok(frame_replies(alloc, replies.as_slice())?)
 }
 
-/// The same for the query that the bytes encode.
-fn answer_query(alloc: Global, inner: &Inner, bytes: &[u8]) -> Result<Vec<u8>, Fault>
-    ensures { GivesIf (MayRunOut (TakesMemory bytes.now) (query_answer bytes.now inner.now))
-        Fault.NoMemory (λ written. written.items) result (query_answer bytes.now inner.now) }
+/// What passes the filter that the bytes encode, each message after its length.
+pub(crate) fn answer_filter(
+    alloc: Global,
+    chain: &ChainHash,
+    map: &Map,
+    bytes: &[u8],
+) -> Result<Vec<u8>, Fault>
+    ensures { GivesIf (MayRunOut (TakesMemory bytes.now) (backlog_answer bytes.now chain.now map.now))
+        Fault.NoMemory (λ written. written.items) result (backlog_answer bytes.now chain.now map.now) }
 {
-    match decode(alloc, bytes) {
-        Ok(message) => replies_to(alloc, inner, &message),
-        Err(fault) => Err(Fault::from(Refusal::from(fault))),
-    }
+    let filter = read_filter(alloc, chain, bytes)?;
+    Ok(frame_backlog(alloc, Backlog::of(map, &filter))?)
 }
 
-/// The filter of a message, if it is a filter for this chain.
-fn filter_in(chain: &ChainHash, message: &Message) -> Result<Filter, Fault>
-    ensures { result ≡ filter_in chain.now (Ok message.now) }
-{
-    let Message::FilterMsg(filter) = message else {
-        return Err(Fault::NotFilter);
-    };
-    if filter.chain_hash != *chain {
-        return Err(Fault::Refused(Refusal::Chain));
-    }
-    Ok(Filter {
-        first: filter.first_timestamp,
-        range: filter.timestamp_range,
-    })
-}
-
-/// The filter that the bytes encode.
-fn read_filter(alloc: Global, chain: &ChainHash, bytes: &[u8]) -> Result<Filter, Fault>
-    ensures { GivesIf (TakesMemory bytes.now) Fault.NoMemory (λ filter. filter) result
-        (filter_in chain.now (message_at bytes.now)) }
-{
-    match decode(alloc, bytes) {
-        Ok(message) => filter_in(chain, &message),
-        Err(fault) => Err(Fault::from(Refusal::from(fault))),
-    }
-}
-
-/// What passes a filter, each message after its length.
-fn answer_filter(alloc: Global, inner: &Inner, bytes: &[u8]) -> Result<Vec<u8>, Fault>
-    ensures { GivesIf (MayRunOut (TakesMemory bytes.now) (backlog_answer bytes.now inner.now))
-        Fault.NoMemory (λ written. written.items) result (backlog_answer bytes.now inner.now) }
-{
-    let filter = read_filter(alloc, inner.chain(), bytes)?;
-    Ok(frame_backlog(alloc, Backlog::of(inner.map(), &filter))?)
-}
-
-/// What has come to pass a filter since the mark, each message after its length.
+/// What has come to pass the filter that the bytes encode since the mark, each message after its length.
 fn answer_news(alloc: Global, inner: &mut Inner, bytes: &[u8]) -> Result<Vec<u8>, Fault>
     ensures same { inner.new ≡ inner.old }
-    ensures news { GivesIf (MayRunOut (TakesMemory bytes.now) (news_answer bytes.now inner.old))
-        Fault.NoMemory (λ written. written.items) result (news_answer bytes.now inner.old) }
+    ensures news { GivesIf (MayRunOut (TakesMemory bytes.now)
+        (news_answer bytes.now inner.old.chain inner.old.marked inner.old.rows))
+        Fault.NoMemory (λ written. written.items) result
+        (news_answer bytes.now inner.old.chain inner.old.marked inner.old.rows) }
 {
     let filter = read_filter(alloc, inner.chain(), bytes)?;
     Ok(inner.news(alloc, &filter)?)
@@ -105,13 +68,14 @@ pub extern "C" fn lgm_query(
     needed: &mut usize,
 ) -> u32
     ensures same { map.new.handle.value ≡ map.old.handle.value }
-    ensures replies { Answers query.now map.old.handle.value (query_answer query.now) result
+    ensures replies { Answers query.now map.old.handle.value
+        (λ held. query_answer query.now held.chain held.rows) result
         (buffer replies.old needed.old) (buffer replies.new needed.new) }
 {
     let Some(inner) = map.take(alloc) else {
         return Fault::Closed.number();
     };
-    let answer = answer_query(alloc, &inner, query);
+    let answer = answer_query(alloc, inner.chain(), inner.map(), query);
     *map = LgmMap::open(inner);
     write_answer(&answer, replies, needed)
 }
@@ -126,13 +90,14 @@ pub extern "C" fn lgm_filter(
     needed: &mut usize,
 ) -> u32
     ensures same { map.new.handle.value ≡ map.old.handle.value }
-    ensures backlog { Answers filter.now map.old.handle.value (backlog_answer filter.now) result
+    ensures backlog { Answers filter.now map.old.handle.value
+        (λ held. backlog_answer filter.now held.chain held.rows) result
         (buffer messages.old needed.old) (buffer messages.new needed.new) }
 {
     let Some(inner) = map.take(alloc) else {
         return Fault::Closed.number();
     };
-    let answer = answer_filter(alloc, &inner, filter);
+    let answer = answer_filter(alloc, inner.chain(), inner.map(), filter);
     *map = LgmMap::open(inner);
     write_answer(&answer, messages, needed)
 }
@@ -147,7 +112,8 @@ pub extern "C" fn lgm_news(
     needed: &mut usize,
 ) -> u32
     ensures same { map.new.handle.value ≡ map.old.handle.value }
-    ensures news { Answers filter.now map.old.handle.value (news_answer filter.now) result
+    ensures news { Answers filter.now map.old.handle.value
+        (λ held. news_answer filter.now held.chain held.marked held.rows) result
         (buffer messages.old needed.old) (buffer messages.new needed.new) }
 {
     let Some(mut inner) = map.take(alloc) else {

@@ -1,10 +1,12 @@
 //! Why a call failed, and the number that it returns to C.
 
 ghost use Rattle.std.specs.Prelude.{◌≡◌};
+ghost use Rattle.lgm_c.specs.Asking.{fault_of};
 ghost use Rattle.lgm_c.specs.Status.{number_of, status_of, refused, unrouted};
 ghost use Rattle.lgm_c.specs.declared.fault.Fault.TheVariants.{NoMemory};
 
 use lgm_check::Refusal;
+use lgm_query::RequestFault;
 use lgm_route::RouteFault;
 use std::alloc::AllocError;
 
@@ -90,6 +92,18 @@ impl From<Refusal> for Fault {
         match refusal {
             Refusal::NoMemory => Fault::NoMemory,
             refusal => Fault::Refused(refusal),
+        }
+    }
+}
+
+impl From<RequestFault> for Fault {
+    ghost from_gives = { λ reason fault. fault ≡ fault_of reason };
+
+    fn from(reason: RequestFault) -> Fault {
+        match reason {
+            RequestFault::Refused(refusal) => Fault::from(refusal),
+            RequestFault::NotQuery => Fault::NotQuery,
+            RequestFault::NotFilter => Fault::NotFilter,
         }
     }
 }

@@ -7,31 +7,30 @@ ghost use Rattle.lgm_query.specs.Backlog.{news};
 ghost use Rattle.lgm_c.specs.inner.Following.{Follows, Leads};
 ghost use Rattle.lgm_c.specs.Offering.{offered_to, Offers, Closes};
 ghost use Rattle.lgm_c.specs.Held.{opened};
+ghost use Rattle.lgm_c.specs.Published.{published};
 ghost use Rattle.lgm_c.specs.Routing.{route_for, IsSearched};
 ghost use Rattle.lgm_c.specs.Status.{status_of};
 ghost use Rattle.lgm_c.specs.Writing.{all_framed};
 
-use crate::chart::Chart;
+use crate::current::Current;
 use crate::fault::Fault;
 use crate::framing::frame_backlog;
 use crate::mark::Mark;
+use crate::snapshot::Snapshot;
 use lgm_check::{Evidence, Refusal};
 use lgm_gossip::{ChainHash, Scid};
-use lgm_graph::Known;
+use lgm_graph::{Known, Network};
 use lgm_query::{Backlog, Filter};
 use lgm_route::{Request, Route};
 use lgm_store::{Map, Seed};
 use std::alloc::{AllocError, Global};
 use std::marker::Model;
 
-/// With more channels than this no route is searched for: the points of a view have 32-bit numbers.
-const MOST_CHANNELS: usize = 2_000_000_000;
-
 /// A map of a chain with its view, and a mark where there is one.
 #[derive(Drop)]
 pub struct Inner {
     chain: ChainHash,
-    chart: Chart,
+    current: Current,
     mark: Option<Mark>,
 }
 
@@ -41,31 +40,31 @@ impl Model for Inner {
 
     ghost Value = { Held };
 
-    ghost view = { λ i. held_in i.chain i.chart i.mark };
+    ghost view = { λ i. held_in i.chain i.current i.mark };
 
-    ghost invariant = { λ i. IsFollowed i.chart i.mark };
+    ghost invariant = { λ i. IsFollowed i.current i.mark };
 }
 
 /// Offers a message, and drops its operation.
 fn offer_unmarked(
     alloc: Global,
-    chart: &mut Chart,
+    current: &mut Current,
     chain: &ChainHash,
     bytes: &[u8],
     evidence: &Evidence,
 ) -> Result<(), Refusal>
     ensures { Follows (TakesMemory bytes.now)
-        (offered_to chain.now chart.old.rows bytes.now evidence.now) result chart.old chart.new }
+        (offered_to chain.now current.old.rows bytes.now evidence.now) result current.old current.new }
 {
-    chart.offer(alloc, chain, bytes, evidence)?;
+    current.offer(alloc, chain, bytes, evidence)?;
     Ok(())
 }
 
 /// Closes a channel, and drops the operation.
-fn close_unmarked(chart: &mut Chart, scid: Scid) -> Result<(), Refusal>
-    ensures { Follows ⊥ (admitted_close chart.old.rows scid) result chart.old chart.new }
+fn close_unmarked(alloc: Global, current: &mut Current, scid: Scid) -> Result<(), Refusal>
+    ensures { Follows ⊥ (admitted_close current.old.rows scid) result current.old current.new }
 {
-    chart.close(scid)?;
+    current.close(alloc, scid)?;
     Ok(())
 }
 
@@ -81,7 +80,7 @@ impl Inner {
     {
         Ok(Inner {
             chain,
-            chart: Chart::new(alloc, known, seed)?,
+            current: Current::new(Network::new(alloc, seed, &known)?),
             mark: None,
         })
     }
@@ -97,18 +96,18 @@ impl Inner {
             (offered_to self.old.chain self.old.rows bytes.now evidence.now) result self.old self.new }
     {
         match &mut self.mark {
-            Some(mark) => mark.offer(alloc, &mut self.chart, &self.chain, bytes, evidence),
-            None => offer_unmarked(alloc, &mut self.chart, &self.chain, bytes, evidence),
+            Some(mark) => mark.offer(alloc, &mut self.current, &self.chain, bytes, evidence),
+            None => offer_unmarked(alloc, &mut self.current, &self.chain, bytes, evidence),
         }
     }
 
     /// Closes a channel. A refusal or out of memory changes nothing.
-    fn close_held(&mut self, scid: Scid) -> Result<(), Refusal>
+    fn close_held(&mut self, alloc: Global, scid: Scid) -> Result<(), Refusal>
         ensures { Leads ⊥ (admitted_close self.old.rows scid) result self.old self.new }
     {
         match &mut self.mark {
-            Some(mark) => mark.close(&mut self.chart, scid),
-            None => close_unmarked(&mut self.chart, scid),
+            Some(mark) => mark.close(alloc, &mut self.current, scid),
+            None => close_unmarked(alloc, &mut self.current, scid),
         }
     }
 
@@ -128,10 +127,10 @@ impl Inner {
     }
 
     /// Closes a channel.
-    pub(crate) fn close(&mut self, scid: Scid) -> Result<(), Fault>
+    pub(crate) fn close(&mut self, alloc: Global, scid: Scid) -> Result<(), Fault>
         ensures { Closes scid (status_of result) (Some self.old) (Some self.new) }
     {
-        Ok(self.close_held(scid)?)
+        Ok(self.close_held(alloc, scid)?)
     }
 
     /// Moves the mark to the map as it is, or sets the first one. The only error is out of memory, which changes
@@ -143,8 +142,8 @@ impl Inner {
         match &mut self.mark {
             Some(mark) => mark.renew(),
             None => {
-                let map = self.chart.map().copy(alloc)?;
-                self.mark = Some(Mark::of(alloc, map));
+                let network = self.current.copy_network(alloc)?;
+                self.mark = Some(Mark::of(alloc, network));
                 Ok(())
             }
         }
@@ -158,24 +157,30 @@ impl Inner {
             written.items ≡ all_framed (news self.old.marked self.old.rows filter.now)) }
     {
         let Some(mark) = &mut self.mark else {
-            return frame_backlog(alloc, Backlog::of(self.chart.map(), filter));
+            return frame_backlog(alloc, Backlog::of(self.current.map(), filter));
         };
-        mark.news(alloc, self.chart.map(), filter)
+        mark.news(alloc, self.current.map(), filter)
     }
 
     /// The best route of a payment. The first search builds the view.
     pub(crate) fn route(&mut self, alloc: Global, request: &Request) -> Result<Route, Fault>
         ensures same { self.new ≡ self.old }
-        ensures route { GivesIf (IsSearched (route_for request.now self.old)) Fault.NoMemory
-            (λ route. route) result (route_for request.now self.old) }
+        ensures route { GivesIf (IsSearched (route_for request.now self.old.known self.old.rows)) Fault.NoMemory
+            (λ route. route) result (route_for request.now self.old.known self.old.rows) }
     {
-        if MOST_CHANNELS < self.chart.map().count() {
-            return Err(Fault::Full);
-        }
-        if let Some(reason) = request.refusal() {
-            return Err(Fault::from(reason));
-        }
-        Ok(self.chart.route(alloc, request)?)
+        self.current.route(alloc, request)
+    }
+
+    /// The map as it is now, for good. The only error is out of memory.
+    pub(crate) fn publish(&mut self, alloc: Global) -> Result<Snapshot, AllocError>
+        ensures same { self.new ≡ self.old }
+        ensures snapshot { IfOk result (λ snapshot. snapshot ≡ published self.old) }
+    {
+        Ok(Snapshot {
+            chain: self.chain,
+            edition: self.current.publish(alloc)?,
+            version: self.current.version(),
+        })
     }
 
     /// The chain.
@@ -189,6 +194,6 @@ impl Inner {
     pub(crate) fn map(&self) -> &Map
         ensures { result.now ≡ self.now.rows }
     {
-        self.chart.map()
+        self.current.map()
     }
 }

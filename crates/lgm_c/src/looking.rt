@@ -1,17 +1,18 @@
 //! Looking up channels and nodes.
 
 ghost use Rattle.std.specs.Prelude.{◌≡◌};
+ghost use Rattle.std.specs.Option.{option_map};
 ghost use Rattle.lgm_c.specs.Looking.{count_of, c_direction, channel_found};
 ghost use Rattle.lgm_c.specs.Looking.{c_node, node_found, WritesNode};
 ghost use Rattle.lgm_c.specs.Status.{if_open, status_of, Finds};
 ghost use Rattle.lgm_c.specs.Writing.{buffer};
 
 use crate::fault::{Fault, status};
-use crate::inner::Inner;
 use crate::map::LgmMap;
 use crate::writing::write_bytes;
 use lgm_check::{NodeRow, Refusal, UpdateRow};
 use lgm_gossip::{Point, Scid};
+use lgm_store::Map;
 use std::alloc::Global;
 
 /// The terms of a channel's direction, from its `channel_update` (BOLT 7, "The channel_update Message").
@@ -70,7 +71,7 @@ pub struct LgmNode {
 #[unsafe(no_mangle)]
 pub extern "C" fn lgm_count(alloc: Global, map: &mut LgmMap) -> usize
     ensures same { map.new.handle.value ≡ map.old.handle.value }
-    ensures count { result ≡ count_of map.old.handle.value }
+    ensures count { result ≡ count_of (option_map (λ held. held.rows) map.old.handle.value) }
 {
     let Some(inner) = map.take(alloc) else {
         return 0;
@@ -109,10 +110,10 @@ fn c_direction(update: Option<UpdateRow<'_>>) -> LgmDirection
     }
 }
 
-fn find_channel(inner: &Inner, scid: Scid) -> Result<LgmChannel, Fault>
-    ensures { result ≡ channel_found scid inner.now }
+/// What a map has of a channel.
+pub(crate) fn find_channel(map: &Map, scid: Scid) -> Result<LgmChannel, Fault>
+    ensures { result ≡ channel_found scid map.now }
 {
-    let map = inner.map();
     let Some(held) = map.held(scid) else {
         return Err(Fault::Refused(Refusal::UnknownChannel));
     };
@@ -127,6 +128,19 @@ fn find_channel(inner: &Inner, scid: Scid) -> Result<LgmChannel, Fault>
     })
 }
 
+/// Writes what was found, or returns the number of the fault.
+pub(crate) fn write_channel(found: &Result<LgmChannel, Fault>, channel: &mut LgmChannel) -> u32
+    ensures { Finds found.now result channel.old channel.new }
+{
+    match found {
+        Ok(found) => {
+            *channel = *found;
+            0
+        }
+        Err(fault) => fault.number(),
+    }
+}
+
 /// What the map has of a channel.
 #[unsafe(no_mangle)]
 pub extern "C" fn lgm_channel(
@@ -136,21 +150,15 @@ pub extern "C" fn lgm_channel(
     channel: &mut LgmChannel,
 ) -> u32
     ensures same { map.new.handle.value ≡ map.old.handle.value }
-    ensures channel { Finds (if_open map.old.handle.value (channel_found scid)) result
+    ensures channel { Finds (if_open map.old.handle.value (λ held. channel_found scid held.rows)) result
         channel.old channel.new }
 {
     let Some(inner) = map.take(alloc) else {
         return Fault::Closed.number();
     };
-    let found = find_channel(&inner, Scid::from_u64(scid));
+    let found = find_channel(inner.map(), Scid::from_u64(scid));
     *map = LgmMap::open(inner);
-    match found {
-        Ok(found) => {
-            *channel = found;
-            0
-        }
-        Err(fault) => fault.number(),
-    }
+    write_channel(&found, channel)
 }
 
 fn c_node(row: &NodeRow<'_>) -> LgmNode
@@ -163,18 +171,18 @@ fn c_node(row: &NodeRow<'_>) -> LgmNode
     }
 }
 
-/// Writes what the map has of a node.
-fn write_node(
-    inner: &Inner,
+/// Writes what a map has of a node.
+pub(crate) fn write_node(
+    map: &Map,
     point: &Point,
     node: &mut LgmNode,
     addresses: &mut [u8],
     needed: &mut usize,
 ) -> Result<(), Fault>
-    ensures { WritesNode (node_found point.now.0 inner.now) (status_of result) node.old node.new
+    ensures { WritesNode (node_found point.now.0 map.now) (status_of result) node.old node.new
         (buffer addresses.old needed.old) (buffer addresses.new needed.new) }
 {
-    let Some(row) = inner.map().node(point) else {
+    let Some(row) = map.node(point) else {
         return Err(Fault::NotAnnounced);
     };
     *node = c_node(&row);
@@ -192,13 +200,13 @@ pub extern "C" fn lgm_node(
     needed: &mut usize,
 ) -> u32
     ensures same { map.new.handle.value ≡ map.old.handle.value }
-    ensures node { WritesNode (if_open map.old.handle.value (node_found point.now)) result
+    ensures node { WritesNode (if_open map.old.handle.value (λ held. node_found point.now held.rows)) result
         node.old node.new (buffer addresses.old needed.old) (buffer addresses.new needed.new) }
 {
     let Some(inner) = map.take(alloc) else {
         return Fault::Closed.number();
     };
-    let outcome = write_node(&inner, &Point(*point), node, addresses, needed);
+    let outcome = write_node(inner.map(), &Point(*point), node, addresses, needed);
     *map = LgmMap::open(inner);
     status(&outcome)
 }

@@ -1,21 +1,19 @@
 //! Marks: news is what came since the mark.
 
-ghost use Rattle.std.specs.Prelude.{◌≡◌, [], drop, IfOk, OnOk, OnErr};
-ghost use Rattle.std.specs.List.{AllByRecursion};
+ghost use Rattle.std.specs.Prelude.{◌≡◌, IfOk, OnOk, OnErr};
 ghost use Rattle.lgm_gossip.specs.Memory.{TakesMemory};
 ghost use Rattle.lgm_store.specs.Admission.{admitted_close};
-ghost use Rattle.lgm_store.specs.History.{fold_from};
-ghost use Rattle.lgm_query.specs.KeyNews.{TellKeys};
-ghost use Rattle.lgm_query.specs.Touched.{TellsKey};
 ghost use Rattle.lgm_query.specs.Backlog.{news};
 ghost use Rattle.lgm_c.specs.Offering.{offered_to};
 ghost use Rattle.lgm_c.specs.inner.Following.{Follows};
 ghost use Rattle.lgm_c.specs.Writing.{all_framed};
 
-use crate::chart::Chart;
+use crate::current::Current;
 use crate::framing::frame;
+use crate::judging::refusal_without_memory;
 use lgm_check::{Evidence, Refusal};
 use lgm_gossip::{ChainHash, Scid};
+use lgm_graph::{Network, Replica};
 use lgm_query::{Changes, Differences, Filter};
 use lgm_store::{Map, Op};
 use std::alloc::{AllocError, Global};
@@ -27,56 +25,27 @@ use std::mem::swap;
 /// both.
 #[derive(Drop)]
 pub struct Mark {
-    /// The map at the mark, except for what is due.
-    map: Map,
-    /// Operations from before the mark that have yet to be applied to it, in order.
-    due: VecDeque<Op>,
+    /// The map at the mark, with the operations from before the mark that have yet to be applied to it.
+    replica: Replica,
     /// Operations since the mark.
     since: VecDeque<Op>,
 }
 
 impl Model for Mark {
-    ghost use Rattle.lgm_c.specs.inner.Marking.{Marked, marked_by, TellTheirKeys};
+    ghost use Rattle.lgm_c.specs.inner.Marking.{Marked, marked_by};
 
     ghost Value = { Marked };
 
-    ghost view = { λ m. marked_by m.map m.due.items m.since.items };
-
-    ghost invariant = { λ m. TellTheirKeys m.map m.due.items m.since.items };
-}
-
-/// Removes the first operation.
-fn forget_first(due: &mut VecDeque<Op>)
-    ensures { due.new.items ≡ drop 1 due.old.items }
-{
-    due.pop_front();
-}
-
-/// Applies what is due, in order. Each operation stays due until it is applied.
-fn level(map: &mut Map, due: &mut VecDeque<Op>) -> Result<(), AllocError>
-    requires map { TellKeys map.old }
-    requires due { AllByRecursion TellsKey due.old.items }
-    ensures rows { fold_from map.new due.new.items ≡ fold_from map.old due.old.items }
-    ensures map { TellKeys map.new }
-    ensures due { AllByRecursion TellsKey due.new.items }
-    ensures done { OnOk result (due.new.items ≡ []) }
-{
-    while let Some(op) = due.front() {
-        map.absorb(op)?;
-        forget_first(due);
-    }
-    Ok(())
+    ghost view = { λ m. marked_by m.replica.network.rows m.replica.due.items m.since.items };
 }
 
 impl Mark {
-    /// A mark at the rows of a map, of which the messages are about the channels and nodes of their rows.
-    pub(crate) fn of(alloc: Global, map: Map) -> Mark
-        requires { TellKeys map }
-        ensures { result ≡ record { marked = map; rows = map } }
+    /// A mark at the rows of a network.
+    pub(crate) fn of(alloc: Global, network: Network) -> Mark
+        ensures { result ≡ record { marked = network.rows; rows = network.rows } }
     {
         Mark {
-            map,
-            due: VecDeque::new(alloc),
+            replica: Replica::new(alloc, network),
             since: VecDeque::new(alloc),
         }
     }
@@ -85,35 +54,40 @@ impl Mark {
     pub(crate) fn offer(
         &mut self,
         alloc: Global,
-        chart: &mut Chart,
+        current: &mut Current,
         chain: &ChainHash,
         bytes: &[u8],
         evidence: &Evidence,
     ) -> Result<(), Refusal>
-        requires { self.old.rows ≡ chart.old.rows }
+        requires { self.old.rows ≡ current.old.rows }
         ensures marked { self.new.marked ≡ self.old.marked }
-        ensures beside { self.new.rows ≡ chart.new.rows }
+        ensures beside { self.new.rows ≡ current.new.rows }
         ensures follows { Follows (TakesMemory bytes.now)
-            (offered_to chain.now chart.old.rows bytes.now evidence.now) result chart.old chart.new }
+            (offered_to chain.now current.old.rows bytes.now evidence.now) result current.old current.new }
     {
         if self.since.reserve(1).is_err() {
-            return Err(chart.refusal_without_memory(alloc, chain, bytes, evidence));
+            return Err(refusal_without_memory(alloc, current.map(), chain, bytes, evidence));
         }
-        let op = chart.offer(alloc, chain, bytes, evidence)?;
+        let op = current.offer(alloc, chain, bytes, evidence)?;
         self.since.push_back_reserved(op);
         Ok(())
     }
 
     /// Closes a channel of the current map, and keeps the operation.
-    pub(crate) fn close(&mut self, chart: &mut Chart, scid: Scid) -> Result<(), Refusal>
-        requires { self.old.rows ≡ chart.old.rows }
+    pub(crate) fn close(
+        &mut self,
+        alloc: Global,
+        current: &mut Current,
+        scid: Scid,
+    ) -> Result<(), Refusal>
+        requires { self.old.rows ≡ current.old.rows }
         ensures marked { self.new.marked ≡ self.old.marked }
-        ensures beside { self.new.rows ≡ chart.new.rows }
-        ensures follows { Follows ⊥ (admitted_close chart.old.rows scid) result chart.old chart.new }
+        ensures beside { self.new.rows ≡ current.new.rows }
+        ensures follows { Follows ⊥ (admitted_close current.old.rows scid) result current.old current.new }
     {
-        chart.map().admit_close(scid)?;
+        current.map().admit_close(scid)?;
         self.since.reserve(1)?;
-        let op = chart.close(scid)?;
+        let op = current.close(alloc, scid)?;
         self.since.push_back_reserved(op);
         Ok(())
     }
@@ -124,8 +98,8 @@ impl Mark {
             (self.new ≡ record { marked = self.old.rows; rows = self.old.rows }) }
         ensures stays { OnErr result (self.new ≡ self.old) }
     {
-        level(&mut self.map, &mut self.due)?;
-        swap(&mut self.due, &mut self.since);
+        self.replica.catch_up()?;
+        swap(&mut self.replica.due, &mut self.since);
         Ok(())
     }
 
@@ -141,9 +115,9 @@ impl Mark {
         ensures news { IfOk result (λ written.
             written.items ≡ all_framed (news self.old.marked map.now filter.now)) }
     {
-        level(&mut self.map, &mut self.due)?;
+        self.replica.catch_up()?;
         let changes = Changes::of(alloc, &self.since)?;
-        let differences = Differences::between(alloc, &self.map, map, &changes)?;
+        let differences = Differences::between(alloc, self.replica.network.map(), map, &changes)?;
         let mut written = Vec::new(alloc);
         for message in differences.news(filter) {
             frame(&mut written, message)?;

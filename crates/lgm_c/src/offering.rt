@@ -6,6 +6,7 @@ ghost use Rattle.lgm_c.specs.Evidence.{evidence_of};
 ghost use Rattle.lgm_c.specs.Held.{opened};
 ghost use Rattle.lgm_c.specs.Opening.{known_of, Opens};
 
+use crate::boxes::boxed;
 use crate::evidence::evidence;
 use crate::fault::{Fault, status};
 use crate::inner::Inner;
@@ -38,7 +39,7 @@ fn new_map(
 {
     let known = known_bits(alloc, all_known, known)?;
     let inner = Inner::new(alloc, ChainHash(*chain), known, Seed::new(*seed))?;
-    Ok(Box::new(alloc, inner)?)
+    boxed(alloc, inner)
 }
 
 /// Opens a handle, with a map without channels and nodes.
@@ -97,7 +98,7 @@ pub extern "C" fn lgm_close_channel(alloc: Global, map: &mut LgmMap, scid: u64) 
     let Some(mut inner) = map.take(alloc) else {
         return Fault::Closed.number();
     };
-    let outcome = inner.close(Scid::from_u64(scid));
+    let outcome = inner.close(alloc, Scid::from_u64(scid));
     *map = LgmMap::open(inner);
     status(&outcome)
 }

@@ -1,12 +1,14 @@
 //! Routes of payments.
 
-ghost use Rattle.std.specs.Prelude.{◌≡◌, Ok, IfOk};
+ghost use Rattle.std.specs.Prelude.{◌≡◌, List, Result, Ok, IfOk};
+ghost use Rattle.lgm_gossip.specs.Memory.{GivesIf};
 ghost use Rattle.lgm_c.specs.Routing.{request_of, route_asked, c_hop, c_hops, all_payloads};
-ghost use Rattle.lgm_c.specs.Routing.{WritesRoute, IsRouteWritten, buffers};
+ghost use Rattle.lgm_c.specs.Routing.{WritesRoute, IsRouteWritten, IsSearched, buffers};
+ghost use Rattle.lgm_c.specs.declared.fault.Fault.{Fault as AFault};
+ghost use Rattle.lgm_route.specs.declared.route.Hop.{Hop as AHop};
 ghost use Rattle.lgm_c.specs.Status.{if_open, status_of};
 
 use crate::fault::{Fault, status};
-use crate::inner::Inner;
 use crate::map::LgmMap;
 use crate::writing::copy_in_front;
 use lgm_gossip::{Bytes, Point};
@@ -58,7 +60,8 @@ pub struct LgmLengths {
     pub payloads: usize,
 }
 
-fn request_of(payment: &LgmPayment) -> Request
+/// The request of a payment.
+pub(crate) fn request_of(payment: &LgmPayment) -> Request
     ensures { result ≡ request_of payment.now }
 {
     Request {
@@ -148,22 +151,22 @@ fn write_route(
     write_hops(&found, &joined, hops, payloads, lengths)
 }
 
-/// Finds and writes the route of a payment.
-fn find(
+/// Writes the route that was found, with its payloads, or returns the fault.
+pub(crate) fn write_found(
     alloc: Global,
-    inner: &mut Inner,
-    payment: &LgmPayment,
+    found: Result<Route, Fault>,
+    secret: &[u8; 32],
     hops: &mut [LgmHop],
     payloads: &mut [u8],
     lengths: &mut LgmLengths,
 ) -> Result<(), Fault>
-    ensures same { inner.new ≡ inner.old }
-    ensures route { WritesRoute (route_asked payment.now inner.old) payment.now.secret (status_of result)
+    ensures { (expected : Result (List AHop) AFault)
+        → GivesIf (IsSearched expected) Fault.NoMemory (λ route. route) found expected
+        → WritesRoute expected secret.now (status_of result)
         (buffers hops.old payloads.old lengths.old)
         (buffers hops.new payloads.new lengths.new) }
 {
-    let route = inner.route(alloc, &request_of(payment))?;
-    write_route(alloc, &route, &payment.secret, hops, payloads, lengths)
+    write_route(alloc, &found?, secret, hops, payloads, lengths)
 }
 
 /// The route of a payment by which the payer sends the least: its hops, from the payer on, and their payloads one after
@@ -178,7 +181,7 @@ pub extern "C" fn lgm_route(
     lengths: &mut LgmLengths,
 ) -> u32
     ensures same { map.new.handle.value ≡ map.old.handle.value }
-    ensures route { WritesRoute (if_open map.old.handle.value (route_asked payment.now))
+    ensures route { WritesRoute (if_open map.old.handle.value (λ held. route_asked payment.now held.known held.rows))
         payment.now.secret result
         (buffers hops.old payloads.old lengths.old)
         (buffers hops.new payloads.new lengths.new) }
@@ -186,7 +189,7 @@ pub extern "C" fn lgm_route(
     let Some(mut inner) = map.take(alloc) else {
         return Fault::Closed.number();
     };
-    let outcome = find(alloc, &mut inner, payment, hops, payloads, lengths);
+    let found = inner.route(alloc, &request_of(payment));
     *map = LgmMap::open(inner);
-    status(&outcome)
+    status(&write_found(alloc, found, &payment.secret, hops, payloads, lengths))
 }

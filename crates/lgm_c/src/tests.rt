@@ -1,6 +1,8 @@
 //! Each call once with ample memory, and once at each of its faults: what no clause says, since any call may be out of
 //! memory. The numbers and lengths are worked out by hand, from BOLT 7, BOLT 4 and `docs/protocol.md`.
 
+mod snapshots;
+
 use crate::asking::{lgm_filter, lgm_mark, lgm_news, lgm_query};
 use crate::looking::{LgmChannel, LgmDirection, LgmNode, lgm_channel, lgm_count, lgm_node};
 use crate::map::LgmMap;
@@ -109,6 +111,17 @@ fn items(rt: HostRuntime) -> Result<(), Fail> {
     Ok(())
 }
 
+fn blank_hop() -> LgmHop {
+    LgmHop {
+        scid: 0,
+        amount_msat: 0,
+        payload_len: 0,
+        expiry: 0,
+        from: A,
+        to: A,
+    }
+}
+
 /// What a payment of A is answered, with room for one hop: the number, the hop that was written, and the lengths.
 fn paid(
     alloc: Global,
@@ -125,14 +138,7 @@ fn paid(
         payee,
         secret: [0x11; 32],
     };
-    let mut hops = [LgmHop {
-        scid: 0,
-        amount_msat: 0,
-        payload_len: 0,
-        expiry: 0,
-        from: A,
-        to: A,
-    }];
+    let mut hops = [blank_hop()];
     let mut lengths = LgmLengths {
         hops: 7,
         payloads: 7,
@@ -232,8 +238,7 @@ fn messages(rt: HostRuntime) -> Result<(), Fail> {
     Ok(())
 }
 
-/// What is found of a channel, over zeros.
-fn found_channel(alloc: Global, map: &mut LgmMap, scid: u64) -> (u32, LgmChannel) {
+fn blank_channel() -> LgmChannel {
     let terms = LgmDirection {
         is_held: false,
         message_flags: 0,
@@ -245,24 +250,33 @@ fn found_channel(alloc: Global, map: &mut LgmMap, scid: u64) -> (u32, LgmChannel
         htlc_minimum_msat: 0,
         htlc_maximum_msat: 0,
     };
-    let mut channel = LgmChannel {
+    LgmChannel {
         capacity_sat: 0,
         node_1: B,
         node_2: A,
         from_1: terms,
         from_2: terms,
-    };
+    }
+}
+
+/// What is found of a channel, over zeros.
+fn found_channel(alloc: Global, map: &mut LgmMap, scid: u64) -> (u32, LgmChannel) {
+    let mut channel = blank_channel();
     let number = lgm_channel(alloc, map, scid, &mut channel);
     (number, channel)
 }
 
-/// What is found of A: the number, the timestamp over 0, and the length of the addresses over 7.
-fn found_node(alloc: Global, map: &mut LgmMap, addresses: &mut [u8]) -> (u32, u32, usize) {
-    let mut node = LgmNode {
+fn blank_node() -> LgmNode {
+    LgmNode {
         timestamp: 0,
         rgb: [0; 3],
         alias: [0; 32],
-    };
+    }
+}
+
+/// What is found of A: the number, the timestamp over 0, and the length of the addresses over 7.
+fn found_node(alloc: Global, map: &mut LgmMap, addresses: &mut [u8]) -> (u32, u32, usize) {
+    let mut node = blank_node();
     let mut needed = 7;
     let number = lgm_node(alloc, map, &A, &mut node, addresses, &mut needed);
     (number, node.timestamp, needed)

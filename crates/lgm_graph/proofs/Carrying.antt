@@ -14,7 +14,7 @@ use Rattle.std.proofs.lemmas.List.{append-nil}
 use Rattle.lgm_check.specs.declared.row.ChannelRow.{ChannelRow}
 use Rattle.lgm_check.specs.declared.row.UpdateRow.{UpdateRow}
 use Rattle.lgm_store.specs.Rows.{is_second, put, by_direction, channel_of}
-use Rattle.lgm_store.specs.inner.Sound.{direction_of}
+use Rattle.lgm_store.specs.Keys.{direction_of}
 use Rattle.lgm_store.proofs.ListLaws.{All-filter, All-to, filter-swap}
 use Rattle.lgm_store.proofs.Lists.{direction_total}
 use Rattle.lgm_graph.specs.Edges.{PointEdge, can_carry, edge_of, edge_on, edge_in, end_of}

@@ -20,7 +20,7 @@ use Rattle.lgm_store.specs.Rows.{Rows, by_id, by_point, put, is_point, channel_o
 use Rattle.lgm_store.specs.Reading.{ids_at}
 use Rattle.lgm_store.specs.History.{banning, allowed_channels, with_banned}
 use Rattle.lgm_store.specs.Laws.{IsLawful}
-use Rattle.lgm_store.specs.inner.Sound.{id_of, AreAllowed}
+use Rattle.lgm_store.specs.Keys.{id_of}
 use Rattle.lgm_store.proofs.ListLaws.{All-append, All-filter, All-to, any-kept, filter-all, filter-swap, find-kept}
 use Rattle.lgm_store.proofs.Points.{same_point, is_point-self}
 use Rattle.lgm_store.proofs.Bans.{ends_banned-put}
@@ -51,8 +51,7 @@ among_own : (points : List Point) (p : Point) → is_among (insert_key is_point 
 among_own points p = by (list_any (is_point p) points) refl
   where
     last : (a : Bool) → (a || (true || false)) ≡ true
-    last true = refl
-    last false = refl
+    last a = grind arith
 
     there : (qs : List Point) → list_any (is_point p) qs ≡ true → is_among qs p ≡ true
     there [] any = absurd cc
@@ -201,7 +200,7 @@ parts_all rows ban one two three four lawful a b c d kept2 kept3 kept4 = along r
         by true is either = before is
         by false is either = here (rw is at either)
 
-    along : (rs : List ChannelRow) → AreAllowed rows.banned rs
+    along : (rs : List ChannelRow) → AllByRecursion (λ row. ends_banned rows.banned row ≡ false) rs
         → AllByRecursion (λ row. ends_at ban.held1 row ≡ true → HasEnds one row) rs
         → AllByRecursion (λ row. ends_at ban.held2 row ≡ true → HasEnds two row) rs
         → AllByRecursion (λ row. ends_at ban.new1 row ≡ true → HasEnds three row) rs

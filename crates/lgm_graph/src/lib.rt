@@ -2,7 +2,8 @@
 //!
 //! A [`View`] numbers the nodes of a map, and has the edges into and out of each node as consecutive lists, as a search
 //! for routes reads them. It is built from a map, or maintained while operations change the map. A node that requires
-//! unknown features takes no payments.
+//! unknown features takes no payments. A [`Network`] is a map with its view as one value, and a [`Replica`] one that is
+//! behind another.
 #![tactic(auto)]
 
 mod edge;
@@ -12,6 +13,7 @@ mod laws;
 mod lists;
 mod network;
 mod nodes;
+mod replica;
 mod view;
 
 pub use edge::Edge;
@@ -19,4 +21,5 @@ pub use fees::fee;
 pub use known::Known;
 pub use laws::edges_are_directions;
 pub use network::Network;
+pub use replica::Replica;
 pub use view::View;

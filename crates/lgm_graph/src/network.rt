@@ -1,75 +1,75 @@
 //! A map with its view.
 
-ghost use Rattle.std.specs.Prelude.{◌≡◌, ◌+◌, ◌*◌, ◌≤◌, length, IfOk, OnOk, OnErr};
+ghost use Rattle.std.specs.Prelude.{◌≡◌, ◌*◌, ◌≤◌, None, length, IfOk, IfSome, IsSome, OnOk, OnErr};
+ghost use Rattle.std.specs.Option.{option_copied, option_or};
 ghost use Rattle.lgm_store.specs.Rows.{empty};
+ghost use Rattle.lgm_store.specs.Admission.{admitted, admitted_close, Offers};
 ghost use Rattle.lgm_store.specs.History.{absorbed};
-ghost use Rattle.lgm_graph.specs.Graph.{IsGraphOf};
+ghost use Rattle.lgm_graph.specs.Network.{GoesOn, IsViewed};
 
 use crate::known::Known;
 use crate::view::View;
-use lgm_store::{Map, Op};
+use lgm_check::Refusal;
+use lgm_gossip::Scid;
+use lgm_store::{Candidate, Map, Op, Seed};
 use std::alloc::{AllocError, Global};
 use std::marker::Model;
 
-/// A map with its view as one value, to which operations are applied together. Contracts see the rows of the map and
-/// the graph of the view, which is always that of these rows.
+/// A view with more points than this is dropped, since numbers of points have 32 bits and are never reused.
+const MOST_POINTS: usize = 4_000_000_000;
+
+/// A map, and its view once it is built, to which operations are applied together. Contracts see the known feature bits
+/// of nodes, the rows of the map, and the graph of the view, which is always that of these rows.
 #[derive(Drop)]
 pub struct Network {
+    known: Known,
     map: Map,
-    view: View,
+    view: Option<View>,
 }
 
 impl Model for Network {
-    ghost use Rattle.lgm_graph.specs.Network.{Charted};
-    ghost use Rattle.lgm_graph.specs.Graph.{IsGraphOf};
+    ghost use Rattle.lgm_graph.specs.Network.{Charted, IsViewed};
 
     ghost Value = { Charted };
 
-    ghost view = { λ n. record { rows = n.map; graph = n.view } };
+    ghost view = { λ n. record { known = n.known; rows = n.map; graph = n.view } };
 
-    ghost invariant = { λ n. IsGraphOf n.map n.view };
+    ghost invariant = { λ n. IsViewed n.known n.map n.view };
 }
 
 impl Network {
-    /// No channels and no nodes. The known feature bits are copied. The only error is out of memory.
-    pub fn new(alloc: Global, known: &Known) -> Result<Network, AllocError>
-        ensures rows { IfOk result (λ network. network.rows ≡ empty) }
-        ensures known { IfOk result (λ network. network.graph.known ≡ known.now) }
+    /// No channels and no nodes, without a view. Points are hashed with the seed, and the known feature bits are
+    /// copied. The only error is out of memory.
+    pub fn new(alloc: Global, seed: Seed, known: &Known) -> Result<Network, AllocError>
+        ensures { IfOk result
+            (λ network. network ≡ record { known = known.now; rows = empty; graph = None }) }
     {
-        Network::of(alloc, Map::new(alloc)?, known)
+        Network::of(alloc, Map::with_seed(alloc, seed)?, known)
     }
 
-    /// A map, with its view built from it. The only error is out of memory.
+    /// A map, without a view. The known feature bits are copied. The only error is out of memory.
     pub fn of(alloc: Global, map: Map, known: &Known) -> Result<Network, AllocError>
-        requires { length map.channels ≤ 2000000000 }
-        ensures rows { IfOk result (λ network. network.rows ≡ map) }
-        ensures known { IfOk result (λ network. network.graph.known ≡ known.now) }
-        ensures few { IfOk result (λ network. length network.graph.points ≤ 2 * length map.channels) }
-    {
-        let view = View::of(alloc, &map, known)?;
-        Ok(Network { map, view })
-    }
-
-    /// A copy with the same rows and the same graph. The only error is out of memory.
-    pub fn copy(&self, alloc: Global) -> Result<Network, AllocError>
-        ensures { IfOk result (λ copy. copy ≡ self.now) }
+        ensures { IfOk result (λ network. network ≡ record { known = known.now; rows = map; graph = None }) }
     {
         Ok(Network {
-            map: self.map.copy(alloc)?,
-            view: self.view.copy(alloc)?,
+            known: known.copy(alloc)?,
+            map,
+            view: None,
         })
     }
 
-    /// Applies an operation to the map and its view. It numbers at most two more points. The only error is out of
-    /// memory, which leaves both unchanged.
-    pub fn absorb(&mut self, op: &Op) -> Result<(), AllocError>
-        requires { length self.old.graph.points ≤ 4294967290 }
-        ensures rows { OnOk result (self.new.rows ≡ absorbed self.old.rows op.now) }
-        ensures known { self.new.graph.known ≡ self.old.graph.known }
-        ensures few { length self.new.graph.points ≤ length self.old.graph.points + 2 }
-        ensures stays { OnErr result (self.new ≡ self.old) }
+    /// A copy of the map, without a view. The only error is out of memory.
+    pub fn copy(&self, alloc: Global) -> Result<Network, AllocError>
+        ensures { IfOk result (λ copy. copy ≡ record self.now { graph = None }) }
     {
-        self.view.apply(&mut self.map, op)
+        Network::of(alloc, self.map.copy(alloc)?, &self.known)
+    }
+
+    /// The known feature bits of nodes.
+    pub fn known(&self) -> &Known
+        ensures { result.now ≡ self.now.known }
+    {
+        &self.known
     }
 
     /// The map.
@@ -79,11 +79,90 @@ impl Network {
         &self.map
     }
 
-    /// Its view.
-    pub fn view(&self) -> &View
-        ensures view { result.now ≡ self.now.graph }
-        ensures beside { IsGraphOf self.now.rows self.now.graph }
+    /// Its view, if there is one.
+    pub fn view(&self) -> Option<&View>
+        ensures view { option_copied result ≡ self.now.graph }
+        ensures beside { IsViewed self.now.known self.now.rows self.now.graph }
     {
-        &self.view
+        self.view.as_ref()
+    }
+
+    /// Builds the view, unless there is one. The only error is out of memory, which leaves all unchanged.
+    pub fn make_view(&mut self, alloc: Global) -> Result<(), AllocError>
+        requires { length self.old.rows.channels ≤ 2000000000 }
+        ensures rows { self.new.rows ≡ self.old.rows }
+        ensures known { self.new.known ≡ self.old.known }
+        ensures made { OnOk result (IsSome self.new.graph) }
+        ensures few { OnOk result (self.old.graph ≡ None
+            → IfSome self.new.graph (λ graph. length graph.points ≤ 2 * length self.old.rows.channels)) }
+        ensures stays { OnErr result (self.new ≡ self.old) }
+    {
+        if self.view.is_none() {
+            self.view = Some(View::of(alloc, &self.map, &self.known)?);
+        }
+        Ok(())
+    }
+
+    /// Moves its view, if there is one, to a network with the same rows.
+    pub fn give_view(&mut self, other: &mut Network)
+        requires rows { other.old.rows ≡ self.old.rows }
+        requires known { other.old.known ≡ self.old.known }
+        ensures own { self.new ≡ record self.old { graph = None } }
+        ensures other { other.new ≡ record other.old { graph = option_or self.old.graph other.old.graph } }
+    {
+        if let Some(view) = self.view.take() {
+            other.view = Some(view);
+        }
+    }
+}
+
+impl Network {
+    /// Applies an operation to the map, and to its view, if there is one. The only error is out of memory, which leaves
+    /// both unchanged.
+    pub fn absorb(&mut self, op: &Op) -> Result<(), AllocError>
+        ensures rows { OnOk result (self.new.rows ≡ absorbed self.old.rows op.now) }
+        ensures known { self.new.known ≡ self.old.known }
+        ensures view { OnOk result (GoesOn self.old.graph self.new.graph) }
+        ensures stays { OnErr result (self.new ≡ self.old) }
+    {
+        if let Some(view) = &mut self.view {
+            if view.nodes() <= MOST_POINTS {
+                return view.apply(&mut self.map, op);
+            }
+        }
+        self.map.absorb(op)?;
+        self.view = None;
+        Ok(())
+    }
+
+    /// Admits a message that was made ready, and applies its operation, which is returned. Without a view, one lookup
+    /// serves for both.
+    ///
+    /// A refusal or out of memory leaves all unchanged. A refused message is refused even if memory is short.
+    pub fn offer(&mut self, alloc: Global, candidate: Candidate) -> Result<Op, Refusal>
+        ensures admission { Offers result (admitted self.old.rows candidate) }
+        ensures accepted { IfOk result (λ op. self.new.rows ≡ absorbed self.old.rows op) }
+        ensures known { self.new.known ≡ self.old.known }
+        ensures refused { OnErr result (self.new ≡ self.old) }
+    {
+        if self.view.is_none() {
+            return self.map.offer_candidate(alloc, candidate);
+        }
+        let op = self.map.admit_candidate(alloc, candidate)?;
+        self.absorb(&op)?;
+        Ok(op)
+    }
+
+    /// Closes a channel, and returns the operation. A refusal, which is 11 `unknown-channel`, or out of memory leaves
+    /// all unchanged.
+    pub fn offer_close(&mut self, scid: Scid) -> Result<Op, Refusal>
+        ensures admission { Offers result (admitted_close self.old.rows scid) }
+        ensures accepted { IfOk result (λ op. self.new.rows ≡ absorbed self.old.rows op) }
+        ensures known { self.new.known ≡ self.old.known }
+        ensures refused { OnErr result (self.new ≡ self.old) }
+    {
+        let close = self.map.admit_close(scid)?;
+        self.absorb(&close)?;
+        Ok(close)
     }
 }

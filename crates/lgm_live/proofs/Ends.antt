@@ -3,10 +3,10 @@ use Rattle.std.proofs.Common.{◌≡◌, ◌⊎◌, inl, inr, ℕ, ◌<◌, Bool
 use Rattle.std.proofs.Common.{true≢false}
 use Rattle.std.specs.Prelude.{IfSome}
 use Rattle.lgm_wire.specs.declared.chain_hash.ChainHash.{ChainHash}
-use Rattle.lgm_script.specs.declared.output.Output.{Output}
 use Rattle.lgm_script.specs.declared.output.SendFault.{SendFault}
 use Rattle.lgm_script.specs.declared.output.SendFault.TheVariants as sending
-use Rattle.lgm_script.specs.Device.{AppendsSome}
+use Rattle.lgm_script.specs.Device.{Input, Written, AppendsSome}
+use Rattle.lgm_script.specs.Output.{OutputState}
 use Rattle.lgm_live.specs.declared.fault.LiveFault.{LiveFault}
 use Rattle.lgm_live.specs.declared.fault.LiveFault.TheVariants as live
 use Rattle.lgm_live.specs.declared.report.LiveReport.{LiveReport}
@@ -37,19 +37,17 @@ says_more _ = false
 never : (e f : RunFault) → says_more e ≡ false → says_more f ≡ true → fails {T = LiveReport} e ≡ fails f → ⊥
 never e f less more same = true≢false (sym more ∙ ap says_more (sym (fault_is e f same)) ∙ less)
 
-module _ {R W : Type 0} (left : R → Option (List ℕ)) (read_failures : R → ℕ) (taken : W → Option (List ℕ))
-    (write_failures : W → ℕ) (chain : ChainHash) (known : Option (List ℕ)) (workers : ℕ) (reader reader' : R)
-    (writer writer' : W) where
+module _ (chain : ChainHash) (known : Option (List ℕ)) (workers : ℕ) (reader reader' : Input)
+    (writer writer' : Written) where
   abbrev Ends : RunFault → Type 0
-  Ends fault =
-      RunsLive left read_failures taken write_failures chain known workers reader reader' writer writer' (fails fault)
+  Ends fault = RunsLive chain known workers reader reader' writer writer' (fails fault)
 
   -- a part of the text of the whole script was written
   abbrev IsInPart : Type 0
-  IsInPart = IfSome (left reader) (IsToldInPart chain known workers (AppendsSome (taken writer) (taken writer')))
+  IsInPart = IfSome reader.left (IsToldInPart chain known workers (AppendsSome writer.taken writer'.taken))
 
-  other : (fault : RunFault) → says_more fault ≡ false → (ComesFirst fault → taken writer' ≡ taken writer)
-      → (taken writer' ≡ taken writer) ⊎ IsInPart → Ends fault
+  other : (fault : RunFault) → says_more fault ≡ false → (ComesFirst fault → writer'.taken ≡ writer.taken)
+      → (writer'.taken ≡ writer.taken) ⊎ IsInPart → Ends fault
   other fault less silent written = record {
     ok = tt;
     too_many = λ is. absurd (never fault faults.TooManyLines less refl is);
@@ -61,18 +59,18 @@ module _ {R W : Type 0} (left : R → Option (List ℕ)) (read_failures : R → 
   }
 
   -- there is no memory before anything is written
-  pub no_memory : taken writer' ≡ taken writer → Ends faults.NoMemory
+  pub no_memory : writer'.taken ≡ writer.taken → Ends faults.NoMemory
   no_memory silent = other faults.NoMemory refl (λ _. silent) (inl silent)
 
   -- the writer or a worker gave up
-  pub not_answered : (fault : LiveFault) → taken writer' ≡ taken writer → Ends (live_fault fault)
+  pub not_answered : (fault : LiveFault) → writer'.taken ≡ writer.taken → Ends (live_fault fault)
   not_answered live.NoMemory silent = no_memory silent
   not_answered live.Closed silent = other faults.Closed refl (λ _. silent) (inl silent)
   not_answered live.Versions silent = other faults.Versions refl (λ _. silent) (inl silent)
 
   -- a part of the text was written
   pub not_written : (fault : SendFault) → IsInPart
-      → (sends fault ≡ sends sending.Write → write_failures writer < write_failures writer')
+      → (sends fault ≡ sends sending.Write → writer.failures < writer'.failures)
       → Ends (send_fault fault)
   not_written sending.NoMemory part write = other faults.NoMemory refl (λ first. absurd first) (inr part)
   not_written sending.Write part write = record {
@@ -86,13 +84,11 @@ module _ {R W : Type 0} (left : R → Option (List ℕ)) (read_failures : R → 
   }
 
 -- the script wasn't read to its end
-pub not_read : {R W T : Type 0} (left : R → Option (List ℕ)) (read_failures : R → ℕ)
-    (taken : W → Option (List ℕ)) (write_failures : W → ℕ) (chain : ChainHash) (known : Option (List ℕ))
-    (workers : ℕ) (source source' : R) (output output' : Output W) {whole : T → Type 0} (fault : RunFault)
-    → HasRead left read_failures taken write_failures source source' output output' whole (fails fault)
-    → RunsLive left read_failures taken write_failures chain known workers source source' output.writer.now
-    output'.writer.now (fails fault)
-not_read {T = T} left read_failures taken write_failures chain known workers source source' output output' fault read = record {
+pub not_read : {T : Type 0} (chain : ChainHash) (known : Option (List ℕ)) (workers : ℕ) (source source' : Input)
+    (output output' : OutputState) {whole : T → Type 0} (fault : RunFault)
+    → HasRead source source' output output' whole (fails fault)
+    → RunsLive chain known workers source source' output.sink output'.sink (fails fault)
+not_read {T = T} chain known workers source source' output output' fault read = record {
   ok = tt;
   too_many = λ is. read.too_many (ap (fails {T = T}) (fault_is fault faults.TooManyLines is));
   too_long = λ is. read.too_long (ap (fails {T = T}) (fault_is fault faults.LineTooLong is));

@@ -1,14 +1,13 @@
 -- How reading a script goes on and ends.
-use Rattle.std.proofs.Common.{◌≡◌, ℕ, ◌+◌, ◌<◌, ◌≤◌, List, [], ◌∷◌, ◌++◌, length, take, drop, Option, Result, Ok, Err, refl, sym, subst, ◌∙◌}
+use Rattle.std.proofs.Common.{◌≡◌, ℕ, ◌+◌, ◌<◌, ◌≤◌, List, [], ◌∷◌, ◌++◌, length, take, drop, Result, Ok, Err, refl, sym, subst, ◌∙◌}
 use Rattle.std.specs.Prelude.{◌≢◌, IfSome, IfOk}
-use Rattle.lgm_script.specs.declared.output.Output.{Output}
 use Rattle.lgm_script.specs.declared.output.SendFault.TheVariants.{Write as SendWrite}
 use Rattle.lgm_script.specs.declared.reading.LineFault.{LineFault}
 use Rattle.lgm_script.specs.declared.reading.LineFault.TheVariants as lines
 use Rattle.lgm_script.specs.declared.request.Request.{Request}
-use Rattle.lgm_script.specs.Device.{IsAtEnd}
+use Rattle.lgm_script.specs.Device.{Input, IsAtEnd}
 use Rattle.lgm_script.specs.Lines.{ahead, IsFirstLine, IsLongerThan}
-use Rattle.lgm_script.specs.Output.{Sends, SendsPart, seen}
+use Rattle.lgm_script.specs.Output.{OutputState, Tells, TellsPart}
 use Rattle.lgm_script.specs.Request.{request_of}
 use Rattle.lgm_answers.proofs.LineFaults.{failed, ends_at}
 use Rattle.lgm_answers.specs.declared.run_fault.RunFault.{RunFault}
@@ -23,46 +22,42 @@ abbrev ended : RunFault → Result (Unit {0}) RunFault
 ended e = Err e
 
 -- these were asked so far, nothing was written meanwhile, and no device failed
-pub record IsReadTo {R W : Type 0} (left : R → Option (List ℕ)) (read_failures : R → ℕ)
-    (taken : W → Option (List ℕ)) (write_failures : W → ℕ) (source : R) (output : Output W)
-    (asked : List Request)
-    (buffered : List ℕ) (mid : R) (between : Output W) : Type 0 where
-  pub read_same : read_failures mid ≡ read_failures source
-  pub write_same : write_failures between.writer.now ≡ write_failures output.writer.now
-  pub taken_same : taken between.writer.now ≡ taken output.writer.now
-  pub clear : between.gathered.now.items ≡ []
-  pub so_far : SoFar (left source) asked (ahead buffered (left mid))
+pub record IsReadTo (source : Input) (output : OutputState) (asked : List Request) (buffered : List ℕ)
+    (mid : Input) (between : OutputState) : Type 0 where
+  pub read_same : mid.failures ≡ source.failures
+  pub write_same : between.sink.failures ≡ output.sink.failures
+  pub taken_same : between.sink.taken ≡ output.sink.taken
+  pub writer : between.writer ≡ output.writer
+  pub clear : between.gathered ≡ []
+  pub so_far : SoFar source.left asked (ahead buffered mid.left)
 
-module _ {R W : Type 0} {left : R → Option (List ℕ)} {read_failures : R → ℕ} {taken : W → Option (List ℕ)}
-    {write_failures : W → ℕ} {source : R} {output : Output W} {asked : List Request} {buffered : List ℕ}
-    {mid : R}
-    {between : Output W}
-    (read_to : IsReadTo left read_failures taken write_failures source output asked buffered
-    mid between) where
+module _ {source : Input} {output : OutputState} {asked : List Request} {buffered : List ℕ} {mid : Input}
+    {between : OutputState} (read_to : IsReadTo source output asked buffered mid between) where
   -- a line couldn't be read
-  pub line_failed : {T : Type 0} {whole : Unit {0} → Type 0} (buffered' : List ℕ) (source' : R)
-      (output' : Output W)
-      (fault : LineFault) → ahead buffered' (left source') ≡ ahead buffered (left mid)
-      → (failed {T = T} fault ≢ failed lines.Write → Sends taken write_failures between output' [])
-      → (failed {T = T} fault ≡ failed lines.Write → SendsPart taken write_failures between output' [] SendWrite)
-      → (failed {T = T} fault ≡ failed lines.Read → read_failures mid < read_failures source')
+  pub line_failed : {T : Type 0} {whole : Unit {0} → Type 0} (buffered' : List ℕ) (source' : Input)
+      (output' : OutputState)
+      (fault : LineFault) → ahead buffered' source'.left ≡ ahead buffered mid.left
+      → (failed {T = T} fault ≢ failed lines.Write → Tells between output' [])
+      → (failed {T = T} fault ≡ failed lines.Write → TellsPart between output' [] SendWrite)
+      → (failed {T = T} fault ≡ failed lines.Read → mid.failures < source'.failures)
       → (fault ≡ lines.TooLong → (length asked < 10000000)
-      × IsLongerThan 140000 (ahead buffered' (left source')))
-      → HasRead left read_failures taken write_failures source source' output output' whole
+      × IsLongerThan 140000 (ahead buffered' source'.left))
+      → HasRead source source' output output' whole
       (ended (line_fault fault))
   line_failed {T = T} buffered' source' output' fault kept told part read longer =
-      let input = ahead buffered' (left source') in
+      let input = ahead buffered' source'.left in
       let quiet =
-      silent_fault {T = T} fault (seen taken write_failures between) (seen taken write_failures output')
+      silent_fault {T = T} fault between output'
       read_to.clear told part in
       let end =
       ends_at (Unit {0}) {U = T} fault read_to.read_same
       read_to.write_same (λ not. (told not).well) (λ is. (part is).cause refl) read in
       record {
+        writer = quiet.writer ∙ read_to.writer;
         ok = tt;
         too_many = λ same. absurd (end.not_many same);
         too_long = λ same. let is = end.too_long same in
-            long (left source) asked input (subst (SoFar (left source) asked) (sym kept) read_to.so_far)
+            long source.left asked input (subst (SoFar source.left asked) (sym kept) read_to.so_far)
             (longer is).0 (longer is).1;
         silent = quiet.taken ∙ read_to.taken_same;
         gathered = quiet.clear;
@@ -72,40 +67,43 @@ module _ {R W : Type 0} {left : R → Option (List ℕ)} {read_failures : R → 
       }
 
   -- more was read
-  pub read_on : (buffered' : List ℕ) (source' : R) (output' : Output W)
-      → ahead buffered' (left source') ≡ ahead buffered (left mid) → read_failures source' ≡ read_failures mid
-      → Sends taken write_failures between output' []
-      → IsReadTo left read_failures taken write_failures source output asked buffered' source' output'
+  pub read_on : (buffered' : List ℕ) (source' : Input) (output' : OutputState)
+      → ahead buffered' source'.left ≡ ahead buffered mid.left → source'.failures ≡ mid.failures
+      → Tells between output' []
+      → IsReadTo source output asked buffered' source' output'
   read_on buffered' source' output' kept well told =
       let quiet =
-      silent (seen taken write_failures between) (seen taken write_failures output') read_to.clear told in
+      silent between output' read_to.clear told in
       record {
         read_same = well ∙ read_to.read_same;
         write_same = told.well ∙ read_to.write_same;
         taken_same = quiet.taken ∙ read_to.taken_same;
+        writer = quiet.writer ∙ read_to.writer;
         clear = quiet.clear;
-        so_far = subst (SoFar (left source) asked) (sym kept) read_to.so_far;
+        so_far = subst (SoFar source.left asked) (sym kept) read_to.so_far;
       }
 
   -- one more line is asked
-  pub line_read : (count : ℕ) → IsFirstLine buffered (left mid) count → count ≤ 140000
-      → IsReadTo left read_failures taken write_failures source output
+  pub line_read : (count : ℕ) → IsFirstLine buffered mid.left count → count ≤ 140000
+      → IsReadTo source output
       (asked ++ request_of (take count buffered) ∷ []) (drop (count + 1) buffered) mid between
   line_read count first small =
       record {
         read_same = read_to.read_same;
         write_same = read_to.write_same;
         taken_same = read_to.taken_same;
+        writer = read_to.writer;
         clear = read_to.clear;
-        so_far = step (left source) asked count buffered (left mid) read_to.so_far first small;
+        so_far = step source.left asked count buffered mid.left read_to.so_far first small;
       }
 
   -- it ended otherwise after what was read, and no device failed
   has_ended : (whole : Unit {0} → Type 0) (result : Result (Unit {0}) RunFault) → IfOk result whole
-      → (result ≡ ended faults.TooManyLines → IfSome (left source) HasMoreLines)
+      → (result ≡ ended faults.TooManyLines → IfSome source.left HasMoreLines)
       → result ≢ ended faults.LineTooLong → result ≢ ended faults.Read → result ≢ ended faults.Write
-      → HasRead left read_failures taken write_failures source mid output between whole result
+      → HasRead source mid output between whole result
   has_ended whole result ok too_many too_long read write = record {
+    writer = read_to.writer;
     ok = ok;
     too_many = too_many;
     too_long = λ same. absurd (too_long same);
@@ -118,31 +116,31 @@ module _ {R W : Type 0} {left : R → Option (List ℕ)} {read_failures : R → 
 
   -- all lines were read
   pub all_read : (old new : Gathered) → new ≡ with_lines old asked → length asked ≤ 10000000
-      → IsAtEnd (ahead buffered (left mid))
-      → HasRead left read_failures taken write_failures source mid output between (λ _. IsNoted (left source)
+      → IsAtEnd (ahead buffered mid.left)
+      → HasRead source mid output between (λ _. IsNoted source.left
       old new) (Ok (tt {0}))
   all_read old new noted few end =
-      has_ended (λ _. IsNoted (left source) old new) (Ok (tt {0}))
+      has_ended (λ _. IsNoted source.left old new) (Ok (tt {0}))
       (record {
         asked = asked;
         few = few;
         noted = noted;
-        whole = ends (left source) asked (ahead buffered (left mid)) read_to.so_far end few;
+        whole = ends source.left asked (ahead buffered mid.left) read_to.so_far end few;
       })
       (λ same. absurd cc) (λ same. absurd cc) (λ same. absurd cc) (λ same. absurd cc)
 
   -- there are more lines
   pub more_lines : {whole : Unit {0} → Type 0} → length asked ≡ 10000000 → 0 < length buffered
-      → HasRead left read_failures taken write_failures source mid output between whole
+      → HasRead source mid output between whole
       (ended faults.TooManyLines)
   more_lines {whole} full more =
       has_ended whole (ended faults.TooManyLines) tt
-      (λ _. many (left source) asked buffered (left mid) read_to.so_far more full)
+      (λ _. many source.left asked buffered mid.left read_to.so_far more full)
       (λ same. absurd cc) (λ same. absurd cc) (λ same. absurd cc)
 
   -- memory ran out
   pub no_memory : {whole : Unit {0} → Type 0}
-      → HasRead left read_failures taken write_failures source mid output between whole
+      → HasRead source mid output between whole
       (ended faults.NoMemory)
   no_memory {whole} =
       has_ended whole (ended faults.NoMemory) tt (λ same. absurd cc) (λ same. absurd cc) (λ same. absurd cc)

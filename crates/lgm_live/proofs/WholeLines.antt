@@ -138,7 +138,8 @@ long (Some script) asked (Some s) so_far limit longer =
 
 -- what a text of no bytes leaves
 pub record IsSilent (old new : OutputState) : Type 0 where
-  pub taken : new.taken ≡ old.taken
+  pub writer : new.writer ≡ old.writer
+  pub taken : new.sink.taken ≡ old.sink.taken
   pub clear : new.gathered ≡ []
 
 nothing_taken : (old new : Option (List ℕ)) (written : List ℕ) → written ≡ [] → Appends old new written → new ≡ old
@@ -149,8 +150,9 @@ pub silent : (old new : OutputState) → old.gathered ≡ [] → Tells old new [
 silent old new clear told =
     let size = ap length told.whole ∙ ap (λ (g : List ℕ). length (g ++ [])) clear in
     record {
+      writer = told.writer;
       taken =
-          nothing_taken old.taken new.taken told.written (nil_from_length told.written
+          nothing_taken old.sink.taken new.sink.taken told.written (nil_from_length told.written
           (omega (arith, size, length-append told.written new.gathered))) told.taken;
       clear = nil_from_length new.gathered (omega (arith, size, length-append told.written new.gathered));
     }
@@ -161,7 +163,8 @@ silent_part old new clear part =
     let parts = length-append (part.written ++ new.gathered) part.lost in
     let fronts = length-append part.written new.gathered in
     record {
-      taken = nothing_taken old.taken new.taken part.written (nil_from_length part.written (omega (arith, size, parts, fronts))) part.taken;
+      writer = part.writer;
+      taken = nothing_taken old.sink.taken new.sink.taken part.written (nil_from_length part.written (omega (arith, size, parts, fronts))) part.taken;
       clear = nil_from_length new.gathered (omega (arith, size, parts, fronts));
     }
 

@@ -5,10 +5,10 @@ ghost use Rattle.lgm_wire.specs.reading.Reading.{Gives};
 ghost use Rattle.lgm_store.specs.History.{absorbed};
 ghost use Rattle.lgm_answers.specs.Outcomes.{outcome_of};
 
-use lgm_check::{Refusal, precheck};
+use lgm_check::Refusal;
 use lgm_gossip::ChainHash;
 use lgm_script::Item;
-use lgm_store::{Map, Op};
+use lgm_store::{Candidate, Map, Op};
 use std::alloc::Global;
 
 /// Admits an item and applies its operation, which is returned. A refusal or out of memory leaves the map unchanged.
@@ -25,13 +25,9 @@ pub(crate) fn admit(
 {
     match item {
         Item::Gossip(bytes, evidence) => {
-            let checked = precheck(alloc, chain, bytes.as_slice(), evidence)?;
-            map.offer(alloc, &checked)
+            let candidate = Candidate::precheck(alloc, chain, bytes.as_slice(), evidence)?;
+            map.offer_candidate(alloc, candidate)
         }
-        Item::Close(scid) => {
-            let close = map.admit_close(*scid)?;
-            map.absorb(&close)?;
-            Ok(close)
-        }
+        Item::Close(scid) => map.offer_close(*scid),
     }
 }

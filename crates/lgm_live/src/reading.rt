@@ -1,6 +1,7 @@
 //! Reading a whole script before any of it is answered.
 
 ghost use Rattle.std.specs.Prelude.{◌≡◌, ◌≤◌, ◌+◌, ◌<◌, ◌^◌, [], length, take, drop, OnOk};
+ghost use Rattle.lgm_script.specs.Output.{told_by};
 ghost use Rattle.lgm_script.specs.Request.{request_of};
 ghost use Rattle.lgm_live.specs.inner.Gathered.{with_line};
 ghost use Rattle.lgm_live.specs.inner.Reading.{IsNoted, IsRead, HasRead};
@@ -43,11 +44,8 @@ fn read_lines<R: Source, W: Sink>(
     requires some { 0 < length agenda.old.lists }
     requires none { agenda.old.payments ≡ 0 }
     requires gathered { output.old.gathered.now.items ≡ [] }
-    requires source { R.failures source.old + 1 < 2 ^ 64 }
-    requires writer { W.failures output.old.writer.now + 1 < 2 ^ 64 }
-    ensures writer { output.new.writer.ghost_name ≡ output.old.writer.ghost_name }
-    ensures read { HasRead R.left R.failures W.taken W.failures source.old source.new output.old output.new
-        (λ _. IsNoted (R.left source.old) agenda.old agenda.new) result }
+    ensures { HasRead (R.seen source.old) (R.seen source.new) (told_by W.seen output.old)
+        (told_by W.seen output.new) (λ _. IsNoted (R.seen source.old).left agenda.old agenda.new) result }
 {
     let mut number = 0;
     while number < MAX_LINES {
@@ -73,11 +71,8 @@ pub(crate) fn read_script<R: Source, W: Sink>(
 ) -> Result<Agenda, RunFault>
     requires some { 0 < workers }
     requires gathered { output.old.gathered.now.items ≡ [] }
-    requires source { R.failures source.old + 1 < 2 ^ 64 }
-    requires writer { W.failures output.old.writer.now + 1 < 2 ^ 64 }
-    ensures writer { output.new.writer.ghost_name ≡ output.old.writer.ghost_name }
-    ensures read { HasRead R.left R.failures W.taken W.failures source.old source.new output.old output.new
-        (IsRead workers (R.left source.old)) result }
+    ensures { HasRead (R.seen source.old) (R.seen source.new) (told_by W.seen output.old)
+        (told_by W.seen output.new) (IsRead workers (R.seen source.old).left) result }
 {
     let mut lines = LineReader::new(alloc)?;
     let mut agenda = Agenda::new(alloc, workers)?;

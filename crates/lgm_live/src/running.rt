@@ -1,6 +1,6 @@
 //! Running a script whose payments are answered while its items are admitted.
 
-ghost use Rattle.std.specs.Prelude.{◌≡◌, ◌+◌, ◌<◌, ◌≤◌, ◌^◌, []};
+ghost use Rattle.std.specs.Prelude.{◌≡◌, ◌≤◌, []};
 ghost use Rattle.lgm_live.specs.RunsLive.{RunsLive};
 
 use crate::growing::live;
@@ -27,12 +27,10 @@ fn run_all<Rt: Threads + Wait + Sync + RandomSource, G: Gate, R: Source, W: Sink
     chain: &ChainHash,
     known: &Known,
 ) -> Result<LiveReport, RunFault>
-    requires gathered { output.old.gathered.now.items ≡ [] }
-    requires source { R.failures source.old + 1 < 2 ^ 64 }
-    requires writer { W.failures output.old.writer.now + 1 < 2 ^ 64 }
+    requires { output.old.gathered.now.items ≡ [] }
     ensures writer { output.new.writer.ghost_name ≡ output.old.writer.ghost_name }
-    ensures runs { RunsLive R.left R.failures W.taken W.failures chain.now known.now pool.now.workers source.old
-        source.new output.old.writer.now output.new.writer.now result }
+    ensures runs { RunsLive chain.now known.now pool.now.workers (R.seen source.old) (R.seen source.new)
+        (W.seen output.old.writer.now) (W.seen output.new.writer.now) result }
 {
     let agenda = read_script(pool.alloc, pool.workers, source, output)?;
     let paced = Paced::new(pool.rt, pool.alloc, pool.gate, pool.workers, agenda.above())?;
@@ -71,10 +69,8 @@ pub fn run_live<Rt: Threads + Wait + Sync + RandomSource, G: Gate, R: Source, W:
     gate: &G,
 ) -> Result<LiveReport, RunFault>
     requires workers { (1 ≤ workers) × (workers ≤ 64) }
-    requires reader { R.failures reader.old + 1 < 2 ^ 64 }
-    requires writer { W.failures writer.old + 1 < 2 ^ 64 }
-    ensures runs { RunsLive R.left R.failures W.taken W.failures chain.now known.now workers reader.old reader.new
-        writer.old writer.new result }
+    ensures runs { RunsLive chain.now known.now workers (R.seen reader.old) (R.seen reader.new)
+        (W.seen writer.old) (W.seen writer.new) result }
 {
     let mut block = Vec::with_capacity(alloc, BLOCK)?;
     let mut output = Output::new(&mut block, writer);

@@ -3,7 +3,7 @@
 ghost use Rattle.std.specs.Prelude.{◌≡◌, ◌≤◌, ◌+◌, ◌<◌, ◌^◌, [], length, OnOk, OnErr};
 ghost use Rattle.std.specs.Option.{option_map};
 ghost use Rattle.lgm_script.specs.Device.{Appends, AppendsSome};
-ghost use Rattle.lgm_script.specs.Output.{Writes};
+ghost use Rattle.lgm_script.specs.Output.{told_by, Writes};
 ghost use Rattle.lgm_answers.specs.Answer.{route_text};
 ghost use Rattle.lgm_live.specs.Text.{answer_at};
 ghost use Rattle.lgm_live.specs.inner.Telling.{place_passed, same_text, slot_text};
@@ -15,7 +15,7 @@ use crate::slot::Slot;
 use lgm_answers::{outcome_word, send_route};
 use lgm_payload::build;
 use lgm_route::{Route, RouteFault};
-use lgm_script::{Output, SendFault, Sink};
+use lgm_script::{Line, Output, SendFault, Sink};
 use std::alloc::Global;
 
 /// The indices of the next outcome, end and answer of a report.
@@ -69,9 +69,7 @@ fn tell_result<W: Sink>(
     found: &Result<Route, RouteFault>,
     output: &mut Output<'_, W>,
 ) -> Result<(), SendFault>
-    requires { W.failures output.old.writer.now + 1 < 2 ^ 64 }
-    ensures writer { output.new.writer.ghost_name ≡ output.old.writer.ghost_name }
-    ensures written { Writes W.taken W.failures output.old output.new
+    ensures { Writes (told_by W.seen output.old) (told_by W.seen output.new)
         (route_text number secret.now found.now) result }
 {
     match found {
@@ -79,7 +77,7 @@ fn tell_result<W: Sink>(
             let payloads = build(alloc, route, secret)?;
             send_route(number, route, &payloads, output)
         }
-        Err(fault) => output.send_word(number, fault.word()),
+        Err(fault) => output.send(number, &Line::Word(fault.word())),
     }
 }
 
@@ -92,14 +90,12 @@ fn tell_answer<W: Sink>(
     answer: &LiveAnswer,
     output: &mut Output<'_, W>,
 ) -> Result<(), SendFault>
-    requires { W.failures output.old.writer.now + 1 < 2 ^ 64 }
-    ensures writer { output.new.writer.ghost_name ≡ output.old.writer.ghost_name }
-    ensures written { Writes W.taken W.failures output.old output.new
+    ensures { Writes (told_by W.seen output.old) (told_by W.seen output.new)
         (same_text number secret.now (Some answer.now)) result }
 {
     let version = answer.version;
     let word = format!(in alloc; "at {version} same")?;
-    output.send_word(number, word.as_str())?;
+    output.send(number, &Line::Word(word.as_str()))?;
     tell_result(alloc, number, secret, &answer.result, output)
 }
 
@@ -115,17 +111,18 @@ fn tell_slot<W: Sink>(
 ) -> Result<(), SendFault>
     requires workers { 0 < workers }
     requires there { IsThere workers report.now place slot }
-    requires writer { W.failures output.old.writer.now + 1 < 2 ^ 64 }
-    ensures writer { output.new.writer.ghost_name ≡ output.old.writer.ghost_name }
-    ensures written { Writes W.taken W.failures output.old output.new
+    ensures { Writes (told_by W.seen output.old) (told_by W.seen output.new)
         (slot_text workers report.now number place slot) result }
 {
     match slot {
         Slot::Quiet => Ok(()),
-        Slot::Bad => output.send_word(number, "bad"),
-        Slot::Item => output.send_word(number, outcome_word(report.outcomes[place.items])),
-        Slot::Commit => output.send_count(number, report.ends[place.ends]),
-        Slot::NotLive => output.send_word(number, "not-live"),
+        Slot::Bad => output.send(number, &Line::Word("bad")),
+        Slot::Item => {
+            let word = outcome_word(report.outcomes[place.items]);
+            output.send(number, &Line::Word(word))
+        }
+        Slot::Commit => output.send(number, &Line::Commit(report.ends[place.ends])),
+        Slot::NotLive => output.send(number, &Line::Word("not-live")),
         Slot::Payment(secret) => {
             let Some(answer) = answer_at(report.answers.as_slice(), workers, place.payments) else {
                 unreachable!();
@@ -145,9 +142,7 @@ fn tell_slots<W: Sink>(
 ) -> Result<(), SendFault>
     requires workers { 0 < workers }
     requires slots { (length slots.now ≤ 10000000) × AreThere workers report.now slots.now }
-    requires writer { W.failures output.old.writer.now + 1 < 2 ^ 64 }
-    ensures writer { output.new.writer.ghost_name ≡ output.old.writer.ghost_name }
-    ensures written { Writes W.taken W.failures output.old output.new
+    ensures { Writes (told_by W.seen output.old) (told_by W.seen output.new)
         (slots_before workers report.now slots.now (length slots.now)) result }
 {
     let mut number = 0;
@@ -176,14 +171,13 @@ pub(crate) fn tell<W: Sink>(
     requires workers { 0 < workers }
     requires slots { (length slots.now ≤ 10000000) × AreThere workers report.now slots.now }
     requires gathered { output.old.gathered.now.items ≡ [] }
-    requires writer { W.failures output.old.writer.now + 1 < 2 ^ 64 }
     ensures writer { output.new.writer.ghost_name ≡ output.old.writer.ghost_name }
-    ensures told { OnOk result (Appends (W.taken output.old.writer.now) (W.taken output.new.writer.now)
+    ensures told { OnOk result (Appends (W.seen output.old.writer.now).taken (W.seen output.new.writer.now).taken
         (slots_before workers report.now slots.now (length slots.now))) }
-    ensures part { OnErr result (AppendsSome (W.taken output.old.writer.now) (W.taken output.new.writer.now)
+    ensures part { OnErr result (AppendsSome (W.seen output.old.writer.now).taken (W.seen output.new.writer.now).taken
         (slots_before workers report.now slots.now (length slots.now))) }
     ensures write { result ≡ Err SendFault.Write
-        → W.failures output.old.writer.now < W.failures output.new.writer.now }
+        → (W.seen output.old.writer.now).failures < (W.seen output.new.writer.now).failures }
 {
     let told = tell_slots(alloc, workers, slots, report, output);
     if let Err(SendFault::Write) = told {

@@ -49,12 +49,7 @@ fn ended<Rt: Threads + Wait + Sync + RandomSource>(
     write: usize,
 ) -> Result<(Option<RunFault>, Vec<u8>), AllocError> {
     let mut reader = FailingSource::new(script, read);
-    let mut writer = FailingSink {
-        taken: Vec::new(alloc),
-        writes: 0,
-        fails_at: write,
-        failures: 0,
-    };
+    let mut writer = FailingSink::new(Vec::new(alloc), write);
     let ended = run_by(rt, alloc, &mut reader, &mut writer, 2, &Open);
     Ok((ended.err(), writer.taken))
 }

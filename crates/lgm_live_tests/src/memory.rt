@@ -37,15 +37,12 @@ fn long_channel(alloc: Global, block: u32) -> Result<String, Fail> {
 #[derive(Drop)]
 struct Counter {
     taken: u64,
-    failures: u64,
 }
 
 impl Sink for Counter {
     ghost use Rattle.std.specs.Prelude.{None};
 
-    ghost taken = { λ _. None };
-
-    ghost failures = { λ s. s.failures };
+    ghost seen = { λ _. record { taken = None; failures = 0 } };
 
     fn write(&mut self, bytes: &[u8]) -> Result<usize, Failed> {
         self.taken = self.taken.saturating_add(bytes.len() as u64);
@@ -70,10 +67,7 @@ fn replies_borrow_from_the_map(rt: HostRuntime) -> Result<(), Fail> {
     let alloc = rt.alloc();
     let script = repeated_query(alloc)?;
     let mut reader = MemorySource::new(script.as_bytes(), 1_048_576);
-    let mut writer = Counter {
-        taken: 0,
-        failures: 0,
-    };
+    let mut writer = Counter { taken: 0 };
     let before = most_memory(&rt)?;
     run_by(
         &rt,

@@ -1,7 +1,5 @@
 //! Runs of scripts through `run_live`, and the two channels of most of them.
 
-ghost use Rattle.std.specs.Prelude.{◌+◌, ◌<◌, ◌^◌};
-
 use lgm_gossip::ChainHash;
 use lgm_graph::Known;
 use lgm_par::Gate;
@@ -41,10 +39,7 @@ pub fn run_by<Rt: Threads + Wait + Sync + RandomSource, R: Source, W: Sink, G: G
     writer: &mut W,
     workers: usize,
     gate: &G,
-) -> Result<LiveReport, RunFault>
-    requires reader { R.failures reader.old + 1 < 2 ^ 64 }
-    requires writer { W.failures writer.old + 1 < 2 ^ 64 }
-{
+) -> Result<LiveReport, RunFault> {
     let (chain, known) = (ChainHash([0xc1; 32]), Known::all());
     let workers = workers.clamp(1, 64);
     run_live(rt, alloc, reader, writer, &chain, &known, workers, gate)

@@ -4,6 +4,7 @@
 
 mod gate;
 mod mapping;
+mod pieces;
 mod pool;
 
 pub use gate::{Gate, Open};

@@ -34,19 +34,19 @@ pub(crate) struct Edition {
 }
 
 impl Model for Edition {
-    ghost use Rattle.std.specs.Prelude.{◌≤◌, ◌*◌, length};
-    ghost use Rattle.lgm_publish.specs.inner.Contents.{Contents};
+    ghost use Rattle.std.specs.Prelude.{◌≤◌, ◌*◌};
+    ghost use Rattle.lgm_publish.specs.inner.Contents.{Contents, NumbersAtMost};
 
     ghost Value = { Contents };
 
     ghost view = { λ e. record {
       rows = e.network.rows;
-      known = e.network.graph.known;
+      known = e.network.known;
       absorbed = e.absorbed;
       told = e.told;
     } };
 
-    ghost invariant = { λ e. (e.absorbed ≤ 2000000000) × (length e.network.graph.points ≤ 2 * e.absorbed) };
+    ghost invariant = { λ e. (e.absorbed ≤ 2000000000) × NumbersAtMost (2 * e.absorbed) e.network.graph };
 }
 
 impl Edition {
@@ -60,8 +60,10 @@ impl Edition {
         ensures { IfOk result
             (λ edition. edition ≡ record { rows = empty; known = known.now; absorbed = 0; told = told }) }
     {
+        let mut network = Network::new(alloc, seed, known)?;
+        network.make_view(alloc)?;
         Ok(Edition {
-            network: Network::of(alloc, Map::with_seed(alloc, seed)?, known)?,
+            network,
             absorbed: 0,
             told,
         })
@@ -79,7 +81,10 @@ impl Edition {
         ensures known { result.now.known ≡ self.now.known }
         ensures beside { IsGraphOf self.now.rows result.now }
     {
-        self.network.view()
+        let Some(view) = self.network.view() else {
+            unreachable!();
+        };
+        view
     }
 
     /// The list of operations that made it.

@@ -21,15 +21,14 @@ use Rattle.lgm_check.specs.declared.row.UpdateRow.{UpdateRow}
 use Rattle.lgm_check.specs.declared.row.NodeRow.{NodeRow}
 use Rattle.lgm_store.specs.Rows.{Rows, IsAscending, update_of}
 use Rattle.lgm_store.specs.Held.{held_at}
-use Rattle.lgm_store.specs.inner.Ends.{point_cmp}
-use Rattle.lgm_store.specs.inner.Sound.{id_of, point_of}
+use Rattle.lgm_store.specs.Keys.{point_cmp, point_of, id_of}
 use Rattle.lgm_store.proofs.ListLaws.{All-append, All-each, filter-alike, find-same}
 use Rattle.lgm_store.proofs.Points.{is_at-point}
 use Rattle.lgm_store.proofs.Lists.{node_total, same_node}
 use Rattle.lgm_query.specs.declared.filter.Filter.{Filter}
 use Rattle.lgm_query.specs.Backlog.{passes, passing_update, behind_announcement, passing_channel, passing_node, backlog, is_among, news}
-use Rattle.lgm_query.specs.KeyNews.{Subject, of_channel, of_node, subject_of, TellKeys, passing_of_channel}
-use Rattle.lgm_query.specs.KeyNews.{passing_of_node, without_known, news_of_channel, news_of_node}
+use Rattle.lgm_query.specs.KeyNews.{passing_of_channel, passing_of_node, without_known, news_of_channel, news_of_node}
+use Rattle.lgm_query.proofs.Subjects.{Subject, of_channel, of_node, subject_of, TellKeys}
 use Rattle.lgm_query.proofs.Ids.{id_test, id_level}
 use Rattle.lgm_query.proofs.KeyNewsLaws.{other_subject, filter-flat_map, flat_map-alike, among_its_row, along_keys, All-given}
 use Rattle.std.specs.BTreeMap.{is_at}

@@ -13,7 +13,7 @@ use Rattle.std.proofs.Math.Bool.{or-false}
 use Rattle.std.proofs.lemmas.List.Elements.{filter-append}
 use Rattle.std.proofs.lemmas.List.Folds.{list_any-append}
 use Rattle.lgm_query.specs.Backlog.{is_among}
-use Rattle.lgm_query.specs.KeyNews.{Subject, subject_of}
+use Rattle.lgm_query.proofs.Subjects.{Subject, subject_of}
 
 -- a message about something else isn't among these
 pub other_subject : (message : List ℕ) (messages : List (List ℕ)) (subject : Subject) → AllByRecursion (λ m. subject_of m ≡ subject) messages

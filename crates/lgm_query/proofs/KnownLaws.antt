@@ -1,5 +1,5 @@
 -- Messages that are looked up in an ordered set.
-use Rattle.std.proofs.Common.{◌≡◌, ℕ, ◌+◌, ◌<◌, Bool, true, false, ◌||◌, List, [], ◌∷◌, length, take, get_or, refl, ap, ◌∙◌}
+use Rattle.std.proofs.Common.{◌≡◌, ℕ, ◌+◌, ◌<◌, Bool, true, false, ◌||◌, List, [], ◌∷◌, length, take, get_or, refl, ap, ◌∙◌, arith}
 use Rattle.std.specs.Prelude.{nat_eq}
 use Rattle.std.specs.Borrow.{Bor}
 use Rattle.std.specs.BTreeSet.{insert_key}
@@ -18,13 +18,10 @@ abbrev pub message_cmp : Bor (List ℕ) → Bor (List ℕ) → Ordering
 message_cmp a b = slice_cmp nat_cmp a.now b.now
 
 or_again : (a b : Bool) → (a || b) ≡ ((a || b) || a)
-or_again true b = refl
-or_again false true = refl
-or_again false false = refl
+or_again a b = grind arith
 
 or_assoc : (a b d : Bool) → (a || (b || d)) ≡ ((a || b) || d)
-or_assoc true b d = refl
-or_assoc false b d = refl
+or_assoc a b d = grind arith
 
 -- one more in the set
 pub is_known-insert : (keys : List (Bor (List ℕ))) (key : Bor (List ℕ)) (message : List ℕ)

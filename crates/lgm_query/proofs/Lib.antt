@@ -8,10 +8,10 @@ pub mod KnownLaws
 pub mod CoverLaws
 pub mod PairLaws
 pub mod SentLaws
+pub mod Subjects
 pub mod KeyNewsLaws
 pub mod KeyNews
 pub mod Untouched
-pub mod Telling
 pub mod Lying
 pub mod Touching
 mod Idle

@@ -3,33 +3,31 @@ use Rattle.std.proofs.Common.{◌≡◌, ◌⊎◌, inl, inr, ℕ, Bool, true, f
 use Rattle.std.specs.Prelude.{◌==◌}
 use Rattle.std.specs.List.{AllByRecursion, flat_map}
 use Rattle.std.specs.Option.{option_map_or}
-use Rattle.std.proofs.lemmas.Bool.{eqb-true}
+use Rattle.std.proofs.lemmas.Bool.{eqb-true, or_right}
 use Rattle.std.proofs.lemmas.Cmp.{nat_list_eq_equiv}
 use Rattle.lgm_wire.specs.declared.point.Point.{Point}
 use Rattle.lgm_check.specs.declared.row.ChannelRow.{ChannelRow}
 use Rattle.lgm_store.specs.declared.op.Op.{Op}
 use Rattle.lgm_store.specs.Rows.{Rows, IsAscending, channel_of}
-use Rattle.lgm_store.specs.History.{absorbed, fold_from}
+use Rattle.lgm_store.specs.History.{fold_from}
+use Rattle.lgm_store.specs.Spelled.{AreSpelled}
 use Rattle.lgm_query.specs.declared.filter.Filter.{Filter}
 use Rattle.lgm_query.specs.Backlog.{is_among, news}
-use Rattle.lgm_query.specs.KeyNews.{TellKeys, passing_of_channel, passing_of_node, without_known, news_of_channel, news_of_node}
-use Rattle.lgm_query.specs.Touched.{TellsKey, Touched, HasTouched}
+use Rattle.lgm_query.specs.KeyNews.{passing_of_channel, passing_of_node, without_known, news_of_channel, news_of_node}
+use Rattle.lgm_query.specs.Touched.{Touched, HasTouched}
 use Rattle.lgm_query.specs.ComesOf.{ComesOf}
 use Rattle.lgm_query.proofs.KeyNews.{passing_at, LieAt, news_at_keys}
-use Rattle.lgm_query.proofs.Untouched.{SameChannel, NoChannel, SameNode, channel_untouched, node_untouched, TellKeys-step}
+use Rattle.lgm_query.proofs.Subjects.{spelled_tell}
+use Rattle.lgm_query.proofs.Untouched.{SameChannel, NoChannel, SameNode, channel_untouched, node_untouched}
 use Rattle.lgm_query.proofs.KeyNewsLaws.{All-given}
 
 all_known : (known messages : List (List ℕ)) → AllByRecursion (λ m. is_among known m ≡ true) messages → without_known known messages ≡ []
 all_known known [] all = refl
 all_known known (m ∷ ms) all = rw (all.0, all_known known ms all.1) refl
 
-or_true : (b : Bool) → (b || true) ≡ true
-or_true true = refl
-or_true false = refl
-
 each_known : (messages : List (List ℕ)) → AllByRecursion (λ m. is_among messages m ≡ true) messages
 each_known [] = tt
-each_known (m ∷ ms) = (rw (nat_list_eq_equiv.refl m) refl, All-given _ _ _ ms (λ x is other. rw is (or_true _)) (each_known ms) (each_known ms))
+each_known (m ∷ ms) = (rw (nat_list_eq_equiv.refl m) refl, All-given _ _ _ ms (λ x is other. rw is (or_right _ true refl)) (each_known ms) (each_known ms))
 
 -- nothing is new beside itself
 nothing_new : (messages : List (List ℕ)) → without_known messages messages ≡ []
@@ -84,14 +82,11 @@ lie_at f before after history touched ascend is has = rw is (record {
   of_nodes = λ node none. no_node_news f node before (fold_from before history) (node_untouched node before history (sym (has.of_nodes node) ∙ none));
 })
 
-pub TellKeys-fold : (rows : Rows) (history : List Op) → TellKeys rows → AllByRecursion TellsKey history → TellKeys (fold_from rows history)
-TellKeys-fold rows [] tell own = tell
-TellKeys-fold rows (op ∷ history) tell own = TellKeys-fold (absorbed rows op) history (TellKeys-step rows op tell own.0) own.1
-
 -- the news of a map that came of an earlier one
-pub news_of_touched : (f : Filter) (before after : Rows) (touched : Touched) → IsAscending before → IsAscending after → ComesOf before after touched
+pub news_of_touched : (f : Filter) (before after : Rows) (touched : Touched) → IsAscending before → IsAscending after
+    → AreSpelled before → AreSpelled after → ComesOf before after touched
     → news before after f ≡ flat_map (news_of_channel f before after) touched.channels ++ flat_map (news_of_node f before after) touched.nodes
-news_of_touched f before after touched before_ascends after_ascends comes =
-    news_at_keys f before after touched.channels touched.nodes before_ascends after_ascends comes.rows_tell
-    (rw comes.folds (TellKeys-fold before comes.history comes.rows_tell comes.history_tells))
+news_of_touched f before after touched before_ascends after_ascends before_spelled after_spelled comes =
+    news_at_keys f before after touched.channels touched.nodes before_ascends after_ascends
+    (spelled_tell before before_spelled) (spelled_tell after after_spelled)
     (lie_at f before after comes.history touched before_ascends comes.folds comes.touches)

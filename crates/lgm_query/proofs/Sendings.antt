@@ -1,5 +1,5 @@
 -- Pieces that are sent one after the other.
-use Rattle.std.proofs.Common.{◌≡◌, ℕ, Bool, true, false, ◌||◌, cond, List, [], ◌∷◌, ◌++◌, map, refl, sym, ap, ◌∙◌, append_assoc}
+use Rattle.std.proofs.Common.{◌≡◌, ℕ, Bool, true, false, ◌||◌, cond, List, [], ◌∷◌, ◌++◌, map, refl, sym, ap, ◌∙◌, append_assoc, arith}
 use Rattle.std.specs.Cmp.Lexicographic.{texts_ties}
 use Rattle.std.specs.List.{list_any}
 use Rattle.std.specs.BTreeMap.{is_at}
@@ -15,7 +15,7 @@ use Rattle.lgm_store.specs.declared.held.Held.{Held}
 use Rattle.lgm_store.specs.Rows.{is_point, node_of}
 use Rattle.lgm_store.proofs.Points.{same_point}
 use Rattle.std.proofs.Math.Bool.{or-false}
-use Rattle.lgm_store.specs.inner.Ends.{point_cmp}
+use Rattle.lgm_store.specs.Keys.{point_cmp}
 use Rattle.lgm_query.specs.Piece.{Piece, channel, update, node, bytes_of, are_of_one_node, with_nodes_once}
 use Rattle.lgm_query.specs.IdsReply.{if_set, chosen_of}
 use Rattle.lgm_query.specs.inner.Sent.{Sent, is_of_node, Sends}
@@ -45,8 +45,7 @@ plain piece old new no_node other_nodes message same pieces are = record {
 }
   where
     or_false : (b : Bool) → (b || (false || false)) ≡ b
-    or_false true = refl
-    or_false false = refl
+    or_false b = grind arith
 
 not_again : (piece : Piece) → ((earlier : Piece) → are_of_one_node earlier piece ≡ false) → (pieces : List Piece) → comes_again pieces piece ≡ false
 not_again piece apart [] = refl

@@ -1,5 +1,5 @@
 -- The messages that passed before.
-use Rattle.std.proofs.Common.{◌≡◌, ℕ, Bool, true, false, not, cond, ◌&&◌, ◌||◌, List, [], ◌∷◌, ◌++◌, Option, Some, None, refl, sym, ap, ◌∙◌}
+use Rattle.std.proofs.Common.{◌≡◌, ℕ, Bool, true, false, not, cond, ◌&&◌, ◌||◌, List, [], ◌∷◌, ◌++◌, Option, Some, None, refl, sym, ap, ◌∙◌, arith}
 use Rattle.std.specs.Prelude.{nat_eq}
 use Rattle.std.specs.Cmp.Lexicographic.{pointwise}
 use Rattle.std.specs.Bool.{then_some}
@@ -15,32 +15,19 @@ use Rattle.lgm_query.specs.KeyNews.{without_known}
 use Rattle.lgm_query.specs.inner.SentWith.{is_sent_with, sent_with, update_message, passes_update, passed_with, unless_passed}
 
 first_alone : (a b : Bool) → (((a || (b || false)) && true) || false) ≡ (a || (b || false))
-first_alone true b = refl
-first_alone false true = refl
-first_alone false false = refl
+first_alone a b = grind arith
 
 both_updates : (a b c : Bool) → (((a || (b || false)) && true) || ((a || (c || false)) && true)) ≡ (a || (b || (c || false)))
-both_updates true b c = refl
-both_updates false true c = refl
-both_updates false false true = refl
-both_updates false false false = refl
+both_updates a b c = grind arith
 
 not_first : (x y : Bool) → ((x && false) || (y && true)) ≡ y
-not_first true true = refl
-not_first true false = refl
-not_first false true = refl
-not_first false false = refl
+not_first x y = grind arith
 
 not_second : (x y : Bool) → ((x && true) || (y && false)) ≡ x
-not_second true y = refl
-not_second false true = refl
-not_second false false = refl
+not_second x y = grind arith
 
 neither : (x y : Bool) → ((x && false) || (y && false)) ≡ false
-neither true true = refl
-neither true false = refl
-neither false true = refl
-neither false false = refl
+neither x y = grind arith
 
 -- a message passed with an update exactly where it is among those that passed
 passed_with-is_among : (f : Filter) (held : Held) (message : List ℕ)

@@ -1,5 +1,5 @@
 -- What a further operation touches.
-use Rattle.std.proofs.Common.{◌≡◌, ℕ, Bool, true, false, ◌||◌, cond, List, [], ◌∷◌, ◌++◌, refl, sym, ap, ◌∙◌}
+use Rattle.std.proofs.Common.{◌≡◌, ℕ, Bool, true, false, ◌||◌, cond, List, [], ◌∷◌, ◌++◌, refl, sym, ap, ◌∙◌, arith}
 use Rattle.std.specs.Prelude.{◌==◌}
 use Rattle.std.specs.BTreeMap.{is_at}
 use Rattle.std.specs.List.{list_any}
@@ -10,17 +10,14 @@ use Rattle.std.proofs.lemmas.List.Folds.{list_any-append}
 use Rattle.lgm_wire.specs.declared.point.Point.{Point}
 use Rattle.lgm_store.specs.declared.op.Op.{Op}
 use Rattle.lgm_store.specs.Rows.{is_point}
-use Rattle.lgm_store.specs.inner.Ends.{point_cmp}
+use Rattle.lgm_store.specs.Keys.{point_cmp}
 use Rattle.lgm_store.proofs.Points.{is_at-point}
 use Rattle.lgm_query.proofs.Ids.{id_test}
 use Rattle.lgm_query.specs.Touched.{touches_channel, touches_node, Touched, HasTouched}
 
 -- one more is asked last
 asked_last : (b others : Bool) → cond b true others ≡ (others || (b || false))
-asked_last true true = refl
-asked_last true false = refl
-asked_last false true = refl
-asked_last false false = refl
+asked_last b others = grind arith
 
 -- a test that the last element fails
 any_front : {X : Type 0} (p : X → Bool) (xs : List X) (x : X) → p x ≡ false → list_any p (xs ++ x ∷ []) ≡ list_any p xs

@@ -16,12 +16,11 @@ use Rattle.lgm_store.specs.Rows.{Rows, IsAscending, put, by_id, by_direction, by
 use Rattle.lgm_store.specs.Rows.{channel_of, update_of, node_of, ends_channel, ends_banned}
 use Rattle.lgm_store.specs.History.{channels_without, ended_nodes, with_banned, allowed_channels, without_held}
 use Rattle.lgm_store.specs.History.{banned_channels, banning, absorbed, fold_from}
-use Rattle.lgm_store.proofs.ListLaws.{All-each, All-to, All-filter, All-put, find-kept, find-gone}
+use Rattle.lgm_store.proofs.ListLaws.{All-each, All-to, find-kept, find-gone}
 use Rattle.lgm_store.proofs.Finding.{channel_of-put, update_of-put, node_of-put}
 use Rattle.lgm_store.proofs.Ascending.{IsAscending-absorbed}
 use Rattle.lgm_store.proofs.Points.{same_point}
-use Rattle.lgm_query.specs.KeyNews.{TellKeys}
-use Rattle.lgm_query.specs.Touched.{touches_channel, touches_node, TellsKey}
+use Rattle.lgm_query.specs.Touched.{touches_channel, touches_node}
 
 -- ---- what is held of a channel that isn't touched: the same, or nothing any more
 
@@ -177,36 +176,3 @@ node_untouched node rows (op ∷ history) none =
     let parts = or_parts _ _ none in
     both_steps node rows (absorbed rows op) (fold_from (absorbed rows op) history)
     (node_step node rows op parts.0) (node_untouched node (absorbed rows op) history parts.1)
-
--- ---- bytes go on telling their keys
-
-pub TellKeys-step : (rows : Rows) (op : Op) → TellKeys rows → TellsKey op → TellKeys (absorbed rows op)
-TellKeys-step rows (ops.Channel row) tell own = by (is_some (channel_of rows.channels row.message.short_channel_id) || ends_banned rows.banned row)
-  where
-    by : (b : Bool) → TellKeys (if b then rows else record rows { channels = put by_id rows.channels row })
-    by true = tell
-    by false = record { channels = All-put _ by_id rows.channels row own tell.channels; updates = tell.updates; nodes = tell.nodes }
-TellKeys-step rows (ops.Update row) tell own = by (is_some (channel_of rows.channels row.message.short_channel_id))
-  where
-    by : (b : Bool) → TellKeys (if b then record rows { updates = put by_direction rows.updates row } else rows)
-    by true = record { channels = tell.channels; updates = All-put _ by_direction rows.updates row own tell.updates; nodes = tell.nodes }
-    by false = tell
-TellKeys-step rows (ops.Node row) tell own = by (ends_channel rows.channels row.message.node_id)
-  where
-    by : (b : Bool) → TellKeys (if b then record rows { nodes = put by_node rows.nodes row } else rows)
-    by true = record { channels = tell.channels; updates = tell.updates; nodes = All-put _ by_node rows.nodes row own tell.nodes }
-    by false = tell
-TellKeys-step rows (ops.Close other) tell own = by (is_some (channel_of rows.channels other))
-  where
-    by : (b : Bool) → TellKeys (if b then without_held rows other else rows)
-    by true = record {
-      channels = All-filter _ _ rows.channels tell.channels;
-      updates = All-filter _ _ rows.updates tell.updates;
-      nodes = All-filter _ _ rows.nodes tell.nodes;
-    }
-    by false = tell
-TellKeys-step rows (ops.Ban ban) tell own = record {
-  channels = All-filter _ _ rows.channels tell.channels;
-  updates = All-filter _ _ rows.updates tell.updates;
-  nodes = All-filter _ _ rows.nodes tell.nodes;
-}

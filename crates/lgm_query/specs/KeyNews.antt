@@ -1,39 +1,11 @@
 -- News by key: what is new of a channel and of a node.
-use Rattle.std.specs.Prelude.{◌≡◌, ℕ, not, List, [], filter, Result, Ok}
-use Rattle.std.specs.List.{AllByRecursion}
+use Rattle.std.specs.Prelude.{ℕ, not, List, [], filter}
 use Rattle.std.specs.Option.{option_map_or}
-use Rattle.lgm_gossip.specs.declared.fault.DecodeFault.{DecodeFault}
-use Rattle.lgm_gossip.specs.declared.message.Message.{Message}
-use Rattle.lgm_gossip.specs.declared.message.Message.TheVariants as messages
 use Rattle.lgm_wire.specs.declared.point.Point.{Point}
-use Rattle.lgm_gossip.specs.reading.MessageReading.{message_at}
 use Rattle.lgm_store.specs.Held.{held_at}
 use Rattle.lgm_store.specs.Rows.{Rows, channel_of, node_of}
 use Rattle.lgm_query.specs.declared.filter.Filter.{Filter}
 use Rattle.lgm_query.specs.Backlog.{passing_channel, passing_node, is_among}
-
--- what a message is about: a channel, a node or neither
-pub data Subject : Type 0 where
-  of_channel : ℕ → Subject
-  of_node : Point → Subject
-  of_neither : Subject
-
-abbrev pub subject_in : Result Message DecodeFault → Subject
-subject_in (Ok (messages.Announce m)) = of_channel m.short_channel_id
-subject_in (Ok (messages.ChannelUpdate m)) = of_channel m.short_channel_id
-subject_in (Ok (messages.NodeAnnounce m)) = of_node m.node_id
-subject_in _ = of_neither
-
-unfoldable pub subject_of : List ℕ → Subject
-subject_of bytes = subject_in (message_at bytes)
-
--- the bytes of each row are about its key
-pub record TellKeys (rows : Rows) : Type 0 where
-  pub channels : AllByRecursion
-      (λ row. subject_of row.raw ≡ of_channel row.message.short_channel_id) rows.channels
-  pub updates : AllByRecursion
-      (λ row. subject_of row.raw ≡ of_channel row.message.short_channel_id) rows.updates
-  pub nodes : AllByRecursion (λ row. subject_of row.raw ≡ of_node row.message.node_id) rows.nodes
 
 -- what passes of a channel, and of a node: nothing if it isn't in the map
 abbrev pub passing_of_channel : Filter → Rows → ℕ → List (List ℕ)

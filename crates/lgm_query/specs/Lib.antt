@@ -1,6 +1,7 @@
 pub mod Piece
 pub mod IdsReply
 pub mod RangeReply
+pub mod Requests
 pub mod Backlog
 pub mod Cover
 pub mod KeyNews

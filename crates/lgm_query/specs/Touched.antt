@@ -1,17 +1,14 @@
--- The channels and nodes that operations touch, and what operations are about.
+-- The channels and nodes that operations touch.
 use Rattle.std.specs.Prelude.{◌≡◌, ℕ, ◌==◌, Bool, false, List}
 use Rattle.std.specs.BTreeMap.{is_at}
 use Rattle.std.specs.List.{list_any}
 use Rattle.std.specs.List.Sorted.{IsStrictlySortedBy}
 use Rattle.std.specs.Ordering.{nat_cmp}
 use Rattle.lgm_wire.specs.declared.point.Point.{Point}
-use Rattle.lgm_check.specs.declared.row.Checked.{Checked}
-use Rattle.lgm_check.specs.declared.row.Checked.TheVariants as checked
 use Rattle.lgm_store.specs.declared.op.Op.{Op}
 use Rattle.lgm_store.specs.declared.op.Op.TheVariants as ops
 use Rattle.lgm_store.specs.Rows.{is_point}
-use Rattle.lgm_store.specs.inner.Ends.{point_cmp}
-use Rattle.lgm_query.specs.KeyNews.{of_channel, of_node, subject_of}
+use Rattle.lgm_store.specs.Keys.{point_cmp}
 
 -- whether the operation may add an announcement or an update to a channel
 abbrev pub touches_channel : ℕ → Op → Bool
@@ -23,19 +20,6 @@ touches_channel id _ = false
 abbrev pub touches_node : Point → Op → Bool
 touches_node node (ops.Node row) = is_point row.message.node_id node
 touches_node node _ = false
-
--- the bytes of its row are about the key of the row
-abbrev pub TellsKey : Op → Type 0
-TellsKey (ops.Channel row) = subject_of row.raw ≡ of_channel row.message.short_channel_id
-TellsKey (ops.Update row) = subject_of row.raw ≡ of_channel row.message.short_channel_id
-TellsKey (ops.Node row) = subject_of row.raw ≡ of_node row.message.node_id
-TellsKey _ = Unit {0}
-
--- the bytes of a checked message are about the key of its row
-abbrev pub CheckedTellsKey : Checked → Type 0
-CheckedTellsKey (checked.Channel row) = subject_of row.raw ≡ of_channel row.message.short_channel_id
-CheckedTellsKey (checked.Update row signer) = subject_of row.raw ≡ of_channel row.message.short_channel_id
-CheckedTellsKey (checked.Node row) = subject_of row.raw ≡ of_node row.message.node_id
 
 pub record Touched : Type 0 where
   pub channels : List ℕ

@@ -41,8 +41,7 @@ impl<'a> Model for Differences<'a> {
 }
 
 impl<'a> Differences<'a> {
-    /// The differences from an earlier map to one made from it by operations that touched these keys. The messages of
-    /// both maps and of the operations must be about the key of their row, as all checked messages are.
+    /// The differences from an earlier map to one made from it by operations that touched these keys.
     ///
     /// Time is logarithmic in the maps for each touched key, whose messages are read. The only error is out of memory.
     pub fn between(
@@ -57,6 +56,8 @@ impl<'a> Differences<'a> {
     {
         before.rows_are_lawful();
         after.rows_are_lawful();
+        before.bytes_encode_rows();
+        after.bytes_encode_rows();
         Ok(Differences {
             before,
             after,

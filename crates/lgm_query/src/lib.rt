@@ -1,9 +1,10 @@
 //! Replies to queries about a map (BOLT 7, "Query Messages").
 //!
-//! [`answer_ids`] returns the messages in the map about given channels, and [`answer_range`] the ids of the channels in
-//! a range of blocks. A [`Backlog`] iterates over what passes a [`Filter`], [`backlog`] collects it, and [`news`]
-//! returns what is new of it in a later map; if operations led from the earlier map to the later one, [`Differences`]
-//! iterate over it without looking at the rest. All return whole messages as bytes, ready to be sent.
+//! [`read_query`] and [`read_filter`] read what a peer requests. [`answer_ids`] returns the messages in the map about
+//! given channels, and [`answer_range`] the ids of the channels in a range of blocks. A [`Backlog`] iterates over what
+//! passes a [`Filter`], [`backlog`] collects it, and [`news`] returns what is new of it in a later map; if operations led
+//! from the earlier map to the later one, [`Differences`] iterate over it without looking at the rest. All return whole
+//! messages as bytes, ready to be sent.
 #![tactic(auto)]
 
 mod answering_ids;
@@ -22,6 +23,7 @@ mod passing;
 mod ranges;
 mod replies;
 mod reply;
+mod request;
 mod sending;
 mod sent_with;
 
@@ -32,8 +34,9 @@ pub use changes::Changes;
 pub use differences::Differences;
 pub use filter::Filter;
 pub use gathering::backlog;
-pub use laws::{operations_keep_keys, operations_tell_keys, replies_cover_range};
+pub use laws::replies_cover_range;
 pub use newer::news;
 pub use news_walk::News;
 pub use replies::Replies;
 pub use reply::Reply;
+pub use request::{Query, RequestFault, read_filter, read_query};

@@ -8,7 +8,7 @@ use Rattle.lgm_graph.specs.declared.edge.Edge.{Edge}
 use Rattle.lgm_route.specs.declared.numbered_request.NumberedRequest.{NumberedRequest}
 use Rattle.lgm_route.specs.declared.label.Label.{Label}
 use Rattle.lgm_route.specs.inner.Numbered.{owed, sent, IsRest, IsStep, IsUsable}
-use Rattle.lgm_route.specs.inner.Searching.{walk_key, Serves, label_at, no_label, number_at, Spells, IsLabel, IsWalk, bound_of, IsNoBetter, Has}
+use Rattle.lgm_route.specs.inner.Searching.{cost, walk_key, Serves, label_at, no_label, number_at, Spells, IsLabel, IsWalk, bound_of, IsNoBetter, Has}
 use Rattle.lgm_route.specs.inner.Searching.{IsHopeless, Reaches, IsPassed, IsLeft, IsSettled, AreLabels, IsFound, Grows, Begins, first_of, edge_at}
 use Rattle.lgm_route.specs.inner.Bounding.{AreLow}
 use Rattle.lgm_route.proofs.Orders.{NotAfter-trans}
@@ -243,7 +243,7 @@ module _ (graph : Graph) (request : NumberedRequest) (low : List ℕ) (start : �
 
   -- so no usable walk is better than the best
   no_better_by : (walk : List Edge) (o : Option Label) → IsFound graph request labels start o
-      → length walk ≤ 20 → bound_of start o < sent request.amount walk * 32 + length walk →
+      → length walk ≤ 20 → bound_of start o < cost (sent request.amount walk) (length walk) →
       IsNoBetter graph request labels start o walk
   no_better_by walk None is few p = omega arith
   no_better_by walk (Some best) is few p =

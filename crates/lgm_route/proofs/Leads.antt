@@ -8,7 +8,7 @@ use Rattle.lgm_graph.specs.declared.edge.Edge.{Edge}
 use Rattle.lgm_route.specs.declared.numbered_request.NumberedRequest.{NumberedRequest}
 use Rattle.lgm_route.specs.declared.label.Label.{Label}
 use Rattle.lgm_route.specs.inner.Numbered.{IsRest}
-use Rattle.lgm_route.specs.inner.Searching.{edge_at, first_of, label_at, no_label, number_at, Spells, IsLabel, IsWalk, SomeRest}
+use Rattle.lgm_route.specs.inner.Searching.{cost, edge_at, first_of, label_at, no_label, number_at, Spells, IsLabel, IsWalk, SomeRest}
 use Rattle.lgm_route.specs.inner.Searching.{SomeWalk, AreLabels, bound_of, Grows, PassesOn, LeadsOn}
 use Rattle.lgm_route.specs.inner.Leading.{IsNeedless, IsLed, IsLead, in_list, IsAmong, AreLeads}
 use Rattle.lgm_route.proofs.Rests.{trichotomy}
@@ -77,8 +77,7 @@ passed_needless graph request low start bound i labels after now edge lower need
       whole = λ from. absurd (h.0 from);
       longer = λ few.
           let hopeless =
-          subst (λ x. bound ≤ (x + fee_of x edge.base edge.millionths + number_at low edge.from) * 32
-          + ((label_at labels i).count + 1)) (sym is.owes) (h.1 (omega (arith, is.long, few))) in
+          subst (λ x. bound ≤ cost (x + fee_of x edge.base edge.millionths + number_at low edge.from) ((label_at labels i).count + 1)) (sym is.owes) (h.1 (omega (arith, is.long, few))) in
           inr (omega (arith, hopeless, is.long, lower));
     }
 

@@ -5,7 +5,7 @@ use Rattle.lgm_graph.specs.Fee.{fee_of}
 use Rattle.lgm_graph.specs.declared.edge.Edge.{Edge}
 use Rattle.lgm_route.specs.declared.numbered_request.NumberedRequest.{NumberedRequest}
 use Rattle.lgm_route.specs.inner.Numbered.{owed, sent, ids, IsStep}
-use Rattle.lgm_route.specs.inner.Searching.{NotAfter, rest_key, walk_key, Serves, AreCarried}
+use Rattle.lgm_route.specs.inner.Searching.{cost, NotAfter, rest_key, walk_key, Serves, AreCarried}
 use Rattle.lgm_route.proofs.Orders.{NotAfter-refl, NotAfter-trans, NotAfter-split, NotAfter-join, NotAfter-heads}
 
 -- a larger amount is charged no less
@@ -93,7 +93,7 @@ Serves-walk request edge a b h = by (NotAfter-split x y (length a ∷ ids a) (le
 
 -- what is sent, and then how many edges, in one number
 pub walk_less : (request : NumberedRequest) (walk other : List Edge) → length walk ≤ 20 → length other ≤ 20 →
-    sent request.amount walk * 32 + length walk < sent request.amount other * 32 + length other →
+    cost (sent request.amount walk) (length walk) < cost (sent request.amount other) (length other) →
     NotAfter (walk_key request walk) (walk_key request other)
 walk_less request walk other few also p = by (trichotomy (sent request.amount walk) (sent request.amount other))
   where

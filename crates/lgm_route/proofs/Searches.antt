@@ -7,7 +7,7 @@ use Rattle.lgm_route.specs.declared.numbered_request.NumberedRequest.{NumberedRe
 use Rattle.lgm_route.specs.declared.label.Label.{Label}
 use Rattle.lgm_route.specs.inner.Bounding.{AreLow}
 use Rattle.lgm_route.specs.inner.Numbered.{sent, IsLeast}
-use Rattle.lgm_route.specs.inner.Searching.{label_at, edge_at, Spells, first_of, bound_of, number_at, IsSettled, AreLabels, IsFound}
+use Rattle.lgm_route.specs.inner.Searching.{cost, label_at, edge_at, Spells, first_of, bound_of, number_at, IsSettled, AreLabels, IsFound}
 use Rattle.lgm_route.specs.inner.Searching.{Grows, IsOffered, IsBetter, PassesOn, AreSpelled, SomeRest, IsNoBetter, StandsIn}
 use Rattle.lgm_route.specs.inner.Leading.{IsLed, AreLeads}
 use Rattle.lgm_route.specs.inner.State.{Ground, State, state_of, IsGround, IsSearch, Extends, IsSettledAt, IsMarkedAt}
@@ -136,7 +136,7 @@ settled_led a b i is h within left =
 
 -- so is one that no walk over it can make better
 pub settled_vain : (s : State) (i : ℕ) → IsSearch s → i < length s.labels →
-    bound_in s ≤ ((label_at s.labels i).owed + number_at s.ground.low (label_at s.labels i).node) * 32 + (label_at s.labels i).count → IsSettledAt s i
+    bound_in s ≤ cost ((label_at s.labels i).owed + number_at s.ground.low (label_at s.labels i).node) (label_at s.labels i).count → IsSettledAt s i
 settled_vain s i is within h =
     settled_hopeless s.ground.graph s.ground.request s.ground.low s.ground.start s.labels s.best (label_at s.labels i) (is.labelled.sound i within) h
 

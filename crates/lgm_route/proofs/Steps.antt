@@ -10,7 +10,7 @@ use Rattle.lgm_graph.specs.declared.edge.Edge.{Edge}
 use Rattle.lgm_route.specs.declared.numbered_request.NumberedRequest.{NumberedRequest}
 use Rattle.lgm_route.specs.declared.label.Label.{Label}
 use Rattle.lgm_route.specs.inner.Numbered.{sent, ids, IsUsable, IsLeast, Precedes}
-use Rattle.lgm_route.specs.inner.Searching.{NotAfter, walk_key, Serves, no_edge, edge_at, label_at, no_label, number_at, Spells}
+use Rattle.lgm_route.specs.inner.Searching.{cost, NotAfter, walk_key, Serves, no_edge, edge_at, label_at, no_label, number_at, Spells}
 use Rattle.lgm_route.specs.inner.Searching.{IdsFirst, IsLabel, IsWalk, DoesServe, SomeRest, SomeWalk, bound_of, IsNoBetter, IsHopeless}
 use Rattle.lgm_route.specs.inner.Searching.{IsPassed, IsLeft, IsSettled, AreLabels, IsFound, Grows, IsBetter, IsOffered, PassesOn}
 use Rattle.lgm_route.specs.inner.Searching.{LeadsOn, StandsIn, AreSpelled, AreSettled, IsStart}
@@ -84,7 +84,7 @@ module _ (graph : Graph) (request : NumberedRequest) (labels : List Label) (star
       low (inr (inl p)) = omega (arith, found.1, p.0)
       low (inr (inr p)) = omega (arith, found.1, p.0)
 
-      lower : IsBefore graph labels new best → new.owed * 32 + new.count ≤ best.owed * 32 + best.count
+      lower : IsBefore graph labels new best → cost new.owed new.count ≤ cost best.owed best.count
       lower (inl p) = omega (arith, some.1.few)
       lower (inr (inl p)) = omega (arith, p.0, p.1)
       lower (inr (inr p)) = omega (arith, p.0, p.1)
@@ -100,7 +100,7 @@ module _ (graph : Graph) (request : NumberedRequest) (labels : List Label) (star
         takes = λ walk is. ((found.0).0, (found.0).1, before_walk graph request labels best new (found.0).0 walk (found.0).1 is before);
       }
     where
-      below : IsBefore graph labels best new → best.owed * 32 + best.count ≤ new.owed * 32 + new.count
+      below : IsBefore graph labels best new → cost best.owed best.count ≤ cost new.owed new.count
       below (inl p) = omega (arith, (found.0).1.few)
       below (inr (inl p)) = omega (arith, p.0, p.1)
       below (inr (inr p)) = omega (arith, p.0, p.1)
@@ -336,7 +336,7 @@ module _ (graph : Graph) (request : NumberedRequest) (low : List ℕ) (start : �
       })
 
   pub settled_hopeless : (labels : List Label) (found : Option Label) (label : Label) → SomeRest graph request labels label →
-      bound_of start found ≤ (label.owed + number_at low label.node) * 32 + label.count → IsSettled graph request low start labels found label
+      bound_of start found ≤ cost (label.owed + number_at low label.node) label.count → IsSettled graph request low start labels found label
   settled_hopeless labels found label some h = record { rest = some.0; is = some.1; done = inl (omega (arith, h, some.1.owes, some.1.long)) }
 
   -- a label for which another stands in

@@ -10,7 +10,7 @@ ghost use Rattle.lgm_route.specs.declared.fault.RouteFault.{RouteFault};
 use crate::fault::RouteFault;
 use crate::request::Request;
 use crate::route::Route;
-use crate::routing::{least, least_chunked};
+use crate::routing::{least, least_pooled};
 use lgm_graph::View;
 use lgm_par::{Gate, Pool};
 use lgm_store::Map;
@@ -33,7 +33,7 @@ pub fn answer(alloc: Global, map: &Map, view: &View, request: &Request) -> Resul
     least(alloc, view, request)
 }
 
-/// The same answer, found by a pool of workers as in [`least_chunked`].
+/// The same answer, found by a pool of workers as in [`least_pooled`].
 pub fn answer_chunked<Rt: Threads + Sync, G: Gate>(
     pool: &Pool<'_, Rt, G>,
     map: &Map,
@@ -47,5 +47,5 @@ pub fn answer_chunked<Rt: Threads + Sync, G: Gate>(
 {
     map.rows_are_lawful();
     view.shows_the_edges();
-    least_chunked(pool.rt, pool.alloc, pool.workers, pool.gate, view, request)
+    least_pooled(pool, view, request)
 }

@@ -4,6 +4,7 @@ ghost use Rattle.std.specs.Prelude.{◌≡◌, ◌^◌, ◌≤◌, true, false, 
 ghost use Rattle.lgm_route.specs.inner.Searching.{IsSpelled, IdsFirst, bound_of, IsFound};
 ghost use Rattle.lgm_route.specs.inner.Searching.{DoesServe, SomeWalk, IsBetter};
 
+use crate::cost::cost;
 use crate::label::{Label, first_of};
 use crate::numbered_request::NumberedRequest;
 use lgm_graph::View;
@@ -59,8 +60,8 @@ pub(crate) fn bound_of(start: u128, best: &Option<Label>) -> u128
     ensures low { result ≤ 2 ^ 70 }
 {
     match best {
-        None => start * 32,
-        Some(best) => best.owed as u128 * 32 + best.count as u128,
+        None => cost(start, 0),
+        Some(best) => cost(best.owed as u128, best.count as u128),
     }
 }
 

@@ -5,6 +5,7 @@ ghost use Rattle.lgm_route.specs.inner.Searching.{label_at, first_of};
 ghost use Rattle.lgm_route.specs.inner.Leading.{IsLed};
 ghost use Rattle.lgm_route.specs.inner.State.{Extends, IsIntoAt, IsLeadAt, IsPassedOn, IsLeftAt};
 
+use crate::cost::cost;
 use crate::label::Label;
 use crate::search::Search;
 use lgm_graph::{Edge, fee};
@@ -41,7 +42,7 @@ impl<'a> Search<'a> {
             return None;
         }
         let owed = label.owed as u128 + fee(label.owed, edge.base, edge.millionths);
-        let least = (owed + self.low(edge.from) as u128) * 32 + label.count as u128 + 1;
+        let least = cost(owed + self.low(edge.from) as u128, label.count as u128 + 1);
         if self.bound() <= least || owed >= 1 << 64 {
             return None;
         }

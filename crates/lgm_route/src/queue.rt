@@ -3,6 +3,7 @@
 ghost use Rattle.std.specs.Prelude.{◌<◌, length, All, IfOk, IfSome};
 ghost use Rattle.lgm_route.specs.inner.State.{Extends};
 
+use crate::cost::cost;
 use crate::diving::Dives;
 use crate::entry::Entry;
 use crate::search::Search;
@@ -54,7 +55,7 @@ impl Queue {
         ensures { IfSome result (λ i. i < length search.now.labels) }
     {
         let entry = self.heap.pop()?;
-        let least = (search.request().amount as u128 + entry.amount() as u128) * 32;
+        let least = cost(search.request().amount as u128 + entry.amount() as u128, 0);
         if entry.is_exact() && search.bound() <= least {
             return None;
         }

@@ -1,6 +1,6 @@
 //! The best route of a payment.
 
-ghost use Rattle.std.specs.Prelude.{◌≡◌, ◌⊎◌, ◌≤◌, Some, Err, IfOk};
+ghost use Rattle.std.specs.Prelude.{◌≡◌, ◌⊎◌, ◌≤◌, Some, None, Err, IfOk, IfErr};
 ghost use Rattle.std.specs.Option.{option_map};
 ghost use Rattle.lgm_graph.specs.Graph.{edges, point_edges};
 ghost use Rattle.lgm_route.specs.Answers.{refusal, IsAnswer, IsFoundOver};
@@ -86,6 +86,22 @@ fn numbering_of(view: &View, request: &Request) -> Option<NumberedRequest>
     })
 }
 
+/// The request between numbered nodes, or why there is no route for it, whatever the edges between them are.
+fn numbered(view: &View, request: &Request) -> Result<NumberedRequest, RouteFault>
+    ensures refused { (fault : RouteFault) → refusal request.now ≡ Some fault → result ≡ Err fault }
+    ensures found { IfOk result (λ numbered. IsNumberingOf view.now request.now (Some numbered)) }
+    ensures allowed { IfOk result (λ _. refusal request.now ≡ None) }
+    ensures answer { IfErr result (λ fault. IsAnswer (point_edges view.now) request.now (Err fault)) }
+{
+    if let Some(fault) = request.refusal() {
+        return Err(fault);
+    }
+    match numbering_of(view, request) {
+        Some(numbered) => Ok(numbered),
+        None => Err(RouteFault::NoRoute),
+    }
+}
+
 /// The hops of the best walk, if there is one.
 fn hops_of(
     alloc: Global,
@@ -147,30 +163,42 @@ pub fn least(alloc: Global, view: &View, request: &Request) -> Result<Route, Rou
     // Otherwise the answer is the best route, or that there is none, unless memory runs out.
     ensures answer { (result ≡ Err RouteFault.NoMemory) ⊎ IsAnswer (point_edges view.now) request.now result }
 {
-    if let Some(fault) = request.refusal() {
-        return Err(fault);
-    }
-    let Some(numbered) = numbering_of(view, request) else {
-        return Err(RouteFault::NoRoute);
-    };
+    let numbered = numbered(view, request)?;
     let walk = best_walk(alloc, view, &numbered)?;
     route_over(alloc, view, request, &numbered, walk)
 }
 
-/// The same route as [`least`], found by several workers, for any number of them from 1 to 64, and whatever the gate
-/// does.
+/// The same route as [`least`], found by a pool of workers, whatever its gate does.
 ///
 /// The first 64 labels leave the queue frontier by frontier: all that are equally promising and have as many edges. A
-/// frontier is relaxed by one call of [`map_chunks`](lgm_par::map_chunks), in as many chunks as it has eighths of the
-/// network's nodes (512 labels are always enough for a chunk), and merged in order by one thread. Then the search is
-/// best-first, on one thread, for some thousands of labels and until some walk is found: most searches finish there. If
-/// not, it goes on by layers: the labels with one number of edges are a frontier, with 512 labels for each chunk. There
-/// are at most 20 layers.
+/// frontier is relaxed by one call of [`Pool::map`], in as many chunks as it has eighths of the network's nodes (512
+/// labels are always enough for a chunk), and merged in order by one thread. Then the search is best-first, on one
+/// thread, for some thousands of labels and until some walk is found: most searches finish there. If not, it goes on by
+/// layers: the labels with one number of edges are a frontier, with 512 labels for each chunk. There are at most 20
+/// layers.
 ///
 /// Each chunk passes the gate with its number, from 0. A frontier with too few labels for a chunk is relaxed on the
 /// caller's thread, as is all that comes best-first, and passes no gate.
 ///
 /// The refusals are those of [`least`].
+pub fn least_pooled<Rt: Threads + Sync, G: Gate>(
+    pool: &Pool<'_, Rt, G>,
+    view: &View,
+    request: &Request,
+) -> Result<Route, RouteFault>
+    ensures refused { (fault : RouteFault) → refusal request.now ≡ Some fault → result ≡ Err fault }
+    ensures answer { (result ≡ Err RouteFault.NoMemory) ⊎ IsAnswer (point_edges view.now) request.now result }
+{
+    if pool.workers == 1 {
+        return least(pool.alloc, view, request);
+    }
+    let numbered = numbered(view, request)?;
+    let walk = best_walk_chunked(pool, view, &numbered)?;
+    route_over(pool.alloc, view, request, &numbered, walk)
+}
+
+/// The same route as [`least`], found by several workers, for any number of them from 1 to 64, and whatever the gate
+/// does: [`least_pooled`], with a pool of these.
 pub fn least_chunked<Rt: Threads + Sync, G: Gate>(
     rt: &Rt,
     alloc: Global,
@@ -180,28 +208,14 @@ pub fn least_chunked<Rt: Threads + Sync, G: Gate>(
     request: &Request,
 ) -> Result<Route, RouteFault>
     requires workers { (1 ≤ workers) × (workers ≤ 64) }
-
-    // A request that is refused whatever the edges are is refused for its first reason.
     ensures refused { (fault : RouteFault) → refusal request.now ≡ Some fault → result ≡ Err fault }
-
-    // Otherwise the answer is the best route, or that there is none, unless memory runs out.
     ensures answer { (result ≡ Err RouteFault.NoMemory) ⊎ IsAnswer (point_edges view.now) request.now result }
 {
-    if workers == 1 {
-        return least(alloc, view, request);
-    }
-    if let Some(fault) = request.refusal() {
-        return Err(fault);
-    }
-    let Some(numbered) = numbering_of(view, request) else {
-        return Err(RouteFault::NoRoute);
-    };
     let pool = Pool {
         rt,
         alloc,
         workers,
         gate,
     };
-    let walk = best_walk_chunked(&pool, view, &numbered)?;
-    route_over(alloc, view, request, &numbered, walk)
+    least_pooled(&pool, view, request)
 }

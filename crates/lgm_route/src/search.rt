@@ -160,7 +160,7 @@ impl<'a> Search<'a> {
         self.low.channel_to(node).is_some()
     }
 
-    /// The bound that a better walk is below: what is sent, in msat, times 32, plus the number of edges.
+    /// The cost that a better walk is below.
     #[inline(always)]
     pub(crate) fn bound(&self) -> u128
         ensures exact { result ≡ bound_in self.now }

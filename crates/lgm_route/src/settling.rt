@@ -1,21 +1,25 @@
 //! Settling labels: they are relaxed or pruned.
 
 ghost use Rattle.std.specs.Prelude.{◌≡◌, ◌+◌, ◌*◌, ◌<◌, length, IfOk};
-ghost use Rattle.lgm_route.specs.inner.Searching.{number_at};
+ghost use Rattle.lgm_route.specs.inner.Searching.{cost, number_at};
 ghost use Rattle.lgm_route.specs.inner.State.{Extends, IsMarkedAt, IsFinished};
 
+use crate::cost::cost;
 use crate::label::Label;
 use crate::search::Search;
 use std::alloc::AllocError;
 
 impl<'a> Search<'a> {
-    /// A lower bound of walks over the label: what is sent, in msat, times 32, plus the number of edges.
+    /// A lower bound on the cost of walks over the label.
     #[inline(always)]
     pub(crate) fn hope(&self, label: &Label) -> u128
         ensures { result
-            ≡ (label.now.owed + number_at self.now.ground.low label.now.node) * 32 + label.now.count }
+            ≡ cost (label.now.owed + number_at self.now.ground.low label.now.node) label.now.count }
     {
-        (label.owed as u128 + self.low(label.node) as u128) * 32 + label.count as u128
+        cost(
+            label.owed as u128 + self.low(label.node) as u128,
+            label.count as u128,
+        )
     }
 
     /// Relaxes a label, unless that was done.

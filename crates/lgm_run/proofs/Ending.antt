@@ -1,11 +1,11 @@
 -- What was written, from what was told.
-use Rattle.std.proofs.Common.{◌≡◌, ◌⊎◌, inl, inr, ℕ, List, [], Option, Some, None, Result, Ok, Err, refl, sym, subst, ◌∙◌, arith}
+use Rattle.std.proofs.Common.{◌≡◌, inl, inr, ℕ, List, [], Option, Some, None, Result, Ok, Err, refl, sym, ap, subst, ◌∙◌, arith}
 use Rattle.std.specs.Prelude.{◌≢◌, IfSome, IfOk, IfErr}
 use Rattle.std.proofs.lemmas.Option.{IfSome_then}
 use Rattle.std.proofs.lemmas.Result.{IfOk-weaker}
 use Rattle.lgm_wire.specs.declared.chain_hash.ChainHash.{ChainHash}
 use Rattle.lgm_script.specs.declared.output.SendFault.TheVariants.{Write as SendWrite}
-use Rattle.lgm_script.specs.Device.{Appends, AppendsSome}
+use Rattle.lgm_script.specs.Device.{Input, Written, Appends, AppendsSome}
 use Rattle.lgm_script.specs.Output.{OutputState, Tells, TellsSome}
 use Rattle.lgm_script.proofs.Appending.{appends_nothing}
 use Rattle.lgm_script.proofs.Telling.{taken_all, taken_some, some_flushed, some_flushed_part}
@@ -14,15 +14,11 @@ use Rattle.lgm_answers.specs.declared.run_fault.RunFault.TheVariants as faults
 use Rattle.lgm_run.specs.declared.running.Counts.{Counts}
 use Rattle.lgm_run.specs.Running.{NeedsNoBoard, IsTold, IsAnswered, IsTooMany, IsTooLong, IsCutShort}
 use Rattle.lgm_run.specs.Runs.{Runs}
-use Rattle.lgm_run.specs.inner.Ending.{IsFlushed, FailsThen, HasFailed}
-
--- how it ended: flushed, failed then, or failed before
-abbrev Ended : OutputState → OutputState → Result Counts RunFault → Result Counts RunFault → Type 0
-Ended mid new answered result = IsFlushed mid new answered result ⊎ (FailsThen mid new result ⊎ HasFailed mid new answered result)
+use Rattle.lgm_run.specs.inner.Ending.{IsFlushed, IsEnded}
 
 told_as : (chain : ChainHash) (known : Option (List ℕ)) (script : List ℕ) (n : ℕ) (old mid new : OutputState)
     → old.gathered ≡ [] → Tells mid new [] → new.gathered ≡ [] → IsTold chain known (Tells old mid) script n
-    → IsTold chain known (Appends old.taken new.taken) script n
+    → IsTold chain known (Appends old.sink.taken new.sink.taken) script n
 told_as chain known script n old mid new empty flushed clear told =
     record {
       few = told.few;
@@ -36,7 +32,7 @@ fails fault = Err fault
 -- what holds at a fault that comes before the rest is written, also holds of what was written
 flushed_at : {P Q : Type 0} (mid new : OutputState) (answered result : Result Counts RunFault)
     (fault : RunFault)
-    → Ended mid new answered result → fails fault ≢ fails faults.Write → (answered ≡ fails fault → P)
+    → IsEnded mid new answered result → fails fault ≢ fails faults.Write → (answered ≡ fails fault → P)
     → result ≡ fails fault → (IsFlushed mid new answered result → P → Q) → Q
 flushed_at mid new answered result fault ended other told is by =
     elim ended [
@@ -65,10 +61,10 @@ if_err (Err fault) holds = holds
 
 module _ (chain : ChainHash) (known : Option (List ℕ)) (script : Option (List ℕ)) (old mid new : OutputState)
     (answered result : Result Counts RunFault) (empty : old.gathered ≡ [])
-    (ended : Ended mid new answered result) where
+    (ended : IsEnded mid new answered result) where
   ok_flushed : (counts : Counts) → IsFlushed mid new answered result
       → IfSome script (IsAnswered chain known (Tells old mid) counts)
-      → IfSome script (IsAnswered chain known (Appends old.taken new.taken) counts)
+      → IfSome script (IsAnswered chain known (Appends old.sink.taken new.sink.taken) counts)
   ok_flushed counts flushed told = IfSome_then script told (λ s told. record {
     lines = told.lines;
     limit = told.limit;
@@ -77,11 +73,11 @@ module _ (chain : ChainHash) (known : Option (List ℕ)) (script : Option (List 
   })
 
   pub ok_written : IfOk answered (λ counts. IfSome script (IsAnswered chain known (Tells old mid) counts))
-      → IfOk result (λ counts. IfSome script (IsAnswered chain known (Appends old.taken new.taken) counts))
+      → IfOk result (λ counts. IfSome script (IsAnswered chain known (Appends old.sink.taken new.sink.taken) counts))
   ok_written told =
       elim ended [
         | inl flushed ↦ subst (λ r. IfOk r (λ counts. IfSome script (IsAnswered chain known
-            (Appends old.taken new.taken) counts))) (sym flushed.same)
+            (Appends old.sink.taken new.sink.taken) counts))) (sym flushed.same)
             (IfOk-weaker answered _ _ (λ counts. ok_flushed counts flushed) told)
         | inr other ↦
             elim other [ inl failed ↦ rw failed.write tt | inr before ↦ rw (before.same, before.failed) tt ]
@@ -90,7 +86,7 @@ module _ (chain : ChainHash) (known : Option (List ℕ)) (script : Option (List 
   pub many_written : (answered ≡ fails faults.TooManyLines
       → IfSome script (IsTooMany chain known (Tells old mid)))
       → result ≡ fails faults.TooManyLines
-      → IfSome script (IsTooMany chain known (Appends old.taken new.taken))
+      → IfSome script (IsTooMany chain known (Appends old.sink.taken new.sink.taken))
   many_written told is =
       flushed_at mid new answered result faults.TooManyLines ended (λ same. cc) told is
       (λ flushed told. IfSome_then script told (λ s told. record {
@@ -101,7 +97,7 @@ module _ (chain : ChainHash) (known : Option (List ℕ)) (script : Option (List 
   pub long_written : (answered ≡ fails faults.LineTooLong
       → IfSome script (IsTooLong chain known (Tells old mid)))
       → result ≡ fails faults.LineTooLong
-      → IfSome script (IsTooLong chain known (Appends old.taken new.taken))
+      → IfSome script (IsTooLong chain known (Appends old.sink.taken new.sink.taken))
   long_written told is =
       flushed_at mid new answered result faults.LineTooLong ended (λ same. cc) told is
       (λ flushed told. IfSome_then script told (λ s told. record {
@@ -113,14 +109,14 @@ module _ (chain : ChainHash) (known : Option (List ℕ)) (script : Option (List 
 
   -- what was told at a fault, or a whole text that couldn't be written
   cut_written : (left : Option (List ℕ)) → IfSome script (IsCutShort chain known (TellsSome old new) left)
-      → IfErr result (λ _. IfSome script (IsCutShort chain known (AppendsSome old.taken new.taken) left))
+      → IfErr result (λ _. IfSome script (IsCutShort chain known (AppendsSome old.sink.taken new.sink.taken) left))
   cut_written left cut =
-      if_err result (cut_by chain known left script (TellsSome old new) (AppendsSome old.taken new.taken)
+      if_err result (cut_by chain known left script (TellsSome old new) (AppendsSome old.sink.taken new.sink.taken)
       (λ t. taken_some old new t empty) cut)
 
   pub fault_written : (left : Option (List ℕ))
       → IfSome script (IsCutShort chain known (TellsSome old mid) left)
-      → IfErr result (λ _. IfSome script (IsCutShort chain known (AppendsSome old.taken new.taken) left))
+      → IfErr result (λ _. IfSome script (IsCutShort chain known (AppendsSome old.sink.taken new.sink.taken) left))
   fault_written left told =
       elim ended [
         | inl flushed ↦ cut_written left (cut_by chain known left script (TellsSome old mid)
@@ -132,6 +128,17 @@ module _ (chain : ChainHash) (known : Option (List ℕ)) (script : Option (List 
               (λ t part. some_flushed_part old mid new t SendWrite part failed.part) told)
           | inr before ↦ cut_written left (subst (λ (t : OutputState).
               IfSome script (IsCutShort chain known (TellsSome old t) left)) (sym before.still) told)
+        ]
+      ]
+
+  -- and it is the same sink
+  pub writer_ended : mid.writer ≡ old.writer → new.writer ≡ old.writer
+  writer_ended same =
+      elim ended [
+        | inl flushed ↦ flushed.told.writer ∙ same
+        | inr other ↦ elim other [
+          | inl failed ↦ failed.part.writer ∙ same
+          | inr before ↦ ap (λ (t : OutputState). t.writer) before.still ∙ same
         ]
       ]
 
@@ -157,15 +164,13 @@ nothing_written chain known (Some script) taken = record {
   text = record { few = omega arith; short = tt; text = (0, appends_nothing taken) };
 }
 
-pub nothing_ran : {R W : Type 0} (left : R → Option (List ℕ)) (read_failures : R → ℕ)
-    (taken : W → Option (List ℕ)) (write_failures : W → ℕ) (chain : ChainHash) (known : Option (List ℕ))
-    (reader : R) (writer : W)
-    → Runs left read_failures taken write_failures chain known reader reader writer writer (fails faults.NoMemory)
-nothing_ran left read_failures taken write_failures chain known reader writer = record {
+pub nothing_ran : (chain : ChainHash) (known : Option (List ℕ)) (reader : Input) (writer : Written)
+    → Runs chain known reader reader writer writer (fails faults.NoMemory)
+nothing_ran chain known reader writer = record {
   ok = tt;
   too_many = λ is. absurd cc;
   too_long = λ is. absurd cc;
-  fault = nothing_written chain known (left reader) (taken writer);
+  fault = nothing_written chain known reader.left writer.taken;
   read = λ is. absurd cc;
   write = λ is. absurd cc;
   own = tt;

@@ -16,7 +16,7 @@ use Rattle.lgm_run.specs.declared.checking.Offered.{Offered}
 use Rattle.lgm_answers.specs.Answer.{outcome_text}
 use Rattle.lgm_answers.specs.Script.{State, text_for}
 use Rattle.lgm_run.specs.inner.Steps.{state_behind, state_after, state_from, text_from, state_alone, text_alone}
-use Rattle.lgm_run.specs.inner.Offered.{offered_in, state_by, offered_text, WasChecked}
+use Rattle.lgm_run.specs.inner.Offered.{offered_in, state_by, offered_text}
 use Rattle.lgm_run.specs.inner.Questions.{asked_in, question_text, filters_after, filters_behind, questions_text}
 use Rattle.lgm_run.proofs.Keeping.{outcome_checked}
 
@@ -35,18 +35,8 @@ item_is_told chain number state (requests.Offer item) kind =
     ap (λ outcome. outcome_text number (result_err outcome)) (sym (outcome_checked chain state.rows item))
 item_is_told chain number state _ kind = absurd kind
 
-was_checked : (chain : ChainHash) (request : Request) (item : Offered) → offered_in chain request ≡ Some item → WasChecked item
-was_checked chain (requests.Offer own) item is = (chain, own, cc)
-was_checked chain _ item is = absurd cc
-
-was_checked_if : (chain : ChainHash) (request : Request) (item : Option Offered)
-    → item ≡ offered_in chain request → IfSome item WasChecked
-was_checked_if chain request None is = tt
-was_checked_if chain request (Some item) is = was_checked chain request item (sym is)
-
 -- a line's item after its check: the request is to offer it
 pub record IsItemOf (chain : ChainHash) (request : Request) (item : Option Offered) : Type 0 where
-  pub checked : IfSome item WasChecked
   pub leaves : (state : State) → state_by state item ≡ state_after chain state request
   pub is_told : (number : ℕ) (state : State) → offered_text number state.rows item ≡ text_for chain number
       state request
@@ -54,7 +44,6 @@ pub record IsItemOf (chain : ChainHash) (request : Request) (item : Option Offer
 item_of : (chain : ChainHash) (request : Request) (item : Option Offered) → IsOfKind kinds.Item request
     → item ≡ offered_in chain request → IsItemOf chain request item
 item_of chain request item kind is = record {
-  checked = was_checked_if chain request item is;
   leaves = λ state. ap (state_by state) is ∙ item_leaves chain state request kind;
   is_told =
       λ number state. ap (offered_text number state.rows) is ∙ item_is_told chain number state request kind;

@@ -1,5 +1,4 @@
 pub mod Keeping
-pub mod Behind
 pub mod Tables
 pub mod Turning
 mod Zips

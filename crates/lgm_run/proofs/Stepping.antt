@@ -19,9 +19,9 @@ use Rattle.lgm_script.specs.declared.request.Request.{Request}
 use Rattle.lgm_script.specs.declared.request.Request.TheVariants as requests
 use Rattle.lgm_script.specs.Request.{HasLawfulPeer}
 use Rattle.lgm_answers.specs.declared.filters.PeerFilter.{PeerFilter}
-use Rattle.lgm_answers.specs.declared.objection.Objection.{Objection}
+use Rattle.lgm_query.specs.declared.request.RequestFault.{RequestFault}
 use Rattle.lgm_answers.specs.Filters.{filters_with, filters_from}
-use Rattle.lgm_answers.specs.Filtering.{filter_read}
+use Rattle.lgm_query.specs.Requests.{filter_read}
 use Rattle.lgm_answers.specs.Outcomes.{outcome_of, with_outcome, outcomes_behind, history_of}
 use Rattle.lgm_answers.specs.Script.{item_in, items_of, is_commit, before_commit, filter_given, filter_of, filters_of, State, state_of}
 use Rattle.lgm_answers.proofs.Outcomes.{outcome_joins}
@@ -132,9 +132,9 @@ filters_kept chain asked request none =
 
 -- filters of requests with one more, which sets that of a peer
 filters_set : (chain : ChainHash) (asked : List Request) (peer : ℕ) (bytes : List ℕ)
-    (read : Result Filter Objection) → filter_read chain bytes ≡ read → peer < 1000
+    (read : Result Filter RequestFault) → filter_read chain bytes ≡ read → peer < 1000
     → filters_with (filters_of chain asked) peer read ≡ filters_of chain (asked ++ requests.Filter peer bytes ∷ [])
-filters_set chain asked peer bytes (Err objection) is small = sym (filters_kept chain asked (requests.Filter peer bytes) (λ p. by (eqb peer p)))
+filters_set chain asked peer bytes (Err fault) is small = sym (filters_kept chain asked (requests.Filter peer bytes) (λ p. by (eqb peer p)))
   where
     by : (b : Bool) → cond b (result_ok (filter_read chain bytes)) None ≡ None
     by true = ap result_ok is

@@ -2,14 +2,13 @@
 use Rattle.std.proofs.Common.{◌≡◌, ℕ, ◌+◌, ◌<◌, ◌≤◌, List, [], Option, Result, Ok, Err, refl, sym, ap, subst, ◌∙◌, length, arith}
 use Rattle.std.specs.Prelude.{◌≢◌, IfSome, IfOk, IfErr}
 use Rattle.lgm_wire.specs.declared.chain_hash.ChainHash.{ChainHash}
-use Rattle.lgm_script.specs.declared.output.Output.{Output}
 use Rattle.lgm_script.specs.declared.output.SendFault.{SendFault}
 use Rattle.lgm_script.specs.declared.output.SendFault.TheVariants as sending
 use Rattle.lgm_script.specs.declared.reading.LineFault.{LineFault}
 use Rattle.lgm_script.specs.declared.reading.LineFault.TheVariants as lines
-use Rattle.lgm_script.specs.Device.{IsAtEnd}
+use Rattle.lgm_script.specs.Device.{Input, IsAtEnd}
 use Rattle.lgm_script.specs.Lines.{ahead, IsFirstLine, IsLongerThan}
-use Rattle.lgm_script.specs.Output.{seen, OutputState, Tells, TellsPart, TellsSome, Sends, SendsPart, SendsSome}
+use Rattle.lgm_script.specs.Output.{OutputState, Tells, TellsPart, TellsSome}
 use Rattle.lgm_script.proofs.Telling.{some_of_all, some_of_part, tells_nothing}
 use Rattle.lgm_answers.specs.declared.run_fault.RunFault.{RunFault}
 use Rattle.lgm_answers.specs.declared.run_fault.RunFault.TheVariants as faults
@@ -33,6 +32,14 @@ line_some lines.Read mid new told part = some_of_all mid new [] (told (λ e. abs
 line_some lines.Write mid new told part = some_of_part mid new [] sending.Write (part refl)
 line_some lines.TooLong mid new told part = some_of_all mid new [] (told (λ e. absurd cc))
 
+-- and it is the same sink
+line_writer : {T : Type 0} (fault : LineFault) (mid new : OutputState)
+    → (failed {T = T} fault ≢ failed lines.Write → Tells mid new [])
+    → (failed {T = T} fault ≡ failed lines.Write → TellsPart mid new [] sending.Write) → new.writer ≡ mid.writer
+line_writer lines.Read mid new told part = (told (λ e. absurd cc)).writer
+line_writer lines.Write mid new told part = (part refl).writer
+line_writer lines.TooLong mid new told part = (told (λ e. absurd cc)).writer
+
 -- a line that can't be read asks no board
 line_own : (fault : LineFault) → NeedsNoBoard (line_fault fault)
 line_own lines.Read = tt
@@ -43,39 +50,33 @@ not_write : {T : Type 0} (fault : LineFault) → fault ≡ lines.TooLong
     → failed {T = T} fault ≢ failed lines.Write
 not_write {T = T} fault is same = let here = sym (ap (failed {T = T}) is) ∙ same in cc
 
-module _ {R W : Type 0} {left : R → Option (List ℕ)} {read_failures : R → ℕ} {taken : W → Option (List ℕ)}
-    {write_failures : W → ℕ} {chain : ChainHash} {known : Option (List ℕ)} {source : R} {output : Output W}
-    {k : ℕ} {state : State} {buffered : List ℕ} {mid : R} {between : Output W}
-    (up_to : IsUpTo left read_failures taken write_failures chain known source output k state buffered mid
-    between) where
+module _ {chain : ChainHash} {known : Option (List ℕ)} {source : Input} {output : OutputState} {k : ℕ}
+    {state : State} {buffered : List ℕ} {mid : Input} {between : OutputState}
+    (up_to : IsUpTo chain known source output k state buffered mid between) where
   -- a line couldn't be read
-  pub line_failed : {T : Type 0} (buffered' : List ℕ) (source' : R) (output' : Output W) (fault : LineFault)
-      → ahead buffered' (left source') ≡ ahead buffered (left mid)
-      → (failed {T = T} fault ≢ failed lines.Write → Sends taken write_failures between output' [])
-      → (failed {T = T} fault ≡ failed lines.Write → SendsPart taken write_failures between output' [] sending.Write)
-      → (failed {T = T} fault ≡ failed lines.Read → read_failures mid < read_failures source')
-      → (fault ≡ lines.TooLong → (k < 10000000) × IsLongerThan 140000 (ahead buffered' (left source')))
-      → HasAnswered left read_failures taken write_failures chain known source source' output output'
-      (ended (line_fault fault))
+  pub line_failed : {T : Type 0} (buffered' : List ℕ) (source' : Input) (output' : OutputState) (fault : LineFault)
+      → ahead buffered' source'.left ≡ ahead buffered mid.left
+      → (failed {T = T} fault ≢ failed lines.Write → Tells between output' [])
+      → (failed {T = T} fault ≡ failed lines.Write → TellsPart between output' [] sending.Write)
+      → (failed {T = T} fault ≡ failed lines.Read → mid.failures < source'.failures)
+      → (fault ≡ lines.TooLong → (k < 10000000) × IsLongerThan 140000 (ahead buffered' source'.left))
+      → HasAnswered chain known source source' output output' (ended (line_fault fault))
   line_failed {T = T} buffered' source' output' fault kept told part read longer =
-      let old = seen taken write_failures output in
-      let now = seen taken write_failures between in
-      let new = seen taken write_failures output' in
-      let input = ahead buffered' (left source') in
+      let input = ahead buffered' source'.left in
       let so_far = so_far_on up_to buffered' source' kept in
       let end =
       ends_at Counts {U = T} fault up_to.read_same
       up_to.write_same (λ not. (told not).well) (λ is. (part is).cause refl) read in
       record {
+        writer = line_writer fault between output' told part ∙ up_to.writer;
         ok = tt;
         too_many = λ same. absurd (end.not_many same);
         too_long = λ same. let is = end.too_long same in
-            long chain known (left source) k state input old new (told_on chain known (left source) k state
-            input
-            old now new so_far (told (not_write fault is))) (longer is).0 (longer is).1;
+            long chain known source.left k state input output output' (told_on chain known source.left k
+            state input output between output' so_far (told (not_write fault is))) (longer is).0 (longer is).1;
         some =
-            cut chain known (left source) k state buffered' (left source') old now new so_far up_to.within
-            (line_some fault now new told part);
+            cut chain known source.left k state buffered' source'.left output between output' so_far
+            up_to.within (line_some fault between output' told part);
         read = end.read;
         write = end.write;
         well = end.well;
@@ -84,82 +85,70 @@ module _ {R W : Type 0} {left : R → Option (List ℕ)} {read_failures : R → 
 
   -- it ended otherwise after what was read, and no device failed
   has_ended : (result : Result Counts RunFault)
-      → IfOk result (λ counts.
-      IfSome (left source) (IsAnswered chain known (Sends taken write_failures output between) counts))
+      → IfOk result (λ counts. IfSome source.left (IsAnswered chain known (Tells output between) counts))
       → (result ≡ ended faults.TooManyLines
-      → IfSome (left source) (IsTooMany chain known (Sends taken write_failures output between)))
+      → IfSome source.left (IsTooMany chain known (Tells output between)))
       → result ≢ ended faults.LineTooLong → result ≢ ended faults.Read → result ≢ ended faults.Write
-      → IfErr result NeedsNoBoard → HasAnswered left read_failures taken write_failures chain known source mid output between result
-  has_ended result ok too_many too_long read write own =
-      let now = seen taken write_failures between in
-      record {
-        ok = ok;
-        too_many = too_many;
-        too_long = λ same. absurd (too_long same);
-        some =
-            cut chain known (left source) k state buffered (left mid) (seen taken write_failures output) now
-            now
-            up_to.so_far up_to.within (some_of_all now now [] (tells_nothing now));
-        read = λ same. absurd (read same);
-        write = λ same. absurd (write same);
-        well = λ _. up_to.write_same;
-        own = own;
-      }
+      → IfErr result NeedsNoBoard → HasAnswered chain known source mid output between result
+  has_ended result ok too_many too_long read write own = record {
+    writer = up_to.writer;
+    ok = ok;
+    too_many = too_many;
+    too_long = λ same. absurd (too_long same);
+    some =
+        cut chain known source.left k state buffered mid.left output between between
+        up_to.so_far up_to.within (some_of_all between between [] (tells_nothing between));
+    read = λ same. absurd (read same);
+    write = λ same. absurd (write same);
+    well = λ _. up_to.write_same;
+    own = own;
+  }
 
   -- all lines were answered
   pub all_answered : (number accepted : ℕ) → number ≡ k → accepted ≡ state.accepted
-      → IsAtEnd (ahead buffered (left mid))
-      → HasAnswered left read_failures taken write_failures chain known source mid output between
+      → IsAtEnd (ahead buffered mid.left)
+      → HasAnswered chain known source mid output between
       (Ok (record { lines = number; accepted = accepted }))
   all_answered number accepted number_is accepted_is end =
       has_ended (Ok (record { lines = number; accepted = accepted }))
-      (rw (number_is, accepted_is) (ends chain known (left source) k state (ahead buffered (left mid))
-      (seen taken write_failures output) (seen taken write_failures between) up_to.so_far end up_to.within))
+      (rw (number_is, accepted_is) (ends chain known source.left k state (ahead buffered mid.left)
+      output between up_to.so_far end up_to.within))
       (λ same. absurd cc) (λ same. absurd cc) (λ same. absurd cc) (λ same. absurd cc) tt
 
   -- there are more lines
   pub more_lines : k ≡ 10000000 → 0 < length buffered
-      → HasAnswered left read_failures taken write_failures chain known source mid output between
-      (ended faults.TooManyLines)
+      → HasAnswered chain known source mid output between (ended faults.TooManyLines)
   more_lines full more =
-      let old = seen taken write_failures output in
-      let now = seen taken write_failures between in
       has_ended (ended faults.TooManyLines) tt
-      (λ _. many chain known (left source) state buffered (left mid) old now
-      (subst (λ n. SoFar chain known (left source) n state (ahead buffered (left mid)) old now) full
+      (λ _. many chain known source.left state buffered mid.left output between
+      (subst (λ n. SoFar chain known source.left n state (ahead buffered mid.left) output between) full
       up_to.so_far) more)
       (λ same. absurd cc) (λ same. absurd cc) (λ same. absurd cc) tt
 
   -- an answer couldn't be given or written
-  answered_some : (first most : ℕ) (output' : Output W) (fault : SendFault)
-      → IsFirstLine buffered (left mid) first
+  answered_some : (first most : ℕ) (output' : OutputState) (fault : SendFault)
+      → IsFirstLine buffered mid.left first
       → k + most ≤ 10000000
-      → HaveBegun chain (k + 1) most state buffered first (λ text. SendsPart taken write_failures between
-      output' text fault)
-      → IfSome (left source) (IsCutShort chain known (SendsSome taken write_failures output output')
-      (left mid))
+      → HaveBegun chain (k + 1) most state buffered first (λ text. TellsPart between output' text fault)
+      → IfSome source.left (IsCutShort chain known (TellsSome output output') mid.left)
   answered_some first most output' fault line few begun =
-      cut_in chain known (left source) k most first state buffered (left mid) (seen taken write_failures
-      output)
-      (seen taken write_failures between) (seen taken write_failures output') up_to.so_far few line
+      cut_in chain known source.left k most first state buffered mid.left output between output'
+      up_to.so_far few line
       (record {
         lines = begun.lines;
         len = begun.len;
         next = begun.next;
         limit = begun.limit;
-        text =
-            some_of_part (seen taken write_failures between) (seen taken write_failures output') _ fault
-            begun.text;
+        text = some_of_part between output' _ fault begun.text;
       })
 
-  pub answer_failed : (first most : ℕ) (output' : Output W) (fault : SendFault)
-      → IsFirstLine buffered (left mid) first
+  pub answer_failed : (first most : ℕ) (output' : OutputState) (fault : SendFault)
+      → IsFirstLine buffered mid.left first
       → k + most ≤ 10000000
-      → HaveBegun chain (k + 1) most state buffered first (λ text. SendsPart taken write_failures between
-      output' text fault)
-      → HasAnswered left read_failures taken write_failures chain known source mid output output'
-      (ended (send_fault fault))
+      → HaveBegun chain (k + 1) most state buffered first (λ text. TellsPart between output' text fault)
+      → HasAnswered chain known source mid output output' (ended (send_fault fault))
   answer_failed first most output' sending.NoMemory line few begun = record {
+    writer = let text = begun.text in text.writer ∙ up_to.writer;
     ok = tt;
     too_many = λ same. absurd cc;
     too_long = λ same. absurd cc;
@@ -170,6 +159,7 @@ module _ {R W : Type 0} {left : R → Option (List ℕ)} {read_failures : R → 
     own = tt;
   }
   answer_failed first most output' sending.Write line few begun = record {
+    writer = let text = begun.text in text.writer ∙ up_to.writer;
     ok = tt;
     too_many = λ same. absurd cc;
     too_long = λ same. absurd cc;

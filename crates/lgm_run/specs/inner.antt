@@ -1,6 +1,5 @@
 -- Definitions for contracts inside the crate.
 pub mod Behind
-pub mod Chart
 pub mod Maps
 pub mod Engine
 pub mod Turns

@@ -3,10 +3,10 @@
 ghost use Rattle.std.specs.Prelude.{◌≡◌, ◌≤◌, ◌+◌, ◌<◌, ◌^◌, [], ◌∷◌, length, map, IfOk, IfSome, OnOk};
 ghost use Rattle.std.specs.List.{AllByRecursion};
 ghost use Rattle.lgm_script.specs.Groups.{IsOfKind, AreAlike};
-ghost use Rattle.lgm_script.specs.Output.{Writes};
+ghost use Rattle.lgm_script.specs.Output.{told_by, Writes};
 ghost use Rattle.lgm_script.specs.Request.{request_of};
 ghost use Rattle.lgm_script.specs.declared.request.Request.TheVariants.{Route as AsksRoute};
-ghost use Rattle.lgm_run.specs.inner.Offered.{WasChecked, state_by, offered_text};
+ghost use Rattle.lgm_run.specs.inner.Offered.{state_by, offered_text};
 ghost use Rattle.lgm_run.specs.inner.Questions.{asked_in};
 ghost use Rattle.lgm_run.specs.inner.Steps.{state_alone, text_alone, state_from, text_from};
 
@@ -28,12 +28,9 @@ fn offer<W: Sink>(
     engine: &mut Engine,
     output: &mut Output<'_, W>,
 ) -> Result<(), SendFault>
-    requires checked { IfSome item WasChecked }
     requires few { engine.old.accepted + 1 < 2 ^ 64 }
-    requires writer { W.failures output.old.writer.now + 1 < 2 ^ 64 }
-    ensures writer { output.new.writer.ghost_name ≡ output.old.writer.ghost_name }
     ensures state { OnOk result (engine.new ≡ state_by engine.old item) }
-    ensures written { Writes W.taken W.failures output.old output.new
+    ensures written { Writes (told_by W.seen output.old) (told_by W.seen output.new)
         (offered_text number engine.old.rows item) result }
 {
     let Some(item) = item else {
@@ -58,10 +55,8 @@ fn answer_items<Rt: Threads + Sync, G: Gate, W: Sink>(
     requires items { AllByRecursion (IsOfKind Kind.Item) (asked_in lines.now) }
     requires number { first + length lines.now < 2 ^ 64 }
     requires few { engine.old.accepted + length lines.now ≤ 10000000 }
-    requires writer { W.failures output.old.writer.now + 1 < 2 ^ 64 }
-    ensures writer { output.new.writer.ghost_name ≡ output.old.writer.ghost_name }
     ensures state { OnOk result (engine.new ≡ state_from context.now.chain engine.old (asked_in lines.now)) }
-    ensures written { Writes W.taken W.failures output.old output.new
+    ensures written { Writes (told_by W.seen output.old) (told_by W.seen output.new)
         (text_from context.now.chain first engine.old (asked_in lines.now)) result }
 {
     let all = check_lines(context, lines)?;
@@ -97,10 +92,8 @@ fn answer_questions<Rt: Threads + Sync, G: Gate, W: Sink>(
     requires questions { AllByRecursion (IsOfKind Kind.Question) (asked_in lines.now) }
     requires number { first + length lines.now < 2 ^ 64 }
     requires few { engine.old.accepted ≤ 10000000 }
-    requires writer { W.failures output.old.writer.now + 1 < 2 ^ 64 }
-    ensures writer { output.new.writer.ghost_name ≡ output.old.writer.ghost_name }
     ensures state { OnOk result (engine.new ≡ state_from context.now.chain engine.old (asked_in lines.now)) }
-    ensures written { Writes W.taken W.failures output.old output.new
+    ensures written { Writes (told_by W.seen output.old) (told_by W.seen output.new)
         (text_from context.now.chain first engine.old (asked_in lines.now)) result }
 {
     if let Some(payment) = lone_payment(context.pool.alloc, lines)? {
@@ -118,11 +111,9 @@ fn answer_alone<W: Sink>(
     engine: &mut Engine,
     output: &mut Output<'_, W>,
 ) -> Result<(), SendFault>
-    requires other { IsOfKind Kind.Other (request_of line.now) }
-    requires writer { W.failures output.old.writer.now + 1 < 2 ^ 64 }
-    ensures writer { output.new.writer.ghost_name ≡ output.old.writer.ghost_name }
+    requires { IsOfKind Kind.Other (request_of line.now) }
     ensures state { OnOk result (engine.new ≡ state_alone engine.old (request_of line.now)) }
-    ensures written { Writes W.taken W.failures output.old output.new
+    ensures written { Writes (told_by W.seen output.old) (told_by W.seen output.new)
         (text_alone number engine.old (request_of line.now)) result }
 {
     match parse(alloc, line)? {
@@ -144,11 +135,9 @@ pub fn answer<Rt: Threads + Sync, G: Gate, W: Sink>(
     requires alike { AreAlike group.now.kind (map (λ line. line.now) group.now.lines.items) }
     requires number { first + length group.now.lines.items < 2 ^ 64 }
     requires few { engine.old.accepted + length group.now.lines.items ≤ 10000000 }
-    requires writer { W.failures output.old.writer.now + 1 < 2 ^ 64 }
-    ensures writer { output.new.writer.ghost_name ≡ output.old.writer.ghost_name }
     ensures state { OnOk result
         (engine.new ≡ state_from context.now.chain engine.old (asked_in group.now.lines.items)) }
-    ensures written { Writes W.taken W.failures output.old output.new
+    ensures written { Writes (told_by W.seen output.old) (told_by W.seen output.new)
         (text_from context.now.chain first engine.old (asked_in group.now.lines.items)) result }
 {
     let lines = group.lines.as_slice();

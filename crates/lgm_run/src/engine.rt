@@ -2,9 +2,9 @@
 
 ghost use Rattle.std.specs.Prelude.{◌≡◌, ◌+◌, ◌≤◌, ◌<◌, ◌^◌, ℕ, length, IfOk, OnOk, OnErr};
 ghost use Rattle.lgm_wire.specs.reading.Reading.{Gives};
-ghost use Rattle.lgm_script.specs.Output.{Writes};
+ghost use Rattle.lgm_script.specs.Output.{told_by, Writes};
 ghost use Rattle.lgm_answers.specs.Answer.{commit_text, route_text, answer_text};
-ghost use Rattle.lgm_run.specs.inner.Offered.{outcome_on, settled, WasChecked};
+ghost use Rattle.lgm_run.specs.inner.Offered.{outcome_on, settled};
 ghost use Rattle.lgm_run.specs.inner.Questions.{asked_in, filters_behind, questions_text};
 ghost use Rattle.lgm_answers.specs.Routing.{route_answer};
 ghost use Rattle.lgm_run.specs.inner.Steps.{opening, state_behind, state_committed};
@@ -69,8 +69,7 @@ impl Engine {
 
     /// Offers a checked item. A refusal or out of memory leaves all unchanged.
     pub fn offer(&mut self, alloc: Global, item: Offered) -> Result<(), Refusal>
-        requires checked { WasChecked item }
-        requires few { self.old.accepted + 1 < 2 ^ 64 }
+        requires { self.old.accepted + 1 < 2 ^ 64 }
         ensures outcome { Gives Refusal.NoMemory (λ done. done) result
             (settled (outcome_on self.old.rows item)) }
         ensures state { OnOk result (self.new ≡ state_behind self.old (outcome_on self.old.rows item)) }
@@ -106,11 +105,9 @@ impl Engine {
     ) -> Result<(), SendFault>
         requires few { self.old.accepted ≤ 2000000000 }
         requires number { number + length lines.now < 2 ^ 64 }
-        requires writer { W.failures output.old.writer.now + 1 < 2 ^ 64 }
-        ensures writer { output.new.writer.ghost_name ≡ output.old.writer.ghost_name }
         ensures state { OnOk result (self.new ≡ record self.old
             { filters = filters_behind context.now.chain self.old.filters (asked_in lines.now) }) }
-        ensures written { Writes W.taken W.failures output.old output.new
+        ensures written { Writes (told_by W.seen output.old) (told_by W.seen output.new)
             (questions_text context.now.chain self.old.known self.old.committed number
             self.old.filters (asked_in lines.now)) result }
     {
@@ -126,10 +123,8 @@ impl Engine {
         number: u64,
         output: &mut Output<'_, W>,
     ) -> Result<(), SendFault>
-        requires { W.failures output.old.writer.now + 1 < 2 ^ 64 }
-        ensures writer { output.new.writer.ghost_name ≡ output.old.writer.ghost_name }
         ensures state { OnOk result (self.new ≡ state_committed self.old) }
-        ensures written { Writes W.taken W.failures output.old output.new
+        ensures written { Writes (told_by W.seen output.old) (told_by W.seen output.new)
             (commit_text number self.old.accepted self.old.committed self.old.rows
             self.old.filters) result }
     {
@@ -171,9 +166,7 @@ fn tell_commit<W: Sink>(
     filters: &Filters,
     output: &mut Output<'_, W>,
 ) -> Result<(), SendFault>
-    requires { W.failures output.old.writer.now + 1 < 2 ^ 64 }
-    ensures writer { output.new.writer.ghost_name ≡ output.old.writer.ghost_name }
-    ensures written { Writes W.taken W.failures output.old output.new
+    ensures { Writes (told_by W.seen output.old) (told_by W.seen output.new)
         (commit_text number accepted maps.now.committed maps.now.rows filters.now) result }
 {
     let answer = committed(alloc, accepted, maps, filters)?;

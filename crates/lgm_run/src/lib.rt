@@ -5,11 +5,9 @@
 #![tactic(auto)]
 
 mod answering;
-mod chart;
 mod checking;
 mod context;
 mod engine;
-mod leveling;
 mod maps;
 mod offering;
 mod questions;

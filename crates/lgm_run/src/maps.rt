@@ -1,53 +1,46 @@
-//! The map of all accepted items, and the committed one.
+//! The network of all accepted items, and that of the committed ones.
 
-ghost use Rattle.std.specs.Prelude.{◌≡◌, ◌⊎◌, ◌+◌, ◌≤◌, ◌<◌, ◌^◌, [], true};
+ghost use Rattle.std.specs.Prelude.{◌≡◌, ◌⊎◌, ◌+◌, ◌≤◌, ◌<◌, ◌^◌};
 ghost use Rattle.std.specs.Prelude.{length, Err, IfOk, OnOk, OnErr};
 ghost use Rattle.lgm_wire.specs.reading.Reading.{Gives};
 ghost use Rattle.lgm_store.specs.Rows.{empty};
-ghost use Rattle.lgm_store.specs.History.{fold_from};
 ghost use Rattle.lgm_graph.specs.Edges.{edges_of};
 ghost use Rattle.lgm_route.specs.Choice.{answer_of};
-ghost use Rattle.lgm_script.specs.Output.{Writes};
-ghost use Rattle.lgm_run.specs.inner.Chart.{Shows, ShowsCommitted, IsBeside};
+ghost use Rattle.lgm_script.specs.Output.{told_by, Writes};
 ghost use Rattle.lgm_run.specs.inner.Maps.{grown};
-ghost use Rattle.lgm_run.specs.inner.Offered.{outcome_on, settled, WasChecked};
+ghost use Rattle.lgm_run.specs.inner.Offered.{outcome_on, settled};
 ghost use Rattle.lgm_run.specs.inner.Questions.{asked_in, filters_behind, questions_text};
 
-use crate::chart::{Chart, Kept};
 use crate::checking::Offered;
 use crate::context::Context;
-use crate::leveling::level;
 use crate::offering::offer;
-use crate::questions::{answer_questions, view_of};
+use crate::questions::answer_questions;
 use lgm_answers::Filters;
 use lgm_check::Refusal;
-use lgm_graph::{Known, View};
+use lgm_graph::{Known, Network, Replica};
 use lgm_par::{Gate, Pool};
 use lgm_query::{Changes, Differences};
 use lgm_route::{Request, Route, RouteFault, answer_chunked};
 use lgm_script::{Output, SendFault, Sink, may_ask_routes};
-use lgm_store::{Map, Op, Seed};
+use lgm_store::{Op, Seed};
 use std::alloc::{AllocError, Global};
 use std::collections::VecDeque;
 use std::marker::Model;
 use std::mem::swap;
 use std::thread::Threads;
 
-/// The map of all accepted items, and that of the committed ones, with the view in which routes are searched. At a
-/// commit the maps are swapped, and the one that is then behind applies what is due when it is needed. Contracts see
-/// the rows of both, and the known feature bits. Fields are dropped in order, the maps first: rows that are then left
-/// to operations alone are freed in the order in which they arrived, which is faster.
+/// The network of all accepted items, and that of the committed ones, in whose view routes are searched. At a commit
+/// they are swapped, and the one that is then behind applies what is due when it is needed. Contracts see the rows of
+/// both, and the known feature bits. Fields are dropped in order, the maps first: rows that are then left to operations
+/// alone are freed in the order in which they arrived, which is faster.
 #[derive(Drop)]
 pub struct Maps {
-    /// The map of all accepted items, without the operations that are due.
-    map: Map,
-    /// The map of the items before the last commit.
-    committed: Map,
-    /// The operations that the map has yet to apply, in order.
-    due: VecDeque<Op>,
+    /// The network of the items before the last commit.
+    committed: Network,
+    /// The network of all accepted items, once it has caught up.
+    growing: Replica,
     /// The operations accepted since the last commit.
     pending: VecDeque<Op>,
-    chart: Chart,
 }
 
 impl Model for Maps {
@@ -57,54 +50,12 @@ impl Model for Maps {
     ghost Value = { Growth };
 
     ghost view = { λ m. record {
-      known = m.chart.known;
-      rows = fold_from m.map m.due.items;
-      committed = m.committed;
+      known = m.committed.known;
+      rows = fold_from m.growing.network.rows m.growing.due.items;
+      committed = m.committed.rows;
     } };
 
-    ghost invariant = { λ m. AreKept m.map m.due.items m.committed m.pending.items m.chart };
-}
-
-/// Builds the view of the committed map, if there is none.
-fn make_view(alloc: Global, committed: &Map, chart: &mut Chart) -> Result<(), AllocError>
-    requires few { length committed.now.channels ≤ 2000000000 }
-    requires shows { ShowsCommitted committed.now chart.old }
-    ensures known { chart.new.known ≡ chart.old.known }
-    ensures shows { ShowsCommitted committed.now chart.new }
-    ensures made { OnOk result (IsBeside chart.new.kept) }
-{
-    if let Kept::Blank = chart.kept {
-        chart.kept = Kept::Beside(View::of(alloc, committed, &chart.known)?);
-    }
-    Ok(())
-}
-
-/// Ensures that there is a view of the committed map if routes are requested. If a view follows the map that is behind,
-/// what is due is applied first.
-fn chart_routes(
-    alloc: Global,
-    routes: bool,
-    committed: &Map,
-    map: &mut Map,
-    due: &mut VecDeque<Op>,
-    chart: &mut Chart,
-) -> Result<(), AllocError>
-    requires few { length committed.now.channels ≤ 2000000000 }
-    requires rows { (due.old.items ≡ []) ⊎ (fold_from map.old due.old.items ≡ committed.now) }
-    requires shows { Shows map.old due.old.items committed.now chart.old }
-    ensures rows { fold_from map.new due.new.items ≡ fold_from map.old due.old.items }
-    ensures none { due.old.items ≡ [] → due.new.items ≡ [] }
-    ensures shows { Shows map.new due.new.items committed.now chart.new }
-    ensures made { OnOk result (routes ≡ true → IsBeside chart.new.kept) }
-    ensures known { chart.new.known ≡ chart.old.known }
-{
-    if !routes {
-        return Ok(());
-    }
-    if let Kept::Behind(_) = chart.kept {
-        level(alloc, committed, map, due, chart)?;
-    }
-    make_view(alloc, committed, chart)
+    ghost invariant = { λ m. AreKept m.growing m.committed m.pending.items };
 }
 
 impl Maps {
@@ -113,34 +64,23 @@ impl Maps {
     pub fn new(alloc: Global, seed: Seed, known: &Known) -> Result<Maps, AllocError>
         ensures { IfOk result (λ maps. maps ≡ record { known = known.now; rows = empty; committed = empty }) }
     {
+        let growing = Network::new(alloc, seed, known)?;
         Ok(Maps {
-            map: Map::with_seed(alloc, seed)?,
-            due: VecDeque::new(alloc),
-            committed: Map::with_seed(alloc, seed)?,
+            committed: Network::new(alloc, seed, known)?,
+            growing: Replica::new(alloc, growing),
             pending: VecDeque::new(alloc),
-            chart: Chart {
-                known: known.copy(alloc)?,
-                kept: Kept::Blank,
-            },
         })
     }
 
     /// Offers a checked item. A refusal or out of memory leaves all unchanged.
     pub fn offer(&mut self, alloc: Global, item: Offered) -> Result<(), Refusal>
-        requires { WasChecked item }
         ensures outcome { Gives Refusal.NoMemory (λ done. done) result
             (settled (outcome_on self.old.rows item)) }
         ensures grown { OnOk result (self.new ≡ grown self.old (outcome_on self.old.rows item)) }
         ensures same { OnErr result (self.new ≡ self.old) }
     {
-        level(
-            alloc,
-            &self.committed,
-            &mut self.map,
-            &mut self.due,
-            &mut self.chart,
-        )?;
-        offer(alloc, &mut self.map, &mut self.pending, item)
+        self.growing.level(alloc, &mut self.committed)?;
+        offer(alloc, &mut self.growing.network, &mut self.pending, item)
     }
 
     /// The differences since the last commit. The cost is that of what was accepted since then.
@@ -150,11 +90,11 @@ impl Maps {
     {
         let changes = Changes::of(alloc, &self.pending)?;
         let grown = if self.pending.is_empty() {
-            &self.committed
+            self.committed.map()
         } else {
-            &self.map
+            self.growing.network.map()
         };
-        Differences::between(alloc, &self.committed, grown, &changes)
+        Differences::between(alloc, self.committed.map(), grown, &changes)
     }
 
     /// Makes all accepted items committed ones, at no cost.
@@ -164,9 +104,8 @@ impl Maps {
         if self.pending.is_empty() {
             return;
         }
-        swap(&mut self.map, &mut self.committed);
-        swap(&mut self.due, &mut self.pending);
-        self.chart.turn_behind();
+        swap(&mut self.growing.network, &mut self.committed);
+        swap(&mut self.growing.due, &mut self.pending);
     }
 
     /// The best route of a payment over the edges of the committed map, found by several workers.
@@ -180,16 +119,11 @@ impl Maps {
         ensures found { (result ≡ Err RouteFault.NoMemory) ⊎
             (result ≡ answer_of (edges_of self.old.known self.old.committed) request.now) }
     {
-        chart_routes(
-            pool.alloc,
-            true,
-            &self.committed,
-            &mut self.map,
-            &mut self.due,
-            &mut self.chart,
-        )?;
-        let view = view_of(&self.committed, &self.chart);
-        answer_chunked(pool, &self.committed, view, request)
+        self.growing.make_view(pool.alloc, &mut self.committed)?;
+        let Some(view) = self.committed.view() else {
+            unreachable!();
+        };
+        answer_chunked(pool, self.committed.map(), view, request)
     }
 
     /// Answers lines that request something of the committed map, the first of which has this number: the answers are
@@ -204,32 +138,17 @@ impl Maps {
     ) -> Result<(), SendFault>
         requires few { length self.old.committed.channels ≤ 2000000000 }
         requires number { number + length lines.now < 2 ^ 64 }
-        requires writer { W.failures output.old.writer.now + 1 < 2 ^ 64 }
         ensures same { self.new ≡ self.old }
-        ensures writer { output.new.writer.ghost_name ≡ output.old.writer.ghost_name }
         ensures filters { OnOk result
             (filters.new ≡ filters_behind context.now.chain filters.old (asked_in lines.now)) }
-        ensures written { Writes W.taken W.failures output.old output.new
+        ensures written { Writes (told_by W.seen output.old) (told_by W.seen output.new)
             (questions_text context.now.chain self.old.known self.old.committed number
             filters.old (asked_in lines.now)) result }
     {
-        chart_routes(
-            context.pool.alloc,
-            may_ask_routes(lines),
-            &self.committed,
-            &mut self.map,
-            &mut self.due,
-            &mut self.chart,
-        )?;
-        let committed = &self.committed;
-        answer_questions(
-            context,
-            committed,
-            &self.chart,
-            number,
-            lines,
-            filters,
-            output,
-        )
+        if may_ask_routes(lines) {
+            self.growing
+                .make_view(context.pool.alloc, &mut self.committed)?;
+        }
+        answer_questions(context, &self.committed, number, lines, filters, output)
     }
 }

@@ -1,7 +1,7 @@
 //! Running a whole script.
 
-ghost use Rattle.std.specs.Prelude.{◌≡◌, ◌≢◌, ◌+◌, ◌<◌, ◌≤◌, ◌^◌, [], length, IfOk, IfErr};
-ghost use Rattle.lgm_script.specs.Output.{Sends, SendsPart};
+ghost use Rattle.std.specs.Prelude.{◌≡◌, ◌+◌, ◌<◌, ◌≤◌, [], length, IfOk, IfErr};
+ghost use Rattle.lgm_script.specs.Output.{told_by, Tells, TellsPart};
 ghost use Rattle.lgm_run.specs.inner.Steps.{opening};
 ghost use Rattle.lgm_run.specs.inner.Progress.{HaveAnswers, HaveBegun, HasAnswered};
 ghost use Rattle.lgm_run.specs.Runs.{Runs};
@@ -47,14 +47,12 @@ fn answer_next<Rt: Threads + Sync, G: Gate, W: Sink>(
     requires line { (first ≤ length lines.now) × (first ≤ MAX_LINE) }
     requires most { (0 < most) × (engine.old.accepted + most ≤ 10000000) }
     requires number { number ≤ 10000000 }
-    requires writer { W.failures output.old.writer.now + 1 < 2 ^ 64 }
-    ensures writer { output.new.writer.ghost_name ≡ output.old.writer.ghost_name }
     ensures answered { IfOk result
         (λ done. HaveAnswers context.now.chain number engine.old engine.new lines.now first
-        (Sends W.taken W.failures output.old output.new) done.0 done.1) }
+        (Tells (told_by W.seen output.old) (told_by W.seen output.new)) done.0 done.1) }
     ensures few { IfOk result (λ done. done.0 ≤ most) }
     ensures fault { IfErr result (λ fault. HaveBegun context.now.chain number most engine.old lines.now first
-        (λ text. SendsPart W.taken W.failures output.old output.new text fault)) }
+        (λ text. TellsPart (told_by W.seen output.old) (told_by W.seen output.new) text fault)) }
 {
     let group = next_group(context.pool.alloc, lines.buffered(), first, most)?;
     answer(context, number, &group, engine, output)?;
@@ -71,11 +69,8 @@ fn answer_lines<Rt: Threads + Sync, G: Gate, R: Source, W: Sink>(
 ) -> Result<Counts, RunFault>
     requires lines { lines.old ≡ [] }
     requires engine { engine.old ≡ opening engine.old.known }
-    requires source { R.failures source.old + 1 < 2 ^ 64 }
-    requires writer { W.failures output.old.writer.now + 1 < 2 ^ 64 }
-    ensures writer { output.new.writer.ghost_name ≡ output.old.writer.ghost_name }
-    ensures ended { HasAnswered R.left R.failures W.taken W.failures context.now.chain engine.old.known source.old
-        source.new output.old output.new result }
+    ensures { HasAnswered context.now.chain engine.old.known (R.seen source.old) (R.seen source.new)
+        (told_by W.seen output.old) (told_by W.seen output.new) result }
 {
     let mut number = 0;
     while number < MAX_LINES {
@@ -107,12 +102,10 @@ fn answer_all<Rt: Threads + Sync + RandomSource, G: Gate, R: Source, W: Sink>(
     output: &mut Output<'_, W>,
     remains: &mut Remains,
 ) -> Result<Counts, RunFault>
-    requires gathered { output.old.gathered.now.items ≡ [] }
-    requires source { R.failures source.old + 1 < 2 ^ 64 }
-    requires writer { W.failures output.old.writer.now + 1 < 2 ^ 64 }
+    requires { output.old.gathered.now.items ≡ [] }
     ensures writer { output.new.writer.ghost_name ≡ output.old.writer.ghost_name }
-    ensures runs { Runs R.left R.failures W.taken W.failures context.now.chain known.now source.old source.new
-        output.old.writer.now output.new.writer.now result }
+    ensures runs { Runs context.now.chain known.now (R.seen source.old) (R.seen source.new)
+        (W.seen output.old.writer.now) (W.seen output.new.writer.now) result }
 {
     let alloc = context.pool.alloc;
     let mut lines = LineReader::new(alloc)?;
@@ -127,9 +120,7 @@ fn write_answers<W: Sink>(
     answered: Result<Counts, RunFault>,
     output: &mut Output<'_, W>,
 ) -> Result<Counts, RunFault>
-    requires { answered ≢ Err RunFault.Write → W.failures output.old.writer.now + 1 < 2 ^ 64 }
-    ensures writer { output.new.writer.ghost_name ≡ output.old.writer.ghost_name }
-    ensures ended { IsEnded W.taken W.failures output.old output.new answered result }
+    ensures { IsEnded (told_by W.seen output.old) (told_by W.seen output.new) answered result }
 {
     if let Err(RunFault::Write) = answered {
         return answered;
@@ -164,10 +155,8 @@ pub fn run<Rt: Threads + Sync + RandomSource, G: Gate, R: Source, W: Sink>(
     gate: &G,
 ) -> Result<Counts, RunFault>
     requires workers { (1 ≤ workers) × (workers ≤ 64) }
-    requires reader { R.failures reader.old + 1 < 2 ^ 64 }
-    requires writer { W.failures writer.old + 1 < 2 ^ 64 }
-    ensures runs { Runs R.left R.failures W.taken W.failures chain.now known.now reader.old reader.new writer.old
-        writer.new result }
+    ensures runs { Runs chain.now known.now (R.seen reader.old) (R.seen reader.new) (W.seen writer.old)
+        (W.seen writer.new) result }
 {
     let context = Context {
         pool: Pool {
@@ -191,10 +180,8 @@ pub fn run_keeping<Rt: Threads + Sync + RandomSource, G: Gate, R: Source, W: Sin
     writer: &mut W,
     remains: &mut Remains,
 ) -> Result<Counts, RunFault>
-    requires reader { R.failures reader.old + 1 < 2 ^ 64 }
-    requires writer { W.failures writer.old + 1 < 2 ^ 64 }
-    ensures runs { Runs R.left R.failures W.taken W.failures context.now.chain known.now reader.old reader.new
-        writer.old writer.new result }
+    ensures runs { Runs context.now.chain known.now (R.seen reader.old) (R.seen reader.new) (W.seen writer.old)
+        (W.seen writer.new) result }
 {
     let mut block = Vec::with_capacity(context.pool.alloc, BLOCK)?;
     let mut output = Output::new(&mut block, writer);

@@ -1,20 +1,20 @@
 -- Text that is told in several goes.
 use Rattle.std.proofs.Common.{◌≡◌, ℕ, ◌<◌, Result, Ok, Err, List, [], ◌++◌, length, take, drop}
-use Rattle.std.proofs.Common.{Option, refl, sym, ap, subst, ◌∙◌, append_assoc, arith}
-use Rattle.std.specs.Prelude.{MatchResult}
+use Rattle.std.proofs.Common.{refl, sym, ap, subst, ◌∙◌, append_assoc, arith}
 use Rattle.std.proofs.lemmas.List.{append-nil, take-append-drop}
 use Rattle.std.proofs.Math.Seq.{take-append_seam}
 use Rattle.lgm_script.specs.declared.output.SendFault.{SendFault}
 use Rattle.lgm_script.specs.declared.output.SendFault.TheVariants.{Write, NoMemory}
-use Rattle.lgm_script.specs.Device.{Appends, AppendsSome}
-use Rattle.lgm_script.specs.Output.{OutputState, Tells, TellsPart, TellsSome}
+use Rattle.lgm_script.specs.Device.{Written, Appends, AppendsSome}
+use Rattle.lgm_script.specs.Output.{OutputState, Tells, TellsPart, Writes, TellsSome}
 use Rattle.lgm_script.proofs.Appending.{appends_nothing, appends_both}
 
 -- nothing was told
 pub tells_nothing : (told : OutputState) → Tells told told []
 tells_nothing told = record {
+  writer = refl;
   written = [];
-  taken = appends_nothing told.taken;
+  taken = appends_nothing told.sink.taken;
   whole = sym (append-nil told.gathered);
   well = refl;
 }
@@ -22,8 +22,9 @@ tells_nothing told = record {
 -- a text behind another one
 pub tells_both : (old mid new : OutputState) (a b : List ℕ) → Tells old mid a → Tells mid new b → Tells old new (a ++ b)
 tells_both old mid new a b first then = record {
+  writer = then.writer ∙ first.writer;
   written = first.written ++ then.written;
-  taken = appends_both old.taken mid.taken new.taken first.written then.written first.taken then.taken;
+  taken = appends_both old.sink.taken mid.sink.taken new.sink.taken first.written then.written first.taken then.taken;
   whole =
       append_assoc first.written then.written new.gathered
       ∙ ap (λ (s : List ℕ). first.written ++ s) then.whole
@@ -48,9 +49,10 @@ whole_behind old mid new a b one two lost first then =
 pub tells_part_behind : (old mid new : OutputState) (a b : List ℕ) (fault : SendFault) → Tells old mid a
     → TellsPart mid new b fault → TellsPart old new (a ++ b) fault
 tells_part_behind old mid new a b fault first then = record {
+  writer = then.writer ∙ first.writer;
   written = first.written ++ then.written;
   lost = then.lost;
-  taken = appends_both old.taken mid.taken new.taken first.written then.written first.taken then.taken;
+  taken = appends_both old.sink.taken mid.sink.taken new.sink.taken first.written then.written first.taken then.taken;
   whole = whole_behind old mid new a b first.written then.written then.lost first.whole then.whole;
   cause = λ e. let rise = then.cause e in let same = first.well in omega arith;
   well = λ e. then.well e ∙ first.well;
@@ -60,6 +62,7 @@ tells_part_behind old mid new a b fault first then = record {
 -- a part of a text is a part of a longer one
 pub tells_part_more : (old new : OutputState) (a b : List ℕ) (fault : SendFault) → TellsPart old new a fault → TellsPart old new (a ++ b) fault
 tells_part_more old new a b fault part = record {
+  writer = part.writer;
   written = part.written;
   lost = part.lost ++ b;
   taken = part.taken;
@@ -75,9 +78,10 @@ tells_part_more old new a b fault part = record {
 -- where memory was refused, nothing was told
 pub tells_none : (told : OutputState) (text : List ℕ) → TellsPart told told text NoMemory
 tells_none told text = record {
+  writer = refl;
   written = [];
   lost = text;
-  taken = appends_nothing told.taken;
+  taken = appends_nothing told.sink.taken;
   whole = refl;
   cause = λ e. absurd cc;
   well = λ e. refl;
@@ -85,18 +89,19 @@ tells_none told text = record {
 }
 
 -- where memory was refused and nothing was gathered, nothing was told
-pub tells_same : (taken : Option (List ℕ)) (failures : ℕ) (gathered gathered' text : List ℕ) → gathered' ≡ gathered
-    → TellsPart (record { taken = taken; gathered = gathered; failures = failures })
-    (record { taken = taken; gathered = gathered'; failures = failures }) text NoMemory
-tells_same taken failures gathered gathered' text is =
-    rw is (tells_none (record { taken = taken; gathered = gathered; failures = failures }) text)
+pub tells_same : (writer : ℕ) (sink : Written) (gathered gathered' text : List ℕ) → gathered' ≡ gathered
+    → TellsPart (record { writer = writer; sink = sink; gathered = gathered })
+    (record { writer = writer; sink = sink; gathered = gathered' }) text NoMemory
+tells_same writer sink gathered gathered' text is =
+    rw is (tells_none (record { writer = writer; sink = sink; gathered = gathered }) text)
 
 -- some of what was gathered was taken before the sink failed, and the rest is dropped
-pub tells_some : (taken taken' : Option (List ℕ)) (failures failures' : ℕ) (gathered bytes gathered' : List ℕ)
-    → bytes ≡ gathered → AppendsSome taken taken' bytes → gathered' ≡ [] → failures < failures'
-    → TellsPart (record { taken = taken; gathered = gathered; failures = failures })
-    (record { taken = taken'; gathered = gathered'; failures = failures' }) [] Write
-tells_some taken taken' failures failures' gathered bytes gathered' same some dropped rise = record {
+pub tells_some : (writer : ℕ) (old new : Written) (gathered bytes gathered' : List ℕ)
+    → bytes ≡ gathered → AppendsSome old.taken new.taken bytes → gathered' ≡ [] → old.failures < new.failures
+    → TellsPart (record { writer = writer; sink = old; gathered = gathered })
+    (record { writer = writer; sink = new; gathered = gathered' }) [] Write
+tells_some writer old new gathered bytes gathered' same some dropped rise = record {
+  writer = refl;
   written = take some.0 bytes;
   lost = drop some.0 bytes;
   taken = some.1;
@@ -145,10 +150,15 @@ onward_ends old mid whole rest on none =
 
 -- what a call writes behind a text
 pub written_behind : (result : Result (Unit {0}) SendFault) (old mid new : OutputState) (a b : List ℕ) → Tells old mid a
-    → MatchResult result (λ _. Tells mid new b) (λ fault. TellsPart mid new b fault)
-    → MatchResult result (λ _. Tells old new (a ++ b)) (λ fault. TellsPart old new (a ++ b) fault)
+    → Writes mid new b result → Writes old new (a ++ b) result
 written_behind (Ok t) old mid new a b first then = tells_both old mid new a b first then
 written_behind (Err fault) old mid new a b first then = tells_part_behind old mid new a b fault first then
+
+-- at a fault too it is the same sink
+pub writer_stays : (result : Result (Unit {0}) SendFault) (old new : OutputState) (text : List ℕ) → Writes old new text result
+    → new.writer ≡ old.writer
+writer_stays (Ok t) old new text told = told.writer
+writer_stays (Err fault) old new text part = part.writer
 
 -- ---- a first part, whatever came then
 
@@ -165,29 +175,29 @@ some_of_all old new text told = record {
 
 -- where all that is gathered is written at the end, the sink has taken the text
 pub taken_all : (old mid new : OutputState) (text : List ℕ) → old.gathered ≡ [] → Tells old mid text
-    → Tells mid new [] → new.gathered ≡ [] → Appends old.taken new.taken text
+    → Tells mid new [] → new.gathered ≡ [] → Appends old.sink.taken new.sink.taken text
 taken_all old mid new text empty told flushed clear =
     let both = tells_both old mid new text [] told flushed in
     let is : both.written ≡ text =
     sym (append-nil both.written) ∙ ap (λ (s : List ℕ). both.written ++ s) (sym clear) ∙ both.whole
     ∙ ap (λ (s : List ℕ). s ++ (text ++ [])) empty ∙ append-nil text in
-    subst (Appends old.taken new.taken) is both.taken
+    subst (Appends old.sink.taken new.sink.taken) is both.taken
 
 -- or a first part of it
-pub taken_some : (old new : OutputState) (text : List ℕ) → old.gathered ≡ [] → TellsSome old new text → AppendsSome old.taken new.taken text
+pub taken_some : (old new : OutputState) (text : List ℕ) → old.gathered ≡ [] → TellsSome old new text → AppendsSome old.sink.taken new.sink.taken text
 taken_some old new text empty some =
     let front : take (length some.written) text ≡ some.written =
     ap (λ (s : List ℕ). take (length some.written) s) (ap (λ (s : List ℕ). s ++ text) (sym empty)
     ∙ sym some.whole ∙ append_assoc some.written new.gathered some.lost)
     ∙ take-append_seam some.written (new.gathered ++ some.lost) in
-    (length some.written, subst (Appends old.taken new.taken) (sym front) some.taken)
+    (length some.written, subst (Appends old.sink.taken new.sink.taken) (sym front) some.taken)
 
 -- a first part, and then a flush
 pub some_flushed : (old mid new : OutputState) (text : List ℕ) → TellsSome old mid text → Tells mid new [] → TellsSome old new text
 some_flushed old mid new text some flushed = record {
   written = some.written ++ flushed.written;
   lost = some.lost;
-  taken = appends_both old.taken mid.taken new.taken some.written flushed.written some.taken flushed.taken;
+  taken = appends_both old.sink.taken mid.sink.taken new.sink.taken some.written flushed.written some.taken flushed.taken;
   whole =
       ap (λ (s : List ℕ). s ++ some.lost)
       (append_assoc some.written flushed.written new.gathered ∙ ap (λ (s : List ℕ). some.written ++ s) (flushed.whole ∙ append-nil mid.gathered))
@@ -200,7 +210,7 @@ pub some_flushed_part : (old mid new : OutputState) (text : List ℕ) (fault : S
 some_flushed_part old mid new text fault some flushed = record {
   written = some.written ++ flushed.written;
   lost = flushed.lost ++ some.lost;
-  taken = appends_both old.taken mid.taken new.taken some.written flushed.written some.taken flushed.taken;
+  taken = appends_both old.sink.taken mid.sink.taken new.sink.taken some.written flushed.written some.taken flushed.taken;
   whole =
       sym (append_assoc ((some.written ++ flushed.written) ++ new.gathered) flushed.lost some.lost)
       ∙ ap (λ (s : List ℕ). s ++ some.lost)
@@ -216,6 +226,6 @@ pub some_behind : (old mid new : OutputState) (a b : List ℕ) → Tells old mid
 some_behind old mid new a b first then = record {
   written = first.written ++ then.written;
   lost = then.lost;
-  taken = appends_both old.taken mid.taken new.taken first.written then.written first.taken then.taken;
+  taken = appends_both old.sink.taken mid.sink.taken new.sink.taken first.written then.written first.taken then.taken;
   whole = whole_behind old mid new a b first.written then.written then.lost first.whole then.whole;
 }

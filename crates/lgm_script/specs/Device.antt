@@ -1,8 +1,18 @@
--- The effect of a read or a write on the bytes that a device specifies, and on its count of failures.
+-- What contracts see of a device, and the effect of a read or a write on it.
 use Rattle.std.specs.Prelude.{◌≡◌, ℕ, ◌≤◌, List, [], ◌∷◌, ◌++◌, length, take, drop}
 use Rattle.std.specs.Prelude.{Option, Result, Ok, Err, IfSome, ◌==◌, if◌then◌else◌}
 use Rattle.std.specs.Option.{option_map}
 use Rattle.lgm_script.specs.declared.device.Failed.{Failed}
+
+-- a source: the bytes left, if the device specifies them, and how often it failed
+pub record Input : Type 0 where
+  pub left : Option (List ℕ)
+  pub failures : ℕ
+
+-- a sink: the bytes accepted so far, if the device specifies them, and how often it failed
+pub record Written : Type 0 where
+  pub taken : Option (List ℕ)
+  pub failures : ℕ
 
 -- the first n of the remaining bytes were moved to the start of the buffer; an Err moves nothing
 abbrev pub Reads : Option (List ℕ) → Option (List ℕ) → Result ℕ Failed → List ℕ → Type 0

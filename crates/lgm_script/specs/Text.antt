@@ -2,6 +2,8 @@
 use Rattle.std.specs.Prelude.{ℕ, ◌/◌, ◌%◌, ◌^◌, List, ◌++◌, Option, Some, None, codes}
 use Rattle.std.specs.Fmt.{decimal}
 use Rattle.hex.specs.Hex.{encode_lower}
+use Rattle.lgm_script.specs.declared.text.Line.{Line}
+use Rattle.lgm_script.specs.declared.text.Line.TheVariants as lines
 
 -- N WORD
 abbrev pub word_line : ℕ → List ℕ → List ℕ
@@ -35,3 +37,11 @@ scid_text id =
 abbrev pub hop_line : ℕ → ℕ → List ℕ → List ℕ
 hop_line number id payload =
     decimal number ++ codes " hop " ++ scid_text id ++ codes " " ++ encode_lower payload ++ codes "\n"
+
+-- the line of an answer, each of its forms
+abbrev pub line_text : ℕ → Line → List ℕ
+line_text number (lines.Word word) = word_line number word.now
+line_text number (lines.Commit count) = commit_line number count
+line_text number (lines.Message peer message) = message_line number peer message.now
+line_text number (lines.Route sent expiry count) = route_line number sent expiry count
+line_text number (lines.Hop id payload) = hop_line number id payload.now

@@ -1,6 +1,6 @@
 //! The lines of a script, however its bytes arrive.
 
-ghost use Rattle.std.specs.Prelude.{◌≡◌, ◌+◌, ◌≤◌, ◌<◌, ◌^◌, ◌-◌, [], true, false, List, ℕ, Option};
+ghost use Rattle.std.specs.Prelude.{◌≡◌, ◌+◌, ◌≤◌, ◌<◌, ◌-◌, [], true, false, List, ℕ, Option};
 ghost use Rattle.std.specs.Prelude.{length, take, drop, IfOk, IfSome, IfNone, OnOk, OnErr};
 ghost use Rattle.lgm_script.specs.Device.{IsAtEnd};
 ghost use Rattle.lgm_script.specs.Lines.{ahead, HasNoLineFeed, IsFirstLine};
@@ -74,16 +74,15 @@ impl LineReader {
         source: &mut R,
         output: &Output<'_, W>,
     ) -> Result<bool, Failed>
-        requires source { R.failures source.old + 1 < 2 ^ 64 }
         requires room { length self.old ≤ MAX_LINE }
         requires answered { output.now.gathered.now.items ≡ [] }
-        ensures kept { ahead self.new (R.left source.new) ≡ ahead self.old (R.left source.old) }
+        ensures kept { ahead self.new (R.seen source.new).left ≡ ahead self.old (R.seen source.old).left }
         ensures front { OnOk result (take (length self.old) self.new ≡ self.old) }
         ensures more { result ≡ Ok true → length self.old < length self.new }
         ensures same { result ≡ Ok false → self.new ≡ self.old }
-        ensures end { result ≡ Ok false → IsAtEnd (R.left source.new) }
-        ensures cause { OnErr result (R.failures source.old < R.failures source.new) }
-        ensures well { IfOk result (λ _. R.failures source.new ≡ R.failures source.old) }
+        ensures end { result ≡ Ok false → IsAtEnd (R.seen source.new).left }
+        ensures cause { OnErr result ((R.seen source.old).failures < (R.seen source.new).failures) }
+        ensures well { IfOk result (λ _. (R.seen source.new).failures ≡ (R.seen source.old).failures) }
     {
         let (start, end) = make_room(&mut self.buffer, self.start, self.end);
         self.start = start;

@@ -3,6 +3,7 @@
 ghost use Rattle.std.specs.Prelude.{◌≡◌, ◌<◌, Some, []};
 
 use crate::device::{Failed, Sink, Source};
+use crate::failures::Failures;
 use std::alloc::Global;
 
 /// A source of bytes in memory. It never fails.
@@ -16,8 +17,8 @@ pub struct MemorySource<'a> {
 impl<'a> MemorySource<'a> {
     /// A source of these bytes, which returns at most `most` of them per read, and at least one.
     pub fn new(bytes: &'a [u8], most: usize) -> MemorySource<'a>
-        ensures bytes { ⟦<MemorySource<'a> as Source>⟧.left result ≡ Some bytes.now }
-        ensures failures { ⟦<MemorySource<'a> as Source>⟧.failures result ≡ 0 }
+        ensures bytes { (⟦<MemorySource<'a> as Source>⟧.seen result).left ≡ Some bytes.now }
+        ensures failures { (⟦<MemorySource<'a> as Source>⟧.seen result).failures ≡ 0 }
     {
         MemorySource {
             left: bytes,
@@ -29,9 +30,7 @@ impl<'a> MemorySource<'a> {
 impl Source for MemorySource<'_> {
     ghost use Rattle.std.specs.Prelude.{Some};
 
-    ghost left = { λ s. Some s.left.now };
-
-    ghost failures = { λ _. 0 };
+    ghost seen = { λ s. record { left = Some s.left.now; failures = 0 } };
 
     fn read(&mut self, buffer: &mut [u8]) -> Result<usize, Failed> {
         let n = self.left.len().min(buffer.len()).min(self.most);
@@ -46,24 +45,24 @@ impl Source for MemorySource<'_> {
 #[derive(Drop)]
 pub struct MemorySink {
     taken: Vec<u8>,
-    failures: u64,
+    failures: Failures,
 }
 
 impl MemorySink {
     /// An empty sink. Nothing is allocated before its first write.
     pub fn new(alloc: Global) -> MemorySink
-        ensures bytes { ⟦<MemorySink as Sink>⟧.taken result ≡ Some [] }
-        ensures failures { ⟦<MemorySink as Sink>⟧.failures result ≡ 0 }
+        ensures bytes { (⟦<MemorySink as Sink>⟧.seen result).taken ≡ Some [] }
+        ensures failures { (⟦<MemorySink as Sink>⟧.seen result).failures ≡ 0 }
     {
         MemorySink {
             taken: Vec::new(alloc),
-            failures: 0,
+            failures: Failures::none(),
         }
     }
 
     /// The bytes that were accepted, in order.
     pub fn taken(&self) -> &[u8]
-        ensures { ⟦<MemorySink as Sink>⟧.taken self.now ≡ Some result.now }
+        ensures { (⟦<MemorySink as Sink>⟧.seen self.now).taken ≡ Some result.now }
     {
         self.taken.as_slice()
     }
@@ -72,13 +71,11 @@ impl MemorySink {
 impl Sink for MemorySink {
     ghost use Rattle.std.specs.Prelude.{Some};
 
-    ghost taken = { λ s. Some s.taken.items };
-
-    ghost failures = { λ s. s.failures };
+    ghost seen = { λ s. record { taken = Some s.taken.items; failures = s.failures.count } };
 
     fn write(&mut self, bytes: &[u8]) -> Result<usize, Failed> {
         if self.taken.extend_from_slice(bytes).is_err() {
-            self.failures += 1;
+            self.failures = self.failures.and_one();
             return Err(Failed);
         }
         Ok(bytes.len())

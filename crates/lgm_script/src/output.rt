@@ -1,13 +1,12 @@
 //! Buffered text for a sink.
 
-ghost use Rattle.std.specs.Prelude.{◌≡◌, ◌+◌, ◌<◌, ◌^◌, [], length, OnOk, MatchResult};
-ghost use Rattle.lgm_script.specs.Output.{Sends, SendsPart, Writes};
-ghost use Rattle.lgm_script.specs.Text.{word_line, commit_line, message_line, route_line, hop_line};
+ghost use Rattle.std.specs.Prelude.{◌≡◌, ◌<◌, [], length, OnOk, MatchResult};
+ghost use Rattle.lgm_script.specs.Output.{told_by, Tells, TellsPart, Writes};
+ghost use Rattle.lgm_script.specs.Text.{line_text};
 ghost use Rattle.lgm_script.specs.declared.output.SendFault.TheVariants.{NoMemory};
 
 use crate::device::{Failed, Sink, write_all};
-use crate::text::{append_count, append_hop, append_message, append_route, append_word};
-use lgm_gossip::Scid;
+use crate::text::{Line, append_line};
 use std::alloc::AllocError;
 use thiserror::Error;
 
@@ -35,10 +34,10 @@ impl From<AllocError> for SendFault {
 
 /// Text for a sink: it is buffered, and written once it fills a block.
 ///
-/// Contracts see what the sink accepted, what is buffered behind it, and how often the sink failed. Each call writes
-/// its whole text, or at a fault a prefix of it. At `NoMemory` each line is buffered completely or not at all, and the
-/// sink hasn't failed. At `Write` a prefix of what was buffered may have been accepted, and the buffer is empty, so
-/// nothing is written twice.
+/// Contracts see which sink it is, what that accepted, what is buffered behind it, and how often the sink failed. Each
+/// call writes its whole text to that sink, or at a fault a prefix of it. At `NoMemory` each line is buffered completely
+/// or not at all, and the sink hasn't failed. At `Write` a prefix of what was buffered may have been accepted, and the
+/// buffer is empty, so nothing is written twice.
 #[derive(Drop)]
 pub struct Output<'a, W> {
     writer: &'a mut W,
@@ -57,10 +56,9 @@ impl<'a, W: Sink> Output<'a, W> {
 
     /// Writes what is buffered. After `Failed` a prefix of it may have been accepted.
     pub fn flush(&mut self) -> Result<(), Failed>
-        requires { W.failures self.old.writer.now + 1 < 2 ^ 64 }
-        ensures writer { self.new.writer.ghost_name ≡ self.old.writer.ghost_name }
-        ensures written { MatchResult result (λ _. Sends W.taken W.failures self.old self.new [])
-            (λ _. SendsPart W.taken W.failures self.old self.new [] SendFault.Write) }
+        ensures written { MatchResult result
+            (λ _. Tells (told_by W.seen self.old) (told_by W.seen self.new) [])
+            (λ _. TellsPart (told_by W.seen self.old) (told_by W.seen self.new) [] SendFault.Write) }
         ensures empty { self.new.gathered.now.items ≡ [] }
     {
         let written = write_all(self.writer, self.gathered.as_slice());
@@ -73,9 +71,7 @@ impl<'a, W: Sink> Output<'a, W> {
 
     /// Writes what is buffered, if it fills a block.
     fn flush_block(&mut self) -> Result<(), SendFault>
-        requires { W.failures self.old.writer.now + 1 < 2 ^ 64 }
-        ensures writer { self.new.writer.ghost_name ≡ self.old.writer.ghost_name }
-        ensures written { Writes W.taken W.failures self.old self.new [] result }
+        ensures written { Writes (told_by W.seen self.old) (told_by W.seen self.new) [] result }
         ensures short { OnOk result (length self.new.gathered.now.items < BLOCK) }
     {
         if self.gathered.len() < BLOCK {
@@ -87,72 +83,15 @@ impl<'a, W: Sink> Output<'a, W> {
         }
     }
 
-    /// Writes a word: `N WORD`.
+    /// Writes a line, behind the number of the line that it answers.
+    ///
+    /// It is compiled into its caller, so where the line is given as a variant, only that variant's text is.
     #[inline(always)]
-    pub fn send_word(&mut self, number: u64, word: &str) -> Result<(), SendFault>
-        requires { W.failures self.old.writer.now + 1 < 2 ^ 64 }
-        ensures writer { self.new.writer.ghost_name ≡ self.old.writer.ghost_name }
-        ensures written { Writes W.taken W.failures self.old self.new
-            (word_line number word.now) result }
+    pub fn send(&mut self, number: u64, line: &Line<'_>) -> Result<(), SendFault>
+        ensures { Writes (told_by W.seen self.old) (told_by W.seen self.new)
+            (line_text number line.now) result }
     {
-        append_word(self.gathered, number, word)?;
-        self.flush_block()
-    }
-
-    /// Writes the number of accepted items at a commit: `N commit V`.
-    pub fn send_count(&mut self, number: u64, count: u64) -> Result<(), SendFault>
-        requires { W.failures self.old.writer.now + 1 < 2 ^ 64 }
-        ensures writer { self.new.writer.ghost_name ≡ self.old.writer.ghost_name }
-        ensures written { Writes W.taken W.failures self.old self.new
-            (commit_line number count) result }
-    {
-        append_count(self.gathered, number, count)?;
-        self.flush_block()
-    }
-
-    /// Writes a message in hexadecimal digits: `N HEX`, or for a peer `N to PEER HEX`.
-    #[inline(always)]
-    pub fn send_message(
-        &mut self,
-        number: u64,
-        peer: Option<u16>,
-        message: &[u8],
-    ) -> Result<(), SendFault>
-        requires { W.failures self.old.writer.now + 1 < 2 ^ 64 }
-        ensures writer { self.new.writer.ghost_name ≡ self.old.writer.ghost_name }
-        ensures written { Writes W.taken W.failures self.old self.new
-            (message_line number peer message.now) result }
-    {
-        append_message(self.gathered, number, peer, message)?;
-        self.flush_block()
-    }
-
-    /// Writes a route: `N route SENT EXPIRY K`: what the payer sends, in msat, the block height at which that expires,
-    /// and the number of hops, which are written next.
-    pub fn send_route(
-        &mut self,
-        number: u64,
-        sent: u64,
-        expiry: u32,
-        count: usize,
-    ) -> Result<(), SendFault>
-        requires { W.failures self.old.writer.now + 1 < 2 ^ 64 }
-        ensures writer { self.new.writer.ghost_name ≡ self.old.writer.ghost_name }
-        ensures written { Writes W.taken W.failures self.old self.new
-            (route_line number sent expiry count) result }
-    {
-        append_route(self.gathered, number, sent, expiry, count)?;
-        self.flush_block()
-    }
-
-    /// Writes a hop of a route, its channel and its payload in hexadecimal digits: `N hop SCID HEX`.
-    pub fn send_hop(&mut self, number: u64, scid: Scid, payload: &[u8]) -> Result<(), SendFault>
-        requires { W.failures self.old.writer.now + 1 < 2 ^ 64 }
-        ensures writer { self.new.writer.ghost_name ≡ self.old.writer.ghost_name }
-        ensures written { Writes W.taken W.failures self.old self.new
-            (hop_line number scid payload.now) result }
-    {
-        append_hop(self.gathered, number, scid, payload)?;
+        append_line(self.gathered, number, line)?;
         self.flush_block()
     }
 }

@@ -1,10 +1,10 @@
 //! The next line of a script. All answers are written before the source is read.
 
-ghost use Rattle.std.specs.Prelude.{◌≡◌, ◌≢◌, ◌+◌, ◌≤◌, ◌<◌, ◌^◌, [], true, false, length};
+ghost use Rattle.std.specs.Prelude.{◌≡◌, ◌≢◌, ◌≤◌, ◌<◌, [], true, false, length};
 ghost use Rattle.std.specs.Prelude.{take, IfOk, IfSome, OnOk};
 ghost use Rattle.lgm_script.specs.Device.{IsAtEnd};
 ghost use Rattle.lgm_script.specs.Lines.{ahead, IsFirstLine, IsLongerThan};
-ghost use Rattle.lgm_script.specs.Output.{Sends, SendsPart};
+ghost use Rattle.lgm_script.specs.Output.{told_by, Tells, TellsPart};
 
 use crate::device::{Sink, Source};
 use crate::line_reader::{LineReader, MAX_LINE, find_line};
@@ -27,20 +27,18 @@ fn read_on<R: Source, W: Sink>(
     source: &mut R,
     output: &mut Output<'_, W>,
 ) -> Result<bool, LineFault>
-    requires source { R.failures source.old + 1 < 2 ^ 64 }
-    requires writer { W.failures output.old.writer.now + 1 < 2 ^ 64 }
     requires room { length lines.old ≤ MAX_LINE }
-    ensures writer { output.new.writer.ghost_name ≡ output.old.writer.ghost_name }
-    ensures kept { ahead lines.new (R.left source.new) ≡ ahead lines.old (R.left source.old) }
+    ensures kept { ahead lines.new (R.seen source.new).left ≡ ahead lines.old (R.seen source.old).left }
     ensures front { OnOk result (take (length lines.old) lines.new ≡ lines.old) }
     ensures more { result ≡ Ok true → length lines.old < length lines.new }
     ensures same { result ≡ Ok false → lines.new ≡ lines.old }
-    ensures end { result ≡ Ok false → IsAtEnd (R.left source.new) }
-    ensures written { result ≢ Err LineFault.Write → Sends W.taken W.failures output.old output.new [] }
+    ensures end { result ≡ Ok false → IsAtEnd (R.seen source.new).left }
+    ensures written { result ≢ Err LineFault.Write
+        → Tells (told_by W.seen output.old) (told_by W.seen output.new) [] }
     ensures write { result ≡ Err LineFault.Write
-        → SendsPart W.taken W.failures output.old output.new [] SendFault.Write }
-    ensures read { result ≡ Err LineFault.Read → R.failures source.old < R.failures source.new }
-    ensures well { result ≢ Err LineFault.Read → R.failures source.new ≡ R.failures source.old }
+        → TellsPart (told_by W.seen output.old) (told_by W.seen output.new) [] SendFault.Write }
+    ensures read { result ≡ Err LineFault.Read → (R.seen source.old).failures < (R.seen source.new).failures }
+    ensures well { result ≢ Err LineFault.Read → (R.seen source.new).failures ≡ (R.seen source.old).failures }
     ensures short { result ≢ Err LineFault.TooLong }
 {
     let Ok(()) = output.flush() else {
@@ -61,20 +59,18 @@ pub fn next_line<R: Source, W: Sink>(
     source: &mut R,
     output: &mut Output<'_, W>,
 ) -> Result<Option<usize>, LineFault>
-    requires source { R.failures source.old + 1 < 2 ^ 64 }
-    requires writer { W.failures output.old.writer.now + 1 < 2 ^ 64 }
-    ensures writer { output.new.writer.ghost_name ≡ output.old.writer.ghost_name }
-    ensures kept { ahead lines.new (R.left source.new) ≡ ahead lines.old (R.left source.old) }
-    ensures line { IfOk result (λ found. IfSome found (IsFirstLine lines.new (R.left source.new))) }
+    ensures kept { ahead lines.new (R.seen source.new).left ≡ ahead lines.old (R.seen source.old).left }
+    ensures line { IfOk result (λ found. IfSome found (IsFirstLine lines.new (R.seen source.new).left)) }
     ensures short { IfOk result (λ found. IfSome found (λ count. count ≤ MAX_LINE)) }
-    ensures end { result ≡ Ok None → IsAtEnd (ahead lines.new (R.left source.new)) }
+    ensures end { result ≡ Ok None → IsAtEnd (ahead lines.new (R.seen source.new).left) }
     ensures too_long { result ≡ Err LineFault.TooLong
-        → IsLongerThan MAX_LINE (ahead lines.new (R.left source.new)) }
-    ensures written { result ≢ Err LineFault.Write → Sends W.taken W.failures output.old output.new [] }
+        → IsLongerThan MAX_LINE (ahead lines.new (R.seen source.new).left) }
+    ensures written { result ≢ Err LineFault.Write
+        → Tells (told_by W.seen output.old) (told_by W.seen output.new) [] }
     ensures write { result ≡ Err LineFault.Write
-        → SendsPart W.taken W.failures output.old output.new [] SendFault.Write }
-    ensures read { result ≡ Err LineFault.Read → R.failures source.old < R.failures source.new }
-    ensures well { result ≢ Err LineFault.Read → R.failures source.new ≡ R.failures source.old }
+        → TellsPart (told_by W.seen output.old) (told_by W.seen output.new) [] SendFault.Write }
+    ensures read { result ≡ Err LineFault.Read → (R.seen source.old).failures < (R.seen source.new).failures }
+    ensures well { result ≢ Err LineFault.Read → (R.seen source.new).failures ≡ (R.seen source.old).failures }
 {
     let mut searched = 0;
     loop {
@@ -102,17 +98,15 @@ pub fn more_begins<R: Source, W: Sink>(
     source: &mut R,
     output: &mut Output<'_, W>,
 ) -> Result<bool, LineFault>
-    requires source { R.failures source.old + 1 < 2 ^ 64 }
-    requires writer { W.failures output.old.writer.now + 1 < 2 ^ 64 }
-    ensures writer { output.new.writer.ghost_name ≡ output.old.writer.ghost_name }
-    ensures kept { ahead lines.new (R.left source.new) ≡ ahead lines.old (R.left source.old) }
+    ensures kept { ahead lines.new (R.seen source.new).left ≡ ahead lines.old (R.seen source.old).left }
     ensures more { result ≡ Ok true → 0 < length lines.new }
-    ensures end { result ≡ Ok false → IsAtEnd (ahead lines.new (R.left source.new)) }
-    ensures written { result ≢ Err LineFault.Write → Sends W.taken W.failures output.old output.new [] }
+    ensures end { result ≡ Ok false → IsAtEnd (ahead lines.new (R.seen source.new).left) }
+    ensures written { result ≢ Err LineFault.Write
+        → Tells (told_by W.seen output.old) (told_by W.seen output.new) [] }
     ensures write { result ≡ Err LineFault.Write
-        → SendsPart W.taken W.failures output.old output.new [] SendFault.Write }
-    ensures read { result ≡ Err LineFault.Read → R.failures source.old < R.failures source.new }
-    ensures well { result ≢ Err LineFault.Read → R.failures source.new ≡ R.failures source.old }
+        → TellsPart (told_by W.seen output.old) (told_by W.seen output.new) [] SendFault.Write }
+    ensures read { result ≡ Err LineFault.Read → (R.seen source.old).failures < (R.seen source.new).failures }
+    ensures well { result ≢ Err LineFault.Read → (R.seen source.new).failures ≡ (R.seen source.old).failures }
     ensures short { result ≢ Err LineFault.TooLong }
 {
     if !lines.buffered().is_empty() {

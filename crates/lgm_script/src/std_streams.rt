@@ -3,6 +3,7 @@
 ghost use Rattle.std.specs.Prelude.{◌≡◌};
 
 use crate::device::{Failed, Sink, Source};
+use crate::failures::Failures;
 use std::io::{ErrorKind, Read, Write};
 
 /// A source over a reader, such as standard input.
@@ -12,17 +13,17 @@ use std::io::{ErrorKind, Read, Write};
 #[derive(Drop)]
 pub struct FromRead<R> {
     reader: R,
-    failures: u64,
+    failures: Failures,
 }
 
 impl<R: Read> FromRead<R> {
     /// A source that hasn't failed yet.
     pub fn new(reader: R) -> FromRead<R>
-        ensures { ⟦<FromRead<R> as Source>⟧.failures result ≡ 0 }
+        ensures { (⟦<FromRead<R> as Source>⟧.seen result).failures ≡ 0 }
     {
         FromRead {
             reader,
-            failures: 0,
+            failures: Failures::none(),
         }
     }
 }
@@ -30,9 +31,7 @@ impl<R: Read> FromRead<R> {
 impl<R: Read> Source for FromRead<R> {
     ghost use Rattle.std.specs.Prelude.{None};
 
-    ghost left = { λ _. None };
-
-    ghost failures = { λ s. s.failures };
+    ghost seen = { λ s. record { left = None; failures = s.failures.count } };
 
     fn read(&mut self, buffer: &mut [u8]) -> Result<usize, Failed> {
         for _ in 0..u64::MAX {
@@ -45,7 +44,7 @@ impl<R: Read> Source for FromRead<R> {
                 }
             }
         }
-        self.failures += 1;
+        self.failures = self.failures.and_one();
         Err(Failed)
     }
 }
@@ -58,17 +57,17 @@ impl<R: Read> Source for FromRead<R> {
 #[derive(Drop)]
 pub struct ToWrite<W> {
     writer: W,
-    failures: u64,
+    failures: Failures,
 }
 
 impl<W: Write> ToWrite<W> {
     /// A sink that hasn't failed yet.
     pub fn new(writer: W) -> ToWrite<W>
-        ensures { ⟦<ToWrite<W> as Sink>⟧.failures result ≡ 0 }
+        ensures { (⟦<ToWrite<W> as Sink>⟧.seen result).failures ≡ 0 }
     {
         ToWrite {
             writer,
-            failures: 0,
+            failures: Failures::none(),
         }
     }
 }
@@ -76,16 +75,14 @@ impl<W: Write> ToWrite<W> {
 impl<W: Write> Sink for ToWrite<W> {
     ghost use Rattle.std.specs.Prelude.{None};
 
-    ghost taken = { λ _. None };
-
-    ghost failures = { λ s. s.failures };
+    ghost seen = { λ s. record { taken = None; failures = s.failures.count } };
 
     fn write(&mut self, bytes: &[u8]) -> Result<usize, Failed> {
         for _ in 0..u64::MAX {
             match self.writer.write(bytes) {
                 Ok(n) => {
                     if n == 0 && !bytes.is_empty() {
-                        self.failures += 1;
+                        self.failures = self.failures.and_one();
                     }
                     return Ok(n);
                 }
@@ -96,7 +93,7 @@ impl<W: Write> Sink for ToWrite<W> {
                 }
             }
         }
-        self.failures += 1;
+        self.failures = self.failures.and_one();
         Err(Failed)
     }
 }

@@ -2,12 +2,33 @@
 
 ghost use Rattle.std.specs.Prelude.{◌≡◌, ◌++◌, take, OnOk, OnErr};
 ghost use Rattle.std.specs.Fmt.{decimal};
-ghost use Rattle.lgm_script.specs.Text.{word_line, commit_line, lead, message_line};
-ghost use Rattle.lgm_script.specs.Text.{route_line, scid_text, hop_line};
+ghost use Rattle.lgm_script.specs.Text.{lead, scid_text, line_text};
 ghost use Rattle.lgm_script.specs.inner.Front.{IsFront};
 
 use lgm_gossip::Scid;
 use std::alloc::AllocError;
+
+/// A line of an answer, without the number of the line that it answers, which stands before it.
+#[derive(Clone, Copy, Debug)]
+pub enum Line<'a> {
+    /// A word: `N WORD`.
+    Word(&'a str),
+    /// The number of accepted items at a commit: `N commit V`.
+    Commit(u64),
+    /// A message in hexadecimal digits: `N HEX`, or for a peer `N to PEER HEX`.
+    Message(Option<u16>, &'a [u8]),
+    /// A route: `N route SENT EXPIRY K`.
+    Route {
+        /// What the payer sends, in msat.
+        sent: u64,
+        /// The block height at which that expires.
+        expiry: u32,
+        /// The number of hops, which are written next.
+        hops: usize,
+    },
+    /// A hop of a route, its channel and its payload in hexadecimal digits: `N hop SCID HEX`.
+    Hop(Scid, &'a [u8]),
+}
 
 /// Appends a number in decimal digits.
 #[inline(always)]
@@ -17,29 +38,6 @@ fn push_number(text: &mut Vec<u8>, number: u64) -> Result<(), AllocError>
 {
     let mut digits = itoa::Buffer::new();
     text.extend_from_slice(digits.format(number).as_bytes())?;
-    Ok(())
-}
-
-#[inline(always)]
-fn push_word(text: &mut Vec<u8>, number: u64, word: &str) -> Result<(), AllocError>
-    ensures ok { OnOk result (text.new.items ≡ text.old.items ++ word_line number word.now) }
-    ensures err { OnErr result (IsFront text.old.items text.new.items) }
-{
-    push_number(text, number)?;
-    text.push(b' ')?;
-    text.extend_from_slice(word.as_bytes())?;
-    text.push(b'\n')?;
-    Ok(())
-}
-
-fn push_count(text: &mut Vec<u8>, number: u64, count: u64) -> Result<(), AllocError>
-    ensures ok { OnOk result (text.new.items ≡ text.old.items ++ commit_line number count) }
-    ensures err { OnErr result (IsFront text.old.items text.new.items) }
-{
-    push_number(text, number)?;
-    text.extend_from_slice(b" commit ")?;
-    push_number(text, count)?;
-    text.push(b'\n')?;
     Ok(())
 }
 
@@ -60,43 +58,6 @@ fn push_lead(text: &mut Vec<u8>, number: u64, peer: Option<u16>) -> Result<(), A
     Ok(())
 }
 
-#[inline(always)]
-fn push_message(
-    text: &mut Vec<u8>,
-    number: u64,
-    peer: Option<u16>,
-    message: &[u8],
-) -> Result<(), AllocError>
-    ensures ok { OnOk result (text.new.items ≡ text.old.items ++ message_line number peer message.now) }
-    ensures err { OnErr result (IsFront text.old.items text.new.items) }
-{
-    push_lead(text, number, peer)?;
-    lgm_hex::append(text, message)?;
-    text.push(b'\n')?;
-    Ok(())
-}
-
-fn push_route(
-    text: &mut Vec<u8>,
-    number: u64,
-    sent: u64,
-    expiry: u32,
-    count: usize,
-) -> Result<(), AllocError>
-    ensures ok { OnOk result (text.new.items ≡ text.old.items ++ route_line number sent expiry count) }
-    ensures err { OnErr result (IsFront text.old.items text.new.items) }
-{
-    push_number(text, number)?;
-    text.extend_from_slice(b" route ")?;
-    push_number(text, sent)?;
-    text.push(b' ')?;
-    push_number(text, u64::from(expiry))?;
-    text.push(b' ')?;
-    push_number(text, count as u64)?;
-    text.push(b'\n')?;
-    Ok(())
-}
-
 /// Appends a channel id: `BLOCKxINDEXxOUTPUT`.
 fn push_scid(text: &mut Vec<u8>, scid: Scid) -> Result<(), AllocError>
     ensures ok { OnOk result (text.new.items ≡ text.old.items ++ scid_text scid) }
@@ -110,17 +71,54 @@ fn push_scid(text: &mut Vec<u8>, scid: Scid) -> Result<(), AllocError>
     Ok(())
 }
 
-fn push_hop(text: &mut Vec<u8>, number: u64, scid: Scid, payload: &[u8]) -> Result<(), AllocError>
-    ensures ok { OnOk result (text.new.items ≡ text.old.items ++ hop_line number scid payload.now) }
+/// Appends a line. If memory runs out a prefix of it may be appended.
+#[inline(always)]
+fn push_line(text: &mut Vec<u8>, number: u64, line: &Line<'_>) -> Result<(), AllocError>
+    ensures ok { OnOk result (text.new.items ≡ text.old.items ++ line_text number line.now) }
     ensures err { OnErr result (IsFront text.old.items text.new.items) }
 {
-    push_number(text, number)?;
-    text.extend_from_slice(b" hop ")?;
-    push_scid(text, scid)?;
-    text.push(b' ')?;
-    lgm_hex::append(text, payload)?;
-    text.push(b'\n')?;
-    Ok(())
+    match line {
+        Line::Word(word) => {
+            push_number(text, number)?;
+            text.push(b' ')?;
+            text.extend_from_slice(word.as_bytes())?;
+            text.push(b'\n')?;
+            Ok(())
+        }
+        Line::Commit(count) => {
+            push_number(text, number)?;
+            text.extend_from_slice(b" commit ")?;
+            push_number(text, *count)?;
+            text.push(b'\n')?;
+            Ok(())
+        }
+        Line::Message(peer, message) => {
+            push_lead(text, number, *peer)?;
+            lgm_hex::append(text, message)?;
+            text.push(b'\n')?;
+            Ok(())
+        }
+        Line::Route { sent, expiry, hops } => {
+            push_number(text, number)?;
+            text.extend_from_slice(b" route ")?;
+            push_number(text, *sent)?;
+            text.push(b' ')?;
+            push_number(text, u64::from(*expiry))?;
+            text.push(b' ')?;
+            push_number(text, *hops as u64)?;
+            text.push(b'\n')?;
+            Ok(())
+        }
+        Line::Hop(scid, payload) => {
+            push_number(text, number)?;
+            text.extend_from_slice(b" hop ")?;
+            push_scid(text, *scid)?;
+            text.push(b' ')?;
+            lgm_hex::append(text, payload)?;
+            text.push(b'\n')?;
+            Ok(())
+        }
+    }
 }
 
 /// Drops what was appended behind the first `length` bytes, if it couldn't be appended completely.
@@ -139,70 +137,17 @@ fn keep_if_whole(
     pushed
 }
 
-/// Appends the line of a word to the text. If memory runs out the text is unchanged.
+/// Appends a line to the text. If memory runs out the text is unchanged.
 #[inline(always)]
-pub(crate) fn append_word(text: &mut Vec<u8>, number: u64, word: &str) -> Result<(), AllocError>
-    ensures ok { OnOk result (text.new.items ≡ text.old.items ++ word_line number word.now) }
-    ensures err { OnErr result (text.new.items ≡ text.old.items) }
-{
-    let length = text.len();
-    let pushed = push_word(text, number, word);
-    keep_if_whole(text, length, pushed)
-}
-
-/// Appends the line of a commit to the text. If memory runs out the text is unchanged.
-pub(crate) fn append_count(text: &mut Vec<u8>, number: u64, count: u64) -> Result<(), AllocError>
-    ensures ok { OnOk result (text.new.items ≡ text.old.items ++ commit_line number count) }
-    ensures err { OnErr result (text.new.items ≡ text.old.items) }
-{
-    let length = text.len();
-    let pushed = push_count(text, number, count);
-    keep_if_whole(text, length, pushed)
-}
-
-/// Appends the line of a message to the text. If memory runs out the text is unchanged.
-#[inline(always)]
-pub(crate) fn append_message(
+pub(crate) fn append_line(
     text: &mut Vec<u8>,
     number: u64,
-    peer: Option<u16>,
-    message: &[u8],
+    line: &Line<'_>,
 ) -> Result<(), AllocError>
-    ensures ok { OnOk result (text.new.items ≡ text.old.items ++ message_line number peer message.now) }
+    ensures ok { OnOk result (text.new.items ≡ text.old.items ++ line_text number line.now) }
     ensures err { OnErr result (text.new.items ≡ text.old.items) }
 {
     let length = text.len();
-    let pushed = push_message(text, number, peer, message);
-    keep_if_whole(text, length, pushed)
-}
-
-/// Appends the line of a route to the text. If memory runs out the text is unchanged.
-pub(crate) fn append_route(
-    text: &mut Vec<u8>,
-    number: u64,
-    sent: u64,
-    expiry: u32,
-    count: usize,
-) -> Result<(), AllocError>
-    ensures ok { OnOk result (text.new.items ≡ text.old.items ++ route_line number sent expiry count) }
-    ensures err { OnErr result (text.new.items ≡ text.old.items) }
-{
-    let length = text.len();
-    let pushed = push_route(text, number, sent, expiry, count);
-    keep_if_whole(text, length, pushed)
-}
-
-/// Appends the line of a hop to the text. If memory runs out the text is unchanged.
-pub(crate) fn append_hop(
-    text: &mut Vec<u8>,
-    number: u64,
-    scid: Scid,
-    payload: &[u8],
-) -> Result<(), AllocError>
-    ensures ok { OnOk result (text.new.items ≡ text.old.items ++ hop_line number scid payload.now) }
-    ensures err { OnErr result (text.new.items ≡ text.old.items) }
-{
-    let length = text.len();
-    let pushed = push_hop(text, number, scid, payload);
+    let pushed = push_line(text, number, line);
     keep_if_whole(text, length, pushed)
 }

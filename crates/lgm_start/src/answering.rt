@@ -1,6 +1,6 @@
 //! Answering a script according to the options.
 
-ghost use Rattle.std.specs.Prelude.{◌+◌, ◌<◌, ◌≤◌, ◌^◌};
+ghost use Rattle.std.specs.Prelude.{◌≤◌};
 ghost use Rattle.lgm_start.specs.Ended.{AnswersAs};
 
 use crate::options::{Mode, Options};
@@ -35,11 +35,9 @@ pub fn answer<Rt: Threads + Wait + Sync + RandomSource, G: Gate, R: Source, W: S
     writer: &mut W,
     remains: &mut Remains,
 ) -> Ended
-    requires workers { (1 ≤ options.now.workers) × (options.now.workers ≤ 64) }
-    requires reader { R.failures reader.old + 1 < 2 ^ 64 }
-    requires writer { W.failures writer.old + 1 < 2 ^ 64 }
-    ensures { AnswersAs R.left R.failures W.taken W.failures options.now.mode options.now reader.old
-        reader.new writer.old writer.new result }
+    requires { (1 ≤ options.now.workers) × (options.now.workers ≤ 64) }
+    ensures { AnswersAs options.now.mode options.now (R.seen reader.old) (R.seen reader.new)
+        (W.seen writer.old) (W.seen writer.new) result }
 {
     let chain = &options.chain;
     let known = &options.known;

@@ -19,7 +19,7 @@ use std::io::ErrorKind;
 const MAX_KNOWN: usize = 256;
 
 /// The program's version, and the kit that it is proved with.
-const VERSION: &str = "1.0 (rattle-kit-13f)";
+const VERSION: &str = "1.0 (rattle-kit-13b)";
 
 /// The end of the help of `lgm run`: for the chain of the examples, and for mainnet.
 const RUN_EXAMPLES: &str = "\

@@ -1,6 +1,6 @@
 //! The whole program, over any words and streams.
 
-ghost use Rattle.std.specs.Prelude.{◌≡◌, ◌+◌, ◌<◌, ◌^◌};
+ghost use Rattle.std.specs.Prelude.{◌≡◌};
 ghost use Rattle.lgm_start.specs.Ended.{status_of};
 
 use crate::answering::{Ended, answer};
@@ -25,9 +25,7 @@ const FAILED: u8 = 1;
 const BAD_WORDS: u8 = 2;
 
 /// Writes a text about what went wrong. A failure to write is ignored.
-fn tell<S: Sink>(errors: &mut S, text: &str)
-    requires { S.failures errors.old + 1 < 2 ^ 64 }
-{
+fn tell<S: Sink>(errors: &mut S, text: &str) {
     let _ = write_all(errors, text.as_bytes());
 }
 
@@ -45,7 +43,6 @@ pub fn fault_line(fault: RunFault) -> &'static str {
 }
 
 fn fail<S: Sink>(errors: &mut S, fault: RunFault) -> u8
-    requires { S.failures errors.old + 1 < 2 ^ 64 }
     ensures { result ≡ 1 }
 {
     tell(errors, fault_line(fault));
@@ -54,7 +51,6 @@ fn fail<S: Sink>(errors: &mut S, fault: RunFault) -> u8
 
 /// Writes the fault of a script that wasn't answered, and returns the exit status.
 fn finish<S: Sink>(errors: &mut S, ended: &Ended) -> u8
-    requires { S.failures errors.old + 1 < 2 ^ 64 }
     ensures { result ≡ status_of ended.now }
 {
     match ended {
@@ -64,9 +60,7 @@ fn finish<S: Sink>(errors: &mut S, ended: &Ended) -> u8
 }
 
 /// Writes what `clap` says about the arguments.
-fn explain<S: Sink>(alloc: Global, errors: &mut S, error: &Error) -> u8
-    requires { S.failures errors.old + 1 < 2 ^ 64 }
-{
+fn explain<S: Sink>(alloc: Global, errors: &mut S, error: &Error) -> u8 {
     if matches!(error.kind(), ErrorKind::OutOfMemory) {
         return fail(errors, RunFault::NoMemory);
     }
@@ -80,9 +74,7 @@ fn explain<S: Sink>(alloc: Global, errors: &mut S, error: &Error) -> u8
 }
 
 /// Writes why words give no options, and returns the exit status: 1 if memory ran out, else 2.
-pub fn refuse<S: Sink>(alloc: Global, errors: &mut S, bad: &BadWords) -> u8
-    requires { S.failures errors.old + 1 < 2 ^ 64 }
-{
+pub fn refuse<S: Sink>(alloc: Global, errors: &mut S, bad: &BadWords) -> u8 {
     let line = match bad {
         BadWords::NotText => "lgm: a word isn't UTF-8\n",
         BadWords::Words(error) => return explain(alloc, errors, error),
@@ -106,11 +98,7 @@ pub fn start<Rt: Threads + Wait + Sync + RandomSource, R: Source, W: Sink, S: Si
     reader: &mut R,
     writer: &mut W,
     errors: &mut S,
-) -> u8
-    requires reader { R.failures reader.old + 1 < 2 ^ 64 }
-    requires writer { W.failures writer.old + 1 < 2 ^ 64 }
-    requires errors { S.failures errors.old + 1 < 2 ^ 64 }
-{
+) -> u8 {
     let mut remains = Remains::none();
     start_keeping(
         rt,
@@ -141,11 +129,7 @@ pub fn start_keeping<
     writer: &mut W,
     errors: &mut S,
     remains: &mut Remains,
-) -> u8
-    requires reader { R.failures reader.old + 1 < 2 ^ 64 }
-    requires writer { W.failures writer.old + 1 < 2 ^ 64 }
-    requires errors { S.failures errors.old + 1 < 2 ^ 64 }
-{
+) -> u8 {
     let options = match parse(alloc, words) {
         Ok(options) => options,
         Err(bad) => return refuse(alloc, errors, &bad),

@@ -1,8 +1,6 @@
-ghost use Rattle.std.specs.Prelude.{◌+◌, ◌<◌, ◌^◌};
-
 use lgm_par::Gate;
 use lgm_run::Remains;
-use lgm_script::{Failed, MemorySink, MemorySource, Sink, Source};
+use lgm_script::{Failed, Failures, MemorySink, MemorySource, Sink, Source};
 use lgm_start::{read_words, refuse, start, start_keeping};
 use std::alloc::Global;
 use std::env::{Env, FillError};
@@ -91,11 +89,7 @@ fn start_with<Rt: Threads + Wait + Sync + RandomSource, R: Source, W: Sink, S: S
     reader: &mut R,
     writer: &mut W,
     errors: &mut S,
-) -> u8
-    requires reader { R.failures reader.old + 1 < 2 ^ 64 }
-    requires writer { W.failures writer.old + 1 < 2 ^ 64 }
-    requires errors { S.failures errors.old + 1 < 2 ^ 64 }
-{
+) -> u8 {
     let given = Given { words, last: None };
     match read_words(&(given, alloc)) {
         Ok(words) => start(rt, alloc, words.as_slice(), reader, writer, errors),
@@ -163,7 +157,7 @@ fn words_are_checked_first(rt: HostRuntime) -> Result<(), Fail> {
 fn the_version_names_the_kit(rt: HostRuntime) -> Result<(), Fail> {
     let (status, writer, errors) = started(&rt, rt.alloc(), &["lgm", "--version"], b"");
     assert_eq!(rt; status, 2);
-    assert_eq!(rt; errors.taken(), b"lgm 1.0 (rattle-kit-13f)\n".as_slice());
+    assert_eq!(rt; errors.taken(), b"lgm 1.0 (rattle-kit-13b)\n".as_slice());
     assert!(rt; writer.taken().is_empty());
     Ok(())
 }
@@ -284,15 +278,13 @@ fn a_fault_of_live_has_its_line(rt: HostRuntime) -> Result<(), Fail> {
 struct BrokenSource<'a> {
     text: MemorySource<'a>,
     is_broken: bool,
-    failures: u64,
+    failures: Failures,
 }
 
 impl Source for BrokenSource<'_> {
     ghost use Rattle.std.specs.Prelude.{None};
 
-    ghost left = { λ _. None };
-
-    ghost failures = { λ s. s.failures };
+    ghost seen = { λ s. record { left = None; failures = s.failures.count } };
 
     fn read(&mut self, buffer: &mut [u8]) -> Result<usize, Failed> {
         if !self.is_broken {
@@ -301,27 +293,36 @@ impl Source for BrokenSource<'_> {
                 return Ok(n);
             }
         }
-        self.failures += 1;
+        self.failures = self.failures.and_one();
         Err(Failed)
     }
 }
 
-/// A sink that takes nothing.
+/// A sink that takes nothing, and how many writes it was given.
 #[derive(Drop)]
 struct FullSink {
-    failures: u64,
+    writes: u64,
+    failures: Failures,
+}
+
+impl FullSink {
+    fn new() -> FullSink {
+        FullSink {
+            writes: 0,
+            failures: Failures::none(),
+        }
+    }
 }
 
 impl Sink for FullSink {
     ghost use Rattle.std.specs.Prelude.{None};
 
-    ghost taken = { λ _. None };
-
-    ghost failures = { λ s. s.failures };
+    ghost seen = { λ s. record { taken = None; failures = s.failures.count } };
 
     fn write(&mut self, bytes: &[u8]) -> Result<usize, Failed> {
         if !bytes.is_empty() {
-            self.failures += 1;
+            self.writes = self.writes.saturating_add(1);
+            self.failures = self.failures.and_one();
         }
         Ok(0)
     }
@@ -334,10 +335,7 @@ fn assert_failed<Rt: Abort + Threads + Wait + Sync + RandomSource, R: Source, W:
     reader: &mut R,
     writer: &mut W,
     line: &[u8],
-) -> Result<(), Fail>
-    requires reader { R.failures reader.old + 1 < 2 ^ 64 }
-    requires writer { W.failures writer.old + 1 < 2 ^ 64 }
-{
+) -> Result<(), Fail> {
     let mut errors = MemorySink::new(alloc);
     let words = ["lgm", "run", "--chain", CHAIN];
     let status = start_with(rt, alloc, &words, reader, writer, &mut errors);
@@ -351,7 +349,7 @@ fn a_failed_read_has_its_line(rt: HostRuntime) -> Result<(), Fail> {
     let mut reader = BrokenSource {
         text: MemorySource::new(b"commit\ncomm", 100),
         is_broken: false,
-        failures: 0,
+        failures: Failures::none(),
     };
     let mut writer = MemorySink::new(rt.alloc());
     assert_failed(
@@ -368,7 +366,7 @@ fn a_failed_read_has_its_line(rt: HostRuntime) -> Result<(), Fail> {
 #[test]
 fn a_failed_write_has_its_line(rt: HostRuntime) -> Result<(), Fail> {
     let mut reader = MemorySource::new(b"commit\n", 100);
-    let mut writer = FullSink { failures: 0 };
+    let mut writer = FullSink::new();
     assert_failed(
         &rt,
         rt.alloc(),
@@ -393,11 +391,11 @@ fn a_failed_write_to_errors_changes_nothing(rt: HostRuntime) -> Result<(), Fail>
     for (words, want, text) in table {
         let mut reader = MemorySource::new(script.as_slice(), 1_000);
         let mut writer = MemorySink::new(alloc);
-        let mut errors = FullSink { failures: 0 };
+        let mut errors = FullSink::new();
         let status = start_with(&rt, alloc, words, &mut reader, &mut writer, &mut errors);
         assert_eq!(rt; status, want, "at {words:?}");
         assert_eq!(rt; writer.taken(), text, "at {words:?}");
-        assert_eq!(rt; errors.failures, 1, "at {words:?}");
+        assert_eq!(rt; errors.writes, 1, "at {words:?}");
     }
     Ok(())
 }

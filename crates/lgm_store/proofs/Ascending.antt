@@ -16,11 +16,10 @@ use Rattle.lgm_check.specs.declared.row.NodeRow.{NodeRow}
 use Rattle.lgm_check.specs.declared.row.BanRow.{BanRow}
 use Rattle.lgm_store.specs.declared.op.Op.{Op}
 use Rattle.lgm_store.specs.declared.op.Op.TheVariants as ops
-use Rattle.lgm_store.specs.inner.Keyed.{IsKeyed}
+use Rattle.lgm_store.specs.Keys.{IsKeyed, point_cmp, direction_cmp, point_of, direction_of, id_of}
 use Rattle.lgm_store.specs.Rows.{Rows, IsAscending, empty, put, by_id, by_direction, by_node, by_point, channel_of, ends_channel, ends_banned}
 use Rattle.lgm_store.specs.History.{absorbed, fold_from, fold, with_banned, without_held}
-use Rattle.lgm_store.specs.inner.Ends.{point_cmp}
-use Rattle.lgm_store.specs.inner.Sound.{direction_cmp, IsSound, id_of, direction_of, point_of}
+use Rattle.lgm_store.specs.inner.Sound.{IsSound}
 use Rattle.lgm_store.proofs.ListLaws.{All-filter}
 use Rattle.lgm_store.proofs.Lists.{direction_total, node_total}
 

@@ -1,6 +1,6 @@
 -- Bans: closing the channels that end at banned points, one after the other.
 use Rattle.std.proofs.Common.{◌≡◌, ℕ, Bool, true, false, not, ◌&&◌, ◌||◌, cond, List, [], ◌∷◌, ◌++◌, ◌+◌}
-use Rattle.std.proofs.Common.{◌<◌, length, take, get_or, map, Some, refl, sym, ap, ◌∙◌, eqb, arith}
+use Rattle.std.proofs.Common.{◌<◌, length, take, get_or, map, Some, refl, sym, ap, subst, ◌∙◌, eqb, arith}
 use Rattle.std.specs.Prelude.{is_some, if◌then◌else◌}
 use Rattle.std.specs.List.{AllByRecursion, filter, list_any}
 use Rattle.std.specs.List.Sorted.{IsStrictlySortedBy}
@@ -13,26 +13,24 @@ use Rattle.std.specs.Ordering.{is_lt, is_gt, nat_cmp, match_ordering}
 use Rattle.std.proofs.lemmas.List.Folds.{list_any-append}
 use Rattle.std.proofs.lemmas.Bool.Decides.{nat_tests}
 use Rattle.std.proofs.lemmas.Grind.{take_at_read}
+use Rattle.std.proofs.lemmas.Bool.{and_right, or_right}
 use Rattle.lgm_wire.specs.declared.point.Point.{Point}
 use Rattle.lgm_check.specs.declared.row.ChannelRow.{ChannelRow}
 use Rattle.lgm_check.specs.declared.row.UpdateRow.{UpdateRow}
 use Rattle.lgm_check.specs.declared.row.NodeRow.{NodeRow}
-use Rattle.lgm_store.specs.inner.Keyed.{IsKeyed}
-use Rattle.lgm_store.specs.inner.Ends.{point_cmp}
+use Rattle.lgm_store.specs.Keys.{IsKeyed, point_cmp, id_of}
 use Rattle.lgm_store.specs.Rows.{Rows, put, by_point, by_id, is_point, channel_of, ends_at, ends_channel, is_banned, ends_banned}
 use Rattle.lgm_store.specs.History.{without_channel, channels_without, updates_without, ended_nodes, allowed_channels, without_held}
 use Rattle.lgm_store.specs.History.{banned_channels, updates_beside, banning, with_banned, with_ban}
 use Rattle.lgm_store.specs.Reading.{ids_at}
-use Rattle.lgm_store.specs.inner.Sound.{AreEnded, AreAllowed, id_of}
+use Rattle.lgm_store.specs.inner.Sound.{AreEnded, AreAllowed}
 use Rattle.lgm_check.specs.declared.row.BanRow.{BanRow}
 use Rattle.lgm_store.specs.Laws.{IsLawful, AreHeld}
 use Rattle.lgm_store.specs.Laws as Lawful
 use Rattle.lgm_store.specs.declared.op.Op.TheVariants as ops
-use Rattle.lgm_store.proofs.ListLaws.{All-filter, filter-filter, filter-same, filter-true}
-use Rattle.lgm_store.proofs.Ascending.{ascend-filter}
+use Rattle.lgm_store.proofs.ListLaws.{All-filter, filter-filter, filter-same, filter-alike, filter-true}
 use Rattle.lgm_store.proofs.Lists.{node_total, same_node}
 use Rattle.lgm_store.proofs.Ordered.{values-insert}
-use Rattle.lgm_store.proofs.Soundness.{AreEnded-ended_nodes}
 use Rattle.lgm_store.proofs.Lawful.{AreHeld-absorbed, AreEnded-absorbed}
 
 -- the rows with channels closed, in order
@@ -51,7 +49,7 @@ closed_all-more rows ids i id in_range is =
     ap (closed_all rows) ((take_at_read ids i id in_range).1) ∙ closed_all-push rows (take i ids)
     (get_or ids i id) ∙ ap (without_channel (closed_all rows (take i ids))) (sym is)
 
--- ---- a channel whose id is the least of those that go
+-- ---- ids of channels
 
 another : (a b : ChannelRow) → by_id a b ≡ Less → eqb (id_of b) (id_of a) ≡ false
 another a b less = let is : nat_cmp (id_of a) (id_of b) ≡ Less = less in grind (arith, nat_tests)
@@ -62,72 +60,11 @@ other a b less = let is : nat_cmp (id_of a) (id_of b) ≡ Less = less in grind (
 pub id_again : (id : ℕ) → eqb id id ≡ true
 id_again id = grind (arith, nat_tests)
 
--- rows above a row all stay where its id goes
-stay : (row : ChannelRow) (rows : List ChannelRow) → AllByRecursion (λ other. by_id row other ≡ Less) rows → channels_without rows (id_of row) ≡ rows
-stay row [] above = refl
-stay row (x ∷ xs) above = rw (another row x above.0, stay row xs above.1) refl
-
--- the first of the rows that pass a test goes: the others that pass are left
-record Going (p : ChannelRow → Bool) (rows : List ChannelRow) (first : ChannelRow) (rest : List ChannelRow) : Type 0 where
-  passing : filter p (channels_without rows (id_of first)) ≡ rest
-  failing : filter (λ row. not (p row)) (channels_without rows (id_of first)) ≡ filter (λ row. not (p row)) rows
-  held : is_some (channel_of rows (id_of first)) ≡ true
-
-going : (p : ChannelRow → Bool) (rows : List ChannelRow) (first : ChannelRow) (rest : List ChannelRow)
-    → IsStrictlySortedBy by_id rows → filter p rows ≡ first ∷ rest
-    → Going p rows first rest
-unfolding IsStrictlySortedBy
-going p [] first rest sorted is = absurd cc
-going p (x ∷ xs) first rest sorted is = by (going p xs first rest sorted.1) (p x) refl is
-  where
-    by : (filter p xs ≡ first ∷ rest → Going p xs first rest) → (b : Bool) → p x ≡ b
-        → cond (p x) (x ∷ filter p xs) (filter p xs) ≡ first ∷ rest → Going p (x ∷ xs) first rest
-    by others true here is =
-        let parts : x ∷ filter p xs ≡ first ∷ rest = rw here at is in
-        let first_is : x ≡ first = cc in
-        let rest_is : filter p xs ≡ rest = cc in
-        rw (← first_is) (record {
-          passing = rw (id_again (id_of x), stay x xs sorted.0) rest_is;
-          failing = rw (id_again (id_of x), stay x xs sorted.0, here) refl;
-          held = rw (id_again (id_of x)) refl;
-        })
-    by others false here is =
-        let later : filter p xs ≡ first ∷ rest = rw here at is in
-        let left = others later in
-        let above : AllByRecursion (λ y. by_id x y ≡ Less) (first ∷ rest) = rw later at (All-filter (λ y. by_id x y ≡ Less) p xs sorted.0) in
-        record {
-          passing = rw (other x first above.0, here) left.passing;
-          failing = rw (other x first above.0, here, left.failing) refl;
-          held = rw (other x first above.0) left.held;
-        }
-
--- ---- the step
-
--- the updates of channels that go, one of them first
-updates-step : (first : ChannelRow) (rest : List ChannelRow) (updates : List UpdateRow)
-    → updates_beside rest (updates_without updates (id_of first)) ≡ updates_beside (first ∷ rest) updates
-updates-step first rest updates =
-    filter-filter _ _ updates ∙ filter-same _ _ (λ row. by row (eqb row.message.short_channel_id
-    (id_of first)) (turned row.message.short_channel_id (id_of first))) updates
-  where
-    turned : (a b : ℕ) → eqb b a ≡ eqb a b
-    turned a b = grind (arith, nat_tests)
-
-    by : (row : UpdateRow) (b : Bool) → eqb (id_of first) row.message.short_channel_id ≡ b
-        → (not b && not (is_some (channel_of rest row.message.short_channel_id)))
-        ≡ not (is_some (cond (eqb (id_of first) row.message.short_channel_id) (Some first) (channel_of rest row.message.short_channel_id)))
-    by row true is = rw is refl
-    by row false is = rw is refl
-
 -- nodes that are dropped at once, or in two steps
 any-filter : (p q : ChannelRow → Bool) (rows : List ChannelRow) → list_any q (filter p rows) ≡ true → list_any q rows ≡ true
 any-filter p q [] any = any
 any-filter p q (x ∷ xs) any = by (any-filter p q xs) (p x) any
   where
-    or_true : (b : Bool) → (b || true) ≡ true
-    or_true true = refl
-    or_true false = refl
-
     at : (b : Bool) → (list_any q (filter p xs) ≡ true → list_any q xs ≡ true) → (b || list_any q (filter p xs)) ≡ true → (b || list_any q xs) ≡ true
     at true others any = refl
     at false others any = others any
@@ -135,7 +72,7 @@ any-filter p q (x ∷ xs) any = by (any-filter p q xs) (p x) any
     by : (list_any q (filter p xs) ≡ true → list_any q xs ≡ true) → (b : Bool)
         → list_any q (cond b (x ∷ filter p xs) (filter p xs)) ≡ true → (q x || list_any q xs) ≡ true
     by others true any = at (q x) others any
-    by others false any = rw (others any) (or_true (q x))
+    by others false any = or_right (q x) (list_any q xs) (others any)
 
 nodes-step : (p : ChannelRow → Bool) (channels : List ChannelRow) (nodes : List NodeRow)
     → ended_nodes (filter p channels) (ended_nodes channels nodes) ≡ ended_nodes (filter p channels) nodes
@@ -143,39 +80,15 @@ nodes-step p channels nodes =
     filter-filter _ _ nodes
     ∙ filter-same _ _ (λ row. by row (ends_channel (filter p channels) row.message.node_id) refl) nodes
   where
-    and_false : (b : Bool) → (b && false) ≡ false
-    and_false true = refl
-    and_false false = refl
-
     by : (row : NodeRow) (b : Bool) → ends_channel (filter p channels) row.message.node_id ≡ b
         → (ends_channel channels row.message.node_id && ends_channel (filter p channels) row.message.node_id)
         ≡ ends_channel (filter p channels) row.message.node_id
     by row true is = rw (is, any-filter p (ends_at row.message.node_id) channels is) refl
-    by row false is = rw is (and_false (ends_channel channels row.message.node_id))
-
--- ---- all of them
-
--- no channel ends at a banned point
-nothing : (banned : List Point) (rows : List ChannelRow) → banned_channels banned rows ≡ [] → allowed_channels banned rows ≡ rows
-nothing banned [] none = refl
-nothing banned (x ∷ xs) none = by (nothing banned xs) (ends_banned banned x) refl none
-  where
-    by : (banned_channels banned xs ≡ [] → allowed_channels banned xs ≡ xs) → (b : Bool) → ends_banned banned x ≡ b
-        → cond (ends_banned banned x) (x ∷ banned_channels banned xs) (banned_channels banned xs) ≡ []
-        → cond (not (ends_banned banned x)) (x ∷ allowed_channels banned xs) (allowed_channels banned xs) ≡ x ∷ xs
-    by others true is none = let never : x ∷ banned_channels banned xs ≡ [] = rw is at none in absurd cc
-    by others false is none = let later : banned_channels banned xs ≡ [] = rw is at none in rw (is, others later) refl
+    by row false is = rw is (and_right (ends_channel channels row.message.node_id) false refl)
 
 all_ended : (channels : List ChannelRow) (nodes : List NodeRow) → AreEnded channels nodes → ended_nodes channels nodes ≡ nodes
 all_ended channels [] ended = refl
 all_ended channels (x ∷ xs) ended = rw (ended.0, all_ended channels xs ended.1) refl
-
-pub banning-none : (rows : Rows) (banned : List Point) → rows.banned ≡ banned → banned_channels banned
-    rows.channels ≡ [] → AreEnded rows.channels rows.nodes → rows ≡ banning rows banned
-banning-none rows banned is none ended =
-    let channels = nothing banned rows.channels none in
-    let updates : updates_beside (banned_channels banned rows.channels) rows.updates ≡ rows.updates = rw none (filter-true rows.updates) in
-    rw (channels, updates, all_ended rows.channels rows.nodes ended, ← is) refl
 
 -- rows by their lists
 rows_same : (a b : Rows) → a.channels ≡ b.channels → a.updates ≡ b.updates → a.nodes ≡ b.nodes → a.banned ≡ b.banned → a ≡ b
@@ -184,47 +97,6 @@ rows_same a b c u n p =
     λ cs us ns ps. record { channels = cs; updates = us; nodes = ns; banned = ps } in
     ap (λ cs. rows cs a.updates a.nodes a.banned) c ∙ ap (λ us. rows b.channels us a.nodes a.banned) u
     ∙ ap (λ ns. rows b.channels b.updates ns a.banned) n ∙ ap (λ ps. rows b.channels b.updates b.nodes ps) p
-
-pub closed_all-bans : (ids : List ℕ) (rows : Rows) (banned : List Point) → rows.banned ≡ banned
-    → ids ≡ map id_of (banned_channels banned rows.channels)
-    → IsStrictlySortedBy by_id rows.channels → AreEnded rows.channels rows.nodes → closed_all rows ids ≡ banning rows banned
-closed_all-bans [] rows banned is ids_are ascend ended = by (banned_channels banned rows.channels) refl ids_are
-  where
-    by : (gone : List ChannelRow) → banned_channels banned rows.channels ≡ gone → [] ≡ map id_of gone → rows ≡ banning rows banned
-    by [] gone_is ids_are = banning-none rows banned is gone_is ended
-    by (x ∷ xs) gone_is ids_are = absurd cc
-closed_all-bans (id ∷ ids) rows banned is ids_are ascend ended =
-    by (closed_all-bans ids (without_held rows id) banned is) (banned_channels banned rows.channels) refl ids_are
-  where
-    by : (ids ≡ map id_of (banned_channels banned (channels_without rows.channels id)) → IsStrictlySortedBy by_id (channels_without rows.channels id)
-        → AreEnded (channels_without rows.channels id) (ended_nodes (channels_without rows.channels id)
-        rows.nodes) → closed_all (without_held rows id) ids ≡ banning (without_held rows id) banned)
-        → (gone : List ChannelRow) → banned_channels banned rows.channels ≡ gone → id ∷ ids ≡ map id_of gone
-        → closed_all (without_channel rows id) ids ≡ banning rows banned
-    by others [] gone_is ids_are = absurd cc
-    by others (first ∷ rest) gone_is ids_are =
-        let id_is : id ≡ id_of first = cc in
-        let rest_is : ids ≡ map id_of rest = cc in
-        let g = going (ends_banned banned) rows.channels first rest ascend gone_is in
-        let passing : banned_channels banned (channels_without rows.channels id) ≡ rest = rw id_is g.passing in
-        let failing : allowed_channels banned (channels_without rows.channels id) ≡ allowed_channels banned rows.channels = rw id_is g.failing in
-        let held : is_some (channel_of rows.channels id) ≡ true = rw id_is g.held in
-        let closes : without_channel rows id ≡ without_held rows id = rw held refl in
-        let later =
-        others (rest_is ∙ ap (map id_of) (sym passing)) (ascend-filter by_id _ rows.channels ascend)
-        (AreEnded-ended_nodes (channels_without rows.channels id) rows.nodes) in
-        let updates : updates_beside (banned_channels banned (channels_without rows.channels id))
-        (updates_without rows.updates id)
-        ≡ updates_beside (banned_channels banned rows.channels) rows.updates =
-        ap (λ gone. updates_beside gone (updates_without rows.updates id)) passing
-        ∙ ap (λ i. updates_beside rest (updates_without rows.updates i)) id_is
-        ∙ updates-step first rest rows.updates ∙ ap (λ gone. updates_beside gone rows.updates) (sym gone_is) in
-        let nodes : ended_nodes (allowed_channels banned (channels_without rows.channels id))
-        (ended_nodes (channels_without rows.channels id) rows.nodes)
-        ≡ ended_nodes (allowed_channels banned rows.channels) rows.nodes =
-        nodes-step (λ row. not (ends_banned banned row)) (channels_without rows.channels id) rows.nodes
-        ∙ ap (λ channels. ended_nodes channels rows.nodes) failing in
-        ap (λ r. closed_all r ids) closes ∙ later ∙ rows_same (banning (without_held rows id) banned) (banning rows banned) failing updates nodes refl
 
 -- ---- closing a channel twice is closing it once
 
@@ -294,8 +166,7 @@ dropping-step rows id gone =
     rows_same (dropping (without_held rows id) gone) (dropping rows (λ i. eqb i id || gone i)) channels updates nodes refl
   where
     neither : (a b : Bool) → (not a && not b) ≡ not (a || b)
-    neither true b = refl
-    neither false b = refl
+    neither a b = grind arith
 
 pub closed_all-drops : (ids : List ℕ) (rows : Rows) → AreHeld rows → Lawful.AreEnded rows → closed_all rows ids ≡ dropping rows (has ids)
 closed_all-drops [] rows held ended = rows_same rows (dropping rows (λ i. false)) (sym (filter-true rows.channels)) (sym (filter-true rows.updates))
@@ -303,6 +174,62 @@ closed_all-drops [] rows held ended = rows_same rows (dropping rows (λ i. false
 closed_all-drops (id ∷ ids) rows held ended =
     closed_all-drops ids (without_channel rows id) (AreHeld-absorbed rows (ops.Close id) held) (AreEnded-absorbed rows (ops.Close id) ended)
     ∙ ap (λ r. dropping r (has ids)) (without_channel-is rows id held ended) ∙ dropping-step rows id (has ids)
+
+-- ---- the channels that end at banned points are those of their ids
+
+has-channel : (id : ℕ) (rows : List ChannelRow) → has (map id_of rows) id ≡ is_some (channel_of rows id)
+has-channel id [] = refl
+has-channel id (x ∷ xs) = rw (turned id (id_of x)) (by (has-channel id xs) (eqb (id_of x) id))
+  where
+    turned : (a b : ℕ) → eqb a b ≡ eqb b a
+    turned a b = grind (arith, nat_tests)
+
+    by : has (map id_of xs) id ≡ is_some (channel_of xs id) → (b : Bool)
+        → (b || has (map id_of xs) id) ≡ is_some (cond b (Some x) (channel_of xs id))
+    by others true = refl
+    by others false = others
+
+absent : (x : ChannelRow) (rows : List ChannelRow) → AllByRecursion (λ y. by_id x y ≡ Less) rows → has (map id_of rows) (id_of x) ≡ false
+absent x [] above = refl
+absent x (y ∷ ys) above = rw (other x y above.0, absent x ys above.1) refl
+
+-- in rows with different ids, a row has the id of one that passes where it passes itself
+passes : (p : ChannelRow → Bool) (rows : List ChannelRow) → IsStrictlySortedBy by_id rows
+    → AllByRecursion (λ row. not (has (map id_of (filter p rows)) (id_of row)) ≡ not (p row)) rows
+unfolding IsStrictlySortedBy
+passes p [] sorted = tt
+passes p (x ∷ xs) sorted = by (passes p xs sorted.1) (p x) refl
+  where
+    gone : List ℕ
+    gone = map id_of (filter p xs)
+
+    later : (ys : List ChannelRow) → AllByRecursion (λ y. by_id x y ≡ Less) ys
+        → AllByRecursion (λ y. not (has gone (id_of y)) ≡ not (p y)) ys
+        → AllByRecursion (λ y. not (eqb (id_of y) (id_of x) || has gone (id_of y)) ≡ not (p y)) ys
+    later [] above each = tt
+    later (y ∷ ys) above each = (rw (another x y above.0) each.0, later ys above.1 each.1)
+
+    Passes : List ChannelRow → List ChannelRow → Type 0
+    Passes left ys = AllByRecursion (λ y. not (has (map id_of left) (id_of y)) ≡ not (p y)) ys
+
+    by : Passes (filter p xs) xs → (b : Bool) → p x ≡ b → Passes (filter p (x ∷ xs)) (x ∷ xs)
+    by others true is =
+        let left : filter p (x ∷ xs) ≡ x ∷ filter p xs = rw is refl in
+        subst (λ (l : List ChannelRow). Passes l (x ∷ xs)) (sym left)
+        (rw (id_again (id_of x), is) refl, later xs sorted.0 others)
+    by others false is =
+        let left : filter p (x ∷ xs) ≡ filter p xs = rw is refl in
+        subst (λ (l : List ChannelRow). Passes l (x ∷ xs)) (sym left)
+        (rw (absent x (filter p xs) (All-filter (λ y. by_id x y ≡ Less) p xs sorted.0), is) refl, others)
+
+dropping-bans : (rows : Rows) (banned : List Point) → rows.banned ≡ banned → IsStrictlySortedBy by_id rows.channels
+    → dropping rows (has (map id_of (banned_channels banned rows.channels))) ≡ banning rows banned
+dropping-bans rows banned is ascend =
+    let gone = banned_channels banned rows.channels in
+    let channels = filter-alike _ _ rows.channels (passes (ends_banned banned) rows.channels ascend) in
+    rows_same (dropping rows (has (map id_of gone))) (banning rows banned) channels
+    (filter-same _ _ (λ row. ap not (has-channel row.message.short_channel_id gone)) rows.updates)
+    (ap (λ channels. ended_nodes channels rows.nodes) channels) is
 
 -- ---- the ids at points that are banned one after the other
 
@@ -324,25 +251,16 @@ is_banned-put points p x =
     ∷ filter (λ other. is_gt (by_point other p)) points) ∙ parts points
   where
     last : (a b c : Bool) → (a || (b || c)) ≡ (b || (a || c))
-    last true true c = refl
-    last true false c = refl
-    last false b c = refl
+    last a b c = grind arith
 
     twice : (a b c : Bool) → (a || (b || c)) ≡ (b || (b || (a || c)))
-    twice true true c = refl
-    twice true false c = refl
-    twice false true c = refl
-    twice false false c = refl
+    twice a b c = grind arith
 
     inside : (a b c d : Bool) → (a || (b || c)) ≡ (b || d) → (a || (b || (true || c))) ≡ (b || (true || d))
-    inside true true c d is = refl
-    inside true false c d is = refl
-    inside false true c d is = refl
-    inside false false c d is = refl
+    inside a b c d is = grind arith
 
     again : (a b : Bool) → (a || b) ≡ (a || (a || b))
-    again true b = refl
-    again false b = refl
+    again a b = grind arith
 
     parts : (qs : List Point) → (is_banned (filter (λ other. is_lt (by_point other p)) qs) x || (is_point x p
         || is_banned (filter (λ other. is_gt (by_point other p)) qs) x)) ≡ (is_point x p || is_banned qs x)
@@ -376,14 +294,7 @@ ends_banned-put points p row =
     (is_point row.message.node_id_2 p) (is_banned points row.message.node_id_2))
   where
     turned : (a b c d : Bool) → ((a || b) || (c || d)) ≡ ((b || d) || (a || c))
-    turned true true c d = refl
-    turned true false c true = refl
-    turned true false c false = refl
-    turned false true c d = refl
-    turned false false true true = refl
-    turned false false true false = refl
-    turned false false false true = refl
-    turned false false false false = refl
+    turned a b c d = grind arith
 
 -- those of one point more
 pub gathers-more : (rows : List ChannelRow) (points : List Point) (ids : List ℕ) (p : Point)
@@ -392,13 +303,10 @@ gathers-more rows points ids p gathers id =
     list_any-append (λ other. eqb id other) ids (ids_at rows p) ∙ ap (λ (b : Bool). b || has (ids_at rows p) id) (gathers id) ∙ both rows
   where
     or_true : (a b : Bool) → (a || (true || b)) ≡ true
-    or_true true b = refl
-    or_true false b = refl
+    or_true a b = grind arith
 
     swap : (a b c : Bool) → (a || (b || c)) ≡ (b || (a || c))
-    swap true true c = refl
-    swap true false c = refl
-    swap false b c = refl
+    swap a b c = grind arith
 
     both : (xs : List ChannelRow) → (has (map id_of (banned_channels points xs)) id || has (ids_at xs p) id)
         ≡ has (map id_of (banned_channels (put by_point points p) xs)) id
@@ -432,8 +340,7 @@ closed_all-gathered rows ids banned gathers held ended ascend =
     (filter-same _ _ (λ row. ap not (gathers (id_of row))) rows.channels)
     (filter-same _ _ (λ row. ap not (gathers row.message.short_channel_id)) rows.updates)
     (ap (λ channels. ended_nodes channels rows.nodes) (filter-same _ _ (λ row. ap not (gathers (id_of row))) rows.channels)) refl
-    ∙ sym (closed_all-drops gone put_back held ended)
-    ∙ closed_all-bans gone put_back banned refl refl ascend ended
+    ∙ dropping-bans put_back banned refl ascend
 
 -- no channel ends at one of no points
 pub allowed-none : (rows : List ChannelRow) → AreAllowed [] rows

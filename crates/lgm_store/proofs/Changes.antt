@@ -9,11 +9,10 @@ use Rattle.lgm_check.specs.declared.row.ChannelRow.{ChannelRow}
 use Rattle.lgm_check.specs.declared.row.UpdateRow.{UpdateRow}
 use Rattle.lgm_check.specs.declared.row.NodeRow.{NodeRow}
 use Rattle.lgm_store.specs.declared.held.Held.{Held}
-use Rattle.lgm_store.specs.inner.Keyed.{IsKeyed}
+use Rattle.lgm_store.specs.Keys.{IsKeyed, id_of}
 use Rattle.lgm_store.specs.inner.HeldEntries.{channel_entries}
 use Rattle.lgm_store.specs.Rows.{Rows, put, by_id, by_direction, by_node, channel_of, ends_channel, ends_banned}
 use Rattle.lgm_store.specs.History.{with_channel, with_update, with_node, without_channel, channels_without, updates_without, ended_nodes}
-use Rattle.lgm_store.specs.inner.Sound.{id_of}
 use Rattle.lgm_store.proofs.Lists.{lookup-channel}
 use Rattle.lgm_store.proofs.Holding.{lookup-channels}
 

@@ -12,7 +12,7 @@ use Rattle.lgm_check.specs.declared.row.ChannelRow.{ChannelRow}
 use Rattle.lgm_check.specs.declared.row.UpdateRow.{UpdateRow}
 use Rattle.lgm_check.specs.declared.row.NodeRow.{NodeRow}
 use Rattle.lgm_store.specs.Rows.{put, by_id, by_direction, by_node, is_point, is_second, channel_of, update_of, node_of}
-use Rattle.lgm_store.specs.inner.Ends.{point_cmp}
+use Rattle.lgm_store.specs.Keys.{point_cmp}
 use Rattle.lgm_store.proofs.ListLaws.{All-each, find-first, find-second, find-kept, find-gone}
 use Rattle.lgm_store.proofs.Points.{same_point, is_at-point}
 

@@ -9,16 +9,16 @@ use Rattle.std.specs.BTreeMap.{is_at}
 use Rattle.std.specs.declared.cmp.Ordering.TheVariants.{Less}
 use Rattle.std.specs.Ordering.{nat_cmp}
 use Rattle.std.proofs.lemmas.Bool.Decides.{nat_tests}
+use Rattle.std.proofs.lemmas.Bool.{and_right}
 use Rattle.lgm_check.specs.declared.row.ChannelRow.{ChannelRow}
 use Rattle.lgm_check.specs.declared.row.UpdateRow.{UpdateRow}
 use Rattle.lgm_store.specs.declared.held.Held.{Held}
-use Rattle.lgm_store.specs.inner.Keyed.{IsKeyed}
+use Rattle.lgm_store.specs.Keys.{IsKeyed, direction_of, id_of}
 use Rattle.lgm_store.specs.Held.{update_in, held_at}
 use Rattle.lgm_store.specs.inner.HeldEntries.{channel_entries, update_entry, update_entries}
 use Rattle.lgm_store.specs.inner.Slots.{id_in}
 use Rattle.lgm_store.specs.Reading.{is_between, ids_between_of, channels_between_of}
 use Rattle.lgm_store.specs.Rows.{Rows, channel_of, update_of}
-use Rattle.lgm_store.specs.inner.Sound.{id_of, direction_of}
 use Rattle.lgm_store.proofs.ListLaws.{filter-filter, filter-same}
 use Rattle.lgm_store.proofs.Lists.{lookup-channel, lookup-update}
 use Rattle.lgm_store.proofs.Holding.{lookup-channels, lookup-updates}
@@ -157,13 +157,9 @@ values-held_at es rows keyed updates_keyed sorted channels_are updates_are test 
 pub filter-past : {X : Type 0} (p t : X → Bool) (xs : List X) → ((x : X) → t x ≡ true → p x ≡ true) → filter t (filter p xs) ≡ filter t xs
 filter-past {X} p t xs more = filter-filter p t xs ∙ filter-same _ t (λ x. by x (t x) refl) xs
   where
-    and_false : (b : Bool) → (b && false) ≡ false
-    and_false true = refl
-    and_false false = refl
-
     by : (x : X) (b : Bool) → t x ≡ b → (p x && t x) ≡ t x
     by x true is = rw (is, more x is) refl
-    by x false is = rw is (and_false (p x))
+    by x false is = rw is (and_right (p x) false refl)
 
 -- the ids of the channels of a range of blocks
 pub ids-channels : (rows : Rows) (channels : List ChannelRow) (from to : ℕ)

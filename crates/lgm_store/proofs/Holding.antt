@@ -13,11 +13,10 @@ use Rattle.std.proofs.lemmas.Bool.Decides.{nat_tests}
 use Rattle.lgm_check.specs.declared.row.ChannelRow.{ChannelRow}
 use Rattle.lgm_check.specs.declared.row.UpdateRow.{UpdateRow}
 use Rattle.lgm_store.specs.declared.held.Held.{Held}
-use Rattle.lgm_store.specs.inner.Keyed.{IsKeyed}
+use Rattle.lgm_store.specs.Keys.{IsKeyed, direction_cmp, direction_of}
 use Rattle.lgm_store.specs.inner.HeldEntries.{alone, with_update_in, channel_entries, update_entry, update_entries}
 use Rattle.lgm_store.specs.Held.{update_in}
 use Rattle.lgm_store.specs.History.{updates_without}
-use Rattle.lgm_store.specs.inner.Sound.{direction_cmp, direction_of}
 use Rattle.lgm_store.proofs.Lists.{id_test, same_id}
 use Rattle.lgm_store.proofs.Walking.{first_value}
 

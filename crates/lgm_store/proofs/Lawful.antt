@@ -19,7 +19,7 @@ use Rattle.lgm_store.specs.Rows.{Rows, empty, put, by_id, by_direction, by_node,
 use Rattle.lgm_store.specs.History.{absorbed, fold_from, fold, with_banned, channels_without, without_held}
 use Rattle.lgm_store.specs.History.{allowed_channels, banned_channels}
 use Rattle.lgm_store.specs.Laws.{IsLawful, AreHeld, AreEnded, AreAllowed}
-use Rattle.lgm_store.specs.inner.Sound.{id_of}
+use Rattle.lgm_store.specs.Keys.{id_of}
 use Rattle.lgm_store.proofs.ListLaws.{All-filtered, All-put, All-to}
 use Rattle.lgm_store.proofs.Ascending.{fold-ascends}
 use Rattle.lgm_store.proofs.Soundness.{AreEnded-ended_nodes}
@@ -32,15 +32,11 @@ any-put {R} p order row rows alike any =
     list_any-append p (filter (λ x. is_lt (order x row)) rows) (row ∷ filter (λ x. is_gt (order x row)) rows)
     ∙ parts rows alike any
   where
-    or_true : (b : Bool) → (b || true) ≡ true
-    or_true true = refl
-    or_true false = refl
-
     middle : (a b : Bool) → (a || (true || b)) ≡ true
-    middle a b = or_true a
+    middle a b = grind arith
 
     last : (a b : Bool) → (a || (b || true)) ≡ true
-    last a b = ap (λ (x : Bool). a || x) (or_true b) ∙ or_true a
+    last a b = grind arith
 
     parts : (xs : List R) → AllByRecursion (λ x. order x row ≡ Equal → p x ≡ true → p row ≡ true) xs → list_any p xs ≡ true
         → (list_any p (filter (λ x. is_lt (order x row)) xs) || (p row || list_any p (filter (λ x. is_gt (order x row)) xs))) ≡ true

@@ -1,3 +1,4 @@
+pub mod Booleans
 pub mod ListLaws
 pub mod Ordered
 pub mod Points
@@ -18,3 +19,5 @@ pub mod Slotted
 pub mod Putting
 pub mod Deciding
 pub mod Verdicts
+pub mod Spelling
+pub mod Fewness

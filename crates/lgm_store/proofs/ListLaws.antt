@@ -77,17 +77,13 @@ pub filter-twice : {X : Type 0} (p : X → Bool) (xs : List X) → filter p (fil
 filter-twice p xs = filter-filter p p xs ∙ filter-same _ _ (λ x. both (p x)) xs
   where
     both : (b : Bool) → (b && b) ≡ b
-    both true = refl
-    both false = refl
+    both b = grind arith
 
 pub filter-swap : {X : Type 0} (p q : X → Bool) (xs : List X) → filter p (filter q xs) ≡ filter q (filter p xs)
 filter-swap p q xs = filter-filter q p xs ∙ filter-same _ _ (λ x. both (q x) (p x)) xs ∙ sym (filter-filter p q xs)
   where
     both : (a b : Bool) → (a && b) ≡ (b && a)
-    both true true = refl
-    both true false = refl
-    both false true = refl
-    both false false = refl
+    both a b = grind arith
 
 -- ---- what tests find
 

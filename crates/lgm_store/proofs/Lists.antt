@@ -16,11 +16,9 @@ use Rattle.lgm_wire.specs.declared.point.Point.{Point}
 use Rattle.lgm_check.specs.declared.row.ChannelRow.{ChannelRow}
 use Rattle.lgm_check.specs.declared.row.UpdateRow.{UpdateRow}
 use Rattle.lgm_check.specs.declared.row.NodeRow.{NodeRow}
-use Rattle.lgm_store.specs.inner.Keyed.{IsKeyed}
+use Rattle.lgm_store.specs.Keys.{IsKeyed, point_cmp, direction_cmp, point_of, direction_of, id_of}
 use Rattle.lgm_store.specs.Rows.{put, by_id, by_direction, by_node, is_point, channel_of, update_of, node_of}
 use Rattle.lgm_store.specs.History.{channels_without}
-use Rattle.lgm_store.specs.inner.Ends.{point_cmp}
-use Rattle.lgm_store.specs.inner.Sound.{direction_cmp, id_of, direction_of, point_of}
 use Rattle.lgm_store.proofs.ListLaws.{filter-same, find-same}
 use Rattle.lgm_store.proofs.Ordered.{lookup-find, values-insert, values-remove, IsKeyed-insert}
 use Rattle.lgm_store.proofs.Points.{is_at-point}

@@ -5,7 +5,7 @@ use Rattle.std.specs.BTreeMap.{is_at}
 use Rattle.std.proofs.lemmas.Cmp.{nat_list_eq_equiv}
 use Rattle.lgm_wire.specs.declared.point.Point.{Point}
 use Rattle.lgm_store.specs.Rows.{is_point}
-use Rattle.lgm_store.specs.inner.Ends.{point_cmp}
+use Rattle.lgm_store.specs.Keys.{point_cmp}
 
 -- the order finds the points that are the same
 pub is_at-point : (p q : Point) → is_at (point_cmp p) q ≡ is_point p q

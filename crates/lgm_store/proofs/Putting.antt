@@ -7,6 +7,8 @@ use Rattle.std.specs.Map.{lookup, set_value, keys_of, values_of}
 use Rattle.std.specs.BTreeMap.{is_at}
 use Rattle.std.specs.Ordering.{nat_cmp}
 use Rattle.lgm_wire.specs.declared.point.Point.{Point}
+use Rattle.lgm_gossip.specs.Message.{Wire}
+use Rattle.lgm_gossip.specs.declared.message.Message.TheVariants as wired
 use Rattle.lgm_check.specs.declared.row.UpdateRow.{UpdateRow}
 use Rattle.lgm_check.specs.declared.row.NodeRow.{NodeRow}
 use Rattle.lgm_store.specs.declared.held.Held.{Held}
@@ -21,6 +23,7 @@ use Rattle.lgm_store.proofs.HeldRows.{channel_at}
 use Rattle.lgm_store.proofs.Soundness.{IsSound-put}
 use Rattle.lgm_store.proofs.Changes.{with_update-new, with_update-none}
 use Rattle.lgm_store.proofs.Kept.{rows_of}
+use Rattle.lgm_store.proofs.Spelling.{AllSpelled-update}
 
 module _ (held : List (ℕ × Held)) (nodes : List (Point × NodeRow)) (ends : List (Point × List ℕ)) (banned : List Point) (row : UpdateRow)
     (kept : IsKept (channel_entries held) (update_entries held) nodes ends banned) where
@@ -35,8 +38,16 @@ module _ (held : List (ℕ × Held)) (nodes : List (Point × NodeRow)) (ends : L
       set-channels (is_at (nat_cmp id)) held old (with_update_in (is_second row) old row) found
       (channel-with (is_second row) old row)
 
-  pub put-kept : IsKept (channel_entries (with_update_at held row)) (update_entries (with_update_at held row)) nodes ends banned
-  put-kept = by (lookup (is_at (nat_cmp id)) held) refl
+  -- the updates with it in its place
+  put_in : (old : Held) → lookup (is_at (nat_cmp id)) held ≡ Some old
+      → values_of (update_entries (written old)) ≡ put by_direction (values_of (update_entries held)) row
+  put_in old found =
+      values-update (update_entries held) (update_entries (written old)) (id, is_second row) row refl
+      (set-updates id (is_second row) row held old (ascend-held held kept.rows.channels_ascend) found)
+      kept.rows.updates_keyed kept.rows.updates_ascend
+
+  pub put-kept : Wire (wired.ChannelUpdate row.message) row.raw → IsKept (channel_entries (with_update_at held row)) (update_entries (with_update_at held row)) nodes ends banned
+  put-kept own = by (lookup (is_at (nat_cmp id)) held) refl
     where
       by : (o : Option Held) → lookup (is_at (nat_cmp id)) held ≡ o → IsKept (channel_entries
           (with_update_for o held row)) (update_entries (with_update_for o held row)) nodes ends banned
@@ -48,6 +59,10 @@ module _ (held : List (ℕ × Held)) (nodes : List (Point × NodeRow)) (ends : L
             rows =
                 IsSound-put held (written old) nodes ends id (is_second row) row old refl found refl
                 (ascend-held held kept.rows.channels_ascend) ascend kept.rows;
+            spelled =
+                AllSpelled-update (values_of (channel_entries held)) (values_of (channel_entries (written old)))
+                (values_of (update_entries held)) (values_of (update_entries (written old))) (values_of nodes) row own
+                (put_in old found) (ap values_of same) kept.spelled;
             banned_ascend = kept.banned_ascend;
             allowed = rw same kept.allowed;
           }
@@ -64,11 +79,8 @@ module _ (held : List (ℕ × Held)) (nodes : List (Point × NodeRow)) (ends : L
           ap is_some channel_is ∙ ap (λ o. is_some (option_map (λ h. h.channel) o)) found in
           view_is ∙ with_update-none rows row none
       by (Some old) found =
-          let updates_are = set-updates id (is_second row) row held old (ascend-held held kept.rows.channels_ascend) found in
           with_update-new rows (rows_of (written old) nodes banned) row
           (ap is_some channel_is ∙ ap (λ o. is_some (option_map (λ h. h.channel) o)) found)
           (ap values_of (same_channels old found) ∙ ap (λ rs. rs.channels) view_is)
-          (values-update (update_entries held) (update_entries (written old)) (id, is_second row) row refl
-          updates_are kept.rows.updates_keyed kept.rows.updates_ascend
-          ∙ ap (λ rs. put by_direction rs.updates row) view_is)
+          (put_in old found ∙ ap (λ rs. put by_direction rs.updates row) view_is)
           (ap (λ rs. rs.nodes) view_is) (ap (λ rs. rs.banned) view_is)

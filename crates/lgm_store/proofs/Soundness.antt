@@ -1,5 +1,5 @@
 -- What operations leave of the maps that keep rows.
-use Rattle.std.proofs.Common.{◌≡◌, ℕ, Bool, true, false, ◌&&◌, ◌||◌, cond, List, [], ◌∷◌, map, Some, None, refl, sym, ap, ◌∙◌}
+use Rattle.std.proofs.Common.{◌≡◌, ℕ, Bool, true, false, ◌&&◌, ◌||◌, cond, List, [], ◌∷◌, map, Some, None, refl, sym, ap, ◌∙◌, arith}
 use Rattle.std.specs.Prelude.{is_some, if◌then◌else◌}
 use Rattle.std.specs.Option.{option_map}
 use Rattle.std.specs.List.{AllByRecursion, filter, list_any}
@@ -10,18 +10,19 @@ use Rattle.std.specs.declared.cmp.Ordering.{Ordering}
 use Rattle.std.specs.declared.cmp.Ordering.TheVariants.{Less, Equal, Greater}
 use Rattle.std.specs.Ordering.{is_eq, nat_cmp, match_ordering}
 use Rattle.std.proofs.lemmas.Cmp.{nat_cmp_total}
+use Rattle.std.proofs.lemmas.Bool.{or_right}
 use Rattle.lgm_wire.specs.declared.point.Point.{Point}
 use Rattle.lgm_check.specs.declared.row.ChannelRow.{ChannelRow}
 use Rattle.lgm_check.specs.declared.row.UpdateRow.{UpdateRow}
 use Rattle.lgm_check.specs.declared.row.NodeRow.{NodeRow}
 use Rattle.lgm_store.specs.declared.held.Held.{Held}
-use Rattle.lgm_store.specs.inner.Keyed.{IsKeyed}
+use Rattle.lgm_store.specs.Keys.{IsKeyed, point_cmp, direction_cmp, point_of, direction_of, id_of}
 use Rattle.lgm_store.specs.inner.HeldEntries.{alone, with_update_in, channel_entries, update_entries}
 use Rattle.lgm_store.specs.Rows.{is_point, ends_at, ends_channel}
 use Rattle.lgm_store.specs.History.{channels_without, updates_without, ended_nodes}
 use Rattle.lgm_store.specs.Reading.{ids_at}
-use Rattle.lgm_store.specs.inner.Ends.{point_cmp, entry_of, kept, with_id, without_id, changed, Lists, Lacks, stays_beside}
-use Rattle.lgm_store.specs.inner.Sound.{direction_cmp, IsSound, AreEnded, id_of, direction_of, point_of}
+use Rattle.lgm_store.specs.inner.Ends.{entry_of, kept, with_id, without_id, changed, Lists, Lacks, stays_beside}
+use Rattle.lgm_store.specs.inner.Sound.{IsSound, AreEnded}
 use Rattle.lgm_store.proofs.ListLaws.{All-append, All-filter, filter-alike, filter-filter}
 use Rattle.lgm_store.proofs.Points.{same_point}
 use Rattle.lgm_store.proofs.Listing.{kept-with, without-with}
@@ -29,6 +30,7 @@ use Rattle.lgm_store.proofs.Lists.{IsKeyed-channel, IsKeyed-update, IsKeyed-node
 use Rattle.lgm_store.proofs.Holding.{keys-channels, lookup-channels, insert-channels, remove-channels, set-channels, channel-with}
 use Rattle.lgm_store.proofs.Holding.{ascend-updates, set-updates, insert-updates, values-without, keyed-without}
 use Rattle.lgm_store.proofs.Ordered.{IsKeyed-remove}
+use Rattle.lgm_store.proofs.Booleans.{and_true, or_false}
 
 -- ---- the index tells whether a channel ends at a node
 
@@ -367,21 +369,8 @@ stays channels new ends first second row apart index ended = by (is_point first 
     at : (node : Point) → is_point node row.message.node_id ≡ true → is_some (entry_of ends node) ≡ ends_channel new row.message.node_id
     at node is = index node ∙ ap (ends_channel new) (same_point node row.message.node_id is)
 
-    or_false : (b : Bool) → (b || false) ≡ b
-    or_false true = refl
-    or_false false = refl
-
-    or_true : (b : Bool) → (b || true) ≡ true
-    or_true true = refl
-    or_true false = refl
-
-    and_true : (b : Bool) → (b && true) ≡ b
-    and_true true = refl
-    and_true false = refl
-
     twice : (b : Bool) → (b && b) ≡ b
-    twice true = refl
-    twice false = refl
+    twice b = grind arith
 
     ended_still : is_point first row.message.node_id ≡ false → is_point second row.message.node_id ≡ false
         → ends_channel new row.message.node_id ≡ true
@@ -400,10 +389,10 @@ stays channels new ends first second row apart index ended = by (is_point first 
           s,
           at first f,
           or_false (ends_channel new row.message.node_id),
-          or_true (is_some (entry_of ends second)),
+          or_right (is_some (entry_of ends second)) true refl,
         ) (and_true (ends_channel new row.message.node_id))
-    by false f true s = rw (f, s, at second s, or_false (ends_channel new row.message.node_id), or_true (is_some (entry_of ends first))) refl
-    by false f false s = rw (f, s, or_true (is_some (entry_of ends first)), or_true (is_some (entry_of ends second))) (sym (ended_still f s))
+    by false f true s = rw (f, s, at second s, or_false (ends_channel new row.message.node_id), or_right (is_some (entry_of ends first)) true refl) refl
+    by false f false s = rw (f, s, or_right (is_some (entry_of ends first)) true refl, or_right (is_some (entry_of ends second)) true refl) (sym (ended_still f s))
 
 -- the nodes that are left
 pub ended_nodes-left : (channels new : List ChannelRow) (ends : List (Point × List ℕ)) (first second : Point) (nodes : List NodeRow)

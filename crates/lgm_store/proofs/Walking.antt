@@ -13,11 +13,10 @@ use Rattle.std.proofs.lemmas.Bool.Decides.{nat_tests}
 use Rattle.lgm_wire.specs.declared.point.Point.{Point}
 use Rattle.lgm_check.specs.declared.row.ChannelRow.{ChannelRow}
 use Rattle.lgm_check.specs.declared.row.NodeRow.{NodeRow}
-use Rattle.lgm_store.specs.inner.Keyed.{IsKeyed}
-use Rattle.lgm_store.specs.inner.Ends.{point_cmp}
+use Rattle.lgm_store.specs.Keys.{IsKeyed, point_cmp, point_of, id_of}
 use Rattle.lgm_store.specs.Reading.{next_channel_of, next_node_of, block_of, is_between}
-use Rattle.lgm_store.specs.inner.Sound.{id_of, point_of}
 use Rattle.lgm_store.specs.inner.Start.{start_after, IsEndBefore}
+use Rattle.lgm_store.proofs.Booleans.{and_true}
 
 module _ {K R : Type 0} where
   -- the value of the first entry
@@ -44,10 +43,6 @@ module _ {K R : Type 0} where
       along : (es : List (K × R)) → IsKeyed key es → AllByRecursion (λ e. p e ≡ q e.1) es
       along [] keyed = tt
       along (e ∷ es) keyed = (agree e keyed.0, along es keyed.1)
-
-and_true : (b : Bool) → (b && true) ≡ b
-and_true true = refl
-and_true false = refl
 
 -- ---- the next
 

@@ -1,4 +1,5 @@
 pub mod Rows
+pub mod Keys
 pub mod Admission
 pub mod History
 pub mod Reading

@@ -1,6 +1,5 @@
 -- Definitions for contracts inside the crate.
 pub mod Decided
-pub mod Keyed
 pub mod Side
 pub mod Slots
 pub mod Ends

@@ -161,7 +161,7 @@ impl Held {
     }
 
     /// The same of a row that is kept.
-    fn admit_kept_update(&self, row: &KeptUpdate, signer: &Point) -> Result<(), Refusal>
+    pub(crate) fn admit_kept_update(&self, row: &KeptUpdate, signer: &Point) -> Result<(), Refusal>
         ensures { update_op row.now result ≡ update_admission (Some self.now.channel)
             (update_in (is_second row.now) self.now) row.now signer.now }
     {

@@ -2,7 +2,7 @@
 
 ghost use Rattle.std.specs.Prelude.{◌≡◌};
 
-use lgm_script::{Failed, MemorySource, Sink, Source};
+use lgm_script::{Failed, Failures, MemorySource, Sink, Source};
 
 /// A source that fails at its read of a number, from 1, and at no other.
 #[derive(Drop)]
@@ -10,19 +10,19 @@ pub struct FailingSource<'a> {
     source: MemorySource<'a>,
     reads: usize,
     fails_at: usize,
-    failures: u64,
+    failures: Failures,
 }
 
 impl<'a> FailingSource<'a> {
     /// A source of this script, ten bytes at each read.
     pub fn new(script: &'a [u8], fails_at: usize) -> FailingSource<'a>
-        ensures { ⟦<FailingSource<'a> as Source>⟧.failures result ≡ 0 }
+        ensures { (⟦<FailingSource<'a> as Source>⟧.seen result).failures ≡ 0 }
     {
         FailingSource {
             source: MemorySource::new(script, 10),
             reads: 0,
             fails_at,
-            failures: 0,
+            failures: Failures::none(),
         }
     }
 }
@@ -30,9 +30,7 @@ impl<'a> FailingSource<'a> {
 impl Source for FailingSource<'_> {
     ghost use Rattle.std.specs.Prelude.{None};
 
-    ghost left = { λ _. None };
-
-    ghost failures = { λ s. s.failures };
+    ghost seen = { λ s. record { left = None; failures = s.failures.count } };
 
     fn read(&mut self, buffer: &mut [u8]) -> Result<usize, Failed> {
         self.reads = self.reads.saturating_add(1);
@@ -41,7 +39,7 @@ impl Source for FailingSource<'_> {
         {
             return Ok(n);
         }
-        self.failures += 1;
+        self.failures = self.failures.and_one();
         Err(Failed)
     }
 }
@@ -50,17 +48,27 @@ impl Source for FailingSource<'_> {
 #[derive(Drop)]
 pub struct FailingSink {
     pub taken: Vec<u8>,
-    pub writes: usize,
-    pub fails_at: usize,
-    pub failures: u64,
+    writes: usize,
+    fails_at: usize,
+    failures: Failures,
+}
+
+impl FailingSink {
+    /// A sink that adds what it takes to these bytes.
+    pub fn new(taken: Vec<u8>, fails_at: usize) -> FailingSink {
+        FailingSink {
+            taken,
+            writes: 0,
+            fails_at,
+            failures: Failures::none(),
+        }
+    }
 }
 
 impl Sink for FailingSink {
     ghost use Rattle.std.specs.Prelude.{None};
 
-    ghost taken = { λ _. None };
-
-    ghost failures = { λ s. s.failures };
+    ghost seen = { λ s. record { taken = None; failures = s.failures.count } };
 
     fn write(&mut self, bytes: &[u8]) -> Result<usize, Failed> {
         self.writes = self.writes.saturating_add(1);
@@ -70,7 +78,7 @@ impl Sink for FailingSink {
         if self.writes != self.fails_at && self.taken.push(*byte).is_ok() {
             return Ok(1);
         }
-        self.failures += 1;
+        self.failures = self.failures.and_one();
         Err(Failed)
     }
 }

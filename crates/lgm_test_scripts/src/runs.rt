@@ -1,7 +1,5 @@
 //! Runs of scripts.
 
-ghost use Rattle.std.specs.Prelude.{◌+◌, ◌<◌, ◌^◌};
-
 use lgm_gossip::ChainHash;
 use lgm_graph::Known;
 use lgm_par::{Gate, Open};
@@ -33,10 +31,7 @@ pub fn run_by<Rt: Threads + Sync + RandomSource, G: Gate, R: Source, W: Sink>(
     writer: &mut W,
     workers: usize,
     gate: &G,
-) -> Result<Counts, RunFault>
-    requires reader { R.failures reader.old + 1 < 2 ^ 64 }
-    requires writer { W.failures writer.old + 1 < 2 ^ 64 }
-{
+) -> Result<Counts, RunFault> {
     run(
         rt,
         alloc,

@@ -1,10 +1,11 @@
-//! Reads the announcements and the first payment of a script, and prints the payment's route.
+//! Reads the announcements and the first payment of a script, and prints the payment's route, which another thread finds in
+//! a snapshot.
 //!
 //!     cargo run --offline --example route -- ../payments.txt
 
 use lgm::{Fault, Funding, Map, Payment, Point, Sig};
 use std::error::Error;
-use std::{array, env, fs};
+use std::{array, env, fs, thread};
 
 /// The bytes of digits.
 fn bytes(digits: &str) -> Result<Vec<u8>, Box<dyn Error>> {
@@ -38,7 +39,9 @@ fn main() -> Result<(), Box<dyn Error>> {
         match words[0] {
             "m" => offer(&mut map, words[1], words[2], words[3])??,
             "route" => {
-                match map.route(&payment(&words)?) {
+                let (snapshot, payment) = (map.publish()?, payment(&words)?);
+                let reader = thread::spawn(move || snapshot.route(&payment));
+                match reader.join().map_err(|_| "the reader panicked")? {
                     Ok(hops) => println!("{} msat over {} channels", hops[0].amount_msat, hops.len()),
                     Err(reason) => println!("{reason}"),
                 }

@@ -1,13 +1,25 @@
 //! The declarations of `include/lgm.h`.
 
 use std::ffi::c_void;
+use std::ptr;
 
+/// A handle of a map or of a snapshot.
 #[repr(C)]
 #[derive(Debug)]
 pub struct Handle {
     pub is_open: bool,
     pub at: *mut c_void,
 }
+
+impl Handle {
+    pub fn closed() -> Handle {
+        Handle { is_open: false, at: ptr::null_mut() }
+    }
+}
+
+// SAFETY: what a handle holds is proved to be `Send` (`boxed` of crates/lgm_c makes its box), and a handle is used by one call
+// at a time, since each call borrows it alone.
+unsafe impl Send for Handle {}
 
 #[repr(C)]
 pub struct Payment {
@@ -47,8 +59,8 @@ pub struct Lengths {
     pub payloads: usize,
 }
 
-/// Declares calls that answer a peer's message with messages, and their type.
-macro_rules! messages_calls {
+/// Declares calls of one type, and that type.
+macro_rules! calls {
     ($type:ident: $($call:ident),* => $arguments:tt) => {
         pub type $type = unsafe extern "C" fn $arguments -> u32;
 
@@ -58,9 +70,15 @@ macro_rules! messages_calls {
     };
 }
 
-messages_calls! {
-    MessagesCall: lgm_query, lgm_filter, lgm_news =>
-    (map: *mut Handle, message: *const u8, message_len: usize, room: *mut u8, room_len: usize, needed: *mut usize)
+calls! {
+    MessagesCall: lgm_query, lgm_filter, lgm_news, lgm_snapshot_query, lgm_snapshot_filter =>
+    (of: *mut Handle, message: *const u8, message_len: usize, room: *mut u8, room_len: usize, needed: *mut usize)
+}
+
+calls! {
+    RouteCall: lgm_route, lgm_snapshot_route =>
+    (of: *mut Handle, payment: *const Payment, hops: *mut Hop, hops_len: usize, payloads: *mut u8, payloads_len: usize,
+     lengths: *mut Lengths)
 }
 
 unsafe extern "C" {
@@ -85,14 +103,19 @@ unsafe extern "C" {
     ) -> u32;
     pub fn lgm_close_channel(map: *mut Handle, scid: u64) -> u32;
     pub fn lgm_count(map: *mut Handle) -> usize;
-    pub fn lgm_route(
-        map: *mut Handle,
-        payment: *const Payment,
-        hops: *mut Hop,
-        hops_len: usize,
-        payloads: *mut u8,
-        payloads_len: usize,
-        lengths: *mut Lengths,
-    ) -> u32;
     pub fn lgm_mark(map: *mut Handle) -> u32;
+    pub fn lgm_publish(map: *mut Handle, snapshot: *mut Handle) -> u32;
+    pub fn lgm_share(from: *mut Handle, to: *mut Handle) -> u32;
+    pub fn lgm_release(snapshot: *mut Handle);
+    pub fn lgm_version_of(snapshot: *mut Handle) -> u64;
+    pub fn lgm_snapshot_count(snapshot: *mut Handle) -> usize;
+    pub fn lgm_snapshot_news(
+        before: *mut Handle,
+        after: *mut Handle,
+        filter: *const u8,
+        filter_len: usize,
+        messages: *mut u8,
+        messages_len: usize,
+        needed: *mut usize,
+    ) -> u32;
 }

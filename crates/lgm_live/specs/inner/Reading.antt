@@ -1,6 +1,7 @@
 -- A script that was completely read.
 use Rattle.std.specs.Prelude.{◌≡◌, ◌≢◌, ℕ, ◌<◌, ◌≤◌, List, [], ◌∷◌, length, Option, Result, Err, IfSome, IfOk}
-use Rattle.lgm_script.specs.declared.output.Output.{Output}
+use Rattle.lgm_script.specs.Device.{Input}
+use Rattle.lgm_script.specs.Output.{OutputState}
 use Rattle.lgm_script.specs.declared.request.Request.{Request}
 use Rattle.lgm_answers.specs.Script.{requests_of}
 use Rattle.lgm_answers.specs.declared.run_fault.RunFault.{RunFault}
@@ -33,14 +34,14 @@ pub record IsRead (workers : ℕ) (script : Option (List ℕ)) (agenda : Gathere
   pub whole : IfSome script (IsAsked asked)
 
 -- how reading a script ends: with what was read of it, or it exceeds a limit, or a device failed. Nothing was written
-pub record HasRead {R W T : Type 0} (left : R → Option (List ℕ)) (read_failures : R → ℕ)
-    (taken : W → Option (List ℕ)) (write_failures : W → ℕ) (source source' : R) (output output' : Output W)
-    (whole : T → Type 0) (result : Result T RunFault) : Type 0 where
+pub record HasRead {T : Type 0} (source source' : Input) (output output' : OutputState) (whole : T → Type 0)
+    (result : Result T RunFault) : Type 0 where
+  pub writer : output'.writer ≡ output.writer
   pub ok : IfOk result whole
-  pub too_many : result ≡ Err faults.TooManyLines → IfSome (left source) HasMoreLines
-  pub too_long : result ≡ Err faults.LineTooLong → IfSome (left source) HasLongLine
-  pub silent : taken output'.writer.now ≡ taken output.writer.now
-  pub gathered : output'.gathered.now.items ≡ []
-  pub read : result ≡ Err faults.Read → read_failures source < read_failures source'
-  pub write : result ≡ Err faults.Write → write_failures output.writer.now < write_failures output'.writer.now
-  pub well : result ≢ Err faults.Write → write_failures output'.writer.now ≡ write_failures output.writer.now
+  pub too_many : result ≡ Err faults.TooManyLines → IfSome source.left HasMoreLines
+  pub too_long : result ≡ Err faults.LineTooLong → IfSome source.left HasLongLine
+  pub silent : output'.sink.taken ≡ output.sink.taken
+  pub gathered : output'.gathered ≡ []
+  pub read : result ≡ Err faults.Read → source.failures < source'.failures
+  pub write : result ≡ Err faults.Write → output.sink.failures < output'.sink.failures
+  pub well : result ≢ Err faults.Write → output'.sink.failures ≡ output.sink.failures

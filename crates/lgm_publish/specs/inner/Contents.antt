@@ -1,6 +1,7 @@
 -- The contents of a published edition.
-use Rattle.std.specs.Prelude.{ℕ, List, Option, Some, None}
+use Rattle.std.specs.Prelude.{ℕ, ◌≤◌, List, Option, Some, None, length}
 use Rattle.lgm_store.specs.Rows.{Rows}
+use Rattle.lgm_graph.specs.Graph.{Graph}
 use Rattle.lgm_publish.specs.Handles.{History, Sight}
 
 -- the rows of a map, and what made them
@@ -21,3 +22,8 @@ sight known told = record { board = told.board; known = known; ops = told.ops }
 abbrev pub known_in : Option Contents → Option (List ℕ)
 known_in (Some contents) = contents.known
 known_in None = None
+
+-- there is a view, which numbers so many points at most
+abbrev pub NumbersAtMost : ℕ → Option Graph → Type 0
+NumbersAtMost most None = ⊥
+NumbersAtMost most (Some graph) = length graph.points ≤ most

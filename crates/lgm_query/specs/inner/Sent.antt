@@ -4,7 +4,7 @@ use Rattle.std.specs.List.{list_any}
 use Rattle.std.specs.BTreeMap.{is_at}
 use Rattle.lgm_wire.specs.declared.point.Point.{Point}
 use Rattle.lgm_store.specs.Rows.{is_point}
-use Rattle.lgm_store.specs.inner.Ends.{point_cmp}
+use Rattle.lgm_store.specs.Keys.{point_cmp}
 use Rattle.lgm_query.specs.Piece.{Piece, node, bytes_of, with_nodes_once}
 
 -- messages, and the nodes whose announcements are among them

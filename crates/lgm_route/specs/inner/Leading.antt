@@ -6,7 +6,7 @@ use Rattle.lgm_graph.specs.Graph.{Graph, edges, edges_into}
 use Rattle.lgm_graph.specs.declared.edge.Edge.{Edge}
 use Rattle.lgm_route.specs.declared.numbered_request.NumberedRequest.{NumberedRequest}
 use Rattle.lgm_route.specs.declared.label.Label.{Label}
-use Rattle.lgm_route.specs.inner.Searching.{number_at, label_at, edge_at, first_of, Begins, PassesOn}
+use Rattle.lgm_route.specs.inner.Searching.{cost, number_at, label_at, edge_at, first_of, Begins, PassesOn}
 
 -- the edge is the one at the index among those into the label's node
 pub record IsInto (graph : Graph) (labels : List Label) (i at : ℕ) (edge : Edge) : Type 0 where
@@ -20,8 +20,8 @@ abbrev pub IsNeedless : NumberedRequest → List ℕ → ℕ → Label → Edge 
 IsNeedless request low bound label edge =
     edge.min ≤ request.amount → label.owed ≤ edge.max →
     (edge.from ≢ request.payer) ×
-    (label.count < 19 → bound ≤ (label.owed + fee_of label.owed edge.base edge.millionths
-    + number_at low edge.from) * 32 + (label.count + 1))
+    (label.count < 19 → bound ≤ cost (label.owed + fee_of label.owed edge.base edge.millionths
+    + number_at low edge.from) (label.count + 1))
 
 -- the label at the index, relaxed over the edge: a walk if that is the payer's, else a longer rest
 pub record IsLed (graph : Graph) (request : NumberedRequest) (labels : List Label) (i : ℕ) (edge : Edge)

@@ -109,10 +109,14 @@ SomeRest graph request labels label = (rest : List Edge) × IsLabel graph reques
 abbrev pub SomeWalk : Graph → NumberedRequest → List Label → Label → Type 0
 SomeWalk graph request labels label = (walk : List Edge) × IsWalk graph request labels label walk
 
--- the bound that a better walk is below: what is sent, and then the number of edges, in one number
+-- what a walk sends, and then its number of edges, in one number: a better walk has a smaller one
+abbrev pub cost : ℕ → ℕ → ℕ
+cost msat edges = msat * 32 + edges
+
+-- the cost that a better walk is below
 abbrev pub bound_of : ℕ → Option Label → ℕ
-bound_of start None = start * 32
-bound_of start (Some found) = found.owed * 32 + found.count
+bound_of start None = cost start 0
+bound_of start (Some found) = cost found.owed found.count
 
 -- the walk is no better than the best so far, or sends no less than the start of the search
 abbrev pub IsNoBetter : Graph → NumberedRequest → List Label → ℕ → Option Label → List Edge → Type 0
@@ -134,7 +138,7 @@ pub record Has (graph : Graph) (request : NumberedRequest) (labels : List Label)
 -- no walk over this rest is better than the best so far: it is pruned
 abbrev pub IsHopeless : NumberedRequest → List ℕ → ℕ → ℕ → List Edge → Type 0
 IsHopeless request low bound node rest =
-    bound ≤ (owed request.amount rest + number_at low node) * 32 + length rest
+    bound ≤ cost (owed request.amount rest + number_at low node) (length rest)
 
 abbrev pub Reaches : Graph → NumberedRequest → List ℕ → ℕ → List Label → Option Label → ℕ → List Edge → Type 0
 Reaches graph request low start labels found node rest =
@@ -190,7 +194,7 @@ pub record IsBetter (graph : Graph) (request : NumberedRequest) (labels : List L
     (found : Option Label) (new : Label) (now : Option Label) : Type 0 where
   pub found_is : IsFound graph request labels start now
   pub lower : bound_of start now ≤ bound_of start found
-  pub below : bound_of start now ≤ new.owed * 32 + new.count
+  pub below : bound_of start now ≤ cost new.owed new.count
   pub keeps : (walk : List Edge) → IsNoBetter graph request labels start found walk
       → IsNoBetter graph request labels start now walk
   pub takes : (walk : List Edge) → IsWalk graph request labels new walk

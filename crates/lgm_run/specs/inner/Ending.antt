@@ -1,8 +1,7 @@
 -- How a run ends.
-use Rattle.std.specs.Prelude.{◌≡◌, ◌⊎◌, ℕ, List, [], Option, Result, Err}
-use Rattle.lgm_script.specs.declared.output.Output.{Output}
+use Rattle.std.specs.Prelude.{◌≡◌, ◌⊎◌, [], Result, Err}
 use Rattle.lgm_script.specs.declared.output.SendFault.TheVariants as sending
-use Rattle.lgm_script.specs.Output.{seen, OutputState, Tells, TellsPart}
+use Rattle.lgm_script.specs.Output.{OutputState, Tells, TellsPart}
 use Rattle.lgm_answers.specs.declared.run_fault.RunFault.{RunFault}
 use Rattle.lgm_answers.specs.declared.run_fault.RunFault.TheVariants.{Write}
 use Rattle.lgm_run.specs.declared.running.Counts.{Counts}
@@ -24,9 +23,7 @@ pub record HasFailed (old new : OutputState) (answered result : Result Counts Ru
   pub same : result ≡ answered
   pub still : new ≡ old
 
-abbrev pub IsEnded : {W : Type 0} → (W → Option (List ℕ)) → (W → ℕ) → Output W → Output W
-    → Result Counts RunFault → Result Counts RunFault → Type 0
-IsEnded taken failures old new answered result =
-    IsFlushed (seen taken failures old) (seen taken failures new) answered result
-    ⊎ (FailsThen (seen taken failures old) (seen taken failures new) result
-    ⊎ HasFailed (seen taken failures old) (seen taken failures new) answered result)
+-- how it ended: all was written, the sink failed then, or it had failed before
+abbrev pub IsEnded : OutputState → OutputState → Result Counts RunFault → Result Counts RunFault → Type 0
+IsEnded old new answered result =
+    IsFlushed old new answered result ⊎ (FailsThen old new result ⊎ HasFailed old new answered result)

@@ -1,12 +1,11 @@
--- The map of all accepted items, and that of the committed ones.
+-- The network of all accepted items, and that of the committed ones.
 use Rattle.std.specs.Prelude.{◌≡◌, ◌⊎◌, ℕ, List, [], Option, Result, Ok, Err}
 use Rattle.lgm_store.specs.declared.op.Op.{Op}
 use Rattle.lgm_store.specs.Rows.{Rows}
 use Rattle.lgm_check.specs.declared.refusal.Refusal.{Refusal}
 use Rattle.lgm_store.specs.History.{absorbed, fold_from}
-use Rattle.lgm_run.specs.declared.chart.Chart.{Chart}
-use Rattle.lgm_run.specs.inner.Behind.{IsBehind}
-use Rattle.lgm_run.specs.inner.Chart.{Shows}
+use Rattle.lgm_graph.specs.Network.{Charted}
+use Rattle.lgm_graph.specs.declared.replica.Replica.{Replica}
 
 -- the rows of all accepted items, those of the committed ones, and the known feature bits
 pub record Growth : Type 0 where
@@ -14,13 +13,11 @@ pub record Growth : Type 0 where
   pub rows : Rows
   pub committed : Rows
 
--- a map with what is due, the committed map with what is pending, and the view
-pub record AreKept (map : Rows) (due : List Op) (committed : Rows) (pending : List Op)
-    (chart : Chart) : Type 0 where
-  pub behind : IsBehind (fold_from map due) committed pending
-  -- only one of the maps is behind the other
-  pub one : (due ≡ []) ⊎ (pending ≡ [])
-  pub shows : Shows map due committed chart
+-- what is due makes of the one network what pending operations make of the other, and only one of them is behind
+pub record AreKept (growing : Replica) (committed : Charted) (pending : List Op) : Type 0 where
+  pub known : growing.network.known ≡ committed.known
+  pub behind : fold_from growing.network.rows growing.due.items ≡ fold_from committed.rows pending
+  pub one : (growing.due.items ≡ []) ⊎ (pending ≡ [])
 
 -- with one more item, if it was accepted
 abbrev pub grown : Growth → Result Op Refusal → Growth

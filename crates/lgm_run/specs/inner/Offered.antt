@@ -44,10 +44,6 @@ abbrev pub settled : Result Op Refusal → Result (Unit {0}) Refusal
 settled (Ok op) = Ok tt
 settled (Err refusal) = Err refusal
 
--- it results from the check of an item
-abbrev pub WasChecked : Offered → Type 0
-WasChecked offered = (chain : ChainHash) × (item : Item) × (offered ≡ offered_of chain item)
-
 -- the state after a line's item, if it offers one
 abbrev pub state_by : State → Option Offered → State
 state_by state None = state

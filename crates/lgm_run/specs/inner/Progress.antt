@@ -5,8 +5,8 @@ use Rattle.lgm_wire.specs.declared.chain_hash.ChainHash.{ChainHash}
 use Rattle.lgm_script.specs.Lines.{IsFirstLine}
 use Rattle.lgm_script.specs.Groups.{AreFirstLines}
 use Rattle.lgm_script.specs.Request.{request_of}
-use Rattle.lgm_script.specs.Output.{Sends, SendsSome}
-use Rattle.lgm_script.specs.declared.output.Output.{Output}
+use Rattle.lgm_script.specs.Device.{Input}
+use Rattle.lgm_script.specs.Output.{OutputState, Tells, TellsSome}
 use Rattle.lgm_answers.specs.declared.run_fault.RunFault.{RunFault}
 use Rattle.lgm_answers.specs.declared.run_fault.RunFault.TheVariants as faults
 use Rattle.lgm_run.specs.declared.running.Counts.{Counts}
@@ -42,18 +42,16 @@ pub record HaveBegun (chain : ChainHash) (number most : ℕ) (state : State) (bu
 
 -- how answering the lines of a script ends: all are answered, or it exceeds a limit, or a device failed. Some of the
 -- text may still be buffered
-pub record HasAnswered {R W : Type 0} (left : R → Option (List ℕ)) (read_failures : R → ℕ)
-    (taken : W → Option (List ℕ)) (write_failures : W → ℕ) (chain : ChainHash) (known : Option (List ℕ))
-    (source source' : R) (output output' : Output W) (result : Result Counts RunFault) : Type 0 where
-  pub ok : IfOk result (λ counts.
-      IfSome (left source) (IsAnswered chain known (Sends taken write_failures output output') counts))
+pub record HasAnswered (chain : ChainHash) (known : Option (List ℕ)) (source source' : Input)
+    (output output' : OutputState) (result : Result Counts RunFault) : Type 0 where
+  pub writer : output'.writer ≡ output.writer
+  pub ok : IfOk result (λ counts. IfSome source.left (IsAnswered chain known (Tells output output') counts))
   pub too_many : result ≡ Err faults.TooManyLines
-      → IfSome (left source) (IsTooMany chain known (Sends taken write_failures output output'))
+      → IfSome source.left (IsTooMany chain known (Tells output output'))
   pub too_long : result ≡ Err faults.LineTooLong
-      → IfSome (left source) (IsTooLong chain known (Sends taken write_failures output output'))
-  pub some : IfSome (left source) (IsCutShort chain known (SendsSome taken write_failures output output')
-      (left source'))
-  pub read : result ≡ Err faults.Read → read_failures source < read_failures source'
-  pub write : result ≡ Err faults.Write → write_failures output.writer.now < write_failures output'.writer.now
-  pub well : result ≢ Err faults.Write → write_failures output'.writer.now ≡ write_failures output.writer.now
+      → IfSome source.left (IsTooLong chain known (Tells output output'))
+  pub some : IfSome source.left (IsCutShort chain known (TellsSome output output') source'.left)
+  pub read : result ≡ Err faults.Read → source.failures < source'.failures
+  pub write : result ≡ Err faults.Write → output.sink.failures < output'.sink.failures
+  pub well : result ≢ Err faults.Write → output'.sink.failures ≡ output.sink.failures
   pub own : IfErr result NeedsNoBoard

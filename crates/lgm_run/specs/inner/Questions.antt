@@ -1,24 +1,20 @@
 -- Questions: they are answered on the committed rows, and change only the filters of peers.
-use Rattle.std.specs.Prelude.{◌≡◌, ℕ, List, map, Option, codes}
+use Rattle.std.specs.Prelude.{◌≡◌, ℕ, List, map, Option, Some, None, codes}
 use Rattle.std.specs.Borrow.{Bor}
 use Rattle.lgm_wire.specs.declared.chain_hash.ChainHash.{ChainHash}
 use Rattle.lgm_store.specs.Rows.{Rows}
+use Rattle.lgm_graph.specs.Graph.{Graph}
 use Rattle.lgm_script.specs.declared.request.Request.{Request}
 use Rattle.lgm_script.specs.declared.request.Request.TheVariants as requests
 use Rattle.lgm_script.specs.Request.{request_of}
 use Rattle.lgm_script.specs.Groups.{IsNoRoute}
 use Rattle.lgm_script.specs.Text.{word_line}
 use Rattle.lgm_answers.specs.declared.answer.Answer.{Answer}
-use Rattle.lgm_run.specs.declared.chart.Chart.{Chart}
-use Rattle.lgm_run.specs.declared.chart.Kept.{Kept}
-use Rattle.lgm_run.specs.declared.chart.Kept.TheVariants as views
 use Rattle.lgm_answers.specs.declared.filters.PeerFilter.{PeerFilter}
 use Rattle.lgm_answers.specs.Answer.{answer_text, query_text, filter_text, route_text}
-use Rattle.lgm_run.specs.inner.Chart.{IsViewOf}
-use Rattle.lgm_answers.specs.Filtering.{filter_read}
+use Rattle.lgm_query.specs.Requests.{filter_read, query_answer}
 use Rattle.lgm_answers.specs.Filters.{filters_with}
 use Rattle.lgm_answers.specs.Setting.{filters_by}
-use Rattle.lgm_answers.specs.Query.{query_answer}
 use Rattle.lgm_answers.specs.Routing.{route_answer}
 use Rattle.lgm_run.specs.inner.Turns.{behind_all, texts_of}
 
@@ -57,10 +53,7 @@ questions_text chain known committed =
 abbrev pub asked_in : List (Bor (List ℕ)) → List Request
 asked_in lines = map (λ line. request_of line.now) lines
 
--- the view is that of the committed rows, or no route is requested
-abbrev pub IsReadyAs : Option (List ℕ) → Rows → Kept → Request → Type 0
-IsReadyAs known committed (views.Beside view) request = IsViewOf known committed view
-IsReadyAs known committed _ request = IsNoRoute request
-
-abbrev pub IsReady : Chart → Rows → Request → Type 0
-IsReady chart committed request = IsReadyAs chart.known committed chart.kept request
+-- there is a view, or no route is requested
+abbrev pub IsReady : Option Graph → Request → Type 0
+IsReady None request = IsNoRoute request
+IsReady (Some graph) request = Unit {0}

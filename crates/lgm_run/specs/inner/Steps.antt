@@ -8,11 +8,11 @@ use Rattle.lgm_store.specs.History.{absorbed}
 use Rattle.lgm_query.specs.declared.filter.Filter.{Filter}
 use Rattle.lgm_script.specs.declared.request.Request.{Request}
 use Rattle.lgm_script.specs.declared.request.Request.TheVariants as requests
-use Rattle.lgm_answers.specs.declared.objection.Objection.{Objection}
+use Rattle.lgm_query.specs.declared.request.RequestFault.{RequestFault}
 use Rattle.lgm_script.specs.Text.{word_line}
 use Rattle.lgm_answers.specs.Answer.{commit_text}
 use Rattle.lgm_answers.specs.Filters.{filters_with}
-use Rattle.lgm_answers.specs.Filtering.{filter_read}
+use Rattle.lgm_query.specs.Requests.{filter_read}
 use Rattle.lgm_answers.specs.Outcomes.{outcome_of}
 use Rattle.lgm_answers.specs.Script.{State, text_for}
 use Rattle.lgm_run.specs.inner.Turns.{behind_all, texts_of}
@@ -31,7 +31,7 @@ abbrev pub state_committed : State → State
 state_committed state = record state { committed = state.rows }
 
 -- after a filter of a peer
-abbrev pub with_filter : State → ℕ → Result Filter Objection → State
+abbrev pub with_filter : State → ℕ → Result Filter RequestFault → State
 with_filter state peer filter = record state { filters = filters_with state.filters peer filter }
 
 abbrev pub state_after : ChainHash → State → Request → State

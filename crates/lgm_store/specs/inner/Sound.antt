@@ -3,29 +3,16 @@ use Rattle.std.specs.Prelude.{◌≡◌, ℕ, Bool, true, false, List}
 use Rattle.std.specs.List.{AllByRecursion}
 use Rattle.std.specs.List.Sorted.{IsStrictlySortedBy}
 use Rattle.std.specs.Map.{keys_of, values_of}
-use Rattle.std.specs.declared.cmp.Ordering.{Ordering}
-use Rattle.std.specs.Ordering.{nat_cmp, bool_cmp, ordering_then}
+use Rattle.std.specs.Ordering.{nat_cmp}
 use Rattle.lgm_wire.specs.declared.point.Point.{Point}
 use Rattle.lgm_check.specs.declared.row.ChannelRow.{ChannelRow}
 use Rattle.lgm_check.specs.declared.row.UpdateRow.{UpdateRow}
 use Rattle.lgm_check.specs.declared.row.NodeRow.{NodeRow}
-use Rattle.lgm_store.specs.Rows.{is_second, ends_channel, ends_banned}
-use Rattle.lgm_store.specs.inner.Keyed.{IsKeyed}
+use Rattle.lgm_store.specs.Rows.{ends_channel, ends_banned}
+use Rattle.lgm_store.specs.Keys.{IsKeyed, id_of, direction_of, point_of, direction_cmp, point_cmp}
 use Rattle.lgm_store.specs.Reading.{ids_at}
-use Rattle.lgm_store.specs.inner.Ends.{point_cmp, Lists}
-
-abbrev pub id_of : ChannelRow → ℕ
-id_of row = row.message.short_channel_id
-
-abbrev pub direction_of : UpdateRow → ℕ × Bool
-direction_of row = (row.message.short_channel_id, is_second row)
-
-abbrev pub point_of : NodeRow → Point
-point_of row = row.message.node_id
-
--- the order of channels and directions
-abbrev pub direction_cmp : ℕ × Bool → ℕ × Bool → Ordering
-direction_cmp a b = ordering_then (nat_cmp a.0 b.0) (bool_cmp a.1 b.1)
+use Rattle.lgm_store.specs.Spelled.{AllSpelled}
+use Rattle.lgm_store.specs.inner.Ends.{Lists}
 
 -- at each node a channel ends
 abbrev pub AreEnded : List ChannelRow → List NodeRow → Type 0
@@ -47,9 +34,10 @@ pub record IsSound (channels : List (ℕ × ChannelRow)) (updates : List ((ℕ �
 abbrev pub AreAllowed : List Point → List ChannelRow → Type 0
 AreAllowed banned channels = AllByRecursion (λ row. ends_banned banned row ≡ false) channels
 
--- and the banned points ascend, at none of which a channel ends
+-- and the bytes of each row spell it, and the banned points ascend, at none of which a channel ends
 pub record IsKept (channels : List (ℕ × ChannelRow)) (updates : List ((ℕ × Bool) × UpdateRow))
     (nodes : List (Point × NodeRow)) (ends : List (Point × List ℕ)) (banned : List Point) : Type 0 where
   pub rows : IsSound channels updates nodes ends
+  pub spelled : AllSpelled (values_of channels) (values_of updates) (values_of nodes)
   pub banned_ascend : IsStrictlySortedBy point_cmp banned
   pub allowed : AreAllowed banned (values_of channels)

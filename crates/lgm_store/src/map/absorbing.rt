@@ -3,9 +3,8 @@
 ghost use Rattle.std.specs.Prelude.{◌≡◌, true, false, OnOk, OnErr, filter, is_some};
 ghost use Rattle.std.specs.BTreeMap.{values, IsOrdered};
 ghost use Rattle.lgm_store.specs.Rows.{channel_of, ends_channel, ends_banned};
-ghost use Rattle.lgm_store.specs.inner.Keyed.{IsKeyed};
-ghost use Rattle.lgm_store.specs.inner.Ends.{point_cmp, stays_beside};
-ghost use Rattle.lgm_store.specs.inner.Sound.{point_of};
+ghost use Rattle.lgm_store.specs.Keys.{IsKeyed, point_cmp, point_of};
+ghost use Rattle.lgm_store.specs.inner.Ends.{stays_beside};
 ghost use Rattle.lgm_store.specs.History.{with_channel, with_update, with_node, without_channel, absorbed};
 
 use super::Map;
@@ -67,6 +66,7 @@ impl Map {
         ensures ok { OnOk result (self.new ≡ with_channel self.old row) }
         ensures err { OnErr result (self.new ≡ self.old) }
     {
+        row.get().bytes_encode_row();
         let held = Held::new(row);
         let (scid, first, second) = (held.scid(), *held.node(false), *held.node(true));
         self.ends.add(first, second, scid)?;
@@ -82,6 +82,7 @@ impl Map {
     fn put_update(&mut self, row: Shared<KeptUpdate>)
         ensures { self.new ≡ with_update self.old row }
     {
+        row.get().bytes_encode_row();
         self.channels.put_update(row);
     }
 
@@ -107,6 +108,7 @@ impl Map {
         ensures ok { OnOk result (self.new ≡ with_node self.old row) }
         ensures err { OnErr result (self.new ≡ self.old) }
     {
+        row.get().bytes_encode_row();
         self.nodes.insert(node, row)?;
         Ok(())
     }

@@ -9,6 +9,7 @@ ghost use Rattle.lgm_store.specs.inner.Decided.{channel_verdict, node_verdict};
 ghost use Rattle.lgm_store.specs.Spelled.{IsSpelled};
 
 use super::Map;
+use crate::candidate::{Candidate, Kind};
 use crate::op::Op;
 use crate::shared::Shared;
 use lgm_check::{BanRow, ChannelRow, Checked, NodeRow, Refusal, UpdateRow};
@@ -47,6 +48,26 @@ impl Map {
         }
     }
 
+    /// The operation of a message that was made ready, as [`Map::admit`] returns it. Memory is allocated only for a ban.
+    pub fn admit_candidate(&self, alloc: Global, candidate: Candidate) -> Result<Op, Refusal>
+        ensures { Offers result (admitted self.now candidate) }
+    {
+        match candidate.kind {
+            Kind::Channel(row) => match self.admit_kept_channel(row.get())? {
+                Some(ban) => Ok(Op::Ban(Shared::new(alloc, ban)?)),
+                None => Ok(Op::Channel(row)),
+            },
+            Kind::Update(row, signer) => {
+                self.admit_kept_update(row.get(), &signer)?;
+                Ok(Op::Update(row))
+            }
+            Kind::Node(row) => {
+                self.admit_kept_node(row.get())?;
+                Ok(Op::Node(row))
+            }
+        }
+    }
+
     /// The operation that closes a channel, or 11 `unknown-channel` for one that isn't held. It takes no memory.
     pub fn admit_close(&self, scid: Scid) -> Result<Op, Refusal>
         ensures { result ≡ admitted_close self.now scid }
@@ -58,7 +79,7 @@ impl Map {
     }
 
     /// The ban that an announcement of a channel asks for, if it doesn't add the channel.
-    pub(crate) fn admit_channel(&self, row: &ChannelRow) -> Result<Option<BanRow>, Refusal>
+    fn admit_channel(&self, row: &ChannelRow) -> Result<Option<BanRow>, Refusal>
         ensures { channel_op row.now result ≡ channel_admission self.now.banned
             (channel_of self.now.channels row.now.message.short_channel_id) row.now }
     {
@@ -99,7 +120,7 @@ impl Map {
         }
     }
 
-    pub(crate) fn admit_update(&self, row: &UpdateRow, signer: &Point) -> Result<(), Refusal>
+    fn admit_update(&self, row: &UpdateRow, signer: &Point) -> Result<(), Refusal>
         ensures { let id = row.now.message.short_channel_id in
             update_op row.now result ≡ update_admission (channel_of self.now.channels id)
             (update_of self.now.updates id (is_second row.now)) row.now signer.now }
@@ -110,7 +131,19 @@ impl Map {
         }
     }
 
-    pub(crate) fn admit_node(&self, row: &NodeRow) -> Result<(), Refusal>
+    /// The same of a row that is kept.
+    fn admit_kept_update(&self, row: &KeptUpdate, signer: &Point) -> Result<(), Refusal>
+        ensures { let id = row.now.message.short_channel_id in
+            update_op row.now result ≡ update_admission (channel_of self.now.channels id)
+            (update_of self.now.updates id (is_second row.now)) row.now signer.now }
+    {
+        match self.held(row.scid()) {
+            Some(held) => held.admit_kept_update(row, signer),
+            None => Err(Refusal::UnknownChannel),
+        }
+    }
+
+    fn admit_node(&self, row: &NodeRow) -> Result<(), Refusal>
         ensures { let node = row.now.message.node_id in
             node_op row.now result ≡ node_admission (is_banned self.now.banned node)
             (ends_channel self.now.channels node) (node_of self.now.nodes node) row.now }

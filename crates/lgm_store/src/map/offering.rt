@@ -1,52 +1,25 @@
-//! Items that are admitted and absorbed in one go.
+//! Items that are admitted and applied at once.
 
 ghost use Rattle.std.specs.Prelude.{◌≡◌, IfOk, OnErr};
 ghost use Rattle.lgm_store.specs.Rows.{channel_of, update_of, node_of, ends_channel, is_banned, is_second};
 ghost use Rattle.lgm_store.specs.Admission.{channel_admission, update_admission};
-ghost use Rattle.lgm_store.specs.Admission.{node_admission, admitted, Offers};
+ghost use Rattle.lgm_store.specs.Admission.{node_admission, admitted, admitted_close, Offers};
 ghost use Rattle.lgm_store.specs.History.{absorbed};
-ghost use Rattle.lgm_store.specs.Spelled.{IsSpelled};
 
 use super::Map;
 use crate::candidate::{Candidate, Kind};
 use crate::op::Op;
 use crate::shared::Shared;
-use lgm_check::{Checked, Refusal};
-use lgm_gossip::Point;
+use lgm_check::Refusal;
+use lgm_gossip::{Point, Scid};
 use lgm_rows::{KeptChannel, KeptNode, KeptUpdate};
 use std::alloc::Global;
 
 impl Map {
-    /// Admits a message and does its operation, which it gives: [`Map::admit`], and then [`Map::absorb`].
+    /// Admits a message that was made ready and applies its operation, which is returned. Memory is allocated only for
+    /// what the map stores beside the row, and for a ban.
     ///
-    /// A refusal or want of memory leaves the map as it was. A refused message is refused also where memory is short.
-    pub fn offer(&mut self, alloc: Global, checked: &Checked) -> Result<Op, Refusal>
-        requires { IsSpelled checked.now }
-        ensures admission { Offers result (admitted self.old checked.now) }
-        ensures accepted { IfOk result (λ op. self.new ≡ absorbed self.old op) }
-        ensures refused { OnErr result (self.new ≡ self.old) }
-    {
-        match checked {
-            Checked::Channel(row) => {
-                self.admit_channel(row)?;
-                let row = Shared::new(alloc, KeptChannel::of(alloc, row)?)?;
-                self.offer_channel(alloc, row)
-            }
-            Checked::Update(row, signer) => {
-                self.admit_update(row, signer)?;
-                let row = Shared::new(alloc, KeptUpdate::of(alloc, row)?)?;
-                self.offer_update(row, signer)
-            }
-            Checked::Node(row) => {
-                self.admit_node(row)?;
-                let row = Shared::new(alloc, KeptNode::of(alloc, row)?)?;
-                self.offer_node(row)
-            }
-        }
-    }
-
-    /// The same of a message that was made ready. Memory is asked for only for what the map keeps beside the row, and for
-    /// a ban.
+    /// A refusal or out of memory leaves the map unchanged. A refused message is refused even if memory is short.
     pub fn offer_candidate(&mut self, alloc: Global, candidate: Candidate) -> Result<Op, Refusal>
         ensures admission { Offers result (admitted self.old candidate) }
         ensures accepted { IfOk result (λ op. self.new ≡ absorbed self.old op) }
@@ -57,6 +30,19 @@ impl Map {
             Kind::Update(row, signer) => self.offer_update(row, &signer),
             Kind::Node(row) => self.offer_node(row),
         }
+    }
+
+    /// Closes a channel, and returns the operation. It allocates nothing.
+    ///
+    /// Refused is 11 `unknown-channel`, which leaves the map unchanged.
+    pub fn offer_close(&mut self, scid: Scid) -> Result<Op, Refusal>
+        ensures admission { result ≡ admitted_close self.old scid }
+        ensures accepted { IfOk result (λ op. self.new ≡ absorbed self.old op) }
+        ensures refused { OnErr result (self.new ≡ self.old) }
+    {
+        let close = self.admit_close(scid)?;
+        self.close(scid);
+        Ok(close)
     }
 
     fn offer_channel(&mut self, alloc: Global, row: Shared<KeptChannel>) -> Result<Op, Refusal>
@@ -81,6 +67,7 @@ impl Map {
         ensures accepted { IfOk result (λ op. self.new ≡ absorbed self.old op) }
         ensures refused { OnErr result (self.new ≡ self.old) }
     {
+        row.get().bytes_encode_row();
         match self.channels.offer_update(&row, signer) {
             Ok(()) => Ok(Op::Update(row)),
             Err(refusal) => Err(refusal),

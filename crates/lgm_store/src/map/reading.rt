@@ -5,6 +5,7 @@ ghost use Rattle.std.specs.Option.{option_copied, option_map, option_and_then};
 ghost use Rattle.lgm_store.specs.Held.{update_in};
 ghost use Rattle.lgm_store.specs.Held.{held_at};
 ghost use Rattle.lgm_store.specs.Laws.{IsLawful};
+ghost use Rattle.lgm_store.specs.Spelled.{AreSpelled};
 ghost use Rattle.lgm_store.specs.Rows.{IsAscending, channel_of, update_of, node_of, ends_channel, is_banned};
 ghost use Rattle.lgm_store.specs.Reading.{next_channel_of, next_node_of, ids_at, block_of};
 ghost use Rattle.lgm_store.specs.Reading.{ids_between_of, channels_between_of};
@@ -24,6 +25,13 @@ impl Map {
     /// What holds of the rows of any map. A call does nothing: its contract is the law.
     pub fn rows_are_lawful(&self)
         ensures { IsLawful self.now }
+    {
+        let _ = &self.alloc;
+    }
+
+    /// The bytes of each row of any map encode it. A call does nothing: its contract is the law.
+    pub fn bytes_encode_rows(&self)
+        ensures { AreSpelled self.now }
     {
         let _ = &self.alloc;
     }

@@ -2,8 +2,8 @@
 
 use super::made::{FREE, Terms, ban, channel, node, point, update};
 use lgm_gossip::{Point, Scid};
-use lgm_graph::{Edge, Known, Network, View, fee};
-use lgm_store::{Map, Op};
+use lgm_graph::{Edge, Known, Network, Replica, View, fee};
+use lgm_store::{Map, Op, Seed};
 use std::alloc::{AllocError, Global};
 use std::test::Fail;
 
@@ -24,41 +24,68 @@ fn event(alloc: Global, step: u8) -> Result<Op, AllocError> {
     }
 }
 
-/// The network absorbs one more operation.
-fn absorb(network: &mut Network, op: &Op) -> Result<(), AllocError> {
-    if network.view().nodes() > 4_294_967_290 {
-        return Err(AllocError);
-    }
-    network.absorb(op)
+/// A network without channels, with its view.
+fn empty(alloc: Global, known: &Known) -> Result<Network, AllocError> {
+    let mut network = Network::new(alloc, Seed::new([7; 16]), known)?;
+    network.make_view(alloc)?;
+    Ok(network)
+}
+
+/// How many edges there are, if there is a view.
+fn edge_count(network: &Network) -> Option<usize> {
+    Some(network.view()?.edge_count())
 }
 
 /// How many edges there are once the network has absorbed one more operation.
-fn edges_after(network: &mut Network, op: &Op) -> Result<usize, AllocError> {
-    absorb(network, op)?;
-    Ok(network.view().edge_count())
+fn edges_after(network: &mut Network, op: &Op) -> Result<Option<usize>, AllocError> {
+    network.absorb(op)?;
+    Ok(edge_count(network))
 }
 
 #[test]
 fn operations_change_the_edges(rt: HostRuntime) -> Result<(), Fail> {
     let alloc = rt.alloc();
     let known = Known::bits(alloc, &[0])?;
-    let mut network = Network::new(alloc, &known)?;
+    let mut network = empty(alloc, &known)?;
     for (step, edges) in [(0, 0), (1, 1), (2, 2), (3, 1), (4, 2), (5, 1), (6, 0)] {
         let op = event(alloc, step)?;
-        assert_eq!(rt; edges_after(&mut network, &op)?, edges, "after step {step}");
+        assert_eq!(rt;
+            edges_after(&mut network, &op)?,
+            Some(edges),
+            "after step {step}"
+        );
     }
     Ok(())
 }
 
-/// The network of the channel with an update from its node 3, as a copy of one that is made of its map.
-fn one_way(alloc: Global) -> Result<Network, AllocError> {
+/// The map of the channel with an update from its node 3.
+fn one_way_map(alloc: Global) -> Result<Map, AllocError> {
     let mut map = Map::new(alloc)?;
     map.absorb(&event(alloc, 0)?)?;
     map.absorb(&event(alloc, 2)?)?;
-    if map.count() > 2_000_000_000 {
+    Ok(map)
+}
+
+/// The network of this map.
+fn one_way(alloc: Global) -> Result<Network, AllocError> {
+    let map = one_way_map(alloc)?;
+    Network::of(alloc, map, &Known::all())
+}
+
+/// A copy of a network, with its view.
+fn copied(alloc: Global, network: &Network) -> Result<Network, AllocError> {
+    if network.map().count() > 2_000_000_000 {
         return Err(AllocError);
     }
-    Network::of(alloc, map, &Known::all())?.copy(alloc)
+    let mut copy = network.copy(alloc)?;
+    copy.make_view(alloc)?;
+    Ok(copy)
+}
+
+/// A copy of the network of one direction, with its view.
+fn one_way_shown(alloc: Global) -> Result<Network, AllocError> {
+    let network = one_way(alloc)?;
+    copied(alloc, &network)
 }
 
 /// The ends of the edge at a place, and whether it leaves the channel's second node.
@@ -69,8 +96,8 @@ fn ends_of(view: &View, place: usize) -> Option<(Point, Point, bool)> {
 
 #[test]
 fn an_edge_joins_its_points(rt: HostRuntime) -> Result<(), Fail> {
-    let network = one_way(rt.alloc())?;
-    let view = network.view();
+    let network = one_way_shown(rt.alloc())?;
+    let view = network.view().ok_or("no view")?;
     assert!(rt; ends_of(view, 0) == Some((point(3), point(2), true)));
     assert!(rt; ends_of(view, 1).is_none());
     assert_eq!(rt; view.node_number(&point(3)), Some(1));
@@ -223,16 +250,23 @@ pub fn is_as_made(
     Ok(count && has_each(view, &made) && has_each(&made, view))
 }
 
+/// Whether a network has its view, which is as one that is made of its map.
+fn has_its_view(alloc: Global, network: &Network) -> Result<bool, AllocError> {
+    match network.view() {
+        Some(view) => is_as_made(alloc, view, network.map(), network.known()),
+        None => Ok(false),
+    }
+}
+
 /// Whether the network's view is as one that is made of its map after each step, and how many edges it has in the end.
-fn kept_edges(alloc: Global, steps: &[Step]) -> Result<(bool, usize), AllocError> {
-    let known = Known::all();
-    let mut network = Network::new(alloc, &known)?;
+fn kept_edges(alloc: Global, steps: &[Step]) -> Result<(bool, Option<usize>), AllocError> {
+    let mut network = empty(alloc, &Known::all())?;
     let mut same = true;
     for step in steps {
-        absorb(&mut network, &operation(alloc, *step)?)?;
-        same = is_as_made(alloc, network.view(), network.map(), &known)? && same;
+        network.absorb(&operation(alloc, *step)?)?;
+        same = has_its_view(alloc, &network)? && same;
     }
-    Ok((same, network.view().edge_count()))
+    Ok((same, edge_count(&network)))
 }
 
 #[test]
@@ -240,36 +274,38 @@ fn the_kept_view_and_a_view_of_the_committed_map_have_the_same_edges(
     rt: HostRuntime,
 ) -> Result<(), Fail> {
     let alloc = rt.alloc();
-    assert_eq!(rt; kept_edges(alloc, &LOWERED)?, (true, 1));
-    assert_eq!(rt; kept_edges(alloc, &BESIDE)?, (true, 5));
-    assert_eq!(rt; kept_edges(alloc, &CLOSED)?, (true, 0));
-    assert_eq!(rt; kept_edges(alloc, &BANNED)?, (true, 0));
-    assert_eq!(rt; kept_edges(alloc, &BANNED_EDGES)?, (true, 2));
+    assert_eq!(rt; kept_edges(alloc, &LOWERED)?, (true, Some(1)));
+    assert_eq!(rt; kept_edges(alloc, &BESIDE)?, (true, Some(5)));
+    assert_eq!(rt; kept_edges(alloc, &CLOSED)?, (true, Some(0)));
+    assert_eq!(rt; kept_edges(alloc, &BANNED)?, (true, Some(0)));
+    assert_eq!(rt; kept_edges(alloc, &BANNED_EDGES)?, (true, Some(2)));
     Ok(())
 }
 
 /// Absorbs an operation, a second time where it was refused memory. Whether the refusal left the channels and the edges.
 fn absorb_or_again(network: &mut Network, op: &Op) -> Result<bool, AllocError> {
     let channels = network.map().count();
-    let edges = network.view().edge_count();
-    if absorb(network, op).is_ok() {
+    let edges = edge_count(network);
+    if network.absorb(op).is_ok() {
         return Ok(true);
     }
-    let same = network.map().count() == channels && network.view().edge_count() == edges;
-    absorb(network, op)?;
+    let same = network.map().count() == channels && edge_count(network) == edges;
+    network.absorb(op)?;
     Ok(same)
 }
 
 /// Whether each refused step left the network as it was, and the last view is as one that is made of the map.
-fn edges_after_refusals(alloc: Global, steps: &[Step]) -> Result<(bool, usize), AllocError> {
-    let known = Known::all();
-    let mut network = Network::new(alloc, &known)?;
+fn edges_after_refusals(
+    alloc: Global,
+    steps: &[Step],
+) -> Result<(bool, Option<usize>), AllocError> {
+    let mut network = empty(alloc, &Known::all())?;
     let mut same = true;
     for step in steps {
         same = absorb_or_again(&mut network, &operation(alloc, *step)?)? && same;
     }
-    same = is_as_made(alloc, network.view(), network.map(), &known)? && same;
-    Ok((same, network.view().edge_count()))
+    same = has_its_view(alloc, &network)? && same;
+    Ok((same, edge_count(&network)))
 }
 
 /// To be run with each allocation refused in turn.
@@ -281,9 +317,37 @@ fn a_refused_step_leaves_map_and_view(rt: HostRuntime) {
         (BANNED.as_slice(), 0),
     ] {
         if let Ok(ended) = edges_after_refusals(rt.alloc(), steps) {
-            assert_eq!(rt; ended, (true, edges));
+            assert_eq!(rt; ended, (true, Some(edges)));
         }
     }
+}
+
+/// A replica of a network without channels to which these steps are due.
+fn behind(alloc: Global, steps: &[Step]) -> Result<Replica, AllocError> {
+    let network = empty(alloc, &Known::all())?;
+    let mut replica = Replica::new(alloc, network);
+    for step in steps {
+        replica.due.push_back(operation(alloc, *step)?)?;
+    }
+    Ok(replica)
+}
+
+/// Whether nothing is due to a replica that has caught up with these steps, and its view is as one that is made of its
+/// map; and how many edges it has.
+fn caught_up(alloc: Global, steps: &[Step]) -> Result<(bool, Option<usize>), AllocError> {
+    let mut replica = behind(alloc, steps)?;
+    replica.catch_up()?;
+    let same = has_its_view(alloc, &replica.network)?;
+    Ok((same && replica.due.is_empty(), edge_count(&replica.network)))
+}
+
+#[test]
+fn a_replica_catches_up(rt: HostRuntime) -> Result<(), Fail> {
+    let alloc = rt.alloc();
+    assert_eq!(rt; edge_count(&behind(alloc, &BESIDE)?.network), Some(0));
+    assert_eq!(rt; caught_up(alloc, &BESIDE)?, (true, Some(5)));
+    assert_eq!(rt; caught_up(alloc, &BANNED_EDGES)?, (true, Some(2)));
+    Ok(())
 }
 
 #[test]

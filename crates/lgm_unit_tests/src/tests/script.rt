@@ -4,8 +4,8 @@ ghost use Rattle.std.specs.Prelude.{◌≤◌, IfOk};
 
 use lgm_gossip::{Point, Scid};
 use lgm_script::{
-    BLOCK, Failed, FromRead, LineFault, LineReader, MAX_LINE, MemorySink, MemorySource, Output,
-    Payment, Request, Sink, Source, ToWrite, next_group, next_line, parse,
+    BLOCK, Failed, Failures, FromRead, Line, LineFault, LineReader, MAX_LINE, MemorySink,
+    MemorySource, Output, Payment, Request, Sink, Source, ToWrite, next_group, next_line, parse,
 };
 use std::alloc::Global;
 use std::io::{self, ErrorKind, Read, Write};
@@ -18,9 +18,7 @@ struct Forgetful {}
 impl Sink for Forgetful {
     ghost use Rattle.std.specs.Prelude.{None};
 
-    ghost taken = { λ _. None };
-
-    ghost failures = { λ _. 0 };
+    ghost seen = { λ _. record { taken = None; failures = 0 } };
 
     fn write(&mut self, bytes: &[u8]) -> Result<usize, Failed> {
         Ok(bytes.len())
@@ -32,15 +30,13 @@ impl Sink for Forgetful {
 struct FailingSource<'a> {
     source: MemorySource<'a>,
     reads_left: usize,
-    failures: u64,
+    failures: Failures,
 }
 
 impl Source for FailingSource<'_> {
     ghost use Rattle.std.specs.Prelude.{None};
 
-    ghost left = { λ _. None };
-
-    ghost failures = { λ s. s.failures };
+    ghost seen = { λ s. record { left = None; failures = s.failures.count } };
 
     fn read(&mut self, buffer: &mut [u8]) -> Result<usize, Failed> {
         if self.reads_left > 0 {
@@ -49,7 +45,7 @@ impl Source for FailingSource<'_> {
                 return Ok(n);
             }
         }
-        self.failures += 1;
+        self.failures = self.failures.and_one();
         Err(Failed)
     }
 }
@@ -155,16 +151,13 @@ fn lines_before(alloc: Global, reads: usize) -> Result<(u8, Option<LineFault>), 
     let mut source = FailingSource {
         source: MemorySource::new(b"one\ntwo\nthree", 4),
         reads_left: reads,
-        failures: 0,
+        failures: Failures::none(),
     };
     let mut sink = Forgetful {};
     let mut gathered = Vec::new(alloc);
     let mut output = Output::new(&mut gathered, &mut sink);
     let mut reader = LineReader::new(alloc)?;
     for lines in 0..4u8 {
-        if source.failures > 0 {
-            break;
-        }
         match next_line(&mut reader, &mut source, &mut output) {
             Ok(Some(count)) => {
                 let len = next_group(alloc, reader.buffered(), count, 1)?.len;
@@ -283,12 +276,17 @@ fn text_in_blocks(rt: HostRuntime) -> Result<(), Fail> {
     let mut sink = MemorySink::new(alloc);
     let mut gathered = Vec::new(alloc);
     let mut output = Output::new(&mut gathered, &mut sink);
-    output.send_word(10_000_000, "accepted")?;
-    output.send_count(7, 1)?;
-    output.send_message(8, Some(999), b"\x01\xff")?;
-    output.send_route(9, 1_001, 700_040, 20)?;
-    output.send_hop(9, Scid::new(600_000, 1, 0), b"\x02\xfe")?;
-    output.send_hop(9, Scid::from_u64(u64::MAX), b"")?;
+    output.send(10_000_000, &Line::Word("accepted"))?;
+    output.send(7, &Line::Commit(1))?;
+    output.send(8, &Line::Message(Some(999), b"\x01\xff"))?;
+    let route = Line::Route {
+        sent: 1_001,
+        expiry: 700_040,
+        hops: 20,
+    };
+    output.send(9, &route)?;
+    output.send(9, &Line::Hop(Scid::new(600_000, 1, 0), b"\x02\xfe"))?;
+    output.send(9, &Line::Hop(Scid::from_u64(u64::MAX), b""))?;
     output.flush()?;
     let text = b"10000000 accepted\n7 commit 1\n8 to 999 01ff\n9 route 1001 700040 20\n\
         9 hop 600000x1x0 02fe\n9 hop 16777215x16777215x65535 \n"
@@ -303,7 +301,7 @@ fn written_of(alloc: Global, length: usize) -> Result<usize, Fail> {
     let mut sink = MemorySink::new(alloc);
     let mut gathered = Vec::new(alloc);
     let mut output = Output::new(&mut gathered, &mut sink);
-    output.send_message(1, None, message.as_slice())?;
+    output.send(1, &Line::Message(None, message.as_slice()))?;
     Ok(sink.taken().len())
 }
 

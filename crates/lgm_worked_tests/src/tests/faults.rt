@@ -36,12 +36,7 @@ impl Spelled {
         write: usize,
     ) -> Result<(Option<RunFault>, Vec<u8>), AllocError> {
         let mut reader = FailingSource::new(self.script.as_bytes(), read);
-        let mut writer = FailingSink {
-            taken: Vec::with_capacity(alloc, self.text.len())?,
-            writes: 0,
-            fails_at: write,
-            failures: 0,
-        };
+        let mut writer = FailingSink::new(Vec::with_capacity(alloc, self.text.len())?, write);
         let ended = run_by(rt, alloc, &Known::all(), &mut reader, &mut writer, 4, &Open);
         Ok((ended.err(), writer.taken))
     }

@@ -1,4 +1,4 @@
-use Rattle.std.proofs.Common.{◌≡◌, rules, refl, sym, ap, ◌∙◌}
+use Rattle.std.proofs.Common.{◌≡◌, rules, sym, ap}
 use Rattle.std.specs.List.{flat_map}
 use Rattle.std.specs.Map.{values_of}
 use Rattle.std.proofs.lemmas.Result.{err_from_is_err_and}
@@ -10,32 +10,26 @@ use Rattle.lgm_answers.proofs.sending.send_all_news.Goals as goal
 pub loop-own-init : goal.loop-own-init
 loop-own-init g c =
     let same : values_of c.into_iter-own-iterator.result ≡ c.args.filters.now = search rules in
-    record {
-      writer = refl;
-      told =
-          onward_first _ _ _ (ap (flat_map (news_text c.args.number c.args.differences.now.before
-          c.args.differences.now.after)) (sym same));
-    }
+    onward_first _ _ _ (ap (flat_map (news_text c.args.number c.args.differences.now.before
+    c.args.differences.now.after)) (sym same))
 
 pub loop-own-preserved : goal.loop-own-preserved
-loop-own-preserved g c = record {
-  writer = c.in_ok-send_to.ensures.writer ∙ c.loop-own.invariant.writer;
-  told = onward_more _ _ _ _ _ _ _ c.loop-own.invariant.told
-      (ap (λ rest. flat_map (news_text c.args.number c.args.differences.now.before
-      c.args.differences.now.after) (values_of rest)) c.in-Some.ensures.steps)
-      (c.in_ok-send_to.ensures.written _ (gives_as c.news.ensures));
-}
+loop-own-preserved g c =
+    onward_more _ _ _ _ _ _ _ c.loop-own.invariant
+    (ap (λ rest. flat_map (news_text c.args.number c.args.differences.now.before
+    c.args.differences.now.after) (values_of rest)) c.in-Some.ensures.steps)
+    (c.in_ok-send_to.ensures _ (gives_as c.news.ensures))
 
-pub returns-in_err-send_to-clause-written : goal.returns-in_err-send_to-clause-written
-returns-in_err-send_to-clause-written g c =
+pub returns-in_err-send_to : goal.returns-in_err-send_to
+returns-in_err-send_to g c =
     let p = err_from_is_err_and c.from_residual.result c.from_residual.ensures.1 in
-    rw (p.1, p.2) (onward_stops _ _ _ _ _ _ _ _ c.loop-own.invariant.told
+    rw (p.1, p.2) (onward_stops _ _ _ _ _ _ _ _ c.loop-own.invariant
     (ap (λ rest. flat_map (news_text c.args.number c.args.differences.now.before c.args.differences.now.after)
     (values_of rest)) c.in-Some.ensures.steps)
-    (c.in_err-send_to.ensures.written _ (gives_as c.news.ensures)))
+    (c.in_err-send_to.ensures _ (gives_as c.news.ensures)))
 
-pub returns-clause-written : goal.returns-clause-written
-returns-clause-written g c =
-    onward_ends _ _ _ _ c.loop-own.invariant.told (ap (λ rest. flat_map
+pub returns : goal.returns
+returns g c =
+    onward_ends _ _ _ _ c.loop-own.invariant (ap (λ rest. flat_map
     (news_text c.args.number c.args.differences.now.before c.args.differences.now.after) (values_of rest))
     c.in-None.ensures.steps.0)

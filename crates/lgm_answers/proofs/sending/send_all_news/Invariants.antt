@@ -1,16 +1,13 @@
-use Rattle.std.proofs.Common.{◌≡◌}
 use Rattle.std.specs.List.{flat_map}
 use Rattle.std.specs.Map.{values_of}
-use Rattle.lgm_script.specs.Output.{seen}
+use Rattle.lgm_script.specs.Output.{told_by}
 use Rattle.lgm_script.proofs.Telling.{Onward}
 use Rattle.lgm_answers.specs.Answer.{news_text}
 use Rattle.lgm_answers.proofs.sending.send_all_news.Given as goal
 
 -- the first peers were told their news
 abbrev pub invariant-loop-own : goal.invariant-loop-own
-invariant-loop-own g l = record {
-  writer : l.output.writer.ghost_name ≡ l.fn.output.writer.ghost_name;
-  told : Onward (seen g.W.Sink.taken g.W.Sink.failures l.fn.output) (seen g.W.Sink.taken g.W.Sink.failures
-      l.output) (flat_map (news_text l.number l.differences.before l.differences.after) l.filters)
-      (flat_map (news_text l.number l.differences.before l.differences.after) (values_of l.own-iterator));
-}
+invariant-loop-own g l =
+    Onward (told_by g.W.Sink.seen l.fn.output) (told_by g.W.Sink.seen l.output)
+    (flat_map (news_text l.number l.differences.before l.differences.after) l.filters)
+    (flat_map (news_text l.number l.differences.before l.differences.after) (values_of l.own-iterator))

@@ -3,12 +3,12 @@ use Rattle.lgm_script.proofs.Telling.{tells_part_more, written_behind}
 use Rattle.lgm_answers.proofs.Messages.{gives_as}
 use Rattle.lgm_answers.proofs.sending.send_filtered.Goals as goal
 
-pub returns-in_err-send_word-clause-written : goal.returns-in_err-send_word-clause-written
-returns-in_err-send_word-clause-written g c =
+pub returns-in_err-send : goal.returns-in_err-send
+returns-in_err-send g c =
     let p = err_from_is_err_and c.from_residual.result c.from_residual.ensures.1 in
-    rw (p.1, p.2) (tells_part_more _ _ _ _ _ c.in_err-send_word.ensures.written)
+    rw (p.1, p.2) (tells_part_more _ _ _ _ _ c.in_err-send.ensures)
 
-pub returns-clause-written : goal.returns-clause-written
-returns-clause-written g c =
-    written_behind c.send_to.result _ _ _ _ _ c.in_ok-send_word.ensures.written
-    (c.send_to.ensures.written _ (gives_as c.of.ensures))
+pub returns : goal.returns
+returns g c =
+    written_behind c.send_to.result _ _ _ _ _ c.in_ok-send.ensures
+    (c.send_to.ensures _ (gives_as c.of.ensures))

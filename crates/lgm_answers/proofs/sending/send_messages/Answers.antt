@@ -16,27 +16,25 @@ message_there number place messages item sent within here same =
     ∙ ap (λ (m : List ℕ). m ∷ drop (place + 1) messages) (sym (same ∙ here)))
 
 pub loop-message-init : goal.loop-message-init
-loop-message-init g c = record { writer = refl; told = onward_first _ _ _ refl }
+loop-message-init g c = onward_first _ _ _ refl
 
 pub loop-message-preserved : goal.loop-message-preserved
-loop-message-preserved g c = record {
-  writer = c.in_ok-send_message.ensures.writer ∙ c.loop-message.invariant.writer;
-  told = onward_more _ _ _ _ _ _ _ c.loop-message.invariant.told
-      (message_there c.args.number c.loop-message.message-index c.args.messages.now c.message-item.result
-      c.as_slice.result.now c.loop-message-test.true c.message-item.is c.as_slice.ensures)
-      c.in_ok-send_message.ensures.written;
-}
-
-pub returns-in_err-send_message-clause-written : goal.returns-in_err-send_message-clause-written
-returns-in_err-send_message-clause-written g c =
-    let p = err_from_is_err_and c.from_residual.result c.from_residual.ensures.1 in
-    rw (p.1, p.2) (onward_stops _ _ _ _ _ _ _ _ c.loop-message.invariant.told
+loop-message-preserved g c =
+    onward_more _ _ _ _ _ _ _ c.loop-message.invariant
     (message_there c.args.number c.loop-message.message-index c.args.messages.now c.message-item.result
     c.as_slice.result.now c.loop-message-test.true c.message-item.is c.as_slice.ensures)
-    c.in_err-send_message.ensures.written)
+    c.in_ok-send.ensures
 
-pub returns-clause-written : goal.returns-clause-written
-returns-clause-written g c =
+pub returns-in_err-send : goal.returns-in_err-send
+returns-in_err-send g c =
+    let p = err_from_is_err_and c.from_residual.result c.from_residual.ensures.1 in
+    rw (p.1, p.2) (onward_stops _ _ _ _ _ _ _ _ c.loop-message.invariant
+    (message_there c.args.number c.loop-message.message-index c.args.messages.now c.message-item.result
+    c.as_slice.result.now c.loop-message-test.true c.message-item.is c.as_slice.ensures)
+    c.in_err-send.ensures)
+
+pub returns : goal.returns
+returns g c =
     let past : length c.args.messages.now ≤ c.loop-message.message-index = c.loop-message-test.false in
-    onward_ends _ _ _ _ c.loop-message.invariant.told (ap (flat_map (message_line c.args.number None))
+    onward_ends _ _ _ _ c.loop-message.invariant (ap (flat_map (message_line c.args.number None))
     (drop_all c.loop-message.message-index c.args.messages.now past))

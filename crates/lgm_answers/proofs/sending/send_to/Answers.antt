@@ -1,4 +1,4 @@
-use Rattle.std.proofs.Common.{Some, refl, sym, ap, subst, ◌∙◌}
+use Rattle.std.proofs.Common.{Some, refl, sym, ap, subst}
 use Rattle.std.specs.List.{flat_map}
 use Rattle.std.proofs.lemmas.Result.{err_from_is_err_and}
 use Rattle.lgm_script.specs.Text.{message_line}
@@ -7,44 +7,36 @@ use Rattle.lgm_answers.proofs.Messages.{Gives, gave_one, gave_all}
 use Rattle.lgm_answers.proofs.sending.send_to.Goals as goal
 
 pub loop-message-init : goal.loop-message-init
-loop-message-init g c = record {
-  writer = refl;
-  failures = refl;
-  told = λ all gives. (
-    all,
-    subst (λ it. Gives g.I.Iterator.next_gives it all)
-        (sym c.into_iter-message-iterator.ensures.into_iter_gives) gives,
-    onward_first _ _ _ refl,
-  );
-}
+loop-message-init g c = λ all gives. (
+  all,
+  subst (λ it. Gives g.I.Iterator.next_gives it all)
+      (sym c.into_iter-message-iterator.ensures.into_iter_gives) gives,
+  onward_first _ _ _ refl,
+)
 
 pub loop-message-preserved : goal.loop-message-preserved
-loop-message-preserved g c = record {
-  writer = c.in_ok-send_message.ensures.writer ∙ c.loop-message.invariant.writer;
-  failures = let line = c.in_ok-send_message.ensures.written in line.well ∙ c.loop-message.invariant.failures;
-  told = λ all gives.
-      let now = c.loop-message.invariant.told all gives in
-      let next = gave_one g.I.Iterator.next_gives now.0 _ _ _ now.1 c.in-Some.ensures.steps in (
-        next.others,
-        next.left,
-        onward_more _ _ _ _ _ _ _ now.2 (ap (flat_map (message_line c.args.number (Some c.args.peer)))
-            next.is)
-            c.in_ok-send_message.ensures.written,
-      );
-}
+loop-message-preserved g c = λ all gives.
+    let now = c.loop-message.invariant all gives in
+    let next = gave_one g.I.Iterator.next_gives now.0 _ _ _ now.1 c.in-Some.ensures.steps in (
+      next.others,
+      next.left,
+      onward_more _ _ _ _ _ _ _ now.2 (ap (flat_map (message_line c.args.number (Some c.args.peer)))
+          next.is)
+          c.in_ok-send.ensures,
+    )
 
-pub returns-in_err-send_message-clause-written : goal.returns-in_err-send_message-clause-written
-returns-in_err-send_message-clause-written g c =
+pub returns-in_err-send : goal.returns-in_err-send
+returns-in_err-send g c =
     let p = err_from_is_err_and c.from_residual.result c.from_residual.ensures.1 in
     λ all gives.
-    let now = c.loop-message.invariant.told all gives in
+    let now = c.loop-message.invariant all gives in
     let next = gave_one g.I.Iterator.next_gives now.0 _ _ _ now.1 c.in-Some.ensures.steps in
     rw (p.1, p.2) (onward_stops _ _ _ _ _ _ _ _ now.2
     (ap (flat_map (message_line c.args.number (Some c.args.peer))) next.is)
-    c.in_err-send_message.ensures.written)
+    c.in_err-send.ensures)
 
-pub returns-clause-written : goal.returns-clause-written
-returns-clause-written g c = λ all gives.
-    let now = c.loop-message.invariant.told all gives in
+pub returns : goal.returns
+returns g c = λ all gives.
+    let now = c.loop-message.invariant all gives in
     onward_ends _ _ _ _ now.2 (ap (flat_map (message_line c.args.number (Some c.args.peer)))
     (gave_all g.I.Iterator.next_gives now.0 _ _ now.1 c.in-None.ensures.steps))

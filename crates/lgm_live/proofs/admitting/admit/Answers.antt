@@ -23,8 +23,8 @@ offers_outcome : (chain : ChainHash) (rows : Rows) (item : Item) (bytes : List �
 unfolding outcome_of
 offers_outcome chain rows item bytes evidence checked answer is made offers = rw (is, made) (offers_gives answer (admitted rows checked) offers)
 
-pub returns-in_ok-checked-in-Gossip-clause-outcome : goal.returns-in_ok-checked-in-Gossip-clause-outcome
-returns-in_ok-checked-in-Gossip-clause-outcome c =
+pub returns-in_ok-candidate-in-Gossip-clause-outcome : goal.returns-in_ok-candidate-in-Gossip-clause-outcome
+returns-in_ok-candidate-in-Gossip-clause-outcome c =
     let evidence = c.in-Gossip.evidence in
     let is = c.in-Gossip.is ∙ ap (λ bytes. Gossip bytes evidence) (sym c.as_slice.ensures) in
-    offers_outcome c.args.chain.now c.args.map.now c.args.item.now _ _ _ _ is c.in_ok-checked-in-Gossip.ensures.exact c.offer.ensures.admission
+    offers_outcome c.args.chain.now c.args.map.now c.args.item.now _ _ _ _ is c.in_ok-candidate-in-Gossip.ensures c.offer_candidate.ensures.admission

@@ -1,5 +1,6 @@
 use Rattle.std.proofs.Common.{[], ◌∷◌, ◌++◌, length, take, refl, sym, ap, ◌∙◌, length-append, arith, rules}
 use Rattle.std.proofs.lemmas.Result.{err_from_is_err_and}
+use Rattle.lgm_script.specs.Output.{told_by}
 use Rattle.lgm_script.specs.Request.{request_of}
 use Rattle.lgm_answers.proofs.LineFaults.{failed}
 use Rattle.lgm_live.specs.inner.Gathered.{with_line}
@@ -11,7 +12,6 @@ use Rattle.lgm_live.proofs.reading.read_lines.Goals as goal
 pub loop-number-init : goal.loop-number-init
 loop-number-init g c = rw c.requires.lines (record {
   asked = [];
-  name = refl;
   within = omega arith;
   count = refl;
   noted = refl;
@@ -19,37 +19,40 @@ loop-number-init g c = rw c.requires.lines (record {
     read_same = refl;
     write_same = refl;
     taken_same = refl;
+    writer = refl;
     clear = c.requires.gathered;
-    so_far = starts (g.R.Source.left c.args.source.now);
+    so_far = starts (g.R.Source.seen c.args.source.now).left;
   };
 })
 
-pub returns-in_err-count-clause-read : goal.returns-in_err-count-clause-read
-returns-in_err-count-clause-read g c =
+pub returns-in_err-count : goal.returns-in_err-count
+returns-in_err-count g c =
     let p = err_from_is_err_and c.from_residual.result c.from_residual.ensures.1 in
     let inv = c.loop-number.invariant in
     let line = c.in_err-count.ensures in
-    rw (p.1, p.2) (line_failed inv.read_to c.next_line.new.lines c.next_line.new.source c.next_line.new.output
+    rw (p.1, p.2) (line_failed inv.read_to c.next_line.new.lines (g.R.Source.seen c.next_line.new.source)
+    (told_by g.W.Sink.seen c.next_line.new.output)
     c.in_err-count.field-0.0 line.kept line.written line.write line.read
     (λ is. (omega (arith, inv.count, c.loop-number-test.true), line.too_long (ap failed is))))
 
-pub returns-in_default-clause-read : goal.returns-in_default-clause-read
-returns-in_default-clause-read g c =
+pub returns-in_default : goal.returns-in_default
+returns-in_default g c =
     let inv = c.loop-number.invariant in
     let line = c.in_ok-count.ensures in
     let read_to =
-    read_on inv.read_to c.next_line.new.lines c.next_line.new.source c.next_line.new.output line.kept
+    read_on inv.read_to c.next_line.new.lines (g.R.Source.seen c.next_line.new.source)
+    (told_by g.W.Sink.seen c.next_line.new.output) line.kept
     (line.well (λ e. absurd cc)) (line.written (λ e. absurd cc)) in
     all_read read_to c.args.agenda.now c.loop-number.agenda inv.noted (omega (arith, inv.count, inv.within))
     (line.end (search rules))
 
-pub returns-in_err-note_line-clause-read : goal.returns-in_err-note_line-clause-read
-returns-in_err-note_line-clause-read g c =
+pub returns-in_err-note_line : goal.returns-in_err-note_line
+returns-in_err-note_line g c =
     let p = err_from_is_err_and c.from_residual-in_err-note_line.result c.from_residual-in_err-note_line.ensures.1 in
     let line = c.in_ok-count.ensures in
     let read_to =
-    read_on c.loop-number.invariant.read_to c.next_line.new.lines c.next_line.new.source
-    c.next_line.new.output
+    read_on c.loop-number.invariant.read_to c.next_line.new.lines (g.R.Source.seen c.next_line.new.source)
+    (told_by g.W.Sink.seen c.next_line.new.output)
     line.kept (line.well (λ e. absurd cc)) (line.written (λ e. absurd cc)) in
     rw (p.1, p.2) (no_memory read_to)
 
@@ -78,11 +81,11 @@ loop-number-preserved g c =
     let first = rw c.in-Some.is at line.line in
     let small = rw c.in-Some.is at line.short in
     let read_to =
-    read_on inv.read_to c.next_line.new.lines c.next_line.new.source c.next_line.new.output line.kept
+    read_on inv.read_to c.next_line.new.lines (g.R.Source.seen c.next_line.new.source)
+    (told_by g.W.Sink.seen c.next_line.new.output) line.kept
     (line.well (λ e. absurd cc)) (line.written (λ e. absurd cc)) in
     record {
       asked = inv.asked ++ request ∷ [];
-      name = line.writer ∙ inv.name;
       within = omega (arith, c.loop-number-test.true);
       count = omega (arith, inv.count, length-append inv.asked (request ∷ []));
       noted =
@@ -91,31 +94,31 @@ loop-number-preserved g c =
       read_to = rw c.in_ok-note_line.ensures.lines (line_read read_to c.in-Some.count first small);
     }
 
-pub returns-in_err-more_begins-clause-read : goal.returns-in_err-more_begins-clause-read
-returns-in_err-more_begins-clause-read g c =
+pub returns-in_err-more_begins : goal.returns-in_err-more_begins
+returns-in_err-more_begins g c =
     let p = err_from_is_err_and c.from_residual-in_err-more_begins.result c.from_residual-in_err-more_begins.ensures.1 in
     let more = c.in_err-more_begins.ensures in
     rw (p.1, p.2) (line_failed c.loop-number.invariant.read_to c.more_begins.new.lines
-    c.more_begins.new.source
-    c.more_begins.new.output c.in_err-more_begins.field-0.0 more.kept more.written more.write more.read
+    (g.R.Source.seen c.more_begins.new.source)
+    (told_by g.W.Sink.seen c.more_begins.new.output) c.in_err-more_begins.field-0.0 more.kept more.written more.write more.read
     (λ is. absurd (more.short (ap failed is))))
 
-pub returns-then-branch-clause-read : goal.returns-then-branch-clause-read
-returns-then-branch-clause-read g c =
+pub returns-then-branch : goal.returns-then-branch
+returns-then-branch g c =
     let inv = c.loop-number.invariant in
     let more = c.in_ok-more_begins.ensures in
     let read_to =
-    read_on inv.read_to c.more_begins.new.lines c.more_begins.new.source c.more_begins.new.output more.kept
+    read_on inv.read_to c.more_begins.new.lines (g.R.Source.seen c.more_begins.new.source) (told_by g.W.Sink.seen c.more_begins.new.output) more.kept
     (more.well (λ e. absurd cc)) (more.written (λ e. absurd cc)) in
     more_lines read_to (omega (arith, inv.count, inv.within, c.loop-number-test.false))
     (more.more (search rules))
 
-pub returns-clause-read : goal.returns-clause-read
-returns-clause-read g c =
+pub returns : goal.returns
+returns g c =
     let inv = c.loop-number.invariant in
     let more = c.in_ok-more_begins.ensures in
     let read_to =
-    read_on inv.read_to c.more_begins.new.lines c.more_begins.new.source c.more_begins.new.output more.kept
+    read_on inv.read_to c.more_begins.new.lines (g.R.Source.seen c.more_begins.new.source) (told_by g.W.Sink.seen c.more_begins.new.output) more.kept
     (more.well (λ e. absurd cc)) (more.written (λ e. absurd cc)) in
     all_read read_to c.args.agenda.now c.loop-number.agenda inv.noted (omega (arith, inv.count, inv.within))
     (more.end (search rules))

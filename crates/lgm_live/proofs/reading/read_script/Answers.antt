@@ -4,12 +4,13 @@ use Rattle.lgm_live.specs.inner.Reading.{with_lines}
 use Rattle.lgm_live.proofs.Noting.{agenda_is}
 use Rattle.lgm_live.proofs.reading.read_script.Goals as goal
 
-pub returns-clause-read : goal.returns-clause-read
-returns-clause-read g c =
-    let read = c.in_ok-read_lines.ensures.read in
+pub returns : goal.returns
+returns g c =
+    let read = c.in_ok-read_lines.ensures in
     let noted = read.ok in
     let all = noted.noted ∙ ap (λ (agenda : Gathered). with_lines agenda noted.asked) c.in_ok-agenda.ensures in
     record {
+      writer = read.writer;
       ok = record {
         asked = noted.asked;
         few = noted.few;

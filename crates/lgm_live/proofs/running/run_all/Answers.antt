@@ -2,6 +2,7 @@ use Rattle.std.proofs.Common.{length, ap, ◌∙◌, arith}
 use Rattle.std.proofs.lemmas.List.{length-map}
 use Rattle.std.proofs.lemmas.List.FromFn.{length-map-range_with_len}
 use Rattle.std.proofs.lemmas.Result.{err_from_is_err_and}
+use Rattle.lgm_script.specs.Output.{told_by}
 use Rattle.lgm_live.specs.Agenda.{payments_of, list_for}
 use Rattle.lgm_live.specs.Batches.{items_of}
 use Rattle.lgm_live.specs.inner.Gathered.{slot_of}
@@ -10,75 +11,94 @@ use Rattle.lgm_live.proofs.Runs.{reported, there, whole, in_part}
 use Rattle.lgm_live.proofs.Scripts.{items_few}
 use Rattle.lgm_live.proofs.running.run_all.Goals as goal
 
-pub returns-in_err-agenda-clause-runs : goal.returns-in_err-agenda-clause-runs
-returns-in_err-agenda-clause-runs g c =
+pub returns-in_err-agenda : goal.returns-in_err-agenda
+returns-in_err-agenda g c =
     let p = err_from_is_err_and c.from_residual.result c.from_residual.ensures.1 in
-    rw (p.1, p.2) (not_read g.R.Source.left g.R.Source.failures g.W.Sink.taken g.W.Sink.failures
-    c.args.chain.now c.args.known.now c.args.pool.now.workers c.args.source.now c.read_script.new.source
-    c.args.output.now c.read_script.new.output c.in_err-agenda.field-0.0 c.in_err-agenda.ensures.read)
+    let read = c.in_err-agenda.ensures in
+    rw (p.1, p.2) (record {
+      writer = read.writer;
+      runs = not_read c.args.chain.now c.args.known.now c.args.pool.now.workers (g.R.Source.seen c.args.source.now)
+          (g.R.Source.seen c.read_script.new.source) (told_by g.W.Sink.seen c.args.output.now)
+          (told_by g.W.Sink.seen c.read_script.new.output) c.in_err-agenda.field-0.0 read;
+    })
 
-pub returns-in_err-paced-clause-runs : goal.returns-in_err-paced-clause-runs
-returns-in_err-paced-clause-runs g c =
+pub returns-in_err-paced : goal.returns-in_err-paced
+returns-in_err-paced g c =
     let p = err_from_is_err_and c.from_residual-in_err-paced.result c.from_residual-in_err-paced.ensures.1 in
-    rw (p.1, p.2) (no_memory g.R.Source.left g.R.Source.failures g.W.Sink.taken g.W.Sink.failures
-    c.args.chain.now c.args.known.now c.args.pool.now.workers c.args.source.now c.read_script.new.source
-    c.args.output.now.writer.now c.read_script.new.output.writer.now c.in_ok-agenda.ensures.read.silent)
+    let read = c.in_ok-agenda.ensures in
+    rw (p.1, p.2) (record {
+      writer = read.writer;
+      runs = no_memory c.args.chain.now c.args.known.now c.args.pool.now.workers (g.R.Source.seen c.args.source.now)
+          (g.R.Source.seen c.read_script.new.source) (g.W.Sink.seen c.args.output.now.writer.now)
+          (g.W.Sink.seen c.read_script.new.output.writer.now) read.silent;
+    })
 
 pub live-requires-clause-items : goal.live-requires-clause-items
 live-requires-clause-items g c =
-    let read = c.in_ok-agenda.ensures.read.ok in
+    let read = c.in_ok-agenda.ensures.ok in
     omega (arith, items_few read.asked, read.few, ap (λ batches. length (items_of batches)) (c.batches.ensures ∙ read.is_agenda.batches))
 
 pub live-requires-clause-workers : goal.live-requires-clause-workers
 live-requires-clause-workers g c _ _ =
-    let read = c.in_ok-agenda.ensures.read.ok in
+    let read = c.in_ok-agenda.ensures.ok in
     let workers = c.args.pool.now.workers in
     let many = length-map-range_with_len (list_for workers (payments_of read.asked)) 0 workers in
     let lists = ap length (c.lists.ensures ∙ read.is_agenda.lists) in
     (omega (arith, c.args.pool.now.some, many, lists), omega (arith, c.args.pool.now.few, many, lists))
 
-pub returns-in_err-report-clause-runs : goal.returns-in_err-report-clause-runs
-returns-in_err-report-clause-runs g c =
+pub returns-in_err-report : goal.returns-in_err-report
+returns-in_err-report g c =
     let p = err_from_is_err_and c.from_residual-in_err-report.result c.from_residual-in_err-report.ensures.1 in
-    rw (p.1, p.2) (not_answered g.R.Source.left g.R.Source.failures g.W.Sink.taken g.W.Sink.failures
-    c.args.chain.now c.args.known.now c.args.pool.now.workers c.args.source.now c.read_script.new.source
-    c.args.output.now.writer.now c.read_script.new.output.writer.now c.in_err-report.field-0.0
-    c.in_ok-agenda.ensures.read.silent)
+    let read = c.in_ok-agenda.ensures in
+    rw (p.1, p.2) (record {
+      writer = read.writer;
+      runs = not_answered c.args.chain.now c.args.known.now c.args.pool.now.workers
+          (g.R.Source.seen c.args.source.now) (g.R.Source.seen c.read_script.new.source)
+          (g.W.Sink.seen c.args.output.now.writer.now) (g.W.Sink.seen c.read_script.new.output.writer.now)
+          c.in_err-report.field-0.0 read.silent;
+    })
 
 pub tell-requires-clause-slots : goal.tell-requires-clause-slots
 tell-requires-clause-slots g c =
-    let read = c.in_ok-agenda.ensures.read.ok in
+    let read = c.in_ok-agenda.ensures.ok in
     let is =
     reported c.args.pool.now.some read.is_agenda c.batches.ensures c.lists.ensures c.slots.ensures
     c.in_ok-report.ensures.report in
     (omega (arith, read.few, ap length is.slots, length-map read.asked slot_of), there is)
 
-pub returns-in_err-tell-clause-runs : goal.returns-in_err-tell-clause-runs
-returns-in_err-tell-clause-runs g c =
+pub returns-in_err-tell : goal.returns-in_err-tell
+returns-in_err-tell g c =
     let p = err_from_is_err_and c.from_residual-in_err-tell.result c.from_residual-in_err-tell.ensures.1 in
-    let reads = c.in_ok-agenda.ensures.read in
+    let reads = c.in_ok-agenda.ensures in
     let is =
     reported c.args.pool.now.some reads.ok.is_agenda c.batches.ensures c.lists.ensures c.slots.ensures
     c.in_ok-report.ensures.report in
     let part =
-    in_part is (g.R.Source.left c.args.source.now) (g.W.Sink.taken c.args.output.now.writer.now)
-    (g.W.Sink.taken c.read_script.new.output.writer.now) (g.W.Sink.taken c.tell.new.output.writer.now)
+    in_part is (g.R.Source.seen c.args.source.now).left (g.W.Sink.seen c.args.output.now.writer.now).taken
+    (g.W.Sink.seen c.read_script.new.output.writer.now).taken (g.W.Sink.seen c.tell.new.output.writer.now).taken
     reads.ok.whole reads.silent c.in_err-tell.ensures.part in
-    rw (p.1, p.2) (not_written g.R.Source.left g.R.Source.failures g.W.Sink.taken g.W.Sink.failures
-    c.args.chain.now c.args.known.now c.args.pool.now.workers c.args.source.now c.read_script.new.source
-    c.args.output.now.writer.now c.tell.new.output.writer.now c.in_err-tell.field-0.0 part
-    (λ is. omega (arith, c.in_err-tell.ensures.write is, reads.well (λ e. absurd cc))))
+    rw (p.1, p.2) (record {
+      writer = c.in_err-tell.ensures.writer ∙ reads.writer;
+      runs = not_written c.args.chain.now c.args.known.now c.args.pool.now.workers
+          (g.R.Source.seen c.args.source.now) (g.R.Source.seen c.read_script.new.source)
+          (g.W.Sink.seen c.args.output.now.writer.now) (g.W.Sink.seen c.tell.new.output.writer.now)
+          c.in_err-tell.field-0.0 part
+          (λ is. omega (arith, c.in_err-tell.ensures.write is, reads.well (λ e. absurd cc)));
+    })
+
+pub returns-clause-writer : goal.returns-clause-writer
+returns-clause-writer g c = let reads = c.in_ok-agenda.ensures in c.in_ok-tell.ensures.writer ∙ reads.writer
 
 pub returns-clause-runs : goal.returns-clause-runs
 returns-clause-runs g c =
-    let reads = c.in_ok-agenda.ensures.read in
+    let reads = c.in_ok-agenda.ensures in
     let is =
     reported c.args.pool.now.some reads.ok.is_agenda c.batches.ensures c.lists.ensures c.slots.ensures
     c.in_ok-report.ensures.report in
     record {
       ok =
-          whole is (g.R.Source.left c.args.source.now) (g.W.Sink.taken c.args.output.now.writer.now)
-          (g.W.Sink.taken c.read_script.new.output.writer.now) (g.W.Sink.taken c.tell.new.output.writer.now)
+          whole is (g.R.Source.seen c.args.source.now).left (g.W.Sink.seen c.args.output.now.writer.now).taken
+          (g.W.Sink.seen c.read_script.new.output.writer.now).taken (g.W.Sink.seen c.tell.new.output.writer.now).taken
           reads.ok.whole reads.silent c.in_ok-tell.ensures.told;
       too_many = λ is. absurd cc;
       too_long = λ is. absurd cc;

@@ -1,5 +1,5 @@
 use Rattle.std.proofs.Common.{[], Bor, List, ℕ}
-use Rattle.lgm_script.specs.Output.{Writes}
+use Rattle.lgm_script.specs.Output.{told_by, Writes}
 use Rattle.lgm_run.proofs.Kindred.{asked_as, is_alone, other_leaves, other_is_told}
 use Rattle.lgm_run.proofs.answering.answer.Goals as goal
 
@@ -25,6 +25,5 @@ pub returns-in-Other-clause-written : goal.returns-in-Other-clause-written
 returns-in-Other-clause-written g c =
     other_is_told c.args.context.now.chain c.args.first c.args.engine.now
     (is_alone no_line c.requires.alike c.in-Other.is c.as_slice-lines.ensures.value)
-    (λ text. Writes g.W.Sink.taken g.W.Sink.failures
-    c.args.output.now c.answer_alone.new.output text c.answer_alone.result)
+    (λ text. Writes (told_by g.W.Sink.seen c.args.output.now) (told_by g.W.Sink.seen c.answer_alone.new.output) text c.answer_alone.result)
     c.answer_alone.ensures.written

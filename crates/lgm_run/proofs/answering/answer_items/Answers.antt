@@ -31,7 +31,6 @@ loop-item-init g c =
     let many = length-map lines (λ line. request_of line.now) in
     let same = ap length gives.0 in
     record {
-      name = refl;
       len = gives.1 ∙ all.ok.0 ∙ sym same;
       number = omega (arith, same, long, many);
       few = omega (arith, same, long, many, c.requires.few);
@@ -50,12 +49,6 @@ returns-in_err-item-clause-written g c =
     let turn = next_turn c.loop-item.invariant.left _ _ c.in-Some.ensures.steps.0 in
     let p = err_from_is_err_and c.from_residual-in_err-item.result c.from_residual-in_err-item.ensures.1 in
     rw (p.1, p.2) (turn.stops _ _ _ refl (tells_none _ _))
-
-pub offer-requires-clause-checked : goal.offer-requires-clause-checked
-offer-requires-clause-checked g c =
-    let turn = next_turn c.loop-item.invariant.left _ _ c.in-Some.ensures.steps.0 in
-    let item = IfOk-at_ok _ c.in_ok-item.was turn.known in
-    item.checked
 
 pub returns-in_err-offer-clause-written : goal.returns-in_err-offer-clause-written
 returns-in_err-offer-clause-written g c =
@@ -78,7 +71,6 @@ loop-item-preserved g c =
     let item = IfOk-at_ok _ c.in_ok-item.was turn.known in
     let goes = c.in_ok-offer.ensures.state ∙ item.leaves c.loop-item.engine in
     record {
-      name = c.in_ok-offer.ensures.writer ∙ inv.name;
       len = omega (arith, steps.1, one_less, inv.len);
       number = omega (arith, one_less, inv.number);
       few = let count_is = ap (λ s. s.accepted) goes in

@@ -1,7 +1,7 @@
 use Rattle.std.proofs.Common.{◌≡◌, ◌≤◌, ◌+◌, length}
 use Rattle.std.specs.Prelude.{IfOk}
 use Rattle.std.specs.Vec.Iter.{into_iter_items, into_iter_len}
-use Rattle.lgm_script.specs.Output.{seen}
+use Rattle.lgm_script.specs.Output.{told_by}
 use Rattle.lgm_run.specs.inner.Questions.{asked_in}
 use Rattle.lgm_answers.specs.Script.{text_for}
 use Rattle.lgm_run.specs.inner.Steps.{state_after, state_from, text_from}
@@ -11,15 +11,14 @@ use Rattle.lgm_run.proofs.answering.answer_items.Given as goal
 
 abbrev pub invariant-loop-item : goal.invariant-loop-item
 invariant-loop-item g l = record {
-  name : l.output.writer.ghost_name ≡ l.fn.output.writer.ghost_name;
   len : into_iter_len l.item-iterator ≡ length (into_iter_items l.item-iterator);
   number : l.number + length (into_iter_items l.item-iterator) ≡ l.first + length l.lines;
   few : l.engine.accepted + length (into_iter_items l.item-iterator) ≤ 10000000;
   left : AreLeft (state_after l.context.chain) (text_for l.context.chain)
       (λ request item. IfOk item (IsItemOf l.context.chain request))
       (state_from l.context.chain l.fn.engine (asked_in l.lines))
-      (seen g.W.Sink.taken g.W.Sink.failures l.fn.output)
+      (told_by g.W.Sink.seen l.fn.output)
       (text_from l.context.chain l.first l.fn.engine (asked_in l.lines)) (into_iter_items l.item-iterator)
       l.number
-      l.engine (seen g.W.Sink.taken g.W.Sink.failures l.output);
+      l.engine (told_by g.W.Sink.seen l.output);
 }

@@ -1,7 +1,7 @@
 use Rattle.std.proofs.Common.{◌≡◌, subst}
 use Rattle.std.specs.Prelude.{OnOk}
 use Rattle.std.proofs.lemmas.Result.{err_from_is_err_and}
-use Rattle.lgm_script.specs.Output.{Writes}
+use Rattle.lgm_script.specs.Output.{told_by, Writes}
 use Rattle.lgm_script.proofs.Telling.{tells_none}
 use Rattle.lgm_run.specs.inner.Questions.{asked_in}
 use Rattle.lgm_run.proofs.Kindred.{questions_leave, questions_are_told}
@@ -25,7 +25,7 @@ returns-clause-state g c =
 
 pub returns-clause-written : goal.returns-clause-written
 returns-clause-written g c =
-    subst (λ t. Writes g.W.Sink.taken g.W.Sink.failures c.args.output.now c.answer_questions.new.output t
+    subst (λ t. Writes (told_by g.W.Sink.seen c.args.output.now) (told_by g.W.Sink.seen c.answer_questions.new.output) t
     c.answer_questions.result)
     (questions_are_told c.args.context.now.chain c.args.first c.args.engine.now (asked_in c.args.lines.now)
     c.requires.questions) c.answer_questions.ensures.written

@@ -15,17 +15,16 @@ loop-answer-init g c =
     let lines = c.args.lines.now in
     let same = c.as_slice-answer-items.ensures.value in
     let long =
-    AllZip-long (λ request answer. IfOk answer (IsAnswerTo c.args.context.now.chain c.args.chart.now.known
-    c.args.committed.now request)) (asked_in lines) c.in_ok-all.all.items c.in_ok-all.ensures in
+    AllZip-long (λ request answer. IfOk answer (IsAnswerTo c.args.context.now.chain c.args.committed.now.known
+    c.args.committed.now.rows request)) (asked_in lines) c.in_ok-all.all.items c.in_ok-all.ensures in
     record {
-      name = refl;
       number = omega arith;
       many = omega (arith, ap length same, long, length-map lines (λ line. request_of line.now));
       left = record {
         asked = asked_in lines;
         known =
             subst (AllZip (λ request answer. IfOk answer (IsAnswerTo c.args.context.now.chain
-            c.args.chart.now.known c.args.committed.now request)) (asked_in lines)) (sym same)
+            c.args.committed.now.known c.args.committed.now.rows request)) (asked_in lines)) (sym same)
             c.in_ok-all.ensures;
         leads = refl;
         told = onward_first _ _ _ refl;
@@ -45,7 +44,6 @@ loop-answer-preserved g c =
     c.loop-answer-test.true c.answer-item.is in
     let answer = IfOk-at_ok _ c.in-Ok.is turn.known in
     record {
-      name = c.in_ok-tell.ensures.writer ∙ inv.name;
       number = omega (arith, inv.number);
       many = inv.many;
       left = turn.goes_on _ _ _ (c.in_ok-tell.ensures.filters ∙ answer.filters c.loop-answer.filters)

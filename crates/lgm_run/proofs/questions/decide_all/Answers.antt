@@ -9,8 +9,8 @@ use Rattle.lgm_run.proofs.questions.decide_all.Goals as goal
 pub returns : goal.returns
 returns g c =
     zip_of_ok (λ line. request_of line.now) (λ request answer.
-    IfOk answer (IsAnswerTo c.args.context.now.chain c.args.chart.now.known c.args.committed.now request))
+    IfOk answer (IsAnswerTo c.args.context.now.chain c.args.committed.now.known c.args.committed.now.rows request))
     c.args.lines.now c.map.result
-    (zip_weaker_ok _ (λ line answer. IfOk answer (IsAnswerTo c.args.context.now.chain c.args.chart.now.known
-    c.args.committed.now (request_of line.now))) (λ x y h. search rules) c.args.lines.now c.map.result
+    (zip_weaker_ok _ (λ line answer. IfOk answer (IsAnswerTo c.args.context.now.chain c.args.committed.now.known
+    c.args.committed.now.rows (request_of line.now))) (λ x y h. search rules) c.args.lines.now c.map.result
     c.map.ensures)

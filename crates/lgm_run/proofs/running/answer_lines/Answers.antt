@@ -1,7 +1,8 @@
-use Rattle.std.proofs.Common.{◌-◌, refl, ap, ◌∙◌, arith, rules}
+use Rattle.std.proofs.Common.{◌-◌, refl, ap, arith, rules}
 use Rattle.std.specs.Prelude.{map}
 use Rattle.std.proofs.lemmas.List.{length-map}
 use Rattle.std.proofs.lemmas.Result.{err_from_is_err_and}
+use Rattle.lgm_script.specs.Output.{told_by}
 use Rattle.lgm_script.specs.Request.{request_of}
 use Rattle.lgm_answers.proofs.LineFaults.{failed}
 use Rattle.lgm_run.proofs.Stepping.{accepted_from-le}
@@ -11,41 +12,39 @@ use Rattle.lgm_run.proofs.running.answer_lines.Goals as goal
 
 pub loop-number-init : goal.loop-number-init
 loop-number-init g c = rw (c.requires.engine, c.requires.lines) (record {
-  name = refl;
   few = omega arith;
   up_to =
-      up_to_first g.R.Source.left g.R.Source.failures g.W.Sink.taken g.W.Sink.failures
-      c.args.context.now.chain
-      c.args.engine.now.known c.args.source.now c.args.output.now;
+      up_to_first c.args.context.now.chain c.args.engine.now.known (g.R.Source.seen c.args.source.now)
+      (told_by g.W.Sink.seen c.args.output.now);
 })
 
-pub returns-in_err-count-clause-ended : goal.returns-in_err-count-clause-ended
-returns-in_err-count-clause-ended g c =
+pub returns-in_err-count : goal.returns-in_err-count
+returns-in_err-count g c =
     let p = err_from_is_err_and c.from_residual.result c.from_residual.ensures.1 in
     let line = c.in_err-count.ensures in
-    rw (p.1, p.2) (line_failed c.loop-number.invariant.up_to c.next_line.new.lines c.next_line.new.source
-    c.next_line.new.output c.in_err-count.field-0.0 line.kept line.written line.write line.read
+    rw (p.1, p.2) (line_failed c.loop-number.invariant.up_to c.next_line.new.lines (g.R.Source.seen c.next_line.new.source)
+    (told_by g.W.Sink.seen c.next_line.new.output) c.in_err-count.field-0.0 line.kept line.written line.write line.read
     (λ is. (c.loop-number-test.true, line.too_long (ap failed is))))
 
-pub returns-in_default-clause-ended : goal.returns-in_default-clause-ended
-returns-in_default-clause-ended g c =
+pub returns-in_default : goal.returns-in_default
+returns-in_default g c =
     let line = c.in_ok-count.ensures in
     let up_to =
-    read_on c.loop-number.invariant.up_to c.next_line.new.lines c.next_line.new.source c.next_line.new.output
+    read_on c.loop-number.invariant.up_to c.next_line.new.lines (g.R.Source.seen c.next_line.new.source) (told_by g.W.Sink.seen c.next_line.new.output)
     line.kept (line.well (λ e. absurd cc)) (line.written (λ e. absurd cc)) in
     all_answered up_to c.loop-number.number c.accepted.result refl c.accepted.ensures
     (line.end (search rules))
 
-pub returns-in_err-some-clause-ended : goal.returns-in_err-some-clause-ended
-returns-in_err-some-clause-ended g c =
+pub returns-in_err-some : goal.returns-in_err-some
+returns-in_err-some g c =
     let p = err_from_is_err_and c.from_residual-in_err-some.result c.from_residual-in_err-some.ensures.1 in
     let line = c.in_ok-count.ensures in
     let first = rw c.in-Some.is at line.line in
     let up_to =
-    read_on c.loop-number.invariant.up_to c.next_line.new.lines c.next_line.new.source c.next_line.new.output
+    read_on c.loop-number.invariant.up_to c.next_line.new.lines (g.R.Source.seen c.next_line.new.source) (told_by g.W.Sink.seen c.next_line.new.output)
     line.kept (line.well (λ e. absurd cc)) (line.written (λ e. absurd cc)) in
     rw (p.1, p.2) (answer_failed up_to c.in-Some.count (10000000 - c.loop-number.number)
-    c.answer_next.new.output
+    (told_by g.W.Sink.seen c.answer_next.new.output)
     c.in_err-some.field-0.0 first (omega arith) c.in_err-some.ensures.fault)
 
 pub loop-number-preserved : goal.loop-number-preserved
@@ -54,13 +53,12 @@ loop-number-preserved g c =
     let line = c.in_ok-count.ensures in
     let first = rw c.in-Some.is at line.line in
     let up_to =
-    read_on inv.up_to c.next_line.new.lines c.next_line.new.source c.next_line.new.output
+    read_on inv.up_to c.next_line.new.lines (g.R.Source.seen c.next_line.new.source) (told_by g.W.Sink.seen c.next_line.new.output)
     line.kept (line.well (λ e. absurd cc)) (line.written (λ e. absurd cc)) in
     let answers = c.in_ok-some.ensures.answered in
     let count_is = ap (λ s. s.accepted) answers.state_is in
     let asked = map request_of answers.lines in
     record {
-      name = c.answer_next.ensures.writer ∙ line.writer ∙ inv.name;
       few =
           omega (
             arith,
@@ -74,27 +72,27 @@ loop-number-preserved g c =
           rw c.drop_front.ensures (answered_on up_to first answers (omega (arith, c.in_ok-some.ensures.few)));
     }
 
-pub returns-in_err-more_begins-clause-ended : goal.returns-in_err-more_begins-clause-ended
-returns-in_err-more_begins-clause-ended g c =
+pub returns-in_err-more_begins : goal.returns-in_err-more_begins
+returns-in_err-more_begins g c =
     let p = err_from_is_err_and c.from_residual-in_err-more_begins.result c.from_residual-in_err-more_begins.ensures.1 in
     let more = c.in_err-more_begins.ensures in
-    rw (p.1, p.2) (line_failed c.loop-number.invariant.up_to c.more_begins.new.lines c.more_begins.new.source
-    c.more_begins.new.output c.in_err-more_begins.field-0.0 more.kept more.written more.write more.read
+    rw (p.1, p.2) (line_failed c.loop-number.invariant.up_to c.more_begins.new.lines (g.R.Source.seen c.more_begins.new.source)
+    (told_by g.W.Sink.seen c.more_begins.new.output) c.in_err-more_begins.field-0.0 more.kept more.written more.write more.read
     (λ is. absurd (more.short (ap failed is))))
 
-pub returns-then-branch-clause-ended : goal.returns-then-branch-clause-ended
-returns-then-branch-clause-ended g c =
+pub returns-then-branch : goal.returns-then-branch
+returns-then-branch g c =
     let more = c.in_ok-more_begins.ensures in
     let up_to =
-    read_on c.loop-number.invariant.up_to c.more_begins.new.lines c.more_begins.new.source
-    c.more_begins.new.output more.kept (more.well (λ e. absurd cc)) (more.written (λ e. absurd cc)) in
+    read_on c.loop-number.invariant.up_to c.more_begins.new.lines (g.R.Source.seen c.more_begins.new.source)
+    (told_by g.W.Sink.seen c.more_begins.new.output) more.kept (more.well (λ e. absurd cc)) (more.written (λ e. absurd cc)) in
     more_lines up_to (omega arith) (more.more (search rules))
 
-pub returns-clause-ended : goal.returns-clause-ended
-returns-clause-ended g c =
+pub returns : goal.returns
+returns g c =
     let more = c.in_ok-more_begins.ensures in
     let up_to =
-    read_on c.loop-number.invariant.up_to c.more_begins.new.lines c.more_begins.new.source
-    c.more_begins.new.output more.kept (more.well (λ e. absurd cc)) (more.written (λ e. absurd cc)) in
+    read_on c.loop-number.invariant.up_to c.more_begins.new.lines (g.R.Source.seen c.more_begins.new.source)
+    (told_by g.W.Sink.seen c.more_begins.new.output) more.kept (more.well (λ e. absurd cc)) (more.written (λ e. absurd cc)) in
     all_answered up_to 10000000 c.accepted-2.result (omega arith) c.accepted-2.ensures
     (more.end (search rules))

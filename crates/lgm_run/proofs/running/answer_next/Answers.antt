@@ -2,7 +2,7 @@ use Rattle.std.proofs.Common.{◌∷◌, [], ◌+◌, length, take, min, ap, sub
 use Rattle.std.specs.Prelude.{map}
 use Rattle.std.proofs.lemmas.List.{length-map}
 use Rattle.std.proofs.lemmas.Result.{err_from_is_err_and}
-use Rattle.lgm_script.specs.Output.{Sends, SendsPart}
+use Rattle.lgm_script.specs.Output.{told_by, Tells, TellsPart}
 use Rattle.lgm_script.proofs.Telling.{tells_none}
 use Rattle.lgm_run.specs.inner.Steps.{state_from, text_from}
 use Rattle.lgm_run.proofs.Kindred.{asked_texts}
@@ -24,7 +24,7 @@ returns-clause-answered g c =
       count_is = omega (arith, c.len.ensures, c.in_ok-group.group.lines.ok.0, length-map items (λ line. line.now));
       state_is = c.in_ok-answer.ensures.state ∙ ap (state_from c.args.context.now.chain c.args.engine.now) asked;
       text =
-          subst (λ a. Sends g.W.Sink.taken g.W.Sink.failures c.args.output.now c.answer.new.output (text_from
+          subst (λ a. Tells (told_by g.W.Sink.seen c.args.output.now) (told_by g.W.Sink.seen c.answer.new.output) (text_from
           c.args.context.now.chain c.args.number c.args.engine.now a)) asked c.in_ok-answer.ensures.written;
     }
 
@@ -55,7 +55,7 @@ returns-in_err-answer-clause-fault g c =
       };
       limit = omega (arith, c.in_ok-group.ensures.few, length-map items (λ line. line.now));
       text =
-          subst (λ a. SendsPart g.W.Sink.taken g.W.Sink.failures c.args.output.now c.answer.new.output
+          subst (λ a. TellsPart (told_by g.W.Sink.seen c.args.output.now) (told_by g.W.Sink.seen c.answer.new.output)
           (text_from c.args.context.now.chain c.args.number c.args.engine.now a) c.in_err-answer.field-0.0)
           (asked_texts items) c.in_err-answer.ensures.written;
     })

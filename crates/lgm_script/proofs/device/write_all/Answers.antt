@@ -4,7 +4,7 @@ use Rattle.lgm_script.proofs.WriteLaws.{sent_first, sent_range, sent_some, sent_
 use Rattle.lgm_script.proofs.device.write_all.Goals as goal
 
 pub loop-rest-init : goal.loop-rest-init
-loop-rest-init g c = record { same = search rules; sent = sent_first (g.W.Sink.taken c.args.sink.now) c.args.bytes.now }
+loop-rest-init g c = record { same = search rules; sent = sent_first (g.W.Sink.seen c.args.sink.now).taken c.args.bytes.now }
 
 pub loop-rest-smaller : goal.loop-rest-smaller
 loop-rest-smaller g c = range_shrinks c.loop-rest.rest.now c.in_ok-written.written c.in_ok-written.ensures.bound c.if-written-eq0.false
@@ -16,8 +16,7 @@ loop-rest-preserved g c =
     record {
       same = omega (arith, c.in_ok-written.ensures.failures, no_failure n rest c.if-written-eq0.false, c.loop-rest.invariant.same);
       sent =
-          sent_range (g.W.Sink.taken c.args.sink.now) (g.W.Sink.taken c.loop-rest.sink) (g.W.Sink.taken
-          c.write.new.self) c.args.bytes.now rest n c.loop-rest.invariant.sent c.in_ok-written.ensures.bytes;
+          sent_range (g.W.Sink.seen c.args.sink.now).taken (g.W.Sink.seen c.loop-rest.sink).taken (g.W.Sink.seen c.write.new.self).taken c.args.bytes.now rest n c.loop-rest.invariant.sent c.in_ok-written.ensures.bytes;
     }
 
 pub returns-in_err-written : goal.returns-in_err-written
@@ -26,8 +25,8 @@ returns-in_err-written g c =
     rw p.1 (record {
       ok = tt;
       err =
-          sent_some (g.W.Sink.taken c.args.sink.now) (g.W.Sink.taken c.loop-rest.sink)
-          (g.W.Sink.taken c.write.new.self) c.args.bytes.now c.loop-rest.rest.now c.loop-rest.invariant.sent
+          sent_some (g.W.Sink.seen c.args.sink.now).taken (g.W.Sink.seen c.loop-rest.sink).taken
+          (g.W.Sink.seen c.write.new.self).taken c.args.bytes.now c.loop-rest.rest.now c.loop-rest.invariant.sent
           c.in_err-written.ensures.bytes;
       cause = omega (arith, c.in_err-written.ensures.failures, c.loop-rest.invariant.same);
       same = tt;
@@ -36,7 +35,7 @@ returns-in_err-written g c =
 pub returns : goal.returns
 returns g c = record {
   ok =
-      sent_all (g.W.Sink.taken c.args.sink.now) (g.W.Sink.taken c.loop-rest.sink) c.args.bytes.now
+      sent_all (g.W.Sink.seen c.args.sink.now).taken (g.W.Sink.seen c.loop-rest.sink).taken c.args.bytes.now
       c.loop-rest.rest.now c.loop-rest.invariant.sent (search rules);
   err = tt;
   cause = tt;

@@ -4,8 +4,8 @@ use Rattle.lgm_script.proofs.device.write_all.Given as goal
 
 abbrev pub invariant-loop-rest : goal.invariant-loop-rest
 invariant-loop-rest g l = record {
-  same : g.W.Sink.failures l.sink ≡ g.W.Sink.failures l.fn.sink;
-  sent : Sent (g.W.Sink.taken l.fn.sink) (g.W.Sink.taken l.sink) l.bytes l.rest;
+  same : (g.W.Sink.seen l.sink).failures ≡ (g.W.Sink.seen l.fn.sink).failures;
+  sent : Sent (g.W.Sink.seen l.fn.sink).taken (g.W.Sink.seen l.sink).taken l.bytes l.rest;
 }
 
 abbrev pub decreases-loop-rest : goal.decreases-loop-rest

@@ -16,16 +16,16 @@ failed_is a b e = cc
 
 pub returns-then-count-gt-MAX_LINE-clause-too_long : goal.returns-then-count-gt-MAX_LINE-clause-too_long
 returns-then-count-gt-MAX_LINE-clause-too_long g c = λ e.
-    let left = g.R.Source.left c.loop-count.source in
+    let left = (g.R.Source.seen c.loop-count.source).left in
     first_is_longer 140000 c.in-Some.count c.loop-count.lines left (rw c.buffered.ensures at c.in-Some.ensures.line left) c.if-count-gt-MAX_LINE.true
 
 pub returns-else-count-gt-MAX_LINE-clause-line : goal.returns-else-count-gt-MAX_LINE-clause-line
-returns-else-count-gt-MAX_LINE-clause-line g c = rw c.buffered.ensures at c.in-Some.ensures.line (g.R.Source.left c.loop-count.source)
+returns-else-count-gt-MAX_LINE-clause-line g c = rw c.buffered.ensures at c.in-Some.ensures.line (g.R.Source.seen c.loop-count.source).left
 
 pub returns-then-searched-gt-MAX_LINE-clause-too_long : goal.returns-then-searched-gt-MAX_LINE-clause-too_long
 returns-then-searched-gt-MAX_LINE-clause-too_long g c = λ e.
     let long : 140000 < length c.loop-count.lines = omega (arith, c.if-searched-gt-MAX_LINE.true, ap length c.buffered-searched.ensures) in
-    has_longer 140000 c.loop-count.lines (g.R.Source.left c.loop-count.source) (rw c.buffered.ensures at c.in_default.ensures.none) long
+    has_longer 140000 c.loop-count.lines (g.R.Source.seen c.loop-count.source).left (rw c.buffered.ensures at c.in_default.ensures.none) long
 
 pub returns-in_err-read_on-clause-written : goal.returns-in_err-read_on-clause-written
 returns-in_err-read_on-clause-written g c = λ other.
@@ -54,7 +54,6 @@ loop-count-preserved g c =
     let size : length c.buffered-searched.result.now ≡ length lines = ap length c.buffered-searched.ensures in
     let more = c.in_ok-read_on.ensures.more in
     record {
-      writer = c.in_ok-read_on.ensures.writer ∙ c.loop-count.invariant.writer;
       kept = c.in_ok-read_on.ensures.kept ∙ c.loop-count.invariant.kept;
       within = let grown = c.in_ok-read_on.ensures.more (ap (λ (b : Bool). Ok b) c.if-not-branch.false) in omega (arith, size);
       one =

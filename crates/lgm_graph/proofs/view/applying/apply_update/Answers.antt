@@ -93,7 +93,7 @@ returns c = record {
       (c.number_of-from.ensures.number ∙ ap (number_of c.args.nodes.now.points.keys) c.node-from.ensures)
       (c.number_of-to.ensures.number ∙ ap (number_of c.args.nodes.now.points.keys) c.node-to.ensures)
       (c.edge_on-edge.ensures ∙ ap (λ row. option_map (λ e. numbered_as e c.number_of-from.result c.number_of-to.result)
-      (edge_on c.in-Some.channel row)) c.row.ensures.row)
+      (edge_on c.in-Some.channel row)) c.row.ensures)
       c.put_edge.ensures.points c.put_edge.ensures.takes c.put_edge.ensures.into c.put_edge.ensures.out;
   few =
       let points =

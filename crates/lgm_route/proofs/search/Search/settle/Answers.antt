@@ -1,12 +1,12 @@
 use Rattle.std.proofs.Common.{◌+◌, ◌*◌, ◌∙◌, ap, arith}
-use Rattle.lgm_route.specs.inner.Searching.{number_at}
+use Rattle.lgm_route.specs.inner.Searching.{cost, number_at}
 use Rattle.lgm_route.proofs.Searches.{extends-trans, settled_vain, settled_by}
 use Rattle.lgm_route.proofs.search.Search.settle.Goals as goal
 
 pub mark-requires-clause-settled : goal.mark-requires-clause-settled
 mark-requires-clause-settled c =
     let s = c.args.self.now in
-    let least = c.hope.ensures ∙ ap (λ l. (l.owed + number_at s.ground.low l.node) * 32 + l.count) c.label-label.ensures.label in
+    let least = c.hope.ensures ∙ ap (λ l. cost (l.owed + number_at s.ground.low l.node) l.count) c.label-label.ensures.label in
     settled_vain s c.args.i c.label-label.ensures.search c.requires (omega (arith, least, c.bound.ensures.exact, c.if-bound-hope.true))
 
 pub mark-requires-2-clause-settled : goal.mark-requires-2-clause-settled

@@ -33,8 +33,8 @@ behind g c rest =
 
 pub returns-clause-kept : goal.returns-clause-kept
 returns-clause-kept g c =
-    ap (λ (s : List ℕ). ahead s (g.R.Source.left c.read.new.self)) (behind g c _)
-    ∙ ahead_behind (g.R.Source.left c.args.source.now) (g.R.Source.left c.read.new.self) c.args.self.now
+    ap (λ (s : List ℕ). ahead s (g.R.Source.seen c.read.new.self).left) (behind g c _)
+    ∙ ahead_behind (g.R.Source.seen c.args.source.now).left (g.R.Source.seen c.read.new.self).left c.args.self.now
     c.read.new.buffer c.in_ok-count.count c.in_ok-count.ensures.bytes.0 c.in_ok-count.ensures.bytes.1
 
 pub returns-clause-front : goal.returns-clause-front

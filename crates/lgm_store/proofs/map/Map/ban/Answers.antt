@@ -14,6 +14,7 @@ use Rattle.lgm_store.proofs.map.Map.ban.Goals.{After-drop-scids-2}
 pub invariant_of-self-2 : goal.invariant_of-self-2
 invariant_of-self-2 c = record {
   rows = c.self.invariant.rows;
+  spelled = c.self.invariant.spelled;
   banned_ascend = rw (c.replace-banned.ensures.after) c.new.ensures.ascend;
   allowed = rw (c.replace-banned.ensures.after, c.new.ensures.none) (allowed-none _);
 }
@@ -49,6 +50,7 @@ invariant_of-self-3 c =
     c.args.self.now c.self.view_is c.self.invariant in
     record {
       rows = c.self-2.invariant.rows;
+      spelled = c.self-2.invariant.spelled;
       banned_ascend =
           rw (c.replace-banned.ensures.value, c.in_ok-ban.ensures.ok)
           (ascend-with_banned c.self.inside.banned c.args.ban.now c.self.invariant.banned_ascend);

@@ -11,6 +11,7 @@ use Rattle.lgm_store.proofs.ListLaws.{All-filtered}
 use Rattle.lgm_store.proofs.Holding.{ascend-held, remove-none}
 use Rattle.lgm_store.proofs.Soundness.{IsClosed, closed, IsSound-unchanged}
 use Rattle.lgm_store.proofs.Changes.{is_held, without_channel-held, without_channel-none}
+use Rattle.lgm_store.proofs.Spelling.{AllSpelled-left}
 use Rattle.lgm_store.proofs.map.Map.close.Goals as goal
 use Rattle.lgm_store.proofs.map.Map.close.Goals.{Joined-held-2}
 
@@ -26,6 +27,9 @@ invariant_of-self c =
           IsSound-unchanged c.self.inside.channels c.remove.new.self c.self.inside.nodes.entries
           c.self.inside.ends (unchanged c.self.inside.channels c.remove.new.self c.args.scid
           c.in_default.ensures.left c.in_default.ensures.value) c.self.invariant.rows;
+      spelled =
+          rw (unchanged c.self.inside.channels c.remove.new.self c.args.scid c.in_default.ensures.left
+          c.in_default.ensures.value) c.self.invariant.spelled;
       banned_ascend = c.self.invariant.banned_ascend;
       allowed =
           rw (unchanged c.self.inside.channels c.remove.new.self c.args.scid c.in_default.ensures.left
@@ -58,6 +62,7 @@ pub invariant_of-self-2 : goal.invariant_of-self-2
 invariant_of-self-2 c =
     record {
       rows = (left c).sound;
+      spelled = AllSpelled-left _ _ _ _ _ _ _ _ _ (left c).channels_left (left c).updates_left (left c).nodes_left c.self.invariant.spelled;
       banned_ascend = c.self.invariant.banned_ascend;
       allowed =
           rw (left c).channels_left (All-filtered (λ row. ends_banned c.self.inside.banned row ≡ false) (λ row.

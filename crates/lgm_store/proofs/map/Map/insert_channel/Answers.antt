@@ -1,4 +1,6 @@
-use Rattle.std.proofs.Common.{◌≡◌, ℕ, List, false, sym, ◌∙◌, ap}
+use Rattle.std.proofs.Common.{◌≡◌, ℕ, List, false, sym, ◌∙◌, ap, subst}
+use Rattle.lgm_gossip.specs.Message.{Wire}
+use Rattle.lgm_gossip.specs.declared.message.Message.TheVariants as wired
 use Rattle.std.specs.Map.{values_of}
 use Rattle.std.specs.Option.{option_map}
 use Rattle.std.specs.BTreeMap.{is_at, insert_entry}
@@ -7,13 +9,14 @@ use Rattle.lgm_check.specs.declared.row.ChannelRow.{ChannelRow}
 use Rattle.lgm_store.specs.declared.held.Held.{Held}
 use Rattle.lgm_store.specs.inner.HeldEntries.{alone, channel_entries, update_entries}
 use Rattle.lgm_store.specs.inner.Slots.{id_in}
-use Rattle.lgm_store.specs.inner.Sound.{id_of}
+use Rattle.lgm_store.specs.Keys.{id_of}
 use Rattle.lgm_store.specs.Rows.{put, by_id, ends_banned}
 use Rattle.lgm_store.proofs.ListLaws.{All-put}
 use Rattle.lgm_store.proofs.Lists.{values-channel}
 use Rattle.lgm_store.proofs.Holding.{lookup-channels, insert-channels, insert-updates}
 use Rattle.lgm_store.proofs.Soundness.{IsSound-held, IsSound-undone, IsSound-listed, lacks}
 use Rattle.lgm_store.proofs.Changes.{not_held, with_channel-new}
+use Rattle.lgm_store.proofs.Spelling.{AllSpelled-channel}
 use Rattle.lgm_store.proofs.map.Map.insert_channel.Goals as goal
 
 pub invariant_of-self : goal.invariant_of-self
@@ -31,6 +34,7 @@ invariant_of-self c =
           c.self.inside.nodes.entries c.self.inside.ends c.add.new.self
           (c.in_err-add.ensures.err _ c.self.invariant.rows.listed (lacks c.scid-scid.result (channel_entries
           c.self.inside.channels) c.self.invariant.rows.channels_keyed none_held)) c.self.invariant.rows;
+      spelled = c.self.invariant.spelled;
       banned_ascend = c.self.invariant.banned_ascend;
       allowed = c.self.invariant.allowed;
     }
@@ -68,6 +72,13 @@ invariant_of-self-in-Ok c =
           c.new-held.ensures) (c.node.ensures ∙ ap (λ h. h.channel.message.node_id_1) c.new-held.ensures)
           (c.node-2.ensures ∙ ap (λ h. h.channel.message.node_id_2) c.new-held.ensures)
           is lookup_none c.in-Ok.ensures.ascend c.in_ok-add.ensures.ok c.self.invariant.rows;
+      spelled =
+          AllSpelled-channel (values_of (channel_entries c.self.inside.channels)) (values_of (channel_entries c.insert.new.self))
+          (values_of (update_entries c.self.inside.channels)) (values_of (update_entries c.insert.new.self))
+          (values_of c.self.inside.nodes.entries) c.args.row
+          (subst (λ (row : ChannelRow). Wire (wired.Announce row.message) row.raw) c.get.ensures c.bytes_encode_row.ensures) put_is
+          (ap (λ es. values_of (update_entries es)) is
+          ∙ ap values_of (insert-updates c.scid-scid.result c.args.row c.self.inside.channels lookup_none)) c.self.invariant.spelled;
       banned_ascend = c.self.invariant.banned_ascend;
       allowed =
           rw (put_is) (All-put (λ row. ends_banned c.self.inside.banned row ≡ false) by_id
@@ -108,6 +119,7 @@ invariant_of-self-in-Err c =
           IsSound-undone c.self.inside.channels c.insert.new.self c.self.inside.nodes.entries c.self.inside.ends c.add.new.self c.remove.new.self
           c.scid-scid.result c.node.result.now c.node-2.result.now c.in-Err.ensures.err lookup_none
           c.in_ok-add.ensures.ok c.remove.ensures c.self.invariant.rows;
+      spelled = rw (c.in-Err.ensures.err) c.self.invariant.spelled;
       banned_ascend = c.self.invariant.banned_ascend;
       allowed = rw (c.in-Err.ensures.err) c.self.invariant.allowed;
     }

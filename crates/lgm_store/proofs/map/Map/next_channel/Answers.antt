@@ -7,10 +7,9 @@ use Rattle.std.specs.declared.ops.Bound.TheVariants.{Unbounded}
 use Rattle.std.specs.BTreeMap.Range.{range_contains, entries_between}
 use Rattle.lgm_check.specs.declared.row.ChannelRow.{ChannelRow}
 use Rattle.lgm_store.specs.declared.held.Held.{Held}
-use Rattle.lgm_store.specs.inner.Keyed.{IsKeyed}
+use Rattle.lgm_store.specs.Keys.{IsKeyed, id_of}
 use Rattle.lgm_store.specs.inner.HeldEntries.{channel_entries}
 use Rattle.lgm_store.specs.Reading.{next_channel_of}
-use Rattle.lgm_store.specs.inner.Sound.{id_of}
 use Rattle.lgm_store.specs.inner.Start.{start_after}
 use Rattle.lgm_store.proofs.Holding.{first-filtered}
 use Rattle.lgm_store.proofs.Walking.{first_value, next_channel-between}

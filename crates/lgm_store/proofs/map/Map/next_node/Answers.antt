@@ -2,7 +2,7 @@ use Rattle.std.proofs.Common.{Option, Some, sym, ap, ◌∙◌}
 use Rattle.std.specs.Option.{option_copied}
 use Rattle.std.specs.declared.ops.Bound.TheVariants.{Unbounded}
 use Rattle.std.specs.BTreeMap.Range.{entries_between}
-use Rattle.lgm_store.specs.inner.Ends.{point_cmp}
+use Rattle.lgm_store.specs.Keys.{point_cmp}
 use Rattle.lgm_check.specs.declared.row.NodeRow.{NodeRow}
 use Rattle.lgm_store.specs.Reading.{next_node_of}
 use Rattle.lgm_store.specs.inner.Start.{start_after}
@@ -25,7 +25,7 @@ pub returns : goal.returns
 returns c =
     let start = c.start_after.ensures ∙ ap start_after c.copied.ensures in
     let between = c.range.ensures.between tt ∙ ap (λ start. entries_between point_cmp start Unbounded c.self.inside.nodes.entries) start in
-    ap some_row (c.row.ensures.row ∙ c.get.ensures) ∙ ap first_value (sym c.in_ok-row.ensures.steps ∙ between)
+    ap some_row (c.row.ensures ∙ c.get.ensures) ∙ ap first_value (sym c.in_ok-row.ensures.steps ∙ between)
     ∙ sym (next_node-between c.self.inside.nodes.entries (option_copied c.args.after)
     c.self.invariant.rows.nodes_keyed)
     ∙ ap (λ rows. next_node_of rows.nodes (option_copied c.args.after)) c.self.view_is

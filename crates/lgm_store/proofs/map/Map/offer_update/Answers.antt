@@ -1,4 +1,7 @@
-use Rattle.std.proofs.Common.{◌≡◌, ℕ, List, ap, ◌∙◌}
+use Rattle.std.proofs.Common.{◌≡◌, ℕ, List, ap, subst, ◌∙◌}
+use Rattle.lgm_gossip.specs.Message.{Wire}
+use Rattle.lgm_gossip.specs.declared.message.Message.TheVariants as wired
+use Rattle.lgm_check.specs.declared.row.UpdateRow.{UpdateRow}
 use Rattle.std.specs.Option.{option_map, option_and_then}
 use Rattle.std.specs.Map.{lookup}
 use Rattle.std.specs.BTreeMap.{is_at}
@@ -30,7 +33,8 @@ update_is c =
 pub invariant_of-self : goal.invariant_of-self
 invariant_of-self c = elim c.match-offer_update.branch [
   | in-Ok w ↦ rw w.in-Ok.ensures.accepted (put-kept c.self.inside.channels c.self.inside.nodes.entries
-      c.self.inside.ends c.self.inside.banned c.args.row c.self.invariant)
+      c.self.inside.ends c.self.inside.banned c.args.row c.self.invariant
+      (subst (λ (row : UpdateRow). Wire (wired.ChannelUpdate row.message) row.raw) c.get.ensures c.bytes_encode_row.ensures))
   | in-Err w ↦ rw w.in-Err.ensures.refused c.self.invariant
 ]
 

@@ -4,8 +4,8 @@ use Rattle.std.specs.Map.{values_of}
 use Rattle.std.specs.BTreeMap.{is_at}
 use Rattle.lgm_wire.specs.declared.point.Point.{Point}
 use Rattle.lgm_check.specs.declared.row.NodeRow.{NodeRow}
-use Rattle.lgm_store.specs.inner.Ends.{point_cmp, entry_of, stays_beside}
-use Rattle.lgm_store.specs.inner.Sound.{point_of}
+use Rattle.lgm_store.specs.inner.Ends.{entry_of, stays_beside}
+use Rattle.lgm_store.specs.Keys.{point_cmp, point_of}
 use Rattle.lgm_store.proofs.ListLaws.{filter-same}
 use Rattle.lgm_store.proofs.Ordered.{IsKeyed-remove}
 use Rattle.lgm_store.proofs.Lists.{values-no_node}

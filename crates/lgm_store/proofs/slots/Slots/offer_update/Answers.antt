@@ -6,7 +6,7 @@ use Rattle.std.specs.Ordering.{nat_cmp}
 use Rattle.slab.specs.Slab.{with_value}
 use Rattle.lgm_store.specs.declared.held.Held.{Held}
 use Rattle.lgm_store.specs.inner.Slots.{entries_in}
-use Rattle.lgm_store.specs.inner.Sound.{id_of}
+use Rattle.lgm_store.specs.Keys.{id_of}
 use Rattle.lgm_store.proofs.HeldRows.{set_value-same}
 use Rattle.lgm_store.proofs.Slotted.{found-held, found-none, has-slot, numbered-put, entries-put, put-is}
 use Rattle.lgm_store.proofs.slots.Slots.offer_update.Goals as goal

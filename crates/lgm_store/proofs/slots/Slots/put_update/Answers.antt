@@ -6,7 +6,7 @@ use Rattle.lgm_store.specs.declared.held.Held.{Held}
 use Rattle.lgm_store.specs.inner.HeldEntries.{with_update_in}
 use Rattle.lgm_store.specs.Rows.{is_second}
 use Rattle.lgm_store.specs.inner.Slots.{id_in}
-use Rattle.lgm_store.specs.inner.Sound.{id_of}
+use Rattle.lgm_store.specs.Keys.{id_of}
 use Rattle.lgm_store.proofs.Holding.{channel-with}
 use Rattle.lgm_store.proofs.Slotted.{found-held, found-none, has-slot, numbered-put, entries-put, put-is}
 use Rattle.lgm_store.proofs.slots.Slots.put_update.Goals as goal

@@ -1,0 +1,86 @@
+//! Networks that are published.
+
+ghost use Rattle.std.specs.Prelude.{◌≡◌, IfOk, IfSome};
+ghost use Rattle.lgm_gossip.specs.Memory.{GivesIf};
+ghost use Rattle.lgm_c.specs.inner.Charts.{chart_of};
+ghost use Rattle.lgm_c.specs.Routing.{route_for, IsSearched};
+
+use crate::fault::Fault;
+use crate::searching::{MOST_CHANNELS, is_searched, search};
+use lgm_graph::Network;
+use lgm_route::{Request, Route};
+use lgm_store::Map;
+use std::alloc::{AllocError, Global};
+use std::marker::Model;
+use std::sync::Arc;
+
+/// A network with several owners, none of which changes it. It has its view, unless it has more than 2,000,000,000
+/// channels. Contracts see the known feature bits and the rows.
+#[derive(Drop)]
+pub struct Edition {
+    network: Arc<Network>,
+}
+
+impl Model for Edition {
+    ghost use Rattle.std.specs.Arc.{arc_value};
+    ghost use Rattle.lgm_c.specs.inner.Charts.{Chart, chart_of, IsReady};
+
+    ghost Value = { Chart };
+
+    ghost view = { λ e. chart_of (arc_value e.network) };
+
+    ghost invariant = { λ e. IsReady (arc_value e.network) };
+}
+
+impl Edition {
+    /// A network, with one owner so far. Its view is built, unless it has one. The only error is out of memory.
+    pub(crate) fn of(alloc: Global, mut network: Network) -> Result<Edition, AllocError>
+        ensures { IfOk result (λ edition. edition ≡ chart_of network) }
+    {
+        if network.map().count() <= MOST_CHANNELS {
+            network.make_view(alloc)?;
+        }
+        Ok(Edition {
+            network: Arc::new(alloc, network)?,
+        })
+    }
+
+    /// A copy of a network, which shares its messages. The only error is out of memory.
+    pub(crate) fn copy(alloc: Global, network: &Network) -> Result<Edition, AllocError>
+        ensures { IfOk result (λ edition. edition ≡ chart_of network.now) }
+    {
+        Edition::of(alloc, network.copy(alloc)?)
+    }
+
+    /// One more owner. The only error is that the count of owners is full.
+    pub(crate) fn share(&self) -> Result<Edition, AllocError>
+        ensures { IfOk result (λ edition. edition ≡ self.now) }
+    {
+        Ok(Edition {
+            network: Arc::try_clone(&self.network)?,
+        })
+    }
+
+    /// The network, if this was its last owner. Otherwise the others go on with it.
+    pub(crate) fn into_network(self) -> Option<Network>
+        ensures { IfSome result (λ network. chart_of network ≡ self) }
+    {
+        Arc::into_inner(self.network)
+    }
+
+    /// The map.
+    pub(crate) fn map(&self) -> &Map
+        ensures { result.now ≡ self.now.rows }
+    {
+        self.network.map()
+    }
+
+    /// The best route of a payment.
+    pub(crate) fn route(&self, alloc: Global, request: &Request) -> Result<Route, Fault>
+        ensures { GivesIf (IsSearched (route_for request.now self.now.known self.now.rows)) Fault.NoMemory
+            (λ route. route) result (route_for request.now self.now.known self.now.rows) }
+    {
+        is_searched(self.map(), request)?;
+        search(alloc, &self.network, request)
+    }
+}

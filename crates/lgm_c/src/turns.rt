@@ -1,0 +1,154 @@
+//! Networks that take turns to be published.
+
+ghost use Rattle.std.specs.Prelude.{◌≡◌, [], ◌∷◌, IfOk, IfSome};
+ghost use Rattle.lgm_c.specs.inner.Charts.{chart_of, chart_behind, IsAt};
+
+use crate::edition::Edition;
+use lgm_graph::{Network, Replica};
+use lgm_store::Op;
+use std::alloc::{AllocError, Global};
+use std::collections::VecDeque;
+use std::marker::Model;
+
+/// A published network, and the operations that were applied to the current map since. Contracts see what it has once
+/// they are applied to it.
+#[derive(Drop)]
+pub struct Behind {
+    edition: Edition,
+    due: VecDeque<Op>,
+}
+
+impl Model for Behind {
+    ghost use Rattle.lgm_c.specs.inner.Charts.{Chart, chart_behind};
+
+    ghost Value = { Chart };
+
+    ghost view = { λ b. chart_behind b.edition b.due.items };
+}
+
+impl Behind {
+    /// A network to which no operation is due.
+    fn at(alloc: Global, edition: Edition) -> Behind
+        ensures { result ≡ edition }
+    {
+        Behind {
+            edition,
+            due: VecDeque::new(alloc),
+        }
+    }
+
+    /// With one more operation that is due. The only error is out of memory.
+    fn noted(self, alloc: Global, op: &Op) -> Result<Behind, AllocError>
+        ensures { IfOk result (λ behind. behind ≡ chart_behind self (op.now ∷ [])) }
+    {
+        let Behind { edition, mut due } = self;
+        due.push_back(op.copy(alloc)?)?;
+        Ok(Behind { edition, due })
+    }
+
+    /// The network after what is due, if nobody else owns it, and memory lasts.
+    fn caught_up(self, alloc: Global) -> Option<Edition>
+        ensures { IfSome result (λ edition. edition ≡ self) }
+    {
+        let Behind { edition, due } = self;
+        let network = edition.into_network()?;
+        let mut replica = Replica { network, due };
+        replica.catch_up().ok()?;
+        let Replica { network, due: _ } = replica;
+        Edition::of(alloc, network).ok()
+    }
+}
+
+/// The next network to be published: the one behind, if it can catch up, or else a copy of the current one. The only
+/// error is out of memory.
+fn next_edition(
+    alloc: Global,
+    older: Option<Behind>,
+    network: &Network,
+) -> Result<Edition, AllocError>
+    requires { IsAt older (chart_of network.now) }
+    ensures { IfOk result (λ edition. edition ≡ chart_of network.now) }
+{
+    if let Some(behind) = older {
+        if let Some(edition) = behind.caught_up(alloc) {
+            return Ok(edition);
+        }
+    }
+    Edition::copy(alloc, network)
+}
+
+/// The network that was published last, and the one before, if there is one: each is behind the current one by the
+/// operations that are due to it. Contracts see what both have once these are applied.
+#[derive(Drop)]
+pub struct Turns {
+    latest: Behind,
+    older: Option<Behind>,
+}
+
+impl Model for Turns {
+    ghost use Rattle.lgm_c.specs.inner.Charts.{Chart, IsAt};
+
+    ghost Value = { Chart };
+
+    ghost view = { λ t. t.latest };
+
+    ghost invariant = { λ t. IsAt t.older t.latest };
+}
+
+impl Turns {
+    /// The first network that is published, with an owner more. The only error is out of memory.
+    pub(crate) fn begin(alloc: Global, network: &Network) -> Result<(Turns, Edition), AllocError>
+        ensures { IfOk result (λ both.
+            (both.0 ≡ chart_of network.now) × (both.1 ≡ chart_of network.now)) }
+    {
+        let latest = Edition::copy(alloc, network)?;
+        let edition = latest.share()?;
+        let turns = Turns {
+            latest: Behind::at(alloc, latest),
+            older: None,
+        };
+        Ok((turns, edition))
+    }
+
+    /// The next network that is published, with an owner more: the last one, if nothing is due to it. The only error is
+    /// out of memory.
+    pub(crate) fn next(
+        self,
+        alloc: Global,
+        network: &Network,
+    ) -> Result<(Turns, Edition), AllocError>
+        requires { self ≡ chart_of network.now }
+        ensures { IfOk result (λ both.
+            (both.0 ≡ chart_of network.now) × (both.1 ≡ chart_of network.now)) }
+    {
+        let Turns { latest, older } = self;
+        if latest.due.is_empty() {
+            let edition = latest.edition.share()?;
+            return Ok((Turns { latest, older }, edition));
+        }
+        let next = next_edition(alloc, older, network)?;
+        let edition = next.share()?;
+        let turns = Turns {
+            latest: Behind::at(alloc, next),
+            older: Some(latest),
+        };
+        Ok((turns, edition))
+    }
+
+    /// With one more operation that is due to both; none if memory is short, or if more are due than the current map
+    /// has channels: then a copy of that one is made faster.
+    pub(crate) fn noted(self, alloc: Global, op: &Op, channels: usize) -> Option<Turns>
+        ensures { IfSome result (λ turns. turns ≡ chart_behind self (op.now ∷ [])) }
+    {
+        let Turns { latest, older } = self;
+        if channels < latest.due.len() {
+            return None;
+        }
+        let latest = latest.noted(alloc, op).ok()?;
+        let older = match older {
+            Some(older) => Some(older.noted(alloc, op).ok()?),
+            None => None,
+        };
+        Some(Turns { latest, older })
+    }
+}

@@ -1,0 +1,113 @@
+//! A network that follows another one.
+
+ghost use Rattle.std.specs.Prelude.{◌≡◌, ◌≢◌, ◌⊎◌, ◌≤◌, [], drop, length, IsSome, OnOk, OnErr};
+ghost use Rattle.lgm_store.specs.History.{fold_from};
+
+use crate::network::Network;
+use lgm_store::Op;
+use std::alloc::{AllocError, Global};
+use std::collections::VecDeque;
+
+/// A network, and the operations that it has yet to apply, in order.
+#[derive(Drop)]
+pub struct Replica {
+    /// The network, without the operations that are due.
+    pub network: Network,
+    /// The operations that are due, the first one first.
+    pub due: VecDeque<Op>,
+}
+
+/// Removes the first operation.
+fn forget_first(due: &mut VecDeque<Op>)
+    ensures { due.new.items ≡ drop 1 due.old.items }
+{
+    due.pop_front();
+}
+
+impl Replica {
+    /// A network to which no operation is due.
+    pub fn new(alloc: Global, network: Network) -> Replica
+        ensures network { result.network ≡ network }
+        ensures due { result.due.items ≡ [] }
+    {
+        Replica {
+            network,
+            due: VecDeque::new(alloc),
+        }
+    }
+
+    /// Applies the operations that are due. Each is due until it is applied. The only error is out of memory.
+    pub fn catch_up(&mut self) -> Result<(), AllocError>
+        ensures rows { fold_from self.new.network.rows self.new.due.items
+            ≡ fold_from self.old.network.rows self.old.due.items }
+        ensures known { self.new.network.known ≡ self.old.network.known }
+        ensures done { OnOk result (self.new.due.items ≡ []) }
+        ensures some { OnErr result (self.new.due.items ≢ []) }
+    {
+        while let Some(op) = self.due.front() {
+            self.network.absorb(op)?;
+            forget_first(&mut self.due);
+        }
+        Ok(())
+    }
+
+    /// Becomes a copy of the network that it follows, without a view. The only error is out of memory, which leaves it
+    /// unchanged.
+    fn renew(&mut self, alloc: Global, current: &Network) -> Result<(), AllocError>
+        ensures rows { OnOk result (self.new.network.rows ≡ current.now.rows) }
+        ensures known { OnOk result (self.new.network.known ≡ current.now.known) }
+        ensures done { OnOk result (self.new.due.items ≡ []) }
+        ensures stays { OnErr result (self.new ≡ self.old) }
+    {
+        let copy = current.copy(alloc)?;
+        *self = Replica::new(alloc, copy);
+        Ok(())
+    }
+
+    /// Applies all operations that are due, after which it has the rows of the network that it follows, and gives that
+    /// one its view. If more are due than that one has channels, it becomes a copy instead, and its view is dropped.
+    /// The only error is out of memory.
+    pub fn level(&mut self, alloc: Global, current: &mut Network) -> Result<(), AllocError>
+        requires rows { (self.old.due.items ≡ [])
+            ⊎ (fold_from self.old.network.rows self.old.due.items ≡ current.old.rows) }
+        requires known { self.old.network.known ≡ current.old.known }
+        ensures rows { fold_from self.new.network.rows self.new.due.items
+            ≡ fold_from self.old.network.rows self.old.due.items }
+        ensures known { self.new.network.known ≡ self.old.network.known }
+        ensures done { OnOk result (self.new.due.items ≡ []) }
+        ensures none { self.old.due.items ≡ [] → self.new.due.items ≡ [] }
+        ensures same { current.new.rows ≡ current.old.rows }
+        ensures same_known { current.new.known ≡ current.old.known }
+    {
+        if self.due.is_empty() {
+            return Ok(());
+        }
+        if current.map().count() < self.due.len() {
+            return self.renew(alloc, current);
+        }
+        self.catch_up()?;
+        self.network.give_view(current);
+        Ok(())
+    }
+
+    /// Ensures that the network that it follows has its view. If that one was left here, what is due is applied first.
+    /// The only error is out of memory.
+    pub fn make_view(&mut self, alloc: Global, current: &mut Network) -> Result<(), AllocError>
+        requires few { length current.old.rows.channels ≤ 2000000000 }
+        requires rows { (self.old.due.items ≡ [])
+            ⊎ (fold_from self.old.network.rows self.old.due.items ≡ current.old.rows) }
+        requires known { self.old.network.known ≡ current.old.known }
+        ensures made { OnOk result (IsSome current.new.graph) }
+        ensures rows { fold_from self.new.network.rows self.new.due.items
+            ≡ fold_from self.old.network.rows self.old.due.items }
+        ensures known { self.new.network.known ≡ self.old.network.known }
+        ensures none { self.old.due.items ≡ [] → self.new.due.items ≡ [] }
+        ensures same { current.new.rows ≡ current.old.rows }
+        ensures same_known { current.new.known ≡ current.old.known }
+    {
+        if self.network.view().is_some() {
+            self.level(alloc, current)?;
+        }
+        current.make_view(alloc)
+    }
+}

@@ -1,0 +1,148 @@
+"""Electrum's path finder over the library for C: the same calls and types, and the route that sends the least.
+
+    import path_finder
+    path_finder.install()       # before the wallet begins to synchronize gossip: its `Network` then uses both classes
+
+    database = path_finder.MappedChannelDB(network)       # or by hand, in place of channel_db.ChannelDB
+    finder = path_finder.PathFinder(database)             # and of lnrouter.LNPathFinder
+    route = finder.find_route(nodeA=payer, nodeB=payee, invoice_amount_msat=1_000_000)
+
+`MappedChannelDB` keeps a map beside the wallet's tables: each row that the wallet writes, reads at its start or deletes
+goes into the map too. So what the wallet has checked is what the map knows. `PathFinder` answers from the map, with the
+wallet's own channels and an invoice's route hints put in for the payment. What the wallet wouldn't use it doesn't use
+either: it asks the wallet's cost function (`_edge_cost`) about each hop, takes the directions out that cost infinitely
+much, such as those that failed before, and searches again. Such a direction is left out for the whole payment, though it
+might do for another amount.
+
+It is written for Electrum 4.3.4 (python3-electrum), and needs the library: see `lgm.py` in `examples/python`.
+"""
+
+from __future__ import annotations
+
+from math import inf
+
+from electrum import channel_db, constants, lnrouter
+from electrum.lnutil import NBLOCK_CLTV_EXPIRY_TOO_FAR_INTO_FUTURE, ShortChannelID
+from electrum.sql_db import sql
+
+from route_map import PrivateChannel, RouteMap
+
+NO_SECRET = bytes(32)  # where only the path is asked for
+PAYEES_BLOCKS = 1_008  # of the wallet's limit of blocks, what is left to the payee's own delay
+MOST_BLOCKS = NBLOCK_CLTV_EXPIRY_TOO_FAR_INTO_FUTURE - PAYEES_BLOCKS
+
+
+class MappedChannelDB(channel_db.ChannelDB):
+    """The wallet's database of channels, and `routes`, a map of them."""
+
+    def __init__(self, network):
+        self.routes = RouteMap(constants.net.rev_genesis_bytes())
+        super().__init__(network)
+
+    def load_data(self):
+        """Reads the tables, for the map first, so that it is complete when the wallet says that data is loaded."""
+        self._load_routes()
+        return super().load_data()
+
+    @sql
+    def _load_routes(self):
+        cursor = self.conn.cursor()
+        for _, message in cursor.execute("SELECT short_channel_id, msg FROM channel_info"):
+            self.routes.announce(message)
+        for key, message in cursor.execute("SELECT key, msg FROM policy"):
+            self.routes.update(message, key[8:])
+        for point, message in cursor.execute("SELECT node_id, msg FROM node_info"):
+            self.routes.node(message, point)
+
+    def _db_save_channel(self, short_channel_id, msg):
+        self.routes.announce(msg, self._channels[short_channel_id].capacity_sat)
+        return super()._db_save_channel(short_channel_id, msg)
+
+    def _db_save_policy(self, key, msg):
+        self.routes.update(msg, key[8:])
+        return super()._db_save_policy(key, msg)
+
+    def _db_save_node_info(self, node_id, msg):
+        self.routes.node(msg, node_id)
+        return super()._db_save_node_info(node_id, msg)
+
+    def _db_delete_policy(self, node_id, short_channel_id):
+        self.routes.drop(short_channel_id, node_id)
+        return super()._db_delete_policy(node_id, short_channel_id)
+
+    def _db_delete_channel(self, short_channel_id):
+        self.routes.close(short_channel_id)
+        return super()._db_delete_channel(short_channel_id)
+
+
+class PathFinder(lnrouter.LNPathFinder):
+    """The wallet's path finder, with paths from the map of a `MappedChannelDB`."""
+
+    def find_path_for_payment(self, *, nodeA, nodeB, invoice_amount_msat, my_sending_channels=None,
+                              private_route_edges=None):
+        """The path by which nodeA sends the least, or None. A circular one is the wallet's own."""
+        if nodeA == nodeB:
+            return super().find_path_for_payment(
+                nodeA=nodeA, nodeB=nodeB, invoice_amount_msat=invoice_amount_msat,
+                my_sending_channels=my_sending_channels, private_route_edges=private_route_edges)
+        route = self.find_payment(nodeA=nodeA, nodeB=nodeB, invoice_amount_msat=invoice_amount_msat, final_cltv=0,
+                                  payment_secret=NO_SECRET, my_sending_channels=my_sending_channels,
+                                  private_route_edges=private_route_edges)
+        return route and [lnrouter.PathEdge(start_node=hop.start, end_node=hop.end, short_channel_id=scid_of(hop))
+                          for hop in route.hops]
+
+    def find_payment(self, *, nodeA, nodeB, invoice_amount_msat, final_cltv, payment_secret,
+                     my_sending_channels=None, private_route_edges=None):
+        """The route as the library has it, with amounts, expiries and payloads of the hops; or None."""
+        own, hints = my_sending_channels or {}, private_route_edges or {}
+        with self.channel_db.routes.payment() as payment:
+            for channel in (*own_channels(nodeA, own), *hinted_channels(hints)):
+                payment.add(channel)
+            while True:
+                route = payment.route(nodeA, nodeB, invoice_amount_msat, final_cltv, payment_secret)
+                unwanted = self._unwanted(route, final_cltv, own, hints) if route else []
+                if not unwanted:
+                    return route
+                for hop in unwanted:
+                    payment.take_out(scid_of(hop), hop.start)
+
+    def _unwanted(self, route, final_cltv, own, hints):
+        """The hops of a route that the wallet wouldn't use; else, if it takes too long, the one that takes longest."""
+        found = [hop for hop in route.hops if self._is_unwanted(hop, route.hops[0].start, own, hints)]
+        if found or route.expiry - final_cltv <= MOST_BLOCKS:
+            return found
+        delays = [before.expiry - hop.expiry for before, hop in zip(route.hops, route.hops[1:])]
+        return [route.hops[1 + delays.index(max(delays))]]
+
+    def _is_unwanted(self, hop, payer, own, hints):
+        scid = scid_of(hop)
+        if scid in self.liquidity_hints.get_blacklist():
+            return True
+        is_mine = scid in own
+        if is_mine and hop.start == payer and not own[scid].can_pay(hop.amount_msat, check_frozen=True):
+            return True
+        cost, _ = self._edge_cost(
+            short_channel_id=scid, start_node=hop.start, end_node=hop.end, payment_amt_msat=hop.amount_msat,
+            is_mine=is_mine, my_channels=own, private_route_edges=hints)
+        return cost == inf
+
+
+def scid_of(hop):
+    """A hop's short_channel_id as the wallet has it."""
+    return ShortChannelID(hop.scid.to_bytes(8, "big"))
+
+
+def own_channels(payer, own):
+    """The payer's own channels, which charge nothing."""
+    return [PrivateChannel(scid, payer, channel.node_id) for scid, channel in own.items()]
+
+
+def hinted_channels(hints):
+    """The channels of an invoice's route hints."""
+    return [PrivateChannel(scid, edge.start_node, edge.end_node, edge.fee_base_msat, edge.fee_proportional_millionths,
+                           edge.cltv_expiry_delta) for scid, edge in hints.items()]
+
+
+def install():
+    """Lets the wallet's `Network` make a `MappedChannelDB` and a `PathFinder` where it makes its own."""
+    channel_db.ChannelDB, lnrouter.LNPathFinder = MappedChannelDB, PathFinder

@@ -1,0 +1,334 @@
+#!/usr/bin/env python3
+"""Tests path_finder.py against the wallet's own code, on made networks of 20, 200 and 2,000 nodes.
+
+    LGM_LIBRARY=examples/out/liblgm.so python3 examples/electrum/test_path_finder.py [--payments N] [--seed N]
+
+The map has what the wallet's database has, field by field. Of each payment: the wallet accepts the path that is found,
+builds the same payloads, and finds no path by itself over which the payer sends less. Then, by routes that are worked out here: the map follows the wallet's database, and takes
+its own channels, route hints and failures into account. It goes on in the system's Python where that has Electrum's
+package. Without the package it is left out, with status 77.
+"""
+
+from __future__ import annotations
+
+import argparse
+import sys
+import tempfile
+import time
+from pathlib import Path
+
+sys.dont_write_bytecode = True  # the repository gets no made files
+
+import interpreter
+
+if not interpreter.goes_on_with_electrum():
+    print(f"left out: examples/electrum, {interpreter.WHY_NOT}")
+    sys.exit(77)
+
+from electrum import channel_db, constants, lnmsg, lnrouter, lnworker, network
+
+import path_finder
+from comparing import compared
+from offline import Messages, Offline, made_network
+
+CHANNELS = (56, 562, 5_625)  # of 20, 200 and 2,000 nodes
+A, B, C, D, E = (b"\x02" + bytes([letter]) * 32 for letter in (10, 11, 12, 13, 14))
+MSAT = 1_000_000
+NOW = int(time.time()) - 1_000
+DAY = 86_400
+
+
+def scid(block):
+    """The id of a channel of this block."""
+    return (block << 40 | 1 << 16).to_bytes(8, "big")
+
+
+AB, BD, AC, CD, DE, AA = map(scid, range(1, 7))
+
+
+def announcement(own_scid, one, other):
+    """A channel's announcement."""
+    first, second = sorted((one, other))
+    return lnmsg.encode_msg(
+        "channel_announcement", len=0, features=b"", chain_hash=constants.net.rev_genesis_bytes(), node_id_1=first,
+        node_id_2=second, short_channel_id=own_scid, bitcoin_key_1=A, bitcoin_key_2=B)
+
+
+def update(own_scid, start, end, base=0, delta=40, timestamp=NOW, minimum=0):
+    """The update of the direction from start to end."""
+    return lnmsg.encode_msg(
+        "channel_update", chain_hash=constants.net.rev_genesis_bytes(), short_channel_id=own_scid, timestamp=timestamp,
+        message_flags=b"\1", channel_flags=bytes([start > end]), cltv_expiry_delta=delta, fee_base_msat=base,
+        htlc_minimum_msat=minimum, htlc_maximum_msat=10**9)
+
+
+def both(own_scid, start, end, base=0, delta=40):
+    """A channel and both updates; the one from end to start is never cheaper."""
+    return (announcement(own_scid, start, end), None), [
+        (update(own_scid, start, end, base, delta), start), (update(own_scid, end, start, base + 5_000, delta), end)]
+
+
+def square():
+    """From A to D over B, who charges 1,000 msat, or over C, who charges 2,000."""
+    parts = [both(AB, A, B), both(BD, B, D, 1_000), both(AC, A, C), both(CD, C, D, 2_000)]
+    return Messages([channel for channel, _ in parts], [one for _, updates in parts for one in updates], [])
+
+
+class OwnChannel:
+    """A channel of the payer's, as far as a path finder asks the wallet about it."""
+
+    class constraints:
+        """What the wallet has of the funding."""
+
+        capacity = 1_000_000
+
+    def __init__(self, own_scid, payer, peer, can_send):
+        self.short_channel_id, self._payer, self.node_id, self._can_send = own_scid, payer, peer, can_send
+
+    def can_pay(self, amount_msat, *, check_frozen):
+        """Whether so much can be sent."""
+        return check_frozen and amount_msat <= self._can_send
+
+    def get_local_pubkey(self):
+        """The payer."""
+        return self._payer
+
+    def construct_channel_announcement_without_sigs(self):
+        """The announcement that the channel would have."""
+        return announcement(self.short_channel_id, self._payer, self.node_id)
+
+    def get_outgoing_gossip_channel_update(self):
+        """The payer's terms."""
+        return update(self.short_channel_id, self._payer, self.node_id, 3_000)
+
+    def get_remote_update(self):
+        """The peer hasn't sent one."""
+        return None
+
+
+class Case:
+    """A path finder over the square, and what it finds."""
+
+    def __init__(self, offline, folder):
+        offline.config.path = str(folder)
+        folder.mkdir(exist_ok=True)
+        self.offline, self.database = offline, offline.database(path_finder.MappedChannelDB)
+        self.finder = path_finder.PathFinder(self.database)
+
+    def path(self, payer=A, payee=D, msat=MSAT, **more):
+        """The ids of the path, and what the payer sends."""
+        asked = {"nodeA": payer, "nodeB": payee, "invoice_amount_msat": msat, **more}
+        path = self.finder.find_path_for_payment(**asked)
+        if path is None:
+            return None
+        route = self.finder.find_payment(final_cltv=0, payment_secret=bytes(32), **asked)
+        assert all(isinstance(edge, lnrouter.PathEdge) for edge in path)
+        ends = [payer, *(edge.end_node for edge in path)]
+        assert ends[-1] == payee and ends[:-1] == [edge.start_node for edge in path]
+        assert [(edge.fee_base_msat, edge.node_id) for edge in self.finder.find_route(**asked)][-1][1] == payee
+        return [bytes(edge.short_channel_id) for edge in path], route.sent_msat
+
+
+OVER_B, OVER_C = ([AB, BD], MSAT + 1_000), ([AC, CD], MSAT + 2_000)
+
+
+def the_map_follows_the_database(case):
+    """Closes, newer updates, updates that are pruned, and channels without any."""
+    database = case.database
+    assert case.path() is None
+    case.offline.fill(database, square())
+    assert case.path() == OVER_B and len(database.routes) == 4
+    database.remove_channel(BD)
+    assert case.path() == OVER_C and len(database.routes) == 3
+    channel, updates = both(BD, B, D, 1_000)
+    case.offline.fill(database, Messages([channel], [], []))
+    assert case.path() == OVER_C
+    case.offline.fill(database, Messages([], [(update(BD, B, D, 3_000, timestamp=NOW + 100), B)], []))
+    assert case.path() == OVER_C
+    case.offline.fill(database, Messages([], [(update(BD, B, D, 500, timestamp=NOW + 200), B)], []))
+    assert case.path() == ([AB, BD], MSAT + 500)
+    for own, start in ((AB, A), (AB, B)):  # a month before, so just these are pruned
+        policy = database._policies[(start, own)]
+        database._policies[(start, own)] = policy._replace(timestamp=NOW - 30 * DAY)
+    database.prune_old_policies(14 * DAY)
+    assert case.path() == OVER_C and len(database.routes) == 4
+    found = database.routes._map.channel(int.from_bytes(AB, "big"))
+    assert (found.from_1, found.from_2) == (None, None)
+    database.prune_orphaned_channels()
+    assert case.path() == OVER_C and len(database.routes) == 3 and len(updates) == 2
+
+
+def the_map_is_there_after_a_restart(case):
+    """A second database of the folder has the same map."""
+    case.offline.fill(case.database, square())
+    case.offline.stop(case.database)
+    again = Case(case.offline, Path(case.offline.config.path))
+    assert again.path() == OVER_B and len(again.database.routes) == again.database.num_channels == 4
+
+
+def what_failed_is_avoided(case):
+    """A channel on the wallet's list, and one that couldn't send an amount; and the map is as before."""
+    case.offline.fill(case.database, square())
+    hints = case.finder.liquidity_hints
+    hints.add_to_blacklist(BD)
+    assert case.path() == OVER_C
+    hints.add_to_blacklist(CD)
+    assert case.path() is None
+    hints.clear_blacklist()
+    assert case.path() == OVER_B
+    hints.update_cannot_send(B, D, BD, MSAT)
+    assert case.path() == OVER_C and case.path(msat=MSAT - 1) == ([AB, BD], MSAT + 999)
+    hints.reset_liquidity_hints()
+    assert case.path() == OVER_B and len(case.database.routes) == 4
+
+
+def own_channels_and_hints_are_used(case):
+    """A payer without a public channel, and a payee who names one: E gets 1,000,000 msat, for which D charges 700."""
+    case.offline.fill(case.database, square())
+    payer, to_b, to_c = b"\x03" + bytes(32), scid(7), scid(8)
+    hint = lnrouter.RouteEdge(start_node=D, end_node=E, short_channel_id=DE, fee_base_msat=700,
+                              fee_proportional_millionths=0, cltv_expiry_delta=40, node_features=0)
+    asked = {"payer": payer, "payee": E, "private_route_edges": {DE: hint}}
+    own = {to_b: OwnChannel(to_b, payer, B, MSAT + 1_700), to_c: OwnChannel(to_c, payer, C, MSAT + 2_700)}
+    for _ in range(2):
+        assert case.path(**asked, my_sending_channels=own) == ([to_b, BD, DE], MSAT + 1_700)
+    own[to_b] = OwnChannel(to_b, payer, B, MSAT + 1_699)
+    assert case.path(**asked, my_sending_channels=own) == ([to_c, CD, DE], MSAT + 2_700)
+    own[to_c] = OwnChannel(to_c, payer, C, MSAT + 2_699)
+    assert case.path(**asked, my_sending_channels=own) is None
+    assert case.path(payer=payer) is None and len(case.database.routes) == 4
+
+
+def a_hint_bans_nobody(case):
+    """A hint with the id of a public channel, between other nodes, and one that isn't between two nodes; and another
+    announcement of that id."""
+    case.offline.fill(case.database, square())
+    case.database.routes.announce(announcement(AB, C, E))
+    for start, end in ((C, E), (E, E), (b"\5" + bytes(32), E)):
+        edge = lnrouter.RouteEdge(start_node=start, end_node=end, short_channel_id=AB, fee_base_msat=0,
+                                  fee_proportional_millionths=0, cltv_expiry_delta=0, node_features=0)
+        with case.database.routes.payment() as payment:
+            for own in path_finder.hinted_channels({AB: edge, AA: edge}):
+                payment.add(own)
+    assert len(case.database.routes) == 4 and case.path() == OVER_B
+
+
+def a_route_does_not_take_too_long(case):
+    """Over B each of two directions would take 2,000 blocks, so the payer would wait for 28 days."""
+    parts = [both(AB, A, B), both(BD, B, C, 0, 2_000), both(CD, C, D, 0, 2_000), both(AC, A, E), both(DE, E, D, 4_000)]
+    case.offline.fill(case.database, Messages([one for one, _ in parts], [two for _, own in parts for two in own], []))
+    assert case.path() == ([AC, DE], MSAT + 4_000)
+    assert case.path(payee=C) == ([AB, BD], MSAT)
+
+
+def a_minimum_is_held_against_the_amount(case):
+    """The wallet uses a channel whose minimum only the fee of the next one lifts the amount above; we don't."""
+    case.offline.fill(case.database, square())
+    case.database.remove_channel(CD)
+    for minimum, is_found in ((MSAT, True), (MSAT + 500, False)):
+        newer = update(AB, A, B, timestamp=NOW + 100 + minimum - MSAT, minimum=minimum)
+        case.offline.fill(case.database, Messages([], [(newer, A)], []))
+        path = lnrouter.LNPathFinder(case.database).find_path_for_payment(nodeA=A, nodeB=D, invoice_amount_msat=MSAT)
+        assert [bytes(edge.short_channel_id) for edge in path] == [AB, BD]
+        assert case.path() == (OVER_B if is_found else None)
+
+
+def the_wallet_makes_ours(case):
+    """After `install` the wallet's `Network.start_gossip` makes both, and they find routes."""
+    class Gossip:
+        """The wallet's gossip, which would connect to peers."""
+
+        def start_network(self, _):
+            """Connects to nobody."""
+
+    offline, kept = case.offline, (channel_db.ChannelDB, lnrouter.LNPathFinder, lnworker.LNGossip)
+    lnworker.LNGossip = Gossip
+    path_finder.install()
+
+    async def started():
+        network.Network.start_gossip(offline)
+        await offline.channel_db.data_loaded.wait()
+
+    try:
+        offline.run(started())
+    finally:
+        channel_db.ChannelDB, lnrouter.LNPathFinder, lnworker.LNGossip = kept
+        offline.lngossip = None
+    case.database, case.finder = offline.adopt(offline.channel_db), offline.path_finder
+    assert isinstance(case.finder, path_finder.PathFinder) and case.finder.channel_db is case.database
+    offline.fill(case.database, square())
+    assert case.path() == OVER_B and len(case.database.routes) == 4
+
+
+def terms(found):
+    """The terms of a direction, as the library or as the wallet has them; None if there are none."""
+    return found and (found.timestamp, found.message_flags, found.channel_flags, found.cltv_expiry_delta,
+                      found.htlc_minimum_msat, found.htlc_maximum_msat, found.fee_base_msat,
+                      found.fee_proportional_millionths)
+
+
+def the_map_has_the_wallets_rows(database):
+    """Each channel, direction and node that the wallet's database has, field by field."""
+    for own, channel in database._channels.items():
+        found = database.routes._map.channel(int.from_bytes(own, "big"))
+        assert (found.node_1, found.node_2) == (channel.node1_id, channel.node2_id)
+        assert found.capacity_sat == channel.capacity_sat
+        policies = [database.get_policy_for_node(own, node) for node in (channel.node1_id, channel.node2_id)]
+        assert [terms(found.from_1), terms(found.from_2)] == list(map(terms, policies)), own.hex()
+    for point, node in database._nodes.items():
+        found = database.routes._map.node(point)
+        assert (found.timestamp, found.alias.rstrip(b"\0").decode()) == (node.timestamp, node.alias)
+
+
+def faults_are_noticed(one):
+    """A comparison that finds nothing wrong does so where something is changed."""
+    ours = one.ours
+    cheaper = ours._replace(amount_msat=ours.amount_msat - 1)
+    for changed, why in (
+            ({"ours": ours._replace(payloads=[*ours.payloads[:-1], b"\0"])}, "the wallet builds other payloads"),
+            ({"ours": ours._replace(expiry=ours.expiry + 1)}, "the wallet sends another amount, or with another expiry"),
+            ({"ours": cheaper}, "the wallet sends another amount, or with another expiry"),
+            ({"wallets": cheaper, "is_other": False}, "the wallet's own path sends less"),
+            ({"found": None, "wallets": ours, "is_other": False}, "the wallet finds a path, and we don't"),
+            ({"route": 21 * one.route}, "the wallet doesn't accept the route")):
+        assert one._replace(**changed).faults() == [why], (changed, one._replace(**changed).faults())
+
+
+def payments_agree(offline, folder, count, seed):
+    """Payments over made networks, by both."""
+    found, wallets, others = 0, 0, 0
+    for number, channels in enumerate(CHANNELS):
+        case = Case(offline, folder / str(channels))
+        offline.fill(case.database, made_network(channels, seed + number))
+        assert len(case.database.routes) == case.database.num_channels == channels
+        the_map_has_the_wallets_rows(case.database)
+        for one in compared(case.database, count, seed + number):
+            assert not one.faults(), (channels, seed + number, one.faults(), one)
+            found, wallets, others = found + bool(one.found), wallets + bool(one.wallets), others + one.is_other
+            if one.found:
+                faults_are_noticed(one)
+        assert len(case.database.routes) == channels
+    assert min(found, wallets) > len(CHANNELS) * count / 2, (found, wallets, others)
+    print(f"{found} of {len(CHANNELS) * count} payments have a route, as the wallet takes it. It finds one of {wallets} "
+          f"by itself, none of which sends less, and {others} that ours may not be")
+
+
+def main():
+    """Runs the tests."""
+    parser = argparse.ArgumentParser(description=__doc__, formatter_class=argparse.RawDescriptionHelpFormatter)
+    parser.add_argument("--payments", type=int, default=100, metavar="N", help="over each network; 100 if left out")
+    parser.add_argument("--seed", type=int, default=1, metavar="N", help="of networks and payments; 1 if left out")
+    options = parser.parse_args()
+    tests = (the_map_follows_the_database, the_map_is_there_after_a_restart, what_failed_is_avoided,
+             own_channels_and_hints_are_used, a_hint_bans_nobody, a_route_does_not_take_too_long, a_minimum_is_held_against_the_amount,
+             the_wallet_makes_ours)
+    with tempfile.TemporaryDirectory() as name, Offline(name) as offline:
+        folder = Path(name)
+        for test in tests:
+            test(Case(offline, folder / test.__name__))
+        payments_agree(offline, folder, options.payments, options.seed)
+    print(f"{len(tests) + 1} passed")
+
+
+if __name__ == "__main__":
+    main()

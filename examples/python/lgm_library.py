@@ -1,0 +1,101 @@
+"""The library of include/lgm.h, as lgm.py calls it: its functions, its structs, and checks of what C would take as it is."""
+
+import ctypes
+import os
+import struct
+from functools import lru_cache
+from pathlib import Path
+
+LIBRARY = os.environ.get("LGM_LIBRARY") or Path(__file__).resolve().parent.parent / "out" / "liblgm.so"
+VERSION = 1
+ROOM = 104
+MOST_HOPS = 20
+MOST_PAYLOADS = 1300
+
+# The structs of the header, in this machine's layout. What C writes is unpacked from buffers that a handle keeps.
+PAYMENT = struct.Struct("@QI33s33s32s0Q")
+HOP = struct.Struct("@QQNI33s33s0Q")
+LENGTHS = struct.Struct("@NN")
+DIRECTION = struct.Struct("@?BBHIIIQQ")
+CHANNEL = struct.Struct("@Q33s33s0Q")
+CHANNEL_LEN = CHANNEL.size + 2 * DIRECTION.size
+NODE = struct.Struct("@I3s32s0I")
+SIZE_OF_HANDLE = struct.calcsize("@?P")
+
+# Bytes, and the address of a buffer.
+BYTES, AT = ctypes.c_char_p, ctypes.c_void_p
+SIZE, U32, U64 = ctypes.c_size_t, ctypes.c_uint32, ctypes.c_uint64
+ANSWERING = [AT, BYTES, SIZE, AT, SIZE, AT]
+
+# Each call of the library: its result and its arguments.
+CALLS = {
+    "lgm_version": (U32, []),
+    "lgm_open": (U32, [AT, BYTES, ctypes.c_bool, BYTES, SIZE, BYTES]),
+    "lgm_free": (None, [AT]),
+    "lgm_offer": (U32, [AT, BYTES, SIZE, U32, BYTES, U32, U64]),
+    "lgm_close_channel": (U32, [AT, U64]),
+    "lgm_news": (U32, ANSWERING),
+    "lgm_mark": (U32, [AT]),
+    "lgm_publish": (U32, [AT, AT]),
+    "lgm_share": (U32, [AT, AT]),
+    "lgm_release": (None, [AT]),
+    "lgm_version_of": (U64, [AT]),
+    "lgm_snapshot_news": (U32, [AT, *ANSWERING]),
+}
+
+# The calls that a map and a snapshot both have, behind `lgm_` and `lgm_snapshot_`.
+READING = {
+    "count": (SIZE, [AT]),
+    "route": (U32, [AT, BYTES, AT, SIZE, AT, SIZE, AT]),
+    "query": (U32, ANSWERING),
+    "filter": (U32, ANSWERING),
+    "channel": (U32, [AT, U64, AT]),
+    "node": (U32, [AT, BYTES, AT, AT, SIZE, AT]),
+}
+for _name, _kind in READING.items():
+    CALLS["lgm_" + _name] = CALLS["lgm_snapshot_" + _name] = _kind
+
+
+@lru_cache(maxsize=None)
+def load():
+    """The library, whose calls have their types."""
+    library = ctypes.CDLL(str(LIBRARY))
+    for name, (result, arguments) in CALLS.items():
+        call = getattr(library, name)
+        call.restype, call.argtypes = result, arguments
+    if library.lgm_version() != VERSION:
+        raise ImportError(f"{LIBRARY} has another version than {VERSION}")
+    return library
+
+
+def number(name, value, below):
+    """A number that C would cut to its type."""
+    if not isinstance(value, int) or isinstance(value, bool):
+        raise TypeError(f"{name} is an int, and not {value!r:.80}")
+    if not 0 <= value < below:
+        raise ValueError(f"{name} is from 0 to {below - 1}, and not {value}")
+    return value
+
+
+def octets(name, value, length=None):
+    """Bytes, of a length that C doesn't check."""
+    if not isinstance(value, (bytes, bytearray, memoryview)):
+        raise TypeError(f"{name} is bytes, and not {type(value).__name__}; bytes.fromhex makes them from digits")
+    octets = bytes(value)
+    if length is not None and len(octets) != length:
+        raise ValueError(f"{name} is of {length} bytes, and not of {len(octets)}")
+    return octets
+
+
+class Buffer:
+    """Bytes that C writes to, and their address."""
+
+    def __init__(self, length):
+        self.length = length
+        self.bytes = ctypes.create_string_buffer(length)
+        self.at = ctypes.addressof(self.bytes)
+        self._view = memoryview(self.bytes).cast("B")
+
+    def front(self, length):
+        """A copy of the first bytes."""
+        return self._view[:length].tobytes()
