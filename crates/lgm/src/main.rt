@@ -2,7 +2,6 @@
 #![tactic(auto)]
 
 use lgm_par::Open;
-use lgm_run::Remains;
 use lgm_script::{FromRead, ToWrite};
 use lgm_start::{read_words, refuse, start_keeping};
 use std::mem::forget;
@@ -14,8 +13,7 @@ fn main(rt: HostRuntime) -> ExitCode {
         Ok(words) => words,
         Err(bad) => return ExitCode::from(refuse(rt.alloc(), &mut errors, &bad)),
     };
-    let mut remains = Remains::none();
-    let status = start_keeping(
+    let (status, remains) = start_keeping(
         &rt,
         rt.alloc(),
         words.as_slice(),
@@ -23,7 +21,6 @@ fn main(rt: HostRuntime) -> ExitCode {
         &mut FromRead::new(rt.stdin()),
         &mut ToWrite::new(rt.stdout()),
         &mut errors,
-        &mut remains,
     );
     // The process ends: the system reclaims the memory.
     forget(remains);

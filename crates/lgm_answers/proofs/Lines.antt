@@ -6,9 +6,6 @@ use Rattle.lgm_script.specs.Lines.{lines_of, onto_first}
 abbrev pub some_bytes : List ℕ → Option (List ℕ)
 some_bytes bytes = Some bytes
 
-pub some_is : (a b : List ℕ) → some_bytes a ≡ some_bytes b → a ≡ b
-some_is a b e = cc
-
 -- where there is a byte there is a line
 pub has_line : (bytes : List ℕ) → 0 < length bytes → 0 < length (lines_of bytes)
 has_line [] some = absurd (omega arith)

@@ -70,7 +70,6 @@ route_text number secret (Err fault) = word_line number (route_word fault)
 -- the text of an answer, for the line with this number
 abbrev pub answer_text : ℕ → Answer → List ℕ
 answer_text number answers.Bad = word_line number (codes "bad")
-answer_text number (answers.Outcome refusal) = outcome_text number refusal
 answer_text number (answers.Messages messages) = query_text number (Ok messages)
 answer_text number (answers.Range asked) = range_text number asked
 answer_text number (answers.Refused fault) = word_line number (request_word fault)

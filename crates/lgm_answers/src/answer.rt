@@ -32,8 +32,6 @@ pub struct RangeAsked<'a> {
 pub enum Answer<'a> {
     /// The line isn't a form of the grammar.
     Bad,
-    /// The item was accepted, or refused for this reason.
-    Outcome(Option<Refusal>),
     /// The messages of the reply to a query.
     Messages(Replies<'a>),
     /// A query of a range, whose replies are made when they are written.
@@ -65,14 +63,13 @@ impl Answer<'_> {
     {
         match self {
             Answer::Bad => output.send(number, &Line::Word("bad")),
-            Answer::Outcome(refusal) => output.send(number, &Line::Word(outcome_word(*refusal))),
-            Answer::Messages(messages) => send_messages(number, messages.as_slice(), output),
+            Answer::Messages(messages) => send_messages(alloc, number, messages.as_slice(), output),
             Answer::Range(asked) => send_range(alloc, number, asked, output),
             Answer::Refused(fault) => output.send(number, &Line::Word(fault.word())),
-            Answer::Backlog(own, map) => send_filtered(number, own, map, output),
+            Answer::Backlog(own, map) => send_filtered(alloc, number, own, map, output),
             Answer::Committed(accepted) => output.send(number, &Line::Commit(*accepted)),
             Answer::News(accepted, filters, differences) => {
-                send_news(number, *accepted, filters, differences, output)
+                send_news(alloc, number, *accepted, filters, differences, output)
             }
             Answer::Routed(route, payloads) => send_route(number, route, payloads, output),
             Answer::Unrouted(fault) => output.send(number, &Line::Word(fault.word())),

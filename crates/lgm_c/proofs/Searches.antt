@@ -3,6 +3,7 @@ use Rattle.std.proofs.Common.{◌≡◌, ℕ, ◌≤◌, ◌<◌, ◌⊎◌, Lis
 use Rattle.std.proofs.lemmas.Bool.{le-ltb, lt-ltb}
 use Rattle.std.specs.Result.{IsErrAnd}
 use Rattle.lgm_gossip.specs.Memory.{GivesIf}
+use Rattle.lgm_graph.specs.declared.view.TheConstants.{MAX_CHANNELS}
 use Rattle.lgm_graph.specs.Edges.{PointEdge, edges_of}
 use Rattle.lgm_route.specs.Answers.{refusal}
 use Rattle.lgm_route.specs.Choice.{answer_of, found_by, least_walk}
@@ -39,13 +40,13 @@ reason_in (Err reason) = reason
 
 module _ (request : Request) (known : Option (List ℕ)) (rows : Rows) where
   -- with too many channels no route is searched for
-  pub too_many : 2000000000 < length rows.channels → route_for request known rows ≡ Err faults.Full
-  too_many many = rw (lt-ltb 2000000000 (length rows.channels) many) refl
+  pub too_many : MAX_CHANNELS < length rows.channels → route_for request known rows ≡ Err faults.Full
+  too_many many = rw (lt-ltb MAX_CHANNELS (length rows.channels) many) refl
 
   -- with no more, a refusal is returned at once
-  module _ (few : length rows.channels ≤ 2000000000) where
-    fits : nat_lt 2000000000 (length rows.channels) ≡ false
-    fits = le-ltb 2000000000 (length rows.channels) few
+  module _ (few : length rows.channels ≤ MAX_CHANNELS) where
+    fits : nat_lt MAX_CHANNELS (length rows.channels) ≡ false
+    fits = le-ltb MAX_CHANNELS (length rows.channels) few
 
     pub refuses_at_once : (reason : RouteFault) → refusal request ≡ Some reason → route_for request known rows ≡ Err (unrouted reason)
     refuses_at_once reason is = rw (fits, refused_at_once (edges_of known rows) request reason is) refl

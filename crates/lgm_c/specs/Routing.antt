@@ -2,6 +2,7 @@
 use Rattle.std.specs.Prelude.{◌≡◌, ◌⊎◌, ℕ, ◌<◌, nat_lt, List, map, length, Option, Result, Ok, Err, if◌then◌else◌}
 use Rattle.std.specs.List.{flat_map, zip}
 use Rattle.lgm_store.specs.Rows.{Rows}
+use Rattle.lgm_graph.specs.declared.view.TheConstants.{MAX_CHANNELS}
 use Rattle.lgm_graph.specs.Edges.{edges_of}
 use Rattle.lgm_route.specs.Choice.{answer_of}
 use Rattle.lgm_route.specs.declared.request.Request.{Request}
@@ -33,7 +34,7 @@ found_or_unrouted (Err reason) = Err (unrouted reason)
 -- `Full` with too many channels
 abbrev pub route_for : Request → Option (List ℕ) → Rows → Result (List Hop) Fault
 route_for request known rows =
-    if nat_lt 2000000000 (length rows.channels) then Err faults.Full
+    if nat_lt MAX_CHANNELS (length rows.channels) then Err faults.Full
     else found_or_unrouted (answer_of (edges_of known rows) request)
 
 -- a route was searched for: it was found, or there is none

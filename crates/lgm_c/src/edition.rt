@@ -6,8 +6,8 @@ ghost use Rattle.lgm_c.specs.inner.Charts.{chart_of};
 ghost use Rattle.lgm_c.specs.Routing.{route_for, IsSearched};
 
 use crate::fault::Fault;
-use crate::searching::{MOST_CHANNELS, is_searched, search};
-use lgm_graph::Network;
+use crate::searching::{is_searched, search};
+use lgm_graph::{MAX_CHANNELS, Network};
 use lgm_route::{Request, Route};
 use lgm_store::Map;
 use std::alloc::{AllocError, Global};
@@ -37,7 +37,7 @@ impl Edition {
     pub(crate) fn of(alloc: Global, mut network: Network) -> Result<Edition, AllocError>
         ensures { IfOk result (λ edition. edition ≡ chart_of network) }
     {
-        if network.map().count() <= MOST_CHANNELS {
+        if network.map().count() <= MAX_CHANNELS {
             network.make_view(alloc)?;
         }
         Ok(Edition {

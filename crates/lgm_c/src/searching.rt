@@ -8,22 +8,19 @@ ghost use Rattle.lgm_route.specs.Choice.{answer_of};
 ghost use Rattle.lgm_c.specs.Routing.{route_for, IsSearched};
 
 use crate::fault::Fault;
-use lgm_graph::Network;
+use lgm_graph::{MAX_CHANNELS, Network};
 use lgm_route::{Request, Route, RouteFault, answer};
 use lgm_store::Map;
 use std::alloc::Global;
 
-/// With more channels than this no route is searched for: the points of a view have 32-bit numbers.
-pub(crate) const MOST_CHANNELS: usize = 2_000_000_000;
-
 /// Whether a route is to be searched for, or why there is none whatever the channels are.
 pub(crate) fn is_searched(map: &Map, request: &Request) -> Result<(), Fault>
-    ensures few { OnOk result (length map.now.channels ≤ 2000000000) }
+    ensures few { OnOk result (length map.now.channels ≤ MAX_CHANNELS) }
     ensures lawful { OnOk result (refusal request.now ≡ None) }
     ensures refused { IfErr result (λ fault. (known : Option (List ℕ))
         → route_for request.now known map.now ≡ Err fault) }
 {
-    if MOST_CHANNELS < map.count() {
+    if MAX_CHANNELS < map.count() {
         return Err(Fault::Full);
     }
     match request.refusal() {
@@ -47,7 +44,7 @@ fn found(alloc: Global, network: &Network, request: &Request) -> Result<Route, R
 /// The best route of a payment for which one is to be searched for.
 pub(crate) fn search(alloc: Global, network: &Network, request: &Request) -> Result<Route, Fault>
     requires viewed { IsSome network.now.graph }
-    requires few { length network.now.rows.channels ≤ 2000000000 }
+    requires few { length network.now.rows.channels ≤ MAX_CHANNELS }
     requires lawful { refusal request.now ≡ None }
     ensures { GivesIf (IsSearched (route_for request.now network.now.known network.now.rows)) Fault.NoMemory
         (λ route. route) result (route_for request.now network.now.known network.now.rows) }

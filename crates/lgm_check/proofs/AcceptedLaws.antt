@@ -1,6 +1,6 @@
 -- What passes the tests in their order is what an accepted message is, and the other way round.
 use Rattle.std.proofs.Common.{◌≡◌, ℕ, ◌/◌, ◌%◌, ◌≤◌, Bool, true, false, List, Result, Ok, Err, not, refl, sym, ap, subst, ◌∙◌, arith, inl, inr}
-use Rattle.std.specs.Prelude.{nat_eq, nat_le, if◌then◌else◌, MatchResult, IsTrue}
+use Rattle.std.specs.Prelude.{nat_eq, nat_le, if◌then◌else◌, IfOk, MatchResult, IsTrue}
 use Rattle.std.specs.Cmp.Lexicographic.{pointwise, bytes_decides}
 use Rattle.lgm_wire.specs.reading.Reading.{◌>>=◌}
 use Rattle.lgm_gossip.specs.Memory.{GivesIf}
@@ -233,3 +233,10 @@ is_only asks chain bytes evidence (Err refusal) made given is =
       | inl none ↦ none.1
       | inr other ↦ let bad = sym other ∙ only chain bytes evidence made is in absurd cc
     ]
+
+-- what was returned as a row is one to be accepted
+pub is_accepted : {X : Type 0} (asks : Type 0) (chain : ChainHash) (bytes : List ℕ) (evidence : Evidence) (view : X → Checked) (r : Result X Refusal)
+    → IsBytes bytes → GivesIf asks refusals.NoMemory view r (checked_of chain bytes evidence)
+    → IfOk r (λ x. IsAccepted chain bytes evidence (view x))
+is_accepted {X} asks chain bytes evidence view (Ok x) fits given = accepted chain bytes evidence (view x) fits given
+is_accepted {X} asks chain bytes evidence view (Err refusal) fits given = tt

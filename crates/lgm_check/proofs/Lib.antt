@@ -1,1 +1,6 @@
 pub mod AcceptedLaws
+pub mod PlaceLaws
+pub mod UpdateLaws
+pub mod AnnounceLaws
+pub mod NodeLaws
+pub mod LayoutLaws

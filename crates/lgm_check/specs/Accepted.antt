@@ -13,8 +13,7 @@ use Rattle.lgm_check.specs.declared.row.UpdateRow.{UpdateRow}
 use Rattle.lgm_check.specs.declared.row.NodeRow.{NodeRow}
 use Rattle.lgm_check.specs.declared.row.Checked.{Checked}
 use Rattle.lgm_check.specs.declared.row.Checked.TheVariants as checked
-use Rattle.lgm_check.specs.declared.row.CheckedKind.{CheckedKind}
-use Rattle.lgm_check.specs.Precheck.{has_lawful_points, are_in_order, kind_of}
+use Rattle.lgm_check.specs.Precheck.{has_lawful_points, are_in_order}
 
 -- a channel_announcement: nodes in order, of this chain, an unspent output that holds no more satoshi than exist, and
 -- four valid signatures
@@ -51,7 +50,3 @@ abbrev pub IsAccepted : ChainHash → List ℕ → Evidence → Checked → Type
 IsAccepted ours bytes evidence (checked.Channel row) = IsChannel ours bytes evidence row
 IsAccepted ours bytes evidence (checked.Update row signer) = IsUpdate ours bytes evidence row signer
 IsAccepted ours bytes evidence (checked.Node row) = IsNode bytes evidence row
-
--- they are accepted as some row, which has this beside the bytes
-abbrev pub IsAcceptedAs : ChainHash → List ℕ → Evidence → CheckedKind → Type 0
-IsAcceptedAs ours bytes evidence kind = (made : Checked) × IsAccepted ours bytes evidence made × (kind_of made ≡ kind)

@@ -21,8 +21,6 @@ use Rattle.lgm_check.specs.declared.evidence.Funding.{Funding}
 use Rattle.lgm_check.specs.declared.evidence.Funding.TheVariants as fundings
 use Rattle.lgm_check.specs.declared.row.Checked.{Checked}
 use Rattle.lgm_check.specs.declared.row.Checked.TheVariants as checked
-use Rattle.lgm_check.specs.declared.row.CheckedKind.{CheckedKind}
-use Rattle.lgm_check.specs.declared.row.CheckedKind.TheVariants as kinds
 use Rattle.lgm_check.specs.declared.refusal.Refusal.{Refusal}
 use Rattle.lgm_check.specs.declared.refusal.Refusal.TheVariants as refusals
 use Rattle.lgm_check.specs.Refusal.{refusal_of}
@@ -108,13 +106,3 @@ checked_read chain (Err fault) bytes evidence = Err (refusal_of fault)
 
 unfoldable pub checked_of : ChainHash → List ℕ → Evidence → Result Checked Refusal
 checked_of chain bytes evidence = checked_read chain (message_at bytes) bytes evidence
-
--- what a row has beside its bytes
-abbrev pub kind_of : Checked → CheckedKind
-kind_of (checked.Channel row) = kinds.Channel row.sat
-kind_of (checked.Update row signer) = kinds.Update signer
-kind_of (checked.Node row) = kinds.Node
-
-abbrev pub kind_read : Result Checked Refusal → Result CheckedKind Refusal
-kind_read (Ok made) = Ok (kind_of made)
-kind_read (Err refusal) = Err refusal

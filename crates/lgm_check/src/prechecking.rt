@@ -1,23 +1,29 @@
 //! Validation of a message without a map.
 
-ghost use Rattle.std.specs.Prelude.{◌≡◌, ℕ, ◌<◌, ◌⊎◌, List, Ok, IfOk, MatchResult, slice_index};
+ghost use Rattle.std.specs.Prelude.{◌≡◌, ◌<◌, ◌⊎◌, ℕ, List, Ok, Err, IfOk, MatchResult, slice_index};
 ghost use Rattle.lgm_wire.specs.reading.Reading.{Sees, Gives};
-ghost use Rattle.lgm_gossip.specs.Memory.{GivesIf, TakesMemory};
-ghost use Rattle.lgm_gossip.specs.Message.{Wire};
 ghost use Rattle.lgm_wire.specs.declared.chain_hash.ChainHash.{ChainHash};
+ghost use Rattle.lgm_gossip.specs.Memory.{GivesIf, TakesMemory};
+ghost use Rattle.lgm_gossip.specs.reading.MessageReading.{message_at};
 ghost use Rattle.lgm_check.specs.declared.evidence.Evidence.{Evidence};
 ghost use Rattle.lgm_check.specs.declared.row.Checked.{Checked};
-ghost use Rattle.lgm_check.specs.Accepted.{IsAccepted, IsAcceptedAs};
+ghost use Rattle.lgm_check.specs.declared.refusal.Refusal.TheVariants.{NoMemory};
+ghost use Rattle.lgm_check.specs.CheckedKind.{row_of, Fits};
+ghost use Rattle.lgm_check.specs.Accepted.{IsAccepted};
 ghost use Rattle.lgm_check.specs.Precheck.{require as requirement, has_lawful_points, are_in_order};
 ghost use Rattle.lgm_check.specs.Precheck.{capacity_of, is_all_four, is_private, signer_of};
-ghost use Rattle.lgm_check.specs.Precheck.{channel_of, update_of, node_of, kind_read};
-ghost use Rattle.lgm_check.specs.Precheck.{checked_announce, checked_update, checked_node};
-ghost use Rattle.lgm_check.specs.Precheck.{checked_message, checked_of};
+ghost use Rattle.lgm_check.specs.Precheck.{channel_of, update_of, node_of};
+ghost use Rattle.lgm_check.specs.Precheck.{checked_announce, checked_update, checked_node, checked_of};
+ghost use Rattle.lgm_check.specs.inner.Layout.{AnnouncesNothing};
 
+use crate::announce_fields::{announce_in, channel_row};
 use crate::evidence::{Evidence, Funding, Sig};
+use crate::layout::{Layout, layout_of};
+use crate::node_fields::{node_in, node_row};
 use crate::refusal::Refusal;
-use crate::row::{ChannelRow, Checked, CheckedKind, NodeRow, Signer, UpdateRow};
-use lgm_gossip::{Announce, ChainHash, ChannelUpdate, Lent, Message, NodeAnnounce, Point, decode};
+use crate::row::{Checked, CheckedKind, Signer};
+use crate::update_fields::{update_in, update_row};
+use lgm_gossip::{Announce, ChainHash, ChannelUpdate, NodeAnnounce, Point, decode};
 use std::alloc::Global;
 
 /// The maximum capacity of a channel, in satoshi: all that will ever exist.
@@ -43,6 +49,7 @@ fn has_lawful_points(message: &Announce) -> bool
 }
 
 /// Whether node_id_1 is less than node_id_2 in byte order.
+#[inline(always)]
 fn are_in_order(message: &Announce) -> bool
     ensures { result ≡ are_in_order message.now }
 {
@@ -130,69 +137,16 @@ fn node(message: &NodeAnnounce, evidence: &Evidence) -> Result<(), Refusal>
     require(*signer == message.node_id, Refusal::Signature)
 }
 
-/// The row of any message, or its first refusal.
+/// Why bytes that announce nothing are refused.
 #[tactic(auto, unfolding(crate::specs::Precheck::checked_of))]
-#[inline(always)]
-fn check<'a>(
-    alloc: Global,
-    chain: &ChainHash,
-    bytes: &'a [u8],
-    evidence: &Evidence,
-) -> Result<Checked<'a>, Refusal>
-    ensures exact { GivesIf (TakesMemory bytes.now) Refusal.NoMemory (λ c. c) result
-        (checked_of chain.now bytes.now evidence.now) }
-    ensures accepted { IfOk result (λ made. IsAccepted chain.now bytes.now evidence.now made) }
+fn other(alloc: Global, chain: &ChainHash, bytes: &[u8], evidence: &Evidence) -> Refusal
+    requires { AnnouncesNothing (message_at bytes.now) }
+    ensures { (TakesMemory bytes.now × (result ≡ NoMemory))
+        ⊎ (checked_of chain.now bytes.now evidence.now ≡ Err result) }
 {
-    let message = decode(alloc, bytes)?;
-    match &message {
-        Message::Announce(message) => {
-            let sat = announce(chain, message, evidence)?;
-            let message = message.again();
-            let raw = Lent::new(bytes);
-            Ok(Checked::Channel(ChannelRow { message, sat, raw }))
-        }
-        Message::ChannelUpdate(message) => {
-            let signer = update(chain, message, evidence)?;
-            let message = message.again();
-            let raw = Lent::new(bytes);
-            Ok(Checked::Update(UpdateRow { message, raw }, *signer.point()))
-        }
-        Message::NodeAnnounce(message) => {
-            node(message, evidence)?;
-            let message = message.again();
-            let raw = Lent::new(bytes);
-            Ok(Checked::Node(NodeRow { message, raw }))
-        }
-        _ => Err(Refusal::NotGossip),
-    }
-}
-
-/// What the row of a message has beside the bytes, or the first refusal.
-#[inline(always)]
-fn message_kind<'a>(
-    chain: &ChainHash,
-    message: &Message,
-    evidence: &'a Evidence,
-) -> Result<CheckedKind<'a>, Refusal>
-    ensures exact { (bytes : List ℕ) → Sees (λ kind. kind) result
-        (kind_read (checked_message chain.now message.now bytes evidence.now)) }
-    ensures accepted { (bytes : List ℕ) → Wire message.now bytes
-        → IfOk result (λ kind. IsAcceptedAs chain.now bytes evidence.now kind) }
-{
-    match message {
-        Message::Announce(message) => {
-            let sat = announce(chain, message, evidence)?;
-            Ok(CheckedKind::Channel(sat))
-        }
-        Message::ChannelUpdate(message) => {
-            let signer = update(chain, message, evidence)?;
-            Ok(CheckedKind::Update(signer))
-        }
-        Message::NodeAnnounce(message) => {
-            node(message, evidence)?;
-            Ok(CheckedKind::Node)
-        }
-        _ => Err(Refusal::NotGossip),
+    match decode(alloc, bytes) {
+        Ok(_) => Refusal::NotGossip,
+        Err(fault) => Refusal::from(fault),
     }
 }
 
@@ -205,14 +159,51 @@ fn check_kind<'a>(
     bytes: &[u8],
     evidence: &'a Evidence,
 ) -> Result<CheckedKind<'a>, Refusal>
-    ensures exact { GivesIf (TakesMemory bytes.now) Refusal.NoMemory (λ kind. kind) result
-        (kind_read (checked_of chain.now bytes.now evidence.now)) }
-    ensures accepted { IfOk result (λ kind. IsAcceptedAs chain.now bytes.now evidence.now kind) }
+    ensures exact { GivesIf (TakesMemory bytes.now) Refusal.NoMemory (λ kind. row_of kind bytes.now) result
+        (checked_of chain.now bytes.now evidence.now) }
+    ensures fits { IfOk result (λ kind. Fits kind bytes.now) }
 {
-    match &decode(alloc, bytes) {
-        Ok(message) => message_kind(chain, message, evidence),
-        Err(fault) => Err(Refusal::from(*fault)),
+    match layout_of(bytes) {
+        Layout::Announce => {
+            let sat = announce(chain, &announce_in(bytes), evidence)?;
+            Ok(CheckedKind::Channel(sat))
+        }
+        Layout::Update => {
+            let signer = update(chain, &update_in(bytes), evidence)?;
+            Ok(CheckedKind::Update(signer))
+        }
+        Layout::Node => {
+            node(&node_in(bytes), evidence)?;
+            Ok(CheckedKind::Node)
+        }
+        Layout::Other => Err(other(alloc, chain, bytes, evidence)),
     }
+}
+
+/// The row that the bytes make with what was found beside them.
+fn row<'a>(kind: CheckedKind, bytes: &'a [u8]) -> Checked<'a>
+    requires { Fits kind bytes.now }
+    ensures { result ≡ row_of kind.entry bytes.now }
+{
+    match kind {
+        CheckedKind::Channel(sat) => Checked::Channel(channel_row(bytes, sat)),
+        CheckedKind::Update(signer) => Checked::Update(update_row(bytes), *signer.point()),
+        CheckedKind::Node => Checked::Node(node_row(bytes)),
+    }
+}
+
+/// The row of any message, or its first refusal.
+#[inline(always)]
+fn check<'a>(
+    alloc: Global,
+    chain: &ChainHash,
+    bytes: &'a [u8],
+    evidence: &Evidence,
+) -> Result<Checked<'a>, Refusal>
+    ensures { GivesIf (TakesMemory bytes.now) Refusal.NoMemory (λ made. made) result
+        (checked_of chain.now bytes.now evidence.now) }
+{
+    Ok(row(check_kind(alloc, chain, bytes, evidence)?, bytes))
 }
 
 /// The row that a message would add to a map, or the first refusal, in the order of their numbers up to 10 (BOLT 7,
@@ -259,10 +250,16 @@ pub fn precheck_kind<'a>(
     bytes: &[u8],
     evidence: &'a Evidence,
 ) -> Result<CheckedKind<'a>, Refusal>
-    ensures accepted { IfOk result (λ kind. IsAcceptedAs chain.now bytes.now evidence.now kind) }
-    ensures exact { Gives Refusal.NoMemory (λ kind. kind) result
-        (kind_read (checked_of chain.now bytes.now evidence.now)) }
-    ensures memory { Sees (λ kind. kind) result (kind_read (checked_of chain.now bytes.now evidence.now))
+    // A message is accepted only if it is to be accepted, as the row that it and the bytes make.
+    ensures accepted { IfOk result (λ kind. IsAccepted chain.now bytes.now evidence.now (row_of kind bytes.now)) }
+    ensures fits { IfOk result (λ kind. Fits kind bytes.now) }
+
+    // That row, or the first refusal in the order.
+    ensures exact { Gives Refusal.NoMemory (λ kind. row_of kind bytes.now) result
+        (checked_of chain.now bytes.now evidence.now) }
+
+    // Out of memory comes only if decoding allocates.
+    ensures memory { Sees (λ kind. row_of kind bytes.now) result (checked_of chain.now bytes.now evidence.now)
         ⊎ TakesMemory bytes.now }
 {
     check_kind(alloc, chain, bytes, evidence)

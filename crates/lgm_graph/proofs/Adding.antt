@@ -1,9 +1,9 @@
 -- How an announcement of a channel changes the view of a map.
-use Rattle.std.proofs.Common.{◌≡◌, ℕ, eqb, Bool, true, false, ◌||◌, List, ◌∷◌, refl, sym, ap, ◌∙◌, Option, true≢false, is_some}
+use Rattle.std.proofs.Common.{◌≡◌, ℕ, Bool, true, false, ◌||◌, List, ◌∷◌, refl, sym, ap, ◌∙◌, Option, true≢false, is_some, inl, inr}
 use Rattle.std.specs.Option.{option_and_then}
 use Rattle.std.specs.List.{AllByRecursion, filter}
 use Rattle.std.specs.Ordering.{is_lt, is_gt}
-use Rattle.std.proofs.lemmas.Bool.{eqb-true}
+use Rattle.std.proofs.lemmas.Bool.{cases_Bool, eqb-true, false_from_ne_true}
 use Rattle.lgm_check.specs.declared.row.ChannelRow.{ChannelRow}
 use Rattle.lgm_check.specs.declared.row.UpdateRow.{UpdateRow}
 use Rattle.lgm_store.specs.Rows.{Rows, by_id, put, channel_of, ends_banned}
@@ -18,58 +18,37 @@ use Rattle.lgm_graph.specs.inner.Sound.{graph_in, ShowsIn, AreLookedAt}
 use Rattle.lgm_graph.specs.inner.Walk.{KeepsNumbers}
 use Rattle.lgm_graph.proofs.Keeping.{filter_map-agree}
 
-either_false : (a b : Bool) → (a || b) ≡ false → a ≡ false
-either_false true b e = absurd cc
-either_false false b e = refl
-
 module _ (known : Option (List ℕ)) (rows : Rows) (row : ChannelRow) (lawful : IsLawful rows) where
   abbrev stays : Bool
   stays = is_some (channel_of rows.channels row.message.short_channel_id) || ends_banned rows.banned row
 
   carrying_added : carrying (with_channel rows row) ≡ carrying rows
-  carrying_added = by (is_some (channel_of rows.channels row.message.short_channel_id) || ends_banned rows.banned row) refl
+  carrying_added = elim (cases_Bool stays) [
+    | inl e ↦ rw e refl
+    | inr e ↦
+        rw e (filter_map-agree (edge_in (put by_id rows.channels row)) (edge_in rows.channels) rows.updates
+        (All-to _ _ rows.updates (each e) lawful.held))
+  ]
     where
-      each : (is_some (channel_of rows.channels row.message.short_channel_id) || ends_banned rows.banned row)
-          ≡ false → (u : UpdateRow) → is_some (channel_of rows.channels u.message.short_channel_id) ≡ true
+      each : stays ≡ false → (u : UpdateRow) → is_some (channel_of rows.channels u.message.short_channel_id) ≡ true
           → edge_in (put by_id rows.channels row) u ≡ edge_in rows.channels u
       each new u held =
           ap (λ (o : Option ChannelRow). option_and_then (λ c. edge_on c u) o)
-          (channel_of-put u.message.short_channel_id rows.channels row
-          (which (eqb row.message.short_channel_id u.message.short_channel_id) refl))
-        where
-          which : (b : Bool) → eqb row.message.short_channel_id u.message.short_channel_id ≡ b
-              → eqb row.message.short_channel_id u.message.short_channel_id ≡ false
-          which true f =
-              let same = eqb-true row.message.short_channel_id u.message.short_channel_id f in
-              let there : is_some (channel_of rows.channels row.message.short_channel_id) ≡ true =
-              ap (λ id. is_some (channel_of rows.channels id)) same ∙ held in
-              absurd (true≢false (sym there ∙ either_false (is_some
-              (channel_of rows.channels row.message.short_channel_id)) (ends_banned rows.banned row) new))
-          which false f = f
-
-      by : (b : Bool) → (is_some (channel_of rows.channels row.message.short_channel_id)
-          || ends_banned rows.banned row) ≡ b → carrying (with_channel rows row) ≡ carrying rows
-      by true e = rw e refl
-      by false e =
-          rw e (filter_map-agree (edge_in (put by_id rows.channels row)) (edge_in rows.channels) rows.updates
-          (All-to _ _ rows.updates (each e) lawful.held))
+          (channel_of-put u.message.short_channel_id rows.channels row (false_from_ne_true _ (λ f.
+          let same = eqb-true row.message.short_channel_id u.message.short_channel_id f in
+          let there : is_some (channel_of rows.channels row.message.short_channel_id) ≡ true =
+          ap (λ id. is_some (channel_of rows.channels id)) same ∙ held in
+          true≢false (sym (rw there refl) ∙ new))))
 
   pub nodes_added : (with_channel rows row).nodes ≡ rows.nodes
-  nodes_added = by (is_some (channel_of rows.channels row.message.short_channel_id) || ends_banned rows.banned row) refl
-    where
-      by : (b : Bool) → (is_some (channel_of rows.channels row.message.short_channel_id)
-          || ends_banned rows.banned row) ≡ b → (with_channel rows row).nodes ≡ rows.nodes
-      by true e = rw e refl
-      by false e = rw e refl
+  nodes_added = elim (cases_Bool stays) [ inl e ↦ rw e refl | inr e ↦ rw e refl ]
 
   ends_added : (P : ChannelRow → Type 0) → AllByRecursion P rows.channels → P row → AllByRecursion P (with_channel rows row).channels
-  ends_added P all own = by (is_some (channel_of rows.channels row.message.short_channel_id) || ends_banned rows.banned row) refl
-    where
-      by : (b : Bool) → (is_some (channel_of rows.channels row.message.short_channel_id)
-          || ends_banned rows.banned row) ≡ b → AllByRecursion P (with_channel rows row).channels
-      by true e = rw e all
-      by false e = rw e (All-append P (filter (λ x. is_lt (by_id x row)) rows.channels) (row ∷ filter (λ x. is_gt (by_id x row)) rows.channels)
-          (All-filter P (λ x. is_lt (by_id x row)) rows.channels all) (own, All-filter P (λ x. is_gt (by_id x row)) rows.channels all))
+  ends_added P all own = elim (cases_Bool stays) [
+    | inl e ↦ rw e all
+    | inr e ↦ rw e (All-append P (filter (λ x. is_lt (by_id x row)) rows.channels) (row ∷ filter (λ x. is_gt (by_id x row)) rows.channels)
+        (All-filter P (λ x. is_lt (by_id x row)) rows.channels all) (own, All-filter P (λ x. is_gt (by_id x row)) rows.channels all))
+  ]
 
   -- the view, where both ends are numbered
   pub node_added : (after : Rows) → after ≡ with_channel rows row → (old new : Nodes)

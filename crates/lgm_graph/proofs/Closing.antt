@@ -12,7 +12,7 @@ use Rattle.lgm_store.specs.Laws.{IsLawful}
 use Rattle.lgm_store.proofs.ListLaws.{All-each, All-filter, All-to, any-kept, filter-all, filter-passes, filter-swap, filter-twice, find-kept}
 use Rattle.lgm_store.proofs.Points.{same_point, is_point-self}
 use Rattle.std.specs.Option.{option_and_then, option_map_or}
-use Rattle.std.proofs.lemmas.Bool.{eqb-true}
+use Rattle.std.proofs.lemmas.Bool.{cases_Bool, eqb-true, false_from_ne_true}
 use Rattle.lgm_graph.specs.Known.{allows}
 use Rattle.lgm_graph.specs.declared.edge.Edge.{Edge}
 use Rattle.lgm_graph.specs.declared.nodes.Nodes.{Nodes}
@@ -29,17 +29,26 @@ use Rattle.lgm_graph.proofs.Keeping.{filter_map-agree, one_channel, edges_keep}
 both_closed : (end : PointEdge → Point) (points : List Point) (edges : List PointEdge) (id : ℕ) (first second : Point)
     → AllByRecursion (λ e. e.scid ≡ id → (end e ≡ first) ⊎ (end e ≡ second)) edges → (q : Point)
     → closed_at second id (closed_at first id (edges_at end points edges)) q ≡ edges_at end points (filter (λ e. not (eqb e.scid id)) edges) q
-both_closed end points edges id first second ends q = by (is_point second q) refl (is_point first q) refl
+both_closed end points edges id first second ends q = elim (cases_Bool (is_point second q)) [
+  | inl e ↦ elim (cases_Bool (is_point first q)) [
+    | inl f ↦ rw (e, f) (filter-twice (is_not_of id) (edges_at end points edges q) ∙ kept)
+    | inr f ↦ rw (e, f) kept
+  ]
+  | inr e ↦ elim (cases_Bool (is_point first q)) [
+    | inl f ↦ rw (e, f) kept
+    | inr f ↦ rw (e, f) (ap (map (numbered_in points)) (sym (filter-swap (λ d. is_point q (end d)) (λ d. not (eqb d.scid id)) edges
+        ∙ filter-all (λ d. not (eqb d.scid id)) (filter (λ d. is_point q (end d)) edges)
+        (All-to _ _ (filter (λ d. is_point q (end d)) edges) (apart e f) (passing
+        (λ d. d.scid ≡ id → (end d ≡ first) ⊎ (end d ≡ second)) (λ d. is_point q (end d)) edges ends)))))
+  ]
+]
   where
-    keep : PointEdge → Bool
-    keep = λ e. not (eqb e.scid id)
-
     kept : filter (is_not_of id) (edges_at end points edges q) ≡ edges_at end points (filter (λ e. not (eqb e.scid id)) edges) q
     kept = edges_keep end points (λ e. not (eqb e.scid id)) (is_not_of id) edges q (All-each _ edges (λ e. refl))
 
     apart : is_point second q ≡ false → is_point first q ≡ false → (e : PointEdge) → (e.scid ≡ id
         → (end e ≡ first) ⊎ (end e ≡ second)) × (is_point q (end e) ≡ true) → not (eqb e.scid id) ≡ true
-    apart other away e both = which (eqb e.scid id) refl
+    apart other away e both = rw (false_from_ne_true (eqb e.scid id) (λ f. never (both.0 (eqb-true e.scid id f)))) refl
       where
         never : (end e ≡ first) ⊎ (end e ≡ second) → ⊥
         never (inl is) =
@@ -50,20 +59,6 @@ both_closed end points edges id first second ends q = by (is_point second q) ref
             let same : is_point second q ≡ true =
             ap (is_point second) (same_point q (end e) both.1 ∙ is) ∙ is_point-self second in
             true≢false (sym same ∙ other)
-
-        which : (b : Bool) → eqb e.scid id ≡ b → not (eqb e.scid id) ≡ true
-        which true f = absurd (never (both.0 (eqb-true e.scid id f)))
-        which false f = rw f refl
-
-    by : (b : Bool) → is_point second q ≡ b → (c : Bool) → is_point first q ≡ c
-        → closed_at second id (closed_at first id (edges_at end points edges)) q ≡ edges_at end points (filter (λ e. not (eqb e.scid id)) edges) q
-    by true e true f = rw (e, f) (filter-twice (is_not_of id) (edges_at end points edges q) ∙ kept)
-    by true e false f = rw (e, f) kept
-    by false e true f = rw (e, f) kept
-    by false e false f = rw (e, f) (ap (map (numbered_in points)) (sym (filter-swap (λ d. is_point q (end d)) (λ d. not (eqb d.scid id)) edges
-        ∙ filter-all (λ d. not (eqb d.scid id)) (filter (λ d. is_point q (end d)) edges)
-        (All-to _ _ (filter (λ d. is_point q (end d)) edges) (apart e f) (passing
-        (λ d. d.scid ≡ id → (end d ≡ first) ⊎ (end d ≡ second)) (λ d. is_point q (end d)) edges ends)))))
 
 pub lists_alike : (F G : Point → List Edge) (points : List Point) → ((q : Point) → F q ≡ G q) → map F points ≡ map G points
 lists_alike F G points same = ap (λ (f : Point → List Edge). map f points) (λ i q. same q i)
@@ -134,15 +129,11 @@ module _ (known : Option (List ℕ)) (rows : Rows) (id : ℕ) (channel : Channel
       (All-to _ _ rows.channels each (one_channel rows.channels id channel lawful.ascend.channels held))
     where
       each : (c : ChannelRow) → (c.message.short_channel_id ≡ id → c ≡ channel) → ends_at q c ≡ true → not (eqb c.message.short_channel_id id) ≡ true
-      each c one at = which (eqb c.message.short_channel_id id) refl
-        where
-          which : (b : Bool) → eqb c.message.short_channel_id id ≡ b → not (eqb c.message.short_channel_id id) ≡ true
-          which true f =
-              let own : c ≡ channel = one (eqb-true c.message.short_channel_id id f) in
-              let never : ends_at q channel ≡ true = ap (ends_at q) (sym own) ∙ at in
-              let none : (false || false) ≡ true = rw (away, other) at never in
-              absurd cc
-          which false f = rw f refl
+      each c one at = rw (false_from_ne_true (eqb c.message.short_channel_id id) (λ f.
+          let own : c ≡ channel = one (eqb-true c.message.short_channel_id id f) in
+          let never : ends_at q channel ≡ true = ap (ends_at q) (sym own) ∙ at in
+          let none : (false || false) ≡ true = rw (away, other) at never in
+          cc)) refl
 
   other_node : (q : Point) → is_point first q ≡ false → is_point second q ≡ false
       → takes_payments known (without_channel rows id).nodes q ≡ takes_payments known rows.nodes q
@@ -164,15 +155,10 @@ module _ (known : Option (List ℕ)) (rows : Rows) (id : ℕ) (channel : Channel
   looked : (q : Point) → (if is_point second q then takes_payments known (without_channel rows id).nodes q
       else if is_point first q then takes_payments known (without_channel rows id).nodes q
       else takes_payments known rows.nodes q) ≡ takes_payments known (without_channel rows id).nodes q
-  looked q = by (is_point second q) refl (is_point first q) refl
-    where
-      by : (b : Bool) → is_point second q ≡ b → (c : Bool) → is_point first q ≡ c
-          → (if is_point second q then takes_payments known (without_channel rows id).nodes q
-          else if is_point first q then takes_payments known (without_channel rows id).nodes q
-          else takes_payments known rows.nodes q) ≡ takes_payments known (without_channel rows id).nodes q
-      by true e c f = rw e refl
-      by false e true f = rw (e, f) refl
-      by false e false f = rw (e, f) (sym (other_node q f e))
+  looked q = elim (cases_Bool (is_point second q)) [
+    | inl e ↦ rw e refl
+    | inr e ↦ elim (cases_Bool (is_point first q)) [ inl f ↦ rw (e, f) refl | inr f ↦ rw (e, f) (sym (other_node q f e)) ]
+  ]
 
   -- ---- the view
 

@@ -1,10 +1,11 @@
 -- The numbers of points.
 use Rattle.lgm_store.proofs.Points.{same_point}
-use Rattle.std.proofs.Common.{◌≡◌, ℕ, ◌+◌, suc, get_or, ◌<◌, ◌≤◌, ltb, Bool, true, false, cond, List}
-use Rattle.std.proofs.Common.{[], ◌∷◌, length, refl, sym, Some, None, arith, Result, Ok, Err}
+use Rattle.std.proofs.Common.{◌≡◌, ℕ, ◌+◌, suc, get_or, ◌<◌, ltb, Bool, true, false, List}
+use Rattle.std.proofs.Common.{[], ◌∷◌, length, sym, subst, Some, None, arith, Result, Ok, Err, inl, inr}
 use Rattle.std.specs.List.{AllByRecursion, find, position}
 use Rattle.std.specs.Result.{OnOk, OnErr, MatchResult}
-use Rattle.std.proofs.lemmas.Bool.Decides.{nat_tests}
+use Rattle.std.proofs.lemmas.Bool.{cases_Bool, ltb-true, lt-ltb}
+use Rattle.std.proofs.lemmas.Option.{none-some, same_Some}
 use Rattle.lgm_wire.specs.declared.point.Point.{Point}
 use Rattle.lgm_check.specs.declared.row.ChannelRow.{ChannelRow}
 use Rattle.lgm_store.specs.Rows.{channel_of, is_point}
@@ -12,33 +13,23 @@ use Rattle.lgm_graph.specs.Graph.{number_of, IsNumbered}
 use Rattle.lgm_graph.specs.Edges.{end_of}
 
 pub number_some : (points : List Point) (p : Point) (n : ℕ) → position (is_point p) points ≡ Some n → (number_of points p ≡ n) × (n < length points)
-number_some points p n is = by (ltb (number_of points p) (length points)) refl is
-  where
-    by : (b : Bool) → ltb (number_of points p) (length points) ≡ b
-        → cond (ltb (number_of points p) (length points)) (Some (number_of points p)) None ≡ Some n
-        → (number_of points p ≡ n) × (n < length points)
-    by true e is =
-        let h : Some (number_of points p) ≡ Some n = rw e at is in
-        let same : number_of points p ≡ n = cc in
-        (same, rw (← same) (grind (arith, nat_tests)))
-    by false e is = let h : None ≡ Some n = rw e at is in absurd cc
+number_some points p n is = elim (cases_Bool (ltb (number_of points p) (length points))) [
+  | inl e ↦
+      let same : number_of points p ≡ n = same_Some _ n (rw e at is) in
+      (same, rw (← same) (ltb-true _ _ e))
+  | inr e ↦ absurd (none-some n (rw e at is))
+]
 
 pub number_none : (points : List Point) (p : Point) → IsNumbered points p → position (is_point p) points ≡ None → ⊥
-number_none points p there is = by (ltb (number_of points p) (length points)) refl is
-  where
-    by : (b : Bool) → ltb (number_of points p) (length points) ≡ b
-        → cond (ltb (number_of points p) (length points)) (Some (number_of points p)) None ≡ None → ⊥
-    by true e is = let h : Some (number_of points p) ≡ None = rw e at is in absurd cc
-    by false e is = let le : length points ≤ number_of points p = grind (arith, nat_tests) in omega (arith, le, there)
+number_none points p there is = none-some (number_of points p) (sym (rw (lt-ltb _ _ there) at is))
 
 -- what holds of each row holds of what is found
 pub found_holds : {R : Type 0} (P : R → Type 0) (p : R → Bool) (rows : List R) (row : R) → AllByRecursion P rows → find p rows ≡ Some row → P row
 found_holds P p [] row all found = absurd cc
-found_holds P p (first ∷ rows) row all found = by (found_holds P p rows row all.1) (p first) refl found
-  where
-    by : (find p rows ≡ Some row → P row) → (b : Bool) → p first ≡ b → cond (p first) (Some first) (find p rows) ≡ Some row → P row
-    by others true is found = let same : Some first ≡ Some row = rw is at found in let own : first ≡ row = cc in rw (← own) all.0
-    by others false is found = others (rw is at found)
+found_holds P p (first ∷ rows) row all found = elim (cases_Bool (p first)) [
+  | inl is ↦ subst P (same_Some first row (rw is at found)) all.0
+  | inr is ↦ found_holds P p rows row all.1 (rw is at found)
+]
 
 -- the ends of a held channel are numbered
 pub ends_numbered : (points : List Point) (channels : List ChannelRow) (id : ℕ) (channel : ChannelRow) (second : Bool)
@@ -59,12 +50,10 @@ in_both (Err e) ok err f g = g err
 -- a numbered point stands at its number
 pub get_number : (points : List Point) (p d : Point) → IsNumbered points p → get_or points (number_of points p) d ≡ p
 get_number [] p d there = absurd (omega (arith, there))
-get_number (q ∷ qs) p d there = by (get_number qs p d) (is_point p q) refl there
-  where
-    by : (number_of qs p < length qs → get_or qs (number_of qs p) d ≡ p) → (b : Bool) → is_point p q ≡ b
-        → number_of (q ∷ qs) p < suc (length qs) → get_or (q ∷ qs) (number_of (q ∷ qs) p) d ≡ p
-    by others true e lt = rw e (sym (same_point p q e))
-    by others false e lt =
-        let next : 1 + number_of qs p ≡ suc (number_of qs p) = omega arith in
-        let fits : suc (number_of qs p) < suc (length qs) = rw (e, next) at lt in
-        rw (e, next) (others (omega (arith, fits)))
+get_number (q ∷ qs) p d there = elim (cases_Bool (is_point p q)) [
+  | inl e ↦ rw e (sym (same_point p q e))
+  | inr e ↦
+      let next : 1 + number_of qs p ≡ suc (number_of qs p) = omega arith in
+      let fits : suc (number_of qs p) < suc (length qs) = rw (e, next) at there in
+      rw (e, next) (get_number qs p d (omega (arith, fits)))
+]

@@ -1,6 +1,6 @@
 -- The nodes at which channels go by a ban.
-use Rattle.std.proofs.Common.{◌≡◌, ℕ, ◌+◌, ◌<◌, eqb, Bool, true, false, cond, not, ◌||◌, List, [], ◌∷◌, ◌++◌, length, map}
-use Rattle.std.proofs.Common.{take, get_or, zero, suc, refl, sym, ap, ◌∙◌, Option, Some, None, arith, true≢false}
+use Rattle.std.proofs.Common.{◌≡◌, ℕ, ◌+◌, ◌<◌, eqb, Bool, true, false, not, ◌||◌, List, [], ◌∷◌, length, map}
+use Rattle.std.proofs.Common.{take, get_or, zero, suc, refl, sym, ap, ◌∙◌, Option, Some, None, arith, true≢false, inl, inr}
 use Rattle.std.specs.Prelude.{if◌then◌else◌}
 use Rattle.std.specs.Option.{option_map_or}
 use Rattle.std.specs.List.{AllByRecursion, filter, list_any}
@@ -8,6 +8,7 @@ use Rattle.std.specs.List.Sorted.{IsStrictlySortedBy}
 use Rattle.std.specs.declared.cmp.Ordering.TheVariants.{Less}
 use Rattle.std.specs.Ordering.{nat_cmp}
 use Rattle.std.proofs.lemmas.Grind.{take_at_read}
+use Rattle.std.proofs.lemmas.Bool.{cases_Bool}
 use Rattle.std.proofs.lemmas.Bool.Decides.{nat_tests}
 use Rattle.std.proofs.lemmas.List.Folds.{list_any-append}
 use Rattle.std.proofs.Math.Bool.{or_comm}
@@ -41,37 +42,26 @@ use Rattle.lgm_graph.proofs.Banning.{node_banned, banned_tests}
 -- ---- points among others
 
 among_more : (points : List Point) (p q : Point) → is_among points q ≡ true → is_among (insert_key is_point points p) q ≡ true
-among_more points p q among = by (list_any (is_point p) points)
-  where
-    by : (b : Bool) → is_among (if b then points else points ++ p ∷ []) q ≡ true
-    by true = among
-    by false = list_any-append (λ other. is_point other q) points (p ∷ []) ∙ rw among refl
+among_more points p q among = elim (cases_Bool (list_any (is_point p) points)) [
+  | inl is ↦ rw is among
+  | inr is ↦ rw is (list_any-append (λ other. is_point other q) points (p ∷ []) ∙ rw among refl)
+]
 
 among_own : (points : List Point) (p : Point) → is_among (insert_key is_point points p) p ≡ true
-among_own points p = by (list_any (is_point p) points) refl
+among_own points p = elim (cases_Bool (list_any (is_point p) points)) [
+  | inl is ↦ rw is (there points is)
+  | inr is ↦ rw is (list_any-append (λ other. is_point other p) points (p ∷ []) ∙ rw (is_point-self p) (last (is_among points p)))
+]
   where
-    last : (a : Bool) → (a || (true || false)) ≡ true
+    last : (a : Bool) → (a || true) ≡ true
     last a = grind arith
 
     there : (qs : List Point) → list_any (is_point p) qs ≡ true → is_among qs p ≡ true
     there [] any = absurd cc
-    there (q ∷ qs) any = at (there qs) (is_point p q) refl any
-      where
-        at : (list_any (is_point p) qs ≡ true → is_among qs p ≡ true) → (b : Bool) → is_point p q ≡ b
-            → (is_point p q || list_any (is_point p) qs) ≡ true → (is_point q p || is_among qs p) ≡ true
-        at others true is any =
-            let own : is_point q p ≡ true =
-            ap (λ (x : Point). is_point x p) (sym (same_point p q is)) ∙ is_point-self p in
-            rw own refl
-        at others false is any = which (is_point q p) (others (rw is at any))
-          where
-            which : (b : Bool) → is_among qs p ≡ true → (b || is_among qs p) ≡ true
-            which true rest = refl
-            which false rest = rest
-
-    by : (b : Bool) → list_any (is_point p) points ≡ b → is_among (insert_key is_point points p) p ≡ true
-    by true is = rw is (there points is)
-    by false is = rw is (list_any-append (λ other. is_point other p) points (p ∷ []) ∙ rw (is_point-self p) (last (is_among points p)))
+    there (q ∷ qs) any = elim (cases_Bool (is_point p q)) [
+      | inl is ↦ rw (ap (λ (x : Point). is_point x p) (sym (same_point p q is)) ∙ is_point-self p) refl
+      | inr is ↦ rw (there qs (rw is at any)) (last (is_point q p))
+    ]
 
 -- a channel's two ends come in
 abbrev pub with_ends : List Point → ChannelRow → List Point
@@ -170,14 +160,12 @@ ids_held rows node ids i id sorted ids_are lt is none =
 pub ends_all : (rows : List ChannelRow) (node : Point) (points : List Point) → AllByRecursion (HasEnds points)
     (filter (ends_at node) rows) → AllByRecursion (λ row. ends_at node row ≡ true → HasEnds points row) rows
 ends_all [] node points all = tt
-ends_all (x ∷ xs) node points all = by (ends_all xs node points) (ends_at node x) refl all
-  where
-    by : (AllByRecursion (HasEnds points) (filter (ends_at node) xs) → AllByRecursion (λ row. ends_at node row ≡ true → HasEnds points row) xs)
-        → (b : Bool) → ends_at node x ≡ b → AllByRecursion (HasEnds points)
-        (cond (ends_at node x) (x ∷ filter (ends_at node) xs) (filter (ends_at node) xs))
-        → AllByRecursion (λ row. ends_at node row ≡ true → HasEnds points row) (x ∷ xs)
-    by others true is all = let here : AllByRecursion (HasEnds points) (x ∷ filter (ends_at node) xs) = rw is at all in ((λ e. here.0), others here.1)
-    by others false is all = ((λ e. absurd (true≢false (sym e ∙ is))), others (rw is at all))
+ends_all (x ∷ xs) node points all = elim (cases_Bool (ends_at node x)) [
+  | inl is ↦
+      let here : AllByRecursion (HasEnds points) (x ∷ filter (ends_at node) xs) = rw is at all in
+      ((λ e. here.0), ends_all xs node points here.1)
+  | inr is ↦ ((λ e. absurd (true≢false (sym e ∙ is))), ends_all xs node points (rw is at all))
+]
 
 -- ---- the four points of a ban
 
@@ -194,11 +182,10 @@ parts_all rows ban one two three four lawful a b c d kept2 kept3 kept4 = along r
     at : (points : List Point) (p : Point) (row : ChannelRow)
         → (ends_banned points row ≡ true → HasEnds four row) → (ends_at p row ≡ true → HasEnds four row)
         → ends_banned (put by_point points p) row ≡ true → HasEnds four row
-    at points p row before here banned = by (ends_banned points row) refl (rw (ends_banned-put points p row) at banned)
-      where
-        by : (b : Bool) → ends_banned points row ≡ b → (ends_banned points row || ends_at p row) ≡ true → HasEnds four row
-        by true is either = before is
-        by false is either = here (rw is at either)
+    at points p row before here banned = elim (cases_Bool (ends_banned points row)) [
+      | inl is ↦ before is
+      | inr is ↦ here (rw (ends_banned-put points p row, is) at banned)
+    ]
 
     along : (rs : List ChannelRow) → AllByRecursion (λ row. ends_banned rows.banned row ≡ false) rs
         → AllByRecursion (λ row. ends_at ban.held1 row ≡ true → HasEnds one row) rs
@@ -226,22 +213,16 @@ pub among_next : {Y : Type 0} (change : Point → Y → Y) → ((q : Point) (y :
     → i < length points → p ≡ get_or points i d → (q : Point)
     → (if is_point p q then change q (changed_among change (take i points) before q)
     else changed_among change (take i points) before q) ≡ changed_among change (take (i + 1) points) before q
-among_next {Y} change twice before points i p d lt is q =
-    by (is_among (take i points) q) refl (is_point p q) refl
+among_next {Y} change twice before points i p d lt is q = elim (cases_Bool (is_among (take i points) q)) [
+  | inl e ↦ elim (cases_Bool (is_point p q)) [ inl f ↦ rw (next, e, f) (twice q (before q)) | inr f ↦ rw (next, e, f) refl ]
+  | inr e ↦ elim (cases_Bool (is_point p q)) [ inl f ↦ rw (next, e, f) refl | inr f ↦ rw (next, e, f) refl ]
+]
   where
     next : is_among (take (i + 1) points) q ≡ (is_among (take i points) q || (is_point p q || false))
     next =
         ap (λ ps. is_among ps q) ((take_at_read points i d lt).1)
         ∙ list_any-append (λ other. is_point other q) (take i points) (get_or points i d ∷ [])
         ∙ ap (λ (x : Point). is_among (take i points) q || (is_point x q || false)) (sym is)
-
-    by : (b : Bool) → is_among (take i points) q ≡ b → (c : Bool) → is_point p q ≡ c
-        → (if is_point p q then change q (changed_among change (take i points) before q) else changed_among
-        change (take i points) before q) ≡ changed_among change (take (i + 1) points) before q
-    by true e true f = rw (next, e, f) (twice q (before q))
-    by true e false f = rw (next, e, f) refl
-    by false e true f = rw (next, e, f) refl
-    by false e false f = rw (next, e, f) refl
 
 pub next_at : {Y : Type 0} (change : Point → Y → Y) → ((q : Point) (y : Y) → change q (change q y)
     ≡ change q y) → (before : Point → Y) (points : List Point) (i : ℕ) (d : Point) → i < length points
@@ -288,11 +269,10 @@ module _ (known : Option (List ℕ)) (rows : Rows) (banned : List Point) (lawful
       (λ e. is_point q (end e)) (carrying rows) (carrying_of rows.channels rows.updates)))
     where
       each : (e : PointEdge) → IsOfChannel rows.channels e × (is_point q (end e) ≡ true) → not (is_banned banned e.from || is_banned banned e.to) ≡ true
-      each e both = by (is_banned banned e.from || is_banned banned e.to) refl
-        where
-          by : (b : Bool) → (is_banned banned e.from || is_banned banned e.to) ≡ b → not b ≡ true
-          by true is = absurd (true≢false (sym (which e (edge_ends e both.0 is)) ∙ ap (is_among ends) (sym (same_point q (end e) both.1)) ∙ away))
-          by false is = refl
+      each e both = elim (cases_Bool (is_banned banned e.from || is_banned banned e.to)) [
+        | inl is ↦ absurd (true≢false (sym (which e (edge_ends e both.0 is)) ∙ ap (is_among ends) (sym (same_point q (end e) both.1)) ∙ away))
+        | inr is ↦ rw is refl
+      ]
 
   -- ---- whether nodes take payments
 
@@ -300,19 +280,16 @@ module _ (known : Option (List ℕ)) (rows : Rows) (banned : List Point) (lawful
   still_ended q away = any-kept (ends_at q) (λ c. not (ends_banned banned c)) rows.channels (All-to _ _ rows.channels each parted)
     where
       each : (c : ChannelRow) → (ends_banned banned c ≡ true → HasEnds ends c) → ends_at q c ≡ true → not (ends_banned banned c) ≡ true
-      each c has at = by (ends_banned banned c) refl
+      each c has at = elim (cases_Bool (ends_banned banned c)) [
+        | inl is ↦ absurd (true≢false (sym (never (has is)) ∙ away))
+        | inr is ↦ rw is refl
+      ]
         where
-          never : HasEnds ends c → (b : Bool) → is_point c.message.node_id_1 q ≡ b
-              → (is_point c.message.node_id_1 q || is_point c.message.node_id_2 q) ≡ true
-              → is_among ends q ≡ true
-          never both true first either = ap (is_among ends) (sym (same_point c.message.node_id_1 q first)) ∙ both.0
-          never both false first either =
-              let second : is_point c.message.node_id_2 q ≡ true = rw first at either in
-              ap (is_among ends) (sym (same_point c.message.node_id_2 q second)) ∙ both.1
-
-          by : (b : Bool) → ends_banned banned c ≡ b → not b ≡ true
-          by true is = absurd (true≢false (sym (never (has is) (is_point c.message.node_id_1 q) refl at) ∙ away))
-          by false is = refl
+          never : HasEnds ends c → is_among ends q ≡ true
+          never both = elim (cases_Bool (is_point c.message.node_id_1 q)) [
+            | inl is ↦ ap (is_among ends) (sym (same_point c.message.node_id_1 q is)) ∙ both.0
+            | inr is ↦ ap (is_among ends) (sym (same_point c.message.node_id_2 q (rw is at at))) ∙ both.1
+          ]
 
   other_node : (q : Point) → is_among ends q ≡ false → takes_payments known (banning rows banned).nodes q ≡ takes_payments known rows.nodes q
   other_node q away =
@@ -335,19 +312,16 @@ module _ (known : Option (List ℕ)) (rows : Rows) (banned : List Point) (lawful
       → ((e : PointEdge) → (is_among ends e.from ≡ true) × (is_among ends e.to ≡ true) → is_among ends (end e) ≡ true) → (q : Point)
       → changed_among (λ q ls. filter (is_allowed points banned) ls) ends (edges_at end points
       (carrying rows)) q ≡ filter (is_allowed points banned) (edges_at end points (carrying rows) q)
-  edges_parted end points joined which q = by (is_among ends q) refl
+  edges_parted end points joined which q = elim (cases_Bool (is_among ends q)) [
+    | inl is ↦ rw is refl
+    | inr is ↦ rw is (sym (kept ∙ ap (map (numbered_in points)) (stays_at end which q is)))
+  ]
     where
       kept : filter (is_allowed points banned) (edges_at end points (carrying rows) q) ≡ edges_at end points
           (filter (λ e. not (is_banned banned e.from || is_banned banned e.to)) (carrying rows)) q
       kept =
           edges_keep end points (λ e. not (is_banned banned e.from || is_banned banned e.to))
           (is_allowed points banned) (carrying rows) q (banned_tests banned points (carrying rows) joined)
-
-      by : (b : Bool) → is_among ends q ≡ b → changed_among (λ q ls.
-          filter (is_allowed points banned) ls) ends (edges_at end points (carrying rows)) q
-          ≡ filter (is_allowed points banned) (edges_at end points (carrying rows) q)
-      by true is = rw is refl
-      by false is = rw is (sym (kept ∙ ap (map (numbered_in points)) (stays_at end which q is)))
 
   map_twice : (f : List Edge → List Edge) (g : Point → List Edge) (qs : List Point) → map f (map g qs) ≡ map (λ q. f (g q)) qs
   map_twice f g [] = refl
@@ -376,10 +350,4 @@ module _ (known : Option (List ℕ)) (rows : Rows) (banned : List Point) (lawful
     where
       looked : (q : Point) → changed_among (λ q b. takes_payments known (banning rows banned).nodes q) ends
           (takes_payments known rows.nodes) q ≡ takes_payments known (banning rows banned).nodes q
-      looked q = by (is_among ends q) refl
-        where
-          by : (b : Bool) → is_among ends q ≡ b → changed_among (λ q b.
-              takes_payments known (banning rows banned).nodes q) ends (takes_payments known rows.nodes) q
-              ≡ takes_payments known (banning rows banned).nodes q
-          by true is = rw is refl
-          by false is = rw is (sym (other_node q is))
+      looked q = elim (cases_Bool (is_among ends q)) [ inl is ↦ rw is refl | inr is ↦ rw is (sym (other_node q is)) ]

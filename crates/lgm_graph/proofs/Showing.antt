@@ -1,11 +1,12 @@
 -- Edges that stand with their ends, as they change.
-use Rattle.std.proofs.Common.{◌≡◌, ◌≢◌, inl, inr, ℕ, ◌+◌, ◌<◌, Bool, true, false, cond, List, [], ◌∷◌, ◌++◌, length, map, set, get_or}
+use Rattle.std.proofs.Common.{◌≡◌, ◌≢◌, inl, inr, ℕ, ◌+◌, ◌<◌, Bool, true, false, List, [], ◌∷◌, ◌++◌, length, map, set, get_or}
 use Rattle.std.proofs.Common.{suc, refl, sym, ap, ◌∙◌, Option, Some, None, option_to_list, arith, true≢false, length-append}
 use Rattle.std.specs.Option.{option_map}
 use Rattle.std.specs.List.{AllByRecursion, IsDistinct, filter}
 use Rattle.std.specs.declared.cmp.Ordering.{Ordering}
 use Rattle.std.specs.declared.cmp.Ordering.TheVariants.{Equal, Greater}
 use Rattle.std.specs.Ordering.{is_lt, is_gt}
+use Rattle.std.proofs.lemmas.Bool.{cases_Bool, false_from_ne_true}
 use Rattle.std.proofs.lemmas.List.{map-append, append-nil}
 use Rattle.std.proofs.lemmas.List.Elements.{filter-append}
 use Rattle.std.proofs.lemmas.Map.Keys.{IsDistinct-head, IsDistinct-tail}
@@ -32,13 +33,10 @@ module _ {X Y : Type 0} where
   -- a test behind a map is one before it
   pub filter-map : (f : X → Y) (p : Y → Bool) (xs : List X) → filter p (map f xs) ≡ map f (filter (λ x. p (f x)) xs)
   filter-map f p [] = refl
-  filter-map f p (x ∷ xs) = by (filter-map f p xs) (p (f x)) refl
-    where
-      by : filter p (map f xs) ≡ map f (filter (λ x. p (f x)) xs) → (b : Bool) → p (f x) ≡ b
-          → cond (p (f x)) (f x ∷ filter p (map f xs)) (filter p (map f xs))
-          ≡ map f (cond (p (f x)) (x ∷ filter (λ x. p (f x)) xs) (filter (λ x. p (f x)) xs))
-      by others true e = rw e (ap (λ l. f x ∷ l) others)
-      by others false e = rw e others
+  filter-map f p (x ∷ xs) = elim (cases_Bool (p (f x))) [
+    | inl e ↦ rw (e, filter-map f p xs) refl
+    | inr e ↦ rw e (filter-map f p xs)
+  ]
 
   pub put_at-map : (f : X → Y) (h : Y → Ordering) (xs : List X) (o : Option X)
       → put_at h (map f xs) (option_map f o) ≡ map f (put_at (λ x. h (f x)) xs o)
@@ -55,19 +53,14 @@ module _ {X Y : Type 0} where
 pub passing : {X : Type 0} (P : X → Type 0) (p : X → Bool) (xs : List X) → AllByRecursion P xs
     → AllByRecursion (λ x. P x × (p x ≡ true)) (filter p xs)
 passing P p [] all = tt
-passing P p (x ∷ xs) all = by (passing P p xs all.1) (p x) refl
-  where
-    by : AllByRecursion (λ x. P x × (p x ≡ true)) (filter p xs) → (b : Bool) → p x ≡ b
-        → AllByRecursion (λ x. P x × (p x ≡ true)) (cond (p x) (x ∷ filter p xs) (filter p xs))
-    by others true e = rw e ((all.0, e), others)
-    by others false e = rw e others
+passing P p (x ∷ xs) all = elim (cases_Bool (p x)) [
+  | inl e ↦ rw e ((all.0, e), passing P p xs all.1)
+  | inr e ↦ rw e (passing P p xs all.1)
+]
 
 pub turned : (p q : Point) → is_point p q ≡ false → is_point q p ≡ false
-turned p q apart = by (is_point q p) refl
-  where
-    by : (b : Bool) → is_point q p ≡ b → is_point q p ≡ false
-    by true e = let self : is_point p q ≡ true = ap (is_point p) (same_point q p e) ∙ is_point-self p in absurd (true≢false (sym self ∙ apart))
-    by false e = e
+turned p q apart = false_from_ne_true (is_point q p)
+    (λ e. true≢false (sym (ap (is_point p) (same_point q p e) ∙ is_point-self p) ∙ apart))
 
 -- ---- one place
 
@@ -75,20 +68,19 @@ turned p q apart = by (is_point q p) refl
 pub map_at : {Y : Type 0} (F G : Point → Y) (points : List Point) (p : Point) → IsDistinct is_point points → number_of points p < length points
     → ((q : Point) → is_point p q ≡ false → G q ≡ F q) → set (map F points) (number_of points p) (G p) ≡ map G points
 map_at F G [] p distinct there other = absurd (omega (arith, there))
-map_at F G (q ∷ qs) p distinct there other = by (map_at F G qs p (IsDistinct-tail is_point q qs distinct)) (is_point p q) refl there
+map_at F G (q ∷ qs) p distinct there other = elim (cases_Bool (is_point p q)) [
+  | inl e ↦ let same : p ≡ q = same_point p q e in rw (e, same, rest same) refl
+  | inr e ↦
+      let next : 1 + number_of qs p ≡ suc (number_of qs p) = omega arith in
+      let fits : suc (number_of qs p) < suc (length qs) = rw (e, next) at there in
+      rw (e, next, sym (other q e))
+      (ap (λ l. G q ∷ l) (map_at F G qs p (IsDistinct-tail is_point q qs distinct) (omega (arith, fits)) other))
+]
   where
     rest : p ≡ q → map F qs ≡ map G qs
     rest same =
         map_alike F G qs (All-to _ _ qs (λ r apart. sym (other r (ap (λ s. is_point s r) same ∙ apart)))
         (IsDistinct-head is_point q qs distinct))
-
-    by : (number_of qs p < length qs → ((r : Point) → is_point p r ≡ false → G r ≡ F r) → set (map F qs) (number_of qs p) (G p) ≡ map G qs)
-        → (b : Bool) → is_point p q ≡ b → number_of (q ∷ qs) p < suc (length qs) → set (F q ∷ map F qs) (number_of (q ∷ qs) p) (G p) ≡ G q ∷ map G qs
-    by others true e lt = let same : p ≡ q = same_point p q e in rw (e, same, rest same) refl
-    by others false e lt =
-        let next : 1 + number_of qs p ≡ suc (number_of qs p) = omega arith in
-        let fits : suc (number_of qs p) < suc (length qs) = rw (e, next) at lt in
-        rw (e, next, sym (other q e)) (ap (λ l. G q ∷ l) (others (omega (arith, fits)) other))
 
 module _ (end : PointEdge → Point) (points : List Point) where
   -- the edges of a point
@@ -175,11 +167,7 @@ module _ (end : PointEdge → Point) (points : List Point) where
 
         gone : (p : Point) → is_point target p ≡ false → (o : Option PointEdge) → edge ≡ o → option_filter (λ e. is_point p (end e)) o ≡ None
         gone p other None is = refl
-        gone p other (Some e) is = by (is_point p (end e)) refl
-          where
-            by : (b : Bool) → is_point p (end e) ≡ b → cond (is_point p (end e)) (Some e) None ≡ None
-            by true t = absurd (never p other e (own e is) t)
-            by false t = rw t refl
+        gone p other (Some e) is = rw (false_from_ne_true (is_point p (end e)) (never p other e (own e is))) refl
 
         apart : (p : Point) → is_point target p ≡ false → AllByRecursion (λ e. to_key id second e ≢ Equal) (filter (λ e. is_point p (end e)) edges)
         apart p other = All-to (λ e. (to_key id second e ≡ Equal → end e ≡ target) × (is_point p (end e) ≡ true)) (λ e. to_key id second e ≢ Equal) _
@@ -195,16 +183,13 @@ module _ (end : PointEdge → Point) (points : List Point) where
 
 pub number_append : (points : List Point) (p q : Point) → IsNumbered points q → number_of (points ++ p ∷ []) q ≡ number_of points q
 number_append [] p q there = absurd (omega (arith, there))
-number_append (r ∷ rs) p q there = by (number_append rs p q) (is_point q r) refl there
-  where
-    by : (number_of rs q < length rs → number_of (rs ++ p ∷ []) q ≡ number_of rs q) → (b : Bool)
-        → is_point q r ≡ b → number_of (r ∷ rs) q < suc (length rs)
-        → number_of (r ∷ (rs ++ p ∷ [])) q ≡ number_of (r ∷ rs) q
-    by others true e lt = rw e refl
-    by others false e lt =
-        let next : 1 + number_of rs q ≡ suc (number_of rs q) = omega arith in
-        let fits : suc (number_of rs q) < suc (length rs) = rw (e, next) at lt in
-        rw e (ap (λ n. 1 + n) (others (omega (arith, fits))))
+number_append (r ∷ rs) p q there = elim (cases_Bool (is_point q r)) [
+  | inl e ↦ rw e refl
+  | inr e ↦
+      let next : 1 + number_of rs q ≡ suc (number_of rs q) = omega arith in
+      let fits : suc (number_of rs q) < suc (length rs) = rw (e, next) at there in
+      rw e (ap (λ n. 1 + n) (number_append rs p q (omega (arith, fits))))
+]
 
 pub numbered_append : (points : List Point) (p : Point) → KeepsNumbers points (points ++ p ∷ [])
 numbered_append points p q there = let same = number_append points p q there in (same, omega (arith, same, there, length-append points (p ∷ [])))
@@ -212,15 +197,12 @@ numbered_append points p q there = let same = number_append points p q there in 
 pub numbered_last : (points : List Point) (p : Point) → (IsNumbered points p → ⊥)
     → (number_of (points ++ p ∷ []) p ≡ length points) × IsNumbered (points ++ p ∷ []) p
 numbered_last [] p new = rw (is_point-self p) (refl, omega arith)
-numbered_last (r ∷ rs) p new = by (numbered_last rs p) (is_point p r) refl new
-  where
-    by : ((IsNumbered rs p → ⊥) → (number_of (rs ++ p ∷ []) p ≡ length rs) × IsNumbered (rs ++ p ∷ []) p)
-        → (b : Bool) → is_point p r ≡ b → (IsNumbered (r ∷ rs) p → ⊥)
-        → (number_of (r ∷ (rs ++ p ∷ [])) p ≡ suc (length rs)) × IsNumbered (r ∷ (rs ++ p ∷ [])) p
-    by others true e new = let there : IsNumbered (r ∷ rs) p = rw e (omega arith) in absurd (new there)
-    by others false e new =
-        let rest = others (λ h. new (let there : IsNumbered (r ∷ rs) p = rw e (omega (arith, h)) in there)) in
-        rw e (omega (arith, rest.0), omega (arith, rest.1))
+numbered_last (r ∷ rs) p new = elim (cases_Bool (is_point p r)) [
+  | inl e ↦ let there : IsNumbered (r ∷ rs) p = rw e (omega arith) in absurd (new there)
+  | inr e ↦
+      let rest = numbered_last rs p (λ h. new (let there : IsNumbered (r ∷ rs) p = rw e (omega (arith, h)) in there)) in
+      rw e (omega (arith, rest.0), omega (arith, rest.1))
+]
 
 -- edges by numbers stay
 pub edges_kept : (points more : List Point) (edges : List PointEdge) → KeepsNumbers points more → AllByRecursion (IsJoined points) edges
@@ -233,12 +215,10 @@ none_at : (end : PointEdge → Point) (points : List Point) (p : Point) (edges :
     → (IsNumbered points p → ⊥) → AllByRecursion (λ e. IsNumbered points (end e)) edges
     → filter (λ e. is_point p (end e)) edges ≡ []
 none_at end points p [] new all = refl
-none_at end points p (e ∷ es) new all = by (none_at end points p es new all.1) (is_point p (end e)) refl
-  where
-    by : filter (λ e. is_point p (end e)) es ≡ [] → (b : Bool) → is_point p (end e) ≡ b → cond (is_point p
-        (end e)) (e ∷ filter (λ e. is_point p (end e)) es) (filter (λ e. is_point p (end e)) es) ≡ []
-    by others true is = absurd (new (rw (same_point p (end e) is) all.0))
-    by others false is = rw is others
+none_at end points p (e ∷ es) new all = elim (cases_Bool (is_point p (end e))) [
+  | inl is ↦ absurd (new (rw (same_point p (end e) is) all.0))
+  | inr is ↦ rw is (none_at end points p es new all.1)
+]
 
 pub edges_more : (end : PointEdge → Point) (points : List Point) (p : Point) (edges : List PointEdge)
     → (IsNumbered points p → ⊥) → AllByRecursion (λ e. IsNumbered points (end e)) edges

@@ -22,4 +22,4 @@ pub use known::Known;
 pub use laws::edges_are_directions;
 pub use network::Network;
 pub use replica::Replica;
-pub use view::View;
+pub use view::{MAX_CHANNELS, View};

@@ -8,7 +8,7 @@ ghost use Rattle.lgm_store.specs.History.{absorbed};
 ghost use Rattle.lgm_graph.specs.Network.{GoesOn, IsViewed};
 
 use crate::known::Known;
-use crate::view::View;
+use crate::view::{MAX_CHANNELS, View};
 use lgm_check::Refusal;
 use lgm_gossip::Scid;
 use lgm_store::{Candidate, Map, Op, Seed};
@@ -89,7 +89,7 @@ impl Network {
 
     /// Builds the view, unless there is one. The only error is out of memory, which leaves all unchanged.
     pub fn make_view(&mut self, alloc: Global) -> Result<(), AllocError>
-        requires { length self.old.rows.channels ≤ 2000000000 }
+        requires { length self.old.rows.channels ≤ MAX_CHANNELS }
         ensures rows { self.new.rows ≡ self.old.rows }
         ensures known { self.new.known ≡ self.old.known }
         ensures made { OnOk result (IsSome self.new.graph) }

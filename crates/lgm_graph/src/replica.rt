@@ -4,6 +4,7 @@ ghost use Rattle.std.specs.Prelude.{◌≡◌, ◌≢◌, ◌⊎◌, ◌≤◌, 
 ghost use Rattle.lgm_store.specs.History.{fold_from};
 
 use crate::network::Network;
+use crate::view::MAX_CHANNELS;
 use lgm_store::Op;
 use std::alloc::{AllocError, Global};
 use std::collections::VecDeque;
@@ -93,7 +94,7 @@ impl Replica {
     /// Ensures that the network that it follows has its view. If that one was left here, what is due is applied first.
     /// The only error is out of memory.
     pub fn make_view(&mut self, alloc: Global, current: &mut Network) -> Result<(), AllocError>
-        requires few { length current.old.rows.channels ≤ 2000000000 }
+        requires few { length current.old.rows.channels ≤ MAX_CHANNELS }
         requires rows { (self.old.due.items ≡ [])
             ⊎ (fold_from self.old.network.rows self.old.due.items ≡ current.old.rows) }
         requires known { self.old.network.known ≡ current.old.known }

@@ -25,6 +25,9 @@ use lgm_store::{Map, Op};
 use std::alloc::{AllocError, Global};
 use std::marker::Model;
 
+/// The maximum number of channels of a map whose view is built: the numbers of its nodes have 32 bits.
+pub const MAX_CHANNELS: usize = 2_000_000_000;
+
 /// The edges of a map, between numbered nodes. Contracts see the points by number, and the edges into and out of each
 /// node.
 #[derive(Drop)]

@@ -1,7 +1,7 @@
 //! Decoding, thirty-two digits at a time.
 
 ghost use Rattle.std.specs.Prelude.{◌≡◌, ◌≢◌, ℕ, ◌+◌, ◌*◌, ◌/◌, ◌%◌, ◌<◌, ◌≤◌, ◌⊎◌, [], length};
-ghost use Rattle.std.specs.Prelude.{slice_index, vec_capacity, IsTrue, IfOk, IfErr, OnOk, OnErr, MatchResult};
+ghost use Rattle.std.specs.Prelude.{slice_index, vec_capacity, IsTrue, IfErr, OnOk, OnErr, MatchResult};
 ghost use Rattle.hex.specs.Hex.{decode_of, decode_sized};
 ghost use Rattle.hex.specs.declared.error.FromHexError.TheVariants.{OddLength, OutOfMemory};
 ghost use Rattle.lgm_hex.specs.inner.Digits.{IsValue, AreValid, IsDecoded};
@@ -92,27 +92,12 @@ pub fn decode_to_slice(digits: &[u8], out: &mut [u8]) -> Result<(), FromHexError
     hex::decode_to_slice(digits, out)
 }
 
-/// Decodes the digits into a new vector.
-///
-/// The errors are those of `hex::decode`: `OddLength` if the number of digits is odd, else `OutOfMemory` if the bytes
-/// can't be allocated, else `InvalidHexCharacter` with the first byte that isn't a digit, and its index.
-pub fn decode<A: Allocator>(alloc: A, digits: &[u8]) -> Result<Vec<u8, A>, FromHexError>
-    ensures ok { IfOk result (λ bytes. decode_of digits.now ≡ Ok bytes.items) }
-    ensures err { IfErr result (λ e. (e ≡ OutOfMemory) ⊎ (decode_of digits.now ≡ Err e)) }
-    ensures odd { length digits.now % 2 ≡ 1 → result ≡ Err OddLength }
-{
-    if digits.len() % 2 != 0 {
-        return Err(FromHexError::OddLength);
-    }
-    let mut out = vec![in alloc; 0u8; digits.len() / 2]?;
-    decode_to_slice(digits, out.as_mut_slice())?;
-    Ok(out)
-}
-
 /// Decodes the digits into a vector that is reused, replacing its contents. Allocates only if its capacity is too
 /// small.
 ///
-/// The errors are those of [`decode`], and leave the vector empty.
+/// The errors are those of `hex::decode`, and leave the vector empty: `OddLength` if the number of digits is odd, else
+/// `OutOfMemory` if the bytes can't be allocated, else `InvalidHexCharacter` with the first byte that isn't a digit, and
+/// its index.
 pub fn decode_into<A: Allocator>(out: &mut Vec<u8, A>, digits: &[u8]) -> Result<(), FromHexError>
     ensures ok { OnOk result (decode_of digits.now ≡ Ok out.new.items) }
     ensures err { IfErr result (λ e. (e ≡ OutOfMemory) ⊎ (decode_of digits.now ≡ Err e)) }

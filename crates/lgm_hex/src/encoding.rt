@@ -1,12 +1,10 @@
 //! Encoding, sixteen bytes at a time.
 
-ghost use Rattle.std.specs.Prelude.{◌≡◌, ℕ, ◌+◌, ◌*◌, ◌<◌, ◌≤◌, ◌↔◌, ◌++◌, length};
-ghost use Rattle.std.specs.Prelude.{slice_index, IsOk, IfErr, OnOk, OnErr};
+ghost use Rattle.std.specs.Prelude.{◌≡◌, ℕ, ◌+◌, ◌*◌, ◌<◌, ◌≤◌, ◌++◌, length};
+ghost use Rattle.std.specs.Prelude.{slice_index, OnOk, OnErr};
 ghost use Rattle.hex.specs.Hex.{encode_lower, lower_digits};
 ghost use Rattle.lgm_hex.specs.inner.Digits.{IsEncoded};
-ghost use Rattle.hex.specs.declared.error.FromHexError.TheVariants.{InvalidStringLength};
 
-use hex::FromHexError;
 use std::alloc::AllocError;
 use std::simd::prelude::*;
 
@@ -83,23 +81,6 @@ fn encode_into(bytes: &[u8], out: &mut [u8])
         encode_block(bytes, out, 16 * i);
     }
     encode_block(bytes, out, bytes.len() - 16);
-}
-
-/// Encodes the bytes in lower case into a slice twice as long.
-///
-/// If `out` has another length the error is `InvalidStringLength`, as in `hex::encode_to_slice`,
-/// and `out` is unchanged. Nothing is allocated.
-pub fn encode_to_slice(bytes: &[u8], out: &mut [u8]) -> Result<(), FromHexError>
-    ensures fits { IsOk result ↔ (length out.old ≡ 2 * length bytes.now) }
-    ensures written { OnOk result (out.new ≡ encode_lower bytes.now) }
-    ensures refused { IfErr result (λ e. e ≡ InvalidStringLength) }
-    ensures same { OnErr result (out.new ≡ out.old) }
-{
-    if out.len() % 2 != 0 || out.len() / 2 != bytes.len() {
-        return Err(FromHexError::InvalidStringLength);
-    }
-    encode_into(bytes, out);
-    Ok(())
 }
 
 /// Appends the bytes in lower-case digits. If memory runs out the text is unchanged.

@@ -11,5 +11,5 @@
 mod decoding;
 mod encoding;
 
-pub use crate::decoding::{decode, decode_array, decode_into, decode_to_slice};
-pub use crate::encoding::{append, encode_to_slice};
+pub use crate::decoding::{decode_array, decode_into, decode_to_slice};
+pub use crate::encoding::append;

@@ -1,6 +1,7 @@
 -- How reading a script goes on and ends.
 use Rattle.std.proofs.Common.{◌≡◌, ℕ, ◌+◌, ◌<◌, ◌≤◌, List, [], ◌∷◌, ◌++◌, length, take, drop, Result, Ok, Err, refl, sym, subst, ◌∙◌}
 use Rattle.std.specs.Prelude.{◌≢◌, IfSome, IfOk}
+use Rattle.lgm_script.specs.declared.line_reader.TheConstants.{MAX_LINE}
 use Rattle.lgm_script.specs.declared.output.SendFault.TheVariants.{Write as SendWrite}
 use Rattle.lgm_script.specs.declared.reading.LineFault.{LineFault}
 use Rattle.lgm_script.specs.declared.reading.LineFault.TheVariants as lines
@@ -9,6 +10,7 @@ use Rattle.lgm_script.specs.Device.{Input, IsAtEnd}
 use Rattle.lgm_script.specs.Lines.{ahead, IsFirstLine, IsLongerThan}
 use Rattle.lgm_script.specs.Output.{OutputState, Tells, TellsPart}
 use Rattle.lgm_script.specs.Request.{request_of}
+use Rattle.lgm_answers.specs.declared.run_fault.TheConstants.{MAX_LINES}
 use Rattle.lgm_answers.proofs.LineFaults.{failed, ends_at}
 use Rattle.lgm_answers.specs.declared.run_fault.RunFault.{RunFault}
 use Rattle.lgm_answers.specs.declared.run_fault.RunFault.TheVariants as faults
@@ -40,8 +42,8 @@ module _ {source : Input} {output : OutputState} {asked : List Request} {buffere
       → (failed {T = T} fault ≢ failed lines.Write → Tells between output' [])
       → (failed {T = T} fault ≡ failed lines.Write → TellsPart between output' [] SendWrite)
       → (failed {T = T} fault ≡ failed lines.Read → mid.failures < source'.failures)
-      → (fault ≡ lines.TooLong → (length asked < 10000000)
-      × IsLongerThan 140000 (ahead buffered' source'.left))
+      → (fault ≡ lines.TooLong → (length asked < MAX_LINES)
+      × IsLongerThan MAX_LINE (ahead buffered' source'.left))
       → HasRead source source' output output' whole
       (ended (line_fault fault))
   line_failed {T = T} buffered' source' output' fault kept told part read longer =
@@ -84,7 +86,7 @@ module _ {source : Input} {output : OutputState} {asked : List Request} {buffere
       }
 
   -- one more line is asked
-  pub line_read : (count : ℕ) → IsFirstLine buffered mid.left count → count ≤ 140000
+  pub line_read : (count : ℕ) → IsFirstLine buffered mid.left count → count ≤ MAX_LINE
       → IsReadTo source output
       (asked ++ request_of (take count buffered) ∷ []) (drop (count + 1) buffered) mid between
   line_read count first small =
@@ -94,7 +96,7 @@ module _ {source : Input} {output : OutputState} {asked : List Request} {buffere
         taken_same = read_to.taken_same;
         writer = read_to.writer;
         clear = read_to.clear;
-        so_far = step source.left asked count buffered mid.left read_to.so_far first small;
+        so_far = step source.left asked buffered mid.left read_to.so_far count first small;
       }
 
   -- it ended otherwise after what was read, and no device failed
@@ -115,7 +117,7 @@ module _ {source : Input} {output : OutputState} {asked : List Request} {buffere
   }
 
   -- all lines were read
-  pub all_read : (old new : Gathered) → new ≡ with_lines old asked → length asked ≤ 10000000
+  pub all_read : (old new : Gathered) → new ≡ with_lines old asked → length asked ≤ MAX_LINES
       → IsAtEnd (ahead buffered mid.left)
       → HasRead source mid output between (λ _. IsNoted source.left
       old new) (Ok (tt {0}))
@@ -130,7 +132,7 @@ module _ {source : Input} {output : OutputState} {asked : List Request} {buffere
       (λ same. absurd cc) (λ same. absurd cc) (λ same. absurd cc) (λ same. absurd cc)
 
   -- there are more lines
-  pub more_lines : {whole : Unit {0} → Type 0} → length asked ≡ 10000000 → 0 < length buffered
+  pub more_lines : {whole : Unit {0} → Type 0} → length asked ≡ MAX_LINES → 0 < length buffered
       → HasRead source mid output between whole
       (ended faults.TooManyLines)
   more_lines {whole} full more =

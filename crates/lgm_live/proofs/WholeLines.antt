@@ -1,9 +1,11 @@
 -- How far a script was read.
 use Rattle.std.proofs.Common.{◌≡◌, ℕ, ◌+◌, ◌<◌, ◌≤◌, List, [], ◌∷◌, ◌++◌, length, map}
-use Rattle.std.proofs.Common.{get_or, take, drop, Option, Some, None, refl, sym, ap, subst, ◌∙◌, arith}
+use Rattle.std.proofs.Common.{take, drop, Option, Some, None, refl, sym, ap, subst, ◌∙◌, arith}
 use Rattle.std.specs.Prelude.{◌≢◌, IfSome}
 use Rattle.std.specs.List.{AllByRecursion}
-use Rattle.std.proofs.lemmas.List.{append-nil, length-append, length-drop, length-take, take_all, take_more, drop_more, map_push, nil_from_length}
+use Rattle.std.proofs.lemmas.List.{append-nil, length-append, length-drop, length-take, take_all, map_push, nil_from_length}
+use Rattle.std.proofs.lemmas.Option.{IfSome_then}
+use Rattle.lgm_script.specs.declared.line_reader.TheConstants.{MAX_LINE}
 use Rattle.lgm_script.specs.declared.request.Request.{Request}
 use Rattle.lgm_script.specs.declared.reading.LineFault.{LineFault}
 use Rattle.lgm_script.specs.declared.reading.LineFault.TheVariants as lines
@@ -12,10 +14,12 @@ use Rattle.lgm_script.specs.Device.{IsAtEnd, Appends}
 use Rattle.lgm_script.specs.Lines.{lines_of, ahead, IsFirstLine, IsLongerThan}
 use Rattle.lgm_script.specs.Output.{OutputState, Tells, TellsPart}
 use Rattle.lgm_script.specs.Request.{request_of}
-use Rattle.lgm_script.proofs.FirstLines.{each-push}
+use Rattle.lgm_script.proofs.Ahead.{left_is}
+use Rattle.lgm_script.proofs.FirstLines.{each-push, stands_at}
 use Rattle.lgm_script.proofs.Splitting.{next_of}
+use Rattle.lgm_answers.specs.declared.run_fault.TheConstants.{MAX_LINES}
 use Rattle.lgm_answers.proofs.LineFaults.{failed}
-use Rattle.lgm_answers.proofs.Lines.{some_bytes, some_is, has_line}
+use Rattle.lgm_answers.proofs.Lines.{some_bytes, has_line}
 use Rattle.lgm_live.specs.Running.{AreShort, HasMoreLines, HasLongLine}
 use Rattle.lgm_live.specs.inner.Reading.{IsAsked}
 
@@ -25,7 +29,7 @@ pub record IsAt (script : List ℕ) (asked : List Request) (input : Option (List
   pub input_is : input ≡ Some rest
   pub left : lines_of rest ≡ drop (length asked) (lines_of script)
   pub few : length asked ≤ length (lines_of script)
-  pub short : AllByRecursion (λ line. length line ≤ 140000) (take (length asked) (lines_of script))
+  pub short : AllByRecursion (λ line. length line ≤ MAX_LINE) (take (length asked) (lines_of script))
   pub asked_is : asked ≡ map request_of (take (length asked) (lines_of script))
 
 -- where the source tells its bytes
@@ -38,101 +42,69 @@ starts (Some script) = record { rest = script; input_is = refl; left = refl; few
 
 -- ---- one line
 
-step_at : (script : List ℕ) (asked : List Request) (count : ℕ) (buffered left : List ℕ)
-    → IsAt script asked (ahead buffered (Some left)) → IsFirstLine buffered (Some left) count → count ≤ 140000
-    → IsAt script (asked ++ request_of (take count buffered) ∷ []) (ahead (drop (count + 1) buffered) (Some left))
-step_at script asked count buffered left at first small =
-    let k = length asked in
-    let all = lines_of script in
-    let line = take count buffered in
-    let rest = drop (count + 1) buffered ++ left in
-    let next = next_of buffered left count first in
-    let here : drop k all ≡ line ∷ lines_of rest =
-    sym at.left ∙ ap lines_of (sym (some_is (buffered ++ left) at.rest at.input_is)) ∙ next.lines in
-    let below : k < length all = omega (arith, ap length here, length-drop k all) in
-    let parts : get_or all k [] ∷ drop (k + 1) all ≡ line ∷ lines_of rest = sym (drop_more all k [] below) ∙ here in
-    let is : get_or all k [] ≡ line = ap (λ (ls : List (List ℕ)). get_or ls 0 []) parts in
-    let front : take (k + 1) all ≡ take k all ++ line ∷ [] = take_more all k [] below ∙ ap (λ (l : List ℕ). take k all ++ l ∷ []) is in
-    let short : length line ≤ 140000 = omega (arith, small, length-take count buffered) in
-    let more : length (asked ++ request_of line ∷ []) ≡ k + 1 = omega (arith, length-append asked (request_of line ∷ [])) in
-    record {
-      rest = rest;
-      input_is = refl;
-      left = ap (drop 1) (sym parts) ∙ ap (λ n. drop n all) (sym more);
-      few = omega (arith, more, below);
-      short = subst (λ n. AllByRecursion (λ l. length l ≤ 140000) (take n all)) (sym more)
-          (subst (λ (ls : List (List ℕ)). AllByRecursion (λ l. length l ≤ 140000) ls) (sym front)
-          (each-push (λ l. length l ≤ 140000) (take k all) line at.short short));
-      asked_is = asked_with at.asked_is front ∙ ap (λ n. map request_of (take n all)) (sym more);
-    }
-  where
-    asked_with : asked ≡ map request_of (take (length asked) (lines_of script)) → take (length asked
-        + 1) (lines_of script) ≡ take (length asked) (lines_of script) ++ take count buffered ∷ []
-        → asked ++ request_of (take count buffered) ∷ [] ≡ map request_of (take (length asked + 1) (lines_of script))
-    asked_with is front =
-        ap (λ (rs : List Request). rs ++ request_of (take count buffered) ∷ []) is
-        ∙ sym (map_push request_of (take (length asked) (lines_of script)) (take count buffered))
-        ∙ ap (map request_of) (sym front)
+module _ (script : Option (List ℕ)) (asked : List Request) (buffered : List ℕ) (left : Option (List ℕ))
+    (so_far : SoFar script asked (ahead buffered left)) where
+  pub step : (count : ℕ) → IsFirstLine buffered left count → count ≤ MAX_LINE
+      → SoFar script (asked ++ request_of (take count buffered) ∷ []) (ahead (drop (count + 1) buffered) left)
+  step count first small = IfSome_then script so_far (λ s at.
+      let input = left_is buffered left at.rest at.input_is in
+      let k = length asked in
+      let all = lines_of s in
+      let line = take count buffered in
+      let rest = drop (count + 1) buffered ++ input.0 in
+      let next = next_of buffered input.0 count (subst (λ o. IsFirstLine buffered o count) input.1 first) in
+      let stand = stands_at all k [] line (lines_of rest) (sym at.left ∙ ap lines_of input.2 ∙ next.lines) in
+      let more : length (asked ++ request_of line ∷ []) ≡ k + 1 = omega (arith, length-append asked (request_of line ∷ [])) in
+      let front : take (length (asked ++ request_of line ∷ [])) all ≡ take k all ++ line ∷ [] = ap (λ n. take n all) more ∙ stand.front in
+      record {
+        rest = rest;
+        input_is = ap (ahead (drop (count + 1) buffered)) input.1;
+        left = sym stand.behind ∙ ap (λ n. drop n all) (sym more);
+        few = let lt = stand.within in omega (arith, more, lt);
+        short =
+            subst (λ (ls : List (List ℕ)). AllByRecursion (λ l. length l ≤ MAX_LINE) ls) (sym front)
+            (each-push (λ l. length l ≤ MAX_LINE) (take k all) line at.short (omega (arith, small, length-take count buffered)));
+        asked_is =
+            ap (λ (rs : List Request). rs ++ request_of line ∷ []) at.asked_is
+            ∙ sym (map_push request_of (take k all) line) ∙ ap (map request_of) (sym front);
+      })
 
-pub step : (script : Option (List ℕ)) (asked : List Request) (count : ℕ) (buffered : List ℕ)
-    (left : Option (List ℕ)) → SoFar script asked (ahead buffered left) → IsFirstLine buffered left count
-    → count ≤ 140000
-    → SoFar script (asked ++ request_of (take count buffered) ∷ []) (ahead (drop (count + 1) buffered) left)
-step None asked count buffered left so_far first small = tt
-step (Some script) asked count buffered None so_far first small = absurd (let bad = so_far.input_is in cc)
-step (Some script) asked count buffered (Some left) so_far first small =
-    step_at script asked count buffered left so_far first small
+  -- there are more than the limit
+  pub many : 0 < length buffered → length asked ≡ MAX_LINES → IfSome script HasMoreLines
+  many more full = IfSome_then script so_far (λ s at.
+      let input = left_is buffered left at.rest at.input_is in
+      let some = has_line at.rest (omega (arith, ap length input.2, length-append buffered input.0)) in
+      record {
+        more = omega (arith, ap length at.left, length-drop (length asked) (lines_of s), some, full);
+        short = subst (AreShort s) full at.short;
+      })
 
 -- ---- how it ends
 
-pub ends : (script : Option (List ℕ)) (asked : List Request) (input : Option (List ℕ))
-    → SoFar script asked input
-    → IsAtEnd input → length asked ≤ 10000000 → IfSome script (IsAsked asked)
-ends None asked input so_far ended limit = tt
-ends (Some script) asked None so_far ended limit = absurd (let bad = so_far.input_is in cc)
-ends (Some script) asked (Some s) so_far ended limit =
-    let all = lines_of script in
-    let none : drop (length asked) all ≡ [] =
-    sym so_far.left ∙ ap lines_of (sym (some_is s so_far.rest so_far.input_is) ∙ ended) in
-    let few = so_far.few in
-    let same : length asked ≡ length all = omega (arith, ap length none, length-drop (length asked) all) in
-    let whole : take (length asked) all ≡ all = take_all (length asked) all (omega (arith, same)) in
-    record {
-      limits = record {
-        few = omega (arith, same);
-        short = subst (λ (ls : List (List ℕ)). AllByRecursion (λ l. length l ≤ 140000) ls) whole so_far.short;
-      };
-      all = so_far.asked_is ∙ ap (map request_of) whole;
-    }
+module _ (script : Option (List ℕ)) (asked : List Request) (input : Option (List ℕ)) (so_far : SoFar script asked input) where
+  -- all was read
+  pub ends : IsAtEnd input → length asked ≤ MAX_LINES → IfSome script (IsAsked asked)
+  ends ended limit = IfSome_then script so_far (λ s at.
+      let all = lines_of s in
+      let rest_is : at.rest ≡ [] = subst IsAtEnd at.input_is ended in
+      let none : drop (length asked) all ≡ [] = sym at.left ∙ ap lines_of rest_is in
+      let few = at.few in
+      let same : length asked ≡ length all = omega (arith, ap length none, length-drop (length asked) all) in
+      let whole : take (length asked) all ≡ all = take_all (length asked) all (omega (arith, same)) in
+      record {
+        limits = record {
+          few = omega (arith, same);
+          short = subst (λ (ls : List (List ℕ)). AllByRecursion (λ l. length l ≤ MAX_LINE) ls) whole at.short;
+        };
+        all = at.asked_is ∙ ap (map request_of) whole;
+      })
 
-pub many : (script : Option (List ℕ)) (asked : List Request) (buffered : List ℕ) (left : Option (List ℕ))
-    → SoFar script asked (ahead buffered left) → 0 < length buffered → length asked ≡ 10000000
-    → IfSome script HasMoreLines
-many None asked buffered left so_far more full = tt
-many (Some script) asked buffered None so_far more full = absurd (let bad = so_far.input_is in cc)
-many (Some script) asked buffered (Some left) so_far more full =
-    let rest_is : so_far.rest ≡ buffered ++ left =
-    sym (some_is (buffered ++ left) so_far.rest so_far.input_is) in
-    let lines : lines_of (buffered ++ left) ≡ drop (length asked) (lines_of script) = ap lines_of (sym rest_is) ∙ so_far.left in
-    let some = has_line (buffered ++ left) (omega (arith, length-append buffered left)) in
-    record {
-      more = omega (arith, ap length lines, length-drop (length asked) (lines_of script), some, full);
-      short = subst (AreShort script) full so_far.short;
-    }
-
-pub long : (script : Option (List ℕ)) (asked : List Request) (input : Option (List ℕ))
-    → SoFar script asked input
-    → length asked < 10000000 → IsLongerThan 140000 input → IfSome script HasLongLine
-long None asked input so_far limit longer = tt
-long (Some script) asked None so_far limit longer = absurd (let bad = so_far.input_is in cc)
-long (Some script) asked (Some s) so_far limit longer =
-    let k = length asked in
-    let all = lines_of script in
-    let here : drop k all ≡ longer.0 ∷ longer.1 =
-    sym so_far.left ∙ ap lines_of (sym (some_is s so_far.rest so_far.input_is)) ∙ longer.2 in
-    let below : k < length all = omega (arith, ap length here, length-drop k all) in
-    let is : get_or all k [] ≡ longer.0 = ap (λ (ls : List (List ℕ)). get_or ls 0 []) (sym (drop_more all k [] below) ∙ here) in
-    record { place = k; limit = limit; long = rw is longer.3; short = so_far.short }
+  -- the next line is too long
+  pub long : length asked < MAX_LINES → IsLongerThan MAX_LINE input → IfSome script HasLongLine
+  long limit longer = IfSome_then script so_far (λ s at.
+      let line : IsLongerThan MAX_LINE (Some at.rest) = subst (IsLongerThan MAX_LINE) at.input_is longer in
+      let stand = stands_at (lines_of s) (length asked) [] line.0 line.1 (sym at.left ∙ line.2) in
+      record { place = length asked; limit = limit; long = rw stand.here line.3; short = at.short })
 
 -- ---- nothing is written
 

@@ -4,12 +4,10 @@ ghost use Rattle.std.specs.Prelude.{◌≡◌, ◌↔◌, ◌≤◌, List, [], �
 ghost use Rattle.lgm_script.specs.declared.item.Item.{Item};
 ghost use Rattle.lgm_live.specs.Batches.{items_of};
 
+use lgm_publish::MAX_OPERATIONS;
 use lgm_script::Item;
 use std::alloc::{AllocError, Global};
 use std::marker::Model;
-
-/// The maximum number of items in all batches: as many as a board takes operations.
-const MAX_ITEMS: u64 = 2_000_000_000;
 
 /// Items that are published together. Contracts see the list.
 #[derive(Debug, Drop)]
@@ -64,11 +62,11 @@ impl Batches {
         Ok(())
     }
 
-    /// Whether there are at most 2,000,000,000 items in total.
+    /// Whether there are at most as many items in total as a board takes operations, [`MAX_OPERATIONS`].
     pub fn are_few(&self) -> bool
-        ensures { IsTrue result ↔ (length (items_of self.now) ≤ 2000000000) }
+        ensures { IsTrue result ↔ (length (items_of self.now) ≤ MAX_OPERATIONS) }
     {
-        let mut room = MAX_ITEMS;
+        let mut room = MAX_OPERATIONS;
         for batch in self.as_slice() {
             let items = batch.as_slice().len() as u64;
             if room < items {

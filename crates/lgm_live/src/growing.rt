@@ -17,8 +17,8 @@ use crate::working::{Worked, work_all};
 use crate::writing::{Written, publish_batches};
 use lgm_gossip::ChainHash;
 use lgm_graph::Known;
-use lgm_par::{Gate, Pool};
-use lgm_publish::{Eye, Pen, PublishFault, board};
+use lgm_par::{Gate, MAX_WORKERS, Pool};
+use lgm_publish::{Eye, MAX_OPERATIONS, Pen, PublishFault, board};
 use std::alloc::Global;
 use std::marker::Sync;
 use std::random::RandomSource;
@@ -33,7 +33,7 @@ fn work_given<R: Threads + Sync, G: Gate>(
 ) -> Result<Vec<Worked>, LiveFault>
     requires given { IfSome given.old (λ eyes. length eyes.items ≡ length lists.now) }
     requires some { 0 < length lists.now }
-    requires few { length lists.now ≤ 64 }
+    requires few { length lists.now ≤ MAX_WORKERS }
     ensures { IfOk result (λ works. IfSome given.old (λ eyes. HaveWorked eyes.items lists.now works.items)) }
 {
     let Some(eyes) = given.take() else {
@@ -53,9 +53,9 @@ fn run_both<R: Threads + Wait + Sync + RandomSource, G: Gate>(
     lists: &[RequestList],
 ) -> (Result<Written, LiveFault>, Result<Vec<Worked>, LiveFault>)
     requires pen { (pen.old.published ≡ []) × (pen.old.pending ≡ []) }
-    requires items { length (items_of batches.now) ≤ 2000000000 }
+    requires items { length (items_of batches.now) ≤ MAX_OPERATIONS }
     requires eyes { length eyes.items ≡ length lists.now }
-    requires workers { (1 ≤ length lists.now) × (length lists.now ≤ 64) }
+    requires workers { (1 ≤ length lists.now) × (length lists.now ≤ MAX_WORKERS) }
     ensures board { pen.new.board ≡ pen.old.board }
     ensures written { IfOk result.0 (ArePublished chain.now batches.now pen.new.published) }
     ensures worked { IfOk result.1 (λ works. HaveWorked eyes.items lists.now works.items) }
@@ -67,11 +67,11 @@ fn run_both<R: Threads + Wait + Sync + RandomSource, G: Gate>(
             requires sync { IsSync R.row }
             requires given { IfSome given (λ eyes. length eyes.items ≡ length lists.now) }
             requires some { 0 < length lists.now }
-            requires few { length lists.now ≤ 64 }
+            requires few { length lists.now ≤ MAX_WORKERS }
         { work_given(pool, &mut given, lists) },
         &mut || -> Result<Written, LiveFault>
             requires pen { (pen.now.published ≡ []) × (pen.now.pending ≡ []) }
-            requires items { length (items_of batches.now) ≤ 2000000000 }
+            requires items { length (items_of batches.now) ≤ MAX_OPERATIONS }
         {
             let written = publish_batches(pool, chain, pen, batches);
             pool.gate.published(usize::MAX);
@@ -111,7 +111,7 @@ fn gather(
 }
 
 /// Runs one writer, which admits the items of each batch, in order, on a map of its own, and publishes what was
-/// accepted once per batch, while workers answer payments: one worker for each of the 1 to 64 lists. A worker answers
+/// accepted once per batch, while workers answer payments: one worker for each of the 1 to [`MAX_WORKERS`] lists. A worker answers
 /// its list in order, each payment on the map published last at that time.
 ///
 /// The gate is for tests, and no answer depends on it. Worker `i`, counted from 0, passes it with `i` before each
@@ -132,8 +132,8 @@ pub fn live<R: Threads + Wait + Sync + RandomSource, G: Gate>(
     lists: &RequestLists,
     gate: &G,
 ) -> Result<LiveReport, LiveFault>
-    requires items { length (items_of batches.now) ≤ 2000000000 }
-    requires workers { (1 ≤ length lists.now) × (length lists.now ≤ 64) }
+    requires items { length (items_of batches.now) ≤ MAX_OPERATIONS }
+    requires workers { (1 ≤ length lists.now) × (length lists.now ≤ MAX_WORKERS) }
     ensures report { IfOk result (IsReport chain.now known.now batches.now lists.now) }
 {
     let lists = lists.as_slice();

@@ -12,7 +12,7 @@ ghost use Rattle.lgm_live.specs.declared.report.LiveAnswer.{LiveAnswer};
 
 use crate::report::{LiveAnswer, LiveReport};
 use crate::slot::Slot;
-use lgm_answers::{outcome_word, send_route};
+use lgm_answers::{MAX_LINES, outcome_word, send_route};
 use lgm_payload::build;
 use lgm_route::{Route, RouteFault};
 use lgm_script::{Line, Output, SendFault, Sink};
@@ -141,7 +141,7 @@ fn tell_slots<W: Sink>(
     output: &mut Output<'_, W>,
 ) -> Result<(), SendFault>
     requires workers { 0 < workers }
-    requires slots { (length slots.now ≤ 10000000) × AreThere workers report.now slots.now }
+    requires slots { (length slots.now ≤ MAX_LINES) × AreThere workers report.now slots.now }
     ensures { Writes (told_by W.seen output.old) (told_by W.seen output.new)
         (slots_before workers report.now slots.now (length slots.now)) result }
 {
@@ -169,7 +169,7 @@ pub(crate) fn tell<W: Sink>(
     output: &mut Output<'_, W>,
 ) -> Result<(), SendFault>
     requires workers { 0 < workers }
-    requires slots { (length slots.now ≤ 10000000) × AreThere workers report.now slots.now }
+    requires slots { (length slots.now ≤ MAX_LINES) × AreThere workers report.now slots.now }
     requires gathered { output.old.gathered.now.items ≡ [] }
     ensures writer { output.new.writer.ghost_name ≡ output.old.writer.ghost_name }
     ensures told { OnOk result (Appends (W.seen output.old.writer.now).taken (W.seen output.new.writer.now).taken

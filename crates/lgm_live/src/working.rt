@@ -11,7 +11,7 @@ ghost use Rattle.lgm_live.specs.inner.Worked.{HaveWorked};
 use crate::fault::LiveFault;
 use crate::report::LiveAnswer;
 use crate::requests::RequestList;
-use lgm_par::Gate;
+use lgm_par::{Gate, MAX_WORKERS};
 use lgm_publish::{Eye, Guard};
 use lgm_route::{Request, Route, RouteFault};
 use std::alloc::Global;
@@ -87,7 +87,7 @@ pub(crate) fn work_all<R: Threads + Sync, G: Gate>(
 ) -> Result<Vec<Worked>, LiveFault>
     requires same { length eyes.items ≡ length lists.now }
     requires some { 0 < length lists.now }
-    requires few { first + length lists.now ≤ 64 }
+    requires few { first + length lists.now ≤ MAX_WORKERS }
     ensures { IfOk result (λ works. HaveWorked eyes.items lists.now works.items) }
 {
     let half = lists.len() / 2;
@@ -102,14 +102,14 @@ pub(crate) fn work_all<R: Threads + Sync, G: Gate>(
             requires sync { IsSync R.row }
             requires same { length eyes.items ≡ length near.now }
             requires some { 0 < length near.now }
-            requires few { first + length near.now ≤ 64 }
+            requires few { first + length near.now ≤ MAX_WORKERS }
             ensures { IfOk result (λ works. HaveWorked eyes.items near.entry.now works.items) }
         { work_all(rt, alloc, gate, first, eyes, near) },
         move || -> Result<Vec<Worked>, LiveFault>
             requires sync { IsSync R.row }
             requires same { length rest.items ≡ length far.now }
             requires some { 0 < length far.now }
-            requires few { first + half + length far.now ≤ 64 }
+            requires few { first + half + length far.now ≤ MAX_WORKERS }
             ensures { IfOk result (λ works. HaveWorked rest.items far.entry.now works.items) }
         { work_all(rt, alloc, gate, first + half, rest, far) },
     );

@@ -11,7 +11,7 @@ use crate::fault::LiveFault;
 use lgm_check::Refusal;
 use lgm_gossip::ChainHash;
 use lgm_par::{Gate, Pool};
-use lgm_publish::{AppendCause, Pen};
+use lgm_publish::{AppendCause, MAX_OPERATIONS, Pen};
 use lgm_script::Item;
 use lgm_store::{Map, Op, Seed};
 use std::alloc::{AllocError, Global};
@@ -48,7 +48,7 @@ impl Written {
 
     /// Appends the operation of an accepted item, and stores a copy.
     fn keep(&mut self, alloc: Global, pen: &mut Pen, op: Op) -> Result<(), LiveFault>
-        requires few { length (pen.old.published ++ pen.old.pending) < 2000000000 }
+        requires few { length (pen.old.published ++ pen.old.pending) < MAX_OPERATIONS }
         ensures map { self.new.map ≡ self.old.map }
         ensures outcomes { self.new.outcomes ≡ self.old.outcomes }
         ensures ends { self.new.ends ≡ self.old.ends }
@@ -75,7 +75,7 @@ impl Written {
         pen: &mut Pen,
         item: &Item,
     ) -> Result<(), LiveFault>
-        requires few { length self.old.ops.items < 2000000000 }
+        requires few { length self.old.ops.items < MAX_OPERATIONS }
         requires appended { pen.old.published ++ pen.old.pending ≡ self.old.ops.items }
         ensures written { (items : List Item) → IsWritten chain.now items self.old
             → OnOk result (IsWritten chain.now (items ++ item.now ∷ []) self.new) }
@@ -124,7 +124,7 @@ impl Written {
         pen: &mut Pen,
         batch: &[Item],
     ) -> Result<(), LiveFault>
-        requires few { length self.old.ops.items + length batch.now ≤ 2000000000 }
+        requires few { length self.old.ops.items + length batch.now ≤ MAX_OPERATIONS }
         requires pen { (pen.old.published ≡ self.old.ops.items) × (pen.old.pending ≡ []) }
         ensures written { (items : List Item) → IsWritten chain.now items self.old
             → OnOk result (IsWritten chain.now (items ++ batch.now) self.new) }
@@ -150,7 +150,7 @@ pub(crate) fn publish_batches<R: Wait + RandomSource, G: Gate>(
     pen: &mut Pen,
     batches: &[Batch],
 ) -> Result<Written, LiveFault>
-    requires few { length (items_of batches.now) ≤ 2000000000 }
+    requires few { length (items_of batches.now) ≤ MAX_OPERATIONS }
     requires pen { (pen.old.published ≡ []) × (pen.old.pending ≡ []) }
     ensures board { pen.new.board ≡ pen.old.board }
     ensures published { IfOk result (ArePublished chain.now batches.now pen.new.published) }

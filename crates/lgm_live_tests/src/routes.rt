@@ -116,7 +116,8 @@ fn all_is_told_in_its_place(rt: HostRuntime) -> Result<(), Fail> {
 fn is_lawful(told: &str) -> bool {
     told == "2 at 0 same\n2 no-route\n"
         || told
-            == "2 at 2 same\n2 route 1000 700000 1\n2 hop 7x0x0 2d020203e804030aae600822111111111111111111111111111111111111111111111111111111111111111103e8\n"
+            == "2 at 2 same\n2 route 1000 700000 1\n\
+            2 hop 7x0x0 2d020203e804030aae600822111111111111111111111111111111111111111111111111111111111111111103e8\n"
 }
 
 #[test]

@@ -9,4 +9,4 @@ mod pool;
 
 pub use gate::{Gate, Open};
 pub use mapping::map_chunks;
-pub use pool::Pool;
+pub use pool::{MAX_WORKERS, Pool};

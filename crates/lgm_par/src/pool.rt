@@ -1,6 +1,7 @@
 //! Workers that share work.
 
 ghost use Rattle.std.specs.Prelude.{◌<◌, ◌≤◌, IfOk};
+ghost use Rattle.lgm_par.specs.declared.pool.TheConstants.{MAX_WORKERS};
 ghost use Rattle.lgm_par.specs.inner.Chunks.{piece_of};
 ghost use Rattle.lgm_par.specs.Pieces.{AcceptsAll, GivesAll};
 
@@ -11,19 +12,22 @@ use std::marker::Sync;
 use std::thread;
 use std::thread::Threads;
 
-/// From 1 to 64 workers, with what they need. No result depends on any of it.
+/// The maximum number of workers.
+pub const MAX_WORKERS: usize = 64;
+
+/// From 1 to [`MAX_WORKERS`] workers, with what they need. No result depends on any of it.
 #[derive(Drop)]
 pub struct Pool<'a, Rt, G> {
     /// The runtime that starts threads.
     pub rt: &'a Rt,
     /// The allocator.
     pub alloc: Global,
-    /// The number of workers, from 1 to 64.
+    /// The number of workers, from 1 to [`MAX_WORKERS`].
     pub workers: usize,
     /// What each chunk of work passes before it starts.
     pub gate: &'a G,
     ghost some: { 1 ≤ workers },
-    ghost few: { workers ≤ 64 },
+    ghost few: { workers ≤ MAX_WORKERS },
 }
 
 impl<'a, Rt: Threads + Sync, G: Gate> Pool<'a, Rt, G> {

@@ -1,3 +1,4 @@
+pub mod Values
 pub mod Records
 pub mod PayloadLaws
 pub mod BuildingLaws

@@ -1,9 +1,10 @@
 -- The values of records, and their faults, record by record.
-use Rattle.std.proofs.Common.{◌≡◌, ℕ, ◌+◌, ◌<◌, ◌≤◌, Bool, true, false, cond, eqb, List, [], ◌∷◌, ◌++◌, length, get_or}
+use Rattle.std.proofs.Common.{◌≡◌, ◌⊎◌, ℕ, ◌+◌, ◌%◌, ◌<◌, ◌≤◌, Bool, true, false, cond, eqb, List, [], ◌∷◌, ◌++◌, length, get_or}
 use Rattle.std.proofs.Common.{take, drop, Option, Some, None, refl, sym, ap, subst, ◌∙◌, arith, inl, inr}
 use Rattle.std.specs.List.{AllByRecursion}
 use Rattle.std.specs.Option.{option_map}
 use Rattle.std.proofs.lemmas.Bool.{eqb-true, eq-eqb, ne_eqb}
+use Rattle.std.proofs.lemmas.Bool.Decides.{nat_tests}
 use Rattle.std.proofs.lemmas.List.{take_more, drop_more, take-append-drop, map-append}
 use Rattle.std.specs.Int.{w64, from_be_bytes}
 use Rattle.lgm_wire.specs.TruncatedInteger.{number_of}
@@ -13,7 +14,7 @@ use Rattle.lgm_wire.specs.TlvView.{record_of, records_of}
 use Rattle.lgm_gossip.proofs.WireLaws.{chosen, IsBytes}
 use Rattle.lgm_payload.specs.declared.fault.PayloadFault.{PayloadFault}
 use Rattle.lgm_payload.specs.declared.reading.Known.{Known}
-use Rattle.lgm_payload.specs.HopPayload.{value_of, value_before}
+use Rattle.lgm_payload.specs.HopPayload.{value_of, value_before, IsKnown}
 use Rattle.lgm_payload.specs.reading.Reading.{record_fault, or_later, first_fault, payment_of, with_record, known_in}
 
 -- ---- one more record
@@ -57,6 +58,22 @@ first_fault-none [] ys none = refl
 first_fault-none (x ∷ xs) ys none =
     let both = both_none (record_fault x) (first_fault xs) none in
     rw both.0 (first_fault-none xs ys both.1)
+
+-- ---- types
+
+-- without a fault a type is known or odd
+record_fault-known : (kind : ℕ) (value : List ℕ) → record_fault (record { kind = kind; value = value }) ≡ None → IsKnown kind ⊎ (kind % 2 ≡ 1)
+record_fault-known kind value none = grind (arith, nat_tests)
+
+pub kinds_of : (rs : List TlvRecord) → first_fault rs ≡ None → AllByRecursion (λ r. IsKnown r.kind ⊎ (r.kind % 2 ≡ 1)) rs
+kinds_of [] none = tt
+kinds_of (r ∷ rs) none =
+    let both = both_none (record_fault r) (first_fault rs) none in
+    (record_fault-known r.kind r.value both.0, kinds_of rs both.1)
+
+-- an odd type is skipped
+pub odd_skipped : (kind : ℕ) (value : List ℕ) → kind % 2 ≡ 1 → record_fault (record { kind = kind; value = value }) ≡ None
+odd_skipped kind value odd = grind (arith, nat_tests)
 
 -- ---- a loop over the records
 

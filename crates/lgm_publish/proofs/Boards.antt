@@ -1,7 +1,8 @@
 -- Each kind of step keeps the rule of a board.
-use Rattle.std.proofs.Common.{◌≡◌, Result, Ok, Err, ℕ, ◌+◌, ◌≤◌, ◌==◌, ◌≢◌, Bool, true, false, fold, length, length-append, append_assoc}
-use Rattle.std.proofs.Common.{arith, Option, Some, None, List, [], ◌∷◌, ◌++◌, set, refl, sym, ap, ◌∙◌, subst, ⊎_elim}
+use Rattle.std.proofs.Common.{◌≡◌, Result, Ok, Err, ℕ, ◌+◌, ◌≤◌, ◌==◌, ◌≢◌, false, fold, length, length-append, append_assoc}
+use Rattle.std.proofs.Common.{arith, Option, Some, None, List, [], ◌∷◌, ◌++◌, set, refl, sym, ap, ◌∙◌, subst, ⊎_elim, inl, inr}
 use Rattle.std.proofs.lemmas.List.{append-nil}
+use Rattle.std.proofs.lemmas.Bool.{cases_Bool}
 use Rattle.std.proofs.lemmas.Bool.Decides.{nat_tests}
 use mathlib.Core.Option.{some, some-ne-none}
 use lib.ListN.{get_elem?}
@@ -11,6 +12,7 @@ use Rattle.lgm_store.specs.declared.op.Op.{Op}
 use Rattle.lgm_store.specs.Rows.{Rows, empty}
 use Rattle.lgm_store.specs.History.{fold_from}
 use Rattle.lgm_store.specs.History as store
+use Rattle.lgm_publish.specs.declared.edition.TheConstants.{MAX_OPERATIONS}
 use Rattle.lgm_publish.specs.declared.edition.Entry.{Entry}
 use Rattle.lgm_publish.specs.declared.edition.Entry.TheVariants.{Absorb, Reach}
 use Rattle.lgm_publish.specs.Handles.{History, history}
@@ -96,27 +98,20 @@ merges seat v other w x views h at apart there =
 
 -- ---- what entries make of an edition
 
-op_at : (c : Contents) (op : Op) (full : Bool) → (c.absorbed == 2000000000) ≡ full → (after_op c op).told ≡ c.told
-op_at c op true is = rw is refl
-op_at c op false is = rw is refl
-
 -- an operation leaves the list alone
 op_told : (c : Contents) (op : Op) → (after_op c op).told ≡ c.told
-op_told c op = op_at c op (c.absorbed == 2000000000) refl
-
-op_known_at : (c : Contents) (op : Op) (full : Bool) → (c.absorbed == 2000000000) ≡ full → (after_op c op).known ≡ c.known
-op_known_at c op true is = rw is refl
-op_known_at c op false is = rw is refl
+op_told c op = elim (cases_Bool (c.absorbed == MAX_OPERATIONS)) [ inl is ↦ rw is refl | inr is ↦ rw is refl ]
 
 -- and the known features
 op_known : (c : Contents) (op : Op) → (after_op c op).known ≡ c.known
-op_known c op = op_known_at c op (c.absorbed == 2000000000) refl
+op_known c op = elim (cases_Bool (c.absorbed == MAX_OPERATIONS)) [ inl is ↦ rw is refl | inr is ↦ rw is refl ]
 
 -- below the limit it is done
-op_done : (c : Contents) (op : Op) (full : Bool) → (c.absorbed == 2000000000) ≡ full → c.absorbed + 1 ≤ 2000000000
+op_done : (c : Contents) (op : Op) → c.absorbed + 1 ≤ MAX_OPERATIONS
     → after_op c op ≡ record c { rows = store.absorbed c.rows op; absorbed = c.absorbed + 1 }
-op_done c op true is below = let at : c.absorbed ≡ 2000000000 = grind (arith, nat_tests) in absurd (omega arith)
-op_done c op false is below = rw is refl
+op_done c op below =
+    let other : (c.absorbed == MAX_OPERATIONS) ≡ false = grind (arith, nat_tests) in
+    rw other refl
 
 -- the list that an edition comes to
 pub told_after : (c : Contents) (es : List Entry) → (fold after_entry c es).told ≡ reached c.told es
@@ -134,11 +129,11 @@ known_after c (Reach told ∷ es) = known_after (record c { told = told }) es
 abbrev Absorbs : Contents → List Entry → Contents → Type 0
 Absorbs c es d = (d.rows ≡ fold_from c.rows (ops_of es)) × (d.absorbed ≡ c.absorbed + length (ops_of es))
 
-absorbs : (c : Contents) (es : List Entry) → c.absorbed + length (ops_of es) ≤ 2000000000 → Absorbs c es (fold after_entry c es)
+absorbs : (c : Contents) (es : List Entry) → c.absorbed + length (ops_of es) ≤ MAX_OPERATIONS → Absorbs c es (fold after_entry c es)
 absorbs c [] few = (refl, omega arith)
 absorbs c (Absorb op ∷ es) few =
     let next : Contents = record c { rows = store.absorbed c.rows op; absorbed = c.absorbed + 1 } in
-    let is : after_op c op ≡ next = op_done c op (c.absorbed == 2000000000) refl (omega arith) in
+    let is : after_op c op ≡ next = op_done c op (omega arith) in
     let rest = absorbs next es (omega arith) in
     subst (λ d. Absorbs c (Absorb op ∷ es) (fold after_entry d es)) (sym is) (rest.0, omega (arith, rest.1))
 absorbs c (Reach told ∷ es) few = absorbs (record c { told = told }) es few
@@ -148,7 +143,7 @@ fold_append rows [] ys = refl
 fold_append rows (x ∷ xs) ys = fold_append (store.absorbed rows x) xs ys
 
 -- a publication, where the entries have come to the whole
-pub publishes : (seat : ℕ) (v : Last) (x y : Contents) (es : List Entry) → IsComplete x.told es → length (whole x.told es).ops ≤ 2000000000
+pub publishes : (seat : ℕ) (v : Last) (x y : Contents) (es : List Entry) → IsComplete x.told es → length (whole x.told es).ops ≤ MAX_OPERATIONS
     → y ≡ fold after_entry x es → TurnsAt Holds seat v x y (λ v _ y w. Sees v y w)
 publishes seat v x y es come few is =
     let told : y.told ≡ whole x.told es = ap (λ (c : Contents). c.told) is ∙ (told_after x es ∙ come) in

@@ -1,13 +1,15 @@
 -- What holds of a world after any events.
-use Rattle.std.proofs.Common.{◌≡◌, ◌⊎◌, inl, inr, ℕ, ◌+◌, ◌<◌, ◌≤◌, ◌==◌, Bool, true, false, Option, List, [], ◌∷◌, ◌++◌}
+use Rattle.std.proofs.Common.{◌≡◌, ◌⊎◌, inl, inr, ℕ, ◌+◌, ◌<◌, ◌≤◌, ◌==◌, Option, List, [], ◌∷◌, ◌++◌}
 use Rattle.std.proofs.Common.{length, take, drop, length-append, append_assoc, refl, sym, ap, ◌∙◌, subst, arith}
 use Rattle.std.specs.Prelude.{Contains}
 use Rattle.std.proofs.lemmas.List.{append-nil, take-append-le, take_all, take-take, take-append-drop, length-replicate}
+use Rattle.std.proofs.lemmas.Bool.{cases_Bool}
 use Rattle.std.proofs.lemmas.Bool.Decides.{nat_tests}
 use Rattle.std.proofs.Math.Seq.{take-length, take-nil}
 use mathlib.Core.List.{IsPrefix}
 use Rattle.lgm_store.specs.declared.op.Op.{Op}
 use Rattle.lgm_graph.proofs.Members.{Contains-Among, Among-Contains}
+use Rattle.lgm_publish.specs.declared.edition.TheConstants.{MAX_OPERATIONS}
 use Rattle.lgm_publish.specs.declared.event.Event.{Event}
 use Rattle.lgm_publish.specs.declared.event.Event.TheVariants.{Append, Publish, Enter, Learn, Answer}
 use Rattle.lgm_publish.specs.World.{Standing, opening, marks, marks_of, published_in, entered_by, refusal, after, stepped, world_after, IsOrdered}
@@ -190,42 +192,46 @@ never_shrink known eyes events more eye =
 
 -- these are appended, up to the limit
 abbrev Brings : Standing → List Event → Type 0
-Brings world events = (world_after world events).appended ≡ take 2000000000 (world.appended ++ brought_by events)
+Brings world events = (world_after world events).appended ≡ take MAX_OPERATIONS (world.appended ++ brought_by events)
 
 -- an operation more, or one too many
-brings_op : (world : Standing) (op : Op) (events : List Event) (full : Bool)
-    → (length world.appended == 2000000000) ≡ full → length world.appended ≤ 2000000000
-    → ((next : Standing) → length next.appended ≤ 2000000000 → Brings next events) → Brings world (Append op ∷ events)
-brings_op world op events true is few rest =
-    let most : 2000000000 ≤ length world.appended = grind (arith, nat_tests) in
-    let stays : stepped world (Append op) ≡ world = rw is refl in
-    subst (λ (w : Standing). (world_after w events).appended ≡ take 2000000000 (world.appended ++ op ∷ brought_by events)) (sym stays)
-    (rest world few ∙ (take-append-le 2000000000 world.appended (brought_by events) most
-    ∙ sym (take-append-le 2000000000 world.appended (op ∷ brought_by events) most)))
-brings_op world op events false is few rest =
-    let below : length world.appended + 1 ≤ 2000000000 = grind (arith, nat_tests) in
-    let goes : stepped world (Append op) ≡ after world (Append op) = rw is refl in
-    subst (λ (w : Standing). (world_after w events).appended ≡ take 2000000000 (world.appended ++ op ∷ brought_by events)) (sym goes)
-    (rest (after world (Append op)) (omega (arith, below, length-append world.appended (op ∷ [])))
-    ∙ ap (take 2000000000) (append_assoc world.appended (op ∷ []) (brought_by events)))
+brings_op : (world : Standing) (op : Op) (events : List Event) → length world.appended ≤ MAX_OPERATIONS
+    → ((next : Standing) → length next.appended ≤ MAX_OPERATIONS → Brings next events) → Brings world (Append op ∷ events)
+brings_op world op events few rest = elim (cases_Bool (length world.appended == MAX_OPERATIONS)) [
+  | inl is ↦
+      let most : MAX_OPERATIONS ≤ length world.appended = grind (arith, nat_tests) in
+      on world (rw is refl)
+      (rest world few ∙ (take-append-le MAX_OPERATIONS world.appended (brought_by events) most
+      ∙ sym (take-append-le MAX_OPERATIONS world.appended (op ∷ brought_by events) most)))
+  | inr is ↦
+      let below : length world.appended + 1 ≤ MAX_OPERATIONS = grind (arith, nat_tests) in
+      on (after world (Append op)) (rw is refl)
+      (rest (after world (Append op)) (omega (arith, below, length-append world.appended (op ∷ [])))
+      ∙ ap (take MAX_OPERATIONS) (append_assoc world.appended (op ∷ []) (brought_by events)))
+]
+  where
+    on : (next : Standing) → stepped world (Append op) ≡ next
+        → (world_after next events).appended ≡ take MAX_OPERATIONS (world.appended ++ op ∷ brought_by events) → Brings world (Append op ∷ events)
+    on next is = subst (λ (w : Standing). (world_after w events).appended
+        ≡ take MAX_OPERATIONS (world.appended ++ op ∷ brought_by events)) (sym is)
 
 -- an event that brings none
 brings_none : (world : Standing) (event : Event) (events : List Event)
-    → (stepped world event).appended ≡ world.appended → length world.appended ≤ 2000000000
-    → ((next : Standing) → length next.appended ≤ 2000000000 → Brings next events)
+    → (stepped world event).appended ≡ world.appended → length world.appended ≤ MAX_OPERATIONS
+    → ((next : Standing) → length next.appended ≤ MAX_OPERATIONS → Brings next events)
     → (world_after (stepped world event) events).appended
-    ≡ take 2000000000 (world.appended ++ brought_by events)
+    ≡ take MAX_OPERATIONS (world.appended ++ brought_by events)
 brings_none world event events same few rest =
-    rest (stepped world event) (subst (λ (l : List Op). length l ≤ 2000000000) (sym same) few)
-    ∙ ap (λ l. take 2000000000 (l ++ brought_by events)) same
+    rest (stepped world event) (subst (λ (l : List Op). length l ≤ MAX_OPERATIONS) (sym same) few)
+    ∙ ap (λ l. take MAX_OPERATIONS (l ++ brought_by events)) same
 
 -- a step that isn't an appending leaves what is appended
 keeps : (world : Standing) (event : Event) → (after world event).appended ≡ world.appended → (stepped world event).appended ≡ world.appended
 keeps world event same = chosen (λ w. w.appended ≡ world.appended) world (after world event) (refusal world event) refl (λ none. same)
 
-brings : (events : List Event) (world : Standing) → length world.appended ≤ 2000000000 → Brings world events
-brings [] world few = sym (ap (take 2000000000) (append-nil world.appended) ∙ take_all 2000000000 world.appended few)
-brings (Append op ∷ events) world few = brings_op world op events (length world.appended == 2000000000) refl few (brings events)
+brings : (events : List Event) (world : Standing) → length world.appended ≤ MAX_OPERATIONS → Brings world events
+brings [] world few = sym (ap (take MAX_OPERATIONS) (append-nil world.appended) ∙ take_all MAX_OPERATIONS world.appended few)
+brings (Append op ∷ events) world few = brings_op world op events few (brings events)
 brings (Publish ∷ events) world few = brings_none world Publish events (keeps world Publish refl) few (brings events)
 brings (Enter eye ∷ events) world few = brings_none world (Enter eye) events (keeps world (Enter eye) refl) few (brings events)
 brings (Learn eye ∷ events) world few = brings_none world (Learn eye) events (keeps world (Learn eye) refl) few (brings events)

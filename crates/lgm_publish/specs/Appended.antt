@@ -1,9 +1,10 @@
 -- When an operation is refused for the number of operations.
 use Rattle.std.specs.Prelude.{◌≡◌, ◌↔◌, ℕ, Result, Ok, Err}
+use Rattle.lgm_publish.specs.declared.edition.TheConstants.{MAX_OPERATIONS}
 use Rattle.lgm_publish.specs.declared.faults.AppendFault.{AppendFault}
 use Rattle.lgm_publish.specs.declared.faults.AppendCause.TheVariants.{Full}
 
 -- after this many operations: Full is returned if and only if the limit is reached
 abbrev pub AppendIs : {A : Type 0} → Result A AppendFault → ℕ → Type 0
-AppendIs (Ok done) count = count ≡ 2000000000 → ⊥
-AppendIs (Err fault) count = (fault.cause ≡ Full) ↔ (count ≡ 2000000000)
+AppendIs (Ok done) count = count ≡ MAX_OPERATIONS → ⊥
+AppendIs (Err fault) count = (fault.cause ≡ Full) ↔ (count ≡ MAX_OPERATIONS)

@@ -7,13 +7,13 @@ ghost use Rattle.lgm_publish.specs.inner.Editions.{after_op, after_entry};
 
 use crate::told::Told;
 use left_right::Absorb;
-use lgm_graph::{Known, Network, View};
+use lgm_graph::{Known, MAX_CHANNELS, Network, View};
 use lgm_store::{Map, Op, Seed};
 use std::alloc::{AllocError, Global};
 use std::marker::Model;
 
-/// The maximum number of operations.
-pub(crate) const LIMIT: u64 = 2_000_000_000;
+/// The maximum number of operations, each of which adds at most one channel.
+pub const MAX_OPERATIONS: u64 = MAX_CHANNELS as u64;
 
 /// What the two copies apply, one after the other.
 #[derive(Drop)]
@@ -35,6 +35,7 @@ pub(crate) struct Edition {
 
 impl Model for Edition {
     ghost use Rattle.std.specs.Prelude.{◌≤◌, ◌*◌};
+    ghost use Rattle.lgm_publish.specs.declared.edition.TheConstants.{MAX_OPERATIONS};
     ghost use Rattle.lgm_publish.specs.inner.Contents.{Contents, NumbersAtMost};
 
     ghost Value = { Contents };
@@ -46,7 +47,7 @@ impl Model for Edition {
       told = e.told;
     } };
 
-    ghost invariant = { λ e. (e.absorbed ≤ 2000000000) × NumbersAtMost (2 * e.absorbed) e.network.graph };
+    ghost invariant = { λ e. (e.absorbed ≤ MAX_OPERATIONS) × NumbersAtMost (2 * e.absorbed) e.network.graph };
 }
 
 impl Edition {
@@ -99,7 +100,7 @@ impl Edition {
         ensures ok { OnOk result (self.new ≡ after_op self.old op.now) }
         ensures err { OnErr result (self.new ≡ self.old) }
     {
-        if self.absorbed == LIMIT {
+        if self.absorbed == MAX_OPERATIONS {
             return Ok(());
         }
         self.network.absorb(op)?;

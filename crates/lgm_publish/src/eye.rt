@@ -8,7 +8,7 @@ ghost use Rattle.lgm_graph.specs.Graph.{IsGraphOf};
 ghost use Rattle.lgm_publish.specs.inner.Contents.{Contents, sight, known_in};
 ghost use Rattle.lgm_publish.specs.Lists.{IsLonger};
 
-use crate::edition::Edition;
+use crate::edition::{Edition, MAX_OPERATIONS};
 use crate::rule::{Last, Published, Seeing};
 use crate::told::Told;
 use left_right::reader::{Reader, Reading};
@@ -70,7 +70,7 @@ impl Eye {
         ensures board { IfOk result (λ guard. guard.board ≡ self.board) }
         ensures known { IfOk result (λ guard. guard.known ≡ self.known) }
         ensures seen { IfOk result (λ guard. IsPrefix self.ops guard.ops) }
-        ensures few { IfOk result (λ guard. length guard.ops ≤ 2000000000) }
+        ensures few { IfOk result (λ guard. length guard.ops ≤ MAX_OPERATIONS) }
         ensures back { IfErr result (λ eye. eye ≡ self) }
     {
         let Eye { reader, told } = self;

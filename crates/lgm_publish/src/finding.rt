@@ -5,6 +5,7 @@ ghost use Rattle.lgm_store.specs.History.{fold};
 ghost use Rattle.lgm_graph.specs.Edges.{edges_of};
 ghost use Rattle.lgm_route.specs.Choice.{answer_of};
 
+use crate::edition::MAX_OPERATIONS;
 use lgm_graph::{Known, View};
 use lgm_route::{Request, Route, RouteFault, answer};
 use lgm_store::{Map, Op};
@@ -17,7 +18,7 @@ pub(crate) fn find_route(
     history: &[Op],
     request: &Request,
 ) -> Result<Route, RouteFault>
-    requires { length history.now ≤ 2000000000 }
+    requires { length history.now ≤ MAX_OPERATIONS }
     ensures { (result ≡ Err RouteFault.NoMemory)
         ⊎ (result ≡ answer_of (edges_of known.now (fold history.now)) request.now) }
 {

@@ -22,11 +22,12 @@ mod sides;
 mod told;
 mod world;
 
+pub use edition::MAX_OPERATIONS;
 pub use event::{Event, Reply, WorldFault};
 pub use eye::{Eye, Guard};
 pub use faults::{AppendCause, AppendFault, NoMemory, PublishFault};
 pub use laws::eyes_answer_on_published_maps;
-pub use opening::board;
+pub use opening::{MAX_READERS, board};
 pub use pen::Pen;
 pub use told::Told;
 pub use world::World;

@@ -46,8 +46,11 @@ fn seat_all(
     Ok(())
 }
 
-/// A new board: an empty map with its view is published, and this many eyes, 1 to 64, may read it. The known feature
-/// bits are copied.
+/// The maximum number of eyes of a board.
+pub const MAX_READERS: usize = 64;
+
+/// A new board: an empty map with its view is published, and this many eyes, 1 to [`MAX_READERS`], may read it. The
+/// known feature bits are copied.
 ///
 /// The errors are out of memory, and `Places` if an eye got no place at the table. There are as many places as eyes, so
 /// `Places` doesn't occur, which is tested and not proved.
@@ -58,7 +61,7 @@ pub fn board<R: Wait + RandomSource>(
     known: &Known,
 ) -> Result<(Pen, Vec<Eye>), PublishFault>
     requires some { 1 ≤ readers }
-    requires few { readers ≤ 64 }
+    requires few { readers ≤ MAX_READERS }
     ensures published { IfOk result (λ made. made.0.published ≡ []) }
     ensures pending { IfOk result (λ made. made.0.pending ≡ []) }
     ensures count { IfOk result (λ made. length made.1.items ≡ readers) }

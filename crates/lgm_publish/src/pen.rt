@@ -5,7 +5,7 @@ ghost use Rattle.lgm_publish.specs.Appended.{AppendIs};
 ghost use Rattle.lgm_publish.specs.inner.Book.{head_of};
 ghost use Rattle.lgm_publish.specs.inner.Shown.{IsComplete, Publishes, whole};
 
-use crate::edition::LIMIT;
+use crate::edition::MAX_OPERATIONS;
 use crate::faults::{AppendCause, AppendFault, NoMemory};
 use crate::sides::{Sides, absorb, publish_all, reach};
 use crate::told::{Head, Told};
@@ -78,8 +78,8 @@ impl Pen {
 
     /// Appends an operation to the pending ones, which readers don't see yet. Never waits.
     ///
-    /// On an error the operation is returned, and nothing has changed. The error is `Full` if and only if 2,000,000,000
-    /// operations have been appended, and then nothing is allocated.
+    /// On an error the operation is returned, and nothing has changed. The error is `Full` if and only if
+    /// [`MAX_OPERATIONS`] operations have been appended, and then nothing is allocated.
     pub fn append(&mut self, op: Op) -> Result<(), AppendFault>
         ensures board { self.new.board ≡ self.old.board }
         ensures published { self.new.published ≡ self.old.published }
@@ -88,7 +88,7 @@ impl Pen {
         ensures back { IfErr result (λ fault. fault.op ≡ op) }
         ensures full { AppendIs result (length (self.old.published ++ self.old.pending)) }
     {
-        if self.appended == LIMIT {
+        if self.appended == MAX_OPERATIONS {
             return Err(AppendFault {
                 op,
                 cause: AppendCause::Full,
@@ -131,7 +131,7 @@ impl Pen {
                 requires complete { IsComplete writer.desk.shown.value.told
                     (drop writer.behind writer.log.items) }
                 requires few { length (whole writer.desk.shown.value.told
-                    (drop writer.behind writer.log.items)).ops ≤ 2000000000 }
+                    (drop writer.behind writer.log.items)).ops ≤ MAX_OPERATIONS }
                 ensures { Publishes result.1 writer.desk.shown.value.told result.0.desk.shown.value.told
                     (drop writer.behind writer.log.items) (drop result.0.behind result.0.log.items) }
             { publish_all(rt, writer) },

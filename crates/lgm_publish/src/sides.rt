@@ -4,7 +4,7 @@ ghost use Rattle.std.specs.Prelude.{◌≡◌, ◌≤◌, ◌∷◌, [], ◌++�
 ghost use Rattle.left_right.specs.Sides.{view as last_of};
 ghost use Rattle.lgm_publish.specs.inner.Shown.{ops_of, whole, IsComplete, Publishes};
 
-use crate::edition::{Edition, Entry};
+use crate::edition::{Edition, Entry, MAX_OPERATIONS};
 use crate::faults::NoMemory;
 use crate::rule::{Last, Published, Seeing};
 use crate::told::Told;
@@ -50,7 +50,7 @@ pub(crate) fn reach(writer: &mut Sides, told: Told) -> Result<(), NoMemory>
 pub(crate) fn publish_all<R: Wait>(rt: &R, writer: Sides) -> (Sides, Result<(), NoMemory>)
     requires complete { IsComplete writer.desk.shown.value.told (drop writer.behind writer.log.items) }
     requires few { length (whole writer.desk.shown.value.told (drop writer.behind writer.log.items)).ops
-        ≤ 2000000000 }
+        ≤ MAX_OPERATIONS }
     ensures told { Publishes result.1 writer.desk.shown.value.told result.0.desk.shown.value.told
         (drop writer.behind writer.log.items) (drop result.0.behind result.0.log.items) }
     ensures known { result.0.desk.shown.value.known ≡ writer.desk.shown.value.known }

@@ -4,6 +4,7 @@ ghost use Rattle.std.specs.Prelude.{◌≡◌, ◌≤◌, [], length, None, Matc
 ghost use mathlib.Core.List.{IsPrefix};
 ghost use Rattle.lgm_publish.specs.inner.Book.{head_of};
 
+use crate::edition::MAX_OPERATIONS;
 use lgm_store::Op;
 use logbook::{Gain, Offer, Plain, Play, Rule, Seen, Start, Word};
 use std::marker::Model;
@@ -60,6 +61,7 @@ pub struct Told {
 
 impl Model for Told {
     ghost use Rattle.std.specs.Prelude.{◌≡◌, ◌≤◌, length};
+    ghost use Rattle.lgm_publish.specs.declared.edition.TheConstants.{MAX_OPERATIONS};
     ghost use Rattle.lgm_publish.specs.Lists.{joined};
     ghost use Rattle.lgm_publish.specs.Handles.{History, history_code, history};
 
@@ -69,7 +71,7 @@ impl Model for Told {
 
     ghost view = { λ t. history t.seen.book (joined t.seen.log) };
 
-    ghost invariant = { λ t. (t.count ≡ length (joined t.seen.log)) × (t.count ≤ 2000000000) };
+    ghost invariant = { λ t. (t.count ≡ length (joined t.seen.log)) × (t.count ≤ MAX_OPERATIONS) };
 }
 
 impl Told {
@@ -85,7 +87,7 @@ impl Told {
     /// The length of the list.
     pub(crate) fn count(&self) -> u64
         ensures count { result ≡ length self.now.ops }
-        ensures small { length self.now.ops ≤ 2000000000 }
+        ensures small { length self.now.ops ≤ MAX_OPERATIONS }
     {
         self.count
     }
@@ -121,7 +123,7 @@ impl Told {
     ) -> bool
         requires head { head.now ≡ head_of self.old.board }
         requires plain { M.state about.now ≡ None }
-        requires count { (count ≡ length (M.ask about.now)) × (count ≤ 2000000000) }
+        requires count { (count ≡ length (M.ask about.now)) × (count ≤ MAX_OPERATIONS) }
         requires more { IsPrefix self.old.ops (M.ask about.now) }
         ensures board { self.new.board ≡ self.old.board }
         ensures ops { MatchBool result (self.new.ops ≡ M.ask about.now) (self.new ≡ self.old) }

@@ -3,7 +3,7 @@
 ghost use Rattle.std.specs.Prelude.{◌≡◌, ◌≢◌, ◌⊎◌, Some, Err, Ok, IfOk, OnOk, OnErr};
 ghost use Rattle.lgm_publish.specs.World.{opening, refusal, outcome, after, IsStep};
 
-use crate::edition::LIMIT;
+use crate::edition::MAX_OPERATIONS;
 use crate::event::{Event, Reply, WorldFault};
 use crate::finding::find_route;
 use lgm_graph::Known;
@@ -35,6 +35,7 @@ pub struct World {
 
 impl Model for World {
     ghost use Rattle.std.specs.Prelude.{◌≤◌, length};
+    ghost use Rattle.lgm_publish.specs.declared.edition.TheConstants.{MAX_OPERATIONS};
     ghost use Rattle.lgm_publish.specs.World.{Standing, standing, IsOrdered};
 
     ghost Value = { Standing };
@@ -42,7 +43,7 @@ impl Model for World {
     ghost view = { λ w. standing w.known w.appended.items w.published w.eyes.items };
 
     ghost invariant = { λ w. IsOrdered (standing w.known w.appended.items w.published w.eyes.items)
-        × (length w.appended.items ≤ 2000000000) };
+        × (length w.appended.items ≤ MAX_OPERATIONS) };
 }
 
 impl World {
@@ -105,7 +106,7 @@ impl World {
     fn append(&mut self, op: &Op) -> Result<Reply, WorldFault>
         ensures { IsStep self.old (Event.Append op.now) result self.new }
     {
-        if self.appended.len() as u64 == LIMIT {
+        if self.appended.len() as u64 == MAX_OPERATIONS {
             return Err(WorldFault::Full);
         }
         let op = op.copy(self.alloc)?;

@@ -1,8 +1,6 @@
 -- Pieces that are sent one after the other.
 use Rattle.std.proofs.Common.{◌≡◌, ℕ, Bool, true, false, ◌||◌, cond, List, [], ◌∷◌, ◌++◌, map, refl, sym, ap, ◌∙◌, append_assoc, arith}
-use Rattle.std.specs.Cmp.Lexicographic.{texts_ties}
 use Rattle.std.specs.List.{list_any}
-use Rattle.std.specs.BTreeMap.{is_at}
 use Rattle.std.specs.Prelude.{Option, Some, None, Result, Ok, Err, OnOk}
 use Rattle.std.specs.Option.{option_map, option_to_list}
 use Rattle.std.proofs.lemmas.List.{append-nil, map-append}
@@ -15,7 +13,6 @@ use Rattle.lgm_store.specs.declared.held.Held.{Held}
 use Rattle.lgm_store.specs.Rows.{is_point, node_of}
 use Rattle.lgm_store.proofs.Points.{same_point}
 use Rattle.std.proofs.Math.Bool.{or-false}
-use Rattle.lgm_store.specs.Keys.{point_cmp}
 use Rattle.lgm_query.specs.Piece.{Piece, channel, update, node, bytes_of, are_of_one_node, with_nodes_once}
 use Rattle.lgm_query.specs.IdsReply.{if_set, chosen_of}
 use Rattle.lgm_query.specs.inner.Sent.{Sent, is_of_node, Sends}
@@ -39,7 +36,7 @@ plain piece old new no_node other_nodes message same pieces are = record {
       ∙ sym (map-append bytes_of (with_nodes_once pieces) (piece ∷ []))
       ∙ ap (map bytes_of) (sym (with_nodes_once-push pieces piece ∙ rw (no_node pieces) refl));
   nodes =
-      λ point. ap (list_any (is_at (point_cmp point))) same ∙ are.nodes point
+      λ point. ap (list_any (is_point point)) same ∙ are.nodes point
       ∙ sym (list_any-append (is_of_node point) pieces (piece ∷ [])
       ∙ rw (other_nodes point) (or_false (list_any (is_of_node point) pieces)));
 }
@@ -78,17 +75,17 @@ again row (node r ∷ pieces) = ap (λ (b : Bool). is_point r.message.node_id ro
 
 -- the node is in the set behind it
 known : (row : NodeRow) (old new : Sent)
-    → ((q : Point) → list_any (is_at (point_cmp q)) new.nodes
-    ≡ cond (is_at (point_cmp row.message.node_id) q) true (list_any (is_at (point_cmp q)) old.nodes))
-    → (pieces : List Piece) → ((q : Point) → list_any (is_at (point_cmp q)) old.nodes ≡ list_any (is_of_node q) pieces)
-    → (q : Point) → list_any (is_at (point_cmp q)) new.nodes ≡ list_any (is_of_node q) (pieces ++ node row ∷ [])
+    → ((q : Point) → list_any (is_point q) new.nodes
+    ≡ cond (is_point row.message.node_id q) true (list_any (is_point q) old.nodes))
+    → (pieces : List Piece) → ((q : Point) → list_any (is_point q) old.nodes ≡ list_any (is_of_node q) pieces)
+    → (q : Point) → list_any (is_point q) new.nodes ≡ list_any (is_of_node q) (pieces ++ node row ∷ [])
 known row old new inserts pieces are q =
     inserts q
-    ∙ by (is_point row.message.node_id q) (sym (texts_ties row.message.node_id.0 q.0)) (list_any (is_of_node q) pieces) (are q)
+    ∙ by (is_point row.message.node_id q) refl (list_any (is_of_node q) pieces) (are q)
     ∙ sym (list_any-append (is_of_node q) pieces (node row ∷ []))
   where
-    by : (b : Bool) → is_at (point_cmp row.message.node_id) q ≡ b → (d : Bool) → list_any (is_at (point_cmp q)) old.nodes ≡ d
-        → cond (is_at (point_cmp row.message.node_id) q) true (list_any (is_at (point_cmp q)) old.nodes) ≡ (d || (b || false))
+    by : (b : Bool) → is_point row.message.node_id q ≡ b → (d : Bool) → list_any (is_point q) old.nodes ≡ d
+        → cond (is_point row.message.node_id q) true (list_any (is_point q) old.nodes) ≡ (d || (b || false))
     by true is true old_is = rw is refl
     by true is false old_is = rw is refl
     by false is true old_is = rw (is, old_is) refl
@@ -111,14 +108,14 @@ found_node (r ∷ rs) point row is = by (found_node rs point row) (is_point r.me
 -- the announcement of a node that wasn't sent yet
 Sends-new_node : (nodes : List NodeRow) (row : NodeRow) (point : Point) (keys : List Point) (old new : Sent)
     → Some row ≡ node_of nodes point → old.nodes ≡ keys
-    → list_any (is_at (point_cmp point)) keys ≡ false
-    → ((q : Point) → list_any (is_at (point_cmp q)) new.nodes ≡ cond (is_at (point_cmp point) q) true (list_any (is_at (point_cmp q)) keys))
+    → list_any (is_point point) keys ≡ false
+    → ((q : Point) → list_any (is_point q) new.nodes ≡ cond (is_point point q) true (list_any (is_point q) keys))
     → new.messages ≡ old.messages ++ row.raw ∷ [] → Sends (option_to_list (option_map node (node_of nodes point))) old new
 Sends-new_node nodes row point keys old new held were absent inserts message =
     let own : row.message.node_id ≡ point = found_node nodes point row (sym held) in
-    let absent' : list_any (is_at (point_cmp row.message.node_id)) old.nodes ≡ false = rw (were, own) absent in
-    let inserts' : (q : Point) → list_any (is_at (point_cmp q)) new.nodes
-    ≡ cond (is_at (point_cmp row.message.node_id) q) true (list_any (is_at (point_cmp q)) old.nodes) =
+    let absent' : list_any (is_point row.message.node_id) old.nodes ≡ false = rw (were, own) absent in
+    let inserts' : (q : Point) → list_any (is_point q) new.nodes
+    ≡ cond (is_point row.message.node_id q) true (list_any (is_point q) old.nodes) =
     λ q. rw (were, own) (inserts q) in
     rw (← held) (λ pieces are. record {
       messages = message ∙ ap (λ (ms : List (List ℕ)). ms ++ row.raw ∷ []) are.messages
@@ -129,11 +126,11 @@ Sends-new_node nodes row point keys old new held were absent inserts message =
 
 -- that of one that was, if it is held
 pub Sends-known_node : (nodes : List NodeRow) (point : Point) (keys : List Point) (old new : Sent)
-    → old.nodes ≡ keys → list_any (is_at (point_cmp point)) keys ≡ true → new ≡ old
+    → old.nodes ≡ keys → list_any (is_point point) keys ≡ true → new ≡ old
     → Sends (option_to_list (option_map node (node_of nodes point))) old new
 Sends-known_node nodes point keys old new were present same = rw same (by (node_of nodes point) refl)
   where
-    here : list_any (is_at (point_cmp point)) old.nodes ≡ true
+    here : list_any (is_point point) old.nodes ≡ true
     here = rw were present
 
     none_more : (row : NodeRow) (pieces : List Piece) → list_any (is_of_node row.message.node_id) pieces
@@ -177,12 +174,12 @@ OnOk-update (Err e) raw found old new held message same = tt
 pub OnOk-node : {E : Type 0} (r : Result (Unit {0}) E) (nodes : List NodeRow) (row : NodeRow) (raw : List ℕ)
     (point : Point) (keys inserted : List Point) (old mid new : Sent) → Some row ≡ node_of nodes point
     → raw ≡ row.raw
-    → old.nodes ≡ keys → list_any (is_at (point_cmp point)) keys ≡ false
-    → ((q : Point) → list_any (is_at (point_cmp q)) inserted ≡ cond (is_at (point_cmp point) q) true (list_any (is_at (point_cmp q)) keys))
+    → old.nodes ≡ keys → list_any (is_point point) keys ≡ false
+    → ((q : Point) → list_any (is_point q) inserted ≡ cond (is_point point q) true (list_any (is_point q) keys))
     → mid.messages ≡ old.messages → mid.nodes ≡ inserted → OnOk r (new.messages ≡ mid.messages ++ raw ∷ []) → OnOk r (new.nodes ≡ mid.nodes)
     → OnOk r (Sends (option_to_list (option_map node (node_of nodes point))) old new)
 OnOk-node (Ok u) nodes row raw point keys inserted old mid new held is were absent inserts kept with message same =
-    Sends-new_node nodes row point keys old new held were absent (λ q. ap (list_any (is_at (point_cmp q))) (same ∙ with) ∙ inserts q)
+    Sends-new_node nodes row point keys old new held were absent (λ q. ap (list_any (is_point q)) (same ∙ with) ∙ inserts q)
     ((rw is at message) ∙ ap (λ (ms : List (List ℕ)). ms ++ row.raw ∷ []) kept)
 OnOk-node (Err e) nodes row raw point keys inserted old mid new held is were absent inserts kept with message same = tt
 

@@ -47,7 +47,7 @@ pub fn answer_ids<'a>(
 fn held<'a>(alloc: Global, map: &'a Map, query: &IdsQuery) -> Result<Vec<Reply<'a>>, AllocError>
     ensures { IfOk result (λ held. held.items ≡ messages_asked_for map.now query.now) }
 {
-    let mut sending = Sending::new(alloc);
+    let mut sending = Sending::new(alloc, map.seed());
     for (place, scid) in query.ids.as_slice().iter().enumerate() {
         sending.send_chosen(map, *scid, flags_at(query, place))?;
     }

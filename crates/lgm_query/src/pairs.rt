@@ -7,8 +7,8 @@ ghost use Rattle.lgm_query.specs.KeyNews.{news_of_channel, news_of_node};
 ghost use Rattle.lgm_query.specs.inner.SentWith.{sent_with, update_message, is_node_message};
 
 use crate::sent_with::SentWith;
+use lgm_check::KeptNode;
 use lgm_gossip::{Point, Scid};
-use lgm_rows::KeptNode;
 use lgm_store::{Held, Map};
 
 /// A channel of a later map, its row in an earlier one, and for each message the earlier updates with which it was

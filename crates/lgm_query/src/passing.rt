@@ -12,7 +12,7 @@ ghost use Rattle.lgm_query.specs.inner.Pairs.{news_of_channel_pair, news_of_node
 use crate::filter::Filter;
 use crate::pairs::{ChannelPair, NodePair};
 use crate::sent_with::SentWith;
-use lgm_rows::KeptNode;
+use lgm_check::KeptNode;
 use lgm_store::Held;
 use std::marker::Model;
 

@@ -11,16 +11,16 @@ ghost use Rattle.lgm_query.specs.inner.Sent.{AreSent, Sends};
 
 use crate::reply::Reply;
 use lgm_gossip::{Point, Scid};
-use lgm_store::{Held, Map};
+use lgm_store::{Held, Map, Seed};
 use std::alloc::{AllocError, Global};
-use std::collections::BTreeSet;
+use std::collections::HashSet;
 use std::marker::Model;
 
 /// Messages to be sent, and the nodes whose announcements are among them.
 #[derive(Drop)]
 pub(crate) struct Sending<'a> {
     messages: Vec<Reply<'a>>,
-    nodes: BTreeSet<Point>,
+    nodes: HashSet<Point, Seed>,
 }
 
 impl<'a> Model for Sending<'a> {
@@ -32,13 +32,13 @@ impl<'a> Model for Sending<'a> {
 }
 
 impl<'a> Sending<'a> {
-    /// No messages. Nothing is allocated yet.
-    pub(crate) fn new(alloc: Global) -> Sending<'a>
+    /// No messages. Nothing is allocated yet; nodes are hashed by the seed.
+    pub(crate) fn new(alloc: Global, seed: Seed) -> Sending<'a>
         ensures { AreSent [] result }
     {
         Sending {
             messages: Vec::new(alloc),
-            nodes: BTreeSet::new(alloc),
+            nodes: HashSet::with_hasher(alloc, seed),
         }
     }
 

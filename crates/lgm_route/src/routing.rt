@@ -18,7 +18,7 @@ use crate::route::{Hop, Route};
 use crate::search::Search;
 use crate::starting::most_sent;
 use lgm_graph::{Edge, View};
-use lgm_par::{Gate, Pool};
+use lgm_par::{Gate, MAX_WORKERS, Pool};
 use std::alloc::{AllocError, Global};
 use std::thread::Threads;
 
@@ -197,7 +197,7 @@ pub fn least_pooled<Rt: Threads + Sync, G: Gate>(
     route_over(pool.alloc, view, request, &numbered, walk)
 }
 
-/// The same route as [`least`], found by several workers, for any number of them from 1 to 64, and whatever the gate
+/// The same route as [`least`], found by several workers, for any number of them from 1 to [`MAX_WORKERS`], and whatever the gate
 /// does: [`least_pooled`], with a pool of these.
 pub fn least_chunked<Rt: Threads + Sync, G: Gate>(
     rt: &Rt,
@@ -207,7 +207,7 @@ pub fn least_chunked<Rt: Threads + Sync, G: Gate>(
     view: &View,
     request: &Request,
 ) -> Result<Route, RouteFault>
-    requires workers { (1 ≤ workers) × (workers ≤ 64) }
+    requires workers { (1 ≤ workers) × (workers ≤ MAX_WORKERS) }
     ensures refused { (fault : RouteFault) → refusal request.now ≡ Some fault → result ≡ Err fault }
     ensures answer { (result ≡ Err RouteFault.NoMemory) ⊎ IsAnswer (point_edges view.now) request.now result }
 {

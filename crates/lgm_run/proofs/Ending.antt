@@ -9,6 +9,7 @@ use Rattle.lgm_script.specs.Device.{Input, Written, Appends, AppendsSome}
 use Rattle.lgm_script.specs.Output.{OutputState, Tells, TellsSome}
 use Rattle.lgm_script.proofs.Appending.{appends_nothing}
 use Rattle.lgm_script.proofs.Telling.{taken_all, taken_some, some_flushed, some_flushed_part}
+use Rattle.lgm_answers.specs.declared.run_fault.TheConstants.{MAX_LINES}
 use Rattle.lgm_answers.specs.declared.run_fault.RunFault.{RunFault}
 use Rattle.lgm_answers.specs.declared.run_fault.RunFault.TheVariants as faults
 use Rattle.lgm_run.specs.declared.running.Counts.{Counts}
@@ -91,7 +92,7 @@ module _ (chain : ChainHash) (known : Option (List ℕ)) (script : Option (List 
       flushed_at mid new answered result faults.TooManyLines ended (λ same. cc) told is
       (λ flushed told. IfSome_then script told (λ s told. record {
         more = told.more;
-        text = told_as chain known s 10000000 old mid new empty flushed.told flushed.clear told.text;
+        text = told_as chain known s MAX_LINES old mid new empty flushed.told flushed.clear told.text;
       }))
 
   pub long_written : (answered ≡ fails faults.LineTooLong

@@ -1,9 +1,8 @@
 -- How the two networks are kept.
-use Rattle.std.proofs.Common.{◌≡◌, ◌⊎◌, List, [], ◌∷◌, ◌++◌, Option, Some, None, Result, Ok, Err, inl, inr, refl, sym, ap, subst, ◌∙◌}
+use Rattle.std.proofs.Common.{◌≡◌, ◌⊎◌, List, [], Option, Some, None, Result, Ok, Err, inl, inr, sym, ap, ◌∙◌}
 use Rattle.std.specs.Prelude.{◌≢◌, IsSome, OnOk, OnErr}
 use Rattle.lgm_check.specs.declared.refusal.Refusal.{Refusal}
 use Rattle.lgm_store.specs.declared.op.Op.{Op}
-use Rattle.lgm_store.specs.Rows.{Rows}
 use Rattle.lgm_store.specs.History.{absorbed, fold_from}
 use Rattle.lgm_store.proofs.Histories.{fold_from-push}
 use Rattle.lgm_graph.specs.Graph.{Graph}

@@ -4,6 +4,7 @@ use Rattle.lgm_wire.specs.declared.chain_hash.ChainHash.{ChainHash}
 use Rattle.lgm_script.specs.Device.{Input}
 use Rattle.lgm_script.specs.Lines.{ahead, IsFirstLine}
 use Rattle.lgm_script.specs.Output.{OutputState, Tells}
+use Rattle.lgm_answers.specs.declared.run_fault.TheConstants.{MAX_LINES}
 use Rattle.lgm_answers.specs.Script.{State}
 use Rattle.lgm_run.specs.inner.Steps.{opening}
 use Rattle.lgm_run.specs.inner.Progress.{HaveAnswers}
@@ -15,7 +16,7 @@ pub record IsUpTo (chain : ChainHash) (known : Option (List ℕ)) (source : Inpu
   pub read_same : mid.failures ≡ source.failures
   pub write_same : between.sink.failures ≡ output.sink.failures
   pub writer : between.writer ≡ output.writer
-  pub within : k ≤ 10000000
+  pub within : k ≤ MAX_LINES
   pub so_far : SoFar chain known source.left k state (ahead buffered mid.left) output between
 
 pub up_to_first : (chain : ChainHash) (known : Option (List ℕ)) (source : Input) (output : OutputState)
@@ -49,15 +50,15 @@ module _ {chain : ChainHash} {known : Option (List ℕ)} {source : Input} {outpu
     writer = told.writer ∙ up_to.writer;
     within = up_to.within;
     so_far =
-        told_on chain known source.left k state (ahead buffered' source'.left) output between output'
-        (so_far_on buffered' source' kept) told;
+        told_on chain known source.left k state (ahead buffered' source'.left) output between
+        (so_far_on buffered' source' kept) output' told;
   }
 
   -- and the next lines were answered
   pub answered_on : {state' : State} {output' : OutputState} {first count len : ℕ}
       → IsFirstLine buffered mid.left first
       → HaveAnswers chain (k + 1) state state' buffered first (Tells between output') count len
-      → k + count ≤ 10000000
+      → k + count ≤ MAX_LINES
       → IsUpTo chain known source output (k + count) state' (drop len buffered) mid output'
   answered_on {state'} {output'} {first} {count} {len} line answers few =
       let text = answers.text in
@@ -67,6 +68,6 @@ module _ {chain : ChainHash} {known : Option (List ℕ)} {source : Input} {outpu
         writer = text.writer ∙ up_to.writer;
         within = few;
         so_far =
-            step chain known source.left k first count len state state' buffered mid.left output between
-            output' up_to.so_far line answers;
+            step chain known source.left k state buffered mid.left output between up_to.so_far first count len state'
+            output' line answers;
       }

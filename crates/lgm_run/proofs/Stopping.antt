@@ -1,7 +1,8 @@
 -- How answering the lines of a script ends.
-use Rattle.std.proofs.Common.{◌≡◌, ℕ, ◌+◌, ◌<◌, ◌≤◌, List, [], Option, Result, Ok, Err, refl, sym, ap, subst, ◌∙◌, length, arith}
+use Rattle.std.proofs.Common.{◌≡◌, ℕ, ◌+◌, ◌<◌, ◌≤◌, List, [], Option, Result, Ok, Err, refl, sym, ap, ◌∙◌, length, arith}
 use Rattle.std.specs.Prelude.{◌≢◌, IfSome, IfOk, IfErr}
 use Rattle.lgm_wire.specs.declared.chain_hash.ChainHash.{ChainHash}
+use Rattle.lgm_script.specs.declared.line_reader.TheConstants.{MAX_LINE}
 use Rattle.lgm_script.specs.declared.output.SendFault.{SendFault}
 use Rattle.lgm_script.specs.declared.output.SendFault.TheVariants as sending
 use Rattle.lgm_script.specs.declared.reading.LineFault.{LineFault}
@@ -10,6 +11,7 @@ use Rattle.lgm_script.specs.Device.{Input, IsAtEnd}
 use Rattle.lgm_script.specs.Lines.{ahead, IsFirstLine, IsLongerThan}
 use Rattle.lgm_script.specs.Output.{OutputState, Tells, TellsPart, TellsSome}
 use Rattle.lgm_script.proofs.Telling.{some_of_all, some_of_part, tells_nothing}
+use Rattle.lgm_answers.specs.declared.run_fault.TheConstants.{MAX_LINES}
 use Rattle.lgm_answers.specs.declared.run_fault.RunFault.{RunFault}
 use Rattle.lgm_answers.specs.declared.run_fault.RunFault.TheVariants as faults
 use Rattle.lgm_run.specs.declared.running.Counts.{Counts}
@@ -18,7 +20,7 @@ use Rattle.lgm_run.specs.Running.{NeedsNoBoard, IsAnswered, IsTooMany, IsCutShor
 use Rattle.lgm_answers.specs.Script.{State}
 use Rattle.lgm_run.specs.inner.Progress.{HasAnswered, HaveBegun}
 use Rattle.lgm_answers.proofs.LineFaults.{failed, ends_at}
-use Rattle.lgm_run.proofs.Progress.{SoFar, told_on, ends, many, long, cut, cut_in}
+use Rattle.lgm_run.proofs.Progress.{told_on, ends, many, long, cut, cut_in}
 use Rattle.lgm_run.proofs.Reached.{IsUpTo, so_far_on}
 
 abbrev ended : RunFault → Result Counts RunFault
@@ -59,7 +61,7 @@ module _ {chain : ChainHash} {known : Option (List ℕ)} {source : Input} {outpu
       → (failed {T = T} fault ≢ failed lines.Write → Tells between output' [])
       → (failed {T = T} fault ≡ failed lines.Write → TellsPart between output' [] sending.Write)
       → (failed {T = T} fault ≡ failed lines.Read → mid.failures < source'.failures)
-      → (fault ≡ lines.TooLong → (k < 10000000) × IsLongerThan 140000 (ahead buffered' source'.left))
+      → (fault ≡ lines.TooLong → (k < MAX_LINES) × IsLongerThan MAX_LINE (ahead buffered' source'.left))
       → HasAnswered chain known source source' output output' (ended (line_fault fault))
   line_failed {T = T} buffered' source' output' fault kept told part read longer =
       let input = ahead buffered' source'.left in
@@ -73,9 +75,9 @@ module _ {chain : ChainHash} {known : Option (List ℕ)} {source : Input} {outpu
         too_many = λ same. absurd (end.not_many same);
         too_long = λ same. let is = end.too_long same in
             long chain known source.left k state input output output' (told_on chain known source.left k
-            state input output between output' so_far (told (not_write fault is))) (longer is).0 (longer is).1;
+            state input output between so_far output' (told (not_write fault is))) (longer is).0 (longer is).1;
         some =
-            cut chain known source.left k state buffered' source'.left output between output' so_far
+            cut chain known source.left k state buffered' source'.left output between so_far output'
             up_to.within (line_some fault between output' told part);
         read = end.read;
         write = end.write;
@@ -96,8 +98,8 @@ module _ {chain : ChainHash} {known : Option (List ℕ)} {source : Input} {outpu
     too_many = too_many;
     too_long = λ same. absurd (too_long same);
     some =
-        cut chain known source.left k state buffered mid.left output between between
-        up_to.so_far up_to.within (some_of_all between between [] (tells_nothing between));
+        cut chain known source.left k state buffered mid.left output between up_to.so_far between
+        up_to.within (some_of_all between between [] (tells_nothing between));
     read = λ same. absurd (read same);
     write = λ same. absurd (write same);
     well = λ _. up_to.write_same;
@@ -116,24 +118,21 @@ module _ {chain : ChainHash} {known : Option (List ℕ)} {source : Input} {outpu
       (λ same. absurd cc) (λ same. absurd cc) (λ same. absurd cc) (λ same. absurd cc) tt
 
   -- there are more lines
-  pub more_lines : k ≡ 10000000 → 0 < length buffered
+  pub more_lines : k ≡ MAX_LINES → 0 < length buffered
       → HasAnswered chain known source mid output between (ended faults.TooManyLines)
   more_lines full more =
       has_ended (ended faults.TooManyLines) tt
-      (λ _. many chain known source.left state buffered mid.left output between
-      (subst (λ n. SoFar chain known source.left n state (ahead buffered mid.left) output between) full
-      up_to.so_far) more)
+      (λ _. many chain known source.left k state buffered mid.left output between up_to.so_far full more)
       (λ same. absurd cc) (λ same. absurd cc) (λ same. absurd cc) tt
 
   -- an answer couldn't be given or written
   answered_some : (first most : ℕ) (output' : OutputState) (fault : SendFault)
       → IsFirstLine buffered mid.left first
-      → k + most ≤ 10000000
+      → k + most ≤ MAX_LINES
       → HaveBegun chain (k + 1) most state buffered first (λ text. TellsPart between output' text fault)
       → IfSome source.left (IsCutShort chain known (TellsSome output output') mid.left)
   answered_some first most output' fault line few begun =
-      cut_in chain known source.left k most first state buffered mid.left output between output'
-      up_to.so_far few line
+      cut_in chain known source.left k state buffered mid.left output between up_to.so_far most first output' few line
       (record {
         lines = begun.lines;
         len = begun.len;
@@ -144,7 +143,7 @@ module _ {chain : ChainHash} {known : Option (List ℕ)} {source : Input} {outpu
 
   pub answer_failed : (first most : ℕ) (output' : OutputState) (fault : SendFault)
       → IsFirstLine buffered mid.left first
-      → k + most ≤ 10000000
+      → k + most ≤ MAX_LINES
       → HaveBegun chain (k + 1) most state buffered first (λ text. TellsPart between output' text fault)
       → HasAnswered chain known source mid output output' (ended (send_fault fault))
   answer_failed first most output' sending.NoMemory line few begun = record {

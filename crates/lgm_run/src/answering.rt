@@ -6,22 +6,45 @@ ghost use Rattle.lgm_script.specs.Groups.{IsOfKind, AreAlike};
 ghost use Rattle.lgm_script.specs.Output.{told_by, Writes};
 ghost use Rattle.lgm_script.specs.Request.{request_of};
 ghost use Rattle.lgm_script.specs.declared.request.Request.TheVariants.{Route as AsksRoute};
-ghost use Rattle.lgm_run.specs.inner.Offered.{state_by, offered_text};
+ghost use Rattle.lgm_run.specs.inner.Offered.{state_by, offered_word, offered_text};
 ghost use Rattle.lgm_run.specs.inner.Questions.{asked_in};
 ghost use Rattle.lgm_run.specs.inner.Steps.{state_alone, text_alone, state_from, text_from};
 
 use crate::checking::{Offered, check_lines};
 use crate::context::Context;
 use crate::engine::Engine;
-use lgm_answers::Answer;
+use lgm_answers::{Answer, MAX_LINES, outcome_word};
 use lgm_check::Refusal;
 use lgm_par::Gate;
-use lgm_script::{Group, Kind, Output, Payment, Request, SendFault, Sink, may_ask_routes, parse};
+use lgm_script::{
+    Group, Kind, Line, Output, Payment, Request, SendFault, Sink, may_ask_routes, parse,
+};
 use std::alloc::{AllocError, Global};
 use std::thread::Threads;
 
-/// Offers the checked item of a line in its turn, if there is one, and writes its outcome.
-fn offer<W: Sink>(
+/// Offers the checked item of a line in its turn, if there is one, and returns the word of its outcome.
+fn offer(
+    alloc: Global,
+    item: Option<Offered>,
+    engine: &mut Engine,
+) -> Result<&'static str, AllocError>
+    requires few { engine.old.accepted + 1 < 2 ^ 64 }
+    ensures state { OnOk result (engine.new ≡ state_by engine.old item) }
+    ensures word { IfOk result (λ word. word.now ≡ offered_word engine.old.rows item) }
+{
+    let Some(item) = item else {
+        return Ok("bad");
+    };
+    match engine.offer(alloc, item) {
+        Ok(()) => Ok(outcome_word(None)),
+        Err(Refusal::NoMemory) => Err(AllocError),
+        Err(refusal) => Ok(outcome_word(Some(refusal))),
+    }
+}
+
+/// Answers the line of an item, which was checked: offers the item, and writes its outcome.
+#[inline(always)]
+fn answer_item<W: Sink>(
     alloc: Global,
     number: u64,
     item: Option<Offered>,
@@ -33,15 +56,8 @@ fn offer<W: Sink>(
     ensures written { Writes (told_by W.seen output.old) (told_by W.seen output.new)
         (offered_text number engine.old.rows item) result }
 {
-    let Some(item) = item else {
-        return Answer::Bad.send(alloc, number, output);
-    };
-    let refusal = match engine.offer(alloc, item) {
-        Ok(()) => None,
-        Err(Refusal::NoMemory) => return Err(SendFault::NoMemory),
-        Err(refusal) => Some(refusal),
-    };
-    Answer::Outcome(refusal).send(alloc, number, output)
+    let word = offer(alloc, item, engine)?;
+    output.send(number, &Line::Word(word))
 }
 
 /// Answers lines of items, the first of which has this number: they are checked in parallel, and offered in order.
@@ -54,7 +70,7 @@ fn answer_items<Rt: Threads + Sync, G: Gate, W: Sink>(
 ) -> Result<(), SendFault>
     requires items { AllByRecursion (IsOfKind Kind.Item) (asked_in lines.now) }
     requires number { first + length lines.now < 2 ^ 64 }
-    requires few { engine.old.accepted + length lines.now ≤ 10000000 }
+    requires few { engine.old.accepted + length lines.now ≤ MAX_LINES }
     ensures state { OnOk result (engine.new ≡ state_from context.now.chain engine.old (asked_in lines.now)) }
     ensures written { Writes (told_by W.seen output.old) (told_by W.seen output.new)
         (text_from context.now.chain first engine.old (asked_in lines.now)) result }
@@ -62,7 +78,7 @@ fn answer_items<Rt: Threads + Sync, G: Gate, W: Sink>(
     let all = check_lines(context, lines)?;
     let mut number = first;
     for item in all {
-        offer(context.pool.alloc, number, item?, engine, output)?;
+        answer_item(context.pool.alloc, number, item?, engine, output)?;
         number += 1;
     }
     Ok(())
@@ -91,7 +107,7 @@ fn answer_questions<Rt: Threads + Sync, G: Gate, W: Sink>(
 ) -> Result<(), SendFault>
     requires questions { AllByRecursion (IsOfKind Kind.Question) (asked_in lines.now) }
     requires number { first + length lines.now < 2 ^ 64 }
-    requires few { engine.old.accepted ≤ 10000000 }
+    requires few { engine.old.accepted ≤ MAX_LINES }
     ensures state { OnOk result (engine.new ≡ state_from context.now.chain engine.old (asked_in lines.now)) }
     ensures written { Writes (told_by W.seen output.old) (told_by W.seen output.new)
         (text_from context.now.chain first engine.old (asked_in lines.now)) result }
@@ -134,7 +150,7 @@ pub fn answer<Rt: Threads + Sync, G: Gate, W: Sink>(
 ) -> Result<(), SendFault>
     requires alike { AreAlike group.now.kind (map (λ line. line.now) group.now.lines.items) }
     requires number { first + length group.now.lines.items < 2 ^ 64 }
-    requires few { engine.old.accepted + length group.now.lines.items ≤ 10000000 }
+    requires few { engine.old.accepted + length group.now.lines.items ≤ MAX_LINES }
     ensures state { OnOk result
         (engine.new ≡ state_from context.now.chain engine.old (asked_in group.now.lines.items)) }
     ensures written { Writes (told_by W.seen output.old) (told_by W.seen output.new)

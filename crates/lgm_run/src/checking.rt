@@ -14,7 +14,6 @@ use lgm_par::Gate;
 use lgm_script::{Item, parse_item};
 use lgm_store::Candidate;
 use std::alloc::{AllocError, Global};
-use std::mem::replace;
 use std::thread::Threads;
 
 /// An item after its check, which needs no map.
@@ -45,37 +44,23 @@ fn check(
     }
 }
 
-/// Checks an item. The vector of a message is left in `room`.
-fn check_item(
-    alloc: Global,
-    chain: &ChainHash,
-    item: Item,
-    room: &mut Vec<u8>,
-) -> Result<Offered, AllocError>
+/// Checks an item.
+fn check_item(alloc: Global, chain: &ChainHash, item: Item) -> Result<Offered, AllocError>
     ensures { IfOk result (λ offered. offered ≡ offered_of chain.now item) }
 {
     match item {
-        Item::Gossip(bytes, evidence) => {
-            let checked = check(alloc, chain, bytes.as_slice(), &evidence);
-            *room = bytes.into_vec();
-            checked
-        }
+        Item::Gossip(bytes, evidence) => check(alloc, chain, bytes.as_slice(), &evidence),
         Item::Close(scid) => Ok(Offered::Close(scid)),
     }
 }
 
-/// Parses a line and checks the item that it offers, if any. A message is decoded into `room`, which is left for that
-/// of the next line.
-fn check_line(
-    alloc: Global,
-    chain: &ChainHash,
-    line: &[u8],
-    room: &mut Vec<u8>,
-) -> Result<Option<Offered>, AllocError>
+/// Parses a line and checks the item that it offers, if any. A message is decoded into a vector that needn't grow: two
+/// digits make a byte.
+fn check_line(alloc: Global, chain: &ChainHash, line: &[u8]) -> Result<Option<Offered>, AllocError>
     ensures { IfOk result (λ offered. offered ≡ offered_in chain.now (request_of line.now)) }
 {
-    match parse_item(replace(room, Vec::new(alloc)), line)? {
-        Some(item) => Ok(Some(check_item(alloc, chain, item, room)?)),
+    match parse_item(Vec::with_capacity(alloc, line.len() / 2)?, line)? {
+        Some(item) => Ok(Some(check_item(alloc, chain, item)?)),
         None => Ok(None),
     }
 }
@@ -110,8 +95,8 @@ pub fn check_lines<Rt: Threads + Sync, G: Gate>(
 {
     let alloc = context.pool.alloc;
     let chain = &context.chain;
-    context.pool.at_most(most_chunks(lines)).map(
-        lines,
-        &|line| check_line(alloc, chain, line, &mut Vec::new(alloc)),
-    )
+    context
+        .pool
+        .at_most(most_chunks(lines))
+        .map(lines, &|line| check_line(alloc, chain, line))
 }

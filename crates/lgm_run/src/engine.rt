@@ -14,7 +14,7 @@ use crate::context::Context;
 use crate::maps::Maps;
 use lgm_answers::{Answer, Filters, answer_found, asked_route};
 use lgm_check::Refusal;
-use lgm_graph::Known;
+use lgm_graph::{Known, MAX_CHANNELS};
 use lgm_par::{Gate, Pool};
 use lgm_script::{Output, Payment, SendFault, Sink};
 use lgm_store::Seed;
@@ -86,7 +86,7 @@ impl Engine {
         pool: &Pool<'_, Rt, G>,
         payment: &Payment,
     ) -> Result<Answer<'static>, AllocError>
-        requires few { self.old.accepted ≤ 2000000000 }
+        requires few { self.old.accepted ≤ MAX_CHANNELS }
         ensures same { self.new ≡ self.old }
         ensures answer { IfOk result (λ answer. (n : ℕ) → answer_text n answer
             ≡ route_text n payment.now.secret (route_answer self.old.known self.old.committed payment.now)) }
@@ -103,7 +103,7 @@ impl Engine {
         lines: &[&[u8]],
         output: &mut Output<'_, W>,
     ) -> Result<(), SendFault>
-        requires few { self.old.accepted ≤ 2000000000 }
+        requires few { self.old.accepted ≤ MAX_CHANNELS }
         requires number { number + length lines.now < 2 ^ 64 }
         ensures state { OnOk result (self.new ≡ record self.old
             { filters = filters_behind context.now.chain self.old.filters (asked_in lines.now) }) }

@@ -17,7 +17,7 @@ use crate::offering::offer;
 use crate::questions::answer_questions;
 use lgm_answers::Filters;
 use lgm_check::Refusal;
-use lgm_graph::{Known, Network, Replica};
+use lgm_graph::{Known, MAX_CHANNELS, Network, Replica};
 use lgm_par::{Gate, Pool};
 use lgm_query::{Changes, Differences};
 use lgm_route::{Request, Route, RouteFault, answer_chunked};
@@ -114,7 +114,7 @@ impl Maps {
         pool: &Pool<'_, Rt, G>,
         request: &Request,
     ) -> Result<Route, RouteFault>
-        requires few { length self.old.committed.channels ≤ 2000000000 }
+        requires few { length self.old.committed.channels ≤ MAX_CHANNELS }
         ensures same { self.new ≡ self.old }
         ensures found { (result ≡ Err RouteFault.NoMemory) ⊎
             (result ≡ answer_of (edges_of self.old.known self.old.committed) request.now) }
@@ -136,7 +136,7 @@ impl Maps {
         filters: &mut Filters,
         output: &mut Output<'_, W>,
     ) -> Result<(), SendFault>
-        requires few { length self.old.committed.channels ≤ 2000000000 }
+        requires few { length self.old.committed.channels ≤ MAX_CHANNELS }
         requires number { number + length lines.now < 2 ^ 64 }
         ensures same { self.new ≡ self.old }
         ensures filters { OnOk result

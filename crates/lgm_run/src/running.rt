@@ -14,7 +14,7 @@ use crate::remains::Remains;
 use lgm_answers::{MAX_LINES, RunFault};
 use lgm_gossip::ChainHash;
 use lgm_graph::Known;
-use lgm_par::{Gate, Pool};
+use lgm_par::{Gate, MAX_WORKERS, Pool};
 use lgm_script::{
     BLOCK, LineReader, MAX_LINE, Output, SendFault, Sink, Source, more_begins, next_group,
     next_line,
@@ -45,8 +45,8 @@ fn answer_next<Rt: Threads + Sync, G: Gate, W: Sink>(
     output: &mut Output<'_, W>,
 ) -> Result<(u64, usize), SendFault>
     requires line { (first ≤ length lines.now) × (first ≤ MAX_LINE) }
-    requires most { (0 < most) × (engine.old.accepted + most ≤ 10000000) }
-    requires number { number ≤ 10000000 }
+    requires most { (0 < most) × (engine.old.accepted + most ≤ MAX_LINES) }
+    requires number { number ≤ MAX_LINES }
     ensures answered { IfOk result
         (λ done. HaveAnswers context.now.chain number engine.old engine.new lines.now first
         (Tells (told_by W.seen output.old) (told_by W.seen output.new)) done.0 done.1) }
@@ -134,7 +134,7 @@ fn write_answers<W: Sink>(
 /// Answers a whole script: its lines, in order, each depending on the lines before it (see the grammar in
 /// `docs/script.md`). Payments use no node that requires unknown features.
 ///
-/// The work is shared by 1 to 64 workers. Consecutive lines that are completely read ahead are processed together, at
+/// The work is shared by 1 to [`MAX_WORKERS`] workers. Consecutive lines that are completely read ahead are processed together, at
 /// most 1,024 of items or of questions: they are parsed, checked and answered in chunks, each of which passes the gate,
 /// and written in order. Up to 64 items may each be a chunk; more are two chunks, and one more for each 128 KiB of their
 /// text. Neither the number of workers nor the gate affects what is written, nor do the random bytes from the system,
@@ -154,7 +154,7 @@ pub fn run<Rt: Threads + Sync + RandomSource, G: Gate, R: Source, W: Sink>(
     workers: usize,
     gate: &G,
 ) -> Result<Counts, RunFault>
-    requires workers { (1 ≤ workers) × (workers ≤ 64) }
+    requires workers { (1 ≤ workers) × (workers ≤ MAX_WORKERS) }
     ensures runs { Runs chain.now known.now (R.seen reader.old) (R.seen reader.new) (W.seen writer.old)
         (W.seen writer.new) result }
 {

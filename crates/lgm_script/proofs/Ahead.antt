@@ -1,5 +1,5 @@
 -- What was read ahead, and what a read adds to it.
-use Rattle.std.proofs.Common.{◌≡◌, ℕ, ◌+◌, ◌≤◌, List, ◌++◌, length, take, drop, Option, Some, None, sym, ap, ◌∙◌, append_assoc, arith}
+use Rattle.std.proofs.Common.{◌≡◌, ℕ, ◌+◌, ◌≤◌, List, ◌++◌, length, take, drop, Option, Some, None, refl, sym, ap, ◌∙◌, append_assoc, arith}
 use Rattle.std.specs.Prelude.{IfSome}
 use Rattle.std.specs.Option.{option_map}
 use Rattle.std.proofs.lemmas.List.{length-take, length-append, take-append-drop, take-append-le, take-take, drop-append-le}
@@ -35,3 +35,9 @@ ahead_behind (Some left) new front sub n moved same =
 -- the front stays
 pub front_stays : (old new sub : List ℕ) (n : ℕ) → new ≡ old ++ take n sub → take (length old) new ≡ old
 front_stays old new sub n is = ap (take (length old)) is ∙ take-append_seam old (take n sub)
+
+-- what is left, where this was read ahead
+pub left_is : (buffered : List ℕ) (left : Option (List ℕ)) (rest : List ℕ) → ahead buffered left ≡ Some rest
+    → (bytes : List ℕ) × (left ≡ Some bytes) × (rest ≡ buffered ++ bytes)
+left_is buffered None rest e = absurd cc
+left_is buffered (Some bytes) rest e = (bytes, refl, cc)

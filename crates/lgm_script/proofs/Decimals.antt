@@ -1,10 +1,10 @@
 -- The number that a field is the text of.
 use Rattle.std.proofs.Common.{◌≡◌, ℕ, zero, suc, ◌^◌, ◌<◌, ◌≤◌, Bool, true, false, eqb, ltb, List, length, get_or}
-use Rattle.std.proofs.Common.{Some, None, refl, sym, ap, subst, ◌∙◌, arith, drop, drop-cons, rules, [], ◌∷◌}
+use Rattle.std.proofs.Common.{Some, None, inl, inr, refl, sym, ap, subst, ◌∙◌, arith, drop, drop-cons, rules, [], ◌∷◌}
 use Rattle.std.specs.Cmp.Lexicographic.{pointwise, same_text, other_text}
 use Rattle.std.specs.Fmt.{decimal}
 use Rattle.std.specs.Str.Parse.{AllDigits, digits_value}
-use Rattle.std.proofs.lemmas.Bool.{ltb-true, lt-ltb, ltb-false, le-ltb}
+use Rattle.std.proofs.lemmas.Bool.{cases_Bool, false_from_ne_true, true_from_ne_false, ltb-true, lt-ltb, ltb-false, le-ltb}
 use Rattle.std.proofs.lemmas.Fmt.{digits_value-decimal, digits_decimal, decimal-digits_value, first_decimal, decimal_digit, decimal_nonempty}
 use Rattle.std.proofs.lemmas.Str.Parse.{IsNumeralModel, numerals_by_value, tells_digits, numerals_by_fold}
 use Rattle.lgm_script.specs.inner.Digits.{is_digit, with_digit, with_digits, further, value_at}
@@ -19,11 +19,7 @@ own = numerals_by_value _ tells_digits
 
 -- a text is the same as itself
 is_itself : (text : List ℕ) → pointwise eqb text text ≡ true
-is_itself text = by (pointwise eqb text text) refl
-  where
-    by : (b : Bool) → pointwise eqb text text ≡ b → b ≡ true
-    by true e = refl
-    by false e = absurd (other_text text text (sym e) refl)
+is_itself text = true_from_ne_false (pointwise eqb text text) (λ e. other_text text text (sym e) refl)
 
 -- the text of a number spells it
 pub number_spelled : (n : ℕ) (digits : List ℕ) → n < 2 ^ 64 → decimal n ≡ digits → number_of digits ≡ Some n
@@ -33,13 +29,14 @@ number_spelled n digits small is =
 
 -- what is no number's text spells none
 pub number_none : (digits : List ℕ) → ((n : ℕ) → n < 2 ^ 64 → decimal n ≡ digits → ⊥) → number_of digits ≡ None
-number_none digits none = by (ltb (digits_value 10 digits) (2 ^ 64)) (pointwise eqb (decimal (digits_value 10 digits)) digits) refl refl
-  where
-    by : (small same : Bool) → ltb (digits_value 10 digits) (2 ^ 64) ≡ small
-        → pointwise eqb (decimal (digits_value 10 digits)) digits ≡ same → number_of digits ≡ None
-    by false same e f = rw e refl
-    by true false e f = rw (e, f) refl
-    by true true e f = absurd (none (digits_value 10 digits) (ltb-true _ _ e) (same_text _ _ (sym f)))
+number_none digits none = elim (cases_Bool (ltb (digits_value 10 digits) (2 ^ 64))) [
+  | inl e ↦ rw (
+    e,
+    false_from_ne_true (pointwise eqb (decimal (digits_value 10 digits)) digits)
+        (λ f. none (digits_value 10 digits) (ltb-true _ _ e) (same_text _ _ (sym f))),
+  ) refl
+  | inr e ↦ rw e refl
+]
 
 -- no number's text is empty
 pub empty_none : (digits : List ℕ) → length digits ≤ 0 → number_of digits ≡ None

@@ -2,7 +2,7 @@
 use Rattle.std.proofs.Common.{◌≡◌, ℕ, zero, suc, get_or, ◌<◌, ◌+◌, ◌-◌, ◌≤◌, List, [], ◌∷◌, ◌++◌}
 use Rattle.std.proofs.Common.{length, take, drop, min, Option, sym, ap, subst, ◌∙◌, arith}
 use Rattle.std.specs.List.{AllByRecursion}
-use Rattle.std.proofs.lemmas.List.{length-take-le, length-drop, drop_min, drop-drop}
+use Rattle.std.proofs.lemmas.List.{length-take-le, length-drop, drop_min, drop-drop, drop_more, take_more}
 use Rattle.lgm_script.specs.Lines.{IsFirstLine}
 use Rattle.lgm_script.specs.Groups.{AreFirstLines}
 
@@ -45,3 +45,22 @@ pub each_at : {X : Type 0} (P : X → Type 0) (xs : List X) (k : ℕ) (d : X) �
 each_at P [] k d all lt = absurd (omega arith)
 each_at P (x ∷ xs) zero d all lt = all.0
 each_at P (x ∷ xs) (suc k) d all lt = each_at P xs k d all.1 (omega arith)
+
+-- the element at a place, and those behind it
+pub record StandsAt {X : Type 0} (xs : List X) (k : ℕ) (d x : X) (others : List X) : Type 0 where
+  pub within : k < length xs
+  pub here : get_or xs k d ≡ x
+  pub front : take (k + 1) xs ≡ take k xs ++ x ∷ []
+  pub behind : drop (k + 1) xs ≡ others
+
+pub stands_at : {X : Type 0} (xs : List X) (k : ℕ) (d x : X) (others : List X) → drop k xs ≡ x ∷ others → StandsAt xs k d x others
+stands_at {X} xs k d x others e =
+    let lt : k < length xs = omega (arith, ap length e, length-drop k xs) in
+    let parts : get_or xs k d ∷ drop (k + 1) xs ≡ x ∷ others = sym (drop_more xs k d lt) ∙ e in
+    let at : get_or xs k d ≡ x = ap (λ (ls : List X). get_or ls 0 d) parts in
+    record {
+      within = lt;
+      here = at;
+      front = take_more xs k d lt ∙ ap (λ (l : X). take k xs ++ l ∷ []) at;
+      behind = ap (drop 1) parts;
+    }

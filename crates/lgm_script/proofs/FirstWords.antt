@@ -1,10 +1,11 @@
 -- What lines of a kind ask.
-use Rattle.std.proofs.Common.{◌≡◌, arith, ℕ, Bool, true, false, cond, ◌||◌, List, [], ◌∷◌, length, take, drop, Option, Some, None, refl}
-use Rattle.std.specs.Prelude.{codes, nat_eq, nat_lt, ◌<◌, IfSome, ◌==◌, ◌&&◌, unwrap_or}
+use Rattle.std.proofs.Common.{◌≡◌, arith, ℕ, Bool, true, false, cond, ◌||◌, List, [], ◌∷◌, length, take, drop, Option, Some, None, refl, inl, inr}
+use Rattle.std.specs.Prelude.{codes, nat_eq, nat_lt, ◌<◌, IfSome, ◌==◌, unwrap_or}
 use Rattle.std.specs.List.{starts_with, list_any, AllByRecursion}
 use Rattle.std.specs.Option.{option_map}
 use Rattle.std.specs.Cmp.Lexicographic.{pointwise}
-use Rattle.std.proofs.lemmas.Bool.{eqb-true, ne_eqb, ltb-true}
+use Rattle.std.proofs.lemmas.Bool.{cases_Bool, ltb-true}
+use Rattle.std.proofs.lemmas.Bool.Decides.{nat_tests}
 use Rattle.lgm_script.specs.declared.grouping.Kind.{Kind}
 use Rattle.lgm_script.specs.declared.grouping.Kind.TheVariants.{Item as ItemKind, Question, Other}
 use Rattle.lgm_script.specs.declared.item.Item.{Item}
@@ -14,7 +15,7 @@ use Rattle.lgm_script.specs.declared.request.Request.TheVariants as requests
 use Rattle.lgm_script.specs.Field.{◌>>=◌, fields_of, number_of, number_below}
 use Rattle.lgm_script.specs.Item.{bytes_of, gossip_of, close_of}
 use Rattle.lgm_script.specs.Payment.{payment_of}
-use Rattle.lgm_script.specs.Request.{filter_of, form_of, request_of, HasLawfulPeer}
+use Rattle.lgm_script.specs.Request.{filter_of, request_of, HasLawfulPeer}
 use Rattle.lgm_script.specs.inner.Kinds.{has_route_word, kind_of}
 use Rattle.lgm_script.specs.Groups.{IsOfKind, IsNoRoute}
 
@@ -22,14 +23,14 @@ use Rattle.lgm_script.specs.Groups.{IsOfKind, IsNoRoute}
 abbrev pub is_quiet : List ℕ → Bool
 is_quiet line = (length line == 0) || starts_with nat_eq line (codes "#")
 
+-- a comment begins with its sign
+pub is_sign : (byte : ℕ) (bytes : List ℕ) → is_quiet (byte ∷ bytes) ≡ true → byte ≡ 35
+is_sign byte bytes quiet = grind (arith, nat_tests)
+
 -- no line of the other kinds is
 quiet_is_other : (line : List ℕ) → is_quiet line ≡ true → kind_of line ≡ Other
 quiet_is_other [] quiet = refl
-quiet_is_other (b ∷ bytes) quiet = by (35 == b) refl (rw (ne_eqb (length (b ∷ bytes)) 0 (λ is. omega (arith, is))) at quiet)
-  where
-    by : (same : Bool) → (35 == b) ≡ same → ((35 == b) && true) ≡ true → kind_of (b ∷ bytes) ≡ Other
-    by true is same = rw (← eqb-true 35 b is) refl
-    by false is same = absurd (let bad = rw is at same in cc)
+quiet_is_other (b ∷ bytes) quiet = rw (is_sign b bytes quiet) refl
 
 -- what a line of the kind can ask, with a lawful peer, and no route unless it has that word
 abbrev Asks : Kind → Bool → Request → Type 0
@@ -38,11 +39,7 @@ Asks kind route request = IsOfKind kind request × ((route ≡ false → IsNoRou
 -- a number that is taken is below its limit
 below : (limit : ℕ) (number : Option ℕ) → IfSome (number >>= λ n. cond (nat_lt n limit) (Some n) None) (λ n. n < limit)
 below limit None = tt
-below limit (Some n) = by (nat_lt n limit) refl
-  where
-    by : (less : Bool) → nat_lt n limit ≡ less → IfSome (cond less (Some n) None) (λ m. m < limit)
-    by true is = ltb-true n limit is
-    by false is = tt
+below limit (Some n) = elim (cases_Bool (nat_lt n limit)) [ inl is ↦ rw is (ltb-true n limit is) | inr is ↦ rw is tt ]
 
 -- a form of the grammar, or none
 offer_or_bad : (route : Bool) (item : Option Item) → Asks ItemKind route (unwrap_or (option_map (λ i. requests.Offer i) item) requests.Bad)
@@ -86,17 +83,15 @@ form_asks false false false false false true gossip closed bytes fields payment 
 form_asks false false false false false false gossip closed bytes fields payment = (tt, ((λ _. tt), tt))
 
 line_asks : (line : List ℕ) → Asks (kind_of line) (has_route_word line) (request_of line)
-line_asks line = by (is_quiet line) refl
-    (form_asks (pointwise nat_eq (take 2 line) (codes "m ")) (pointwise nat_eq (take 6 line) (codes "close "))
-    (pointwise nat_eq (take 2 line) (codes "q "))
-    (pointwise nat_eq (take 7 line) (codes "filter ")) (has_route_word line)
-    (pointwise nat_eq line (codes "commit")) (gossip_of (fields_of 32 (drop 2 line)))
-    (close_of (fields_of 32 (drop 6 line))) (bytes_of (drop 2 line)) (fields_of 32 (drop 7 line)) (payment_of (fields_of 32 (drop 6 line))))
-  where
-    by : (quiet : Bool) → is_quiet line ≡ quiet → Asks (kind_of line) (has_route_word line)
-        (unwrap_or (form_of line) requests.Bad) → Asks (kind_of line) (has_route_word line) (request_of line)
-    by true is form = rw (quiet_is_other line is, is) (tt, ((λ _. tt), tt))
-    by false is form = rw is form
+line_asks line = elim (cases_Bool (is_quiet line)) [
+  | inl is ↦ rw (quiet_is_other line is, is) (tt, ((λ _. tt), tt))
+  | inr is ↦ rw is
+      (form_asks (pointwise nat_eq (take 2 line) (codes "m ")) (pointwise nat_eq (take 6 line) (codes "close "))
+      (pointwise nat_eq (take 2 line) (codes "q "))
+      (pointwise nat_eq (take 7 line) (codes "filter ")) (has_route_word line)
+      (pointwise nat_eq line (codes "commit")) (gossip_of (fields_of 32 (drop 2 line)))
+      (close_of (fields_of 32 (drop 6 line))) (bytes_of (drop 2 line)) (fields_of 32 (drop 7 line)) (payment_of (fields_of 32 (drop 6 line))))
+]
 
 -- what a line asks is of its kind
 pub request_is_of_kind : (line : List ℕ) → IsOfKind (kind_of line) (request_of line)
@@ -110,10 +105,7 @@ request_is_lawful line = let asks = line_asks line in asks.1.1
 pub no_routes : {T : Type 0} (text : T → List ℕ) (lines : List T) → list_any (λ line. has_route_word
     (text line)) lines ≡ false → AllByRecursion (λ line. IsNoRoute (request_of (text line))) lines
 no_routes text [] none = tt
-no_routes {T} text (line ∷ lines) none = by (has_route_word (text line)) refl none (no_routes text lines)
-  where
-    by : (route : Bool) → has_route_word (text line) ≡ route → (route || list_any (λ l. has_route_word (text l)) lines) ≡ false
-        → (list_any (λ l. has_route_word (text l)) lines ≡ false → AllByRecursion (λ l. IsNoRoute
-        (request_of (text l))) lines) → AllByRecursion (λ l. IsNoRoute (request_of (text l))) (line ∷ lines)
-    by true is none others = absurd cc
-    by false is none others = (let asks = line_asks (text line) in asks.1.0 is, others none)
+no_routes text (line ∷ lines) none = elim (cases_Bool (has_route_word (text line))) [
+  | inl is ↦ absurd (let bad = rw is at none in cc)
+  | inr is ↦ (let asks = line_asks (text line) in asks.1.0 is, no_routes text lines (rw is at none))
+]

@@ -1,11 +1,11 @@
 -- Lines of items: a message's fields, found from the end, and a line's first word.
 use Rattle.std.proofs.Common.{◌≡◌, ℕ, ◌+◌, ◌*◌, ◌%◌, Bool, true, false, cond, eqb, List, [], ◌∷◌, ◌++◌, length}
-use Rattle.std.proofs.Common.{take, drop, Option, Some, None, Result, Ok, Err, refl, sym, ap, ◌∙◌, arith}
-use Rattle.std.specs.Prelude.{◌↔◌, codes, nat_eq, ◌==◌, ◌&&◌, unwrap_or}
+use Rattle.std.proofs.Common.{take, drop, Option, Some, None, Result, Ok, Err, refl, sym, ap, ◌∙◌, inl, inr}
+use Rattle.std.specs.Prelude.{◌↔◌, codes, nat_eq, unwrap_or}
 use Rattle.std.specs.Option.{option_map}
 use Rattle.std.specs.List.{join_with_byte}
 use Rattle.std.specs.Cmp.Lexicographic.{pointwise}
-use Rattle.std.proofs.lemmas.Bool.{eqb-true, ne_eqb}
+use Rattle.std.proofs.lemmas.Bool.{cases_Bool}
 use Rattle.std.proofs.lemmas.List.Splits.{join_with_byte-slice_split}
 use Rattle.hex.specs.Hex.{value_at, pair_value, decode_pairs}
 use Rattle.hex.specs.Hex.{◌>>=◌ as ◌>>=ᵣ◌}
@@ -19,9 +19,9 @@ use Rattle.lgm_script.specs.declared.request.Request.TheVariants as requests
 use Rattle.lgm_script.specs.Field.{◌>>=◌, fields_of, number_below}
 use Rattle.lgm_script.specs.Item.{bytes_of, evidence_of, gossip_of, close_of}
 use Rattle.lgm_script.specs.Payment.{payment_of}
-use Rattle.lgm_script.specs.Request.{filter_of, form_of, request_of}
+use Rattle.lgm_script.specs.Request.{filter_of, request_of}
 use Rattle.lgm_script.proofs.FieldsLaws.{some_field}
-use Rattle.lgm_script.proofs.FirstWords.{is_quiet}
+use Rattle.lgm_script.proofs.FirstWords.{is_quiet, is_sign}
 
 -- ---- digits with a space among them
 
@@ -51,11 +51,10 @@ space_refused i (high ∷ low ∷ front) back =
 
 no_bytes : (text : List ℕ) → IsRefused (decode_pairs 0 text) → bytes_of text ≡ None
 no_bytes [] refused = refl
-no_bytes (byte ∷ text) refused = by (eqb (length (byte ∷ text) % 2) 1) refl
-  where
-    by : (odd : Bool) → eqb (length (byte ∷ text) % 2) 1 ≡ odd → bytes_of (byte ∷ text) ≡ None
-    by true is = rw is refl
-    by false is = rw (is, refused.is) refl
+no_bytes (byte ∷ text) refused = elim (cases_Bool (eqb (length (byte ∷ text) % 2) 1)) [
+  | inl is ↦ rw is refl
+  | inr is ↦ rw (is, refused.is) refl
+]
 
 -- digits with a space among them spell no bytes
 space_spells_none : (front back : List ℕ) → bytes_of (front ++ 32 ∷ back) ≡ None
@@ -163,25 +162,19 @@ item_by_word line =
 
 quiet_offers_none : (line : List ℕ) → is_quiet line ≡ true → item_by_word line ≡ None
 quiet_offers_none [] quiet = refl
-quiet_offers_none (b ∷ bytes) quiet = by (35 == b) refl (rw (ne_eqb (length (b ∷ bytes)) 0 (λ is. omega (arith, is))) at quiet)
-  where
-    by : (same : Bool) → (35 == b) ≡ same → ((35 == b) && true) ≡ true → item_by_word (b ∷ bytes) ≡ None
-    by true is same = rw (← eqb-true 35 b is) refl
-    by false is same = absurd (let bad = rw is at same in cc)
+quiet_offers_none (b ∷ bytes) quiet = rw (is_sign b bytes quiet) refl
 
 -- what a line offers, its first word tells
 item_is_by_word : (line : List ℕ) → item_in (request_of line) ≡ item_by_word line
-item_is_by_word line = by (is_quiet line) refl
-    (form_offers (pointwise nat_eq (take 2 line) (codes "m "))
-    (pointwise nat_eq (take 6 line) (codes "close ")) (pointwise nat_eq (take 2 line) (codes "q "))
-    (pointwise nat_eq (take 7 line) (codes "filter ")) (pointwise nat_eq (take 6 line) (codes "route "))
-    (pointwise nat_eq line (codes "commit")) (gossip_of (fields_of 32 (drop 2 line)))
-    (close_of (fields_of 32 (drop 6 line))) (bytes_of (drop 2 line)) (fields_of 32 (drop 7 line)) (payment_of (fields_of 32 (drop 6 line))))
-  where
-    by : (quiet : Bool) → is_quiet line ≡ quiet → item_in (unwrap_or (form_of line) requests.Bad)
-        ≡ item_by_word line → item_in (request_of line) ≡ item_by_word line
-    by true is form = rw is (sym (quiet_offers_none line is))
-    by false is form = rw is form
+item_is_by_word line = elim (cases_Bool (is_quiet line)) [
+  | inl is ↦ rw is (sym (quiet_offers_none line is))
+  | inr is ↦ rw is
+      (form_offers (pointwise nat_eq (take 2 line) (codes "m "))
+      (pointwise nat_eq (take 6 line) (codes "close ")) (pointwise nat_eq (take 2 line) (codes "q "))
+      (pointwise nat_eq (take 7 line) (codes "filter ")) (pointwise nat_eq (take 6 line) (codes "route "))
+      (pointwise nat_eq line (codes "commit")) (gossip_of (fields_of 32 (drop 2 line)))
+      (close_of (fields_of 32 (drop 6 line))) (bytes_of (drop 2 line)) (fields_of 32 (drop 7 line)) (payment_of (fields_of 32 (drop 6 line))))
+]
 
 pub offers_what_its_word_tells : (line : List ℕ) (item : Item) → (item_by_word line ≡ Some item) ↔ (request_of line ≡ requests.Offer item)
 offers_what_its_word_tells line item =

@@ -18,9 +18,13 @@ abbrev pub lead : ℕ → Option ℕ → List ℕ
 lead number None = decimal number ++ codes " "
 lead number (Some peer) = decimal number ++ codes " to " ++ decimal peer ++ codes " "
 
+-- HEX behind its lead
+abbrev pub message_behind : List ℕ → List ℕ → List ℕ
+message_behind front message = front ++ encode_lower message ++ codes "\n"
+
 -- N HEX, or N to PEER HEX
 abbrev pub message_line : ℕ → Option ℕ → List ℕ → List ℕ
-message_line number peer message = lead number peer ++ encode_lower message ++ codes "\n"
+message_line number peer message = message_behind (lead number peer) message
 
 -- N route SENT EXPIRY K
 abbrev pub route_line : ℕ → ℕ → ℕ → ℕ → List ℕ
@@ -38,10 +42,9 @@ abbrev pub hop_line : ℕ → ℕ → List ℕ → List ℕ
 hop_line number id payload =
     decimal number ++ codes " hop " ++ scid_text id ++ codes " " ++ encode_lower payload ++ codes "\n"
 
--- the line of an answer, each of its forms
+-- the line of an answer that is no message, each of its forms
 abbrev pub line_text : ℕ → Line → List ℕ
 line_text number (lines.Word word) = word_line number word.now
 line_text number (lines.Commit count) = commit_line number count
-line_text number (lines.Message peer message) = message_line number peer message.now
 line_text number (lines.Route sent expiry count) = route_line number sent expiry count
 line_text number (lines.Hop id payload) = hop_line number id payload.now

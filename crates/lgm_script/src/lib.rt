@@ -31,4 +31,4 @@ pub use payment::Payment;
 pub use reading::{LineFault, more_begins, next_line};
 pub use request::{Request, parse};
 pub use std_streams::{FromRead, ToWrite};
-pub use text::Line;
+pub use text::{Lead, Line};

@@ -2,11 +2,11 @@
 
 ghost use Rattle.std.specs.Prelude.{◌≡◌, ◌<◌, [], length, OnOk, MatchResult};
 ghost use Rattle.lgm_script.specs.Output.{told_by, Tells, TellsPart, Writes};
-ghost use Rattle.lgm_script.specs.Text.{line_text};
+ghost use Rattle.lgm_script.specs.Text.{line_text, message_behind};
 ghost use Rattle.lgm_script.specs.declared.output.SendFault.TheVariants.{NoMemory};
 
 use crate::device::{Failed, Sink, write_all};
-use crate::text::{Line, append_line};
+use crate::text::{Lead, Line, append_line, append_message};
 use std::alloc::AllocError;
 use thiserror::Error;
 
@@ -92,6 +92,16 @@ impl<'a, W: Sink> Output<'a, W> {
             (line_text number line.now) result }
     {
         append_line(self.gathered, number, line)?;
+        self.flush_block()
+    }
+
+    /// Writes a message, in hexadecimal digits behind its lead.
+    #[inline(always)]
+    pub fn send_message(&mut self, lead: &Lead, message: &[u8]) -> Result<(), SendFault>
+        ensures { Writes (told_by W.seen self.old) (told_by W.seen self.new)
+            (message_behind lead.now message.now) result }
+    {
+        append_message(self.gathered, lead, message)?;
         self.flush_block()
     }
 }

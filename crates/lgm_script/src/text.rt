@@ -1,22 +1,21 @@
 //! The lines of answers, each appended to a text completely or not at all.
 
-ghost use Rattle.std.specs.Prelude.{◌≡◌, ◌++◌, take, OnOk, OnErr};
+ghost use Rattle.std.specs.Prelude.{◌≡◌, ◌++◌, take, IfOk, OnOk, OnErr};
 ghost use Rattle.std.specs.Fmt.{decimal};
-ghost use Rattle.lgm_script.specs.Text.{lead, scid_text, line_text};
+ghost use Rattle.lgm_script.specs.Text.{lead, message_behind, scid_text, line_text};
 ghost use Rattle.lgm_script.specs.inner.Front.{IsFront};
 
 use lgm_gossip::Scid;
-use std::alloc::AllocError;
+use std::alloc::{AllocError, Global};
+use std::marker::Model;
 
-/// A line of an answer, without the number of the line that it answers, which stands before it.
+/// A line of an answer that is no message, without the number of the line that it answers, which stands before it.
 #[derive(Clone, Copy, Debug)]
 pub enum Line<'a> {
     /// A word: `N WORD`.
     Word(&'a str),
     /// The number of accepted items at a commit: `N commit V`.
     Commit(u64),
-    /// A message in hexadecimal digits: `N HEX`, or for a peer `N to PEER HEX`.
-    Message(Option<u16>, &'a [u8]),
     /// A route: `N route SENT EXPIRY K`.
     Route {
         /// What the payer sends, in msat.
@@ -28,6 +27,32 @@ pub enum Line<'a> {
     },
     /// A hop of a route, its channel and its payload in hexadecimal digits: `N hop SCID HEX`.
     Hop(Scid, &'a [u8]),
+}
+
+/// What precedes each message of an answer: `N `, or for a peer `N to PEER `. It is made once for all of them. Contracts
+/// see the text.
+#[derive(Drop)]
+pub struct Lead {
+    text: Vec<u8>,
+}
+
+impl Model for Lead {
+    ghost use Rattle.std.specs.Prelude.{ℕ, List};
+
+    ghost Value = { List ℕ };
+
+    ghost view = { λ l. l.text.items };
+}
+
+impl Lead {
+    /// The lead of the messages that answer the line with this number. The only error is out of memory.
+    pub fn new(alloc: Global, number: u64, peer: Option<u16>) -> Result<Lead, AllocError>
+        ensures { IfOk result (λ front. front ≡ lead number peer) }
+    {
+        let mut text = Vec::new(alloc);
+        push_lead(&mut text, number, peer)?;
+        Ok(Lead { text })
+    }
 }
 
 /// Appends a number in decimal digits.
@@ -42,7 +67,6 @@ fn push_number(text: &mut Vec<u8>, number: u64) -> Result<(), AllocError>
 }
 
 /// Appends what precedes a message, which may be for a peer.
-#[inline(always)]
 fn push_lead(text: &mut Vec<u8>, number: u64, peer: Option<u16>) -> Result<(), AllocError>
     ensures ok { OnOk result (text.new.items ≡ text.old.items ++ lead number peer) }
     ensures err { OnErr result (IsFront text.old.items text.new.items) }
@@ -71,6 +95,18 @@ fn push_scid(text: &mut Vec<u8>, scid: Scid) -> Result<(), AllocError>
     Ok(())
 }
 
+/// Appends a message behind its lead, in hexadecimal digits. If memory runs out a prefix of that may be appended.
+#[inline(always)]
+fn push_message(text: &mut Vec<u8>, lead: &Lead, message: &[u8]) -> Result<(), AllocError>
+    ensures ok { OnOk result (text.new.items ≡ text.old.items ++ message_behind lead.now message.now) }
+    ensures err { OnErr result (IsFront text.old.items text.new.items) }
+{
+    text.extend_from_slice(lead.text.as_slice())?;
+    lgm_hex::append(text, message)?;
+    text.push(b'\n')?;
+    Ok(())
+}
+
 /// Appends a line. If memory runs out a prefix of it may be appended.
 #[inline(always)]
 fn push_line(text: &mut Vec<u8>, number: u64, line: &Line<'_>) -> Result<(), AllocError>
@@ -89,12 +125,6 @@ fn push_line(text: &mut Vec<u8>, number: u64, line: &Line<'_>) -> Result<(), All
             push_number(text, number)?;
             text.extend_from_slice(b" commit ")?;
             push_number(text, *count)?;
-            text.push(b'\n')?;
-            Ok(())
-        }
-        Line::Message(peer, message) => {
-            push_lead(text, number, *peer)?;
-            lgm_hex::append(text, message)?;
             text.push(b'\n')?;
             Ok(())
         }
@@ -149,5 +179,20 @@ pub(crate) fn append_line(
 {
     let length = text.len();
     let pushed = push_line(text, number, line);
+    keep_if_whole(text, length, pushed)
+}
+
+/// Appends a message behind its lead, in hexadecimal digits. If memory runs out the text is unchanged.
+#[inline(always)]
+pub(crate) fn append_message(
+    text: &mut Vec<u8>,
+    lead: &Lead,
+    message: &[u8],
+) -> Result<(), AllocError>
+    ensures ok { OnOk result (text.new.items ≡ text.old.items ++ message_behind lead.now message.now) }
+    ensures err { OnErr result (text.new.items ≡ text.old.items) }
+{
+    let length = text.len();
+    let pushed = push_message(text, lead, message);
     keep_if_whole(text, length, pushed)
 }

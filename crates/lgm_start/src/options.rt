@@ -10,6 +10,7 @@ use clap::builder::ValueParser;
 use clap::{Arg, ArgAction, ArgMatches, Command, Error};
 use lgm_gossip::ChainHash;
 use lgm_graph::Known;
+use lgm_par::MAX_WORKERS;
 use std::alloc::{AllocError, Global};
 use std::env;
 use std::env::Env;
@@ -61,7 +62,7 @@ pub struct Options {
     pub chain: ChainHash,
     /// The node feature bits that are known.
     pub known: Known,
-    /// The number of threads, 1 to 64.
+    /// The number of threads, 1 to [`MAX_WORKERS`].
     pub workers: usize,
 }
 
@@ -110,7 +111,7 @@ fn script_command<'a>(
         .long("workers")
         .value_name("N")
         .help("The number of threads, 1 to 64")
-        .value_parser(ValueParser::unsigned(1, 64))
+        .value_parser(ValueParser::unsigned(1, MAX_WORKERS as u64))
         .default_value("4")
         .action(ArgAction::Set);
     Command::new(alloc, name)
@@ -177,10 +178,13 @@ fn options_of(alloc: Global, mode: Mode, words: &ArgMatches) -> Result<Options, 
         AreChain (unwrap_or (first_value (found_of words.now) (codes "chain")) []) options.chain) }
     ensures known { IfOk result
         (λ options. AreKnown (first_value (found_of words.now) (codes "known")) options.known) }
-    ensures workers { IfOk result (λ options. (1 ≤ options.workers) × (options.workers ≤ 64)) }
+    ensures workers { IfOk result (λ options. (1 ≤ options.workers) × (options.workers ≤ MAX_WORKERS)) }
 {
-    // `clap` has checked that they are 1 to 64.
-    let workers = words.get_one::<u64>("workers").unwrap_or(4).clamp(1, 64);
+    // `clap` has checked that they are 1 to `MAX_WORKERS`.
+    let workers = words
+        .get_one::<u64>("workers")
+        .unwrap_or(4)
+        .clamp(1, MAX_WORKERS as u64);
     Ok(Options {
         mode,
         chain: chain(words.get_str("chain").unwrap_or(""))?,
@@ -202,7 +206,7 @@ pub fn read_words<E: Env + AllocGlobal>(env: &E) -> Result<Vec<String>, BadWords
 
 /// The options that arguments give, the program's name first.
 pub fn parse(alloc: Global, words: &[String]) -> Result<Options, BadWords>
-    ensures { IfOk result (λ options. (1 ≤ options.workers) × (options.workers ≤ 64)) }
+    ensures { IfOk result (λ options. (1 ≤ options.workers) × (options.workers ≤ MAX_WORKERS)) }
 {
     let command = program(alloc)?;
     let matches = match command.try_get_matches_from(words) {

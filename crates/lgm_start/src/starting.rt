@@ -99,21 +99,12 @@ pub fn start<Rt: Threads + Wait + Sync + RandomSource, R: Source, W: Sink, S: Si
     writer: &mut W,
     errors: &mut S,
 ) -> u8 {
-    let mut remains = Remains::none();
-    start_keeping(
-        rt,
-        alloc,
-        words,
-        &Open,
-        reader,
-        writer,
-        errors,
-        &mut remains,
-    )
+    let (status, _) = start_keeping(rt, alloc, words, &Open, reader, writer, errors);
+    status
 }
 
-/// Like [`start`], but all work passes the gate, and the maps of `lgm run` are left in `remains`: freeing them takes a
-/// sixth of the time, and a program that ends may forget them.
+/// Like [`start`], but all work passes the gate, and beside the status the maps of `lgm run` are returned: freeing them
+/// takes a sixth of the time, and a program that ends may forget them.
 pub fn start_keeping<
     Rt: Threads + Wait + Sync + RandomSource,
     G: Gate,
@@ -128,12 +119,12 @@ pub fn start_keeping<
     reader: &mut R,
     writer: &mut W,
     errors: &mut S,
-    remains: &mut Remains,
-) -> u8 {
+) -> (u8, Remains) {
+    let mut remains = Remains::none();
     let options = match parse(alloc, words) {
         Ok(options) => options,
-        Err(bad) => return refuse(alloc, errors, &bad),
+        Err(bad) => return (refuse(alloc, errors, &bad), remains),
     };
-    let ended = answer(rt, alloc, &options, gate, reader, writer, remains);
-    finish(errors, &ended)
+    let ended = answer(rt, alloc, &options, gate, reader, writer, &mut remains);
+    (finish(errors, &ended), remains)
 }

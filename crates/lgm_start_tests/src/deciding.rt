@@ -87,7 +87,9 @@ fn push_payment(alloc: Global, script: &mut String) -> Result<(), AllocError> {
 /// The answer to that, as the line of a number.
 fn route(alloc: Global, line: u64) -> Result<String, AllocError> {
     format!(in alloc;
-        "{line} route 5010198 700029 2\n{line} hop 600000x0x0 1402034c4b3f04030aae6906080927c00000010000\n{line} hop 600000x1x0 2f02034c4b3f04030aae69082311111111111111111111111111111111111111111111111111111111111111114c4b3f\n"
+        "{line} route 5010198 700029 2\n\
+        {line} hop 600000x0x0 1402034c4b3f04030aae6906080927c00000010000\n\
+        {line} hop 600000x1x0 2f02034c4b3f04030aae69082311111111111111111111111111111111111111111111111111111111111111114c4b3f\n"
     )
 }
 

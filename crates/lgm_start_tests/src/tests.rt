@@ -1,5 +1,4 @@
 use lgm_par::Gate;
-use lgm_run::Remains;
 use lgm_script::{Failed, Failures, MemorySink, MemorySource, Sink, Source};
 use lgm_start::{read_words, refuse, start, start_keeping};
 use std::alloc::Global;
@@ -66,16 +65,19 @@ pub fn started_in<Rt: Threads + Wait + Sync + RandomSource, G: Gate>(
     let mut writer = MemorySink::new(alloc);
     let mut errors = MemorySink::new(alloc);
     let status = match read_words(&(given, alloc)) {
-        Ok(words) => start_keeping(
-            rt,
-            alloc,
-            words.as_slice(),
-            gate,
-            &mut reader,
-            &mut writer,
-            &mut errors,
-            &mut Remains::none(),
-        ),
+        Ok(words) => {
+            let words = words.as_slice();
+            start_keeping(
+                rt,
+                alloc,
+                words,
+                gate,
+                &mut reader,
+                &mut writer,
+                &mut errors,
+            )
+            .0
+        }
         Err(bad) => refuse(alloc, &mut errors, &bad),
     };
     (status, writer, errors)

@@ -20,8 +20,8 @@ use Rattle.lgm_check.specs.declared.row.UpdateRow.{UpdateRow}
 use Rattle.lgm_check.specs.declared.row.NodeRow.{NodeRow}
 use Rattle.lgm_store.specs.Keys.{IsKeyed, point_cmp, id_of}
 use Rattle.lgm_store.specs.Rows.{Rows, put, by_point, by_id, is_point, channel_of, ends_at, ends_channel, is_banned, ends_banned}
-use Rattle.lgm_store.specs.History.{without_channel, channels_without, updates_without, ended_nodes, allowed_channels, without_held}
-use Rattle.lgm_store.specs.History.{banned_channels, updates_beside, banning, with_banned, with_ban}
+use Rattle.lgm_store.specs.History.{without_channel, channels_without, updates_without, ended_nodes, without_held}
+use Rattle.lgm_store.specs.History.{banned_channels, banning, with_banned, with_ban}
 use Rattle.lgm_store.specs.Reading.{ids_at}
 use Rattle.lgm_store.specs.inner.Sound.{AreEnded, AreAllowed}
 use Rattle.lgm_check.specs.declared.row.BanRow.{BanRow}

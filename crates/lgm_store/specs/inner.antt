@@ -7,3 +7,4 @@ pub mod Sound
 pub mod Start
 pub mod Candidate
 pub mod HeldEntries
+pub mod ScidSet

@@ -3,12 +3,12 @@
 ghost use Rattle.std.specs.Prelude.{◌≡◌, IfOk};
 ghost use Rattle.lgm_wire.specs.reading.Reading.{Gives};
 ghost use Rattle.lgm_check.specs.Precheck.{checked_of};
-ghost use Rattle.lgm_store.specs.inner.Candidate.{Fits, checked_by, message_of};
+ghost use Rattle.lgm_check.specs.CheckedKind.{row_of, Fits};
+ghost use Rattle.lgm_store.specs.inner.Candidate.{message_of};
 
 use crate::shared::Shared;
-use lgm_check::{CheckedKind, Evidence, Refusal, precheck_kind};
+use lgm_check::{CheckedKind, Evidence, KeptChannel, KeptNode, KeptUpdate, Refusal, precheck_kind};
 use lgm_gossip::{ChainHash, Point};
-use lgm_rows::{KeptChannel, KeptNode, KeptUpdate};
 use std::alloc::{AllocError, Global};
 use std::marker::Model;
 
@@ -56,31 +56,17 @@ impl Candidate {
         ensures { Gives Refusal.NoMemory (λ made. made) result
             (checked_of chain.now bytes.now evidence.now) }
     {
-        let checked = find(alloc, chain, bytes, evidence)?;
+        let checked = precheck_kind(alloc, chain, bytes, evidence)?;
         Ok(Candidate {
             kind: keep(alloc, bytes, checked)?,
         })
     }
 }
 
-/// What the row of a message has beside the bytes, or its first refusal.
-fn find<'a>(
-    alloc: Global,
-    chain: &ChainHash,
-    bytes: &[u8],
-    evidence: &'a Evidence,
-) -> Result<CheckedKind<'a>, Refusal>
-    ensures exact { Gives Refusal.NoMemory (λ kind. checked_by kind bytes.now) result
-        (checked_of chain.now bytes.now evidence.now) }
-    ensures fits { IfOk result (λ kind. Fits kind bytes.now) }
-{
-    precheck_kind(alloc, chain, bytes, evidence)
-}
-
 /// The row that the bytes and what was found beside them make.
 fn keep(alloc: Global, bytes: &[u8], checked: CheckedKind<'_>) -> Result<Kind, AllocError>
     requires { Fits checked bytes.now }
-    ensures { IfOk result (λ kind. message_of kind ≡ checked_by checked.entry bytes.now) }
+    ensures { IfOk result (λ kind. message_of kind ≡ row_of checked.entry bytes.now) }
 {
     match checked {
         CheckedKind::Channel(sat) => {

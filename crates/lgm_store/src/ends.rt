@@ -105,11 +105,9 @@ impl Ends {
         ensures err { OnErr result (IsSame self.old self.new) }
     {
         if let Some(list) = self.lists.get_mut(&point) {
-            return list.insert(scid);
+            return list.insert(self.alloc, scid);
         }
-        let mut list = ScidSet::new(self.alloc);
-        list.insert(scid)?;
-        self.lists.insert(point, list)?;
+        self.lists.insert(point, ScidSet::of(scid))?;
         Ok(())
     }
 
@@ -117,7 +115,7 @@ impl Ends {
         ensures { Sets self.old self.new point.now (without_id (list_at self.old point.now) scid) }
     {
         if let Some(list) = self.lists.get_mut(point) {
-            list.remove(scid);
+            list.remove(self.alloc, scid);
             if list.is_empty() {
                 self.lists.remove(point);
             }

@@ -10,9 +10,8 @@ ghost use Rattle.lgm_store.specs.Admission.{update_admission, Offers};
 ghost use Rattle.lgm_store.specs.inner.Decided.{update_op, update_verdict};
 
 use crate::shared::Shared;
-use lgm_check::{ChannelRow, Refusal, UpdateRow};
+use lgm_check::{ChannelRow, KeptChannel, KeptUpdate, Refusal, UpdateRow};
 use lgm_gossip::{Point, Scid};
-use lgm_rows::{KeptChannel, KeptUpdate};
 use std::alloc::AllocError;
 use std::marker::Model;
 

@@ -3,9 +3,8 @@
 ghost use Rattle.std.specs.Prelude.{◌≡◌, IfOk};
 
 use crate::shared::Shared;
-use lgm_check::BanRow;
+use lgm_check::{BanRow, KeptChannel, KeptNode, KeptUpdate};
 use lgm_gossip::Scid;
-use lgm_rows::{KeptChannel, KeptNode, KeptUpdate};
 use std::alloc::{AllocError, Global};
 
 /// What an accepted item does to a map. It shares its row with the maps that it is done to.

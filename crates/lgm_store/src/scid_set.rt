@@ -1,6 +1,6 @@
 //! The ids of some channels.
 
-ghost use Rattle.std.specs.Prelude.{◌≡◌, ◌++◌, [], OnOk, OnErr, length, ◌==◌};
+ghost use Rattle.std.specs.Prelude.{◌≡◌, ◌∷◌, ◌++◌, [], IfOk, OnOk, OnErr, length, ◌==◌};
 ghost use Rattle.lgm_store.specs.inner.Ends.{with_id, without_id};
 
 use lgm_gossip::Scid;
@@ -8,68 +8,121 @@ use std::alloc::{AllocError, Global};
 use std::collections::BTreeSet;
 use std::marker::Model;
 
-/// The ids of some channels, ascending.
+/// The ids of some channels, ascending. One alone, as most nodes have it, needs no allocation.
 #[derive(Drop)]
 pub(crate) struct ScidSet {
-    scids: BTreeSet<Scid>,
+    place: Place,
+}
+
+/// Where the ids are.
+#[derive(Drop)]
+enum Place {
+    /// A single id.
+    One(Scid),
+    /// Any number of ids.
+    Many(BTreeSet<Scid>),
 }
 
 impl Model for ScidSet {
     ghost use Rattle.std.specs.Prelude.{ℕ, List};
+    ghost use Rattle.lgm_store.specs.inner.ScidSet.{ids_in};
 
     ghost Value = { List ℕ };
 
-    ghost view = { λ s. s.scids.keys };
+    ghost view = { λ s. ids_in s.place };
 }
 
 impl ScidSet {
-    /// No id. It takes no memory.
-    pub(crate) fn new(alloc: Global) -> ScidSet
-        ensures { result ≡ [] }
+    /// One id. It allocates nothing.
+    pub(crate) fn of(scid: Scid) -> ScidSet
+        ensures { result ≡ scid ∷ [] }
     {
         ScidSet {
-            scids: BTreeSet::new(alloc),
+            place: Place::One(scid),
         }
     }
 
     pub(crate) fn is_empty(&self) -> bool
         ensures { result ≡ (length self.now == 0) }
     {
-        self.scids.is_empty()
+        match &self.place {
+            Place::One(_) => false,
+            Place::Many(scids) => scids.is_empty(),
+        }
     }
 
-    /// Want of memory leaves the ids as they were.
-    pub(crate) fn insert(&mut self, scid: Scid) -> Result<(), AllocError>
+    /// Out of memory leaves the ids as they were.
+    pub(crate) fn insert(&mut self, alloc: Global, scid: Scid) -> Result<(), AllocError>
         ensures ok { OnOk result (self.new ≡ with_id self.old scid) }
         ensures err { OnErr result (self.new ≡ self.old) }
     {
-        self.scids.insert(scid)?;
-        Ok(())
-    }
-
-    pub(crate) fn remove(&mut self, scid: Scid)
-        ensures { self.new ≡ without_id self.old scid }
-    {
-        self.scids.remove(&scid);
-    }
-
-    /// Puts them behind others. The only error is want of memory.
-    pub(crate) fn gather(&self, scids: &mut Vec<Scid>) -> Result<(), AllocError>
-        ensures { OnOk result (scids.new.items ≡ scids.old.items ++ self.now) }
-    {
-        for scid in &self.scids {
-            scids.push(*scid)?;
+        match &mut self.place {
+            Place::One(own) => {
+                let both = both(alloc, *own, scid)?;
+                self.place = Place::Many(both);
+            }
+            Place::Many(scids) => {
+                scids.insert(scid)?;
+            }
         }
         Ok(())
     }
+
+    pub(crate) fn remove(&mut self, alloc: Global, scid: Scid)
+        ensures { self.new ≡ without_id self.old scid }
+    {
+        match &mut self.place {
+            Place::One(own) => {
+                if scid.cmp(own).is_eq() {
+                    self.place = Place::Many(BTreeSet::new(alloc));
+                }
+            }
+            Place::Many(scids) => {
+                scids.remove(&scid);
+            }
+        }
+    }
+
+    /// Puts them behind others. The only error is out of memory.
+    pub(crate) fn gather(&self, scids: &mut Vec<Scid>) -> Result<(), AllocError>
+        ensures { OnOk result (scids.new.items ≡ scids.old.items ++ self.now) }
+    {
+        match &self.place {
+            Place::One(own) => scids.push(*own)?,
+            Place::Many(own) => gather(own, scids)?,
+        }
+        Ok(())
+    }
+}
+
+/// A set of two ids.
+fn both(alloc: Global, first: Scid, second: Scid) -> Result<BTreeSet<Scid>, AllocError>
+    ensures { IfOk result (λ set. set.keys ≡ with_id (first ∷ []) second) }
+{
+    let mut set = BTreeSet::new(alloc);
+    set.insert(first)?;
+    set.insert(second)?;
+    Ok(set)
+}
+
+/// Puts the ids of a set behind others.
+fn gather(own: &BTreeSet<Scid>, scids: &mut Vec<Scid>) -> Result<(), AllocError>
+    ensures { OnOk result (scids.new.items ≡ scids.old.items ++ own.now.keys) }
+{
+    for scid in own {
+        scids.push(*scid)?;
+    }
+    Ok(())
 }
 
 impl Clone for ScidSet {
     ghost is_clone = { λ set copy. copy ≡ set };
 
     fn clone(&self) -> Result<ScidSet, AllocError> {
-        Ok(ScidSet {
-            scids: self.scids.clone()?,
-        })
+        let place = match &self.place {
+            Place::One(scid) => Place::One(*scid),
+            Place::Many(scids) => Place::Many(scids.clone()?),
+        };
+        Ok(ScidSet { place })
     }
 }

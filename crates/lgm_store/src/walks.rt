@@ -8,8 +8,8 @@ ghost use Rattle.lgm_store.specs.inner.Slots.{entries_in, id_in, HaveOwn};
 
 use crate::held::Held;
 use crate::shared::Shared;
+use lgm_check::KeptNode;
 use lgm_gossip::{Point, Scid};
-use lgm_rows::KeptNode;
 use slab::Slab;
 use std::collections::btree_map::Range;
 use std::marker::Model;

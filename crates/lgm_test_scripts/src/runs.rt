@@ -2,7 +2,7 @@
 
 use lgm_gossip::ChainHash;
 use lgm_graph::Known;
-use lgm_par::{Gate, Open};
+use lgm_par::{Gate, MAX_WORKERS, Open};
 use lgm_script::{MemorySink, MemorySource, Sink, Source};
 use lgm_server::{Counts, RunFault, run};
 use std::alloc::Global;
@@ -22,7 +22,7 @@ pub struct Differing {
     pub written: Vec<u8>,
 }
 
-/// Runs a script of the tests' chain by these workers, at least 1 and at most 64.
+/// Runs a script of the tests' chain by these workers, at least 1 and at most [`MAX_WORKERS`].
 pub fn run_by<Rt: Threads + Sync + RandomSource, G: Gate, R: Source, W: Sink>(
     rt: &Rt,
     alloc: Global,
@@ -39,7 +39,7 @@ pub fn run_by<Rt: Threads + Sync + RandomSource, G: Gate, R: Source, W: Sink>(
         writer,
         &ChainHash([0xc1; 32]),
         known,
-        workers.clamp(1, 64),
+        workers.clamp(1, MAX_WORKERS),
         gate,
     )
 }

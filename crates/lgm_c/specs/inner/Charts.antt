@@ -4,6 +4,7 @@ use Rattle.lgm_wire.specs.declared.chain_hash.ChainHash.{ChainHash}
 use Rattle.lgm_store.specs.declared.op.Op.{Op}
 use Rattle.lgm_store.specs.Rows.{Rows}
 use Rattle.lgm_store.specs.History.{absorbed, fold_from}
+use Rattle.lgm_graph.specs.declared.view.TheConstants.{MAX_CHANNELS}
 use Rattle.lgm_graph.specs.Network.{Charted}
 use Rattle.lgm_c.specs.Held.{next_version}
 use Rattle.lgm_c.specs.Published.{Published}
@@ -22,7 +23,7 @@ chart_behind chart ops = record { known = chart.known; rows = fold_from chart.ro
 
 -- a network that has its view, unless it has too many channels
 abbrev pub IsReady : Charted → Type 0
-IsReady network = length network.rows.channels ≤ 2000000000 → IsSome network.graph
+IsReady network = length network.rows.channels ≤ MAX_CHANNELS → IsSome network.graph
 
 -- the current map, with the count of what was accepted
 pub record Counted : Type 0 where

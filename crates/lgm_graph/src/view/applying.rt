@@ -10,9 +10,8 @@ use crate::edge::edge_on;
 use crate::known::Known;
 use crate::nodes::Nodes;
 use crate::view::parting::parted;
-use lgm_check::BanRow;
+use lgm_check::{BanRow, KeptChannel, KeptNode, KeptUpdate};
 use lgm_gossip::Scid;
-use lgm_rows::{KeptChannel, KeptNode, KeptUpdate};
 use lgm_store::{Map, Op};
 use std::alloc::{AllocError, Global};
 

@@ -3,6 +3,7 @@ use Rattle.std.specs.Prelude.{◌≡◌, ◌≢◌, ℕ, ◌<◌, ◌≤◌, Lis
 use Rattle.lgm_script.specs.Device.{Input}
 use Rattle.lgm_script.specs.Output.{OutputState}
 use Rattle.lgm_script.specs.declared.request.Request.{Request}
+use Rattle.lgm_answers.specs.declared.run_fault.TheConstants.{MAX_LINES}
 use Rattle.lgm_answers.specs.Script.{requests_of}
 use Rattle.lgm_answers.specs.declared.run_fault.RunFault.{RunFault}
 use Rattle.lgm_answers.specs.declared.run_fault.RunFault.TheVariants as faults
@@ -22,14 +23,14 @@ pub record IsAsked (asked : List Request) (script : List ℕ) : Type 0 where
 -- all requests of a script were added
 pub record IsNoted (script : Option (List ℕ)) (old new : Gathered) : Type 0 where
   pub asked : List Request
-  pub few : length asked ≤ 10000000
+  pub few : length asked ≤ MAX_LINES
   pub noted : new ≡ with_lines old asked
   pub whole : IfSome script (IsAsked asked)
 
 -- all requests of a script, for this many workers, are on the agenda
 pub record IsRead (workers : ℕ) (script : Option (List ℕ)) (agenda : Gathered) : Type 0 where
   pub asked : List Request
-  pub few : length asked ≤ 10000000
+  pub few : length asked ≤ MAX_LINES
   pub is_agenda : IsAgenda workers asked agenda
   pub whole : IfSome script (IsAsked asked)
 

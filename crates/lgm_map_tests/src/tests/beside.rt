@@ -48,8 +48,10 @@ impl Both {
 fn compare_others(rt: &impl Abort, alloc: Global, both: &Both) -> Result<(), AllocError> {
     let copy = both.map.copy(alloc)?;
     compare(rt, alloc, &copy, &both.plain)?;
-    let seed = Seed::new([7; 16]);
-    let replayed = Map::replay_with_seed(alloc, seed, both.history.as_slice())?;
+    let mut replayed = Map::with_seed(alloc, Seed::new([7; 16]))?;
+    for op in &both.history {
+        replayed.absorb(op)?;
+    }
     compare(rt, alloc, &replayed, &both.plain)
 }
 

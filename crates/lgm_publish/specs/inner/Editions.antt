@@ -2,6 +2,7 @@
 use Rattle.std.specs.Prelude.{◌+◌, ◌==◌, if◌then◌else◌}
 use Rattle.lgm_store.specs.declared.op.Op.{Op}
 use Rattle.lgm_store.specs.History.{absorbed}
+use Rattle.lgm_publish.specs.declared.edition.TheConstants.{MAX_OPERATIONS}
 use Rattle.lgm_publish.specs.declared.edition.Entry.{Entry}
 use Rattle.lgm_publish.specs.declared.edition.Entry.TheVariants.{Absorb, Reach}
 use Rattle.lgm_publish.specs.inner.Contents.{Contents}
@@ -9,7 +10,7 @@ use Rattle.lgm_publish.specs.inner.Contents.{Contents}
 -- after an operation, below the limit
 abbrev pub after_op : Contents → Op → Contents
 after_op contents op =
-    if contents.absorbed == 2000000000 then contents
+    if contents.absorbed == MAX_OPERATIONS then contents
     else record contents { rows = absorbed contents.rows op; absorbed = contents.absorbed + 1 }
 
 -- after one more entry

@@ -6,6 +6,7 @@ use lib.ListN.{get_elem?}
 use Rattle.logbook.specs.Pages.{Named}
 use Rattle.lgm_store.specs.declared.op.Op.{Op}
 use Rattle.lgm_store.specs.History.{fold}
+use Rattle.lgm_publish.specs.declared.edition.TheConstants.{MAX_OPERATIONS}
 use Rattle.lgm_publish.specs.declared.edition.Entry.{Entry}
 use Rattle.lgm_publish.specs.declared.edition.Entry.TheVariants.{Absorb, Reach}
 use Rattle.lgm_publish.specs.Handles.{History, history}
@@ -67,4 +68,4 @@ Publishes done old new pending left =
 -- the word and the token of a pen's book, whose list is a prefix of the whole, and the number of operations appended
 abbrev pub IsNoted : Named → History → ℕ → History → Type 0
 IsNoted head noted appended all =
-    (head ≡ head_of noted.board) × GoesOn noted all × (appended ≡ length all.ops) × (appended ≤ 2000000000)
+    (head ≡ head_of noted.board) × GoesOn noted all × (appended ≡ length all.ops) × (appended ≤ MAX_OPERATIONS)

@@ -1,10 +1,8 @@
 -- The collected messages, as a prefix of the pieces that a query requests.
 use Rattle.std.specs.Prelude.{◌≡◌, ℕ, Bool, false, List, ◌++◌, map}
 use Rattle.std.specs.List.{list_any}
-use Rattle.std.specs.BTreeMap.{is_at}
 use Rattle.lgm_wire.specs.declared.point.Point.{Point}
 use Rattle.lgm_store.specs.Rows.{is_point}
-use Rattle.lgm_store.specs.Keys.{point_cmp}
 use Rattle.lgm_query.specs.Piece.{Piece, node, bytes_of, with_nodes_once}
 
 -- messages, and the nodes whose announcements are among them
@@ -21,7 +19,7 @@ is_of_node point piece = false
 pub record AreSent (pieces : List Piece) (sent : Sent) : Type 0 where
   pub messages : sent.messages ≡ map bytes_of (with_nodes_once pieces)
   pub nodes : (point : Point)
-      → list_any (is_at (point_cmp point)) sent.nodes ≡ list_any (is_of_node point) pieces
+      → list_any (is_point point) sent.nodes ≡ list_any (is_of_node point) pieces
 
 -- these pieces were sent after those before
 abbrev pub Sends : List Piece → Sent → Sent → Type 0

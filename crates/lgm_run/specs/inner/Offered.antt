@@ -1,5 +1,5 @@
 -- Items after their check, which needs no map, and before their turn, which does.
-use Rattle.std.specs.Prelude.{◌≡◌, ℕ, List, Option, Some, None, Result, Ok, Err, codes}
+use Rattle.std.specs.Prelude.{ℕ, List, Option, Some, None, Result, Ok, Err, codes}
 use Rattle.std.specs.Result.{result_err}
 use Rattle.lgm_wire.specs.declared.chain_hash.ChainHash.{ChainHash}
 use Rattle.lgm_check.specs.declared.refusal.Refusal.{Refusal}
@@ -13,7 +13,7 @@ use Rattle.lgm_script.specs.declared.item.Item.TheVariants as items
 use Rattle.lgm_script.specs.declared.request.Request.{Request}
 use Rattle.lgm_script.specs.declared.request.Request.TheVariants as requests
 use Rattle.lgm_script.specs.Text.{word_line}
-use Rattle.lgm_answers.specs.Answer.{outcome_text}
+use Rattle.lgm_answers.specs.Answer.{outcome_word}
 use Rattle.lgm_answers.specs.Script.{State}
 use Rattle.lgm_run.specs.inner.Steps.{state_behind}
 use Rattle.lgm_run.specs.declared.checking.Offered.{Offered}
@@ -49,7 +49,10 @@ abbrev pub state_by : State → Option Offered → State
 state_by state None = state
 state_by state (Some item) = state_behind state (outcome_on state.rows item)
 
--- the text for its outcome
+-- the word of its outcome, and the line
+abbrev pub offered_word : Rows → Option Offered → List ℕ
+offered_word rows None = codes "bad"
+offered_word rows (Some item) = outcome_word (result_err (outcome_on rows item))
+
 abbrev pub offered_text : ℕ → Rows → Option Offered → List ℕ
-offered_text number rows None = word_line number (codes "bad")
-offered_text number rows (Some item) = outcome_text number (result_err (outcome_on rows item))
+offered_text number rows item = word_line number (offered_word rows item)

@@ -12,8 +12,8 @@ use crate::ends::Ends;
 use crate::held::Held;
 use crate::op::Op;
 use crate::shared::Shared;
+use lgm_check::{KeptChannel, KeptNode, KeptUpdate};
 use lgm_gossip::{Point, Scid};
-use lgm_rows::{KeptChannel, KeptNode, KeptUpdate};
 use std::alloc::AllocError;
 use std::collections::BTreeMap;
 

@@ -12,9 +12,10 @@ use super::Map;
 use crate::candidate::{Candidate, Kind};
 use crate::op::Op;
 use crate::shared::Shared;
-use lgm_check::{BanRow, ChannelRow, Checked, NodeRow, Refusal, UpdateRow};
+use lgm_check::{
+    BanRow, ChannelRow, Checked, KeptChannel, KeptNode, KeptUpdate, NodeRow, Refusal, UpdateRow,
+};
 use lgm_gossip::{Point, Scid};
-use lgm_rows::{KeptChannel, KeptNode, KeptUpdate};
 use std::alloc::Global;
 
 impl Map {

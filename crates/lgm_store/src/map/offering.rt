@@ -10,9 +10,8 @@ use super::Map;
 use crate::candidate::{Candidate, Kind};
 use crate::op::Op;
 use crate::shared::Shared;
-use lgm_check::Refusal;
+use lgm_check::{KeptChannel, KeptNode, KeptUpdate, Refusal};
 use lgm_gossip::{Point, Scid};
-use lgm_rows::{KeptChannel, KeptNode, KeptUpdate};
 use std::alloc::Global;
 
 impl Map {

@@ -15,9 +15,8 @@ use super::Map;
 use crate::held::Held;
 use crate::shared::found;
 use crate::walks::{Channels, ChannelsBetween, Nodes};
-use lgm_check::{ChannelRow, NodeRow, UpdateRow};
+use lgm_check::{ChannelRow, KeptNode, NodeRow, UpdateRow};
 use lgm_gossip::{Point, Scid, Scids};
-use lgm_rows::KeptNode;
 use std::alloc::{AllocError, Global};
 use std::ops::Bound;
 

@@ -5,24 +5,16 @@ ghost use Rattle.lgm_store.specs.History.{fold};
 
 use super::Map;
 use crate::op::Op;
-use crate::seed::Seed;
 use std::alloc::{AllocError, Global};
 
 impl Map {
     /// The map that a history leaves: its operations, done one by one from no rows.
     ///
-    /// Where points come from strangers, take [`Map::replay_with_seed`].
+    /// Where points come from strangers, make the map by [`Map::with_seed`] and let it absorb the operations.
     pub fn replay(alloc: Global, history: &[Op]) -> Result<Map, AllocError>
         ensures { IfOk result (λ map. map ≡ fold history.now) }
     {
-        Map::replay_with_seed(alloc, Seed::new([0; 16]), history)
-    }
-
-    /// The same map, which finds points by hashes that begin with this seed.
-    pub fn replay_with_seed(alloc: Global, seed: Seed, history: &[Op]) -> Result<Map, AllocError>
-        ensures { IfOk result (λ map. map ≡ fold history.now) }
-    {
-        let mut map = Map::with_seed(alloc, seed)?;
+        let mut map = Map::new(alloc)?;
         for op in history {
             map.absorb(op)?;
         }

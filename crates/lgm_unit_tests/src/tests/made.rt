@@ -3,12 +3,11 @@
 ghost use Rattle.std.specs.Prelude.{IfOk};
 ghost use Rattle.lgm_gossip.specs.Message.{Wire};
 
-use lgm_check::{BanRow, ChannelRow, NodeRow, UpdateRow};
+use lgm_check::{BanRow, ChannelRow, KeptChannel, KeptNode, KeptUpdate, NodeRow, UpdateRow};
 use lgm_gossip::{
     Announce, Bytes, ChainHash, ChannelUpdate, Lent, Message, NodeAnnounce, Point, Scid, Signature,
     encode,
 };
-use lgm_rows::{KeptChannel, KeptNode, KeptUpdate};
 use lgm_store::{Op, Shared};
 use std::alloc::{AllocError, Global};
 

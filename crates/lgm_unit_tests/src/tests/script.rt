@@ -4,7 +4,7 @@ ghost use Rattle.std.specs.Prelude.{◌≤◌, IfOk};
 
 use lgm_gossip::{Point, Scid};
 use lgm_script::{
-    BLOCK, Failed, Failures, FromRead, Line, LineFault, LineReader, MAX_LINE, MemorySink,
+    BLOCK, Failed, Failures, FromRead, Lead, Line, LineFault, LineReader, MAX_LINE, MemorySink,
     MemorySource, Output, Payment, Request, Sink, Source, ToWrite, next_group, next_line, parse,
 };
 use std::alloc::Global;
@@ -278,7 +278,7 @@ fn text_in_blocks(rt: HostRuntime) -> Result<(), Fail> {
     let mut output = Output::new(&mut gathered, &mut sink);
     output.send(10_000_000, &Line::Word("accepted"))?;
     output.send(7, &Line::Commit(1))?;
-    output.send(8, &Line::Message(Some(999), b"\x01\xff"))?;
+    output.send_message(&Lead::new(alloc, 8, Some(999))?, b"\x01\xff")?;
     let route = Line::Route {
         sent: 1_001,
         expiry: 700_040,
@@ -301,7 +301,7 @@ fn written_of(alloc: Global, length: usize) -> Result<usize, Fail> {
     let mut sink = MemorySink::new(alloc);
     let mut gathered = Vec::new(alloc);
     let mut output = Output::new(&mut gathered, &mut sink);
-    output.send(1, &Line::Message(None, message.as_slice()))?;
+    output.send_message(&Lead::new(alloc, 1, None)?, message.as_slice())?;
     Ok(sink.taken().len())
 }
 

@@ -1,40 +1,8 @@
-use Rattle.std.proofs.Common.{◌≡◌, ◌+◌, ◌<◌, ◌≤◌, ◌∷◌, ◌++◌, None, List, ℕ, length, get_or, drop, refl, sym, ap, ◌∙◌}
-use Rattle.std.specs.List.{flat_map}
-use Rattle.std.proofs.lemmas.List.{drop_more, drop_all}
 use Rattle.std.proofs.lemmas.Result.{err_from_is_err_and}
-use Rattle.lgm_script.specs.Text.{message_line}
-use Rattle.lgm_script.proofs.Telling.{onward_first, onward_more, onward_stops, onward_ends}
+use Rattle.lgm_script.proofs.Telling.{tells_none}
 use Rattle.lgm_answers.proofs.sending.send_messages.Goals as goal
 
--- the message at a place, and those behind it
-message_there : (number place : ℕ) (messages : List (List ℕ)) (item sent : List ℕ) → place < length messages
-    → item ≡ get_or messages place item → sent ≡ item
-    → flat_map (message_line number None) (drop place messages)
-    ≡ message_line number None sent ++ flat_map (message_line number None) (drop (place + 1) messages)
-message_there number place messages item sent within here same =
-    ap (flat_map (message_line number None)) (drop_more messages place item within
-    ∙ ap (λ (m : List ℕ). m ∷ drop (place + 1) messages) (sym (same ∙ here)))
-
-pub loop-message-init : goal.loop-message-init
-loop-message-init g c = onward_first _ _ _ refl
-
-pub loop-message-preserved : goal.loop-message-preserved
-loop-message-preserved g c =
-    onward_more _ _ _ _ _ _ _ c.loop-message.invariant
-    (message_there c.args.number c.loop-message.message-index c.args.messages.now c.message-item.result
-    c.as_slice.result.now c.loop-message-test.true c.message-item.is c.as_slice.ensures)
-    c.in_ok-send.ensures
-
-pub returns-in_err-send : goal.returns-in_err-send
-returns-in_err-send g c =
+pub returns-in_err-lead : goal.returns-in_err-lead
+returns-in_err-lead g c =
     let p = err_from_is_err_and c.from_residual.result c.from_residual.ensures.1 in
-    rw (p.1, p.2) (onward_stops _ _ _ _ _ _ _ _ c.loop-message.invariant
-    (message_there c.args.number c.loop-message.message-index c.args.messages.now c.message-item.result
-    c.as_slice.result.now c.loop-message-test.true c.message-item.is c.as_slice.ensures)
-    c.in_err-send.ensures)
-
-pub returns : goal.returns
-returns g c =
-    let past : length c.args.messages.now ≤ c.loop-message.message-index = c.loop-message-test.false in
-    onward_ends _ _ _ _ c.loop-message.invariant (ap (flat_map (message_line c.args.number None))
-    (drop_all c.loop-message.message-index c.args.messages.now past))
+    rw (p.1, p.2) (tells_none _ _)

@@ -1,42 +1,8 @@
-use Rattle.std.proofs.Common.{Some, refl, sym, ap, subst}
-use Rattle.std.specs.List.{flat_map}
 use Rattle.std.proofs.lemmas.Result.{err_from_is_err_and}
-use Rattle.lgm_script.specs.Text.{message_line}
-use Rattle.lgm_script.proofs.Telling.{onward_first, onward_more, onward_stops, onward_ends}
-use Rattle.lgm_answers.proofs.Messages.{Gives, gave_one, gave_all}
+use Rattle.lgm_script.proofs.Telling.{tells_none}
 use Rattle.lgm_answers.proofs.sending.send_to.Goals as goal
 
-pub loop-message-init : goal.loop-message-init
-loop-message-init g c = λ all gives. (
-  all,
-  subst (λ it. Gives g.I.Iterator.next_gives it all)
-      (sym c.into_iter-message-iterator.ensures.into_iter_gives) gives,
-  onward_first _ _ _ refl,
-)
-
-pub loop-message-preserved : goal.loop-message-preserved
-loop-message-preserved g c = λ all gives.
-    let now = c.loop-message.invariant all gives in
-    let next = gave_one g.I.Iterator.next_gives now.0 _ _ _ now.1 c.in-Some.ensures.steps in (
-      next.others,
-      next.left,
-      onward_more _ _ _ _ _ _ _ now.2 (ap (flat_map (message_line c.args.number (Some c.args.peer)))
-          next.is)
-          c.in_ok-send.ensures,
-    )
-
-pub returns-in_err-send : goal.returns-in_err-send
-returns-in_err-send g c =
+pub returns-in_err-lead : goal.returns-in_err-lead
+returns-in_err-lead g c =
     let p = err_from_is_err_and c.from_residual.result c.from_residual.ensures.1 in
-    λ all gives.
-    let now = c.loop-message.invariant all gives in
-    let next = gave_one g.I.Iterator.next_gives now.0 _ _ _ now.1 c.in-Some.ensures.steps in
-    rw (p.1, p.2) (onward_stops _ _ _ _ _ _ _ _ now.2
-    (ap (flat_map (message_line c.args.number (Some c.args.peer))) next.is)
-    c.in_err-send.ensures)
-
-pub returns : goal.returns
-returns g c = λ all gives.
-    let now = c.loop-message.invariant all gives in
-    onward_ends _ _ _ _ now.2 (ap (flat_map (message_line c.args.number (Some c.args.peer)))
-    (gave_all g.I.Iterator.next_gives now.0 _ _ now.1 c.in-None.ensures.steps))
+    λ all gives. rw (p.1, p.2) (tells_none _ _)

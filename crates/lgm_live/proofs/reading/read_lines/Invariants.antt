@@ -1,4 +1,5 @@
 use Rattle.std.proofs.Common.{◌≡◌, ◌≤◌, ◌-◌, List, length}
+use Rattle.lgm_answers.specs.declared.run_fault.TheConstants.{MAX_LINES}
 use Rattle.lgm_script.specs.declared.request.Request.{Request}
 use Rattle.lgm_script.specs.Output.{told_by}
 use Rattle.lgm_live.specs.inner.Reading.{with_lines}
@@ -8,7 +9,7 @@ use Rattle.lgm_live.proofs.reading.read_lines.Given as goal
 abbrev pub invariant-loop-number : goal.invariant-loop-number
 invariant-loop-number g l = record {
   asked : List Request;
-  within : l.number ≤ 10000000;
+  within : l.number ≤ MAX_LINES;
   count : l.number ≡ length asked;
   noted : l.agenda ≡ with_lines l.fn.agenda asked;
   read_to : IsReadTo (g.R.Source.seen l.fn.source) (told_by g.W.Sink.seen l.fn.output) asked l.lines
@@ -16,4 +17,4 @@ invariant-loop-number g l = record {
 }
 
 abbrev pub decreases-loop-number : goal.decreases-loop-number
-decreases-loop-number g l = 10000000 - l.number
+decreases-loop-number g l = MAX_LINES - l.number

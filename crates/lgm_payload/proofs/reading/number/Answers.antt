@@ -1,5 +1,5 @@
 use Rattle.std.proofs.Common.{refl}
-use Rattle.lgm_payload.proofs.PayloadLaws.{number_small}
+use Rattle.lgm_payload.proofs.Values.{number_small}
 use Rattle.lgm_payload.proofs.reading.number.Goals as goal
 
 pub returns-in-Ok-clause-small : goal.returns-in-Ok-clause-small

@@ -1,4 +1,4 @@
-use Rattle.std.proofs.Common.{◌≤◌, length, ap, arith}
+use Rattle.std.proofs.Common.{length, ap, arith}
 use Rattle.lgm_store.specs.Rows.{empty}
 use Rattle.lgm_store.proofs.Fewness.{fold_few}
 use Rattle.lgm_publish.proofs.finding.find_route.Goals as goal

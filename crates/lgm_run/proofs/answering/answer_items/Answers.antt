@@ -50,13 +50,13 @@ returns-in_err-item-clause-written g c =
     let p = err_from_is_err_and c.from_residual-in_err-item.result c.from_residual-in_err-item.ensures.1 in
     rw (p.1, p.2) (turn.stops _ _ _ refl (tells_none _ _))
 
-pub returns-in_err-offer-clause-written : goal.returns-in_err-offer-clause-written
-returns-in_err-offer-clause-written g c =
+pub returns-in_err-answer_item-clause-written : goal.returns-in_err-answer_item-clause-written
+returns-in_err-answer_item-clause-written g c =
     let turn = next_turn c.loop-item.invariant.left _ _ c.in-Some.ensures.steps.0 in
     let item = IfOk-at_ok _ c.in_ok-item.was turn.known in
-    let p = err_from_is_err_and c.from_residual-in_err-offer.result c.from_residual-in_err-offer.ensures.1 in
+    let p = err_from_is_err_and c.from_residual-in_err-answer_item.result c.from_residual-in_err-answer_item.ensures.1 in
     rw (p.1, p.2)
-    (turn.stops _ _ _ (item.is_told c.loop-item.number c.loop-item.engine) c.in_err-offer.ensures.written)
+    (turn.stops _ _ _ (item.is_told c.loop-item.number c.loop-item.engine) c.in_err-answer_item.ensures.written)
 
 pub overflow_add-number : goal.overflow_add-number
 overflow_add-number g c =
@@ -69,7 +69,7 @@ loop-item-preserved g c =
     let one_less = ap length steps.0 in
     let turn = next_turn inv.left _ _ steps.0 in
     let item = IfOk-at_ok _ c.in_ok-item.was turn.known in
-    let goes = c.in_ok-offer.ensures.state ∙ item.leaves c.loop-item.engine in
+    let goes = c.in_ok-answer_item.ensures.state ∙ item.leaves c.loop-item.engine in
     record {
       len = omega (arith, steps.1, one_less, inv.len);
       number = omega (arith, one_less, inv.number);
@@ -83,7 +83,7 @@ loop-item-preserved g c =
           );
       left =
           turn.goes_on _ _ _ goes (item.is_told c.loop-item.number c.loop-item.engine)
-          c.in_ok-offer.ensures.written;
+          c.in_ok-answer_item.ensures.written;
     }
 
 pub returns-clause-state : goal.returns-clause-state

@@ -3,6 +3,7 @@ use Rattle.std.specs.Prelude.{IfOk}
 use Rattle.std.specs.Vec.Iter.{into_iter_items, into_iter_len}
 use Rattle.lgm_script.specs.Output.{told_by}
 use Rattle.lgm_run.specs.inner.Questions.{asked_in}
+use Rattle.lgm_answers.specs.declared.run_fault.TheConstants.{MAX_LINES}
 use Rattle.lgm_answers.specs.Script.{text_for}
 use Rattle.lgm_run.specs.inner.Steps.{state_after, state_from, text_from}
 use Rattle.lgm_run.proofs.Kindred.{IsItemOf}
@@ -13,7 +14,7 @@ abbrev pub invariant-loop-item : goal.invariant-loop-item
 invariant-loop-item g l = record {
   len : into_iter_len l.item-iterator ≡ length (into_iter_items l.item-iterator);
   number : l.number + length (into_iter_items l.item-iterator) ≡ l.first + length l.lines;
-  few : l.engine.accepted + length (into_iter_items l.item-iterator) ≤ 10000000;
+  few : l.engine.accepted + length (into_iter_items l.item-iterator) ≤ MAX_LINES;
   left : AreLeft (state_after l.context.chain) (text_for l.context.chain)
       (λ request item. IfOk item (IsItemOf l.context.chain request))
       (state_from l.context.chain l.fn.engine (asked_in l.lines))

@@ -4,6 +4,7 @@ use Rattle.std.proofs.lemmas.List.{length-map}
 use Rattle.std.proofs.lemmas.Result.{err_from_is_err_and}
 use Rattle.lgm_script.specs.Output.{told_by}
 use Rattle.lgm_script.specs.Request.{request_of}
+use Rattle.lgm_answers.specs.declared.run_fault.TheConstants.{MAX_LINES}
 use Rattle.lgm_answers.proofs.LineFaults.{failed}
 use Rattle.lgm_run.proofs.Stepping.{accepted_from-le}
 use Rattle.lgm_run.proofs.Reached.{up_to_first, read_on, answered_on}
@@ -43,7 +44,7 @@ returns-in_err-some g c =
     let up_to =
     read_on c.loop-number.invariant.up_to c.next_line.new.lines (g.R.Source.seen c.next_line.new.source) (told_by g.W.Sink.seen c.next_line.new.output)
     line.kept (line.well (λ e. absurd cc)) (line.written (λ e. absurd cc)) in
-    rw (p.1, p.2) (answer_failed up_to c.in-Some.count (10000000 - c.loop-number.number)
+    rw (p.1, p.2) (answer_failed up_to c.in-Some.count (MAX_LINES - c.loop-number.number)
     (told_by g.W.Sink.seen c.answer_next.new.output)
     c.in_err-some.field-0.0 first (omega arith) c.in_err-some.ensures.fault)
 
@@ -94,5 +95,5 @@ returns g c =
     let up_to =
     read_on c.loop-number.invariant.up_to c.more_begins.new.lines (g.R.Source.seen c.more_begins.new.source)
     (told_by g.W.Sink.seen c.more_begins.new.output) more.kept (more.well (λ e. absurd cc)) (more.written (λ e. absurd cc)) in
-    all_answered up_to 10000000 c.accepted-2.result (omega arith) c.accepted-2.ensures
+    all_answered up_to MAX_LINES c.accepted-2.result (omega arith) c.accepted-2.ensures
     (more.end (search rules))

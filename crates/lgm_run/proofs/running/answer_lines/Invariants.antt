@@ -1,4 +1,5 @@
 use Rattle.std.proofs.Common.{◌≤◌, ◌-◌}
+use Rattle.lgm_answers.specs.declared.run_fault.TheConstants.{MAX_LINES}
 use Rattle.lgm_script.specs.Output.{told_by}
 use Rattle.lgm_run.proofs.Reached.{IsUpTo}
 use Rattle.lgm_run.proofs.running.answer_lines.Given as goal
@@ -12,4 +13,4 @@ invariant-loop-number g l = record {
 }
 
 abbrev pub decreases-loop-number : goal.decreases-loop-number
-decreases-loop-number g l = 10000000 - l.number
+decreases-loop-number g l = MAX_LINES - l.number

@@ -1,6 +1,7 @@
 use Rattle.std.proofs.Common.{◌≡◌, ◌+◌, ◌≤◌, [], ◌∷◌, ◌++◌, length, ap, subst, ◌∙◌, arith}
 use Rattle.std.specs.Prelude.{map}
 use Rattle.std.proofs.lemmas.List.{length-take-le, length-drop, length-map, length_push, map-append}
+use Rattle.lgm_script.specs.declared.line_reader.TheConstants.{MAX_LINE}
 use Rattle.lgm_script.specs.Request.{request_of}
 use Rattle.lgm_script.specs.Groups.{IsOfKind, AreFirstLines}
 use Rattle.lgm_script.proofs.FirstWords.{request_is_of_kind}
@@ -39,7 +40,7 @@ loop-count-preserved c =
           λ left first. rw texts (first_lines-push bytes left (map (λ l. l.now) c.loop-count.lines.items)
           line.now c.loop-count.rest.now c.in-Some.behind.now (inv.lines left first)
           c.in-Some.ensures.front (c.in-Some.ensures.line left) c.in-Some.ensures.rest);
-      short = rw texts (each-push (λ l. length l ≤ 140000) _ line.now inv.short c.in-Some.ensures.short);
+      short = rw texts (each-push (λ l. length l ≤ MAX_LINE) _ line.now inv.short c.in-Some.ensures.short);
       each =
           rw texts (each-push (λ l. IsOfKind c.kind_of-kind.result (request_of l)) _ line.now inv.each (subst
           (λ k. IsOfKind k (request_of line.now)) c.in-Some.ensures.kind (request_is_of_kind line.now)));

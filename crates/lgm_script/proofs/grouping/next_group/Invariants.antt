@@ -1,6 +1,7 @@
 use Rattle.std.proofs.Common.{◌≡◌, ◌≤◌, ◌-◌, ℕ, List, Option, length, drop}
 use Rattle.std.specs.Prelude.{map}
 use Rattle.std.specs.List.{AllByRecursion}
+use Rattle.lgm_script.specs.declared.line_reader.TheConstants.{MAX_LINE}
 use Rattle.lgm_script.specs.Lines.{IsFirstLine}
 use Rattle.lgm_script.specs.Request.{request_of}
 use Rattle.lgm_script.specs.Groups.{IsOfKind, AreFirstLines}
@@ -12,7 +13,7 @@ invariant-loop-count l = record {
   rest : l.rest ≡ drop (length l.buffered - length l.rest) l.buffered;
   lines : (left : Option (List ℕ)) → IsFirstLine l.buffered left l.first
       → AreFirstLines l.buffered left (map (λ line. line.now) l.lines.items) l.rest;
-  short : AllByRecursion (λ line. length line ≤ 140000) (map (λ line. line.now) l.lines.items);
+  short : AllByRecursion (λ line. length line ≤ MAX_LINE) (map (λ line. line.now) l.lines.items);
   each : AllByRecursion (λ line. IsOfKind l.kind (request_of line)) (map (λ line. line.now) l.lines.items);
   count : length l.lines.items ≡ l._count;
 }

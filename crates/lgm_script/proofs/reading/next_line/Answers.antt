@@ -1,6 +1,7 @@
 use Rattle.std.proofs.Common.{Bool, Result, Ok, Err, ◌≡◌, ◌<◌, ◌∙◌, [], length, take, sym, ap, arith}
 use Rattle.std.proofs.lemmas.List.Elements.{All-same}
 use Rattle.std.proofs.lemmas.Result.{err_from_is_err_and}
+use Rattle.lgm_script.specs.declared.line_reader.TheConstants.{MAX_LINE}
 use Rattle.lgm_script.specs.declared.reading.LineFault.{LineFault}
 use Rattle.lgm_script.specs.declared.reading.LineFault.TheVariants.{Write}
 use Rattle.lgm_script.specs.declared.output.SendFault.TheVariants.{Write as SendWrite}
@@ -17,15 +18,15 @@ failed_is a b e = cc
 pub returns-then-count-gt-MAX_LINE-clause-too_long : goal.returns-then-count-gt-MAX_LINE-clause-too_long
 returns-then-count-gt-MAX_LINE-clause-too_long g c = λ e.
     let left = (g.R.Source.seen c.loop-count.source).left in
-    first_is_longer 140000 c.in-Some.count c.loop-count.lines left (rw c.buffered.ensures at c.in-Some.ensures.line left) c.if-count-gt-MAX_LINE.true
+    first_is_longer MAX_LINE c.in-Some.count c.loop-count.lines left (rw c.buffered.ensures at c.in-Some.ensures.line left) c.if-count-gt-MAX_LINE.true
 
 pub returns-else-count-gt-MAX_LINE-clause-line : goal.returns-else-count-gt-MAX_LINE-clause-line
 returns-else-count-gt-MAX_LINE-clause-line g c = rw c.buffered.ensures at c.in-Some.ensures.line (g.R.Source.seen c.loop-count.source).left
 
 pub returns-then-searched-gt-MAX_LINE-clause-too_long : goal.returns-then-searched-gt-MAX_LINE-clause-too_long
 returns-then-searched-gt-MAX_LINE-clause-too_long g c = λ e.
-    let long : 140000 < length c.loop-count.lines = omega (arith, c.if-searched-gt-MAX_LINE.true, ap length c.buffered-searched.ensures) in
-    has_longer 140000 c.loop-count.lines (g.R.Source.seen c.loop-count.source).left (rw c.buffered.ensures at c.in_default.ensures.none) long
+    let long : MAX_LINE < length c.loop-count.lines = omega (arith, c.if-searched-gt-MAX_LINE.true, ap length c.buffered-searched.ensures) in
+    has_longer MAX_LINE c.loop-count.lines (g.R.Source.seen c.loop-count.source).left (rw c.buffered.ensures at c.in_default.ensures.none) long
 
 pub returns-in_err-read_on-clause-written : goal.returns-in_err-read_on-clause-written
 returns-in_err-read_on-clause-written g c = λ other.

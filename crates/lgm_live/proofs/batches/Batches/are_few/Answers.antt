@@ -1,5 +1,6 @@
 use Rattle.std.proofs.Common.{◌≡◌, ◌+◌, ◌≤◌, List, length, take, ap, subst, sym, ◌∙◌, arith}
 use Rattle.std.proofs.lemmas.List.Folds.{length-flat_map-take}
+use Rattle.lgm_publish.specs.declared.edition.TheConstants.{MAX_OPERATIONS}
 use Rattle.lgm_script.specs.declared.item.Item.{Item}
 use Rattle.lgm_live.specs.Batches.{items_of}
 use Rattle.lgm_live.proofs.batches.Batches.are_few.Goals as goal
@@ -10,13 +11,13 @@ returns-then-room-items c =
     let same = c.as_slice-batch-items.ensures in
     let i = c.loop-batch.batch-index in
     let before =
-    subst (λ (bs : List (List Item)). length (items_of (take i bs)) + c.loop-batch.room ≡ 2000000000)
+    subst (λ (bs : List (List Item)). length (items_of (take i bs)) + c.loop-batch.room ≡ MAX_OPERATIONS)
     (sym same) c.loop-batch.invariant in
     let within = length-flat_map-take (λ (batch : List Item). batch) batches i c.batch-item.result c.loop-batch-test.true in (
       λ no. absurd cc,
       λ few. absurd (omega (
         arith,
-        subst (λ (bs : List (List Item)). length (items_of bs) ≤ 2000000000) (sym same) few,
+        subst (λ (bs : List (List Item)). length (items_of bs) ≤ MAX_OPERATIONS) (sym same) few,
         before,
         within,
         ap length (c.as_slice.ensures ∙ c.batch-item.is),

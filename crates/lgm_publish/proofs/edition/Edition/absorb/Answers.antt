@@ -1,4 +1,4 @@
-use Rattle.std.proofs.Common.{◌≡◌, ℕ, ◌+◌, ◌*◌, ◌≤◌, Option, Some, None, length, arith}
+use Rattle.std.proofs.Common.{ℕ, ◌+◌, ◌*◌, ◌≤◌, Option, Some, None, arith}
 use Rattle.lgm_graph.specs.Graph.{Graph}
 use Rattle.lgm_graph.specs.Network.{GoesOn}
 use Rattle.lgm_publish.specs.inner.Contents.{NumbersAtMost}

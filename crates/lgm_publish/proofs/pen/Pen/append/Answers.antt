@@ -10,4 +10,4 @@ invariant_of-self c =
     let a =
     appends c.self.inside.noted w.desk.shown.value.told (drop w.behind w.log.items)
     (drop w'.behind w'.log.items) c.args.op c.self.inside.appended c.in-Ok.ensures.appended inv.1 inv.2 in
-    (inv.0, rw c.absorb.ensures.desk a.0, rw c.absorb.ensures.desk a.1, omega (arith, inv.3, c.if-self-eq-LIMIT.false))
+    (inv.0, rw c.absorb.ensures.desk a.0, rw c.absorb.ensures.desk a.1, omega (arith, inv.3, c.if-self-eq-MAX_OPERATIONS.false))

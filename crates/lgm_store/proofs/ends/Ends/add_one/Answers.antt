@@ -29,7 +29,7 @@ returns-clause-ok c =
     let none : list_at c.args.self.now c.args.point ≡ [] =
     ap (λ es. list_at es c.args.point) (sym c.self.view_is)
     ∙ ap (λ o. unwrap_or o []) (sym c.in_default.ensures.value) in
-    let one : c.insert-2.new.self ≡ with_id [] c.args.scid = c.in_ok-insert.ensures.ok ∙ ap (λ l. with_id l c.args.scid) c.new-list.ensures in
-    Sets-put c.args.self.now c.get_mut.follows.lender-at-none.entries c.insert-3.new.self.entries c.args.point
-    c.insert-2.new.self (with_id (list_at c.args.self.now c.args.point) c.args.scid)
-    same (one ∙ ap (λ l. with_id l c.args.scid) (sym none)) (rw one (kept-with [] c.args.scid)) c.in_ok-insert-2.ensures.updates.0
+    let one : c.of.result ≡ with_id [] c.args.scid = c.of.ensures in
+    Sets-put c.args.self.now c.get_mut.follows.lender-at-none.entries c.insert-2.new.self.entries c.args.point
+    c.of.result (with_id (list_at c.args.self.now c.args.point) c.args.scid)
+    same (one ∙ ap (λ l. with_id l c.args.scid) (sym none)) (rw one (kept-with [] c.args.scid)) c.in_ok-insert.ensures.updates.0

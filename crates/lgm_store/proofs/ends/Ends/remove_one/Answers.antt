@@ -4,7 +4,7 @@ use Rattle.std.specs.Prelude.{◌==◌}
 use Rattle.lgm_store.specs.inner.Ends.{list_at, without_id, kept, Sets}
 use Rattle.lgm_store.proofs.Listing.{Sets-put, Sets-out, Sets-none}
 use Rattle.lgm_store.proofs.ends.Ends.remove_one.Goals as goal
-use Rattle.lgm_store.proofs.ends.Ends.remove_one.Goals.{Joined-remove, in-Some-1, in-None-1}
+use Rattle.lgm_store.proofs.ends.Ends.remove_one.Goals.{Joined-remove, in-Some+in-One-1, in-Some+in-Many-1, in-None-1}
 
 empty_is : (ids : List ℕ) → (length ids == 0) ≡ true → ids ≡ []
 empty_is [] e = refl
@@ -30,7 +30,8 @@ out c =
 
 pub returns-then-is_empty : goal.returns-then-is_empty
 returns-then-is_empty c = elim c.match-remove.branch [
-  | in-Some-1 w ↦ rw w.self-is (out c)
+  | in-Some+in-One-1 w ↦ rw w.self-is (out c)
+  | in-Some+in-Many-1 w ↦ rw w.self-is (out c)
   | in-None-1 w ↦ rw w.self-is (out c)
 ]
 

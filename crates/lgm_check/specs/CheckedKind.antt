@@ -1,0 +1,21 @@
+-- What the row of a message has beside its bytes, and the row that both make.
+use Rattle.std.specs.Prelude.{ℕ, List}
+use Rattle.lgm_check.specs.declared.row.Checked.{Checked}
+use Rattle.lgm_check.specs.declared.row.Checked.TheVariants as rows
+use Rattle.lgm_check.specs.declared.row.CheckedKind.{CheckedKind}
+use Rattle.lgm_check.specs.declared.row.CheckedKind.TheVariants as kinds
+use Rattle.lgm_check.specs.Announce.{channel_row, IsAnnounce}
+use Rattle.lgm_check.specs.Update.{update_row, IsUpdate}
+use Rattle.lgm_check.specs.Node.{node_row, IsNodeAnnounce}
+
+-- the row
+abbrev pub row_of : CheckedKind → List ℕ → Checked
+row_of (kinds.Channel sat) bytes = rows.Channel (channel_row sat bytes)
+row_of (kinds.Update signer) bytes = rows.Update (update_row bytes) signer
+row_of kinds.Node bytes = rows.Node (node_row bytes)
+
+-- the bytes encode a message of its type
+abbrev pub Fits : CheckedKind → List ℕ → Type 0
+Fits (kinds.Channel sat) bytes = IsAnnounce bytes
+Fits (kinds.Update signer) bytes = IsUpdate bytes
+Fits kinds.Node bytes = IsNodeAnnounce bytes

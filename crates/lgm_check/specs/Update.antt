@@ -1,0 +1,33 @@
+-- A channel_update by the offsets of its fields, which are fixed.
+use Rattle.std.specs.Prelude.{ℕ, ◌≤◌, List, length, drop}
+use Rattle.std.specs.Int.{w8, w16, w32, w64}
+use Rattle.lgm_gossip.specs.declared.channel_update.ChannelUpdate.{ChannelUpdate}
+use Rattle.lgm_gossip.specs.declared.message.Message.TheVariants as messages
+use Rattle.lgm_gossip.specs.Message.{Wire}
+use Rattle.lgm_check.specs.declared.row.UpdateRow.{UpdateRow}
+use Rattle.lgm_check.specs.Places.{part, number_in}
+
+abbrev pub update_in : List ℕ → ChannelUpdate
+update_in raw = record {
+  signature = part 2 64 raw;
+  chain_hash = record { 0 = part 66 32 raw };
+  short_channel_id = number_in w64 98 raw;
+  timestamp = number_in w32 106 raw;
+  message_flags = number_in w8 110 raw;
+  channel_flags = number_in w8 111 raw;
+  cltv_expiry_delta = number_in w16 112 raw;
+  htlc_minimum_msat = number_in w64 114 raw;
+  fee_base_msat = number_in w32 122 raw;
+  fee_proportional_millionths = number_in w32 126 raw;
+  htlc_maximum_msat = number_in w64 130 raw;
+  rest = drop 138 raw;
+}
+
+-- the row that bytes encode
+abbrev pub update_row : List ℕ → UpdateRow
+update_row raw = record { message = update_in raw; raw = raw }
+
+-- the bytes encode a channel_update, so they have all of its fields
+pub record IsUpdate (raw : List ℕ) : Type 0 where
+  pub long : 138 ≤ length raw
+  pub spelled : Wire (messages.ChannelUpdate (update_in raw)) raw

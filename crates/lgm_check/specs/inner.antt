@@ -1,0 +1,3 @@
+-- Definitions for contracts inside the crate.
+pub mod Raw
+pub mod Layout

@@ -1,4 +1,0 @@
-pub mod PlaceLaws
-pub mod UpdateLaws
-pub mod AnnounceLaws
-pub mod NodeLaws

@@ -1,2 +1,0 @@
--- Definitions for contracts inside the crate.
-pub mod Raw

@@ -1,0 +1,8 @@
+use Rattle.std.proofs.lemmas.Result.{err_from_is_err_and}
+use Rattle.lgm_script.proofs.Telling.{tells_same}
+use Rattle.lgm_script.proofs.output.Output.send_message.Goals as goal
+
+pub returns-in_err-append_message : goal.returns-in_err-append_message
+returns-in_err-append_message g c =
+    let p = err_from_is_err_and c.from_residual.result c.from_residual.ensures.1 in
+    rw (p.1, p.2) (tells_same _ _ _ _ _ c.in_err-append_message.ensures.err)

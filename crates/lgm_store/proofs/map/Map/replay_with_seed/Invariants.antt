@@ -1,7 +1,0 @@
-use Rattle.std.proofs.Common.{◌≡◌, take}
-use Rattle.lgm_store.specs.History.{fold}
-use Rattle.lgm_store.proofs.map.Map.replay_with_seed.Given as goal
-
--- the map is the fold of what was done
-abbrev pub invariant-loop-op : goal.invariant-loop-op
-invariant-loop-op l = l.map ≡ fold (take l.op-index l.history)
