@@ -1,16 +1,17 @@
 #!/usr/bin/env python3
-"""Proves and builds the program `lgm`: the libraries that it stands on, lowest first, and then the program.
+"""Proves and builds the program `lgm`: the libraries that it depends on, lowest first, and then the program.
 
     python3 build.py [--at-once N] [--cpu NAME] [--library CRATE]
 
-With `--library` it is a library, and what that one stands on: `lgm_c`, as examples/build-c has it.
+With `--library` it builds a library and its dependencies instead: examples/build-c builds `lgm_c` so.
 
-Says on standard error which crate it is at, of how many, and how long each took; what `rt` says is shown where it fails.
-Libraries that don't need each other are proved side by side, as many as processors and memory allow, or N. A check locks
+Reports progress on stderr: which crate of how many, and how long each took; the output of `rt` is shown if it fails.
+Independent libraries are proved in parallel, as many as processors and memory allow, or N. A check locks
 the folders of its crate and of those below, so each of several has a copy of them in the system's temporary folder.
 
-The program is built for x86-64-v3 where this machine's processor has what that needs, and then ends with status 127 on
-one that doesn't. NAME, or LGM_CPU in the environment, is another one that `rt` knows, or `default`: x86-64-v2.
+The program is built for x86-64-v3 if this machine's processor supports that, and then ends with status 127 on one that
+doesn't; a library for x86-64-v2. NAME, or LGM_CPU in the environment, is another target that `rt` knows, or `default`:
+x86-64-v2.
 """
 
 import argparse
@@ -37,7 +38,7 @@ NEWER_FLAGS = {"abm", "avx2", "bmi1", "bmi2", "f16c", "fma", "movbe"}  # what /p
 
 
 class Failed(Exception):
-    """A crate isn't proved: its name, and what `rt` said."""
+    """A crate isn't proved: its name, and the output of `rt`."""
 
 
 def read_crates(file):
@@ -48,7 +49,7 @@ def read_crates(file):
 
 
 def below(used, name):
-    """All crates that one stands on, lowest first."""
+    """All dependencies of a crate, lowest first."""
     found = []
     for it in used[name]:
         found += [lower for lower in (*below(used, it), it) if lower not in found]
@@ -112,7 +113,7 @@ def jobs_of_one(at_once):
 
 
 def say(text):
-    """A line on standard error."""
+    """Prints a line on stderr."""
     print(f"lgm: {text}", file=sys.stderr, flush=True)
 
 
@@ -124,9 +125,14 @@ def rt(crate, folder, jobs, command, *words):
         raise Failed(crate, done.stdout.decode(errors="replace"))
 
 
-def prove(crate, jobs):
+def words_for(cpu):
+    """What `rt` is told of the processor to build for."""
+    return () if cpu == ANY_CPU else ("--cpu", cpu)
+
+
+def prove(crate, jobs, cpu=ANY_CPU):
     """Proves and builds a library in its folder."""
-    rt(crate, TOP / "crates" / crate, jobs, "lib")
+    rt(crate, TOP / "crates" / crate, jobs, "lib", *words_for(cpu))
 
 
 def prove_apart(used, crate, jobs):
@@ -182,11 +188,11 @@ def prove_all(used, crates, at_once, jobs):
                 say(f"{it}: {time.monotonic() - started[it]:.0f} s, {len(done)} of {len(crates) + 1}")
 
 
-def build_library(crate, count, jobs):
+def build_library(crate, count, jobs, cpu):
     """Proves and builds a library that others link with."""
     clock = time.monotonic()
-    say(f"{crate} ..")
-    prove(crate, jobs)
+    say(f"{crate}, for {cpu} processors .." if cpu != ANY_CPU else f"{crate} ..")
+    prove(crate, jobs, cpu)
     say(f"{crate}: {time.monotonic() - clock:.0f} s, {count} of {count}")
 
 
@@ -195,8 +201,7 @@ def build_program(count, jobs, cpu):
     program = TOP / "crates" / PROGRAM / "out" / PROGRAM
     started, clock = time.time(), time.monotonic()
     say(f"{PROGRAM}, for {cpu} processors .." if cpu != ANY_CPU else f"{PROGRAM} ..")
-    wanted = () if cpu == ANY_CPU else ("--cpu", cpu)
-    rt(PROGRAM, program.parent.parent, jobs, "run", *wanted, "--", "run", "--chain", NO_CHAIN)
+    rt(PROGRAM, program.parent.parent, jobs, "run", *words_for(cpu), "--", "run", "--chain", NO_CHAIN)
     # As old as the start: a file that was edited meanwhile is newer.
     os.utime(program, (started, started))
     say(f"{PROGRAM}: {time.monotonic() - clock:.0f} s, {count} of {count}")
@@ -206,14 +211,16 @@ def arguments_of(used):
     """The words of the command line."""
     parser = argparse.ArgumentParser(description=__doc__.split("\n")[0])
     parser.add_argument("--at-once", type=int, default=default_at_once(), metavar="N", help="so many checks side by side")
-    parser.add_argument("--cpu", default=os.environ.get("LGM_CPU") or own_cpu(), metavar="NAME",
-                        help=f"the processor that the program is for: {NEWER_CPU}, or {ANY_CPU}, for any")
+    parser.add_argument("--cpu", default=os.environ.get("LGM_CPU"), metavar="NAME",
+                        help=f"the processor to build for: {NEWER_CPU}, or {ANY_CPU}, for any")
     parser.add_argument("--library", choices=sorted(used), metavar="CRATE", help="build this library, not the program")
-    return parser.parse_args()
+    arguments = parser.parse_args()
+    arguments.cpu = arguments.cpu or (ANY_CPU if arguments.library else own_cpu())
+    return arguments
 
 
 def main():
-    """Builds what isn't fresh. The exit status is 1 where that fails."""
+    """Builds what isn't fresh. The exit status is 1 if that fails."""
     used = read_crates(TOP / "crates.txt")
     arguments = arguments_of(used)
     target = arguments.library or PROGRAM
@@ -229,7 +236,7 @@ def main():
     try:
         prove_all(used, stale, at_once, jobs)
         if arguments.library:
-            build_library(target, len(stale) + 1, jobs)
+            build_library(target, len(stale) + 1, jobs, arguments.cpu)
         else:
             build_program(len(stale) + 1, jobs, arguments.cpu)
     except Failed as failed:

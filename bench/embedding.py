@@ -4,8 +4,8 @@
     python3 bench/embedding.py
 
 bench/offers.c makes the calls: it offers all messages of the workload `routes`, asks for the news of a filter, sets the
-mark, and finds the routes of all payments. Times are processor time, the minimum of all runs. The program also reads
-the script's digits and writes its answers. For Python, the time is what a call of `offer` takes beyond the same call in
+mark, and finds the routes of all payments. Times are CPU time, the minimum of all runs. The program also reads
+the script's digits and writes its answers. For Python, the time is that of a call of `offer` beyond the same call in
 C. The library is built by examples/build-c if it isn't there.
 """
 
@@ -81,7 +81,7 @@ def write_calls(file, items, payments):
 
 
 def measure_c(options, program, file):
-    """The least times of each kind of call, and how many routes there are."""
+    """The minimum times of each kind of call, and the number of routes."""
     newest = messages.gossip_timestamp_filter(NOW - HOUR, 2 * HOUR)
     taken, found = {}, None
     for _ in range(options.runs):
@@ -96,7 +96,7 @@ def measure_c(options, program, file):
 
 
 def measure_python(options, items):
-    """The least time of all offers through examples/python/lgm.py."""
+    """The minimum time of all offers through examples/python/lgm.py."""
     os.environ["LGM_LIBRARY"] = str(options.library / "liblgm.so")
     sys.path.insert(0, str(EXAMPLES / "python"))
     import lgm
@@ -116,7 +116,7 @@ def measure_python(options, items):
 
 
 def routes_in(program, script):
-    """How many routes the program finds."""
+    """The number of routes that the program finds."""
     with open(script, "rb") as reader:
         ran = subprocess.run(program, stdin=reader, stdout=subprocess.PIPE, check=True)
     return sum(line.split()[1] == b"route" for line in ran.stdout.splitlines())

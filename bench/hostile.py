@@ -1,9 +1,9 @@
 #!/usr/bin/env python3
-"""Measures payments over networks that are made so that a search has much to keep.
+"""Measures payments over synthetic networks in which a search has to store many labels.
 
 A row of nodes, each with channels to the twenty behind it, of which the longer charge so much
-more that each number of channels is worth keeping; and a payer who has 250 other neighbours.
-Prints, for each network, what three payments take beyond reading the network.
+more that no number of hops dominates another; and a payer who has 250 other neighbours.
+Prints, for each network, the time of three payments beyond that of reading the network.
 """
 
 import argparse
@@ -33,7 +33,7 @@ def convex(step, noise):
 
 
 def millionths(step, noise):
-    """The same in millionths."""
+    """The same for the proportional fee, in ppm."""
     return 0, 1000 * step * step + noise
 
 
@@ -87,13 +87,13 @@ def payments(size):
 
 
 def measured(program, script, runs):
-    """The least of some runs."""
+    """The minimum of some runs."""
     running.bytes_answered(program, script)
     return running.least([running.run(program, script) for _ in range(runs)])
 
 
 def measure(options, size, charges, beside, folder):
-    """What the network alone takes, and with the payments."""
+    """The time of the network alone, and with the payments."""
     script = Path(folder, "script")
     program = running.command(options.program.resolve(), "hostile", options.workers)
     script.write_text("".join(lines(size, charges, beside)))

@@ -1,5 +1,5 @@
 #!/usr/bin/env python3
-"""Writes a made network as a script of `lgm run`: the same bytes for the same words."""
+"""Writes a synthetic network as a script of `lgm run`: the same bytes for the same words."""
 
 import argparse
 import sys

@@ -1,8 +1,8 @@
 #!/usr/bin/env python3
-"""Runs the built program on made networks, and prints the time and memory that it takes.
+"""Runs the built program on synthetic networks, and prints the time and memory that it takes.
 
-Scripts are made in the system's temporary folder, and deleted after their runs. README.md in
-this folder tells what the columns mean.
+Scripts are written to the system's temporary folder, and deleted after their runs. README.md in
+this folder describes the columns.
 """
 
 import argparse
@@ -28,7 +28,7 @@ HEADINGS = ("workload", "channels", "lines", "script MB", "output MB", "wall s",
 
 
 class Measure(NamedTuple):
-    """A workload on a size: lines and bytes read, bytes written, and the least that runs took."""
+    """A workload of a size: lines and bytes read, bytes written, and the minimum of its runs."""
 
     channels: int
     lines: int
@@ -37,7 +37,7 @@ class Measure(NamedTuple):
     taken: running.Taken
 
     def a_byte(self):
-        """Seconds of processor time for each byte that was read or written."""
+        """Seconds of CPU time for each byte that was read or written."""
         return self.taken.processor / (self.read + self.written)
 
 
@@ -68,7 +68,7 @@ def words():
 
 
 def measure(options, channels, workload, folder):
-    """Makes a script, looks at all answers of a first run, and then runs as often as asked."""
+    """Makes a script, checks all answers of a first run, and then runs it as often as requested."""
     script = Path(folder, "script")
     running.make_script(script, channels, workload, options.seed)
     program = running.command(options.program.resolve(), workload, options.workers)
@@ -111,7 +111,7 @@ def processor():
 
 
 def measure_all(options, folder):
-    """Prints a row for each workload and size; gives the measures by workload."""
+    """Prints a row for each workload and size, and returns the measures by workload."""
     table = {workload: [] for workload in options.workloads}
     for workload, measures in table.items():
         for channels in sorted(options.channels):
@@ -122,15 +122,15 @@ def measure_all(options, folder):
 
 
 def draw(file, conditions, table):
-    """Writes the plot of the processor time."""
+    """Writes the plot of the CPU time."""
     lines = {
         workload: [(found.channels, found.taken.processor) for found in measures]
         for workload, measures in table.items()}
-    file.write_text(plot("Processor time of a script, by channels", conditions, lines))
+    file.write_text(plot("CPU time of a script, by channels", conditions, lines))
 
 
 def main():
-    """Prints the table, and draws it if that is asked."""
+    """Prints the table, and draws the plot if that is requested."""
     options = words()
     conditions = (f"{processor()}, {os.cpu_count()} processors; workers: {options.workers}; "
                   f"runs: {options.runs}, the least")

@@ -1,4 +1,4 @@
-"""Spells gossip messages (BOLT 7) as bytes, as docs/protocol.md has them."""
+"""Encodes gossip messages (BOLT 7), as docs/protocol.md describes them."""
 
 import struct
 
@@ -17,7 +17,7 @@ def short_channel_id(block, index, output):
 
 
 def with_length(part):
-    """The bytes behind their length in two bytes."""
+    """The bytes, after their length in two bytes."""
     return len(part).to_bytes(2, "big") + part
 
 
@@ -49,7 +49,7 @@ def node_announcement(signature, feature_bytes, timestamp, node, color, alias, a
 
 
 def channel_update(signature, scid, timestamp, channel_flags, terms):
-    """Type 258. The terms are delta, minimum, base fee, millionths and maximum."""
+    """Type 258. The terms are delta, minimum, base fee, proportional fee in ppm, and maximum."""
     fields = _UPDATE.pack(timestamp, 1, channel_flags, *terms)
     return b"".join((b"\x01\x02", signature, CHAIN, scid, fields))
 

@@ -101,7 +101,7 @@ class Network:
         return direction | 2 * (self.random.randrange(12) == 0)
 
     def terms(self, capacity):
-        """An update's delta, minimum, base fee, millionths and maximum."""
+        """An update's delta, minimum, base fee, proportional fee in ppm, and maximum."""
         choice = self.random.choice
         millionths = choice(MILLIONTHS)
         return (choice(DELTAS), choice(MINIMUMS), choice(BASE_FEES),

@@ -1,6 +1,6 @@
 /*
  * Measures the library for C (include/lgm.h): offers the messages of a file to a map, asks for the news of a filter,
- * sets the mark, and finds the routes of the file's payments. It prints the processor time of the calls of each kind.
+ * sets the mark, and finds the routes of the file's payments. It prints the CPU time of the calls of each kind.
  *
  *     offers CHAIN FILTER CALLS
  *

@@ -1,8 +1,8 @@
 #!/usr/bin/env python3
-"""Measures readers beside a writer: `lgm live` on a made network, by workers.
+"""Measures readers beside a writer: `lgm live` on a synthetic network, by workers.
 
-For each number of workers: how many payments a second they answer on a map that stands still, and
-beside a writer that publishes 1,000 updates at a time; and what such a publication takes.
+For each number of workers: how many payments a second they answer on a map that doesn't change, and
+beside a writer that publishes 1,000 updates at a time; and the time of such a publication.
 """
 
 import argparse
@@ -37,21 +37,21 @@ def words():
 
 
 def make_script(options, script, workload):
-    """The workload's script, with each payment asked for so often."""
+    """The workload's script, with each payment requested this often."""
     running.make_script(script, options.channels, workload, options.seed)
     lines = script.read_bytes().splitlines(keepends=True)
     script.write_bytes(b"".join(line * TIMES if line.startswith(b"route ") else line for line in lines))
 
 
 def seconds(options, script, workers):
-    """The least time of `lgm live` on the clock, once its answers were looked at."""
+    """The minimum wall-clock time of `lgm live`, whose answers are checked first."""
     program = running.command(options.program.resolve(), "live", workers)
     running.bytes_answered(program, script)
     return min(running.run(program, script).wall for _ in range(options.runs))
 
 
 def measure(options, scripts, workers):
-    """Payments a second on a map that stands still and beside the writer; seconds of a publication."""
+    """Payments a second on a map that doesn't change and beside the writer; seconds of a publication."""
     taken = {name: seconds(options, script, workers) for name, script in scripts.items()}
     still = TIMES * ROUTES / (taken["routes"] - taken["sync"])
     beside = TIMES * ROUNDS * LIVE_ROUTES_A_ROUND / (taken["live"] - taken["sync"])

@@ -1,10 +1,10 @@
 #!/usr/bin/env python3
-"""Draws how a route is found: docs/route.svg, from a real search on a made network.
+"""Draws how a route is found: docs/route.svg, from a real search on a synthetic network.
 
     python3 bench/route_picture.py
 
-The search is that of `lgm_route` in short: a pass from the payer bounds from below what is charged up to each node; labels
-spread from the payee, the most promising first, and are pruned or relaxed. test_route_picture.py compares what it finds
+The search is that of `lgm_route` in short: a forward search from the payer gives a lower bound on the fees to each
+node; labels spread from the payee, best-first, and are pruned or relaxed. test_route_picture.py compares what it finds
 with `lgm`.
 """
 
@@ -38,7 +38,7 @@ class Edge(NamedTuple):
     maximum: int
 
     def fee(self, amount):
-        """What it charges for carrying an amount."""
+        """Its fee in msat for forwarding an amount."""
         return self.base + amount * self.millionths // 1_000_000
 
 
@@ -75,7 +75,7 @@ class Search:
         self._settle()
 
     def _bounds(self):
-        """For each node a lower bound on what is charged between the payer and it, in msat."""
+        """For each node a lower bound on the fees from the payer to it, in msat."""
         bounds, queue = {}, [(0, self.payer)]
         while queue:
             bound, node = heapq.heappop(queue)
@@ -90,7 +90,7 @@ class Search:
         return bounds
 
     def _settle(self):
-        """Prunes or relaxes each label, the most promising first."""
+        """Prunes or relaxes each label, best-first."""
         queue = [(AMOUNT + self.bounds.get(self.payee, 0), 0, AMOUNT, self.payee, ())]
         while queue:
             promise, count, owed, node, rest = heapq.heappop(queue)
@@ -102,11 +102,11 @@ class Search:
                     self._relax(queue, edge, (count + 1, owed, (edge, *rest)))
 
     def _is_hopeless(self, promise, count):
-        """Whether nothing better than the best walk can come of a label."""
+        """Whether a label can be pruned: no walk over it is better than the best."""
         return self.best is not None and (promise, count + 1) > self.best[:2]
 
     def _relax(self, queue, edge, label):
-        """Leads a label on over an edge into its node."""
+        """Relaxes a label over an edge into its node."""
         count, owed, walk = label
         self.relaxed.add(edge)
         if edge.source == self.payer:

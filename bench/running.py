@@ -1,4 +1,4 @@
-"""Makes scripts, runs the program on them, and tells what a run takes."""
+"""Makes scripts, runs the program on them, and measures the runs."""
 
 import os
 import resource
@@ -19,7 +19,7 @@ os.environ.setdefault("GLIBC_TUNABLES", "glibc.malloc.hugetlb=1")  # large pages
 
 
 class Taken(NamedTuple):
-    """What a run took: seconds on the clock, seconds of processors, bytes of memory."""
+    """What a run took: wall-clock seconds, CPU seconds, bytes of memory."""
 
     wall: float
     processor: float
@@ -63,7 +63,7 @@ def own_memory():
 
 
 def least(runs):
-    """The least of each time, and the most memory."""
+    """The minimum of each time, and the maximum of memory."""
     return Taken(min(run.wall for run in runs), min(run.processor for run in runs),
                  max(run.memory for run in runs))
 

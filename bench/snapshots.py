@@ -1,11 +1,11 @@
 #!/usr/bin/env python3
-"""Measures readers beside a writer in one process, by the library for C: examples/c/serve.c on a made network.
+"""Measures readers beside a writer in one process, by the library for C: examples/c/serve.c on a synthetic network.
 
     python3 bench/snapshots.py
 
-For each number of reader threads: how many routes a second they find, each in a snapshot of its own, of a map that stands
-still, and beside a writer that publishes 1,000 updates at a time, with a pause of 50 ms behind each; and what such a
-publication takes, the median and the most: the first of them is a copy. The library is built by examples/build-c if it
+For each number of reader threads: how many routes a second they find, each in a snapshot of its own, of a map that
+doesn't change, and beside a writer that publishes 1,000 updates at a time, with a pause of 50 ms after each; and the
+time of such a publication, median and maximum: the first one is a copy. The library is built by examples/build-c if it
 isn't there.
 """
 
@@ -42,7 +42,7 @@ def words():
 
 
 def make_scripts(options, folder):
-    """The network with payments, and the same with updates behind its commit."""
+    """The network with payments, and the same with updates after its commit."""
     live = folder / "live"
     running.make_script(live, options.channels, "live", options.seed)
     lines = live.read_bytes().splitlines(keepends=True)
@@ -55,7 +55,7 @@ def make_scripts(options, folder):
 
 
 def measure(options, program, script, readers, times):
-    """The routes a second, and the milliseconds of a publication: the median and the most."""
+    """The routes a second, and the milliseconds of a publication: median and maximum."""
     best = 0, None, None
     for _ in range(options.runs):
         with open(script, "rb") as reader:

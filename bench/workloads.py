@@ -1,4 +1,4 @@
-"""The lines of scripts (docs/script.md): what is asked of a made network."""
+"""The lines of scripts (docs/script.md) over a synthetic network."""
 
 import messages
 from network import BLOCKS, DAY, FEATURES, NOW
@@ -62,7 +62,7 @@ def sync(network):
 
 
 def queries(network):
-    """The network, ten ranges of blocks, and each channel asked for once in lists of ids."""
+    """The network, ten ranges of blocks, and each channel queried once in lists of ids."""
     yield from sync(network)
     yield query_line(messages.query_channel_range(0, 0xFFFFFFFF, True))
     for number in range(1, RANGES):

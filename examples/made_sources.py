@@ -23,7 +23,7 @@ TIMESTAMP = 1_700_000_000
 A, B, C = (b"\x02" + bytes([letter]) * 32 for letter in (10, 11, 12))
 NOBODY = b"\x03" + bytes(32)
 FIRST, SECOND = messages.short_channel_id(700_000, 1, 1), messages.short_channel_id(700_001, 2, 0)
-# Delta, minimum, base fee, millionths, maximum, as in an update.
+# Delta, minimum, base fee, proportional fee in ppm, maximum, as in an update.
 TERMS_OF_A = (80, 1, 7_000, 9_000, 50_000_000)
 TERMS_OF_B = (40, 1, 1_000, 500, 60_000_500)
 

@@ -26,7 +26,7 @@ CONDITIONS = {
     "bans": "nodes are banned, by announcements of one id that contradict each other",
     "closes": "a channel was closed"}
 MSAT = 1_000  # of a satoshi
-DEAR = 100_000, 10_000  # a base fee in msat, and millionths
+DEAR = 100_000, 10_000  # a base fee in msat, and ppm
 MENDED = ("funding", "signature", "private", "unknown-channel")
 
 

@@ -151,7 +151,7 @@ def raised(kind, call):
 
 
 def what_is_no_list_of_lines_is_refused():
-    """Nothing of it is written, and the client goes on."""
+    """Nothing of it is written, and the client continues."""
     with Client(CHAIN, PROGRAM) as lgm:
         for lines in ("commit", b"commit", ["commit\n"], ["commit", "q 0105\ncommit"], [b"commit"], ["\ud800"]):
             raised(ValueError, lambda: lgm.ask(lines))

@@ -55,7 +55,7 @@ def answer(script):
 
 
 def made_script(workload, channels=CHANNELS):
-    """A script over a made network."""
+    """A script over a synthetic network."""
     words = [sys.executable, TOP / "bench" / "make_script.py", "--channels", str(channels), "--workload", workload]
     return output(words)
 
@@ -157,13 +157,13 @@ def test_serve(out):
     report(f"serve, {CHANNELS} channels, with pauses", served(out, CHANNELS, 20, 300, 20))
     if runs("valgrind", "--quiet", "true"):
         report("serve, valgrind", served(out, 200, 5, 50, 0, *VALGRIND, "--fair-sched=yes"))
-        # Two publications, so that no network takes a second turn: helgrind doesn't know that the count of owners orders
-        # what a reader did with one before what the writer does.
+        # Two publications, so that no network takes a second turn: helgrind doesn't know that the count of owners
+        # orders what a reader did with one before what the writer does.
         report("serve, helgrind", served(out, 100, 3, 1_000, 1, *HELGRIND))
 
 
 def test_python():
-    """The module answers as `lgm` does: each item, each payment and each query of a made network."""
+    """The module answers as `lgm` does: each item, each payment and each query of a synthetic network."""
     import lgm
 
     def bytes_in(line):
@@ -223,7 +223,7 @@ def announced(items):
 
 
 def test_lookups():
-    """The module has the channels, terms and nodes that the messages of a made network announce."""
+    """The module has the channels, terms and nodes that the messages of a synthetic network announce."""
     import lgm
 
     def terms(direction):
@@ -249,7 +249,7 @@ def test_lookups():
 
 
 def test_threads():
-    """Three threads offer the messages of a made network to one map, and route at once: it is as if one had done so."""
+    """Three threads offer the messages of a synthetic network to one map, and route at once, as if one had done so."""
     import lgm
 
     lines = [line.split() for line in made_script("routes").decode().splitlines()]

@@ -1,6 +1,6 @@
 #!/usr/bin/env python3
 """Tests the converters of examples/network and its table: on three nodes from each kind of source, run through `lgm` up
-to a route that is worked out here; on records and rows of all kinds; on faults; and on a made network.
+to a route that is worked out here; on records and rows of all kinds; on faults; and on a synthetic network.
 
     python3 examples/test_network.py [PROGRAM]
 """
@@ -25,7 +25,7 @@ CHAIN = messages.CHAIN.hex()
 NAMES = {"A": A, "B": B, "C": C, "nobody": NOBODY, "first": FIRST, "second": SECOND}
 
 # A pays C 1,000,000 msat with expiry at 800,000. Over the second channel goes just that. B charges 1,000 msat and 500
-# millionths, 1,000 + 1,000,000 x 500 / 1,000,000 = 1,500 msat, and 40 blocks. So over the first channel go 1,001,500
+# ppm, 1,000 + 1,000,000 x 500 / 1,000,000 = 1,500 msat, and 40 blocks. So over the first channel go 1,001,500
 # msat until 800,040.
 PAYMENT = f"route {A.hex()} {C.hex()} 1000000 800000 {'11' * 32}"
 ROUTE = [

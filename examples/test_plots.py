@@ -43,7 +43,7 @@ def summed_up(python, script, *options, **environment):
 
 
 def made_script(channels):
-    """A made network."""
+    """A synthetic network."""
     words = [sys.executable, HERE.parent / "bench" / "make_script.py", "--channels", str(channels)]
     return subprocess.run(words, capture_output=True, text=True, check=True).stdout
 

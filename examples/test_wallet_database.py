@@ -3,7 +3,7 @@
 
     python3 examples/test_wallet_database.py [PROGRAM]
 
-test_network.py does so on one that is made without it. This goes on in the system's Python where that has Electrum's
+test_network.py does so on one that is made without it. This continues in the system's Python if that has Electrum's
 package (python3-electrum). Without the package it is left out, with status 77.
 """
 

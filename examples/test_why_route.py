@@ -85,7 +85,7 @@ def each_condition_decides():
             has=[f"{second}1,000,000 msat: htlc_minimum_msat 1,000,001 is above 1,000,000 msat",
                  f"{first}1,001,500 msat: usable",
                  "hint: of the powers of ten, 10,000,000 msat have a route"])
-    # B charges 1,000 msat and 500 millionths for 49,990,000: 1,000 + 24,995. So A's channel would carry 50,015,995.
+    # B charges 1,000 msat and 500 ppm for 49,990,000: 1,000 + 24,995. So A's channel would carry 50,015,995.
     decides("maxima", WHOLE, A, C, 49_990_000,
             has=[f"{first}50,015,995 msat: htlc_maximum_msat 50,000,000 is below 50,015,995 msat",
                  f"{second}49,990,000 msat: usable"])

@@ -34,7 +34,7 @@ LISTED = 10  # channels of one node
 
 
 def say(text):
-    """A line on standard error, where that is a terminal: a large network takes seconds for each of some twenty maps."""
+    """Reports progress on stderr, if that is a terminal: a large network takes seconds for each of some twenty maps."""
     if sys.stderr.isatty():
         print(f"why_route: {text}", file=sys.stderr)
 

@@ -4,7 +4,7 @@
  * A handle (lgm_map) has the map of one chain. The caller offers gossip messages to it, with verdicts on their signatures
  * and funding outputs. It finds routes for payments, with their payloads, and answers the queries and filters of peers.
  * A snapshot (lgm_snapshot) has what a map had when it was published, and answers the same: one for each thread that is to
- * read while another one goes on with the map. docs/embedding.md is a guide; docs/protocol.md has the rules.
+ * read while another one extends the map. docs/embedding.md is a guide; docs/protocol.md has the rules.
  *
  * What is proved holds for callers that meet these conditions, which nothing checks:
  *

@@ -13,7 +13,7 @@ PROGRAM is ./lgm if left out. Cases are random, the same ones for the same seed,
   peeled by the keys of its hops.
 
 Then each part runs again with one answer of the program spoiled, and has to notice it. The modules are in
-`beside_electrum`. It goes on in the system's Python where that has Electrum's package (python3-electrum). Without the
+`beside_electrum`. It continues in the system's Python if that has Electrum's package (python3-electrum). Without the
 package it is left out, with status 77.
 """
 
@@ -141,7 +141,7 @@ def plant(parts):
 
 
 def compare(parts, times):
-    """Runs all parts, and says what they saw."""
+    """Runs all parts, and prints what they compared."""
     for number in range(times):
         told = parts.run(decoded, number)
         names = "; ".join(f"{count} {name}" for name, count in sorted(told.items(), key=lambda item: -item[1]))

@@ -6,8 +6,8 @@
 A page names things in `code spans`. Checked are
 
 - links to files of the repository, and to headings in them;
-- paths, as `examples/client.py` or `lgm_wire/specs`, also behind `python3`, and modules of specs, as `inner/Slots`;
-- calls, as `Map::offer`, and definitions of a module, as `Script.text_for`;
+- paths, as `examples/client.py` or `lgm_wire/specs`, also behind `python3`, and modules of specs, as `inner/ScidSet`;
+- calls, as `Map::absorb`, and definitions of a module, as `Script.text_for`;
 - clauses behind calls, as `decode`: `found`, `only`, each of which one of the calls before the colon has to have;
 - all other names, which have to occur somewhere outside the pages, unless they are those of the kit or of a tool;
 - that the tables of docs/definitions.md list each module of specs in its folder, and no others.
@@ -64,7 +64,7 @@ def records():
 
 
 def named_clauses():
-    """For each call, as `decode` and as `Map::offer`, the names of its clauses, and of the fields of records that they
+    """For each call, as `decode` and as `Map::absorb`, the names of its clauses, and of the fields of records that they
     cite; and all members of each type."""
     clauses, members, fields, aliases = defaultdict(set), defaultdict(set), records(), {}
     for source in TOP.glob("crates/*/src/**/*.rt"):

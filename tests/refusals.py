@@ -1,5 +1,5 @@
 #!/usr/bin/env python3
-"""Runs scripts with one call of the program refused, and looks at how each run ends.
+"""Runs scripts with one call of the program refused, and checks how each run ends.
 
     python3 tests/refusals.py [PROGRAM]
 
@@ -7,7 +7,7 @@ Each request for memory, each start of a thread, each read and each write is ref
 with one and with three workers: over the program's stored script (two channels, their terms, a commit and a payment), a
 script of closes, queries and filters, one with a payment for each of two workers, and the examples. A run answers the
 whole script, or ends with status 1, the line of that fault on standard error, and a beginning of the text on standard
-output. One that takes ten seconds hangs, as if workers waited for a writer that failed; no further call of its kind is
+output. A run that takes ten seconds hangs, as when workers wait for a writer that failed; no further call of its kind is
 refused then. It needs the GNU C library and a C compiler (`cc`), and is left out without one, with status 77. PROGRAM is
 crates/lgm/out/lgm if left out.
 """
@@ -43,7 +43,7 @@ def run(mode, script, workers, more):
 
 
 def told(mode, text):
-    """What is compared of a text. That of a payment beside a writer depends on the map that it met."""
+    """What is compared of a text. That of a payment beside a writer depends on the version of its map."""
     if mode == "run":
         return text
     lines = text[: text.rfind(b"\n") + 1].splitlines()
@@ -63,7 +63,7 @@ def objection(mode, kind, whole, ended):
 
 
 def refuse_each(shim, folder, mode, script, workers, kind):
-    """How many calls of a kind were refused in turn, and what was wrong."""
+    """Refuses each call of a kind in turn. Returns how many there were, and what was wrong."""
     whole = run(mode, script, workers, {}).stdout
     mark = folder / "refused"
     call, wrong = 0, []

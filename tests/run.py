@@ -24,7 +24,7 @@ LEFT_OUT = 77
 
 
 def ended(*words):
-    """The exit status of a file of tests; it says by itself what doesn't pass."""
+    """The exit status of a file of tests, which reports its own failures."""
     print(f"== {words[0]}", flush=True)
     return subprocess.run([sys.executable, *words], cwd=TOP, check=False).returncode
 

@@ -1,5 +1,5 @@
 #!/usr/bin/env python3
-"""Tests `./test` over a made repository, with stand-ins for `rt` and for the files of tests.
+"""Tests `./test` over a temporary repository, with stand-ins for `rt` and for the files of tests.
 
     python3 tests/test_all.py
 """
@@ -31,7 +31,7 @@ sys.exit(int(os.environ.get(name + "_status", 0)))
 
 
 class Place:
-    """A made repository."""
+    """A temporary repository."""
 
     def __init__(self, folder):
         self.top, self.bin = folder / "repository", folder / "bin"

@@ -1,5 +1,5 @@
 #!/usr/bin/env python3
-"""Tests the shell script `lgm` and build.py over made crates, with a stand-in for `rt` that proves nothing.
+"""Tests the shell script `lgm` and build.py over temporary crates, with a stand-in for `rt` that proves nothing.
 
     python3 tests/test_build.py
 """
@@ -36,7 +36,7 @@ echo "end $crate" >> "$LOG"
 
 
 class Place:
-    """A made repository, with `rt` on the path."""
+    """A temporary repository, with `rt` on the path."""
 
     def __init__(self, folder):
         self.top, self.log = folder / "repository", folder / "log"
@@ -125,6 +125,8 @@ def builds_a_library(place):
     assert done.returncode == 0 and log == [f"{verb} {it}" for it in ("left", "other_tests") for verb in ("begin", "end")], log
     for line in ("2 of 3 crates", "lgm: left ..", "1 of 2", "lgm: other_tests ..", "2 of 2", "built in "):
         assert line in done.stderr, (line, done.stderr)
+    done, _ = place.run("./build.py", "--library", "other_tests", LGM_CPU="x86-64-v3")
+    assert done.returncode == 0 and "lgm: other_tests, for x86-64-v3 processors .." in done.stderr, done
     done, log = place.run("./build.py", "--library", "other_tests", BROKEN="other_tests")
     assert done.returncode == 1 and "a clause isn't proved\nlgm: other_tests couldn't be built\n" in done.stderr, done
     done, log = place.run("./build.py", "--library", "no_such")
@@ -132,7 +134,7 @@ def builds_a_library(place):
 
 
 def builds_side_by_side(place):
-    """Two libraries that don't need each other are built at the same time, or one after the other."""
+    """Two independent libraries are built at the same time, or one after the other."""
     place.touch("low")
     _, log = place.run("./build.py", "--at-once", "2", PAUSE="3")
     assert log[2][:5] == log[3][:5] == "begin" and len(log) == 8, log

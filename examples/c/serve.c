@@ -1,5 +1,5 @@
 /*
- * Answers payments in several threads while another one goes on with the map (docs/embedding.md, "Threads").
+ * Answers payments in several threads while another one extends the map (docs/embedding.md, "Threads").
  *
  *     cc -pthread -I include examples/c/serve.c examples/out/liblgm.a -o serve
  *     serve [-q] CHAIN READERS BATCH PAUSE TIMES < SCRIPT

@@ -85,7 +85,7 @@ static void expect_empty(lgm_snapshot *snapshot, uint64_t version) {
     expect("no channel", lgm_snapshot_channel(snapshot, scid, &channel), LGM_UNKNOWN_CHANNEL);
 }
 
-/* ---- a map that goes on, while one allocation fails */
+/* ---- a map that is extended, while one allocation fails */
 
 static void offer_update(lgm_map *map, uint32_t time) {
     uint8_t terms[UPDATE];

@@ -1,4 +1,4 @@
-"""Payments over a made network by both path finders, Electrum's own and ours, each judged by the wallet's code.
+"""Payments over a synthetic network by both path finders, Electrum's own and ours, each judged by the wallet's code.
 
     for found in compared(database, count=100, seed=1):
         assert not found.faults(), found
@@ -77,7 +77,7 @@ def sent(route, payment):
 
 def is_other(database, route, payment):
     """Whether a route of the wallet's isn't one of ours: it is longer than an onion, or an edge's minimum is above the
-    payment's amount. The wallet holds a minimum against what the edge carries, with fees, and we against the amount."""
+    payment's amount. The wallet compares a minimum with what the edge carries, with fees; we compare it with the amount."""
     return len(route) > NUM_MAX_EDGES_IN_PAYMENT_PATH or any(
         database.get_policy_for_node(edge.short_channel_id, edge.start_node).htlc_minimum_msat > payment.amount_msat
         for edge in route)

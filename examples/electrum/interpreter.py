@@ -1,4 +1,4 @@
-"""Finds a Python that has Electrum's package, of the version that this is written for, and goes on in it.
+"""Finds a Python that has Electrum's package, of the version that this is written for, and continues in it.
 
     import interpreter
     if not interpreter.goes_on_with_electrum():

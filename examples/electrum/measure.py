@@ -1,9 +1,9 @@
 #!/usr/bin/env python3
-"""Measures both path finders on made networks: how much the payer sends, and how long each takes.
+"""Measures both path finders on synthetic networks: how much the payer sends, and how long each takes.
 
     LGM_LIBRARY=examples/out/liblgm.so python3 examples/electrum/measure.py [--payments N] [--seed N]
 
-Prints the table of README.md. Payments are those for which both find a route. It goes on in the system's Python where
+Prints the table of README.md. Payments are those for which both find a route. It continues in the system's Python if
 that has Electrum's package.
 """
 

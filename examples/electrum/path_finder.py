@@ -8,7 +8,7 @@
     route = finder.find_route(nodeA=payer, nodeB=payee, invoice_amount_msat=1_000_000)
 
 `MappedChannelDB` keeps a map beside the wallet's tables: each row that the wallet writes, reads at its start or deletes
-goes into the map too. So what the wallet has checked is what the map knows. `PathFinder` answers from the map, with the
+is stored in the map too. So what the wallet has checked is what the map knows. `PathFinder` answers from the map, with the
 wallet's own channels and an invoice's route hints put in for the payment. What the wallet wouldn't use it doesn't use
 either: it asks the wallet's cost function (`_edge_cost`) about each hop, takes the directions out that cost infinitely
 much, such as those that failed before, and searches again. Such a direction is left out for the whole payment, though it

@@ -11,7 +11,7 @@
 
 A direction is taken out by closing its channel and announcing it again without that update. A channel that isn't
 announced is put in by messages that are made for it. Peers would take both for news, so they never see this map: answer
-no query and no filter by it. Any thread may use it; a payment holds it until its end.
+no query and no filter by it. Any thread may use it; a payment locks it until its end.
 """
 
 from __future__ import annotations

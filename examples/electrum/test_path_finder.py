@@ -1,11 +1,11 @@
 #!/usr/bin/env python3
-"""Tests path_finder.py against the wallet's own code, on made networks of 20, 200 and 2,000 nodes.
+"""Tests path_finder.py against the wallet's own code, on synthetic networks of 20, 200 and 2,000 nodes.
 
     LGM_LIBRARY=examples/out/liblgm.so python3 examples/electrum/test_path_finder.py [--payments N] [--seed N]
 
 The map has what the wallet's database has, field by field. Of each payment: the wallet accepts the path that is found,
-builds the same payloads, and finds no path by itself over which the payer sends less. Then, by routes that are worked out here: the map follows the wallet's database, and takes
-its own channels, route hints and failures into account. It goes on in the system's Python where that has Electrum's
+builds the same payloads, and finds no path by itself over which the payer sends less. Then, by routes that are worked
+out here: the map follows the wallet's database, and takes its own channels, route hints and failures into account. It continues in the system's Python if that has Electrum's
 package. Without the package it is left out, with status 77.
 """
 
@@ -295,7 +295,7 @@ def faults_are_noticed(one):
 
 
 def payments_agree(offline, folder, count, seed):
-    """Payments over made networks, by both."""
+    """Payments over synthetic networks, by both."""
     found, wallets, others = 0, 0, 0
     for number, channels in enumerate(CHANNELS):
         case = Case(offline, folder / str(channels))

@@ -3,7 +3,7 @@
     python3 examples/network SOURCE > network.txt
     python3 examples/network --summary [--plot SVG] FILE
 
-SOURCE is one of these; which one is told by its content, and said on standard error:
+SOURCE is one of these, recognized by its content and reported on stderr:
 
 - `gossip_store` of Core Lightning, mostly ~/.lightning/bitcoin/gossip_store;
 - `gossip_db` of Electrum, mostly ~/.electrum/gossip_db. It has no capacities;

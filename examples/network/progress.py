@@ -1,4 +1,4 @@
-"""Says on standard error how far long work is, where that is a terminal; and what else there is to say."""
+"""Reports progress and messages on stderr; the progress of long work only if that is a terminal."""
 
 import sys
 import time

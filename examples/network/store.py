@@ -4,7 +4,7 @@ The node has checked signatures and funding outputs, so all verdicts are that th
 channels with their updates, closes those that the store removes, and announces the nodes of the remaining channels.
 
 Left out are deleted records, zombies, dying channels, and channels that the node doesn't announce to others. A record
-that is cut off, has a wrong CRC or holds no proper message, an announcement without an amount behind it, a store that
+that is cut off, has a wrong CRC or isn't a proper message, an announcement without an amount behind it, a store that
 was replaced and a version that isn't known raise Fault.
 """
 

@@ -66,7 +66,7 @@ class Network:
         return is_right and newer(self.updates, (scid, message.direction), message)
 
     def _close(self, scid):
-        """Whether there is a channel to close. Its updates go too, and what announces a node without another."""
+        """Removes a channel, its updates, and node announcements left without a channel. Whether there was one."""
         if scid not in self.channels:
             return False
         channel, _ = self.channels.pop(scid)

@@ -10,7 +10,7 @@ TypeError, and one out of its range ValueError, before the library is called. A 
 fault, such as `NotNewer`; all of these are subclasses of `Fault`. Any thread may use a `Map` or a `Snapshot`: the calls of
 one wait for one another. Threads that are to read at once take a snapshot each:
 
-    latest = network.publish()   # by the thread that goes on with the map
+    latest = network.publish()   # by the thread that changes the map
     mine = latest.share()        # by each thread that reads: it waits for nobody, and nobody for it
 
 The library is loaded for the first `Map`. It is the file that LGM_LIBRARY names, or `liblgm.so` in the folder `out`

@@ -75,7 +75,7 @@ answer_text number (answers.Range asked) = range_text number asked
 answer_text number (answers.Refused fault) = word_line number (request_word fault)
 answer_text number (answers.Backlog own map) = filter_text number own.peer map.now (Ok own.filter)
 answer_text number (answers.Committed accepted) = commit_line number accepted
-answer_text number (answers.News accepted filters differences) =
-    commit_text number accepted differences.before differences.after filters.now
+answer_text number (answers.News accepted filters map_diff) =
+    commit_text number accepted map_diff.before map_diff.after filters.now
 answer_text number (answers.Routed route payloads) = routed_text number route payloads
 answer_text number (answers.Unrouted fault) = word_line number (route_word fault)

@@ -6,13 +6,13 @@ use Rattle.lgm_route.specs.declared.request.Request.{Request as RouteRequest}
 use Rattle.lgm_route.specs.declared.route.Hop.{Hop}
 use Rattle.lgm_route.specs.declared.fault.RouteFault.{RouteFault}
 use Rattle.lgm_route.specs.Choice.{answer_of}
-use Rattle.lgm_script.specs.declared.payment.Payment.{Payment}
+use Rattle.lgm_script.specs.declared.route_parameters.RouteParameters.{RouteParameters}
 
 -- the route that is requested
-abbrev pub asked_route : Payment → RouteRequest
+abbrev pub asked_route : RouteParameters → RouteRequest
 asked_route payment =
     record { payer = payment.payer; payee = payment.payee; amount = payment.amount; expiry = payment.expiry }
 
 -- the hops of the best walk over the edges of the rows, or why there is none
-abbrev pub route_answer : Option (List ℕ) → Rows → Payment → Result (List Hop) RouteFault
+abbrev pub route_answer : Option (List ℕ) → Rows → RouteParameters → Result (List Hop) RouteFault
 route_answer known rows payment = answer_of (edges_of known rows) (asked_route payment)

@@ -8,10 +8,10 @@ use Rattle.lgm_store.specs.Rows.{Rows}
 use Rattle.lgm_store.specs.History.{fold}
 use Rattle.lgm_query.specs.declared.filter.Filter.{Filter}
 use Rattle.lgm_script.specs.declared.item.Item.{Item}
-use Rattle.lgm_script.specs.declared.request.Request.{Request}
-use Rattle.lgm_script.specs.declared.request.Request.TheVariants as requests
+use Rattle.lgm_script.specs.declared.command.Command.{Command}
+use Rattle.lgm_script.specs.declared.command.Command.TheVariants as requests
 use Rattle.lgm_script.specs.Lines.{lines_of}
-use Rattle.lgm_script.specs.Request.{request_of}
+use Rattle.lgm_script.specs.Command.{command_of}
 use Rattle.lgm_script.specs.Text.{word_line}
 use Rattle.lgm_answers.specs.declared.filters.PeerFilter.{PeerFilter}
 use Rattle.lgm_answers.specs.Outcomes.{outcome_of, history_of}
@@ -21,40 +21,40 @@ use Rattle.lgm_answers.specs.Answer.{outcome_text, query_text, filter_text, comm
 use Rattle.lgm_answers.specs.Routing.{route_answer}
 
 -- what the lines of a script request
-abbrev pub requests_of : List ℕ → List Request
-requests_of script = map request_of (lines_of script)
+abbrev pub commands_of : List ℕ → List Command
+commands_of script = map command_of (lines_of script)
 
 -- ---- the effect of requests
 
 -- the item that is offered
-abbrev pub item_in : Request → Option Item
+abbrev pub item_in : Command → Option Item
 item_in (requests.Offer item) = Some item
 item_in _ = None
 
-abbrev pub items_of : List Request → List Item
+abbrev pub items_of : List Command → List Item
 items_of asked = filter_map item_in asked
 
-abbrev pub is_commit : Request → Bool
+abbrev pub is_commit : Command → Bool
 is_commit requests.Commit = true
 is_commit _ = false
 
 -- the requests before the last commit, and none if there is none
-abbrev pub before_commit : List Request → List Request
+abbrev pub before_commit : List Command → List Command
 before_commit [] = []
 before_commit (request ∷ others) = if list_any is_commit others then request ∷ before_commit others else []
 
 -- the filter that a request sets for a peer, if it sets one
-abbrev pub filter_given : ChainHash → ℕ → Request → Option Filter
+abbrev pub filter_given : ChainHash → ℕ → Command → Option Filter
 filter_given chain peer (requests.Filter other bytes) =
     if other == peer then result_ok (filter_read chain bytes) else None
 filter_given chain peer _ = None
 
 -- the filter of a peer: the last one that was set
-abbrev pub filter_of : ChainHash → List Request → ℕ → Option Filter
+abbrev pub filter_of : ChainHash → List Command → ℕ → Option Filter
 filter_of chain asked peer = last_or None (filter_map (filter_given chain peer) asked)
 
 -- the filters of the peers, which are numbers below 1,000
-unfoldable pub filters_of : ChainHash → List Request → List PeerFilter
+unfoldable pub filters_of : ChainHash → List Command → List PeerFilter
 filters_of chain asked = filters_from (filter_of chain asked) 0 1000
 
 -- the state on which a request is answered
@@ -71,7 +71,7 @@ pub record State : Type 0 where
   pub filters : List PeerFilter
 
 -- the state after these requests
-abbrev pub state_of : ChainHash → Option (List ℕ) → List Request → State
+abbrev pub state_of : ChainHash → Option (List ℕ) → List Command → State
 state_of chain known asked = record {
   known = known;
   rows = fold (history_of chain (items_of asked));
@@ -83,7 +83,7 @@ state_of chain known asked = record {
 -- ---- the text for them
 
 -- the text for a request, for the line with this number
-abbrev pub text_for : ChainHash → ℕ → State → Request → List ℕ
+abbrev pub text_for : ChainHash → ℕ → State → Command → List ℕ
 text_for chain number state requests.Quiet = []
 text_for chain number state requests.Bad = word_line number (codes "bad")
 text_for chain number state (requests.Offer item) =
@@ -98,11 +98,11 @@ text_for chain number state (requests.Route payment) =
     route_text number payment.secret (route_answer state.known state.committed payment)
 
 -- the text for the request at an index, from 0
-unfoldable pub text_at : ChainHash → Option (List ℕ) → List Request → ℕ → List ℕ
+unfoldable pub text_at : ChainHash → Option (List ℕ) → List Command → ℕ → List ℕ
 text_at chain known asked k =
     text_for chain (k + 1) (state_of chain known (take k asked)) (slice_index_or asked k requests.Quiet)
 
 -- the text for the first k requests
-unfoldable pub text_before : ChainHash → Option (List ℕ) → List Request → ℕ → List ℕ
+unfoldable pub text_before : ChainHash → Option (List ℕ) → List Command → ℕ → List ℕ
 text_before chain known asked zero = []
 text_before chain known asked (suc k) = text_before chain known asked k ++ text_at chain known asked k

@@ -5,12 +5,12 @@ ghost use Rattle.lgm_script.specs.Output.{told_by, Writes};
 ghost use Rattle.lgm_answers.specs.Answer.{answer_text, outcome_word};
 
 use crate::filters::{Filters, PeerFilter};
-use crate::route_sending::send_route;
-use crate::sending::{send_filtered, send_messages, send_news, send_range};
+use crate::route::send_route;
+use crate::send::{send_filtered, send_messages, send_news, send_range};
 use lgm_check::Refusal;
 use lgm_gossip::{ChainHash, RangeQuery};
 use lgm_payload::Payloads;
-use lgm_query::{Differences, Replies, RequestFault};
+use lgm_query::{MapDiff, Replies, RequestFault};
 use lgm_route::{Route, RouteFault};
 use lgm_script::{Line, Output, SendFault, Sink};
 use lgm_store::Map;
@@ -36,14 +36,14 @@ pub enum Answer<'a> {
     Messages(Replies<'a>),
     /// A query of a range, whose replies are made when they are written.
     Range(RangeAsked<'a>),
-    /// The message isn't taken.
+    /// The message isn't accepted as a query or filter.
     Refused(RequestFault),
     /// A peer now has this filter, and gets what passes it of this map.
     Backlog(PeerFilter, &'a Map),
     /// This many items were accepted, and no peer has a filter.
     Committed(u64),
     /// This many items were accepted, and each peer gets its news.
-    News(u64, &'a Filters, Differences<'a>),
+    News(u64, &'a Filters, MapDiff<'a>),
     /// The route of a payment, with the payloads of its hops.
     Routed(Route, Payloads),
     /// The payment has no route.
@@ -68,8 +68,8 @@ impl Answer<'_> {
             Answer::Refused(fault) => output.send(number, &Line::Word(fault.word())),
             Answer::Backlog(own, map) => send_filtered(alloc, number, own, map, output),
             Answer::Committed(accepted) => output.send(number, &Line::Commit(*accepted)),
-            Answer::News(accepted, filters, differences) => {
-                send_news(alloc, number, *accepted, filters, differences, output)
+            Answer::News(accepted, filters, map_diff) => {
+                send_news(alloc, number, *accepted, filters, map_diff, output)
             }
             Answer::Routed(route, payloads) => send_route(number, route, payloads, output),
             Answer::Unrouted(fault) => output.send(number, &Line::Word(fault.word())),

@@ -11,7 +11,7 @@ use thiserror::Error;
 /// The maximum number of lines of a script.
 pub const MAX_LINES: u64 = 10_000_000;
 
-/// Why a script wasn't answered to its end. What was written is a prefix of its text. The last two come only beside a
+/// Why a script wasn't answered to its end. What was written is a prefix of its text. The last two come only with a
 /// map that grows.
 #[derive(Clone, Copy, Debug, PartialEq, Eq, Error)]
 pub enum RunFault {

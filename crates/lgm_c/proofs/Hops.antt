@@ -1,4 +1,4 @@
--- Hops beside their payloads.
+-- Hops with their payloads.
 use Rattle.std.proofs.Common.{◌≡◌, ℕ, ◌+◌, ◌<◌, List, [], ◌∷◌, ◌++◌, length, take, get_or, sym, ap, ◌∙◌, arith}
 use Rattle.std.specs.Prelude.{map, min}
 use Rattle.std.specs.List.{zip}
@@ -6,7 +6,7 @@ use Rattle.std.proofs.lemmas.List.{map-append, take_more}
 use Rattle.std.proofs.lemmas.Slice.Zip.{length-zip, get_or-zip}
 use Rattle.std.proofs.Math.Seq.{take-length}
 use Rattle.lgm_route.specs.declared.route.Hop.{Hop}
-use Rattle.lgm_c.specs.declared.routing.LgmHop.{LgmHop}
+use Rattle.lgm_c.specs.declared.routes.LgmHop.{LgmHop}
 use Rattle.lgm_c.specs.Routing.{c_hop}
 
 abbrev c_pair : Hop × List ℕ → LgmHop

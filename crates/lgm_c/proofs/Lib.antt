@@ -2,7 +2,7 @@ mod Values
 mod MapValues
 mod SnapshotValues
 mod Outcomes
-mod Charts
+mod Networks
 mod Marks
 mod Hops
 mod ShortWords

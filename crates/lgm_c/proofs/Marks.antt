@@ -11,7 +11,7 @@ use Rattle.lgm_query.specs.Backlog.{is_among, backlog, news}
 use Rattle.lgm_c.specs.inner.Marking.{Marked, rows_at}
 use Rattle.lgm_c.specs.Writing.{all_framed}
 
--- an operation more, which is kept behind those since the mark
+-- one more operation, which is stored after those since the mark
 pub keeps_following : (map : Rows) (due since kept : List Op) (op : Op) → kept ≡ since ++ op ∷ []
     → (rows new_rows : Rows) → fold_from (fold_from map due) since ≡ rows → new_rows ≡ absorbed rows op
     → fold_from (fold_from map due) kept ≡ new_rows

@@ -1,4 +1,4 @@
--- What offering a message or a close gives.
+-- The results of offering a message or a close.
 use Rattle.std.proofs.Common.{◌≡◌, ℕ, List, Result, Ok, Err, inl, inr, refl}
 use Rattle.lgm_wire.specs.declared.chain_hash.ChainHash.{ChainHash}
 use Rattle.lgm_gossip.specs.Memory.{GivesIf, TakesMemory}
@@ -13,13 +13,13 @@ use Rattle.lgm_store.specs.Admission.{Offers, admitted}
 use Rattle.lgm_c.specs.Offering.{offered_to}
 use Rattle.lgm_c.specs.Status.{MayRunOut}
 
--- what a map gives for a message that is lawful by itself; a refusal takes no memory
+-- what a map returns for a checked message; a refusal allocates nothing
 pub offers_gives_if : (takes : Type 0) (answer admission : Result Op Refusal) → Offers answer admission
     → GivesIf (MayRunOut takes admission) refusals.NoMemory (λ op. op) answer admission
 offers_gives_if takes answer (Ok op) offers = elim offers [ inl e ↦ rw e refl | inr e ↦ rw e (inl (tt, refl)) ]
 offers_gives_if takes answer (Err refusal) offers = rw offers (inr refl)
 
--- a message that is lawful by itself, in its turn
+-- a checked message, in its turn
 pub checked_offers : (chain : ChainHash) (rows : Rows) (bytes : List ℕ) (evidence : Evidence)
     (checked : Checked) (answer : Result Op Refusal) → checked_of chain bytes evidence ≡ Ok checked
     → Offers answer (admitted rows checked) → GivesIf (MayRunOut (TakesMemory bytes) (offered_to chain rows bytes evidence)) refusals.NoMemory (λ op. op) answer

@@ -1,4 +1,4 @@
--- The machine values of a `Loose`, and of pointers. Assumes `Logic`.
+-- The machine values of a `RawBox`, and of pointers. Assumes `Logic`.
 use Rattle.std.proofs.Common.{◌≡◌, ℕ, List, [], ◌∷◌, ◌++◌, refl, subst, lit<}
 use mathlib.Core.Bool.{Bool, true, ◌&&◌}
 use lib.Dec.{T}
@@ -27,7 +27,7 @@ use Rattle.std.proofs.alloc.Calls.{Al, handle_tells}
 use Rattle.std.proofs.cell.Inside.{Good}
 use Rattle.std.specs.Box.Ownership.{box_owns}
 use Rattle.std.proofs.ResultValues.{and_tt}
-use Rattle.lgm_c.specs.contracts.loose.Loose as loose
+use Rattle.lgm_c.specs.contracts.raw_box.RawBox as loose
 use Rattle.std.specs.contracts.alloc.Global as heap
 use Rattle.std.proofs.alloc.Global.TheLaws as heap_laws
 use Rattle.std.specs.contracts.impls.GlobalAllocator.TheImpl.{ghosts}
@@ -39,8 +39,8 @@ abbrev pub both : Val → Val → Val
 both v w = vstruct (vcons v (vcons w vnil))
 
 module _ (R Z : RattleType) (L : Laws Z) (g : Ghosts Z.Denot) where
-  abbrev pub Loose : RattleType
-  Loose = loose.the_row R Z g
+  abbrev pub RawBox : RattleType
+  RawBox = loose.the_row R Z g
 
   abbrev al : Al
   al = record { row = Z; laws = L; g = g; d = impl [] tnil dnil; drops = impl [] tnil dnil }
@@ -49,11 +49,11 @@ module _ (R Z : RattleType) (L : Laws Z) (g : Ghosts Z.Denot) where
   loose_good b o h fits = (and_tt (has_ty (layout Z) h) fits.0, (tt, (fits.1, tt)))
 
   module _ {M : Type 1} {𝓤 : Ura M} {𝓛 : Logic 𝓤} {K : Type 0} {Γ : List (Item 𝓤)} {G : Goal 𝓤 𝓛.H} where
-    pub loose_out : K → (d : Loose.Denot) (vs : List Val)
+    pub loose_out : K → (d : RawBox.Denot) (vs : List Val)
         → ((b o : ℕ) (h : Val) → d.at ≡ block_ptr b o → vs ≡ both (vptr b o) h ∷ [] → Good (layout Z) h
         → Seq K 𝓛 (‵ (box_owns (g.dealloc_token d.alloc) R (block_ptr b o) d.value)
         ∷ ‵ (Z.own_val d.alloc (h ∷ [])) ∷ Γ) G)
-        → Seq K 𝓛 (‵ (Loose.own_val d vs) ∷ Γ) G
+        → Seq K 𝓛 (‵ (RawBox.own_val d vs) ∷ Γ) G
     loose_out t d vs k =
         fsplit t $ fpick t (λ vss. fsplit t $ feq_l t (λ ev. fsplit t $ feq_l t (λ ep. fsplit t $
         handle_tells al t d.alloc vss.1.0 (λ h ea fits. move t (1 ∷ []) $ drop t $ move t (1 ∷ []) $
@@ -64,7 +64,7 @@ module _ (R Z : RattleType) (L : Laws Z) (g : Ghosts Z.Denot) where
         (subst (λ (ps : List Val). vs ≡ vstruct (of_list (ps ++ (vss.1.0 ++ []))) ∷ []) ep ev))) fits)))))
 
     pub loose_in : K → (b o : ℕ) (h : Val) (a : Z.Denot) (x : R.Denot)
-        → Step K 𝓛 (‵ (Loose.own_val (record { at = block_ptr b o; alloc = a; value = x }) (both (vptr b o) h
+        → Step K 𝓛 (‵ (RawBox.own_val (record { at = block_ptr b o; alloc = a; value = x }) (both (vptr b o) h
         ∷ [])) ∷ Γ) G (‵ (box_owns (g.dealloc_token a) R (block_ptr b o) x) ∷ ‵ (Z.own_val a (h ∷ [])) ∷ Γ) G
     loose_in t b o h a x = step (λ s. let v : Val = both (vptr b o) h in
         nothing t $ move t (2 ∷ 0 ∷ []) $ fjoin t $ feq_i t (List Val) (vptr b o ∷ []) (vptr b o ∷ []) refl $
@@ -92,27 +92,27 @@ ptr_good null_ptr h fits = (and_tt (has_ty (layout Z) h) fits.0, (record { fits 
 
 -- the box of a row, taken off the heap
 module _ (R : RattleType) where
-  abbrev pub Held : RattleType
-  Held = Loose R Z heap_laws.the_row_laws ghosts
+  abbrev pub OwnedBox : RattleType
+  OwnedBox = RawBox R Z heap_laws.the_row_laws ghosts
 
   abbrev pub at_heap : Al
   at_heap = al R Z heap_laws.the_row_laws ghosts
 
   module _ {M : Type 1} {𝓤 : Ura M} {𝓛 : Logic 𝓤} {K : Type 0} {Γ : List (Item 𝓤)} {G : Goal 𝓤 𝓛.H} where
-    pub held_out : K → (d : Held.Denot) (vs : List Val)
+    pub held_out : K → (d : OwnedBox.Denot) (vs : List Val)
         → ((h : Val) → vs ≡ both (ptr_val d.at) h ∷ [] → Good (layout Z) h → Seq K 𝓛
         (‵ (box_owns (ghosts.dealloc_token d.alloc) R d.at d.value) ∷ ‵ (Z.own_val d.alloc (h ∷ [])) ∷ Γ) G)
-        → Seq K 𝓛 (‵ (Held.own_val d vs) ∷ Γ) G
+        → Seq K 𝓛 (‵ (OwnedBox.own_val d vs) ∷ Γ) G
     held_out t d vs k =
         fsplit t $ fpick t (λ vss. fsplit t $ feq_l t (λ ev. fsplit t $ feq_l t (λ ep. fsplit t $ handle_tells
         at_heap t d.alloc vss.1.0 (λ h ea fits. move t (1 ∷ []) $ drop t $ move t (1 ∷ []) $ k h
         (subst (λ (ws : List Val). vs ≡ vstruct (of_list (ptr_val d.at ∷ (ws ++ []))) ∷ []) ea
         (subst (λ (ps : List Val). vs ≡ vstruct (of_list (ps ++ (vss.1.0 ++ []))) ∷ []) ep ev)) fits))))
 
-    pub held_in : K → (p : Ptr) (h : Val) (a : Z.Denot) (x : R.Denot)
-        → Step K 𝓛 (‵ (Held.own_val (record { at = p; alloc = a; value = x }) (both (ptr_val p) h ∷ [])) ∷ Γ) G
+    pub state_in : K → (p : Ptr) (h : Val) (a : Z.Denot) (x : R.Denot)
+        → Step K 𝓛 (‵ (OwnedBox.own_val (record { at = p; alloc = a; value = x }) (both (ptr_val p) h ∷ [])) ∷ Γ) G
         (‵ (box_owns (ghosts.dealloc_token a) R p x) ∷ ‵ (Z.own_val a (h ∷ [])) ∷ Γ) G
-    held_in t p h a x = step (λ s. let v : Val = both (ptr_val p) h in
+    state_in t p h a x = step (λ s. let v : Val = both (ptr_val p) h in
         nothing t $ move t (2 ∷ 0 ∷ []) $ fjoin t $ feq_i t (List Val) (ptr_val p ∷ []) (ptr_val p ∷ []) refl $
         fjoin t $ feq_i t (List Val) (v ∷ []) (v ∷ []) refl $ fjoin t $
         fpack t (Valss (RawPtr ∷ Z ∷ [])) (within (shape (loose.the_type R Z ghosts)) (p, (a, tt)) (v ∷ []))

@@ -15,7 +15,7 @@ sig_of number signer =
     else if number == 3 then Some sigs.Nobody
     else None
 
--- on a funding output, which may hold this many satoshi
+-- on a funding output, which may have this many satoshi
 abbrev pub funding_of : ℕ → ℕ → Option Funding
 funding_of number sat =
     if number == 0 then Some fundings.NotAsked

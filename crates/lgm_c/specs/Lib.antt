@@ -1,4 +1,4 @@
-pub mod Held
+pub mod MapState
 pub mod Status
 pub mod Writing
 pub mod Evidence

@@ -5,9 +5,9 @@ use Rattle.lgm_check.specs.declared.row.UpdateRow.{UpdateRow}
 use Rattle.lgm_check.specs.declared.row.NodeRow.{NodeRow}
 use Rattle.lgm_check.specs.declared.refusal.Refusal.TheVariants as refusals
 use Rattle.lgm_store.specs.Rows.{Rows, channel_of, update_of, node_of}
-use Rattle.lgm_c.specs.declared.looking.LgmDirection.{LgmDirection}
-use Rattle.lgm_c.specs.declared.looking.LgmChannel.{LgmChannel}
-use Rattle.lgm_c.specs.declared.looking.LgmNode.{LgmNode}
+use Rattle.lgm_c.specs.declared.lookups.LgmDirection.{LgmDirection}
+use Rattle.lgm_c.specs.declared.lookups.LgmChannel.{LgmChannel}
+use Rattle.lgm_c.specs.declared.lookups.LgmNode.{LgmNode}
 use Rattle.lgm_c.specs.declared.fault.Fault.{Fault}
 use Rattle.lgm_c.specs.declared.fault.Fault.TheVariants as faults
 use Rattle.lgm_c.specs.Status.{number_of}

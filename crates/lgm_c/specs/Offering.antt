@@ -1,4 +1,4 @@
--- What offering a message or a close does to what a handle holds.
+-- What offering a message or a close does to the state of a handle.
 use Rattle.std.specs.Prelude.{◌≡◌, ◌⊎◌, ℕ, List, Option, Some, None, Result, Ok, Err}
 use Rattle.lgm_wire.specs.reading.Reading.{◌>>=◌}
 use Rattle.lgm_wire.specs.declared.chain_hash.ChainHash.{ChainHash}
@@ -11,37 +11,37 @@ use Rattle.lgm_store.specs.Rows.{Rows}
 use Rattle.lgm_store.specs.Admission.{admitted, admitted_close}
 use Rattle.lgm_store.specs.History.{absorbed}
 use Rattle.lgm_c.specs.declared.fault.Fault.TheVariants as faults
-use Rattle.lgm_c.specs.Held.{Held, next_version}
+use Rattle.lgm_c.specs.MapState.{MapState, next_version}
 use Rattle.lgm_c.specs.Status.{number_of, no_memory, refused, MayRunOut}
 
 -- the operation of a message on these rows, or its first refusal
 abbrev pub offered_to : ChainHash → Rows → List ℕ → Evidence → Result Op Refusal
 offered_to chain rows bytes evidence = checked_of chain bytes evidence >>= admitted rows
 
--- what is held after an outcome: its operation was applied and counted, and nothing else changed
-abbrev pub held_behind : Held → Result Op Refusal → Held
-held_behind held (Ok op) = record held { rows = absorbed held.rows op; version = next_version held.version }
-held_behind held (Err refusal) = held
+-- the state after an outcome: its operation was applied and counted, and nothing else changed
+abbrev pub state_behind : MapState → Result Op Refusal → MapState
+state_behind state (Ok op) = record state { rows = absorbed state.rows op; version = next_version state.version }
+state_behind state (Err refusal) = state
 
 abbrev pub outcome_number : Result Op Refusal → ℕ
 outcome_number (Ok op) = 0
 outcome_number (Err refusal) = number_of (refused refusal)
 
 -- a call returns the number of the outcome and applies it; or it runs out of memory and changes nothing
-abbrev pub Does : Type 0 → Result Op Refusal → Held → ℕ → Option Held → Type 0
+abbrev pub Does : Type 0 → Result Op Refusal → MapState → ℕ → Option MapState → Type 0
 Does takes outcome old status new =
-    ((status ≡ outcome_number outcome) × (new ≡ Some (held_behind old outcome)))
+    ((status ≡ outcome_number outcome) × (new ≡ Some (state_behind old outcome)))
     ⊎ (MayRunOut takes outcome × (status ≡ no_memory) × (new ≡ Some old))
 
--- a message is offered to a handle, with the verdicts on it if the numbers stand for some; a refusal is returned even if
--- memory is short, unless decoding the message takes memory
-abbrev pub Offers : List ℕ → Option Evidence → ℕ → Option Held → Option Held → Type 0
+-- a message is offered to a handle, with the verdicts on it if the numbers stand for some; a refusal is returned even
+-- if memory is short, unless decoding the message allocates
+abbrev pub Offers : List ℕ → Option Evidence → ℕ → Option MapState → Option MapState → Type 0
 Offers bytes evidence status None new = (status ≡ number_of faults.Closed) × (new ≡ None)
 Offers bytes None status (Some old) new = (status ≡ number_of faults.Argument) × (new ≡ Some old)
 Offers bytes (Some evidence) status (Some old) new =
     Does (TakesMemory bytes) (offered_to old.chain old.rows bytes evidence) old status new
 
--- a channel is closed; a refusal takes no memory
-abbrev pub Closes : ℕ → ℕ → Option Held → Option Held → Type 0
+-- a channel is closed; a refusal allocates nothing
+abbrev pub Closes : ℕ → ℕ → Option MapState → Option MapState → Type 0
 Closes id status None new = (status ≡ number_of faults.Closed) × (new ≡ None)
 Closes id status (Some old) new = Does ⊥ (admitted_close old.rows id) old status new

@@ -10,9 +10,9 @@ use Rattle.lgm_route.specs.declared.route.Hop.{Hop}
 use Rattle.lgm_route.specs.declared.fault.RouteFault.{RouteFault}
 use Rattle.lgm_route.specs.declared.fault.RouteFault.TheVariants as reasons
 use Rattle.lgm_payload.specs.Building.{payloads_of}
-use Rattle.lgm_c.specs.declared.routing.LgmPayment.{LgmPayment}
-use Rattle.lgm_c.specs.declared.routing.LgmHop.{LgmHop}
-use Rattle.lgm_c.specs.declared.routing.LgmLengths.{LgmLengths}
+use Rattle.lgm_c.specs.declared.routes.LgmPayment.{LgmPayment}
+use Rattle.lgm_c.specs.declared.routes.LgmHop.{LgmHop}
+use Rattle.lgm_c.specs.declared.routes.LgmLengths.{LgmLengths}
 use Rattle.lgm_c.specs.declared.fault.Fault.{Fault}
 use Rattle.lgm_c.specs.declared.fault.Fault.TheVariants as faults
 use Rattle.lgm_c.specs.Status.{number_of, no_memory, unrouted}

@@ -46,7 +46,7 @@ abbrev pub unrouted : RouteFault → Fault
 unrouted reasons.NoMemory = faults.NoMemory
 unrouted reason = faults.Unrouted reason
 
--- whether a call may run out of memory: one that succeeds may, one that returns a fault only if finding it takes memory
+-- whether a call may run out of memory: one that succeeds may, one that returns a fault only if finding it allocates
 abbrev pub MayRunOut : {A E : Type 0} → Type 0 → Result A E → Type 0
 MayRunOut takes (Ok answer) = Unit {0}
 MayRunOut takes (Err fault) = takes
@@ -59,7 +59,7 @@ status_of (Err fault) = number_of fault
 -- the answer of an open handle; a closed one has only its fault
 abbrev pub if_open : {H A : Type 0} → Option H → (H → Result A Fault) → Result A Fault
 if_open None answer = Err faults.Closed
-if_open (Some held) answer = answer held
+if_open (Some state) answer = answer state
 
 -- a value was written, or the fault was returned and the old value is unchanged
 abbrev pub Finds : {A : Type 0} → Result A Fault → ℕ → A → A → Type 0

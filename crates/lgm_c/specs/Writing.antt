@@ -1,4 +1,4 @@
--- What the caller's buffers hold after a call.
+-- The contents of the caller's buffers after a call.
 use Rattle.std.specs.Prelude.{◌≡◌, ◌⊎◌, ℕ, ◌<◌, List, ◌++◌, length, drop, Option, Some, None, Result, Ok, Err}
 use Rattle.std.specs.Int.{w64, to_le_bytes}
 use Rattle.std.specs.List.{flat_map}
@@ -40,7 +40,7 @@ Writes (Ok bytes) status old new = IsWritten bytes status old new
 Writes (Err fault) status old new = (status ≡ number_of fault) × (new ≡ old)
 
 -- the same for the answer to a message, or out of memory; a fault is returned even if memory is short, unless decoding
--- the message takes memory
+-- the message allocates
 abbrev pub WritesAnswer : List ℕ → Result (List ℕ) Fault → ℕ → Buffer → Buffer → Type 0
 WritesAnswer message answer status old new =
     Writes answer status old new ⊎ (MayRunOut (TakesMemory message) answer × (status ≡ no_memory) × (new ≡ old))
@@ -48,4 +48,4 @@ WritesAnswer message answer status old new =
 -- a handle answers a message; a closed one has only its fault
 abbrev pub Answers : {H : Type 0} → List ℕ → Option H → (H → Result (List ℕ) Fault) → ℕ → Buffer → Buffer → Type 0
 Answers message None answer status old new = Writes (Err faults.Closed) status old new
-Answers message (Some held) answer status old new = WritesAnswer message (answer held) status old new
+Answers message (Some state) answer status old new = WritesAnswer message (answer state) status old new

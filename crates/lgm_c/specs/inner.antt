@@ -1,6 +1,6 @@
 -- Definitions for contracts inside the crate.
 pub mod Handle
 pub mod SnapshotHandle
-pub mod Charts
+pub mod Networks
 pub mod Marking
 pub mod Following

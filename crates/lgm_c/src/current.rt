@@ -3,16 +3,16 @@
 ghost use Rattle.std.specs.Prelude.{◌≡◌, IfOk, OnErr};
 ghost use Rattle.lgm_gossip.specs.Memory.{GivesIf, TakesMemory};
 ghost use Rattle.lgm_store.specs.Admission.{Offers, admitted_close};
-ghost use Rattle.lgm_c.specs.inner.Charts.{chart_of, counted, counted_behind};
+ghost use Rattle.lgm_c.specs.inner.Networks.{network_rows, counted, counted_behind};
 ghost use Rattle.lgm_c.specs.Offering.{offered_to};
 ghost use Rattle.lgm_c.specs.Routing.{route_for, IsSearched};
 ghost use Rattle.lgm_c.specs.Status.{MayRunOut};
 
 use crate::edition::Edition;
 use crate::fault::Fault;
-use crate::judging::offer;
-use crate::searching::{is_searched, search};
+use crate::search::{is_searched, search};
 use crate::turns::Turns;
+use crate::verdict::offer;
 use lgm_check::{Evidence, Refusal};
 use lgm_gossip::{ChainHash, Scid};
 use lgm_graph::Network;
@@ -31,13 +31,13 @@ pub struct Current {
 }
 
 impl Model for Current {
-    ghost use Rattle.lgm_c.specs.inner.Charts.{Counted, counted, chart_of, IsAt};
+    ghost use Rattle.lgm_c.specs.inner.Networks.{Counted, counted, network_rows, IsAt};
 
     ghost Value = { Counted };
 
     ghost view = { λ c. counted c.network c.version };
 
-    ghost invariant = { λ c. IsAt c.turns (chart_of c.network) };
+    ghost invariant = { λ c. IsAt c.turns (network_rows c.network) };
 }
 
 impl Current {
@@ -52,8 +52,8 @@ impl Current {
         }
     }
 
-    /// Offers a message, with the verdicts on it, and returns its operation. A refusal or out of memory leaves the map as
-    /// it was.
+    /// Offers a message, with the verdicts on it, and returns its operation. A refusal or out of memory leaves the map
+    /// unchanged.
     pub(crate) fn offer(
         &mut self,
         alloc: Global,
@@ -76,7 +76,7 @@ impl Current {
         Ok(op)
     }
 
-    /// Closes a channel, and returns the operation. A refusal or out of memory leaves the map as it was.
+    /// Closes a channel, and returns the operation. A refusal or out of memory leaves the map unchanged.
     pub(crate) fn close(&mut self, alloc: Global, scid: Scid) -> Result<Op, Refusal>
         ensures admission { Offers result (admitted_close self.old.rows scid) }
         ensures accepted { IfOk result (λ op. self.new ≡ counted_behind self.old op) }
@@ -118,7 +118,7 @@ impl Current {
     /// A copy of the map, without a view. The only error is out of memory.
     pub(crate) fn copy_network(&self, alloc: Global) -> Result<Network, AllocError>
         ensures { IfOk result
-            (λ copy. chart_of copy ≡ record { known = self.now.known; rows = self.now.rows }) }
+            (λ copy. network_rows copy ≡ record { known = self.now.known; rows = self.now.rows }) }
     {
         self.network.copy(alloc)
     }

@@ -2,11 +2,11 @@
 
 ghost use Rattle.std.specs.Prelude.{◌≡◌, IfOk, IfSome};
 ghost use Rattle.lgm_gossip.specs.Memory.{GivesIf};
-ghost use Rattle.lgm_c.specs.inner.Charts.{chart_of};
+ghost use Rattle.lgm_c.specs.inner.Networks.{network_rows};
 ghost use Rattle.lgm_c.specs.Routing.{route_for, IsSearched};
 
 use crate::fault::Fault;
-use crate::searching::{is_searched, search};
+use crate::search::{is_searched, search};
 use lgm_graph::{MAX_CHANNELS, Network};
 use lgm_route::{Request, Route};
 use lgm_store::Map;
@@ -14,8 +14,8 @@ use std::alloc::{AllocError, Global};
 use std::marker::Model;
 use std::sync::Arc;
 
-/// A network with several owners, none of which changes it. It has its view, unless it has more than 2,000,000,000
-/// channels. Contracts see the known feature bits and the rows.
+/// A reference-counted network, which never changes. It has its view, unless it has more than 2,000,000,000 channels.
+/// Contracts see the known feature bits and the rows.
 #[derive(Drop)]
 pub struct Edition {
     network: Arc<Network>,
@@ -23,11 +23,11 @@ pub struct Edition {
 
 impl Model for Edition {
     ghost use Rattle.std.specs.Arc.{arc_value};
-    ghost use Rattle.lgm_c.specs.inner.Charts.{Chart, chart_of, IsReady};
+    ghost use Rattle.lgm_c.specs.inner.Networks.{NetworkRows, network_rows, IsReady};
 
-    ghost Value = { Chart };
+    ghost Value = { NetworkRows };
 
-    ghost view = { λ e. chart_of (arc_value e.network) };
+    ghost view = { λ e. network_rows (arc_value e.network) };
 
     ghost invariant = { λ e. IsReady (arc_value e.network) };
 }
@@ -35,7 +35,7 @@ impl Model for Edition {
 impl Edition {
     /// A network, with one owner so far. Its view is built, unless it has one. The only error is out of memory.
     pub(crate) fn of(alloc: Global, mut network: Network) -> Result<Edition, AllocError>
-        ensures { IfOk result (λ edition. edition ≡ chart_of network) }
+        ensures { IfOk result (λ edition. edition ≡ network_rows network) }
     {
         if network.map().count() <= MAX_CHANNELS {
             network.make_view(alloc)?;
@@ -47,7 +47,7 @@ impl Edition {
 
     /// A copy of a network, which shares its messages. The only error is out of memory.
     pub(crate) fn copy(alloc: Global, network: &Network) -> Result<Edition, AllocError>
-        ensures { IfOk result (λ edition. edition ≡ chart_of network.now) }
+        ensures { IfOk result (λ edition. edition ≡ network_rows network.now) }
     {
         Edition::of(alloc, network.copy(alloc)?)
     }
@@ -61,9 +61,9 @@ impl Edition {
         })
     }
 
-    /// The network, if this was its last owner. Otherwise the others go on with it.
+    /// The network, if this was its last owner. Otherwise the others keep it.
     pub(crate) fn into_network(self) -> Option<Network>
-        ensures { IfSome result (λ network. chart_of network ≡ self) }
+        ensures { IfSome result (λ network. network_rows network ≡ self) }
     {
         Arc::into_inner(self.network)
     }

@@ -7,7 +7,7 @@ use lgm_check::{Evidence, Funding, Sig};
 use lgm_gossip::Point;
 
 /// The verdicts that the numbers stand for, if any: on the signatures, of which one may be the signer's, and on the
-/// funding output, which may hold this many satoshi.
+/// funding output, which may have this many satoshi.
 pub(crate) fn evidence(sig: u32, signer: &[u8; 33], funding: u32, sat: u64) -> Option<Evidence>
     ensures { result ≡ evidence_of sig signer.now funding sat }
 {

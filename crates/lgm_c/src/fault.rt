@@ -10,8 +10,8 @@ use lgm_query::RequestFault;
 use lgm_route::RouteFault;
 use std::alloc::AllocError;
 
-/// Why a call failed. It left the map unchanged, and the buffers that it was to write to but for what comes with `Room`:
-/// the lengths, and the node.
+/// Why a call failed. It left the map unchanged, and the buffers that it was to write to but for what comes with
+/// `Room`: the lengths, and the node.
 #[derive(Clone, Copy, Debug, PartialEq, Eq)]
 pub(crate) enum Fault {
     /// 1 to 16: an item was refused.

@@ -1,10 +1,10 @@
 //! A pointer that C stores.
 
 ghost use Rattle.std.specs.Prelude.{◌≡◌, Some, None, Option, is_some, true};
-ghost use Rattle.lgm_c.specs.Held.{Held};
+ghost use Rattle.lgm_c.specs.MapState.{MapState};
 
-use crate::inner::Inner;
-use crate::loose::Loose;
+use crate::raw_box::RawBox;
+use crate::state::State;
 use std::alloc::Global;
 use std::marker::Model;
 
@@ -13,7 +13,7 @@ use std::marker::Model;
 #[derive(Drop)]
 pub struct Handle {
     at: *mut u8,
-    ghost value: { Option Held },
+    ghost value: { Option MapState },
 }
 
 impl Model for Handle {
@@ -24,10 +24,10 @@ impl Model for Handle {
 
 impl Handle {
     /// The pointer to a box.
-    pub(crate) fn of(loose: Loose<Inner, Global>) -> Handle
+    pub(crate) fn of(loose: RawBox<State, Global>) -> Handle
         ensures { result.value ≡ Some loose.value }
     {
-        let Loose { at, alloc: _ } = loose;
+        let RawBox { at, alloc: _ } = loose;
         Handle { at: at as *mut u8 }
     }
 
@@ -41,13 +41,13 @@ impl Handle {
     }
 
     /// The box that a pointer that isn't null points to.
-    pub(crate) fn into_loose(self, alloc: Global) -> Loose<Inner, Global>
+    pub(crate) fn into_loose(self, alloc: Global) -> RawBox<State, Global>
         requires { is_some self.value ≡ true }
         ensures { Some result.value ≡ self.value }
     {
         let Handle { at } = self;
-        Loose {
-            at: at as *mut Inner,
+        RawBox {
+            at: at as *mut State,
             alloc,
         }
     }

@@ -3,7 +3,7 @@
 ghost use Rattle.std.specs.Prelude.{◌≡◌, Some, None, is_some};
 ghost use Rattle.std.specs.Option.{option_map};
 
-use crate::loose::Loose;
+use crate::raw_box::RawBox;
 use crate::snapshot::Snapshot;
 use crate::snapshot_handle::SnapshotHandle;
 use std::alloc::Global;
@@ -35,7 +35,7 @@ impl LgmSnapshot {
     {
         LgmSnapshot {
             is_open: true,
-            handle: SnapshotHandle::of(Loose::of(snapshot)),
+            handle: SnapshotHandle::of(RawBox::of(snapshot)),
         }
     }
 

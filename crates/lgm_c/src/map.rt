@@ -4,8 +4,8 @@ ghost use Rattle.std.specs.Prelude.{◌≡◌, Some, None, is_some};
 ghost use Rattle.std.specs.Option.{option_map};
 
 use crate::handle::Handle;
-use crate::inner::Inner;
-use crate::loose::Loose;
+use crate::raw_box::RawBox;
+use crate::state::State;
 use std::alloc::Global;
 use std::mem::replace;
 
@@ -30,17 +30,17 @@ impl LgmMap {
     }
 
     /// An open handle of a map.
-    pub(crate) fn open(inner: Box<Inner>) -> LgmMap
+    pub(crate) fn open(inner: Box<State>) -> LgmMap
         ensures { result.handle.value ≡ Some inner.value }
     {
         LgmMap {
             is_open: true,
-            handle: Handle::of(Loose::of(inner)),
+            handle: Handle::of(RawBox::of(inner)),
         }
     }
 
     /// Takes the map out, if there is one, and closes the handle.
-    pub(crate) fn take(&mut self, alloc: Global) -> Option<Box<Inner>>
+    pub(crate) fn take(&mut self, alloc: Global) -> Option<Box<State>>
         ensures left { self.new.handle.value ≡ None }
         ensures taken { option_map (λ inner. inner.value) result ≡ self.old.handle.value }
     {

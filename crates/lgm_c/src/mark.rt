@@ -1,4 +1,4 @@
-//! Marks: news is what came since the mark.
+//! Marks: news are relative to them.
 
 ghost use Rattle.std.specs.Prelude.{◌≡◌, IfOk, OnOk, OnErr};
 ghost use Rattle.lgm_gossip.specs.Memory.{TakesMemory};
@@ -9,12 +9,12 @@ ghost use Rattle.lgm_c.specs.inner.Following.{Follows};
 ghost use Rattle.lgm_c.specs.Writing.{all_framed};
 
 use crate::current::Current;
-use crate::framing::frame;
-use crate::judging::refusal_without_memory;
+use crate::frames::frame;
+use crate::verdict::refusal_without_memory;
 use lgm_check::{Evidence, Refusal};
 use lgm_gossip::{ChainHash, Scid};
 use lgm_graph::{Network, Replica};
-use lgm_query::{Changes, Differences, Filter};
+use lgm_query::{Filter, MapDiff, TouchedKeys};
 use lgm_store::{Map, Op};
 use std::alloc::{AllocError, Global};
 use std::collections::VecDeque;
@@ -50,7 +50,7 @@ impl Mark {
         }
     }
 
-    /// Offers a message to the current map, and keeps its operation. A refusal or out of memory changes neither.
+    /// Offers a message to the current map, and stores its operation. A refusal or out of memory changes neither.
     pub(crate) fn offer(
         &mut self,
         alloc: Global,
@@ -73,7 +73,7 @@ impl Mark {
         Ok(())
     }
 
-    /// Closes a channel of the current map, and keeps the operation.
+    /// Closes a channel of the current map, and stores the operation.
     pub(crate) fn close(
         &mut self,
         alloc: Global,
@@ -116,10 +116,10 @@ impl Mark {
             written.items ≡ all_framed (news self.old.marked map.now filter.now)) }
     {
         self.replica.catch_up()?;
-        let changes = Changes::of(alloc, &self.since)?;
-        let differences = Differences::between(alloc, self.replica.network.map(), map, &changes)?;
+        let changes = TouchedKeys::of(alloc, &self.since)?;
+        let map_diff = MapDiff::between(alloc, self.replica.network.map(), map, &changes)?;
         let mut written = Vec::new(alloc);
-        for message in differences.news(filter) {
+        for message in map_diff.news(filter) {
             frame(&mut written, message)?;
         }
         Ok(written)

@@ -22,7 +22,7 @@ pub struct Snapshot {
 
 impl Model for Snapshot {
     ghost use Rattle.lgm_c.specs.Published.{Published};
-    ghost use Rattle.lgm_c.specs.inner.Charts.{published_as};
+    ghost use Rattle.lgm_c.specs.inner.Networks.{published_as};
 
     ghost Value = { Published };
 

@@ -1,10 +1,10 @@
-//! The pointer of a snapshot, which C stores. It has the form of [`Handle`](crate::handle::Handle): no struct that crosses
-//! to C is generic.
+//! The pointer of a snapshot, which C stores. It has the form of [`Handle`](crate::handle::Handle): no struct that
+//! crosses to C is generic.
 
 ghost use Rattle.std.specs.Prelude.{◌≡◌, Some, None, Option, is_some, true};
 ghost use Rattle.lgm_c.specs.Published.{Published};
 
-use crate::loose::Loose;
+use crate::raw_box::RawBox;
 use crate::snapshot::Snapshot;
 use std::alloc::Global;
 use std::marker::Model;
@@ -25,10 +25,10 @@ impl Model for SnapshotHandle {
 
 impl SnapshotHandle {
     /// The pointer to a box.
-    pub(crate) fn of(loose: Loose<Snapshot, Global>) -> SnapshotHandle
+    pub(crate) fn of(loose: RawBox<Snapshot, Global>) -> SnapshotHandle
         ensures { result.value ≡ Some loose.value }
     {
-        let Loose { at, alloc: _ } = loose;
+        let RawBox { at, alloc: _ } = loose;
         SnapshotHandle { at: at as *mut u8 }
     }
 
@@ -42,12 +42,12 @@ impl SnapshotHandle {
     }
 
     /// The box that a pointer that isn't null points to.
-    pub(crate) fn into_loose(self, alloc: Global) -> Loose<Snapshot, Global>
+    pub(crate) fn into_loose(self, alloc: Global) -> RawBox<Snapshot, Global>
         requires { is_some self.value ≡ true }
         ensures { Some result.value ≡ self.value }
     {
         let SnapshotHandle { at } = self;
-        Loose {
+        RawBox {
             at: at as *mut Snapshot,
             alloc,
         }

@@ -3,11 +3,11 @@
 
 mod snapshots;
 
-use crate::asking::{lgm_filter, lgm_mark, lgm_news, lgm_query};
-use crate::looking::{LgmChannel, LgmDirection, LgmNode, lgm_channel, lgm_count, lgm_node};
+use crate::lookups::{LgmChannel, LgmDirection, LgmNode, lgm_channel, lgm_count, lgm_node};
 use crate::map::LgmMap;
-use crate::offering::{lgm_close_channel, lgm_free, lgm_offer, lgm_open};
-use crate::routing::{LgmHop, LgmLengths, LgmPayment, lgm_route};
+use crate::offers::{lgm_close_channel, lgm_free, lgm_offer, lgm_open};
+use crate::queries::{lgm_filter, lgm_mark, lgm_news, lgm_query};
+use crate::routes::{LgmHop, LgmLengths, LgmPayment, lgm_route};
 use crate::words::{lgm_version, lgm_word};
 use std::alloc::{AllocError, Global};
 use std::test::Fail;

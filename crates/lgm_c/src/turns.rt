@@ -1,7 +1,7 @@
 //! Networks that take turns to be published.
 
 ghost use Rattle.std.specs.Prelude.{◌≡◌, [], ◌∷◌, IfOk, IfSome};
-ghost use Rattle.lgm_c.specs.inner.Charts.{chart_of, chart_behind, IsAt};
+ghost use Rattle.lgm_c.specs.inner.Networks.{network_rows, rows_behind, IsAt};
 
 use crate::edition::Edition;
 use lgm_graph::{Network, Replica};
@@ -10,7 +10,7 @@ use std::alloc::{AllocError, Global};
 use std::collections::VecDeque;
 use std::marker::Model;
 
-/// A published network, and the operations that were applied to the current map since. Contracts see what it has once
+/// A published network, and the operations that were applied to the current map since. Contracts see its rows once
 /// they are applied to it.
 #[derive(Drop)]
 pub struct Behind {
@@ -19,11 +19,11 @@ pub struct Behind {
 }
 
 impl Model for Behind {
-    ghost use Rattle.lgm_c.specs.inner.Charts.{Chart, chart_behind};
+    ghost use Rattle.lgm_c.specs.inner.Networks.{NetworkRows, rows_behind};
 
-    ghost Value = { Chart };
+    ghost Value = { NetworkRows };
 
-    ghost view = { λ b. chart_behind b.edition b.due.items };
+    ghost view = { λ b. rows_behind b.edition b.due.items };
 }
 
 impl Behind {
@@ -39,14 +39,14 @@ impl Behind {
 
     /// With one more operation that is due. The only error is out of memory.
     fn noted(self, alloc: Global, op: &Op) -> Result<Behind, AllocError>
-        ensures { IfOk result (λ behind. behind ≡ chart_behind self (op.now ∷ [])) }
+        ensures { IfOk result (λ behind. behind ≡ rows_behind self (op.now ∷ [])) }
     {
         let Behind { edition, mut due } = self;
         due.push_back(op.copy(alloc)?)?;
         Ok(Behind { edition, due })
     }
 
-    /// The network after what is due, if nobody else owns it, and memory lasts.
+    /// The network after what is due is applied, if it has no other owner and memory suffices.
     fn caught_up(self, alloc: Global) -> Option<Edition>
         ensures { IfSome result (λ edition. edition ≡ self) }
     {
@@ -66,8 +66,8 @@ fn next_edition(
     older: Option<Behind>,
     network: &Network,
 ) -> Result<Edition, AllocError>
-    requires { IsAt older (chart_of network.now) }
-    ensures { IfOk result (λ edition. edition ≡ chart_of network.now) }
+    requires { IsAt older (network_rows network.now) }
+    ensures { IfOk result (λ edition. edition ≡ network_rows network.now) }
 {
     if let Some(behind) = older {
         if let Some(edition) = behind.caught_up(alloc) {
@@ -78,7 +78,7 @@ fn next_edition(
 }
 
 /// The network that was published last, and the one before, if there is one: each is behind the current one by the
-/// operations that are due to it. Contracts see what both have once these are applied.
+/// operations that are due to it. Contracts see the rows of both once these are applied.
 #[derive(Drop)]
 pub struct Turns {
     latest: Behind,
@@ -86,9 +86,9 @@ pub struct Turns {
 }
 
 impl Model for Turns {
-    ghost use Rattle.lgm_c.specs.inner.Charts.{Chart, IsAt};
+    ghost use Rattle.lgm_c.specs.inner.Networks.{NetworkRows, IsAt};
 
-    ghost Value = { Chart };
+    ghost Value = { NetworkRows };
 
     ghost view = { λ t. t.latest };
 
@@ -96,10 +96,10 @@ impl Model for Turns {
 }
 
 impl Turns {
-    /// The first network that is published, with an owner more. The only error is out of memory.
+    /// The first network that is published, with one more owner. The only error is out of memory.
     pub(crate) fn begin(alloc: Global, network: &Network) -> Result<(Turns, Edition), AllocError>
         ensures { IfOk result (λ both.
-            (both.0 ≡ chart_of network.now) × (both.1 ≡ chart_of network.now)) }
+            (both.0 ≡ network_rows network.now) × (both.1 ≡ network_rows network.now)) }
     {
         let latest = Edition::copy(alloc, network)?;
         let edition = latest.share()?;
@@ -110,16 +110,16 @@ impl Turns {
         Ok((turns, edition))
     }
 
-    /// The next network that is published, with an owner more: the last one, if nothing is due to it. The only error is
-    /// out of memory.
+    /// The next network that is published, with one more owner: the last one, if nothing is due to it. The only error
+    /// is out of memory.
     pub(crate) fn next(
         self,
         alloc: Global,
         network: &Network,
     ) -> Result<(Turns, Edition), AllocError>
-        requires { self ≡ chart_of network.now }
+        requires { self ≡ network_rows network.now }
         ensures { IfOk result (λ both.
-            (both.0 ≡ chart_of network.now) × (both.1 ≡ chart_of network.now)) }
+            (both.0 ≡ network_rows network.now) × (both.1 ≡ network_rows network.now)) }
     {
         let Turns { latest, older } = self;
         if latest.due.is_empty() {
@@ -136,9 +136,9 @@ impl Turns {
     }
 
     /// With one more operation that is due to both; none if memory is short, or if more are due than the current map
-    /// has channels: then a copy of that one is made faster.
+    /// has channels: then a copy is faster.
     pub(crate) fn noted(self, alloc: Global, op: &Op, channels: usize) -> Option<Turns>
-        ensures { IfSome result (λ turns. turns ≡ chart_behind self (op.now ∷ [])) }
+        ensures { IfSome result (λ turns. turns ≡ rows_behind self (op.now ∷ [])) }
     {
         let Turns { latest, older } = self;
         if channels < latest.due.len() {

@@ -3,7 +3,7 @@
 ghost use Rattle.std.specs.Prelude.{◌≡◌};
 ghost use Rattle.lgm_c.specs.Words.{refusal_at, reason_at, word_of_call, word_at, padded};
 
-use crate::writing::copy_in_front;
+use crate::output::copy_in_front;
 use lgm_check::Refusal;
 use lgm_route::RouteFault;
 
@@ -78,8 +78,8 @@ fn word_at(number: u32) -> &'static str
     }
 }
 
-/// The word of a number that a call returned, padded with zeros. 13 has the word `conflict`; any other number that no call
-/// returns has the empty word.
+/// The word of a number that a call returned, padded with zeros. 13 has the word `conflict`; any other number that no
+/// call returns has the empty word.
 #[unsafe(no_mangle)]
 pub extern "C" fn lgm_word(number: u32, word: &mut [u8; 24])
     ensures { word.new ≡ padded (word_at number) }

@@ -1,4 +1,4 @@
--- What passes the tests in their order is what an accepted message is, and the other way round.
+-- A message passes the tests in their order if and only if it is to be accepted.
 use Rattle.std.proofs.Common.{◌≡◌, ℕ, ◌/◌, ◌%◌, ◌≤◌, Bool, true, false, List, Result, Ok, Err, not, refl, sym, ap, subst, ◌∙◌, arith, inl, inr}
 use Rattle.std.specs.Prelude.{nat_eq, nat_le, if◌then◌else◌, IfOk, MatchResult, IsTrue}
 use Rattle.std.specs.Cmp.Lexicographic.{pointwise, bytes_decides}
@@ -39,7 +39,7 @@ Step = Result Checked Refusal
 
 -- ---- the steps of a check that did not refuse
 
--- a test that held, and what came of the rest
+-- a test that succeeded, and the result of the rest
 passed : (holds : Bool) (refusal : Refusal) (rest : Step) (made : Checked)
     → (require holds refusal >>= λ _. rest) ≡ Ok made → IsTrue holds × (rest ≡ Ok made)
 passed true refusal rest made e = (refl, e)
@@ -234,7 +234,7 @@ is_only asks chain bytes evidence (Err refusal) made given is =
       | inr other ↦ let bad = sym other ∙ only chain bytes evidence made is in absurd cc
     ]
 
--- what was returned as a row is one to be accepted
+-- a row that was returned is to be accepted
 pub is_accepted : {X : Type 0} (asks : Type 0) (chain : ChainHash) (bytes : List ℕ) (evidence : Evidence) (view : X → Checked) (r : Result X Refusal)
     → IsBytes bytes → GivesIf asks refusals.NoMemory view r (checked_of chain bytes evidence)
     → IfOk r (λ x. IsAccepted chain bytes evidence (view x))

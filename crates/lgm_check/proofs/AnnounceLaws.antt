@@ -1,4 +1,4 @@
--- A channel_announcement is read at its places.
+-- A channel_announcement is read at its offsets.
 use Rattle.std.proofs.Common.{◌≡◌, ℕ, ◌+◌, ◌≤◌, List, length, drop, refl, sym, ap, subst, ◌∙◌, arith}
 use Rattle.std.specs.Int.{w16, w64, to_be_bytes}
 use Rattle.std.proofs.lemmas.List.{drop_at}
@@ -31,7 +31,7 @@ read m raw text =
     let known : announce_with n raw ≡ m = rw (a.is, b.is, c.is, d.is, e.is, f.is, g.is, h.is, i.is, j.is, k.is, k.behind) refl in
     record { long = rw e.len (k.long (omega arith)); is = ap (λ (len : ℕ). announce_with len raw) e.len ∙ known }
 
--- bytes that spell one spell that of their places
+-- bytes that encode one encode the one read at their offsets
 pub spelled_in : (m : Announce) (raw : List ℕ) → Wire (messages.Announce m) raw → IsAnnounce raw × (announce_in raw ≡ m)
 spelled_in m raw wire =
     let body : drop 2 raw ≡ wire.body = ap (drop 2) wire.whole ∙ drop_at (to_be_bytes w16 256) wire.body 2 refl in

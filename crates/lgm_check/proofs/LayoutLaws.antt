@@ -32,7 +32,7 @@ use Rattle.lgm_check.proofs.AnnounceLaws as announces
 use Rattle.lgm_check.proofs.UpdateLaws as updates
 use Rattle.lgm_check.proofs.NodeLaws as nodes
 
--- ---- a field at an offset, where the bytes go on behind it
+-- ---- a field at an offset, with more bytes after it
 
 reads : {M : Type 0} (others : List ℕ → List ℕ → Result M DecodeFault) (n i j : ℕ) (raw : List ℕ) → i + n ≡ j → j ≤ length raw
     → read_on (fixed_at n) others (drop i raw) ≡ others (part i n raw) (drop j raw)

@@ -1,4 +1,4 @@
--- A node_announcement is read at its places.
+-- A node_announcement is read at its offsets.
 use Rattle.std.proofs.Common.{◌≡◌, ℕ, ◌+◌, ◌≤◌, List, length, drop, refl, sym, ap, subst, ◌∙◌, arith}
 use Rattle.std.specs.Int.{w16, w32, to_be_bytes}
 use Rattle.std.proofs.lemmas.List.{drop_at}
@@ -28,7 +28,7 @@ read m raw text =
     let known : node_with n k raw ≡ m = rw (a.is, b.is, c.is, d.is, e.is, f.is, g.is, g.behind) refl in
     record { long = rw (b.len, g.len) g.long; is = rw (b.len, g.len) known }
 
--- bytes that spell one spell that of their places
+-- bytes that encode one encode the one read at their offsets
 pub spelled_in : (m : NodeAnnounce) (raw : List ℕ) → Wire (messages.NodeAnnounce m) raw → IsNodeAnnounce raw × (node_in raw ≡ m)
 spelled_in m raw wire =
     let body : drop 2 raw ≡ wire.body = ap (drop 2) wire.whole ∙ drop_at (to_be_bytes w16 257) wire.body 2 refl in

@@ -1,4 +1,4 @@
--- Fields behind one another, read at their places.
+-- Consecutive fields, read at their offsets.
 use Rattle.std.proofs.Common.{◌≡◌, ℕ, ◌+◌, ◌^◌, ◌<◌, ◌≤◌, List, ◌++◌, length, take, drop, refl, sym, ap, subst, ◌∙◌, append_assoc, arith}
 use Rattle.std.specs.Int.{Width, w16, byte_len, from_be_bytes, to_be_bytes}
 use Rattle.std.proofs.lemmas.List.{take_at, drop_at, drop-drop, length-drop, length-append}
@@ -6,13 +6,13 @@ use Rattle.lgm_gossip.specs.Fields.{Joined, fixed, number, counted}
 use Rattle.lgm_gossip.proofs.WireLaws.{IsWide, wide16}
 use Rattle.lgm_check.specs.Places.{part, number_in}
 
--- n bytes at the place i are x, and behind them, from the place j on, the bytes are a text of G
+-- n bytes at offset i are x, and after them, from offset j on, the bytes are a text of G
 pub record IsAt (n i j : ℕ) (raw : List ℕ) (x : List ℕ) (G : List ℕ → Type 0) : Type 0 where
   pub is : part i n raw ≡ x
   pub long : 0 < n → j ≤ length raw
   pub behind : G (drop j raw)
 
--- the front of what is at a place
+-- the front of what is at an offset
 front_is : {G : List ℕ → Type 0} (n i j : ℕ) (raw front back : List ℕ) → i + n ≡ j → length front ≡ n
     → drop i raw ≡ front ++ back → G back → IsAt n i j raw front G
 front_is {G} n i j raw front back next len whole text =
@@ -30,7 +30,7 @@ fixed_is {G} n i j raw x next joined =
     let at = front_is {G = G} n i j raw joined.front joined.back next len joined.whole joined.back_is in
     record { is = at.is ∙ joined.front_is.0; long = at.long; behind = at.behind }
 
--- the same of a number
+-- the same for a number
 pub record IsNumberAt (w : Width) (i j : ℕ) (raw : List ℕ) (x : ℕ) (G : List ℕ → Type 0) : Type 0 where
   pub is : number_in w i raw ≡ x
   pub long : 0 < byte_len w → j ≤ length raw
@@ -43,7 +43,7 @@ number_is {G} w i j raw x wide next joined =
     let at = front_is {G = G} (byte_len w) i j raw joined.front joined.back next len joined.whole joined.back_is in
     record { is = ap (from_be_bytes w) (at.is ∙ joined.front_is.0) ∙ wide.again x joined.front_is.1; long = at.long; behind = at.behind }
 
--- the same of bytes behind their length
+-- the same for bytes after their length
 pub record IsCountedAt (i h j : ℕ) (raw x : List ℕ) (G : List ℕ → Type 0) : Type 0 where
   pub len : number_in w16 i raw ≡ length x
   pub is : part h (length x) raw ≡ x

@@ -1,4 +1,4 @@
--- A channel_update is read at its places.
+-- A channel_update is read at its offsets.
 use Rattle.std.proofs.Common.{◌≡◌, ℕ, ◌≤◌, List, length, drop, refl, sym, ap, subst, ◌∙◌, arith}
 use Rattle.std.specs.Int.{w8, w16, w32, w64, to_be_bytes}
 use Rattle.std.proofs.lemmas.List.{drop_at}
@@ -30,7 +30,7 @@ read m raw text =
     let k = number_is w64 130 138 raw m.htlc_maximum_msat wide64 refl j.behind in
     record { long = k.long (omega arith); is = rw (a.is, b.is, c.is, d.is, e.is, f.is, g.is, h.is, i.is, j.is, k.is, k.behind) refl }
 
--- bytes that spell one spell that of their places
+-- bytes that encode one encode the one read at their offsets
 pub spelled_in : (m : ChannelUpdate) (raw : List ℕ) → Wire (messages.ChannelUpdate m) raw → IsUpdate raw × (update_in raw ≡ m)
 spelled_in m raw wire =
     let body : drop 2 raw ≡ wire.body = ap (drop 2) wire.whole ∙ drop_at (to_be_bytes w16 258) wire.body 2 refl in

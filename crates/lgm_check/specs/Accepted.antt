@@ -15,7 +15,7 @@ use Rattle.lgm_check.specs.declared.row.Checked.{Checked}
 use Rattle.lgm_check.specs.declared.row.Checked.TheVariants as checked
 use Rattle.lgm_check.specs.Precheck.{has_lawful_points, are_in_order}
 
--- a channel_announcement: nodes in order, of this chain, an unspent output that holds no more satoshi than exist, and
+-- a channel_announcement: nodes in order, of this chain, an unspent output that has no more satoshi than exist, and
 -- four valid signatures
 pub record IsChannel (ours : ChainHash) (bytes : List ℕ) (evidence : Evidence)
     (row : ChannelRow) : Type 0 where

@@ -1,4 +1,4 @@
--- What the row of a message has beside its bytes, and the row that both make.
+-- What the row of a message has in addition to its bytes, and the row of both.
 use Rattle.std.specs.Prelude.{ℕ, List}
 use Rattle.lgm_check.specs.declared.row.Checked.{Checked}
 use Rattle.lgm_check.specs.declared.row.Checked.TheVariants as rows

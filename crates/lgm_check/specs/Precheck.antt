@@ -38,7 +38,7 @@ has_lawful_points m =
 abbrev pub are_in_order : Announce → Bool
 are_in_order m = is_lt (slice_cmp nat_cmp m.node_id_1.0 m.node_id_2.0)
 
--- an unspent output that pays to the two keys, and holds no more satoshi than exist
+-- an unspent output that pays to the two keys, and has no more satoshi than exist
 abbrev pub capacity_of : Funding → Result ℕ Refusal
 capacity_of (fundings.Unspent sat) = if nat_le sat 2100000000000000 then Ok sat else Err refusals.Funding
 capacity_of _ = Err refusals.Funding

@@ -1,11 +1,12 @@
-//! The fields of a `channel_announcement`, read at their offsets in its bytes (BOLT 7, "The channel_announcement Message").
+//! The fields of a `channel_announcement`, read at their offsets in its bytes (BOLT 7, "The channel_announcement
+//! Message").
 
 ghost use Rattle.std.specs.Prelude.{◌≡◌, ◌+◌, ◌≤◌, length, nat_le};
 ghost use Rattle.lgm_check.specs.Announce.{features_len, announce_in, channel_row};
 
-use crate::places::{array, lent, number16, number64, point, rest, signature};
+use crate::places::{array, borrowed, number16, number64, point, rest, signature};
 use crate::row::ChannelRow;
-use lgm_gossip::{Announce, ChainHash, Lent, Scid};
+use lgm_gossip::{Announce, BorrowedBytes, ChainHash, Scid};
 
 /// The length of the features, by which the later fields are shifted.
 #[inline(always)]
@@ -36,7 +37,7 @@ pub(crate) fn announce_in(raw: &[u8]) -> Announce<'_>
         node_signature_2: signature(raw, 66),
         bitcoin_signature_1: signature(raw, 130),
         bitcoin_signature_2: signature(raw, 194),
-        features: lent(raw, 260, n),
+        features: borrowed(raw, 260, n),
         chain_hash: ChainHash(array(raw, 260 + n)),
         short_channel_id: Scid::from_u64(number64(raw, 292 + n)),
         node_id_1: point(raw, 300 + n),
@@ -55,6 +56,6 @@ pub(crate) fn channel_row(raw: &[u8], sat: u64) -> ChannelRow<'_>
     ChannelRow {
         message: announce_in(raw),
         sat,
-        raw: Lent::new(raw),
+        raw: BorrowedBytes::new(raw),
     }
 }

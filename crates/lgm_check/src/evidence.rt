@@ -25,7 +25,7 @@ pub enum Sig {
 /// The verdict on the funding output of a `channel_announcement`.
 #[derive(Clone, Copy, Debug, PartialEq, Eq)]
 pub enum Funding {
-    /// Unspent, pays to the 2-of-2 of the two bitcoin keys, and holds this many satoshi.
+    /// Unspent, pays to the 2-of-2 of the two bitcoin keys, and has this many satoshi.
     Unspent(u64),
     /// Spent.
     Spent,

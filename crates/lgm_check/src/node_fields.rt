@@ -3,9 +3,9 @@
 ghost use Rattle.std.specs.Prelude.{◌≡◌, ◌+◌, ◌≤◌, length, nat_le};
 ghost use Rattle.lgm_check.specs.Node.{features_len, addresses_len, node_in, node_row};
 
-use crate::places::{array, lent, number16, number32, point, rest, signature};
+use crate::places::{array, borrowed, number16, number32, point, rest, signature};
 use crate::row::NodeRow;
-use lgm_gossip::{Lent, NodeAnnounce};
+use lgm_gossip::{BorrowedBytes, NodeAnnounce};
 
 /// The length of the features, by which the later fields are shifted.
 #[inline(always)]
@@ -16,7 +16,7 @@ pub(crate) fn features_len(raw: &[u8]) -> usize
     usize::from(number16(raw, 66))
 }
 
-/// The length of the addresses after so many bytes of features.
+/// The length of the addresses after this many bytes of features.
 #[inline(always)]
 fn addresses_len(raw: &[u8], n: usize) -> usize
     requires { 142 + n ≤ length raw.now }
@@ -48,12 +48,12 @@ pub(crate) fn node_in(raw: &[u8]) -> NodeAnnounce<'_>
     let k = addresses_len(raw, n);
     NodeAnnounce {
         signature: signature(raw, 2),
-        features: lent(raw, 68, n),
+        features: borrowed(raw, 68, n),
         timestamp: number32(raw, 68 + n),
         node_id: point(raw, 72 + n),
         rgb_color: array(raw, 105 + n),
         alias: array(raw, 108 + n),
-        addresses: lent(raw, 142 + n, k),
+        addresses: borrowed(raw, 142 + n, k),
         rest: rest(raw, 142 + n + k),
     }
 }
@@ -65,6 +65,6 @@ pub(crate) fn node_row(raw: &[u8]) -> NodeRow<'_>
 {
     NodeRow {
         message: node_in(raw),
-        raw: Lent::new(raw),
+        raw: BorrowedBytes::new(raw),
     }
 }

@@ -4,7 +4,7 @@ ghost use Rattle.std.specs.Prelude.{◌≡◌, ◌+◌, ◌≤◌, length, drop}
 ghost use Rattle.std.specs.Int.{w8, w16, w32, w64};
 ghost use Rattle.lgm_check.specs.Places.{part, number_in};
 
-use lgm_gossip::{Lent, Point, Signature};
+use lgm_gossip::{BorrowedBytes, Point, Signature};
 
 /// The one-byte number at an offset.
 #[inline(always)]
@@ -77,7 +77,7 @@ pub(crate) fn point(bytes: &[u8], at: usize) -> Point
 
 /// The 64 bytes at an offset, borrowed.
 #[inline(always)]
-fn lent_array(bytes: &[u8], at: usize) -> &[u8; 64]
+fn borrowed_array(bytes: &[u8], at: usize) -> &[u8; 64]
     requires { at + 64 ≤ length bytes.now }
     ensures { result.now ≡ part at 64 bytes.now }
 {
@@ -93,23 +93,23 @@ pub(crate) fn signature(bytes: &[u8], at: usize) -> Signature<'_>
     requires { at + 64 ≤ length bytes.now }
     ensures { result ≡ part at 64 bytes.now }
 {
-    Signature::new(lent_array(bytes, at))
+    Signature::new(borrowed_array(bytes, at))
 }
 
 /// The given number of bytes from an offset on.
 #[inline(always)]
-pub(crate) fn lent(bytes: &[u8], at: usize, len: usize) -> Lent<'_>
+pub(crate) fn borrowed(bytes: &[u8], at: usize, len: usize) -> BorrowedBytes<'_>
     requires { at + len ≤ length bytes.now }
     ensures { result ≡ part at len bytes.now }
 {
-    Lent::new(&bytes[at..at + len])
+    BorrowedBytes::new(&bytes[at..at + len])
 }
 
 /// All bytes from an offset on.
 #[inline(always)]
-pub(crate) fn rest(bytes: &[u8], at: usize) -> Lent<'_>
+pub(crate) fn rest(bytes: &[u8], at: usize) -> BorrowedBytes<'_>
     requires { at ≤ length bytes.now }
     ensures { result ≡ drop at bytes.now }
 {
-    Lent::new(&bytes[at..])
+    BorrowedBytes::new(&bytes[at..])
 }

@@ -35,7 +35,7 @@ pub enum Refusal {
     /// 8: the update must not be forwarded.
     #[error("private")]
     Private,
-    /// 9: the funding output isn't known to be unspent and right, or holds more satoshi than exist.
+    /// 9: the funding output isn't known to be unspent and right, or has more satoshi than exist.
     #[error("funding")]
     Funding,
     /// 10: a signature is invalid or missing, or another node's.
@@ -44,10 +44,10 @@ pub enum Refusal {
     /// 11: the channel isn't in the map.
     #[error("unknown-channel")]
     UnknownChannel,
-    /// 12: the channel is in the map, between the same nodes.
+    /// 12: the channel is in the map, with the same nodes.
     #[error("known")]
     Known,
-    /// 13: the channel is in the map, between other nodes. Never given: such an announcement bans the nodes of both.
+    /// 13: the channel is in the map, with other nodes. Never returned: such an announcement bans the nodes of both.
     #[error("conflict")]
     Conflict,
     /// 14: no channel in the map has this node.

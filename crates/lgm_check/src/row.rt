@@ -2,7 +2,7 @@
 
 ghost use Rattle.std.specs.Prelude.{◌≡◌, ◌%◌, ◌==◌, if◌then◌else◌};
 
-use lgm_gossip::{Announce, ChannelUpdate, Lent, NodeAnnounce, Point, Scid};
+use lgm_gossip::{Announce, BorrowedBytes, ChannelUpdate, NodeAnnounce, Point, Scid};
 use std::marker::Model;
 
 /// A channel: its announcement, its capacity, and the bytes to forward.
@@ -13,7 +13,7 @@ pub struct ChannelRow<'a> {
     /// The capacity, in satoshi.
     pub sat: u64,
     /// The whole message as received.
-    pub raw: Lent<'a>,
+    pub raw: BorrowedBytes<'a>,
 }
 
 impl<'a> ChannelRow<'a> {
@@ -42,7 +42,7 @@ pub struct UpdateRow<'a> {
     /// The update's fields.
     pub message: ChannelUpdate<'a>,
     /// The whole message as received.
-    pub raw: Lent<'a>,
+    pub raw: BorrowedBytes<'a>,
 }
 
 impl<'a> UpdateRow<'a> {
@@ -67,7 +67,7 @@ pub struct NodeRow<'a> {
     /// The announcement's fields.
     pub message: NodeAnnounce<'a>,
     /// The whole message as received.
-    pub raw: Lent<'a>,
+    pub raw: BorrowedBytes<'a>,
 }
 
 impl<'a> NodeRow<'a> {
@@ -134,7 +134,7 @@ impl<'a> Signer<'a> {
     }
 }
 
-/// The type of a message that passed validation, and what its row has beside the bytes.
+/// The type of a message that passed validation, and what its row has in addition to the bytes.
 #[derive(Debug, Drop)]
 pub enum CheckedKind<'a> {
     /// Of a `channel_announcement`, and the capacity in satoshi.

@@ -5,7 +5,7 @@ ghost use Rattle.lgm_check.specs.Update.{update_in, update_row};
 
 use crate::places::{array, number8, number16, number32, number64, rest, signature};
 use crate::row::UpdateRow;
-use lgm_gossip::{ChainHash, ChannelUpdate, Lent, Scid};
+use lgm_gossip::{BorrowedBytes, ChainHash, ChannelUpdate, Scid};
 
 /// The update that the bytes encode, field by field.
 #[inline(always)]
@@ -36,6 +36,6 @@ pub(crate) fn update_row(raw: &[u8]) -> UpdateRow<'_>
 {
     UpdateRow {
         message: update_in(raw),
-        raw: Lent::new(raw),
+        raw: BorrowedBytes::new(raw),
     }
 }

@@ -1,20 +1,13 @@
 //! Gossip as a peer would send it, with the verdicts of a node.
 
 use lgm_check::{Evidence, Funding, Sig};
-use lgm_gossip::{
-    Announce, Bytes, ChainHash, ChannelUpdate, EncodeFault, Lent, Message, Point, Scid, Signature,
-    encode,
-};
-use std::alloc::Global;
+use lgm_gossip::{Bytes, Point, Scid};
+use lgm_test_gossip::{Channel, FREE, Terms, Update, repeated_point};
+use std::alloc::{AllocError, Global};
 
-/// The chain, as used in tests.
-pub const CHAIN: ChainHash = ChainHash([0xc1; 32]);
-
-/// A node or a key by its number: a point of 33 bytes.
+/// A node by its number: a point of 33 bytes.
 pub fn point(number: u8) -> Point {
-    let mut bytes = [number; 33];
-    bytes[0] = 2;
-    Point(bytes)
+    repeated_point(2, number)
 }
 
 /// A channel id by its number: this many blocks after block 600,000.
@@ -28,27 +21,13 @@ pub fn announcement(
     number: u32,
     first: u8,
     second: u8,
-) -> Result<(Bytes, Evidence), EncodeFault> {
-    let zeros = [0; 64];
-    let message = Message::Announce(Announce {
-        node_signature_1: Signature::new(&zeros),
-        node_signature_2: Signature::new(&zeros),
-        bitcoin_signature_1: Signature::new(&zeros),
-        bitcoin_signature_2: Signature::new(&zeros),
-        features: Lent::new(&[]),
-        chain_hash: CHAIN,
-        short_channel_id: scid(number),
-        node_id_1: point(first),
-        node_id_2: point(second),
-        bitcoin_key_1: point(0xee),
-        bitcoin_key_2: point(0xee),
-        rest: Lent::new(&[]),
-    });
+) -> Result<(Bytes, Evidence), AllocError> {
+    let channel = Channel::new(scid(number), (point(first), point(second)));
     let evidence = Evidence {
         sig: Sig::AllFour(true),
         funding: Funding::Unspent(100_000),
     };
-    Ok((encode(alloc, &message)?, evidence))
+    Ok((channel.bytes(alloc)?, evidence))
 }
 
 /// An update by a channel's first node, with this base fee in msat, signed by the node.
@@ -57,25 +36,14 @@ pub fn update(
     number: u32,
     timestamp: u32,
     fee: u32,
-) -> Result<(Bytes, Evidence), EncodeFault> {
-    let zeros = [0; 64];
-    let message = Message::ChannelUpdate(ChannelUpdate {
-        signature: Signature::new(&zeros),
-        chain_hash: CHAIN,
-        short_channel_id: scid(number),
-        timestamp,
-        message_flags: 1,
-        channel_flags: 0,
-        cltv_expiry_delta: 40,
-        htlc_minimum_msat: 1,
-        fee_base_msat: fee,
-        fee_proportional_millionths: 0,
-        htlc_maximum_msat: 50_000_000,
-        rest: Lent::new(&[]),
-    });
+) -> Result<(Bytes, Evidence), AllocError> {
+    let update = Update {
+        terms: Terms { base: fee, ..FREE },
+        ..Update::new(scid(number), 0, timestamp)
+    };
     let evidence = Evidence {
         sig: Sig::By(point(if number == 1 { 10 } else { 11 })),
         funding: Funding::NotAsked,
     };
-    Ok((encode(alloc, &message)?, evidence))
+    Ok((update.bytes(alloc)?, evidence))
 }

@@ -1,9 +1,9 @@
 //! The writer's side: gossip is validated, admitted to the writer's own map, and appended to be published next.
 
-use crate::messages::CHAIN;
 use lgm_check::{Evidence, Refusal};
 use lgm_publish::Pen;
-use lgm_store::{Candidate, Map, Op, Seed};
+use lgm_store::{CheckedMessage, Map, Op, Seed};
+use lgm_test_gossip::CHAIN;
 use std::alloc::{AllocError, Global};
 
 /// The state of the writer.
@@ -47,8 +47,8 @@ impl Taker {
         evidence: &Evidence,
     ) -> Result<(), Refusal> {
         self.append(pen)?;
-        let candidate = Candidate::precheck(alloc, &CHAIN, bytes, evidence)?;
-        self.back = Some(self.map.offer_candidate(alloc, candidate)?);
+        let message = CheckedMessage::precheck(alloc, &CHAIN, bytes, evidence)?;
+        self.back = Some(self.map.offer_checked(alloc, message)?);
         self.append(pen)?;
         Ok(())
     }

@@ -1,4 +1,4 @@
--- channel_update: what is read is spelled so, and what is spelled so is read.
+-- channel_update: reading returns a value if and only if the bytes encode it.
 use Rattle.std.proofs.Common.{refl}
 use Rattle.std.specs.Int.{w8, w16, w32, w64}
 use Rattle.lgm_gossip.specs.ChannelUpdate.{fields}

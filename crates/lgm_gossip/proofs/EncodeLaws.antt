@@ -1,4 +1,4 @@
--- Parts that say the fields of a message, and what joining them gives.
+-- Segments that represent the fields of a message, and the result of joining them.
 use Rattle.std.proofs.Common.{◌≡◌, ℕ, ◌^◌, ◌<◌, ◌≤◌, ◌↔◌, List, [], ◌∷◌, ◌++◌, length, Bor, Option, Some, None, Result}
 use Rattle.std.proofs.Common.{Ok, Err, refl, sym, ap, subst, ◌∙◌, append_assoc, arith, inl, inr}
 use Rattle.std.specs.Prelude.{IfOk}
@@ -6,14 +6,14 @@ use Rattle.std.specs.List.{flat_map, AllByRecursion}
 use Rattle.std.specs.Int.{w8, w16, w32, w64, to_be_bytes}
 use Rattle.std.proofs.lemmas.Bool.{cases_lt}
 use Rattle.std.proofs.lemmas.List.{append-nil}
-use Rattle.lgm_gossip.specs.declared.part.Part.{Part}
-use Rattle.lgm_gossip.specs.declared.part.Part.TheVariants as parts
+use Rattle.lgm_gossip.specs.declared.segment.Segment.{Segment}
+use Rattle.lgm_gossip.specs.declared.segment.Segment.TheVariants as segments
 use Rattle.lgm_gossip.specs.declared.encode_fault.EncodeFault.{EncodeFault}
 use Rattle.lgm_gossip.specs.declared.encode_fault.EncodeFault.TheVariants.{TooLong}
 use Rattle.lgm_gossip.specs.Streams.{TlvRecord, record_bytes, bigsize_bytes, IsBigSize}
 use Rattle.lgm_gossip.specs.Fields.{Field, ◌⌢◌, Encloses, counted_text, fixed, number, counted, rest, dropped}
 use Rattle.lgm_gossip.specs.Optional.{optional}
-use Rattle.lgm_gossip.specs.inner.Part.{text, texts, PartFits}
+use Rattle.lgm_gossip.specs.inner.Segment.{text, texts, SegmentFits}
 use Rattle.lgm_gossip.specs.declared.message.Message.{Message}
 use Rattle.lgm_gossip.specs.declared.timestamps.Timestamps.{Timestamps}
 use Rattle.lgm_gossip.specs.EncodedIds.{ids_text, encoded_ids}
@@ -24,39 +24,39 @@ use Rattle.lgm_gossip.specs.reading.MessageReading.{message_at}
 use Rattle.lgm_gossip.specs.Spelling.{typed, Encodes}
 use Rattle.lgm_gossip.proofs.MessageLaws.{message_again}
 
--- the parts are the texts of the fields, one after the other, and where their numbers fit they spell the fields
-pub record Says (ps : List Part) (F : Field) : Type 0 where
+-- the segments are the texts of the fields, one after the other, and if their numbers fit they encode the fields
+pub record Says (ps : List Segment) (F : Field) : Type 0 where
   pub same : texts ps ≡ flat_map (λ t. t) F.texts
-  pub is : AllByRecursion PartFits ps → F.Is (texts ps)
+  pub is : AllByRecursion SegmentFits ps → F.Is (texts ps)
 
--- a part that is one field
-pub then_part : {p : Part} {ps : List Part} {t : List ℕ} {F : List ℕ → Type 0} {G : Field} → text p ≡ t
-    → (PartFits p → F (text p)) → Says ps G → Says (p ∷ ps) (record { Is = F; texts = t ∷ [] } ⌢ G)
+-- a segment that is one field
+pub then_part : {p : Segment} {ps : List Segment} {t : List ℕ} {F : List ℕ → Type 0} {G : Field} → text p ≡ t
+    → (SegmentFits p → F (text p)) → Says ps G → Says (p ∷ ps) (record { Is = F; texts = t ∷ [] } ⌢ G)
 then_part {p} {ps} {t} {F} {G} same is others = record {
   same = ap (λ (s : List ℕ). s ++ texts ps) same ∙ ap (λ (s : List ℕ). t ++ s) others.same;
   is = λ fits. record { front = text p; back = texts ps; whole = refl; front_is = is fits.0; back_is = others.is fits.1 };
 }
 
-pub then_whole : {ps : List Part} {G : Field} (n : ℕ) (p : Part) (x : List ℕ) → (fixed n x).Is (text p) → Says ps G → Says (p ∷ ps) (fixed n x ⌢ G)
+pub then_whole : {ps : List Segment} {G : Field} (n : ℕ) (p : Segment) (x : List ℕ) → (fixed n x).Is (text p) → Says ps G → Says (p ∷ ps) (fixed n x ⌢ G)
 then_whole {ps} {G} n p x is others = then_part is.0 (λ fits. is) others
 
-pub then_8 : {ps : List Part} {G : Field} (n : ℕ) → Says ps G → Says (parts.Number8 n ∷ ps) (number w8 n ⌢ G)
+pub then_8 : {ps : List Segment} {G : Field} (n : ℕ) → Says ps G → Says (segments.Number8 n ∷ ps) (number w8 n ⌢ G)
 then_8 {ps} {G} n others = then_part refl (λ fits. (refl, fits)) others
 
-pub then_16 : {ps : List Part} {G : Field} (n : ℕ) → Says ps G → Says (parts.Number16 n ∷ ps) (number w16 n ⌢ G)
+pub then_16 : {ps : List Segment} {G : Field} (n : ℕ) → Says ps G → Says (segments.Number16 n ∷ ps) (number w16 n ⌢ G)
 then_16 {ps} {G} n others = then_part refl (λ fits. (refl, fits)) others
 
-pub then_32 : {ps : List Part} {G : Field} (n : ℕ) → Says ps G → Says (parts.Number32 n ∷ ps) (number w32 n ⌢ G)
+pub then_32 : {ps : List Segment} {G : Field} (n : ℕ) → Says ps G → Says (segments.Number32 n ∷ ps) (number w32 n ⌢ G)
 then_32 {ps} {G} n others = then_part refl (λ fits. (refl, fits)) others
 
-pub then_64 : {ps : List Part} {G : Field} (n x : ℕ) → n ≡ x → Says ps G → Says (parts.Number64 n ∷ ps) (number w64 x ⌢ G)
+pub then_64 : {ps : List Segment} {G : Field} (n x : ℕ) → n ≡ x → Says ps G → Says (segments.Number64 n ∷ ps) (number w64 x ⌢ G)
 then_64 {ps} {G} n x same others =
     then_part (ap (λ (k : ℕ). to_be_bytes w64 k) same)
     (λ fits. (ap (λ (k : ℕ). to_be_bytes w64 k) same, subst (λ (k : ℕ). k < 2 ^ 64) same fits)) others
 
--- a length, and the part that it measures
-pub then_counted : {ps : List Part} {G : Field} (len : ℕ) (p : Part) (x : List ℕ) → text p ≡ x
-    → len ≡ length (texts (p ∷ [])) → Says ps G → Says (parts.Number16 len ∷ p ∷ ps) (counted x ⌢ G)
+-- a length, and the segment that it measures
+pub then_counted : {ps : List Segment} {G : Field} (len : ℕ) (p : Segment) (x : List ℕ) → text p ≡ x
+    → len ≡ length (texts (p ∷ [])) → Says ps G → Says (segments.Number16 len ∷ p ∷ ps) (counted x ⌢ G)
 then_counted {ps} {G} len p x text_is measured others = record {
   same =
       ap (λ (s : List ℕ). to_be_bytes w16 len ++ (text p ++ s)) others.same
@@ -78,13 +78,13 @@ then_counted {ps} {G} len p x text_is measured others = record {
     front_is = ap (λ (k : ℕ). to_be_bytes w16 k ++ text p) len_is ∙ ap (λ (s : List ℕ). to_be_bytes w16 (length x) ++ s) text_is
 
 -- the last field
-pub says_rest : (p : Part) (x : List ℕ) → text p ≡ x → Says (p ∷ []) (rest x)
+pub says_rest : (p : Segment) (x : List ℕ) → text p ≡ x → Says (p ∷ []) (rest x)
 says_rest p x text_is = record { same = ap (λ (s : List ℕ). s ++ []) text_is; is = λ fits. append-nil (text p) ∙ text_is }
 
--- a length, and two parts that it measures together
-pub then_enclosed : {ps : List Part} {F : List ℕ → Type 0} {G : Field} (len : ℕ) (p q : Part) (x : List ℕ)
-    → texts (p ∷ q ∷ []) ≡ x → len ≡ length (texts (p ∷ q ∷ [])) → (PartFits q → F x) → Says ps G
-    → Says (parts.Number16 len ∷ p ∷ q ∷ ps) (record { Is = Encloses F; texts = counted_text x ∷ [] } ⌢ G)
+-- a length, and two segments that it measures together
+pub then_enclosed : {ps : List Segment} {F : List ℕ → Type 0} {G : Field} (len : ℕ) (p q : Segment) (x : List ℕ)
+    → texts (p ∷ q ∷ []) ≡ x → len ≡ length (texts (p ∷ q ∷ [])) → (SegmentFits q → F x) → Says ps G
+    → Says (segments.Number16 len ∷ p ∷ q ∷ ps) (record { Is = Encloses F; texts = counted_text x ∷ [] } ⌢ G)
 then_enclosed {ps} {F} {G} len p q x text_is measured inner others = record {
   same = all (texts ps) ∙ ap (λ (s : List ℕ). counted_text x ++ s) others.same;
   is = λ fits. record {
@@ -116,14 +116,14 @@ says_none {A} {F} value = record {
 }
 
 -- an option under another name
-pub says_same : {A : Type 0} {ps : List Part} {F : A → List ℕ → Type 0} (value : A → List ℕ) {option same : Option A}
+pub says_same : {A : Type 0} {ps : List Segment} {F : A → List ℕ → Type 0} (value : A → List ℕ) {option same : Option A}
     → option ≡ same → Says ps (optional F value same) → Says ps (optional F value option)
 says_same {A} {ps} {F} value {option} {same} is says = subst (λ (x : Option A). Says ps (optional F value x)) (sym is) says
 
--- an option as a record of type 1, behind the length of its value
-pub says_some : {A : Type 0} {F : A → List ℕ → Type 0} (value : A → List ℕ) (x : A) (len : ℕ) (qs : List Part)
-    → texts qs ≡ value x → len ≡ length (texts qs) → (AllByRecursion PartFits qs → F x (value x))
-    → Says (parts.Big 1 ∷ parts.Big len ∷ qs) (optional F value (Some x))
+-- an option as a record of type 1, after the length of its value
+pub says_some : {A : Type 0} {F : A → List ℕ → Type 0} (value : A → List ℕ) (x : A) (len : ℕ) (qs : List Segment)
+    → texts qs ≡ value x → len ≡ length (texts qs) → (AllByRecursion SegmentFits qs → F x (value x))
+    → Says (segments.Big 1 ∷ segments.Big len ∷ qs) (optional F value (Some x))
 says_some {A} {F} value x len qs text_is measured inner = record {
   same = all;
   is = λ fits. record {
@@ -152,23 +152,23 @@ says_some {A} {F} value x len qs text_is measured inner = record {
         ∙ sym (append_assoc (bigsize_bytes 1) (bigsize_bytes (length (value x))) (value x))
         ∙ sym (append-nil (record_bytes (record { kind = 1; value = value x })))
 
--- nothing behind the last field
+-- nothing after the last field
 pub says_nothing : Says [] dropped
 says_nothing = record { same = refl; is = λ fits. tt }
 
--- what `join` gives of parts
-pub record Joins (ps : List Part) (r : Result (List ℕ) EncodeFault) : Type 0 where
+-- the result of joining segments
+pub record Joins (ps : List Segment) (r : Result (List ℕ) EncodeFault) : Type 0 where
   pub too_long : (r ≡ Err TooLong) ↔ (65535 < length (texts ps))
   pub text : IfOk r (λ bytes. bytes ≡ texts ps)
-  pub fits : IfOk r (λ _. AllByRecursion PartFits ps)
+  pub fits : IfOk r (λ _. AllByRecursion SegmentFits ps)
 
 abbrev done : List ℕ → Result (List ℕ) EncodeFault
 done bytes = Ok bytes
 
-pub encodes : {ps : List Part} {F : Field} (kind : ℕ) (r : Result (List ℕ) EncodeFault) → Says ps F
-    → Joins (parts.Number16 kind ∷ ps) r → Encodes kind F r
+pub encodes : {ps : List Segment} {F : Field} (kind : ℕ) (r : Result (List ℕ) EncodeFault) → Says ps F
+    → Joins (segments.Number16 kind ∷ ps) r → Encodes kind F r
 encodes {ps} {F} kind (Ok b) says joins =
-    let same : texts (parts.Number16 kind ∷ ps) ≡ typed kind F.texts = ap (λ (s : List ℕ). to_be_bytes w16 kind ++ s) says.same in
+    let same : texts (segments.Number16 kind ∷ ps) ≡ typed kind F.texts = ap (λ (s : List ℕ). to_be_bytes w16 kind ++ s) says.same in
     record {
       too_long = subst (λ (s : List ℕ). (done b ≡ Err TooLong) ↔ (65535 < length s)) same joins.too_long;
       text = joins.text ∙ same;
@@ -181,7 +181,7 @@ encodes {ps} {F} kind (Ok b) says joins =
       | inr le ↦ le
     ]
 encodes {ps} {F} kind (Err e) says joins =
-    let same : texts (parts.Number16 kind ∷ ps) ≡ typed kind F.texts = ap (λ (s : List ℕ). to_be_bytes w16 kind ++ s) says.same in
+    let same : texts (segments.Number16 kind ∷ ps) ≡ typed kind F.texts = ap (λ (s : List ℕ). to_be_bytes w16 kind ++ s) says.same in
     record {
       too_long = subst (λ (s : List ℕ). (failed e ≡ Err TooLong) ↔ (65535 < length s)) same joins.too_long;
       text = tt;
@@ -191,47 +191,47 @@ encodes {ps} {F} kind (Err e) says joins =
     failed : EncodeFault → Result (List ℕ) EncodeFault
     failed e = Err e
 
-pub two_parts : (p q : Part) (x y : List ℕ) → text p ≡ x → text q ≡ y → texts (p ∷ q ∷ []) ≡ x ++ y
+pub two_parts : (p q : Segment) (x y : List ℕ) → text p ≡ x → text q ≡ y → texts (p ∷ q ∷ []) ≡ x ++ y
 two_parts p q x y first second =
     ap (λ (s : List ℕ). text p ++ s) (append-nil (text q)) ∙ ap (λ (s : List ℕ). s ++ text q) first
     ∙ ap (λ (s : List ℕ). x ++ s) second
 
 -- ---- ids, and the options of each message
 
-pub then_ids : {ps : List Part} {G : Field} (len : ℕ) (b : Bor (List ℕ)) (ids : List ℕ) → b.now ≡ ids
-    → len ≡ length (texts (parts.Number8 0 ∷ parts.Ids b ∷ [])) → Says ps G
-    → Says (parts.Number16 len ∷ parts.Number8 0 ∷ parts.Ids b ∷ ps) (encoded_ids ids ⌢ G)
+pub then_ids : {ps : List Segment} {G : Field} (len : ℕ) (b : Bor (List ℕ)) (ids : List ℕ) → b.now ≡ ids
+    → len ≡ length (texts (segments.Number8 0 ∷ segments.Ids b ∷ [])) → Says ps G
+    → Says (segments.Number16 len ∷ segments.Number8 0 ∷ segments.Ids b ∷ ps) (encoded_ids ids ⌢ G)
 then_ids {ps} {G} len b ids same measured others =
-    then_enclosed len (parts.Number8 0) (parts.Ids b) (ids_text ids)
-    (two_parts (parts.Number8 0) (parts.Ids b) (0 ∷ []) (flat_map (to_be_bytes w64) ids) refl
+    then_enclosed len (segments.Number8 0) (segments.Ids b) (ids_text ids)
+    (two_parts (segments.Number8 0) (segments.Ids b) (0 ∷ []) (flat_map (to_be_bytes w64) ids) refl
     (ap (λ (xs : List ℕ). flat_map (to_be_bytes w64) xs) same)) measured
     (λ fits. record { fits = subst (λ (xs : List ℕ). AllByRecursion (λ id. id < 2 ^ 64) xs) same fits; spelled = inl refl }) others
 
 pub says_flags : (count len : ℕ) (b : Bor (List ℕ)) (flags : List ℕ) → b.now ≡ flags → length flags ≡ count
-    → len ≡ length (texts (parts.Number8 0 ∷ parts.Bigs b ∷ []))
-    → Says (parts.Big 1 ∷ parts.Big len ∷ parts.Number8 0 ∷ parts.Bigs b ∷ []) (optional (IsQueryFlags count) flags_text (Some flags))
+    → len ≡ length (texts (segments.Number8 0 ∷ segments.Bigs b ∷ []))
+    → Says (segments.Big 1 ∷ segments.Big len ∷ segments.Number8 0 ∷ segments.Bigs b ∷ []) (optional (IsQueryFlags count) flags_text (Some flags))
 says_flags count len b flags same one_each measured =
-    says_some flags_text flags len (parts.Number8 0 ∷ parts.Bigs b ∷ [])
-    (two_parts (parts.Number8 0) (parts.Bigs b) (0 ∷ []) (flat_map bigsize_bytes flags) refl
+    says_some flags_text flags len (segments.Number8 0 ∷ segments.Bigs b ∷ [])
+    (two_parts (segments.Number8 0) (segments.Bigs b) (0 ∷ []) (flat_map bigsize_bytes flags) refl
     (ap (λ (xs : List ℕ). flat_map bigsize_bytes xs) same)) measured
     (λ fits. record { fits = subst (λ (xs : List ℕ). AllByRecursion (λ f. f < 2 ^ 64) xs) same fits.1.0; one_each = one_each; spelled = refl })
 
 pub says_options : (len v : ℕ) → len ≡ length (bigsize_bytes v)
-    → Says (parts.Big 1 ∷ parts.Big len ∷ parts.Big v ∷ []) (optional IsBigSize bigsize_bytes (Some v))
+    → Says (segments.Big 1 ∷ segments.Big len ∷ segments.Big v ∷ []) (optional IsBigSize bigsize_bytes (Some v))
 says_options len v measured =
-    says_some bigsize_bytes v len (parts.Big v ∷ []) (append-nil (bigsize_bytes v))
+    says_some bigsize_bytes v len (segments.Big v ∷ []) (append-nil (bigsize_bytes v))
     (measured ∙ ap length (sym (append-nil (bigsize_bytes v)))) (λ fits. (fits.0, refl))
 
 pub says_pairs : (count len : ℕ) (b : Bor (List Timestamps)) (pairs : List Timestamps) → b.now ≡ pairs
-    → length pairs ≡ count → len ≡ length (texts (parts.Number8 0 ∷ parts.Pairs b ∷ []))
-    → Says (parts.Big 1 ∷ parts.Big len ∷ parts.Number8 0 ∷ parts.Pairs b ∷ []) (optional (IsTimestampList count) pairs_text (Some pairs))
+    → length pairs ≡ count → len ≡ length (texts (segments.Number8 0 ∷ segments.Pairs b ∷ []))
+    → Says (segments.Big 1 ∷ segments.Big len ∷ segments.Number8 0 ∷ segments.Pairs b ∷ []) (optional (IsTimestampList count) pairs_text (Some pairs))
 says_pairs count len b pairs same one_each measured =
-    says_some pairs_text pairs len (parts.Number8 0 ∷ parts.Pairs b ∷ [])
-    (two_parts (parts.Number8 0) (parts.Pairs b) (0 ∷ []) (flat_map pair_bytes pairs) refl
+    says_some pairs_text pairs len (segments.Number8 0 ∷ segments.Pairs b ∷ [])
+    (two_parts (segments.Number8 0) (segments.Pairs b) (0 ∷ []) (flat_map pair_bytes pairs) refl
     (ap (λ (xs : List Timestamps). flat_map pair_bytes xs) same)) measured
     (λ fits. record { fits = subst (λ (xs : List Timestamps). AllByRecursion PairFits xs) same fits.1.0; one_each = one_each; spelled = refl })
 
--- what spells the message is read as it
+-- what encodes the message is read as it
 pub reads_back : (m : Message) (r : Result (List ℕ) EncodeFault) → IfOk r (λ bytes. Wire m bytes) → IfOk r (λ bytes. message_at bytes ≡ Ok m)
 reads_back m (Ok bytes) wire = message_again bytes m wire
 reads_back m (Err e) wire = tt

@@ -1,4 +1,4 @@
--- Encoded channel ids: what is read is spelled so, and what is spelled so is read.
+-- Encoded channel ids: reading returns a value if and only if the bytes encode it.
 use Rattle.std.proofs.Common.{◌≡◌, ℕ, ◌*◌, ◌/◌, ◌%◌, ◌^◌, ◌<◌, true, cond, eqb, not, List, [], ◌∷◌}
 use Rattle.std.proofs.Common.{length, map, Ok, Err, refl, sym, ap, subst, ◌∙◌, arith, inl, inr}
 use Rattle.std.specs.List.{flat_map}
@@ -10,7 +10,7 @@ use Rattle.lgm_gossip.specs.EncodedIds.{IsEncodedIds}
 use Rattle.lgm_gossip.specs.reading.EncodedIdsReading.{ids_of}
 use Rattle.lgm_gossip.proofs.WireLaws.{chosen, ok_is, IsBytes, IsBytes-rest, wide64}
 use Rattle.lgm_gossip.proofs.FieldLaws.{IsText}
-use Rattle.lgm_gossip.proofs.CellLaws.{IsCell, cells_take, cells_again, cells_len}
+use Rattle.lgm_gossip.proofs.FixedWidthLaws.{IsCell, cells_take, cells_again, cells_len}
 
 pub id_cell : IsCell (from_be_bytes w64) (to_be_bytes w64) (λ id. id < 2 ^ 64)
 id_cell = record {
@@ -23,7 +23,7 @@ id_cell = record {
 abbrev ids_in : List ℕ → List ℕ
 ids_in left = map (from_be_bytes w64) (first_chunks 8 (length left / 8) left)
 
--- the tests behind a first byte
+-- the tests after a first byte
 some_takes : (first : ℕ) (left ids : List ℕ) → IsBytes left → ids_of (first ∷ left) ≡ Ok ids → IsEncodedIds ids (first ∷ left)
 some_takes first left ids fits e =
     elim (chosen (not (eqb first 0)) (Err (Encoding first)) (cond (not (eqb (length left % 8) 0)) (Err Ids) (Ok (ids_in left))) (Ok ids) e) [
@@ -33,10 +33,10 @@ some_takes first left ids fits e =
         | inr whole ↦
             let zero_is : first ≡ 0 = eqb-true first 0 (not-false (eqb first 0) zeroed.0) in
             let even : length left % 8 ≡ 0 = eqb-true (length left % 8) 0 (not-false (eqb (length left % 8) 0) whole.0) in
-            let cells = cells_take id_cell (length left / 8) left (omega arith) fits in
+            let decode_all = cells_take id_cell (length left / 8) left (omega arith) fits in
             subst (λ (xs : List ℕ). IsEncodedIds xs (first ∷ left)) (ok_is (ids_in left) ids whole.1) (record {
-              fits = cells.fits;
-              spelled = inl (ap (λ (b : ℕ). b ∷ left) zero_is ∙ ap (λ (s : List ℕ). 0 ∷ s) cells.whole);
+              fits = decode_all.fits;
+              spelled = inl (ap (λ (b : ℕ). b ∷ left) zero_is ∙ ap (λ (s : List ℕ). 0 ∷ s) decode_all.whole);
             })
       ]
     ]

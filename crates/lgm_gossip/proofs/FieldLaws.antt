@@ -1,4 +1,4 @@
--- Fields: what is read is spelled so, and what is spelled so is read.
+-- Fields: reading returns a value if and only if the bytes encode it.
 use Rattle.std.proofs.Common.{◌≡◌, ℕ, ◌%◌, ◌^◌, ◌<◌, ◌≤◌, Bool, true, false, cond, ltb, List, [], ◌∷◌, ◌++◌, length}
 use Rattle.std.proofs.Common.{get_or, take, drop, Result, Ok, Err, refl, sym, ap, subst, ◌∙◌, append_assoc, arith}
 use Rattle.std.specs.Int.{Width, w8, w16, byte_len, from_be_bytes, to_be_bytes}
@@ -11,24 +11,24 @@ use Rattle.lgm_gossip.specs.declared.fault.DecodeFault.TheVariants.{Cut}
 use Rattle.lgm_gossip.specs.Fields.{fixed, number, counted, rest, Encloses}
 use Rattle.lgm_gossip.specs.reading.FieldReading.{fixed_at, number_at, counted_at, enclosed_at, rest_at}
 
--- a text of F was taken from the front
+-- a text of F was read from the front
 pub record Takes (F : List ℕ → Type 0) (bytes left : List ℕ) : Type 0 where
   pub text : List ℕ
   pub parts : bytes ≡ text ++ left
   pub is : F text
   pub left_fits : IsBytes left
 
--- a field: what is read is spelled so, and what is spelled so is read
+-- a field: reading returns a value if and only if the bytes encode it
 pub record IsField {A : Type 0} (at : List ℕ → Result (A × List ℕ) DecodeFault) (F : A → List ℕ → Type 0) : Type 0 where
   pub takes : (bytes : List ℕ) (x : A × List ℕ) → IsBytes bytes → at bytes ≡ Ok x → Takes (F x.0) bytes x.1
   pub again : (x : A) (text left : List ℕ) → F x text → at (text ++ left) ≡ Ok (x, left)
 
--- a field that takes all that is left
+-- a field that is all that is left
 pub record IsLast {A : Type 0} (at : List ℕ → Result (A × List ℕ) DecodeFault) (F : A → List ℕ → Type 0) : Type 0 where
   pub takes : (bytes : List ℕ) (x : A × List ℕ) → IsBytes bytes → at bytes ≡ Ok x → F x.0 bytes
   pub again : (x : A) (bytes : List ℕ) → F x bytes → at bytes ≡ Ok (x, [])
 
--- a test that let the reading go on
+-- a test that let the reading continue
 pub guard_ok : {A : Type 0} (b : Bool) (d : DecodeFault) (x y : A) → cond b (Err d) (Ok x) ≡ Ok y → (b ≡ false) × (x ≡ y)
 guard_ok true d x y e = absurd cc
 guard_ok false d x y e = (refl, cc)
@@ -117,12 +117,12 @@ rest_field = record {
   again = λ x bytes is. ap rest_at is;
 }
 
--- all of the bytes as one value: what is read is spelled so, and what is spelled so is read
+-- all of the bytes as one value: reading returns a value if and only if the bytes encode it
 pub record IsText {M : Type 0} (at : List ℕ → Result M DecodeFault) (Fields : M → List ℕ → Type 0) : Type 0 where
   pub takes : (bytes : List ℕ) (m : M) → IsBytes bytes → at bytes ≡ Ok m → Fields m bytes
   pub again : (m : M) (bytes : List ℕ) → Fields m bytes → at bytes ≡ Ok m
 
--- a value behind two bytes of its length
+-- a value after two bytes of its length
 pub enclosed_field : {A : Type 0} {read : List ℕ → Result A DecodeFault} {F : A → List ℕ → Type 0}
     → IsText read F → IsField (enclosed_at read) (λ x. Encloses (F x))
 enclosed_field {A} {read} {F} law = record {

@@ -1,4 +1,4 @@
--- gossip_timestamp_filter: what is read is spelled so, and what is spelled so is read.
+-- gossip_timestamp_filter: reading returns a value if and only if the bytes encode it.
 use Rattle.std.proofs.Common.{refl}
 use Rattle.std.specs.Int.{w32}
 use Rattle.lgm_gossip.specs.FilterMsg.{fields}

@@ -1,4 +1,4 @@
--- reply_short_channel_ids_end: what is read is spelled so, and what is spelled so is read.
+-- reply_short_channel_ids_end: reading returns a value if and only if the bytes encode it.
 use Rattle.std.proofs.Common.{refl}
 use Rattle.std.specs.Int.{w8}
 use Rattle.lgm_gossip.specs.IdsEnd.{fields}

@@ -1,4 +1,4 @@
--- query_short_channel_ids: what is read is spelled so, and what is spelled so is read.
+-- query_short_channel_ids: reading returns a value if and only if the bytes encode it.
 use Rattle.std.proofs.Common.{◌≡◌, ℕ, List, length, Option, Result, subst, refl}
 use Rattle.std.specs.Option.{ForSome}
 use Rattle.lgm_gossip.specs.declared.fault.DecodeFault.{DecodeFault}

@@ -3,8 +3,8 @@ pub mod MemoryLaws
 pub mod FieldLaws
 pub mod OrderLaws
 pub mod OptionalLaws
-pub mod CellLaws
-pub mod PartLaws
+pub mod FixedWidthLaws
+pub mod SegmentLaws
 pub mod EncodedIdsLaws
 pub mod QueryFlagsLaws
 pub mod TimestampListLaws

@@ -1,4 +1,4 @@
--- Readings that take memory only where it is asked for.
+-- Readings that allocate only if they are allowed to.
 use Rattle.std.proofs.Common.{◌≡◌, ℕ, ◌+◌, ◌<◌, ◌≤◌, ◌⊎◌, ltb, List, [], ◌∷◌, length, take, drop, Result, Ok, Err, ap, arith, inl, inr}
 use Rattle.std.specs.Int.{Width, w16, w32, byte_len, from_be_bytes}
 use Rattle.std.specs.List.{flat_map}
@@ -16,7 +16,7 @@ use Rattle.lgm_gossip.specs.reading.FieldReading.{fixed_at, number_at, counted_a
 use Rattle.lgm_gossip.specs.Memory.{GivesIf}
 use Rattle.lgm_gossip.proofs.WireLaws.{chosen, bind_ok, ok_is, two_bytes}
 
--- what is asked for aside
+-- apart from the allocation
 pub gives : {X Y E : Type 0} (asks : Type 0) (no_memory : E) (view : X → Y) (r : Result X E)
     (read : Result Y E) → GivesIf asks no_memory view r read → Gives no_memory view r read
 gives asks no_memory view (Ok x) read given = given
@@ -26,7 +26,7 @@ gives asks no_memory view (Err e) read given =
       | inr fault ↦ inr fault
     ]
 
--- where nothing is asked for, the result is what reading gives
+-- if nothing is allocated, the result is that of the reading
 pub sees_or : {X Y E : Type 0} (asks : Type 0) (no_memory : E) (view : X → Y) (r : Result X E)
     (read : Result Y E) → GivesIf asks no_memory view r read → Sees view r read ⊎ asks
 sees_or asks no_memory view (Ok x) read given = inl given
@@ -38,14 +38,14 @@ sees_or asks no_memory view (Err e) read given =
 
 -- ---- records
 
--- a stream with a record has two bytes at least
+-- a stream with a record has at least two bytes
 pub some_record : (l : List TlvRecord) (bytes : List ℕ) → IsTlvStream l bytes → 0 < length l → 1 < length bytes
 some_record [] bytes stream some = absurd (omega arith)
 some_record (r ∷ rs) bytes stream some =
     let whole = stream.whole in
     omega (arith, ap length whole, ap length (flat_map-cons record_bytes r rs), two_bytes r (flat_map record_bytes rs))
 
--- and reading fewer has no want of memory
+-- and reading fewer never runs out of memory
 pub few_bytes : (bytes : List ℕ) → length bytes < 2 → tlvs_of bytes ≡ Err wire_faults.NoMemory → ⊥
 unfolding tlvs_of tlvs_at record_at bigsize_at
 few_bytes [] few e = absurd cc
@@ -87,7 +87,7 @@ enclosed_len {A} read bytes x e =
     let same = ok_is (value.0, text.0.1) x value.2 in
     omega (arith, counted_len bytes text.0 text.1, ap (λ (p : A × List ℕ). length p.1) same)
 
--- a part that fails makes the whole fail; it lacks memory only if the whole may
+-- a step that fails makes the whole fail; it runs out of memory only if the whole may
 pub fails_with : {A B E : Type 0} {asks asked : Type 0} {no_memory e : E} {part : Result A E} {whole : Result B E}
     → (asked → asks) → (part ≡ Err e → whole ≡ Err e) → (asked × (e ≡ no_memory)) ⊎ (part ≡ Err e)
     → (asks × (e ≡ no_memory)) ⊎ (whole ≡ Err e)
@@ -96,7 +96,7 @@ fails_with few fault failed = elim failed [
   | inr bad ↦ inr (fault bad)
 ]
 
--- what is behind the chain and two numbers
+-- the bytes after the chain and two numbers
 pub blocks_len : (bytes : List ℕ) (chain : List ℕ × List ℕ) (first number : ℕ × List ℕ) → fixed_at 32 bytes ≡ Ok chain
     → number_at w32 chain.1 ≡ Ok first → number_at w32 first.1 ≡ Ok number → length bytes ≡ 40 + length number.1
 blocks_len bytes chain first number c f n =

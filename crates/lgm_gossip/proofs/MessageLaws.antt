@@ -1,4 +1,4 @@
--- The laws of messages: what is read is spelled so, and what is spelled so is read.
+-- The laws of messages: reading returns a value if and only if the bytes encode it.
 use Rattle.std.proofs.Common.{◌≡◌, ℕ, ◌+◌, ◌*◌, ◌/◌, ◌%◌, ◌<◌, ◌≤◌, false, cond, eqb, ltb, List, [], ◌∷◌, ◌++◌}
 use Rattle.std.proofs.Common.{length, None, Result, Ok, Err, refl, ap, sym, subst, ◌∙◌, arith, inl, inr}
 use Rattle.std.specs.Prelude.{IfOk, MatchResult}
@@ -38,7 +38,7 @@ kind_bytes kind high low lt e below =
     let bytes : kind / 256 % 256 ∷ kind % 256 ∷ [] ≡ high ∷ low ∷ [] = cc in
     bytes
 
--- one line of `body_at`: the bytes behind the type were read as its message, or by the lines below
+-- one line of `body_at`: the bytes after the type were read as its message, or by the lines below
 line : {M : Type 0} {at : List ℕ → Result M DecodeFault} {F : M → Field} (law : IsText at (λ x. (F x).Is))
     (variant : M → Message) (kind high low : ℕ) (body : List ℕ) (m : Message)
     (others : Result Message DecodeFault)
@@ -99,7 +99,7 @@ message_takes bytes m fits e =
           short = short;
         }) read
 
--- a message whose type and fields are read again
+-- a message whose type and fields are read back
 typed_again : {F : Field} (kind : ℕ) (bytes : List ℕ) (s : Spells kind F bytes) (m : Message)
     → typed_at (to_be_bytes w16 kind ++ s.body) ≡ Ok m → message_at bytes ≡ Ok m
 unfolding message_at

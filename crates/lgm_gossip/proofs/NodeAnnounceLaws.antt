@@ -1,4 +1,4 @@
--- node_announcement: what is read is spelled so, and what is spelled so is read.
+-- node_announcement: reading returns a value if and only if the bytes encode it.
 use Rattle.std.proofs.Common.{refl}
 use Rattle.std.specs.Int.{w32}
 use Rattle.lgm_gossip.specs.NodeAnnounce.{fields}

@@ -1,4 +1,4 @@
--- What may stand behind the last field: what is read is spelled so, and what is spelled so is read.
+-- What may follow the last field: reading returns a value if and only if the bytes encode it.
 use Rattle.std.proofs.Common.{◌≡◌, ℕ, ◌+◌, ◌%◌, ◌<◌, ◌≤◌, ◌⊎◌, false, cond, eqb, List, [], ◌∷◌, length, get_or, drop}
 use Rattle.std.proofs.Common.{Option, Some, None, Result, Ok, Err, refl, sym, ap, subst, ◌∙◌, arith, inl, inr}
 use Rattle.std.specs.Option.{ForSome}
@@ -27,7 +27,7 @@ value_here r rs e = rw (eq-eqb r.kind 1 e) refl
 value_later : (r : TlvRecord) (rs : List TlvRecord) → (r.kind ≡ 1 → ⊥) → value_of (r ∷ rs) ≡ value_of rs
 value_later r rs ne = rw (ne_eqb r.kind 1 ne) refl
 
--- the ways that one record goes: it is read, or skipped
+-- the two cases of one record: it is read, or skipped
 record Reads {A : Type 0} (read : List ℕ → Result A DecodeFault) (r : TlvRecord) (more : Option A) : Type 0 where
   kind : r.kind ≡ 1
   value : A
@@ -65,7 +65,7 @@ skips_one read known r unknown odd =
     let not_even : eqb (r.kind % 2) 0 ≡ false = ne_eqb (r.kind % 2) 0 (λ e. omega arith) in
     rw (ne_eqb r.kind 1 unknown, not_even) refl
 
--- behind type 1 there is no other of it
+-- after type 1 there is no other of it
 past_takes : {A : Type 0} (read : List ℕ → Result A DecodeFault) (known : Option A) (last : ℕ)
     (rs : List TlvRecord) (o : Option A) → 1 ≤ last → RisesFrom (Some last) rs
     → after_records read known rs ≡ Ok o → AllByRecursion IsOdd rs × (known ≡ o)
@@ -170,7 +170,7 @@ optional_field {A} {read} {F} law =
 abbrev pub Known : {A : Type 0} → (List ℕ → Result A DecodeFault) → Option A → List Tlv → Result (Option A) DecodeFault
 Known read known rs = after_records read known (records_of rs)
 
--- the record at i was looked at, and the next one comes
+-- the record at i was read, and the next one follows
 pub step_on : {A : Type 0} (read : List ℕ → Result A DecodeFault) (known more : Option A) (rs : List Tlv)
     (i : ℕ) (d : Tlv) (total : Result (Option A) DecodeFault) → i < length rs
     → after_record read known (record_of (get_or rs i d)) ≡ Ok more → Known read known (drop i rs) ≡ total → Known read more (drop (i + 1) rs) ≡ total
@@ -180,7 +180,7 @@ step_on read known more rs i d total lt e so_far =
     let one : Known read known (get_or rs i d ∷ drop (i + 1) rs) ≡ Known read more (drop (i + 1) rs) = rw e refl in
     sym (front ∙ one) ∙ so_far
 
--- the record at i is at fault
+-- the record at i is faulty
 pub step_fails : {A : Type 0} (read : List ℕ → Result A DecodeFault) (known : Option A) (rs : List Tlv)
     (i : ℕ) (d : Tlv) (f : DecodeFault) (total : Result (Option A) DecodeFault) → i < length rs
     → after_record read known (record_of (get_or rs i d)) ≡ Err f → Known read known (drop i rs) ≡ total → total ≡ Err f

@@ -1,4 +1,4 @@
--- Fields in order: what is read is spelled so, and what is spelled so is read.
+-- Fields in order: reading returns a value if and only if the bytes encode it.
 use Rattle.std.proofs.Common.{◌≡◌, ℕ, List, Result, Ok, sym, ap, subst, ◌∙◌}
 use Rattle.lgm_gossip.specs.declared.fault.DecodeFault.{DecodeFault}
 use Rattle.lgm_gossip.specs.Fields.{Joined}
@@ -6,12 +6,12 @@ use Rattle.lgm_gossip.specs.reading.FieldReading.{read_on, made}
 use Rattle.lgm_gossip.proofs.WireLaws.{bind_ok, ok_is, IsBytes}
 use Rattle.lgm_gossip.proofs.FieldLaws.{IsField, IsLast, IsText}
 
--- the last fields of a message, which are read behind values that it has too
+-- the last fields of a message, which are read after values that it has too
 pub record Reads {X M : Type 0} (at : X → List ℕ → Result M DecodeFault) (known : M → X) (Fields : M → List ℕ → Type 0) : Type 0 where
   pub takes : (x : X) (bytes : List ℕ) (m : M) → IsBytes bytes → at x bytes ≡ Ok m → (known m ≡ x) × Fields m bytes
   pub again : (m : M) (bytes : List ℕ) → Fields m bytes → at (known m) bytes ≡ Ok m
 
--- one field more in front
+-- one more field in front
 pub then_reads : {X A M : Type 0} {p : List ℕ → Result (A × List ℕ) DecodeFault} {F : A → List ℕ → Type 0}
     {known : M → X} {G : M → List ℕ → Type 0} (others : X → A → List ℕ → Result M DecodeFault)
     → IsField p F → (get : M → A) → Reads (λ (y : X × A). others y.0 y.1) (λ m. (known m, get m)) G
@@ -35,7 +35,7 @@ then_reads {X} {A} {M} {p} {F} {known} {G} others first get tail = record {
       joined.back joined.front_is) (tail.again m joined.back joined.back_is);
 }
 
--- the last field, which takes all that is left
+-- the last field, which is all that is left
 pub last_reads : {X A M : Type 0} {q : X → List ℕ → Result (A × List ℕ) DecodeFault} {G : X → A → List ℕ → Type 0} {known : M → X} (make : X → A → M)
     → ((x : X) → IsLast (q x) (G x)) → (get : M → A) → ((m : M) → make (known m) (get m) ≡ m)
     → ((x : X) (a : A) → (known (make x a) ≡ x) × (get (make x a) ≡ a))

@@ -1,4 +1,4 @@
--- Query flags: what is read is spelled so, and what is spelled so is read.
+-- Query flags: reading returns a value if and only if the bytes encode it.
 use Rattle.std.proofs.Common.{◌≡◌, ℕ, zero, suc, ◌+◌, ◌-◌, ◌^◌, ◌<◌, ◌≤◌, eqb, not, List, [], ◌∷◌, ◌++◌, length}
 use Rattle.std.proofs.Common.{drop, Result, Ok, Err, refl, sym, ap, subst, ◌∙◌, append_assoc, arith, inl, inr}
 use Rattle.std.specs.List.{flat_map, AllByRecursion}
@@ -71,7 +71,7 @@ query_flags_text count = record {
               record { fits = are.fits; one_each = are.one_each; spelled = ap (λ (b : ℕ). b ∷ left) zero_is ∙ ap (λ (s : List ℕ). 0 ∷ s) are.whole }
         ]
 
--- ---- what `read_bigsize` gave
+-- ---- the result of `read_bigsize`
 
 pub flag_found : (bytes : List ℕ) (v n : ℕ) → ReadsBig bytes (Ok (v, n)) → flag_at bytes ≡ Ok (v, drop n bytes)
 flag_found bytes v n reads = ap or_flags (big_found bytes v n reads)
@@ -82,7 +82,7 @@ flag_not_found bytes r e fits failed reads = ap or_flags (big_not_found bytes r 
 
 -- ---- the loop over the flags
 
--- some flags, and then what reading gives
+-- some flags, and then the result of reading
 abbrev pub with_front : List ℕ → Result (List ℕ) DecodeFault → Result (List ℕ) DecodeFault
 with_front front read = read >>= λ others. Ok (front ++ others)
 

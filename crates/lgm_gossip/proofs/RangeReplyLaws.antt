@@ -1,4 +1,4 @@
--- reply_channel_range: what is read is spelled so, and what is spelled so is read.
+-- reply_channel_range: reading returns a value if and only if the bytes encode it.
 use Rattle.std.proofs.Common.{◌≡◌, ℕ, List, length, Option, Result, subst, refl}
 use Rattle.std.specs.Int.{w8, w32}
 use Rattle.std.specs.Option.{ForSome}
@@ -6,7 +6,7 @@ use Rattle.lgm_gossip.specs.declared.fault.DecodeFault.{DecodeFault}
 use Rattle.lgm_gossip.specs.declared.timestamps.Timestamps.{Timestamps}
 use Rattle.lgm_gossip.specs.reading.OptionalReading.{optional_of}
 use Rattle.lgm_gossip.specs.reading.TimestampListReading.{timestamps_at}
-use Rattle.lgm_gossip.specs.RangeReply.{Reply, fields}
+use Rattle.lgm_gossip.specs.RangeReply.{ReplyFields, fields}
 use Rattle.lgm_gossip.specs.reading.RangeReplyReading.{range_reply_at}
 use Rattle.lgm_gossip.proofs.WireLaws.{wide32}
 use Rattle.lgm_gossip.proofs.FieldLaws.{IsText, fixed_field, number_field, enclosed_field, wide8}
@@ -26,7 +26,7 @@ range_reply_text = all_reads
     (last_reads _ (λ x. optional_field (timestamps_text (length x.1))) (λ m. m.timestamps) (λ m. refl) (λ x a. (refl, refl))))))))
 
 -- there is a pair of timestamps for each id
-pub one_each : (m : Reply) (b : List ℕ) → (fields m).Is b → ForSome m.timestamps (λ pairs. length pairs ≡ length m.ids)
+pub one_each : (m : ReplyFields) (b : List ℕ) → (fields m).Is b → ForSome m.timestamps (λ pairs. length pairs ≡ length m.ids)
 one_each m b is =
     let ids_on = is.back_is.back_is.back_is.back_is in
     optional_for (λ pairs. length pairs ≡ length m.ids) (λ pairs text is. is.one_each) m.timestamps ids_on.back ids_on.back_is

@@ -1,4 +1,4 @@
--- Timestamps: what is read is spelled so, and what is spelled so is read.
+-- Timestamps: reading returns a value if and only if the bytes encode it.
 use Rattle.std.proofs.Common.{◌≡◌, ℕ, ◌*◌, ◌/◌, ◌%◌, true, cond, eqb, not, List, [], ◌∷◌, ◌++◌, length}
 use Rattle.std.proofs.Common.{map, take, drop, Ok, Err, refl, sym, ap, subst, ◌∙◌, arith, inl, inr}
 use Rattle.std.specs.List.{flat_map}
@@ -12,7 +12,7 @@ use Rattle.lgm_gossip.specs.TimestampList.{pair_bytes, PairFits, IsTimestampList
 use Rattle.lgm_gossip.specs.reading.TimestampListReading.{pair_of, timestamps_at}
 use Rattle.lgm_gossip.proofs.WireLaws.{chosen, ok_is, IsBytes, IsBytes-rest, IsBytes-take, IsBytes-drop, wide32}
 use Rattle.lgm_gossip.proofs.FieldLaws.{IsText}
-use Rattle.lgm_gossip.proofs.CellLaws.{IsCell, cells_take, cells_again, cells_len}
+use Rattle.lgm_gossip.proofs.FixedWidthLaws.{IsCell, cells_take, cells_again, cells_len}
 
 pub pair_cell : IsCell pair_of pair_bytes PairFits
 pair_cell = record {
@@ -58,11 +58,11 @@ timestamps_take count (first ∷ left) pairs fits e =
                   let zero_is : first ≡ 0 = eqb-true first 0 (not-false (eqb first 0) zeroed.0) in
                   let count_is : length left / 8 ≡ count = eqb-true (length left / 8) count (not-false (eqb (length left / 8) count) counted.0) in
                   let even : length left % 8 ≡ 0 = eqb-true (length left % 8) 0 (not-false (eqb (length left % 8) 0) whole.0) in
-                  let cells = cells_take pair_cell (length left / 8) left (omega arith) (IsBytes-rest first left fits) in
+                  let decode_all = cells_take pair_cell (length left / 8) left (omega arith) (IsBytes-rest first left fits) in
                   subst (λ (xs : List Timestamps). IsTimestampList count xs (first ∷ left)) (ok_is (pairs_in left) pairs whole.1) (record {
-                    fits = cells.fits;
-                    one_each = cells.count_is ∙ count_is;
-                    spelled = ap (λ (b : ℕ). b ∷ left) zero_is ∙ ap (λ (s : List ℕ). 0 ∷ s) cells.whole;
+                    fits = decode_all.fits;
+                    one_each = decode_all.count_is ∙ count_is;
+                    spelled = ap (λ (b : ℕ). b ∷ left) zero_is ∙ ap (λ (s : List ℕ). 0 ∷ s) decode_all.whole;
                   })
             ]
           ]

@@ -1,4 +1,4 @@
--- What the laws of messages need of the wire: its lemmas under one roof, and a few of the same kind.
+-- What the laws of messages need of the wire: its lemmas in one place, and a few of the same kind.
 use Rattle.std.proofs.Common.{◌≡◌, ℕ, ◌≤◌, ◌↔◌, List, [], ◌∷◌, ◌++◌, length, take, drop, Result, Ok, Err, refl, sym, ap, ◌∙◌, arith, inl, inr}
 use Rattle.std.specs.List.{flat_map, AllByRecursion}
 use Rattle.std.proofs.lemmas.Bool.{cases_lt}
@@ -32,7 +32,7 @@ values_fit (r ∷ rs) bytes fits e =
       values_fit rs (flat_map record_bytes rs) left refl,
     )
 
--- what the clause of `read_bigsize` says of the reading of lists
+-- the clause of `read_bigsize`, for the reading of lists
 abbrev pub ReadsBig : List ℕ → Result (ℕ × ℕ) WireFault → Type 0
 ReadsBig bytes result = (v n : ℕ) → (result ≡ Ok (v, n)) ↔ ((n ≤ length bytes) × IsBigSize v (take n bytes))
 

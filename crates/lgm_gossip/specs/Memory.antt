@@ -1,4 +1,4 @@
--- Which bytes need memory to be read: those of a message with a list that isn't empty.
+-- Which bytes allocate when they are read: those of a message with a list that isn't empty.
 use Rattle.std.specs.Prelude.{◌≡◌, ℕ, ◌+◌, ◌*◌, ◌<◌, ◌≤◌, ◌⊎◌, List, [], ◌∷◌, length, Result, Ok, Err}
 
 -- the result is that of the reading, or out of memory if something was to be allocated

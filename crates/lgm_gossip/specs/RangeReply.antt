@@ -9,7 +9,7 @@ use Rattle.lgm_gossip.specs.Optional.{optional}
 use Rattle.lgm_gossip.specs.TimestampList.{pairs_text, IsTimestampList}
 
 -- what contracts see of the message
-pub record Reply : Type 0 where
+pub record ReplyFields : Type 0 where
   pub chain_hash : ChainHash
   pub first_blocknum : ℕ
   pub number_of_blocks : ℕ
@@ -17,7 +17,7 @@ pub record Reply : Type 0 where
   pub ids : List ℕ
   pub timestamps : Option (List Timestamps)
 
-abbrev pub fields : Reply → Field
+abbrev pub fields : ReplyFields → Field
 fields m =
     fixed 32 m.chain_hash.0
     ⌢ number w32 m.first_blocknum

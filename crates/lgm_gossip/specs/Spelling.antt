@@ -19,7 +19,7 @@ abbrev pub spelling : Message → List ℕ
 spelling m = typed (layout m).kind (layout m).fields.texts
 
 -- the result of encoding: the two bytes of the type and the texts, which encode the fields, if and only if they aren't
--- too long. A part that exceeds its length field makes them too long.
+-- too long. A segment that exceeds its length field makes them too long.
 pub record Encodes (kind : ℕ) (F : Field) (result : Result (List ℕ) EncodeFault) : Type 0 where
   pub too_long : (result ≡ Err TooLong) ↔ (65535 < length (typed kind F.texts))
   pub text : IfOk result (λ b. b ≡ typed kind F.texts)

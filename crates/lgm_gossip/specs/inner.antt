@@ -1,3 +1,3 @@
 -- Definitions for contracts inside the crate.
-pub mod Part
+pub mod Segment
 pub mod AddressesReading

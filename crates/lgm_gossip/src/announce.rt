@@ -3,14 +3,12 @@
 ghost use Rattle.std.specs.Prelude.{◌≡◌};
 ghost use Rattle.lgm_wire.specs.reading.Reading.{Sees};
 
-use crate::bytes::Bytes;
+use crate::borrowed::{BorrowedBytes, Signature};
 use crate::encode_fault::EncodeFault;
 use crate::fault::DecodeFault;
 use crate::fields::{counted, fixed, number64, signature};
-use crate::joining::{join, whole};
-use crate::lent::{Lent, Signature};
-use crate::measuring::measure;
-use crate::part::Part;
+use crate::segment::{Segment, encoded_len, join, whole};
+use crate::sequence::Bytes;
 use lgm_wire::{ChainHash, Point, Scid};
 use std::alloc::Global;
 
@@ -27,7 +25,7 @@ pub struct Announce<'a> {
     /// The signature by the second bitcoin key.
     pub bitcoin_signature_2: Signature<'a>,
     /// Feature bits, numbered from the least significant bit of the last byte.
-    pub features: Lent<'a>,
+    pub features: BorrowedBytes<'a>,
     /// The chain of the funding output.
     pub chain_hash: ChainHash,
     /// The channel id: the position of the funding output in the chain.
@@ -41,7 +39,7 @@ pub struct Announce<'a> {
     /// Node 2's key of the 2-of-2 funding output.
     pub bitcoin_key_2: Point,
     /// Trailing bytes, kept so that the message can be forwarded unchanged.
-    pub rest: Lent<'a>,
+    pub rest: BorrowedBytes<'a>,
 }
 
 impl<'a> Announce<'a> {
@@ -50,16 +48,16 @@ impl<'a> Announce<'a> {
     ghost use Rattle.lgm_gossip.specs.Spelling.{Encodes};
 
     /// The same message, borrowed again.
-    pub fn again(&self) -> Announce<'a>
+    pub fn reborrow(&self) -> Announce<'a>
         ensures { result ≡ self.now }
     {
         Announce {
-            node_signature_1: self.node_signature_1.again(),
-            node_signature_2: self.node_signature_2.again(),
-            bitcoin_signature_1: self.bitcoin_signature_1.again(),
-            bitcoin_signature_2: self.bitcoin_signature_2.again(),
-            features: self.features.again(),
-            rest: self.rest.again(),
+            node_signature_1: self.node_signature_1.reborrow(),
+            node_signature_2: self.node_signature_2.reborrow(),
+            bitcoin_signature_1: self.bitcoin_signature_1.reborrow(),
+            bitcoin_signature_2: self.bitcoin_signature_2.reborrow(),
+            features: self.features.reborrow(),
+            rest: self.rest.reborrow(),
             ..*self
         }
     }
@@ -85,14 +83,14 @@ impl<'a> Announce<'a> {
             node_signature_2,
             bitcoin_signature_1,
             bitcoin_signature_2,
-            features: Lent::new(features),
+            features: BorrowedBytes::new(features),
             chain_hash: ChainHash(chain_hash),
             short_channel_id: Scid::from_u64(short_channel_id),
             node_id_1: Point(node_id_1),
             node_id_2: Point(node_id_2),
             bitcoin_key_1: Point(bitcoin_key_1),
             bitcoin_key_2: Point(bitcoin_key_2),
-            rest: Lent::new(rest),
+            rest: BorrowedBytes::new(rest),
         })
     }
 
@@ -100,25 +98,25 @@ impl<'a> Announce<'a> {
     pub(crate) fn encode(&self, alloc: Global) -> Result<Bytes, EncodeFault>
         ensures { Encodes 256 (fields self.now) result }
     {
-        let features = Part::Bytes(self.features.as_slice());
-        let features_len = measure(&[features])?;
+        let features = Segment::Bytes(self.features.as_slice());
+        let features_len = encoded_len(&[features])?;
         join(
             alloc,
             &[
-                Part::Number16(256),
-                self.node_signature_1.part(),
-                self.node_signature_2.part(),
-                self.bitcoin_signature_1.part(),
-                self.bitcoin_signature_2.part(),
-                Part::Number16(features_len),
+                Segment::Number16(256),
+                self.node_signature_1.segment(),
+                self.node_signature_2.segment(),
+                self.bitcoin_signature_1.segment(),
+                self.bitcoin_signature_2.segment(),
+                Segment::Number16(features_len),
                 features,
                 whole(&self.chain_hash.0),
-                Part::Number64(self.short_channel_id.to_u64()),
+                Segment::Number64(self.short_channel_id.to_u64()),
                 whole(&self.node_id_1.0),
                 whole(&self.node_id_2.0),
                 whole(&self.bitcoin_key_1.0),
                 whole(&self.bitcoin_key_2.0),
-                Part::Bytes(self.rest.as_slice()),
+                Segment::Bytes(self.rest.as_slice()),
             ],
         )
     }

@@ -3,13 +3,12 @@
 ghost use Rattle.std.specs.Prelude.{◌≡◌};
 ghost use Rattle.lgm_wire.specs.reading.Reading.{Sees};
 
-use crate::bytes::Bytes;
+use crate::borrowed::{BorrowedBytes, Signature};
 use crate::encode_fault::EncodeFault;
 use crate::fault::DecodeFault;
 use crate::fields::{fixed, number8, number16, number32, number64, signature};
-use crate::joining::{join, whole};
-use crate::lent::{Lent, Signature};
-use crate::part::Part;
+use crate::segment::{Segment, join, whole};
+use crate::sequence::Bytes;
 use lgm_wire::{ChainHash, Scid};
 use std::alloc::Global;
 
@@ -36,12 +35,12 @@ pub struct ChannelUpdate<'a> {
     pub htlc_minimum_msat: u64,
     /// The base fee, in msat.
     pub fee_base_msat: u32,
-    /// The proportional fee, in millionths of the amount.
+    /// The proportional fee, in millionths of the amount (ppm).
     pub fee_proportional_millionths: u32,
     /// The greatest amount that is forwarded, in msat.
     pub htlc_maximum_msat: u64,
     /// Trailing bytes, kept so that the message can be forwarded unchanged.
-    pub rest: Lent<'a>,
+    pub rest: BorrowedBytes<'a>,
 }
 
 impl<'a> ChannelUpdate<'a> {
@@ -50,12 +49,12 @@ impl<'a> ChannelUpdate<'a> {
     ghost use Rattle.lgm_gossip.specs.Spelling.{Encodes};
 
     /// The same message, borrowed again.
-    pub fn again(&self) -> ChannelUpdate<'a>
+    pub fn reborrow(&self) -> ChannelUpdate<'a>
         ensures { result ≡ self.now }
     {
         ChannelUpdate {
-            signature: self.signature.again(),
-            rest: self.rest.again(),
+            signature: self.signature.reborrow(),
+            rest: self.rest.reborrow(),
             ..*self
         }
     }
@@ -88,7 +87,7 @@ impl<'a> ChannelUpdate<'a> {
             fee_base_msat,
             fee_proportional_millionths,
             htlc_maximum_msat,
-            rest: Lent::new(rest),
+            rest: BorrowedBytes::new(rest),
         })
     }
 
@@ -99,19 +98,19 @@ impl<'a> ChannelUpdate<'a> {
         join(
             alloc,
             &[
-                Part::Number16(258),
-                self.signature.part(),
+                Segment::Number16(258),
+                self.signature.segment(),
                 whole(&self.chain_hash.0),
-                Part::Number64(self.short_channel_id.to_u64()),
-                Part::Number32(self.timestamp),
-                Part::Number8(self.message_flags),
-                Part::Number8(self.channel_flags),
-                Part::Number16(self.cltv_expiry_delta),
-                Part::Number64(self.htlc_minimum_msat),
-                Part::Number32(self.fee_base_msat),
-                Part::Number32(self.fee_proportional_millionths),
-                Part::Number64(self.htlc_maximum_msat),
-                Part::Bytes(self.rest.as_slice()),
+                Segment::Number64(self.short_channel_id.to_u64()),
+                Segment::Number32(self.timestamp),
+                Segment::Number8(self.message_flags),
+                Segment::Number8(self.channel_flags),
+                Segment::Number16(self.cltv_expiry_delta),
+                Segment::Number64(self.htlc_minimum_msat),
+                Segment::Number32(self.fee_base_msat),
+                Segment::Number32(self.fee_proportional_millionths),
+                Segment::Number64(self.htlc_maximum_msat),
+                Segment::Bytes(self.rest.as_slice()),
             ],
         )
     }

@@ -5,19 +5,19 @@ ghost use Rattle.std.specs.Int.{w64, from_be_bytes};
 ghost use Rattle.lgm_gossip.specs.reading.EncodedIdsReading.{ids_of, encoded_ids_at};
 ghost use Rattle.lgm_gossip.specs.Memory.{GivesIf};
 
-use crate::cells::{Cell, cells};
 use crate::fault::DecodeFault;
 use crate::fields::counted;
-use crate::items::Items;
+use crate::fixed_width::{FixedWidth, decode_all};
+use crate::sequence::Sequence;
 use lgm_wire::Scid;
 use std::alloc::Global;
 
 /// A list of channel ids.
-pub type Scids = Items<Scid>;
+pub type Scids = Sequence<Scid>;
 
 /// A big-endian number.
-impl Cell for Scid {
-    ghost cell_of = { from_be_bytes w64 };
+impl FixedWidth for Scid {
+    ghost value_of = { from_be_bytes w64 };
 
     fn from_bytes(bytes: &[u8; 8]) -> Scid {
         Scid::from_u64(u64::from_be_bytes(*bytes))
@@ -35,7 +35,7 @@ fn ids(alloc: Global, bytes: &[u8]) -> Result<Scids, DecodeFault>
             if !left.is_empty() {
                 return Err(DecodeFault::Ids);
             }
-            Ok(cells(alloc, chunks)?)
+            Ok(decode_all(alloc, chunks)?)
         }
         [first, ..] => Err(DecodeFault::Encoding(*first)),
     }

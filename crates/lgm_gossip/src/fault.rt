@@ -7,7 +7,7 @@ use lgm_wire::WireFault;
 use std::alloc::AllocError;
 use thiserror::Error;
 
-/// The first fault of bytes that don't encode a message, or out of memory. [`decode`](crate::decode) has the order.
+/// The first fault of bytes that don't encode a message, or out of memory. [`decode`](crate::decoder) has the order.
 #[derive(Clone, Copy, Debug, PartialEq, Eq, Error)]
 pub enum DecodeFault {
     /// More than 65,535 bytes.

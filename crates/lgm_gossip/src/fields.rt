@@ -5,8 +5,8 @@ ghost use Rattle.std.specs.Int.{w8, w16, w32, w64};
 ghost use Rattle.lgm_wire.specs.reading.Reading.{Sees};
 ghost use Rattle.lgm_gossip.specs.reading.FieldReading.{fixed_at, number_at, counted_at};
 
+use crate::borrowed::Signature;
 use crate::fault::DecodeFault;
-use crate::lent::Signature;
 
 /// A field of `N` bytes.
 pub fn fixed<const N: usize>(bytes: &[u8]) -> Result<([u8; N], &[u8]), DecodeFault>
@@ -61,7 +61,7 @@ pub fn number64(bytes: &[u8]) -> Result<(u64, &[u8]), DecodeFault>
 }
 
 /// A field of `len` bytes, borrowed from the input.
-pub fn part(len: usize, bytes: &[u8]) -> Result<(&[u8], &[u8]), DecodeFault>
+pub fn segment(len: usize, bytes: &[u8]) -> Result<(&[u8], &[u8]), DecodeFault>
     ensures { Sees (λ x. (x.0.now, x.1.now)) result (fixed_at len bytes.now) }
 {
     if bytes.len() < len {
@@ -75,5 +75,5 @@ pub fn counted(bytes: &[u8]) -> Result<(&[u8], &[u8]), DecodeFault>
     ensures { Sees (λ x. (x.0.now, x.1.now)) result (counted_at bytes.now) }
 {
     let (len, rest) = number16(bytes)?;
-    part(usize::from(len), rest)
+    segment(usize::from(len), rest)
 }

@@ -2,12 +2,11 @@
 
 ghost use Rattle.lgm_wire.specs.reading.Reading.{Sees};
 
-use crate::bytes::Bytes;
 use crate::encode_fault::EncodeFault;
 use crate::fault::DecodeFault;
 use crate::fields::{fixed, number32};
-use crate::joining::{join, whole};
-use crate::part::Part;
+use crate::segment::{Segment, join, whole};
+use crate::sequence::Bytes;
 use lgm_wire::ChainHash;
 use std::alloc::Global;
 
@@ -50,10 +49,10 @@ impl FilterMsg {
         join(
             alloc,
             &[
-                Part::Number16(265),
+                Segment::Number16(265),
                 whole(&self.chain_hash.0),
-                Part::Number32(self.first_timestamp),
-                Part::Number32(self.timestamp_range),
+                Segment::Number32(self.first_timestamp),
+                Segment::Number32(self.timestamp_range),
             ],
         )
     }

@@ -2,12 +2,11 @@
 
 ghost use Rattle.lgm_wire.specs.reading.Reading.{Sees};
 
-use crate::bytes::Bytes;
 use crate::encode_fault::EncodeFault;
 use crate::fault::DecodeFault;
 use crate::fields::{fixed, number8};
-use crate::joining::{join, whole};
-use crate::part::Part;
+use crate::segment::{Segment, join, whole};
+use crate::sequence::Bytes;
 use lgm_wire::ChainHash;
 use std::alloc::Global;
 
@@ -46,9 +45,9 @@ impl IdsEnd {
         join(
             alloc,
             &[
-                Part::Number16(262),
+                Segment::Number16(262),
                 whole(&self.chain_hash.0),
-                Part::Number8(self.full_information),
+                Segment::Number8(self.full_information),
             ],
         )
     }

@@ -3,16 +3,14 @@
 ghost use Rattle.std.specs.Prelude.{◌<◌, length};
 ghost use Rattle.lgm_gossip.specs.Memory.{GivesIf};
 
-use crate::bytes::Bytes;
 use crate::encode_fault::EncodeFault;
 use crate::encoded_ids::{Scids, encoded_ids};
 use crate::fault::DecodeFault;
 use crate::fields::fixed;
-use crate::joining::{join, whole};
-use crate::measuring::measure;
 use crate::optional::optional;
-use crate::part::Part;
 use crate::query_flags::QueryFlags;
+use crate::segment::{Segment, encoded_len, join, whole};
+use crate::sequence::Bytes;
 use lgm_wire::ChainHash;
 use std::alloc::Global;
 use std::marker::Model;
@@ -66,20 +64,20 @@ impl IdsQuery {
     pub(crate) fn encode(&self, alloc: Global) -> Result<Bytes, EncodeFault>
         ensures { Encodes 261 (fields self.now) result }
     {
-        let ids = Part::Ids(self.ids.as_slice());
-        let ids_len = measure(&[Part::Number8(0), ids])?;
+        let ids = Segment::Ids(self.ids.as_slice());
+        let ids_len = encoded_len(&[Segment::Number8(0), ids])?;
         let front = [
-            Part::Number16(261),
+            Segment::Number16(261),
             whole(&self.chain_hash.0),
-            Part::Number16(ids_len),
-            Part::Number8(0),
+            Segment::Number16(ids_len),
+            Segment::Number8(0),
             ids,
         ];
         let Some(flags) = &self.flags else {
             return join(alloc, &front);
         };
-        let flags = Part::Bigs(flags.as_slice());
-        let flags_len = measure(&[Part::Number8(0), flags])?;
+        let flags = Segment::Bigs(flags.as_slice());
+        let flags_len = encoded_len(&[Segment::Number8(0), flags])?;
         let [kind, chain, len, encoding, ids] = front;
         join(
             alloc,
@@ -89,9 +87,9 @@ impl IdsQuery {
                 len,
                 encoding,
                 ids,
-                Part::Big(1),
-                Part::Big(u64::from(flags_len)),
-                Part::Number8(0),
+                Segment::Big(1),
+                Segment::Big(u64::from(flags_len)),
+                Segment::Number8(0),
                 flags,
             ],
         )

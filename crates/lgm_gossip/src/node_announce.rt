@@ -3,14 +3,12 @@
 ghost use Rattle.std.specs.Prelude.{◌≡◌};
 ghost use Rattle.lgm_wire.specs.reading.Reading.{Sees};
 
-use crate::bytes::Bytes;
+use crate::borrowed::{BorrowedBytes, Signature};
 use crate::encode_fault::EncodeFault;
 use crate::fault::DecodeFault;
 use crate::fields::{counted, fixed, number32, signature};
-use crate::joining::{join, whole};
-use crate::lent::{Lent, Signature};
-use crate::measuring::measure;
-use crate::part::Part;
+use crate::segment::{Segment, encoded_len, join, whole};
+use crate::sequence::Bytes;
 use lgm_wire::Point;
 use std::alloc::Global;
 
@@ -20,7 +18,7 @@ pub struct NodeAnnounce<'a> {
     /// The signature of the node.
     pub signature: Signature<'a>,
     /// Feature bits, numbered from the least significant bit of the last byte.
-    pub features: Lent<'a>,
+    pub features: BorrowedBytes<'a>,
     /// Seconds since 1970. Of two announcements of a node the one with the greater timestamp applies.
     pub timestamp: u32,
     /// The announced node, which signs.
@@ -30,9 +28,9 @@ pub struct NodeAnnounce<'a> {
     /// The node's alias, UTF-8 padded with zeros, as received.
     pub alias: [u8; 32],
     /// Address descriptors, as received: [`addresses`](crate::addresses) parses them.
-    pub addresses: Lent<'a>,
+    pub addresses: BorrowedBytes<'a>,
     /// Trailing bytes, kept so that the message can be forwarded unchanged.
-    pub rest: Lent<'a>,
+    pub rest: BorrowedBytes<'a>,
 }
 
 impl<'a> NodeAnnounce<'a> {
@@ -41,14 +39,14 @@ impl<'a> NodeAnnounce<'a> {
     ghost use Rattle.lgm_gossip.specs.Spelling.{Encodes};
 
     /// The same message, borrowed again.
-    pub fn again(&self) -> NodeAnnounce<'a>
+    pub fn reborrow(&self) -> NodeAnnounce<'a>
         ensures { result ≡ self.now }
     {
         NodeAnnounce {
-            signature: self.signature.again(),
-            features: self.features.again(),
-            addresses: self.addresses.again(),
-            rest: self.rest.again(),
+            signature: self.signature.reborrow(),
+            features: self.features.reborrow(),
+            addresses: self.addresses.reborrow(),
+            rest: self.rest.reborrow(),
             ..*self
         }
     }
@@ -67,13 +65,13 @@ impl<'a> NodeAnnounce<'a> {
         let (addresses, rest) = counted(rest)?;
         Ok(NodeAnnounce {
             signature,
-            features: Lent::new(features),
+            features: BorrowedBytes::new(features),
             timestamp,
             node_id: Point(node_id),
             rgb_color,
             alias,
-            addresses: Lent::new(addresses),
-            rest: Lent::new(rest),
+            addresses: BorrowedBytes::new(addresses),
+            rest: BorrowedBytes::new(rest),
         })
     }
 
@@ -81,24 +79,24 @@ impl<'a> NodeAnnounce<'a> {
     pub(crate) fn encode(&self, alloc: Global) -> Result<Bytes, EncodeFault>
         ensures { Encodes 257 (fields self.now) result }
     {
-        let features = Part::Bytes(self.features.as_slice());
-        let features_len = measure(&[features])?;
-        let addresses = Part::Bytes(self.addresses.as_slice());
-        let addresses_len = measure(&[addresses])?;
+        let features = Segment::Bytes(self.features.as_slice());
+        let features_len = encoded_len(&[features])?;
+        let addresses = Segment::Bytes(self.addresses.as_slice());
+        let addresses_len = encoded_len(&[addresses])?;
         join(
             alloc,
             &[
-                Part::Number16(257),
-                self.signature.part(),
-                Part::Number16(features_len),
+                Segment::Number16(257),
+                self.signature.segment(),
+                Segment::Number16(features_len),
                 features,
-                Part::Number32(self.timestamp),
+                Segment::Number32(self.timestamp),
                 whole(&self.node_id.0),
                 whole(&self.rgb_color),
                 whole(&self.alias),
-                Part::Number16(addresses_len),
+                Segment::Number16(addresses_len),
                 addresses,
-                Part::Bytes(self.rest.as_slice()),
+                Segment::Bytes(self.rest.as_slice()),
             ],
         )
     }

@@ -4,15 +4,15 @@ ghost use Rattle.lgm_wire.specs.reading.Reading.{Sees, Gives};
 ghost use Rattle.lgm_gossip.specs.reading.QueryFlagsReading.{flag_at, all_flags_at, query_flags_at};
 
 use crate::fault::DecodeFault;
-use crate::items::Items;
 use crate::optional::RecordValue;
+use crate::sequence::Sequence;
 use lgm_wire::read_bigsize;
 use std::alloc::Global;
 
 /// The flags of a query, one number per id: bit 0 requests the channel announcement, bits 1 and 2 the updates by node 1
 /// and node 2, bits 3 and 4 the announcements of node 1 and node 2 (BOLT 7, "The
 /// query_short_channel_ids/reply_short_channel_ids_end Messages").
-pub type QueryFlags = Items<u64>;
+pub type QueryFlags = Sequence<u64>;
 
 /// The leading number, and the bytes after it.
 fn flag(bytes: &[u8]) -> Result<(u64, &[u8]), DecodeFault>

@@ -4,14 +4,12 @@ ghost use Rattle.std.specs.Prelude.{◌<◌, length};
 ghost use Rattle.lgm_gossip.specs.Memory.{GivesIf};
 ghost use Rattle.lgm_gossip.specs.reading.RangeQueryReading.{options_at};
 
-use crate::bytes::Bytes;
 use crate::encode_fault::EncodeFault;
 use crate::fault::DecodeFault;
 use crate::fields::{fixed, number32};
-use crate::joining::{join, whole};
-use crate::measuring::bigsize_len;
 use crate::optional::{RecordValue, optional};
-use crate::part::Part;
+use crate::segment::{Segment, bigsize_len, join, whole};
+use crate::sequence::Bytes;
 use lgm_wire::{ChainHash, read_bigsize};
 use std::alloc::Global;
 
@@ -71,23 +69,23 @@ impl RangeQuery {
             return join(
                 alloc,
                 &[
-                    Part::Number16(263),
+                    Segment::Number16(263),
                     whole(&self.chain_hash.0),
-                    Part::Number32(self.first_blocknum),
-                    Part::Number32(self.number_of_blocks),
+                    Segment::Number32(self.first_blocknum),
+                    Segment::Number32(self.number_of_blocks),
                 ],
             );
         };
         join(
             alloc,
             &[
-                Part::Number16(263),
+                Segment::Number16(263),
                 whole(&self.chain_hash.0),
-                Part::Number32(self.first_blocknum),
-                Part::Number32(self.number_of_blocks),
-                Part::Big(1),
-                Part::Big(bigsize_len(options) as u64),
-                Part::Big(options),
+                Segment::Number32(self.first_blocknum),
+                Segment::Number32(self.number_of_blocks),
+                Segment::Big(1),
+                Segment::Big(bigsize_len(options) as u64),
+                Segment::Big(options),
             ],
         )
     }

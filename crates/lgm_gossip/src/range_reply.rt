@@ -3,15 +3,13 @@
 ghost use Rattle.std.specs.Prelude.{◌<◌, length};
 ghost use Rattle.lgm_gossip.specs.Memory.{GivesIf};
 
-use crate::bytes::Bytes;
 use crate::encode_fault::EncodeFault;
 use crate::encoded_ids::{Scids, encoded_ids};
 use crate::fault::DecodeFault;
 use crate::fields::{fixed, number8, number32};
-use crate::joining::{join, whole};
-use crate::measuring::measure;
 use crate::optional::optional;
-use crate::part::Part;
+use crate::segment::{Segment, encoded_len, join, whole};
+use crate::sequence::Bytes;
 use crate::timestamp_list::TimestampList;
 use lgm_wire::ChainHash;
 use std::alloc::Global;
@@ -38,9 +36,9 @@ pub struct RangeReply {
 impl Model for RangeReply {
     ghost use Rattle.std.specs.Prelude.{◌≡◌, length};
     ghost use Rattle.std.specs.Option.{ForSome};
-    ghost use Rattle.lgm_gossip.specs.RangeReply.{Reply};
+    ghost use Rattle.lgm_gossip.specs.RangeReply.{ReplyFields};
 
-    ghost Value = { Reply };
+    ghost Value = { ReplyFields };
 
     ghost view = { λ m. record {
       chain_hash = m.chain_hash;
@@ -85,23 +83,23 @@ impl RangeReply {
     pub(crate) fn encode(&self, alloc: Global) -> Result<Bytes, EncodeFault>
         ensures { Encodes 264 (fields self.now) result }
     {
-        let ids = Part::Ids(self.ids.as_slice());
-        let ids_len = measure(&[Part::Number8(0), ids])?;
+        let ids = Segment::Ids(self.ids.as_slice());
+        let ids_len = encoded_len(&[Segment::Number8(0), ids])?;
         let front = [
-            Part::Number16(264),
+            Segment::Number16(264),
             whole(&self.chain_hash.0),
-            Part::Number32(self.first_blocknum),
-            Part::Number32(self.number_of_blocks),
-            Part::Number8(self.sync_complete),
-            Part::Number16(ids_len),
-            Part::Number8(0),
+            Segment::Number32(self.first_blocknum),
+            Segment::Number32(self.number_of_blocks),
+            Segment::Number8(self.sync_complete),
+            Segment::Number16(ids_len),
+            Segment::Number8(0),
             ids,
         ];
         let Some(timestamps) = &self.timestamps else {
             return join(alloc, &front);
         };
-        let pairs = Part::Pairs(timestamps.as_slice());
-        let pairs_len = measure(&[Part::Number8(0), pairs])?;
+        let pairs = Segment::Pairs(timestamps.as_slice());
+        let pairs_len = encoded_len(&[Segment::Number8(0), pairs])?;
         let [kind, chain, first, number, complete, len, encoding, ids] = front;
         join(
             alloc,
@@ -114,9 +112,9 @@ impl RangeReply {
                 len,
                 encoding,
                 ids,
-                Part::Big(1),
-                Part::Big(u64::from(pairs_len)),
-                Part::Number8(0),
+                Segment::Big(1),
+                Segment::Big(u64::from(pairs_len)),
+                Segment::Number8(0),
                 pairs,
             ],
         )

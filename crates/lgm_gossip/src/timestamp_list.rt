@@ -2,19 +2,19 @@
 
 ghost use Rattle.lgm_gossip.specs.reading.TimestampListReading.{pair_of, timestamps_at};
 
-use crate::cells::{Cell, cells};
 use crate::fault::DecodeFault;
-use crate::items::Items;
+use crate::fixed_width::{FixedWidth, decode_all};
 use crate::optional::RecordValue;
+use crate::sequence::Sequence;
 use crate::timestamps::Timestamps;
 use std::alloc::Global;
 
 /// Timestamps, one pair per id.
-pub type TimestampList = Items<Timestamps>;
+pub type TimestampList = Sequence<Timestamps>;
 
 /// Two numbers of four bytes.
-impl Cell for Timestamps {
-    ghost cell_of = { pair_of };
+impl FixedWidth for Timestamps {
+    ghost value_of = { pair_of };
 
     fn from_bytes(bytes: &[u8; 8]) -> Timestamps {
         let [a, b, c, d, e, f, g, h] = *bytes;
@@ -39,7 +39,7 @@ impl RecordValue for TimestampList {
                 if !left.is_empty() {
                     return Err(DecodeFault::TlvKind(1));
                 }
-                Ok(cells(alloc, chunks)?)
+                Ok(decode_all(alloc, chunks)?)
             }
             [] => Err(DecodeFault::TlvKind(1)),
             [first, ..] => Err(DecodeFault::Encoding(*first)),

@@ -27,17 +27,17 @@ module _ (known : Option (List ℕ)) (rows : Rows) (row : ChannelRow) (lawful : 
     | inl e ↦ rw e refl
     | inr e ↦
         rw e (filter_map-agree (edge_in (put by_id rows.channels row)) (edge_in rows.channels) rows.updates
-        (All-to _ _ rows.updates (each e) lawful.held))
+        (All-to _ _ rows.updates (each e) lawful.stored))
   ]
     where
       each : stays ≡ false → (u : UpdateRow) → is_some (channel_of rows.channels u.message.short_channel_id) ≡ true
           → edge_in (put by_id rows.channels row) u ≡ edge_in rows.channels u
-      each new u held =
+      each new u stored =
           ap (λ (o : Option ChannelRow). option_and_then (λ c. edge_on c u) o)
           (channel_of-put u.message.short_channel_id rows.channels row (false_from_ne_true _ (λ f.
           let same = eqb-true row.message.short_channel_id u.message.short_channel_id f in
           let there : is_some (channel_of rows.channels row.message.short_channel_id) ≡ true =
-          ap (λ id. is_some (channel_of rows.channels id)) same ∙ held in
+          ap (λ id. is_some (channel_of rows.channels id)) same ∙ stored in
           true≢false (sym (rw there refl) ∙ new))))
 
   pub nodes_added : (with_channel rows row).nodes ≡ rows.nodes
@@ -50,7 +50,7 @@ module _ (known : Option (List ℕ)) (rows : Rows) (row : ChannelRow) (lawful : 
         (All-filter P (λ x. is_lt (by_id x row)) rows.channels all) (own, All-filter P (λ x. is_gt (by_id x row)) rows.channels all))
   ]
 
-  -- the view, where both ends are numbered
+  -- the view after both nodes are numbered
   pub node_added : (after : Rows) → after ≡ with_channel rows row → (old new : Nodes)
       → IsGraphOf rows (graph_in known old) → KeepsNumbers old.points.keys new.points.keys
       → IsNumbered new.points.keys row.message.node_id_1 → IsNumbered new.points.keys row.message.node_id_2
@@ -61,6 +61,6 @@ module _ (known : Option (List ℕ)) (rows : Rows) (row : ChannelRow) (lawful : 
         (All-to _ _ rows.channels (λ c both.
         ((keeps c.message.node_id_1 both.0).1, (keeps c.message.node_id_2 both.1).1)) graph.ends)
         (first, second));
-    takes = looked;
+    accepts_payments = looked;
     shows = rw (is, carrying_added) shows;
   }

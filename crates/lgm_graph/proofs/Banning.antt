@@ -25,7 +25,7 @@ get_at [] n d lt = absurd (omega (arith, lt))
 get_at (x ∷ xs) zero d lt = refl
 get_at (x ∷ xs) (suc n) d lt = get_at xs n d (omega (arith, lt))
 
--- the point of a number that was given
+-- the point of a number
 banned_number : (points banned : List Point) (p : Point) → IsNumbered points p → banned_at points banned (number_of points p) ≡ is_banned banned p
 banned_number points banned p there =
     let found : slice_get points (number_of points p) ≡ Some p = get_at points (number_of points p) p there ∙ ap Some (get_number points p p there) in
@@ -115,7 +115,7 @@ module _ (known : Option (List ℕ)) (rows : Rows) (banned : List Point) (lawful
                 (is_allowed points banned) edges q (banned_tests banned points edges joined),
           ) refl
 
-  -- the view, where they are taken away and all nodes looked at anew
+  -- the view after they are removed and all nodes are checked again
   pub node_banned : (after : Rows) → after ≡ banning rows banned → (old mid new : Nodes) → IsGraphOf rows (graph_in known old)
       → mid.points.keys ≡ old.points.keys
       → map edges_in mid.into.items ≡ map (filter (is_allowed old.points.keys after.banned)) (map edges_in old.into.items)
@@ -124,7 +124,7 @@ module _ (known : Option (List ℕ)) (rows : Rows) (banned : List Point) (lawful
       → IsGraphOf after (graph_in known new)
   node_banned after is old mid new graph points into out points_new into_new out_new looked = record {
     ends = rw (is, points_new, points) (All-filter _ (λ c. not (ends_banned banned c)) rows.channels graph.ends);
-    takes = looked;
+    accepts_payments = looked;
     shows = record {
       joined =
           rw (is, points_new, points, carrying_banned) (All-filter (IsJoined old.points.keys)

@@ -27,7 +27,7 @@ name_of channel = channel.message.short_channel_id
 not_eqb : (a b : ℕ) → a ≢ b → eqb a b ≡ false
 not_eqb a b ne = grind (arith, nat_tests)
 
--- an update below another is of a lesser channel, or of the first direction beside the second one
+-- an update below another is of a lesser channel, or of the first direction of one channel
 below : (row other : UpdateRow) → by_direction row other ≡ Less → (id_of row < id_of other)
     ⊎ ((id_of row ≡ id_of other) × (is_second row ≡ false) × (is_second other ≡ true))
 below row other e = by (nat_cmp (id_of row) (id_of other)) refl e
@@ -57,7 +57,7 @@ other_id : (id : ℕ) (second : Bool) (row : UpdateRow) → id_of row ≢ id →
 other_id id second row ne = rw (not_eqb (id_of row) id ne) refl
 
 module _ (row : UpdateRow) (rows : List UpdateRow) (first : AllByRecursion (λ other. by_direction row other ≡ Less) rows) where
-  -- no other update of its direction, and none of the first one beside the second
+  -- no other update of its direction, and none of the first one with the second
   own_none : update_of rows (id_of row) (is_second row) ≡ None
   own_none = find_none (id_of row) (is_second row) rows (All-to _ _ rows (λ other less. by other (below row other less)) first)
     where
@@ -99,7 +99,7 @@ module _ (row : UpdateRow) (rows : List UpdateRow) (first : AllByRecursion (λ o
       rw (other_channels channels all.1) (ap (λ l. l ++ flat_map (edges_of_channel rows) channels)
       (other_channel channel (λ e. let lt = all.0 in omega (arith, lt, e))))
 
-  -- its own channel has its edge more, in front
+  -- its own channel has one more edge, in front
   own_channel : (channel : ChannelRow) → id_of row ≡ name_of channel → edges_of_channel (row ∷ rows) channel
       ≡ cons_option (edge_on channel row) (edges_of_channel rows channel)
   own_channel channel same = by (is_second row) refl (edge_on channel row) refl
@@ -128,7 +128,7 @@ joined : (o : Option PointEdge) (xs ys : List PointEdge) → cons_option o xs ++
 joined None xs ys = refl
 joined (Some e) xs ys = refl
 
--- a further update in front puts its edge in front
+-- one more update in front adds its edge in front
 front : (row : UpdateRow) (rows : List UpdateRow) → AllByRecursion (λ other. by_direction row other
     ≡ Less) rows → (channels : List ChannelRow) → IsStrictlySortedBy by_id channels
     → flat_map (edges_of_channel (row ∷ rows)) channels ≡ cons_option (edge_in channels row) (flat_map (edges_of_channel rows) channels)

@@ -24,7 +24,7 @@ use Rattle.lgm_graph.specs.inner.Lists.{to_key, IsCut, put_at}
 -- ---- lists
 
 module _ {X Y : Type 0} (g : X → Option Y) where
-  -- a test before, and the same test behind
+  -- a test before, and the same test after
   pub filter_map-filter : (p : X → Bool) (q : Y → Bool) → ((x : X) (y : Y) → g x ≡ Some y → q y ≡ p x) → (xs : List X)
       → filter_map g (filter p xs) ≡ filter q (filter_map g xs)
   filter_map-filter p q same [] = refl
@@ -66,7 +66,7 @@ module _ {X : Type 0} (f : X → Ordering) where
       by Equal e = absurd (other.0 e)
       by Greater e = rw (e, none_below f xs above.1, all_above f xs above.1) refl
 
-  -- no element is at the cut, so nothing goes
+  -- no element is at the cut, so nothing is removed
   pub put_at-none : (xs : List X) → IsCut f xs → AllByRecursion (λ x. f x ≢ Equal) xs → put_at f xs None ≡ xs
   put_at-none xs cut other = rw (append-nil (filter (λ x. is_lt (f x)) xs)) (parts_whole xs cut other)
 
@@ -80,7 +80,7 @@ module _ {X Y : Type 0} (g : X → Option Y) (f : X → Ordering) (h : Y → Ord
       by others None is = rw is others
       by others (Some z) is = rw is (same y z is ∙ all.0, others)
 
-  -- the answers along the list, through the map
+  -- the comparisons along the list, through the map
   IsCut-filter_map : (xs : List X) → IsCut f xs → IsCut h (filter_map g xs)
   IsCut-filter_map [] cut = tt
   IsCut-filter_map (x ∷ xs) cut = by (IsCut-filter_map xs) (g x) refl cut
@@ -133,7 +133,7 @@ module _ {X : Type 0} (f : X → Ordering) (p : X → Bool) where
           by true e = rw e refl
           by false e = rw e refl
 
--- along a list in order the answers of one element are cut
+-- along a sorted list the comparisons with one element are cut
 cut_sorted : {X : Type 0} (c : X → X → Ordering) → IsTotalOrder c → (k : X) (xs : List X) → IsStrictlySortedBy c xs → IsCut (λ x. c x k) xs
 unfolding IsStrictlySortedBy
 cut_sorted c total k [] sorted = tt
@@ -152,10 +152,10 @@ cut_sorted c total k (x ∷ xs) sorted = by (cut_sorted c total k xs sorted.1) (
 
 -- ---- edges of rows
 
--- the edge goes from its direction's end of its channel to the other
+-- the edge leads from its direction's node of the channel to the other
 pub record IsOfChannel (channels : List ChannelRow) (edge : PointEdge) : Type 0 where
   pub channel : ChannelRow
-  pub held : channel_of channels edge.scid ≡ Some channel
+  pub stored : channel_of channels edge.scid ≡ Some channel
   pub from : edge.from ≡ end_of channel edge.second
   pub to : edge.to ≡ end_of channel (not edge.second)
 
@@ -187,9 +187,9 @@ pub of_channel : (channels : List ChannelRow) (row : UpdateRow) (edge : PointEdg
 unfolding edge_of
 of_channel channels row edge is =
     let found = edge_in-some channels row edge is in
-    rw (found.2) (record { channel = found.0; held = found.1; from = refl; to = refl })
+    rw (found.2) (record { channel = found.0; stored = found.1; from = refl; to = refl })
 
--- each edge is one of a held channel
+-- each edge is a direction of a channel in the map
 pub carrying_of : (channels : List ChannelRow) (updates : List UpdateRow)
     → AllByRecursion (IsOfChannel channels) (filter_map (edge_in channels) updates)
 carrying_of channels [] = tt
@@ -208,7 +208,7 @@ carrying_cut channels updates row sorted =
     (to_key row.message.short_channel_id (is_second row)) (λ other edge. same_key channels row other edge)
     updates (cut_sorted by_direction (on_total direction_of direction_total) row updates sorted)
 
--- the edges with an update put in its place
+-- the edges after an update is inserted
 pub carrying_put : (channels : List ChannelRow) (updates : List UpdateRow) (row : UpdateRow)
     → filter_map (edge_in channels) (put by_direction updates row)
     ≡ put_at (to_key row.message.short_channel_id (is_second row)) (filter_map (edge_in channels) updates) (edge_in channels row)

@@ -7,7 +7,7 @@ use Rattle.lgm_check.specs.declared.row.ChannelRow.{ChannelRow}
 use Rattle.lgm_check.specs.declared.row.UpdateRow.{UpdateRow}
 use Rattle.lgm_check.specs.declared.row.NodeRow.{NodeRow}
 use Rattle.lgm_store.specs.Rows.{Rows, is_point, channel_of, ends_at, ends_channel}
-use Rattle.lgm_store.specs.History.{without_channel, channels_without, updates_without, without_held}
+use Rattle.lgm_store.specs.History.{without_channel, channels_without, updates_without, without_stored}
 use Rattle.lgm_store.specs.Laws.{IsLawful}
 use Rattle.lgm_store.proofs.ListLaws.{All-each, All-filter, All-to, any-kept, filter-all, filter-passes, filter-swap, filter-twice, find-kept}
 use Rattle.lgm_store.proofs.Points.{same_point, is_point-self}
@@ -25,7 +25,7 @@ use Rattle.lgm_graph.proofs.Keeping.{filter_map-agree, one_channel, edges_keep}
 
 -- ---- edges
 
--- where a channel's edges go from its two ends, they go from all
+-- removing a channel's edges at its two nodes removes them everywhere
 both_closed : (end : PointEdge → Point) (points : List Point) (edges : List PointEdge) (id : ℕ) (first second : Point)
     → AllByRecursion (λ e. e.scid ≡ id → (end e ≡ first) ⊎ (end e ≡ second)) edges → (q : Point)
     → closed_at second id (closed_at first id (edges_at end points edges)) q ≡ edges_at end points (filter (λ e. not (eqb e.scid id)) edges) q
@@ -66,15 +66,15 @@ lists_alike F G points same = ap (λ (f : Point → List Edge). map f points) (�
 -- ---- rows
 
 module _ (known : Option (List ℕ)) (rows : Rows) (id : ℕ) (channel : ChannelRow)
-    (held : channel_of rows.channels id ≡ Some channel) (lawful : IsLawful rows) where
+    (stored : channel_of rows.channels id ≡ Some channel) (lawful : IsLawful rows) where
   abbrev first : Point
   first = channel.message.node_id_1
 
   abbrev second : Point
   second = channel.message.node_id_2
 
-  closed : without_channel rows id ≡ without_held rows id
-  closed = rw held refl
+  closed : without_channel rows id ≡ without_stored rows id
+  closed = rw stored refl
 
   other_channel : (row : UpdateRow) → not (eqb row.message.short_channel_id id) ≡ true
       → edge_in (channels_without rows.channels id) row ≡ edge_in rows.channels row
@@ -100,12 +100,12 @@ module _ (known : Option (List ℕ)) (rows : Rows) (id : ℕ) (channel : Channel
       (All-to _ _ (updates_without rows.updates id) other_channel (filter-passes (λ row. not (eqb row.message.short_channel_id id)) rows.updates))
       ∙ filter_map-filter (edge_in rows.channels) (λ row. not (eqb row.message.short_channel_id id)) (λ e. not (eqb e.scid id)) own_id rows.updates
 
-  -- the channel's edges end at its ends
+  -- the channel's edges are between its nodes
   of_id : (edge : PointEdge) → IsOfChannel rows.channels edge → edge.scid ≡ id
       → (edge.from ≡ end_of channel edge.second) × (edge.to ≡ end_of channel (not edge.second))
   of_id edge of same =
-      let found : channel_of rows.channels id ≡ Some of.channel = ap (channel_of rows.channels) (sym same) ∙ of.held in
-      let one : Some of.channel ≡ Some channel = sym found ∙ held in
+      let found : channel_of rows.channels id ≡ Some of.channel = ap (channel_of rows.channels) (sym same) ∙ of.stored in
+      let one : Some of.channel ≡ Some channel = sym found ∙ stored in
       let is : of.channel ≡ channel = cc in
       (of.from ∙ ap (λ (c : ChannelRow). end_of c edge.second) is, of.to ∙ ap (λ (c : ChannelRow). end_of c (not edge.second)) is)
 
@@ -126,7 +126,7 @@ module _ (known : Option (List ℕ)) (rows : Rows) (id : ℕ) (channel : Channel
   still_ended : (q : Point) → is_point first q ≡ false → is_point second q ≡ false
       → ends_channel (channels_without rows.channels id) q ≡ ends_channel rows.channels q
   still_ended q away other = any-kept (ends_at q) (λ c. not (eqb c.message.short_channel_id id)) rows.channels
-      (All-to _ _ rows.channels each (one_channel rows.channels id channel lawful.ascend.channels held))
+      (All-to _ _ rows.channels each (one_channel rows.channels id channel lawful.ascend.channels stored))
     where
       each : (c : ChannelRow) → (c.message.short_channel_id ≡ id → c ≡ channel) → ends_at q c ≡ true → not (eqb c.message.short_channel_id id) ≡ true
       each c one at = rw (false_from_ne_true (eqb c.message.short_channel_id id) (λ f.
@@ -172,7 +172,7 @@ module _ (known : Option (List ℕ)) (rows : Rows) (id : ℕ) (channel : Channel
       → IsGraphOf after (graph_in known new)
   node_closed after is old new one two one_is two_is graph points into out flags = rw is (record {
     ends = rw (ap (λ (r : Rows). r.channels) closed, points) (All-filter _ (λ c. not (eqb c.message.short_channel_id id)) rows.channels graph.ends);
-    takes = flags ∙ rw (is, one_is, two_is, points) (ap (λ (f : Point → Bool). map f old.points.keys) (λ i q. looked q i));
+    accepts_payments = flags ∙ rw (is, one_is, two_is, points) (ap (λ (f : Point → Bool). map f old.points.keys) (λ i q. looked q i));
     shows = record {
       joined = rw (carrying_closed, points) (All-filter (IsJoined old.points.keys) (λ e. not (eqb e.scid id)) (carrying rows) graph.shows.joined);
       into_is =

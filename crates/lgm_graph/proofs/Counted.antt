@@ -8,7 +8,7 @@ use Rattle.lgm_graph.specs.Graph.{Graph, AreListed, edges, edges_into}
 
 -- the edges into the nodes from a number on
 abbrev pub edges_from : Graph → ℕ → List Edge
-edges_from graph number = flat_map (λ node. if node.0 then node.1 else []) (drop number (zip graph.takes graph.into))
+edges_from graph number = flat_map (λ node. if node.0 then node.1 else []) (drop number (zip graph.accepts_payments graph.into))
 
 zip_drop : {X : Type 0} (ts : List Bool) (ls : List (List X)) (n : ℕ) → n < length ts → length ls ≡ length ts
     → drop n (zip ts ls) ≡ (get_or ts n false, get_or ls n []) ∷ drop (suc n) (zip ts ls)
@@ -29,15 +29,15 @@ module _ (graph : Graph) (listed : AreListed graph) where
   edges_next n lt =
       let long = listed.long in
       let wide = listed.wide in
-      let within : n < length graph.takes = omega (arith, lt, long) in
-      let same : length graph.into ≡ length graph.takes = omega (arith, long, wide) in
-      ap (flat_map (λ node. if node.0 then node.1 else [])) (zip_drop graph.takes graph.into n within same)
+      let within : n < length graph.accepts_payments = omega (arith, lt, long) in
+      let same : length graph.into ≡ length graph.accepts_payments = omega (arith, long, wide) in
+      ap (flat_map (λ node. if node.0 then node.1 else [])) (zip_drop graph.accepts_payments graph.into n within same)
 
   pub edges_done : (n : ℕ) → length graph.points ≤ n → edges_from graph n ≡ []
   edges_done n le =
       let long = listed.long in
       ap (flat_map (λ node. if node.0 then node.1 else []))
-      (zip_done graph.takes graph.into n (omega (arith, le, long)))
+      (zip_done graph.accepts_payments graph.into n (omega (arith, le, long)))
 
 module _ {X : Type 0} where
   pub get_left : (xs ys : List X) (i : ℕ) (d : X) → i < length xs → slice_get (xs ++ ys) i ≡ Some (get_or xs i d)

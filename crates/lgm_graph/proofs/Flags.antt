@@ -1,4 +1,4 @@
--- One place of a list by number changes.
+-- One element of a list changes.
 use Rattle.std.proofs.Common.{◌≡◌, Bool, true, false, ◌||◌, List, [], ◌∷◌, map, set, get_or, refl, sym, ap, ◌∙◌}
 use Rattle.std.specs.Prelude.{if◌then◌else◌}
 use Rattle.std.specs.List.{IsDistinct, list_any}
@@ -10,7 +10,7 @@ use Rattle.lgm_graph.proofs.Numbers.{get_number}
 use Rattle.lgm_graph.proofs.Places.{get_map}
 use Rattle.lgm_graph.proofs.Showing.{map_at}
 
--- what stands by number changes at one point
+-- what is stored by number changes at one point
 pub map_change : {Y : Type 0} (F : Point → Y) (h : Point → Y → Y) (points : List Point) (p : Point) (d : Y)
     → IsDistinct is_point points → IsNumbered points p
     → set (map F points) (number_of points p) (h p (get_or (map F points) (number_of points p) d))

@@ -1,4 +1,4 @@
--- A view of rows holds exactly their edges.
+-- A view of rows has exactly their edges.
 use Rattle.std.proofs.Common.{◌≡◌, ◌⊎◌, inl, inr, ◌↔◌, ℕ, Bool, true, false, not, List, [], arith}
 use Rattle.std.proofs.Common.{◌∷◌, get_or, refl, sym, ap, subst, ◌∙◌, Option, Some, None}
 use Rattle.std.specs.List.{IsDistinct, Contains, filter_map, cons_option}
@@ -29,40 +29,40 @@ module _ (rows : Rows) (graph : Graph) (distinct : IsDistinct is_point graph.poi
   joined_one : (edge : PointEdge) → Among (carrying rows) edge → IsJoined graph.points edge
   joined_one edge there = All_among (IsJoined graph.points) (carrying rows) edge beside.shows.joined there
 
-  -- whether an end takes payments stands at its number
-  flag_at : (p : Point) → IsNumbered graph.points p → get_or graph.takes (number_of graph.points p) false ≡ takes_payments graph.known rows.nodes p
-  flag_at p there = ap (λ ts. get_or ts (number_of graph.points p) false) beside.takes
+  -- whether a node takes payments is at its index
+  flag_at : (p : Point) → IsNumbered graph.points p → get_or graph.accepts_payments (number_of graph.points p) false ≡ takes_payments graph.known rows.nodes p
+  flag_at p there = ap (λ ts. get_or ts (number_of graph.points p) false) beside.accepts_payments
       ∙ get_map (takes_payments graph.known rows.nodes) graph.points (number_of graph.points p) p false there
       ∙ ap (takes_payments graph.known rows.nodes) (get_number graph.points p p there)
 
-  held_numbered : (edge : PointEdge) → Among (edges_of graph.known rows) edge → Among (edges graph) (numbered_in graph.points edge)
-  held_numbered edge there =
+  stored_numbered : (edge : PointEdge) → Among (edges_of graph.known rows) edge → Among (edges graph) (numbered_in graph.points edge)
+  stored_numbered edge there =
       let passed = Among-passed takes_to (carrying rows) edge there in
       let both = joined_one edge passed.0 in
       let at : Among (get_or graph.into (number_of graph.points edge.to) []) (numbered_in graph.points edge) =
       rw (beside.shows.into_is) (edge_there graph.points distinct (carrying rows) beside.shows.joined (λ e. e.to) edge passed.0 both.1) in
-      zipped_in graph.takes graph.into (number_of graph.points edge.to) (numbered_in graph.points edge) (flag_at edge.to both.1 ∙ passed.1) at
+      zipped_in graph.accepts_payments graph.into (number_of graph.points edge.to) (numbered_in graph.points edge) (flag_at edge.to both.1 ∙ passed.1) at
 
-  held_edge : (edge : PointEdge) → Among (point_edges graph) edge → Among (edges_of graph.known rows) edge
-  held_edge edge there =
+  stored_edge : (edge : PointEdge) → Among (point_edges graph) edge → Among (edges_of graph.known rows) edge
+  stored_edge edge there =
       let listed = Among-mapped (edge_between graph.points) (edges graph) edge there in
-      let place = zipped_out graph.takes graph.into listed.0 listed.1 in
+      let place = zipped_out graph.accepts_payments graph.into listed.0 listed.1 in
       let at = subst (λ (ls : List (List Edge)). Among (get_or ls place.0 []) listed.0) beside.shows.into_is place.2 in
       let made = edge_at graph.points distinct (carrying rows) beside.shows.joined (λ e. e.to) place.0 listed.0 at in
       let both = joined_one made.0 made.1 in
       let own : made.0 ≡ edge =
       sym (back_again graph.points distinct (carrying rows) beside.shows.joined made.0 both)
       ∙ ap (edge_between graph.points) made.2 ∙ listed.2 in
-      let flag : takes_to made.0 ≡ true = sym (flag_at made.0.to both.1) ∙ ap (λ n. get_or graph.takes n false) made.3 ∙ place.1 in
+      let flag : takes_to made.0 ≡ true = sym (flag_at made.0.to both.1) ∙ ap (λ n. get_or graph.accepts_payments n false) made.3 ∙ place.1 in
       rw (← own) (Among-passes takes_to (carrying rows) made.0 made.1 flag)
 
   pub holds : (edge : PointEdge) → Contains (point_edges graph) edge ↔ Contains (edges_of graph.known rows) edge
   holds edge = (
-    λ there. Contains-Among (edges_of graph.known rows) edge (held_edge edge (Among-Contains (point_edges graph) edge there)),
+    λ there. Contains-Among (edges_of graph.known rows) edge (stored_edge edge (Among-Contains (point_edges graph) edge there)),
     λ there. let among = Among-Contains (edges_of graph.known rows) edge there in
         let both = joined_one edge (Among-passed takes_to (carrying rows) edge among).0 in
         Contains-Among (point_edges graph) edge (rw (← back_again graph.points distinct (carrying rows) beside.shows.joined edge both)
-        (Among-map (edge_between graph.points) (edges graph) (numbered_in graph.points edge) (held_numbered edge among))),
+        (Among-map (edge_between graph.points) (edges graph) (numbered_in graph.points edge) (stored_numbered edge among))),
   )
 
 -- ---- directions
@@ -80,7 +80,7 @@ Among-filter_map g (x ∷ xs) y there = by (Among-filter_map g xs y) (g x) refl 
         which (inl same) = (x, inl refl, is ∙ ap Some same)
         which (inr more) = let rest = others more in (rest.0, inr rest.1, rest.2)
 
--- along the answers one element is at the cut
+-- of the comparisons one element is at the cut
 cut_once : {X : Type 0} (f : X → Ordering) (xs : List X) (x y : X) → IsCut f xs → Among xs x → Among xs y → f x ≡ Equal → f y ≡ Equal → x ≡ y
 cut_once f [] x y cut none there one two = absurd none
 cut_once f (z ∷ zs) x y (inl below) (inl same) there one two = absurd (let l : f z ≡ Less = below.0 in let e : f z ≡ Equal = ap f same ∙ one in cc)
@@ -124,7 +124,7 @@ are_directions known rows ascend edge other there also same = by (other_directio
     two = All_among (IsOfChannel rows.channels) (carrying rows) other (carrying_of rows.channels rows.updates) (carried other also)
 
     channel : one.channel ≡ two.channel
-    channel = let h : Some one.channel ≡ Some two.channel = sym one.held ∙ ap (channel_of rows.channels) same ∙ two.held in cc
+    channel = let h : Some one.channel ≡ Some two.channel = sym one.stored ∙ ap (channel_of rows.channels) same ∙ two.stored in cc
 
     equal : (id : ℕ) (second : Bool) (e : PointEdge) → e.scid ≡ id → e.second ≡ second → to_key id second e ≡ Equal
     equal id second e a b = rw (a, b) (self_equal (direction_cmp (id, second) (id, second)) (direction_total.antisymm (id, second) (id, second)))

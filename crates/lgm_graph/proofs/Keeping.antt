@@ -1,4 +1,4 @@
--- Edges that stay, where others go with their channels.
+-- Edges that stay when others are removed with their channels.
 use Rattle.std.proofs.Common.{◌≡◌, ℕ, ◌<◌, eqb, Bool, true, false, cond, List, [], ◌∷◌}
 use Rattle.std.proofs.Common.{map, refl, sym, ap, ◌∙◌, Option, Some, None, arith, true≢false}
 use Rattle.std.specs.List.{AllByRecursion, filter, filter_map, cons_option}

@@ -1,4 +1,4 @@
--- Each edge stands with its ends, and nowhere else.
+-- Each edge is listed at its nodes, and nowhere else.
 use Rattle.std.proofs.Common.{◌≡◌, ◌⊎◌, inl, inr, ℕ, ◌<◌, Bool, true, false, List, [], ◌∷◌, length}
 use Rattle.std.proofs.Common.{map, get_or, zero, suc, refl, sym, ap, subst, ◌∙◌, arith, true≢false}
 use Rattle.std.specs.Prelude.{if◌then◌else◌}
@@ -30,17 +30,17 @@ abbrev taken : {Y : Type 0} → Bool × List Y → List Y
 taken node = if node.0 then node.1 else []
 
 module _ {Y : Type 0} where
-  pub zipped_in : (takes : List Bool) (into : List (List Y)) (n : ℕ) (y : Y) → get_or takes n false ≡ true
+  pub zipped_in : (accepts_payments : List Bool) (into : List (List Y)) (n : ℕ) (y : Y) → get_or accepts_payments n false ≡ true
       → Among (get_or into n []) y
-      → Among (flat_map (λ (node : Bool × List Y). if node.0 then node.1 else []) (zip takes into)) y
+      → Among (flat_map (λ (node : Bool × List Y). if node.0 then node.1 else []) (zip accepts_payments into)) y
   zipped_in [] into n y is there = absurd (true≢false (sym is))
   zipped_in (b ∷ bs) [] n y is there = absurd there
   zipped_in (b ∷ bs) (l ∷ ls) zero y is there = Among-left (if b then l else []) _ y (let here : Among (if b then l else []) y = rw is there in here)
   zipped_in (b ∷ bs) (l ∷ ls) (suc n) y is there = Among-right (if b then l else []) _ y (zipped_in bs ls n y is there)
 
-  pub zipped_out : (takes : List Bool) (into : List (List Y)) (y : Y)
-      → Among (flat_map (λ (node : Bool × List Y). if node.0 then node.1 else []) (zip takes into)) y
-      → (n : ℕ) × (get_or takes n false ≡ true) × Among (get_or into n []) y
+  pub zipped_out : (accepts_payments : List Bool) (into : List (List Y)) (y : Y)
+      → Among (flat_map (λ (node : Bool × List Y). if node.0 then node.1 else []) (zip accepts_payments into)) y
+      → (n : ℕ) × (get_or accepts_payments n false ≡ true) × Among (get_or into n []) y
   zipped_out [] into y none = absurd none
   zipped_out (b ∷ bs) [] y none = absurd none
   zipped_out (b ∷ bs) (l ∷ ls) y there = by (zipped_out bs ls y) (Among-either (if b then l else []) _ y there)
@@ -56,7 +56,7 @@ module _ {Y : Type 0} where
       by others (inl first) = let is = here b first in (zero, is.0, is.1)
       by others (inr second) = let rest = others second in (suc rest.0, rest.1, rest.2)
 
--- a point's number is its place
+-- a point's number is its index
 pub number_at : (points : List Point) (n : ℕ) (d : Point) → IsDistinct is_point points → n < length points → number_of points (get_or points n d) ≡ n
 number_at [] n d distinct lt = absurd (omega (arith, lt))
 number_at (p ∷ ps) zero d distinct lt = rw (is_point-self p) refl
@@ -103,7 +103,7 @@ are_listed graph distinct sound = record {
   long = sound.long;
   wide = ap length sound.shows.into_is ∙ length-map graph.points (edges_at (λ e. e.to) graph.points sound.edges);
   unique = distinct;
-  each = λ listed there. each listed (zipped_out graph.takes graph.into listed (Among-Contains (edges graph) listed there));
+  each = λ listed there. each listed (zipped_out graph.accepts_payments graph.into listed (Among-Contains (edges graph) listed there));
   into = λ n listed there. into n listed (Among-Contains (edges_into graph n) listed there);
   leaving = λ n listed there. leaving n listed (Among-Contains (edges_leaving graph n) listed there);
 }
@@ -122,12 +122,12 @@ are_listed graph distinct sound = record {
         × Among sound.edges edge × (numbered_in graph.points edge ≡ listed) × (number_of graph.points edge.from ≡ n)
     made_out n listed there = edge_at graph.points distinct sound.edges sound.shows.joined (λ e. e.from) n listed (rw (sound.shows.out_is) at there)
 
-    takes_it : (n : ℕ) (listed : Edge) → Among (edges_into graph n) listed → (get_or graph.takes n false ≡ true) × Among (get_or graph.into n []) listed
-    takes_it n listed there = by (get_or graph.takes n false) refl there
+    takes_it : (n : ℕ) (listed : Edge) → Among (edges_into graph n) listed → (get_or graph.accepts_payments n false ≡ true) × Among (get_or graph.into n []) listed
+    takes_it n listed there = by (get_or graph.accepts_payments n false) refl there
       where
-        by : (b : Bool) → get_or graph.takes n false ≡ b
-            → Among (if get_or graph.takes n false then get_or graph.into n [] else []) listed
-            → (get_or graph.takes n false ≡ true) × Among (get_or graph.into n []) listed
+        by : (b : Bool) → get_or graph.accepts_payments n false ≡ b
+            → Among (if get_or graph.accepts_payments n false then get_or graph.into n [] else []) listed
+            → (get_or graph.accepts_payments n false ≡ true) × Among (get_or graph.into n []) listed
         by true e there = (e, rw e at there)
         by false e there = let none : ⊥ = rw e at there in absurd none
 
@@ -135,14 +135,14 @@ are_listed graph distinct sound = record {
     into n listed there =
         let is = takes_it n listed there in
         let made = made_into n listed is.1 in
-        (ap (λ (l : Edge). l.to) (sym made.2) ∙ made.3, Contains-Among (edges graph) listed (zipped_in graph.takes graph.into n listed is.0 is.1))
+        (ap (λ (l : Edge). l.to) (sym made.2) ∙ made.3, Contains-Among (edges graph) listed (zipped_in graph.accepts_payments graph.into n listed is.0 is.1))
 
     leaving : (n : ℕ) (listed : Edge) → Among (edges_leaving graph n) listed → (listed.from ≡ n) × (listed.to < length graph.points)
     leaving n listed there =
         let made = made_out n listed there in
         (ap (λ (l : Edge). l.from) (sym made.2) ∙ made.3, rw (← made.2) (joined made.0 made.1).1)
 
-    each : (listed : Edge) → (n : ℕ) × (get_or graph.takes n false ≡ true) × Among (get_or graph.into n []) listed → IsListed graph listed
+    each : (listed : Edge) → (n : ℕ) × (get_or graph.accepts_payments n false ≡ true) × Among (get_or graph.into n []) listed → IsListed graph listed
     each listed place =
         let made = made_into place.0 listed place.2 in
         let both = joined made.0 made.1 in

@@ -1,4 +1,4 @@
--- Nodes numbered, and edges put behind the others.
+-- Numbering nodes, and appending edges.
 use Rattle.std.proofs.Common.{◌≡◌, ℕ, Bool, true, false, cond, not, List, [], ◌∷◌, ◌++◌, length}
 use Rattle.std.proofs.Common.{map, set, get_or, refl, sym, ap, subst, ◌∙◌, Option, Some, None}
 use Rattle.std.proofs.lemmas.List.{length-map}
@@ -17,14 +17,14 @@ use Rattle.lgm_graph.specs.inner.Sound.{graph_in, edges_in, ShowsIn}
 use Rattle.lgm_graph.proofs.Carrying.{edge_on-is}
 use Rattle.lgm_graph.proofs.Showing.{edges_at, shows_push}
 
--- ---- nodes that look alike
+-- ---- nodes with the same graph
 
 module _ (old new : Nodes) (same : (known : Option (List ℕ)) → graph_in known new ≡ graph_in known old) where
   pub same_points : new.points.keys ≡ old.points.keys
   same_points = ap (λ (g : Graph). g.points) (same None)
 
-  pub same_takes : new.takes.items ≡ old.takes.items
-  same_takes = ap (λ (g : Graph). g.takes) (same None)
+  pub same_takes : new.accepts_payments.items ≡ old.accepts_payments.items
+  same_takes = ap (λ (g : Graph). g.accepts_payments) (same None)
 
   pub same_into : map edges_in new.into.items ≡ map edges_in old.into.items
   same_into = ap (λ (g : Graph). g.into) (same None)
@@ -96,4 +96,4 @@ pushed old mid new edges edge from to listed distinct same from_is to_is listed_
     rw (points, into, out, listed_is, from_is, to_is, same_points old mid same, same_into old mid same, same_out old mid same)
     (shows_push edges old.points.keys (map edges_in old.into.items) (map edges_in old.out.items) edge distinct joined shows)
 
--- ---- whole
+-- ---- the whole

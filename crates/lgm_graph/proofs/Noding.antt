@@ -31,7 +31,7 @@ module _ (known : Option (List ℕ)) (rows : Rows) (row : NodeRow) where
       by true e = rw (e, node_of-put q rows.nodes row apart) refl
       by false e = rw e refl
 
-  -- looked at anew at the node, all are
+  -- checked again at the node, all are
   looked : (q : Point) → (if is_point row.message.node_id q then takes_payments known (with_node rows
       row).nodes q else takes_payments known rows.nodes q) ≡ takes_payments known (with_node rows row).nodes q
   looked q = by (is_point row.message.node_id q) refl
@@ -42,27 +42,27 @@ module _ (known : Option (List ℕ)) (rows : Rows) (row : NodeRow) where
       by true e = rw e refl
       by false e = rw e (sym (other_node q e))
 
-  -- the view, where the node is looked at anew
-  pub graph_noded : (points : List Point) (takes new : List Bool) (into out : List (List Edge))
-      → IsGraphOf rows (record { known = known; points = points; takes = takes; into = into; out = out })
+  -- the view after the node is checked again
+  pub graph_noded : (points : List Point) (accepts_payments new : List Bool) (into out : List (List Edge))
+      → IsGraphOf rows (record { known = known; points = points; accepts_payments = accepts_payments; into = into; out = out })
       → new ≡ map (λ q. if is_point row.message.node_id q
       then takes_payments known (with_node rows row).nodes q else takes_payments known rows.nodes q) points
-      → IsGraphOf (with_node rows row) (record { known = known; points = points; takes = new; into = into; out = out })
-  graph_noded points takes new into out graph own =
+      → IsGraphOf (with_node rows row) (record { known = known; points = points; accepts_payments = new; into = into; out = out })
+  graph_noded points accepts_payments new into out graph own =
       let same = same_rest (ends_channel rows.channels row.message.node_id) refl in
       record {
         ends = rw same.1 graph.ends;
-        takes = own ∙ flags_alike _ (takes_payments known (with_node rows row).nodes) points looked;
+        accepts_payments = own ∙ flags_alike _ (takes_payments known (with_node rows row).nodes) points looked;
         shows = rw same.0 graph.shows;
       }
 
-  -- the same of the nodes as they are kept
+  -- the same for the nodes as they are stored
   pub noded : (after : Rows) (node : Point) (old new : Nodes) → after ≡ with_node rows row
       → node ≡ row.message.node_id → IsGraphOf rows (graph_in known old)
       → new.points.keys ≡ old.points.keys → new.into.items ≡ old.into.items → new.out.items ≡ old.out.items
       → AreFlags (λ q. if is_point node q then takes_payments known after.nodes q else takes_payments known rows.nodes q) new
       → IsGraphOf after (graph_in known new)
   noded after node old new is own graph points into out flags =
-      rw (is, points, into, out) (graph_noded old.points.keys old.takes.items new.takes.items
+      rw (is, points, into, out) (graph_noded old.points.keys old.accepts_payments.items new.accepts_payments.items
       (map edges_in old.into.items) (map edges_in old.out.items) graph
       (flags ∙ rw (is, own, points) refl))

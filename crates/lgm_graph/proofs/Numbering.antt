@@ -1,4 +1,4 @@
--- A point looked up, and numbered where it isn't.
+-- Looking up a point, and numbering it if it isn't.
 use Rattle.std.proofs.Common.{◌≡◌, ℕ, ◌+◌, ◌<◌, ◌≤◌, ltb, zero, suc, Bool, true, false, cond, ◌||◌, List, [], ◌∷◌, ◌++◌}
 use Rattle.std.proofs.Common.{length, map, refl, ap, subst, ◌∙◌, Option, Some, None, arith, true≢false, length-append}
 use Rattle.std.specs.List.{AllByRecursion, IsDistinct, list_any, position, slice_get}
@@ -56,7 +56,7 @@ found_at P [] n x all there = absurd cc
 found_at P (y ∷ ys) zero x all there = let own : y ≡ x = cc in subst P own all.0
 found_at P (y ∷ ys) (suc n) x all there = found_at P ys n x all.1 there
 
--- a point has the number at which it stands, where points are distinct
+-- a point's number is its index, if points are distinct
 pub number_at : (points : List Point) (n : ℕ) (p q : Point) → IsDistinct is_point points
     → slice_get points n ≡ Some q → is_point p q ≡ true → (n ≡ number_of points p) × IsNumbered points p
 number_at [] n p q distinct there is = absurd cc
@@ -71,9 +71,9 @@ number_at (r ∷ rs) (suc n) p q distinct there is =
     let next : 1 + number_of rs p ≡ suc (number_of rs p) = omega arith in
     rw (apart, next) (ap suc others.0, omega (arith, others.1))
 
-module _ (old mid new : Nodes) (point : Point) (takes : Bool) (other : list_any (is_point point) old.points.keys ≡ false)
+module _ (old mid new : Nodes) (point : Point) (accepts_payments : Bool) (other : list_any (is_point point) old.points.keys ≡ false)
     (same : (known : Option (List ℕ)) → graph_in known mid ≡ graph_in known old)
-    (points_is : new.points.keys ≡ mid.points.keys ++ point ∷ []) (takes_is : new.takes.items ≡ mid.takes.items ++ takes ∷ [])
+    (points_is : new.points.keys ≡ mid.points.keys ++ point ∷ []) (takes_is : new.accepts_payments.items ≡ mid.accepts_payments.items ++ accepts_payments ∷ [])
     (into_is : map edges_in new.into.items ≡ map edges_in mid.into.items ++ [] ∷ [])
     (out_is : map edges_in new.out.items ≡ map edges_in mid.out.items ++ [] ∷ []) where
   pub further_points : new.points.keys ≡ old.points.keys ++ point ∷ []
@@ -89,7 +89,7 @@ module _ (old mid new : Nodes) (point : Point) (takes : Bool) (other : list_any 
   further_few = omega (arith, ap length further_points, length-append old.points.keys (point ∷ []))
 
   pub further_takes : (known : Option (List ℕ)) (rows : List NodeRow)
-      → takes ≡ takes_payments known rows point → AreLookedAt known rows old → AreLookedAt known rows new
+      → accepts_payments ≡ takes_payments known rows point → AreLookedAt known rows old → AreLookedAt known rows new
   further_takes known rows own all =
       rw (takes_is, further_points, same_takes old mid same, all, own, map-append (takes_payments known rows) old.points.keys (point ∷ [])) refl
 
@@ -98,13 +98,13 @@ module _ (old mid new : Nodes) (point : Point) (takes : Bool) (other : list_any 
       rw (further_points, into_is, out_is, same_into old mid same, same_out old mid same)
       (shows_more edges old.points.keys (map edges_in old.into.items) (map edges_in old.out.items) point (any_not old.points.keys point other) shows)
 
-  pub has_numbered : (known : Option (List ℕ)) (rows : List NodeRow) → takes ≡ takes_payments known rows point
+  pub has_numbered : (known : Option (List ℕ)) (rows : List NodeRow) → accepts_payments ≡ takes_payments known rows point
       → HasNumbered known rows point old new
   has_numbered known rows own = record {
     few = further_few;
     kept = further_keeps;
     numbered = further_number.1;
-    takes = further_takes known rows own;
+    accepts_payments = further_takes known rows own;
     shows = further_shows;
   }
 
@@ -115,6 +115,6 @@ was_numbered known rows point nodes there = record {
   few = omega arith;
   kept = λ p numbered. (refl, numbered);
   numbered = there;
-  takes = λ all. all;
+  accepts_payments = λ all. all;
   shows = λ edges shows. shows;
 }

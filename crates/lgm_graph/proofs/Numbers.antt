@@ -23,7 +23,7 @@ number_some points p n is = elim (cases_Bool (ltb (number_of points p) (length p
 pub number_none : (points : List Point) (p : Point) → IsNumbered points p → position (is_point p) points ≡ None → ⊥
 number_none points p there is = none-some (number_of points p) (sym (rw (lt-ltb _ _ there) at is))
 
--- what holds of each row holds of what is found
+-- a fact about each row holds for the row that is found
 pub found_holds : {R : Type 0} (P : R → Type 0) (p : R → Bool) (rows : List R) (row : R) → AllByRecursion P rows → find p rows ≡ Some row → P row
 found_holds P p [] row all found = absurd cc
 found_holds P p (first ∷ rows) row all found = elim (cases_Bool (p first)) [
@@ -31,23 +31,23 @@ found_holds P p (first ∷ rows) row all found = elim (cases_Bool (p first)) [
   | inr is ↦ found_holds P p rows row all.1 (rw is at found)
 ]
 
--- the ends of a held channel are numbered
+-- the nodes of a channel in the map are numbered
 pub ends_numbered : (points : List Point) (channels : List ChannelRow) (id : ℕ) (channel : ChannelRow) (second : Bool)
     → AllByRecursion (λ channel. IsNumbered points channel.message.node_id_1 × IsNumbered points channel.message.node_id_2) channels
     → channel_of channels id ≡ Some channel → IsNumbered points (end_of channel second)
-ends_numbered points channels id channel second ends held = by second (found_holds _ _ channels channel ends held)
+ends_numbered points channels id channel second ends stored = by second (found_holds _ _ channels channel ends stored)
   where
     by : (b : Bool) → IsNumbered points channel.message.node_id_1 × IsNumbered points channel.message.node_id_2 → IsNumbered points (end_of channel b)
     by true both = both.1
     by false both = both.0
 
--- what follows from what holds if a call succeeds, and from what holds if it fails
+-- what follows from the clauses for success and for failure
 pub in_both : {T E A B P Q : Type 0} (r : Result T E) → OnOk r A → OnErr r B → (A → P) → (B → Q)
     → MatchResult r (λ _. P) (λ _. Q)
 in_both (Ok x) ok err f g = f ok
 in_both (Err e) ok err f g = g err
 
--- a numbered point stands at its number
+-- a numbered point is at its index
 pub get_number : (points : List Point) (p d : Point) → IsNumbered points p → get_or points (number_of points p) d ≡ p
 get_number [] p d there = absurd (omega (arith, there))
 get_number (q ∷ qs) p d there = elim (cases_Bool (is_point p q)) [

@@ -17,13 +17,13 @@ use Rattle.lgm_graph.specs.Graph.{Graph, IsGraphOf, IsJoined, IsNumbered, number
 use Rattle.lgm_graph.proofs.Showing.{edges_at}
 use Rattle.lgm_graph.proofs.Listing.{back_again}
 
--- those that go to each of the points, one point after the other
-abbrev gathered : List Point → List PointEdge → List PointEdge
-gathered points edges = flat_map (λ point. filter (λ e. is_point point e.to) edges) points
+-- those that lead to each of the points, one point after the other
+abbrev buffered : List Point → List PointEdge → List PointEdge
+buffered points edges = flat_map (λ point. filter (λ e. is_point point e.to) edges) points
 
--- those that don't go to a point, where the others don't matter
+-- those that don't lead to a point, where the others don't matter
 gathered_others : (p : Point) (edges : List PointEdge) (points : List Point) → AllByRecursion (λ q. is_point p q ≡ false) points
-    → gathered points (filter (λ e. not (is_point p e.to)) edges) ≡ gathered points edges
+    → buffered points (filter (λ e. not (is_point p e.to)) edges) ≡ buffered points edges
 gathered_others p edges [] apart = refl
 gathered_others p edges (q ∷ qs) apart = rw (here, gathered_others p edges qs apart.1) refl
   where
@@ -49,15 +49,15 @@ gathered_others p edges (q ∷ qs) apart = rw (here, gathered_others p edges qs 
     here : filter (λ e. is_point q e.to) (filter (λ e. not (is_point p e.to)) edges) ≡ filter (λ e. is_point q e.to) edges
     here = pass edges (each edges)
 
--- each edge goes to one of the points, and so is gathered once
+-- each edge leads to one of the points, and so is collected once
 gathered_once : (points : List Point) (edges : List PointEdge) → IsDistinct is_point points → AllByRecursion
-    (λ e. list_any (λ p. is_point p e.to) points ≡ true) edges → IsPermutation edges (gathered points edges)
+    (λ e. list_any (λ p. is_point p e.to) points ≡ true) edges → IsPermutation edges (buffered points edges)
 gathered_once [] [] distinct all = IsPermutation-refl []
 gathered_once [] (e ∷ es) distinct all = let never : false ≡ true = all.0 in absurd cc
 gathered_once (p ∷ ps) edges distinct all =
-    IsPermutation-trans edges (filter (λ e. is_point p e.to) edges ++ filter (λ e. not (is_point p e.to)) edges) (gathered (p ∷ ps) edges)
+    IsPermutation-trans edges (filter (λ e. is_point p e.to) edges ++ filter (λ e. not (is_point p e.to)) edges) (buffered (p ∷ ps) edges)
     (IsPermutation-filter_both (λ (e : PointEdge). is_point p e.to) (λ e. not (is_point p e.to)) (λ e. refl) edges)
-    (IsPermutation-append_right (filter (λ e. is_point p e.to) edges) (filter (λ e. not (is_point p e.to)) edges) (gathered ps edges)
+    (IsPermutation-append_right (filter (λ e. is_point p e.to) edges) (filter (λ e. not (is_point p e.to)) edges) (buffered ps edges)
     (subst (IsPermutation (filter (λ e. not (is_point p e.to)) edges)) (gathered_others p edges ps (IsDistinct-head is_point p ps distinct))
     (gathered_once ps (filter (λ e. not (is_point p e.to)) edges) (IsDistinct-tail is_point p ps distinct) (others edges all))))
   where
@@ -142,7 +142,7 @@ module _ (rows : Rows) (graph : Graph) (distinct : IsDistinct is_point graph.poi
   edges_are : (ps : List Point) → map (edge_between graph.points) (flat_map (λ (node : Bool × List Edge). if node.0
       then node.1 else []) (zip (map (takes_payments graph.known rows.nodes) ps)
       (map (edges_at (λ e. e.to) graph.points (carrying rows)) ps)))
-      ≡ gathered ps (edges_of graph.known rows)
+      ≡ buffered ps (edges_of graph.known rows)
   edges_are [] = refl
   edges_are (p ∷ ps) =
       map-append (edge_between graph.points) (if takes_payments graph.known rows.nodes p
@@ -155,9 +155,9 @@ module _ (rows : Rows) (graph : Graph) (distinct : IsDistinct is_point graph.poi
       All-filter _ (λ e. takes_payments graph.known rows.nodes e.to) (carrying rows)
       (All-to (IsJoined graph.points) (λ e. list_any (λ q. is_point q e.to) graph.points ≡ true)
       (carrying rows) (λ e both. numbered_among graph.points e.to both.1) beside.shows.joined) in
-      let is : point_edges graph ≡ gathered graph.points (edges_of graph.known rows) =
+      let is : point_edges graph ≡ buffered graph.points (edges_of graph.known rows) =
       ap (λ (ts : List Bool). map (edge_between graph.points) (flat_map
-      (λ (node : Bool × List Edge). if node.0 then node.1 else []) (zip ts graph.into))) beside.takes
+      (λ (node : Bool × List Edge). if node.0 then node.1 else []) (zip ts graph.into))) beside.accepts_payments
       ∙ ap (λ (ls : List (List Edge)).
       map (edge_between graph.points) (flat_map (λ (node : Bool × List Edge). if node.0 then node.1 else [])
       (zip (map (takes_payments graph.known rows.nodes) graph.points) ls))) beside.shows.into_is

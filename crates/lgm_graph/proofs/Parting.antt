@@ -1,4 +1,4 @@
--- The nodes at which channels go by a ban.
+-- The nodes that lose channels by a ban.
 use Rattle.std.proofs.Common.{◌≡◌, ℕ, ◌+◌, ◌<◌, eqb, Bool, true, false, not, ◌||◌, List, [], ◌∷◌, length, map}
 use Rattle.std.proofs.Common.{take, get_or, zero, suc, refl, sym, ap, ◌∙◌, Option, Some, None, arith, true≢false, inl, inr}
 use Rattle.std.specs.Prelude.{if◌then◌else◌}
@@ -63,7 +63,7 @@ among_own points p = elim (cases_Bool (list_any (is_point p) points)) [
       | inr is ↦ rw (there qs (rw is at any)) (last (is_point q p))
     ]
 
--- a channel's two ends come in
+-- a channel's two nodes are added
 abbrev pub with_ends : List Point → ChannelRow → List Point
 with_ends points channel = insert_key is_point (insert_key is_point points channel.message.node_id_1) channel.message.node_id_2
 
@@ -117,12 +117,12 @@ pub long_ids : (rows : List ChannelRow) → length (map id_of rows) ≡ length r
 long_ids [] = refl
 long_ids (x ∷ xs) = rw (long_ids xs) refl
 
--- the ends of one channel more
+-- the nodes of one more channel
 pub ends_next : (rows : List ChannelRow) (node : Point) (ids : List ℕ) (i : ℕ) (id : ℕ) (channel : ChannelRow)
     (old new : List Point) → IsStrictlySortedBy by_id rows
     → ids ≡ ids_at rows node → i < length ids → id ≡ get_or ids i id → channel_of rows id ≡ Some channel → new ≡ with_ends old channel
     → AllByRecursion (HasEnds old) (take i (filter (ends_at node) rows)) → AllByRecursion (HasEnds new) (take (i + 1) (filter (ends_at node) rows))
-ends_next rows node ids i id channel old new sorted ids_are lt is held new_is done =
+ends_next rows node ids i id channel old new sorted ids_are lt is stored new_is done =
     let there = filter (ends_at node) rows in
     let within : i < length (map id_of there) = rw ids_are at lt in
     let short : i < length there = let long = long_ids there in omega (arith, within, long) in
@@ -130,7 +130,7 @@ ends_next rows node ids i id channel old new sorted ids_are lt is held new_is do
     at_place (λ row. channel_of rows (id_of row) ≡ Some row) there i channel short
     (All-filter _ (ends_at node) rows (each_found rows sorted)) in
     let id_is : id ≡ id_of (get_or there i channel) = is ∙ ap (λ l. get_or l i id) ids_are ∙ get_id there i id channel within in
-    let one : Some (get_or there i channel) ≡ Some channel = sym found ∙ ap (channel_of rows) (sym id_is) ∙ held in
+    let one : Some (get_or there i channel) ≡ Some channel = sym found ∙ ap (channel_of rows) (sym id_is) ∙ stored in
     let own : get_or there i channel ≡ channel = cc in
     rw ((take_at_read there i channel short).1, own, new_is)
     (All-append (HasEnds (with_ends old channel)) (take i there) (channel ∷ [])
@@ -138,11 +138,11 @@ ends_next rows node ids i id channel old new sorted ids_are lt is held new_is do
     has_kept old (with_ends old channel) row (kept_more old channel) has) done)
     (has_own old channel, tt))
 
--- the channel of each of the ids is held
-pub ids_held : (rows : List ChannelRow) (node : Point) (ids : List ℕ) (i : ℕ) (id : ℕ)
+-- the channel of each of the ids is in the map
+pub ids_stored : (rows : List ChannelRow) (node : Point) (ids : List ℕ) (i : ℕ) (id : ℕ)
     → IsStrictlySortedBy by_id rows → ids ≡ ids_at rows node → i < length ids → id ≡ get_or ids i id
     → channel_of rows id ≡ None → ⊥
-ids_held rows node ids i id sorted ids_are lt is none =
+ids_stored rows node ids i id sorted ids_are lt is none =
     let there = filter (ends_at node) rows in
     let within : i < length (map id_of there) = rw ids_are at lt in
     by there within (All-filter _ (ends_at node) rows (each_found rows sorted)) (is ∙ ap (λ l. get_or l i id) ids_are)
@@ -152,8 +152,8 @@ ids_held rows node ids i id sorted ids_are lt is none =
     by [] within found is = omega (arith, within)
     by (x ∷ xs) within found is =
         let short : i < length (x ∷ xs) = let long = long_ids (x ∷ xs) in omega (arith, within, long) in
-        let held = at_place (λ row. channel_of rows (id_of row) ≡ Some row) (x ∷ xs) i x short found in
-        let never : None ≡ Some (get_or (x ∷ xs) i x) = sym none ∙ ap (channel_of rows) (is ∙ get_id (x ∷ xs) i id x within) ∙ held in
+        let stored = at_place (λ row. channel_of rows (id_of row) ≡ Some row) (x ∷ xs) i x short found in
+        let never : None ≡ Some (get_or (x ∷ xs) i x) = sym none ∙ ap (channel_of rows) (is ∙ get_id (x ∷ xs) i id x within) ∙ stored in
         absurd cc
 
 -- those that pass a test, among all
@@ -201,9 +201,9 @@ parts_all rows ban one two three four lawful a b c d kept2 kept3 kept4 = along r
       along xs allowed.1 a.1 b.1 c.1 d.1,
     )
 
--- ---- the nodes at which they go are changed
+-- ---- the nodes that lose channels are changed
 
--- what stands at a point, where it is changed at some
+-- what is stored at a point, if it is changed at some
 abbrev pub changed_among : {Y : Type 0} → (Point → Y → Y) → List Point → (Point → Y) → Point → Y
 changed_among change points before q = if is_among points q then change q (before q) else before q
 
@@ -233,18 +233,18 @@ next_at {Y} change twice before points i d lt keys values is =
     is ∙ ap (λ (f : Point → Y). map f keys) (λ j q.
     among_next change twice before points i (get_or points i d) d lt refl q j)
 
--- ---- the view, where the nodes at which channels go are changed
+-- ---- the view after the nodes that lose channels are changed
 
 module _ (known : Option (List ℕ)) (rows : Rows) (banned : List Point) (lawful : IsLawful rows)
     (ends : List Point)
-    (parted : AllByRecursion (λ row. ends_banned banned row ≡ true → HasEnds ends row) rows.channels) where
+    (affected_nodes : AllByRecursion (λ row. ends_banned banned row ≡ true → HasEnds ends row) rows.channels) where
   -- an edge of a banned node has both of its ends among the points
   edge_ends : (e : PointEdge) → IsOfChannel rows.channels e → (is_banned banned e.from || is_banned banned e.to)
       ≡ true → (is_among ends e.from ≡ true) × (is_among ends e.to ≡ true)
   edge_ends e of is =
       let has : ends_banned banned of.channel ≡ true → HasEnds ends of.channel =
       found_holds (λ row. ends_banned banned row ≡ true → HasEnds ends row)
-      (λ row. eqb row.message.short_channel_id e.scid) rows.channels of.channel parted of.held in
+      (λ row. eqb row.message.short_channel_id e.scid) rows.channels of.channel affected_nodes of.stored in
       let both = has (by e.second of.channel (rw (of.from, of.to) at is)) in
       (rw of.from (end_among e.second of.channel both), rw of.to (end_among (not e.second) of.channel both))
     where
@@ -257,7 +257,7 @@ module _ (known : Option (List ℕ)) (rows : Rows) (banned : List Point) (lawful
       end_among true channel has = has.1
       end_among false channel has = has.0
 
-  -- elsewhere no edge goes
+  -- elsewhere no edge is removed
   stays_at : (end : PointEdge → Point) → ((e : PointEdge) → (is_among ends e.from ≡ true) × (is_among ends e.to ≡ true)
       → is_among ends (end e) ≡ true) → (q : Point) → is_among ends q ≡ false
       → filter (λ e. is_point q (end e)) (filter (λ e. not (is_banned banned e.from || is_banned banned e.to))
@@ -277,7 +277,7 @@ module _ (known : Option (List ℕ)) (rows : Rows) (banned : List Point) (lawful
   -- ---- whether nodes take payments
 
   still_ended : (q : Point) → is_among ends q ≡ false → ends_channel (allowed_channels banned rows.channels) q ≡ ends_channel rows.channels q
-  still_ended q away = any-kept (ends_at q) (λ c. not (ends_banned banned c)) rows.channels (All-to _ _ rows.channels each parted)
+  still_ended q away = any-kept (ends_at q) (λ c. not (ends_banned banned c)) rows.channels (All-to _ _ rows.channels each affected_nodes)
     where
       each : (c : ChannelRow) → (ends_banned banned c ≡ true → HasEnds ends c) → ends_at q c ≡ true → not (ends_banned banned c) ≡ true
       each c has at = elim (cases_Bool (ends_banned banned c)) [

@@ -1,4 +1,4 @@
--- Edges that stand with their ends, as they change.
+-- Edges that are listed at their nodes, as they change.
 use Rattle.std.proofs.Common.{◌≡◌, ◌≢◌, inl, inr, ℕ, ◌+◌, ◌<◌, Bool, true, false, List, [], ◌∷◌, ◌++◌, length, map, set, get_or}
 use Rattle.std.proofs.Common.{suc, refl, sym, ap, ◌∙◌, Option, Some, None, option_to_list, arith, true≢false, length-append}
 use Rattle.std.specs.Option.{option_map}
@@ -30,7 +30,7 @@ module _ {X Y : Type 0} where
   map_alike F G [] all = refl
   map_alike F G (x ∷ xs) all = rw (all.0, map_alike F G xs all.1) refl
 
-  -- a test behind a map is one before it
+  -- a test after a map is one before it
   pub filter-map : (f : X → Y) (p : Y → Bool) (xs : List X) → filter p (map f xs) ≡ map f (filter (λ x. p (f x)) xs)
   filter-map f p [] = refl
   filter-map f p (x ∷ xs) = elim (cases_Bool (p (f x))) [
@@ -49,7 +49,7 @@ module _ {X Y : Type 0} where
       one None = refl
       one (Some x) = refl
 
--- what passes, beside what holds of each
+-- what passes, with a fact about each
 pub passing : {X : Type 0} (P : X → Type 0) (p : X → Bool) (xs : List X) → AllByRecursion P xs
     → AllByRecursion (λ x. P x × (p x ≡ true)) (filter p xs)
 passing P p [] all = tt
@@ -62,9 +62,9 @@ pub turned : (p q : Point) → is_point p q ≡ false → is_point q p ≡ false
 turned p q apart = false_from_ne_true (is_point q p)
     (λ e. true≢false (sym (ap (is_point p) (same_point q p e) ∙ is_point-self p) ∙ apart))
 
--- ---- one place
+-- ---- one element
 
--- one place of a map over distinct points changes
+-- one element of a map over distinct points changes
 pub map_at : {Y : Type 0} (F G : Point → Y) (points : List Point) (p : Point) → IsDistinct is_point points → number_of points p < length points
     → ((q : Point) → is_point p q ≡ false → G q ≡ F q) → set (map F points) (number_of points p) (G p) ≡ map G points
 map_at F G [] p distinct there other = absurd (omega (arith, there))
@@ -120,7 +120,7 @@ module _ (end : PointEdge → Point) (points : List Point) where
             append-nil (filter (λ e. is_point q (end e)) edges),
           ) refl
 
-  -- ---- an edge put in its place
+  -- ---- inserting an edge
 
   module _ (id : ℕ) (second : Bool) (edges : List PointEdge) (edge : Option PointEdge) (target : Point) (cut : IsCut (to_key id second) edges)
       (all : AllByRecursion (λ e. to_key id second e ≡ Equal → end e ≡ target) edges) (own : (e : PointEdge) → edge ≡ Some e → end e ≡ target) where
@@ -253,7 +253,7 @@ shows_more edges points into out p new shows = record {
       (IsJoined points) (λ e. IsNumbered points e.from) edges (λ e both. both.0) shows.joined) shows.joined;
 }
 
--- ---- whole
+-- ---- the whole
 
 pub shows_push : (edges : List PointEdge) (points : List Point) (into out : List (List Edge)) (edge : PointEdge)
     → IsDistinct is_point points → IsJoined points edge → Shows edges points into out

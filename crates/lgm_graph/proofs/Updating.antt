@@ -43,12 +43,12 @@ All_put P f xs o all new = All-append P (filter (λ x. is_lt (f x)) xs ++ option
     one (Some x) h = (h, tt)
 
 module _ (known : Option (List ℕ)) (rows : Rows) (row : UpdateRow) (channel : ChannelRow)
-    (held : channel_of rows.channels row.message.short_channel_id ≡ Some channel)
+    (stored : channel_of rows.channels row.message.short_channel_id ≡ Some channel)
     (ascend : IsAscending rows) where
   abbrev key : PointEdge → Ordering
   key = to_key row.message.short_channel_id (is_second row)
 
-  -- the nodes that the update's edge joins
+  -- the nodes of the update's edge
   abbrev pub start : Point
   start = end_of channel (is_second row)
 
@@ -56,14 +56,14 @@ module _ (known : Option (List ℕ)) (rows : Rows) (row : UpdateRow) (channel : 
   target = end_of channel (not (is_second row))
 
   updated : with_update rows row ≡ record rows { updates = put by_direction rows.updates row }
-  updated = rw held refl
+  updated = rw stored refl
 
   -- an edge of the update's key is of the channel
   of_key : (edge : PointEdge) → IsOfChannel rows.channels edge → key edge ≡ Equal → (edge.from ≡ start) × (edge.to ≡ target)
   of_key edge of e =
       let same = at_key row.message.short_channel_id (is_second row) edge e in
-      let found : channel_of rows.channels row.message.short_channel_id ≡ Some of.channel = ap (channel_of rows.channels) (sym same.0) ∙ of.held in
-      let one : Some of.channel ≡ Some channel = sym found ∙ held in
+      let found : channel_of rows.channels row.message.short_channel_id ≡ Some of.channel = ap (channel_of rows.channels) (sym same.0) ∙ of.stored in
+      let one : Some of.channel ≡ Some channel = sym found ∙ stored in
       let is : of.channel ≡ channel = cc in (
         of.from ∙ ap (λ (c : ChannelRow). end_of c edge.second) is ∙ ap (end_of channel) same.1,
         of.to ∙ ap (λ (c : ChannelRow). end_of c (not edge.second)) is ∙ ap (λ (b : Bool). end_of channel (not b)) same.1,
@@ -74,7 +74,7 @@ module _ (known : Option (List ℕ)) (rows : Rows) (row : UpdateRow) (channel : 
   unfolding edge_of
   own_ends edge is =
       let found = edge_in-some rows.channels row edge is in
-      let one : Some found.0 ≡ Some channel = sym found.1 ∙ held in
+      let one : Some found.0 ≡ Some channel = sym found.1 ∙ stored in
       let same : found.0 ≡ channel = cc in
       rw (found.2) (ap (λ (c : ChannelRow). end_of c (is_second row)) same, ap (λ (c : ChannelRow). end_of c (not (is_second row))) same)
 
@@ -92,15 +92,15 @@ module _ (known : Option (List ℕ)) (rows : Rows) (row : UpdateRow) (channel : 
       (λ e of is. (of_key e of is).1) (carrying_of rows.channels rows.updates)
 
   in_row : edge_in rows.channels row ≡ edge_on channel row
-  in_row = ap (λ o. option_and_then (λ channel. edge_on channel row) o) held
+  in_row = ap (λ o. option_and_then (λ channel. edge_on channel row) o) stored
 
-  module _ (points : List Point) (takes : List Bool) (into out : List (List Edge)) (graph : IsGraphOf rows
-      (record { known = known; points = points; takes = takes; into = into; out = out })) where
+  module _ (points : List Point) (accepts_payments : List Bool) (into out : List (List Edge)) (graph : IsGraphOf rows
+      (record { known = known; points = points; accepts_payments = accepts_payments; into = into; out = out })) where
     pub start_there : IsNumbered points start
-    start_there = ends_numbered points rows.channels row.message.short_channel_id channel (is_second row) graph.ends held
+    start_there = ends_numbered points rows.channels row.message.short_channel_id channel (is_second row) graph.ends stored
 
     pub target_there : IsNumbered points target
-    target_there = ends_numbered points rows.channels row.message.short_channel_id channel (not (is_second row)) graph.ends held
+    target_there = ends_numbered points rows.channels row.message.short_channel_id channel (not (is_second row)) graph.ends stored
 
     -- the edges of both ends are in order
     pub into_cut : IsCut (edge_key row.message.short_channel_id (is_second row)) (get_or into (number_of points target) [])
@@ -126,7 +126,7 @@ module _ (known : Option (List ℕ)) (rows : Rows) (row : UpdateRow) (channel : 
     carrying_updated : carrying (with_update rows row) ≡ put_at key (carrying rows) (edge_in rows.channels row)
     carrying_updated = ap carrying updated ∙ carrying_put rows.channels rows.updates row
 
-    -- the view, where the edge is put at both ends
+    -- the view after the edge is inserted at both nodes
     pub graph_updated : (edge : Option Edge) (new_into new_out : List (List Edge))
         → IsDistinct is_point points
         → edge ≡ option_map (λ e. numbered_as e (number_of points start) (number_of points target)) (edge_on channel row)
@@ -134,10 +134,10 @@ module _ (known : Option (List ℕ)) (rows : Rows) (row : UpdateRow) (channel : 
         (is_second row)) (get_or into (number_of points target) []) edge)
         → new_out ≡ set out (number_of points start) (put_at
         (edge_key row.message.short_channel_id (is_second row)) (get_or out (number_of points start) []) edge)
-        → IsGraphOf (with_update rows row) (record { known = known; points = points; takes = takes; into = new_into; out = new_out })
+        → IsGraphOf (with_update rows row) (record { known = known; points = points; accepts_payments = accepts_payments; into = new_into; out = new_out })
     graph_updated edge new_into new_out distinct edge_is into_new out_new = record {
       ends = rw (ap (λ (r : Rows). r.channels) updated) graph.ends;
-      takes = rw (ap (λ (r : Rows). r.nodes) updated) graph.takes;
+      accepts_payments = rw (ap (λ (r : Rows). r.nodes) updated) graph.accepts_payments;
       shows = record {
         joined =
             rw carrying_updated (All_put (IsJoined points) key (carrying rows) (edge_in rows.channels row)
@@ -158,26 +158,26 @@ module _ (known : Option (List ℕ)) (rows : Rows) (row : UpdateRow) (channel : 
             edge_is ∙ ap (option_map (λ e. numbered_as e (number_of points start) (number_of points target))) (sym in_row)
             ∙ numbered (edge_in rows.channels row) refl
 
--- the same of the nodes as they are kept
+-- the same for the nodes as they are stored
 pub node_updated : (known : Option (List ℕ)) (rows after : Rows) (row : UpdateRow) (channel : ChannelRow)
-    (held : channel_of rows.channels row.message.short_channel_id ≡ Some channel) → IsAscending rows
+    (stored : channel_of rows.channels row.message.short_channel_id ≡ Some channel) → IsAscending rows
     → after ≡ with_update rows row → (old mid new : Nodes) → IsDistinct is_point old.points.keys
     → IsGraphOf rows (graph_in known old) → ((k : Option (List ℕ)) → graph_in k mid ≡ graph_in k old)
     → (id from to : ℕ) (second : Bool) (edge : Option Edge) → id ≡ row.message.short_channel_id → second ≡ is_second row
     → from ≡ number_of old.points.keys (end_of channel second) → to ≡ number_of old.points.keys (end_of channel (not second))
     → edge ≡ option_map (λ e. numbered_as e from to) (edge_on channel row)
-    → new.points.keys ≡ mid.points.keys → new.takes.items ≡ mid.takes.items
+    → new.points.keys ≡ mid.points.keys → new.accepts_payments.items ≡ mid.accepts_payments.items
     → map edges_in new.into.items ≡ set (map edges_in mid.into.items) to
     (put_at (edge_key id second) (get_or (map edges_in mid.into.items) to []) edge)
     → map edges_in new.out.items ≡ set (map edges_in mid.out.items) from
     (put_at (edge_key id second) (get_or (map edges_in mid.out.items) from []) edge)
     → IsGraphOf after (graph_in known new)
-node_updated known rows after row channel held ascend after_is old mid new distinct graph same id from to
-    second edge id_is second_is from_is to_is edge_is points takes into out =
+node_updated known rows after row channel stored ascend after_is old mid new distinct graph same id from to
+    second edge id_is second_is from_is to_is edge_is points accepts_payments into out =
     let starts = from_is ∙ ap (λ b. number_of old.points.keys (end_of channel b)) second_is in
     let ends = to_is ∙ ap (λ b. number_of old.points.keys (end_of channel (not b))) second_is in
-    rw (after_is, points, takes, same_points old mid same, same_takes old mid same)
-    (graph_updated known rows row channel held ascend old.points.keys old.takes.items
+    rw (after_is, points, accepts_payments, same_points old mid same, same_takes old mid same)
+    (graph_updated known rows row channel stored ascend old.points.keys old.accepts_payments.items
     (map edges_in old.into.items) (map edges_in old.out.items) graph edge
     (map edges_in new.into.items) (map edges_in new.out.items)
     distinct (edge_is ∙ rw (starts, ends) refl)

@@ -1,4 +1,4 @@
--- Edges written down one behind the other.
+-- Edges listed one after the other.
 use Rattle.std.proofs.Common.{◌≡◌, ℕ, ◌+◌, ◌<◌, Bool, true, false, not, List, [], ◌∷◌, ◌++◌, length, map, set, get_or, take}
 use Rattle.std.proofs.Common.{zero, suc, refl, sym, ap, subst, ◌∙◌, Option, Some, None, option_to_list, append_assoc, arith}
 use Rattle.std.specs.Option.{option_and_then, option_map}
@@ -7,8 +7,8 @@ use Rattle.std.proofs.lemmas.List.{length-map, map-append, take_more, append-nil
 use Rattle.lgm_wire.specs.declared.point.Point.{Point}
 use Rattle.lgm_check.specs.declared.row.ChannelRow.{ChannelRow}
 use Rattle.lgm_check.specs.declared.row.UpdateRow.{UpdateRow}
-use Rattle.lgm_store.specs.declared.held.Held.{Held}
-use Rattle.lgm_store.specs.Held.{update_in, held_at}
+use Rattle.lgm_store.specs.declared.channel_info.ChannelInfo.{ChannelInfo}
+use Rattle.lgm_store.specs.ChannelInfo.{update_in, stored_at}
 use Rattle.lgm_store.specs.Rows.{Rows, is_point, update_of}
 use Rattle.lgm_graph.specs.declared.edge.Edge.{Edge}
 use Rattle.lgm_graph.specs.declared.nodes.Nodes.{Nodes}
@@ -19,7 +19,7 @@ use Rattle.lgm_graph.specs.inner.Walk.{AreEdgesOf, KeepsNumbers, edge_of_directi
 use Rattle.lgm_graph.proofs.Making.{edge_from, edge_to, end_numbered, into_long, out_long, pushed, update_second}
 use Rattle.lgm_graph.proofs.Places.{get_map}
 use Rattle.lgm_graph.proofs.Showing.{edges_kept, map_alike}
-use Rattle.lgm_graph.proofs.Walked.{held_update}
+use Rattle.lgm_graph.proofs.Walked.{stored_update}
 use Rattle.lgm_store.proofs.ListLaws.{All-append, All-to}
 
 -- further numbers change none of them
@@ -44,30 +44,30 @@ edge_ends updates channel second edge is = by (update_of updates channel.message
         let same = update_second updates channel.message.short_channel_id second row e in
         (edge_from channel row edge (sym own) ∙ ap (end_of channel) same, edge_to channel row edge (sym own) ∙ ap (λ b. end_of channel (not b)) same)
 
-module _ (rows : Rows) (held : Held) (points : List Point) (own : held ≡ held_at rows held.channel)
-    (first : IsNumbered points held.channel.message.node_id_1) (other : IsNumbered points held.channel.message.node_id_2) where
-  -- the edge of a direction, if it has one, behind the others
+module _ (rows : Rows) (stored : ChannelInfo) (points : List Point) (own : stored ≡ stored_at rows stored.channel)
+    (first : IsNumbered points stored.channel.message.node_id_1) (other : IsNumbered points stored.channel.message.node_id_2) where
+  -- the edge of a direction, if it has one, after the others
   direction_written : (second : Bool) (from to : ℕ) (edges : List PointEdge) (before after : List Edge)
-      → from ≡ number_of points (end_of held.channel second) → to ≡ number_of points (end_of held.channel (not second))
-      → after ≡ before ++ option_to_list (option_map (λ e. numbered_as e from to) (option_and_then (edge_on held.channel) (update_in second held)))
-      → AreEdgesOf edges points before → AreEdgesOf (edges ++ option_to_list (edge_of_direction rows.updates held.channel second)) points after
+      → from ≡ number_of points (end_of stored.channel second) → to ≡ number_of points (end_of stored.channel (not second))
+      → after ≡ before ++ option_to_list (option_map (λ e. numbered_as e from to) (option_and_then (edge_on stored.channel) (update_in second stored)))
+      → AreEdgesOf edges points before → AreEdgesOf (edges ++ option_to_list (edge_of_direction rows.updates stored.channel second)) points after
   direction_written second from to edges before after from_is to_is after_is are =
-      subst (λ ls. AreEdgesOf (edges ++ option_to_list (edge_of_direction rows.updates held.channel second)) points ls)
+      subst (λ ls. AreEdgesOf (edges ++ option_to_list (edge_of_direction rows.updates stored.channel second)) points ls)
       (sym (after_is ∙ ap (λ o. before ++ option_to_list (option_map (λ e. numbered_as e from to) o)) found))
-      (by (edge_of_direction rows.updates held.channel second) refl)
+      (by (edge_of_direction rows.updates stored.channel second) refl)
     where
-      found : option_and_then (edge_on held.channel) (update_in second held) ≡ edge_of_direction rows.updates held.channel second
-      found = ap (option_and_then (edge_on held.channel)) (ap (update_in second) own ∙ held_update rows held.channel second)
+      found : option_and_then (edge_on stored.channel) (update_in second stored) ≡ edge_of_direction rows.updates stored.channel second
+      found = ap (option_and_then (edge_on stored.channel)) (ap (update_in second) own ∙ stored_update rows stored.channel second)
 
-      by : (o : Option PointEdge) → edge_of_direction rows.updates held.channel second ≡ o
+      by : (o : Option PointEdge) → edge_of_direction rows.updates stored.channel second ≡ o
           → AreEdgesOf (edges ++ option_to_list o) points (before ++ option_to_list (option_map (λ e. numbered_as e from to) o))
       by None e = rw (append-nil edges, append-nil before) are
       by (Some edge) e =
-          let ends = edge_ends rows.updates held.channel second edge e in
-          let starts : IsNumbered points edge.from = subst (IsNumbered points) (sym ends.0) (end_numbered points held.channel second first other) in
+          let ends = edge_ends rows.updates stored.channel second edge e in
+          let starts : IsNumbered points edge.from = subst (IsNumbered points) (sym ends.0) (end_numbered points stored.channel second first other) in
           let stops : IsNumbered points edge.to =
           subst (IsNumbered points) (sym ends.1)
-          (end_numbered points held.channel (not second) first other) in
+          (end_numbered points stored.channel (not second) first other) in
           let listed_is : numbered_as edge from to ≡ numbered_in points edge =
           ap (λ n. numbered_as edge n to) (from_is ∙ ap (number_of points) (sym ends.0))
           ∙ ap (numbered_as edge (number_of points edge.from)) (to_is ∙ ap (number_of points) (sym ends.1)) in
@@ -79,17 +79,17 @@ module _ (rows : Rows) (held : Held) (points : List Point) (own : held ≡ held_
 
   -- those of both directions
   pub channel_written : (from to : ℕ) (edges : List PointEdge) (before mid after : List Edge)
-      → from ≡ number_of points held.channel.message.node_id_1 → to ≡ number_of points held.channel.message.node_id_2
-      → mid ≡ before ++ option_to_list (option_map (λ e. numbered_as e from to) (option_and_then (edge_on held.channel) (update_in false held)))
-      → after ≡ mid ++ option_to_list (option_map (λ e. numbered_as e to from) (option_and_then (edge_on held.channel) (update_in true held)))
-      → AreEdgesOf edges points before → AreEdgesOf (edges ++ edges_of_channel rows.updates held.channel) points after
+      → from ≡ number_of points stored.channel.message.node_id_1 → to ≡ number_of points stored.channel.message.node_id_2
+      → mid ≡ before ++ option_to_list (option_map (λ e. numbered_as e from to) (option_and_then (edge_on stored.channel) (update_in false stored)))
+      → after ≡ mid ++ option_to_list (option_map (λ e. numbered_as e to from) (option_and_then (edge_on stored.channel) (update_in true stored)))
+      → AreEdgesOf edges points before → AreEdgesOf (edges ++ edges_of_channel rows.updates stored.channel) points after
   channel_written from to edges before mid after from_is to_is mid_is after_is are =
       let one = direction_written false from to edges before mid from_is to_is mid_is are in
       subst (λ es. AreEdgesOf es points after)
-      (append_assoc edges (option_to_list (edge_of_direction rows.updates held.channel false))
-      (option_to_list (edge_of_direction rows.updates held.channel true)))
+      (append_assoc edges (option_to_list (edge_of_direction rows.updates stored.channel false))
+      (option_to_list (edge_of_direction rows.updates stored.channel true)))
       (direction_written true to from (edges ++ option_to_list
-      (edge_of_direction rows.updates held.channel false)) mid after to_is from_is after_is one)
+      (edge_of_direction rows.updates stored.channel false)) mid after to_is from_is after_is one)
 
 -- ---- one of them
 
@@ -98,13 +98,13 @@ All_at P [] i d all lt = absurd (omega (arith, lt))
 All_at P (x ∷ xs) zero d all lt = all.0
 All_at P (x ∷ xs) (suc i) d all lt = All_at P xs i d all.1 (omega (arith, lt))
 
--- what is at a list's place
+-- what is at an index of a list
 place_of : {X : Type 0} (xs : List X) (i : ℕ) → i < length xs → (x : X) × (get_or xs i x ≡ x)
 place_of [] i lt = absurd (omega (arith, lt))
 place_of (x ∷ xs) zero lt = (x, refl)
 place_of (x ∷ xs) (suc i) lt = place_of xs i (omega (arith, lt))
 
--- the listed edge at a place is that of the edge between points there
+-- the listed edge at an index is that of the edge between points there
 pub edge_at : (edges : List PointEdge) (points : List Point) (listed : List Edge) (i : ℕ) (next : Edge)
     → AreEdgesOf edges points listed → i < length listed → next ≡ get_or listed i next
     → (edge : PointEdge) × (take (i + 1) edges ≡ take i edges ++ edge ∷ []) × (next ≡ numbered_in points edge) × IsJoined points edge
@@ -133,7 +133,7 @@ module _ (points : List Point) (listed : List Edge) (i : ℕ) (next : Edge) (lt 
         omega (arith, to, long, found.3.1, into_long (take i edges) nodes shows),
       )
 
-  -- the next edge behind the others of its nodes
+  -- the next edge after the others of its nodes
   pub edge_put : (edges : List PointEdge) (old mid new : Nodes) → AreEdgesOf edges points listed
       → old.points.keys ≡ points → IsDistinct is_point old.points.keys
       → ((known : Option (List ℕ)) → graph_in known mid ≡ graph_in known old) → new.points.keys ≡ mid.points.keys

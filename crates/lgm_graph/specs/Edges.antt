@@ -17,7 +17,7 @@ can_carry channel row =
     nat_eq (row.message.channel_flags / 2 % 2) 0 && nat_le row.message.htlc_maximum_msat (channel.sat * 1000)
     && not (has_even_bit channel.message.features)
 
--- the node from which a direction of a channel goes
+-- the node that a direction of a channel leaves
 abbrev pub end_of : ChannelRow → Bool → Point
 end_of channel second = if second then channel.message.node_id_2 else channel.message.node_id_1
 
@@ -28,7 +28,7 @@ pub record PointEdge : Type 0 where
   pub second : Bool
   pub from : Point
   pub to : Point
-  -- the base fee, in msat, and the proportional fee, in millionths of the amount
+  -- the base fee, in msat, and the proportional fee, in millionths of the amount (ppm)
   pub base : ℕ
   pub millionths : ℕ
   -- the cltv_expiry_delta, in blocks
@@ -60,7 +60,7 @@ abbrev pub edge_in : List ChannelRow → UpdateRow → Option PointEdge
 edge_in channels row =
     option_and_then (λ channel. edge_on channel row) (channel_of channels row.message.short_channel_id)
 
--- the edges, regardless of the features of the nodes that they go to
+-- the edges, regardless of the features of the nodes that they lead to
 abbrev pub carrying : Rows → List PointEdge
 carrying rows = filter_map (edge_in rows.channels) rows.updates
 

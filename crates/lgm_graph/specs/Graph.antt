@@ -14,7 +14,7 @@ pub record Graph : Type 0 where
   -- a point's index is its number
   pub points : List Point
   -- whether the node takes payments
-  pub takes : List Bool
+  pub accepts_payments : List Bool
   -- the edges into the node
   pub into : List (List Edge)
   -- the edges out of the node
@@ -68,19 +68,19 @@ edge_between points edge = record {
 
 -- whether the node of a number takes payments
 abbrev pub takes_at : Graph → ℕ → Bool
-takes_at graph number = slice_index_or graph.takes number false
+takes_at graph number = slice_index_or graph.accepts_payments number false
 
 -- the edges into the node of a number: none if it takes no payments
 abbrev pub edges_into : Graph → ℕ → List Edge
 edges_into graph number = if takes_at graph number then slice_index_or graph.into number [] else []
 
--- the edges out of the node of a number, whether or not the nodes that they go to take payments
+-- the edges out of the node of a number, whether or not the nodes that they lead to take payments
 abbrev pub edges_leaving : Graph → ℕ → List Edge
 edges_leaving graph number = slice_index_or graph.out number []
 
 -- the edges that payments can take
 abbrev pub edges : Graph → List Edge
-edges graph = flat_map (λ node. if node.0 then node.1 else []) (zip graph.takes graph.into)
+edges graph = flat_map (λ node. if node.0 then node.1 else []) (zip graph.accepts_payments graph.into)
 
 -- those edges, between points
 abbrev pub point_edges : Graph → List PointEdge
@@ -98,7 +98,7 @@ pub record IsListed (graph : Graph) (edge : Edge) : Type 0 where
 -- different points have different numbers, and each edge is in the lists of its nodes and nowhere else
 pub record AreListed (graph : Graph) : Type 0 where
   -- each number has an entry
-  pub long : length graph.takes ≡ length graph.points
+  pub long : length graph.accepts_payments ≡ length graph.points
   pub wide : length graph.into ≡ length graph.points
   pub unique : IsDistinct is_point graph.points
   pub each : (edge : Edge) → Contains (edges graph) edge → IsListed graph edge
@@ -129,5 +129,5 @@ pub record Shows (edges : List PointEdge) (points : List Point) (into out : List
 pub record IsGraphOf (rows : Rows) (graph : Graph) : Type 0 where
   pub ends : AllByRecursion (λ channel. IsNumbered graph.points channel.message.node_id_1
       × IsNumbered graph.points channel.message.node_id_2) rows.channels
-  pub takes : graph.takes ≡ map (takes_payments graph.known rows.nodes) graph.points
+  pub accepts_payments : graph.accepts_payments ≡ map (takes_payments graph.known rows.nodes) graph.points
   pub shows : Shows (carrying rows) graph.points graph.into graph.out

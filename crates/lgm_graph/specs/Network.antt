@@ -3,7 +3,7 @@ use Rattle.std.specs.Prelude.{◌≡◌, ℕ, ◌+◌, ◌<◌, ◌≤◌, List,
 use Rattle.lgm_store.specs.Rows.{Rows}
 use Rattle.lgm_graph.specs.Graph.{Graph, IsGraphOf}
 
-pub record Charted : Type 0 where
+pub record NetworkState : Type 0 where
   -- the known feature bits of nodes, or none if all are known
   pub known : Option (List ℕ)
   pub rows : Rows

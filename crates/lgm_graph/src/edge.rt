@@ -13,22 +13,23 @@ use lgm_gossip::{Scid, has_even_bit};
 /// `channel_update` (BOLT 7). It has 48 bytes.
 #[derive(Clone, Copy, Debug)]
 pub struct Edge {
+    /// The channel id.
     pub scid: Scid,
     /// The greatest amount that it forwards, in msat.
     pub max: u64,
     /// The least amount that it forwards, in msat.
     pub min: u64,
-    /// The number of the node that it leaves.
+    /// The index of the node that it leaves.
     pub from: u32,
-    /// The number of the node that it goes to.
+    /// The index of the node that it leads to.
     pub to: u32,
     /// The base fee, in msat.
     pub base: u32,
-    /// The proportional fee, in millionths of the amount.
+    /// The proportional fee, in millionths of the amount (ppm).
     pub millionths: u32,
     /// The `cltv_expiry_delta`, in blocks.
     pub delta: u16,
-    /// Whether it is from node 2.
+    /// Whether it is the direction from node 2 of the channel.
     pub second: bool,
 }
 
@@ -71,7 +72,7 @@ fn edge_of(update: &UpdateRow, from: usize, to: usize) -> Edge
     }
 }
 
-/// Whether payments can use this direction, regardless of the features of the node it goes to.
+/// Whether payments can use this direction, regardless of the features of the node it leads to.
 fn can_carry(channel: &ChannelRow, update: &UpdateRow) -> bool
     ensures { result ≡ can_carry channel.now update.now }
 {

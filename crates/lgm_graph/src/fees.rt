@@ -3,8 +3,8 @@
 ghost use Rattle.std.specs.Prelude.{◌≡◌, ◌^◌, ◌<◌};
 ghost use Rattle.lgm_graph.specs.Fee.{fee_of};
 
-/// The fee of an edge with this base fee, in msat, and proportional fee, in millionths, for forwarding an amount in
-/// msat; rounded down, in msat (BOLT 7, "HTLC Fees").
+/// The fee in msat, rounded down, of an edge with this base fee, in msat, and proportional fee, in millionths (ppm),
+/// for forwarding an amount in msat (BOLT 7, "HTLC Fees").
 #[tactic(auto, unfolding(crate::specs::Fee::fee_of))]
 pub fn fee(amount: u64, base: u32, millionths: u32) -> u128
     ensures value { result ≡ fee_of amount base millionths }

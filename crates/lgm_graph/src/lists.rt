@@ -122,25 +122,25 @@ impl Edges {
 }
 
 /// Whether the point of a number is banned.
-fn is_banned(points: &IndexSet<Point, Seed>, held: &Map, number: u32) -> bool
-    ensures { result ≡ banned_at points.now.keys held.now.banned number }
+fn is_banned(points: &IndexSet<Point, Seed>, stored: &Map, number: u32) -> bool
+    ensures { result ≡ banned_at points.now.keys stored.now.banned number }
 {
     match points.get_index(number as usize) {
-        Some(point) => held.banned(point),
+        Some(point) => stored.banned(point),
         None => false,
     }
 }
 
 impl Edges {
     /// Removes the edges from or to a banned node.
-    fn drop_banned(&mut self, points: &IndexSet<Point, Seed>, held: &Map)
+    fn drop_banned(&mut self, points: &IndexSet<Point, Seed>, stored: &Map)
         ensures { self.new.edges.items
-            ≡ filter (is_allowed points.now.keys held.now.banned) self.old.edges.items }
+            ≡ filter (is_allowed points.now.keys stored.now.banned) self.old.edges.items }
     {
         self.edges.retain(
             |edge: &Edge| -> bool
-                ensures { result ≡ is_allowed points.entry.now.keys held.entry.now.banned edge.now }
-            { !(is_banned(points, held, edge.from) || is_banned(points, held, edge.to)) },
+                ensures { result ≡ is_allowed points.entry.now.keys stored.entry.now.banned edge.now }
+            { !(is_banned(points, stored, edge.from) || is_banned(points, stored, edge.to)) },
         );
     }
 }
@@ -162,15 +162,15 @@ pub(crate) fn drop_banned_at(
     lists: &mut Vec<Edges>,
     number: usize,
     points: &IndexSet<Point, Seed>,
-    held: &Map,
+    stored: &Map,
 )
     requires { number < length lists.old.items }
     ensures long { length lists.new.items ≡ length lists.old.items }
     ensures edges { map edges_in lists.new.items
-        ≡ slice_set (map edges_in lists.old.items) number (filter (is_allowed points.now.keys held.now.banned)
+        ≡ slice_set (map edges_in lists.old.items) number (filter (is_allowed points.now.keys stored.now.banned)
         (slice_index_or (map edges_in lists.old.items) number [])) }
 {
-    lists[number].drop_banned(points, held);
+    lists[number].drop_banned(points, stored);
 }
 
 /// Removes the edges of a channel at a node.

@@ -11,7 +11,7 @@ use crate::known::Known;
 use crate::view::{MAX_CHANNELS, View};
 use lgm_check::Refusal;
 use lgm_gossip::Scid;
-use lgm_store::{Candidate, Map, Op, Seed};
+use lgm_store::{CheckedMessage, Map, Op, Seed};
 use std::alloc::{AllocError, Global};
 use std::marker::Model;
 
@@ -28,9 +28,9 @@ pub struct Network {
 }
 
 impl Model for Network {
-    ghost use Rattle.lgm_graph.specs.Network.{Charted, IsViewed};
+    ghost use Rattle.lgm_graph.specs.Network.{NetworkState, IsViewed};
 
-    ghost Value = { Charted };
+    ghost Value = { NetworkState };
 
     ghost view = { λ n. record { known = n.known; rows = n.map; graph = n.view } };
 
@@ -135,20 +135,25 @@ impl Network {
         Ok(())
     }
 
-    /// Admits a message that was made ready, and applies its operation, which is returned. Without a view, one lookup
-    /// serves for both.
+    /// Notes where an update's channel is stored, as [`Map::locate`] does.
+    pub fn locate(&self, message: &CheckedMessage) {
+        self.map.locate(message);
+    }
+
+    /// Admits a checked message, and applies its operation, which is returned. Without a view, one lookup suffices for
+    /// both.
     ///
     /// A refusal or out of memory leaves all unchanged. A refused message is refused even if memory is short.
-    pub fn offer(&mut self, alloc: Global, candidate: Candidate) -> Result<Op, Refusal>
-        ensures admission { Offers result (admitted self.old.rows candidate) }
+    pub fn offer(&mut self, alloc: Global, message: CheckedMessage) -> Result<Op, Refusal>
+        ensures admission { Offers result (admitted self.old.rows message) }
         ensures accepted { IfOk result (λ op. self.new.rows ≡ absorbed self.old.rows op) }
         ensures known { self.new.known ≡ self.old.known }
         ensures refused { OnErr result (self.new ≡ self.old) }
     {
         if self.view.is_none() {
-            return self.map.offer_candidate(alloc, candidate);
+            return self.map.offer_checked(alloc, message);
         }
-        let op = self.map.admit_candidate(alloc, candidate)?;
+        let op = self.map.admit_checked(alloc, message)?;
         self.absorb(&op)?;
         Ok(op)
     }

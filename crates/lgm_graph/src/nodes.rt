@@ -33,7 +33,7 @@ pub(crate) struct Edges {
 #[derive(Drop)]
 pub(crate) struct Nodes {
     pub(crate) points: IndexSet<Point, Seed>,
-    pub(crate) takes: Vec<bool>,
+    pub(crate) accepts_payments: Vec<bool>,
     pub(crate) into: Vec<Edges>,
     pub(crate) out: Vec<Edges>,
 }
@@ -55,13 +55,13 @@ impl Nodes {
     /// No nodes. Points will be hashed with the seed.
     pub(crate) fn new(alloc: Global, seed: Seed) -> Nodes
         ensures points { result.points.keys ≡ [] }
-        ensures takes { result.takes.items ≡ [] }
+        ensures accepts_payments { result.accepts_payments.items ≡ [] }
         ensures into { result.into.items ≡ [] }
         ensures out { result.out.items ≡ [] }
     {
         Nodes {
             points: IndexSet::with_hasher(alloc, seed),
-            takes: Vec::new(alloc),
+            accepts_payments: Vec::new(alloc),
             into: Vec::new(alloc),
             out: Vec::new(alloc),
         }
@@ -74,7 +74,7 @@ impl Nodes {
     {
         Ok(Nodes {
             points: self.points.clone()?,
-            takes: self.takes.clone()?,
+            accepts_payments: self.accepts_payments.clone()?,
             into: lists::copies(alloc, &self.into)?,
             out: lists::copies(alloc, &self.out)?,
         })
@@ -100,7 +100,7 @@ impl Nodes {
         // The contract of `len` says that points are distinct.
         let _ = self.points.len();
         match self.points.get_index(number) {
-            Some(held) => *point == *held,
+            Some(stored) => *point == *stored,
             None => false,
         }
     }
@@ -111,23 +111,23 @@ impl Nodes {
         ensures places { OnOk result (HasPlaces more self.new) }
     {
         self.points.reserve(more)?;
-        self.takes.reserve(more)?;
+        self.accepts_payments.reserve(more)?;
         self.into.reserve(more)?;
         self.out.reserve(more)
     }
 
     /// Numbers another point.
-    pub(crate) fn add(&mut self, alloc: Global, point: Point, takes: bool)
+    pub(crate) fn add(&mut self, alloc: Global, point: Point, accepts_payments: bool)
         requires room { HasPlaces 1 self.old }
         requires other { list_any (is_point point) self.old.points.keys ≡ false }
         ensures points { self.new.points.keys ≡ self.old.points.keys ++ point ∷ [] }
-        ensures takes { self.new.takes.items ≡ self.old.takes.items ++ takes ∷ [] }
+        ensures accepts_payments { self.new.accepts_payments.items ≡ self.old.accepts_payments.items ++ accepts_payments ∷ [] }
         ensures into { map edges_in self.new.into.items ≡ map edges_in self.old.into.items ++ [] ∷ [] }
         ensures out { map edges_in self.new.out.items ≡ map edges_in self.old.out.items ++ [] ∷ [] }
         ensures places { (more : ℕ) → HasPlaces (more + 1) self.old → HasPlaces more self.new }
     {
         push_point(&mut self.points, point);
-        self.takes.push_reserved(takes);
+        self.accepts_payments.push_reserved(accepts_payments);
         let edges = Vec::new(alloc);
         self.into.push_reserved(Edges { edges });
         let edges = Vec::new(alloc);
@@ -162,7 +162,7 @@ impl Nodes {
         requires leaving { HoldsAt HasRoom self.old.out.items from }
         requires into { HoldsAt HasRoom self.old.into.items to }
         ensures points { self.new.points.keys ≡ self.old.points.keys }
-        ensures takes { self.new.takes.items ≡ self.old.takes.items }
+        ensures accepts_payments { self.new.accepts_payments.items ≡ self.old.accepts_payments.items }
         ensures into { map edges_in self.new.into.items ≡ slice_set (map edges_in self.old.into.items) to
             (slice_index_or (map edges_in self.old.into.items) to [] ++ edge ∷ []) }
         ensures out { map edges_in self.new.out.items ≡ slice_set (map edges_in self.old.out.items) from
@@ -191,7 +191,7 @@ impl Nodes {
         requires cut_out { IsCut (edge_key scid second)
             (slice_index_or (map edges_in self.old.out.items) from []) }
         ensures points { self.new.points.keys ≡ self.old.points.keys }
-        ensures takes { self.new.takes.items ≡ self.old.takes.items }
+        ensures accepts_payments { self.new.accepts_payments.items ≡ self.old.accepts_payments.items }
         ensures into { map edges_in self.new.into.items ≡ slice_set (map edges_in self.old.into.items) to
             (put_at (edge_key scid second) (slice_index_or (map edges_in self.old.into.items) to []) edge) }
         ensures out { map edges_in self.new.out.items ≡ slice_set (map edges_in self.old.out.items) from
@@ -202,27 +202,27 @@ impl Nodes {
         lists::put_at(&mut self.out, from, scid, second, edge);
     }
 
-    /// Determines again whether a node takes payments, if it is numbered.
-    pub(crate) fn look_at(&mut self, known: &Known, map: &Map, node: &Point)
-        requires { length self.old.takes.items ≡ length self.old.points.keys }
+    /// Recomputes whether a node takes payments, if it is numbered.
+    pub(crate) fn refresh_features(&mut self, known: &Known, map: &Map, node: &Point)
+        requires { length self.old.accepts_payments.items ≡ length self.old.points.keys }
         ensures points { self.new.points.keys ≡ self.old.points.keys }
         ensures into { self.new.into.items ≡ self.old.into.items }
         ensures out { self.new.out.items ≡ self.old.out.items }
-        ensures takes { (before : APoint → Bool) → AreFlags before self.old
+        ensures accepts_payments { (before : APoint → Bool) → AreFlags before self.old
             → AreFlags (λ q. if is_point node.now q then takes_payments known.now map.now.nodes q
             else before q) self.new }
     {
         // The contract of `len` says that points are distinct.
         let _ = self.points.len();
         if let Some(number) = self.points.get_index_of(node) {
-            self.takes[number] = takes_payments(known, map, node);
+            self.accepts_payments[number] = takes_payments(known, map, node);
         }
     }
 
-    /// Removes the edges of a closed channel at a node, and determines again whether the node takes payments.
+    /// Removes the edges of a closed channel at a node, and recomputes whether the node takes payments.
     pub(crate) fn close_at(&mut self, known: &Known, map: &Map, node: &Point, scid: Scid)
         requires numbered { IsNumbered self.old.points.keys node.now }
-        requires takes { length self.old.takes.items ≡ length self.old.points.keys }
+        requires accepts_payments { length self.old.accepts_payments.items ≡ length self.old.points.keys }
         requires into { length self.old.into.items ≡ length self.old.points.keys }
         requires out { length self.old.out.items ≡ length self.old.points.keys }
         ensures points { self.new.points.keys ≡ self.old.points.keys }
@@ -232,7 +232,7 @@ impl Nodes {
             → AreInto (closed_at node.now scid before) self.new }
         ensures out { (before : APoint → List AnEdge) → AreOut before self.old
             → AreOut (closed_at node.now scid before) self.new }
-        ensures takes { (before : APoint → Bool) → AreFlags before self.old
+        ensures accepts_payments { (before : APoint → Bool) → AreFlags before self.old
             → AreFlags (λ q. if is_point node.now q then takes_payments known.now map.now.nodes q
             else before q) self.new }
     {
@@ -241,36 +241,36 @@ impl Nodes {
         let number = self.number_of(node);
         lists::drop_at(&mut self.into, number, scid);
         lists::drop_at(&mut self.out, number, scid);
-        self.look_at(known, map, node);
+        self.refresh_features(known, map, node);
     }
 
     /// Numbers a point, unless it is numbered.
-    pub(crate) fn number(&mut self, alloc: Global, known: &Known, held: &Map, point: Point)
+    pub(crate) fn number(&mut self, alloc: Global, known: &Known, stored: &Map, point: Point)
         requires { HasPlaces 1 self.old }
-        ensures numbered { HasNumbered known.now held.now.nodes point self.old self.new }
+        ensures numbered { HasNumbered known.now stored.now.nodes point self.old self.new }
         ensures places { (more : ℕ) → HasPlaces (more + 1) self.old → HasPlaces more self.new }
     {
         if self.points.contains(&point) {
             return;
         }
-        let takes = takes_payments(known, held, &point);
-        self.add(alloc, point, takes);
+        let accepts_payments = takes_payments(known, stored, &point);
+        self.add(alloc, point, accepts_payments);
     }
 
-    /// Removes the edges to banned nodes at a node, if it is numbered, and checks again whether it takes payments.
+    /// Removes the edges to banned nodes at a node, if it is numbered, and recomputes whether it takes payments.
     pub(crate) fn ban_at(&mut self, known: &Known, map: &Map, node: &Point)
-        requires takes { length self.old.takes.items ≡ length self.old.points.keys }
+        requires accepts_payments { length self.old.accepts_payments.items ≡ length self.old.points.keys }
         requires into { length self.old.into.items ≡ length self.old.points.keys }
         requires out { length self.old.out.items ≡ length self.old.points.keys }
         ensures points { self.new.points.keys ≡ self.old.points.keys }
-        ensures takes_long { length self.new.takes.items ≡ length self.old.takes.items }
+        ensures takes_long { length self.new.accepts_payments.items ≡ length self.old.accepts_payments.items }
         ensures into_long { length self.new.into.items ≡ length self.old.into.items }
         ensures out_long { length self.new.out.items ≡ length self.old.out.items }
         ensures into { (before : APoint → List AnEdge) → AreInto before self.old
             → AreInto (allowed_at node.now self.old.points.keys map.now.banned before) self.new }
         ensures out { (before : APoint → List AnEdge) → AreOut before self.old
             → AreOut (allowed_at node.now self.old.points.keys map.now.banned before) self.new }
-        ensures takes { (before : APoint → Bool) → AreFlags before self.old
+        ensures accepts_payments { (before : APoint → Bool) → AreFlags before self.old
             → AreFlags (λ q. if is_point node.now q then takes_payments known.now map.now.nodes q
             else before q) self.new }
     {
@@ -279,7 +279,7 @@ impl Nodes {
         if let Some(number) = self.points.get_index_of(node) {
             lists::drop_banned_at(&mut self.into, number, &self.points, map);
             lists::drop_banned_at(&mut self.out, number, &self.points, map);
-            self.takes[number] = takes_payments(known, map, node);
+            self.accepts_payments[number] = takes_payments(known, map, node);
         }
     }
 }

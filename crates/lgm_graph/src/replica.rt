@@ -37,7 +37,8 @@ impl Replica {
         }
     }
 
-    /// Applies the operations that are due. Each is due until it is applied. The only error is out of memory.
+    /// Applies the operations that are due, in order. The only error is out of memory: those that weren't applied are
+    /// still due then.
     pub fn catch_up(&mut self) -> Result<(), AllocError>
         ensures rows { fold_from self.new.network.rows self.new.due.items
             ≡ fold_from self.old.network.rows self.old.due.items }
@@ -67,7 +68,8 @@ impl Replica {
 
     /// Applies all operations that are due, after which it has the rows of the network that it follows, and gives that
     /// one its view. If more are due than that one has channels, it becomes a copy instead, and its view is dropped.
-    /// The only error is out of memory.
+    /// The only error is out of memory: what wasn't applied is still due then. The rows of the other network are
+    /// unchanged.
     pub fn level(&mut self, alloc: Global, current: &mut Network) -> Result<(), AllocError>
         requires rows { (self.old.due.items ≡ [])
             ⊎ (fold_from self.old.network.rows self.old.due.items ≡ current.old.rows) }
@@ -92,7 +94,8 @@ impl Replica {
     }
 
     /// Ensures that the network that it follows has its view. If that one was left here, what is due is applied first.
-    /// The only error is out of memory.
+    /// The only error is out of memory: what wasn't applied is still due then. The rows of the other network are
+    /// unchanged.
     pub fn make_view(&mut self, alloc: Global, current: &mut Network) -> Result<(), AllocError>
         requires few { length current.old.rows.channels ≤ MAX_CHANNELS }
         requires rows { (self.old.due.items ≡ [])

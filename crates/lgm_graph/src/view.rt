@@ -11,11 +11,10 @@ ghost use Rattle.lgm_graph.specs.Edges.{PointEdge, edges_of};
 ghost use Rattle.lgm_graph.specs.Graph.{AreListed, IsGraphOf, edges, point_edges};
 ghost use Rattle.lgm_graph.specs.Graph.{takes_at, edges_into, edges_leaving};
 
-mod applying;
-mod hints;
-mod listing;
-mod making;
-mod parting;
+mod affected_nodes;
+mod apply;
+mod build;
+mod lookup_cache;
 
 use crate::edge::Edge;
 use crate::known::Known;
@@ -50,8 +49,8 @@ impl Model for View {
 }
 
 impl View {
-    /// The number of numbered points, whose numbers are less. Different points have different numbers, and each edge is
-    /// listed at both of its nodes.
+    /// The number of numbered points: node indices are below it. Different points have different indices, and each edge
+    /// is listed at both of its nodes.
     pub fn nodes(&self) -> usize
         ensures count { result ≡ length self.now.points }
         ensures few { result < 2 ^ 32 }
@@ -60,33 +59,34 @@ impl View {
         self.nodes.points.len()
     }
 
-    /// The number of a point, if it has one; each node of a channel in the map has. Nothing is allocated.
-    pub fn node_number(&self, point: &Point) -> Option<u32>
+    /// The node index of a point, if it has one; each node of a channel in the map has. Allocates nothing.
+    pub fn node_index(&self, point: &Point) -> Option<u32>
         ensures { result ≡ position (is_point point.now) self.now.points }
     {
         let number = self.nodes.points.get_index_of(point)?;
         Some(number as u32)
     }
 
-    /// The point with a number, if there is one.
+    /// The point with a node index, if there is one.
     pub fn point(&self, number: u32) -> Option<&Point>
         ensures { option_copied result ≡ slice_get self.now.points number }
     {
         self.nodes.points.get_index(number as usize)
     }
 
-    /// Whether the node with a number takes payments: it has no announcement, or one whose even features are known.
+    /// Whether the node with an index takes payments: it has no announcement, or one whose even features are known.
+    /// False for an index that no node has.
     pub fn takes_payments(&self, number: u32) -> bool
         ensures { result ≡ takes_at self.now number }
     {
-        match self.nodes.takes.get(number as usize) {
-            Some(takes) => *takes,
+        match self.nodes.accepts_payments.get(number as usize) {
+            Some(accepts_payments) => *accepts_payments,
             None => false,
         }
     }
 
-    /// The edges into the node with a number, by id and direction: none if it takes no payments or there is no such
-    /// number.
+    /// The edges into the node with an index, by id and direction: none if it takes no payments or no node has the
+    /// index.
     pub fn edges_into(&self, number: u32) -> &[Edge]
         ensures { result.now ≡ edges_into self.now number }
     {
@@ -99,7 +99,7 @@ impl View {
         }
     }
 
-    /// The edges out of the node with a number, by id and direction, including those to nodes that take no payments.
+    /// The edges out of the node with an index, by id and direction, including those to nodes that take no payments.
     pub fn edges_leaving(&self, number: u32) -> &[Edge]
         ensures { result.now ≡ edges_leaving self.now number }
     {
@@ -111,7 +111,7 @@ impl View {
 }
 
 impl View {
-    /// The number of edges, or 2^64 - 1 if there were more, for which there is no memory.
+    /// The number of edges. It saturates at 2^64 - 1, which no memory has room for.
     pub fn edge_count(&self) -> usize
         ensures { result ≡ min (length (edges self.now)) (2 ^ 64 - 1) }
     {
@@ -123,7 +123,8 @@ impl View {
         count
     }
 
-    /// The edge at an index below that number, ordered by the node that they go to. Traverses the nodes up to that one.
+    /// The edge at an index below that number, in the order of the nodes that they lead to. Traverses the nodes up to
+    /// that one.
     pub fn edge(&self, place: usize) -> Option<&Edge>
         ensures { option_copied result ≡ slice_get (edges self.now) place }
     {
@@ -142,7 +143,8 @@ impl View {
 }
 
 impl View {
-    /// A view of rows has exactly their edges between points, each once. The call does nothing: its contract is the law.
+    /// A view of rows has exactly their edges between points, each once. The call does nothing: its contract is the
+    /// law.
     pub fn shows_the_edges(&self)
         ensures found { (rows : Rows) → IsGraphOf rows self.now → (edge : PointEdge)
             → Contains (point_edges self.now) edge ↔ Contains (edges_of self.now.known rows) edge }
@@ -167,8 +169,8 @@ impl View {
     }
 
     /// Applies an operation to a map and its view, which is then the view of the new map. It numbers at most two more
-    /// points, and a point keeps its number when its last channel goes. The only error is out of memory, which leaves
-    /// map and view unchanged.
+    /// points, and a point keeps its number when its last channel is removed. The only error is out of memory, which
+    /// leaves map and view unchanged.
     ///
     /// An update costs two searches in the lists of its nodes, a node announcement one check of its features, a close a
     /// traversal of the edges of its two nodes, and a ban one of the edges of the nodes that lose channels.
@@ -182,7 +184,7 @@ impl View {
         ensures map_stays { OnErr result (map.new ≡ map.old) }
         ensures stays { OnErr result (self.new ≡ self.old) }
     {
-        applying::apply(self.alloc, &self.known, &mut self.nodes, map, op)?;
+        apply::apply(self.alloc, &self.known, &mut self.nodes, map, op)?;
         Ok(())
     }
 }

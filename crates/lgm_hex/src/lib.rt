@@ -8,8 +8,8 @@
 //! and input with an error, is passed to `hex`, so the errors are those of `hex`.
 #![tactic(auto)]
 
-mod decoding;
-mod encoding;
+mod decode;
+mod encode;
 
-pub use crate::decoding::{decode_array, decode_into, decode_to_slice};
-pub use crate::encoding::append;
+pub use crate::decode::{decode_array, decode_into, decode_to_slice};
+pub use crate::encode::append;

@@ -1,4 +1,4 @@
--- Answers over lists of operations of which one begins another.
+-- Answers over lists of operations, one of which is a prefix of another.
 use Rattle.std.proofs.Common.{◌≡◌, ℕ, ◌+◌, ◌-◌, ◌<◌, ◌≤◌, List, [], ◌∷◌, ◌++◌, length, length-append}
 use Rattle.std.proofs.Common.{take, drop, get_or, Option, refl, inl, inr, sym, ap, subst, ◌∙◌, arith}
 use Rattle.std.specs.Prelude.{All}
@@ -19,11 +19,11 @@ use Rattle.logbook.specs.Pages.{Book}
 use Rattle.lgm_publish.specs.Handles.{Sight}
 use Rattle.lgm_publish.specs.Lists.{IsLonger}
 use Rattle.lgm_live.specs.declared.report.LiveAnswer.{LiveAnswer}
-use Rattle.lgm_live.specs.declared.working.Worked.{Worked}
+use Rattle.lgm_live.specs.declared.worker.WorkerResult.{WorkerResult}
 use Rattle.lgm_live.specs.Answers.{IsAnsweredBy, AreAnsweredBy, NeverFall, IsAtEnd}
-use Rattle.lgm_live.specs.inner.Worked.{HasWorked, AreOf, HaveWorked}
+use Rattle.lgm_live.specs.inner.WorkerResult.{HasWorked, AreOf, HaveWorked}
 
--- the first ones of a list are those of a list that goes on from it
+-- the first elements of a list are those of a list that extends it
 take_begun : (ops more : List Op) (n : ℕ) → IsPrefix ops more → n ≤ length ops → take n ops ≡ take n more
 take_begun ops more n begins le = sym (take-append-le n ops begins.0 le) ∙ ap (take n) begins.1
 
@@ -58,7 +58,7 @@ answer_whole known ops request answer version result = (
       (sym (ap (λ n. take n ops) version ∙ take-length ops)),
 )
 
--- one more answer, over a list that goes on from those before
+-- one more answer, over a list that extends those before
 answers_one_more : (known : Option (List ℕ)) (ops more : List Op) (requests : List Request) (i : ℕ)
     (request : Request) (answers pushed : List LiveAnswer) (answer : LiveAnswer)
     → IsPrefix ops more → i < length requests → pushed ≡ answers ++ answer ∷ [] → AreAnsweredBy known ops
@@ -113,9 +113,9 @@ zip_and R S P both (x ∷ xs) (y ∷ ys) zipped all = (both x y zipped.0 (All-he
 at_end_within : (published : List Op) (ends : List ℕ) (answer : LiveAnswer)
     → All (λ end. end ≤ length published) ends → IsAtEnd ends answer → answer.version ≤ length published
 at_end_within published ends answer within (inl zero) = omega (arith, zero)
-at_end_within published ends answer within (inr held) = All-contains (λ end. end ≤ length published) ends answer.version within held
+at_end_within published ends answer within (inr stored) = All-contains (λ end. end ≤ length published) ends answer.version within stored
 
--- what an eye answered by is what was published, as far as both go
+-- what an eye answered on is a prefix of what was published
 answer_published : (known : Option (List ℕ)) (longer ops published : List Op) (ends : List ℕ)
     → IsLonger longer ops published → All (λ end. end ≤ length published) ends
     → (request : Request) (answer : LiveAnswer) → IsAnsweredBy known ops request answer → IsAtEnd ends answer
@@ -135,7 +135,7 @@ answers_published known longer ops published ends requests answers longest withi
     (answer_published known longer ops published ends longest within) requests answers all at_ends
 
 -- what the workers of two parts have done
-pub parts_worked : (eyes : List Sight) (half : ℕ) (lists near far : List (List Request)) (works others : List Worked) → near ++ far ≡ lists
+pub parts_worked : (eyes : List Sight) (half : ℕ) (lists near far : List (List Request)) (works others : List WorkerResult) → near ++ far ≡ lists
     → HaveWorked (take half eyes) near works → HaveWorked (drop half eyes) far others → HaveWorked eyes lists (works ++ others)
 parts_worked eyes half lists near far works others is first second =
     λ board known all. subst (λ ls. AllZip (HasWorked board known) ls (works ++ others)) is
@@ -157,7 +157,7 @@ last_is_of book known (e ∷ left) eye one all = absurd (omega (arith, one, leng
 
 -- what the only worker has done
 pub alone_worked : (eyes left : List Sight) (eye : Sight) (lists : List (List Request))
-    (requests : List Request) (works : List Worked) (worked : Worked) → eyes ≡ left ++ eye ∷ []
+    (requests : List Request) (works : List WorkerResult) (worked : WorkerResult) → eyes ≡ left ++ eye ∷ []
     → length eyes ≡ 1
     → lists ≡ requests ∷ [] → works ≡ worked ∷ [] → worked.eye.board ≡ eye.board
     → AreAnsweredBy eye.known worked.eye.ops requests worked.answers.items → NeverFall worked.answers.items

@@ -1,4 +1,4 @@
--- Payments that are dealt out in turn.
+-- Payments that are dealt round-robin.
 use Rattle.std.proofs.Common.{◌≡◌, ◌≢◌, ◌⊎◌, inl, inr, ℕ, zero, suc, ◌+◌, ◌-◌, ◌*◌, ◌/◌, ◌%◌, ◌<◌, ◌≤◌}
 use Rattle.std.proofs.Common.{min, cond, List, [], ◌∷◌, Some, refl, sym, ap, subst, ◌∙◌, arith}
 use Rattle.std.specs.Prelude.{slice_get}
@@ -6,14 +6,14 @@ use Rattle.std.proofs.Math.Nat.{mod-lt, zero-div, zero-mod}
 use Rattle.std.proofs.lemmas.Nat.{div-add-mod', div-mul-add, mod-mul-add}
 use Rattle.std.proofs.lemmas.Bool.{cases_lt}
 use Rattle.std.proofs.lemmas.Bool.Decides.{eqb_tells}
-use Rattle.lgm_script.specs.declared.payment.Payment.{Payment}
-use Rattle.lgm_live.specs.Agenda.{dealt_from}
+use Rattle.lgm_script.specs.declared.route_parameters.RouteParameters.{RouteParameters}
+use Rattle.lgm_live.specs.ParsedScript.{dealt_from}
 
--- how many of the first n places are one worker's
+-- how many of the first n payments are one worker's
 abbrev turns : ℕ → ℕ → ℕ → ℕ
 turns workers worker n = n / workers + min 1 (n % workers - worker)
 
--- the place of the next number: in the same round, or at the start of the next one
+-- the worker of the next payment: in the same round, or at the start of the next one
 record Onward (workers n : ℕ) : Type 0 where
   pub rounds : ℕ
   pub turn : ℕ
@@ -71,7 +71,7 @@ turns_grow w i n (suc k) some below =
       | inr other ↦ omega (arith, more, turns_other w i (n + k) some below other.1)
     ])
 
-pub dealt_here : (w i next : ℕ) (payment : Payment) (payments : List Payment) → next % w ≡ i
+pub dealt_here : (w i next : ℕ) (payment : RouteParameters) (payments : List RouteParameters) → next % w ≡ i
     → dealt_from w i next (payment ∷ payments) ≡ payment ∷ dealt_from w i (next + 1) payments
 dealt_here w i next payment payments own =
     elim (eqb_tells (next % w) i) [
@@ -79,7 +79,7 @@ dealt_here w i next payment payments own =
       | inr not ↦ absurd (not.1 own)
     ]
 
-pub dealt_there : (w i next : ℕ) (payment : Payment) (payments : List Payment) → next % w ≢ i
+pub dealt_there : (w i next : ℕ) (payment : RouteParameters) (payments : List RouteParameters) → next % w ≢ i
     → dealt_from w i next (payment ∷ payments) ≡ dealt_from w i (next + 1) payments
 dealt_there w i next payment payments other =
     elim (eqb_tells (next % w) i) [
@@ -87,8 +87,8 @@ dealt_there w i next payment payments other =
       | inr not ↦ ap (λ b. cond b (payment ∷ dealt_from w i (next + 1) payments) (dealt_from w i (next + 1) payments)) not.0
     ]
 
--- behind its first turn
-one_behind : (w i next place : ℕ) (p : Payment) (others : List Payment) (payment : Payment) → 0 < w → i < w
+-- after its first turn
+one_behind : (w i next place : ℕ) (p : RouteParameters) (others : List RouteParameters) (payment : RouteParameters) → 0 < w → i < w
     → ((n : ℕ) → n + turns w i (next + 1) ≡ turns w i (next + 1 + place) → slice_get others n ≡ Some payment)
     → (n : ℕ) → n + turns w i next ≡ turns w i (next + 1 + place) → turns w i (next + 1) ≡ turns w i next + 1
     → slice_get (p ∷ others) n ≡ Some payment
@@ -96,8 +96,8 @@ one_behind w i next place p others payment some below rest zero count more =
     absurd (omega (arith, count, more, turns_grow w i (next + 1) place some below))
 one_behind w i next place p others payment some below rest (suc n) count more = rest n (omega (arith, count, more))
 
--- a worker's turn at a place comes behind its turns before
-dealt_at : (w i next : ℕ) (payments : List Payment) (place pos : ℕ) (payment : Payment) → 0 < w → i < w
+-- a worker's turn comes after its earlier turns
+dealt_at : (w i next : ℕ) (payments : List RouteParameters) (place pos : ℕ) (payment : RouteParameters) → 0 < w → i < w
     → slice_get payments place ≡ Some payment → (next + place) % w ≡ i
     → pos + turns w i next ≡ turns w i (next + place) → slice_get (dealt_from w i next payments) pos ≡ Some payment
 dealt_at w i next [] place pos payment some below at own count = absurd cc
@@ -119,8 +119,8 @@ dealt_at w i next (p ∷ ps) (suc place) pos payment some below at own count =
           (rest pos (omega (arith, count', turns_other w i next some below not.1)))
     ]
 
--- the payment at a place goes to the worker whose turn it is, behind as many as there were rounds
-pub dealt_in_turn : (workers place : ℕ) (payments : List Payment) (payment : Payment) → 0 < workers → slice_get payments place ≡ Some payment
+-- the payment at an index is dealt to the worker whose turn it is, after as many as there were rounds
+pub dealt_in_turn : (workers place : ℕ) (payments : List RouteParameters) (payment : RouteParameters) → 0 < workers → slice_get payments place ≡ Some payment
     → slice_get (dealt_from workers (place % workers) 0 payments) (place / workers) ≡ Some payment
 dealt_in_turn w place payments payment some at =
     let from : 0 + place ≡ place = omega arith in

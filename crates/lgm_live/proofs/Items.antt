@@ -15,9 +15,9 @@ use Rattle.lgm_store.proofs.Histories.{fold_from-push}
 use Rattle.lgm_script.specs.declared.item.Item.{Item}
 use Rattle.lgm_answers.specs.Outcomes.{outcome_of, with_outcome, outcomes_behind, outcomes, history_of}
 use Rattle.lgm_answers.proofs.Outcomes.{outcome_joins}
-use Rattle.lgm_live.specs.declared.writing.Written.{Written}
+use Rattle.lgm_live.specs.declared.writer.WriterResult.{WriterResult}
 use Rattle.lgm_live.specs.Batches.{items_of, ends_behind, ends_of}
-use Rattle.lgm_live.specs.inner.Written.{IsWritten}
+use Rattle.lgm_live.specs.inner.WriterResult.{IsWritten}
 
 outcomes_behind-push : (chain : ChainHash) (history : List Op) (items : List Item) (item : Item)
     → outcomes_behind chain history (items ++ item ∷ []) ≡ outcomes_behind chain history items ++ outcome_of
@@ -30,15 +30,15 @@ outcomes_behind-push chain history (i ∷ items) item =
     ∙ ap (λ (h : List Op). first ∷ (outcomes_behind chain next items ++ outcome_of chain (fold h) item ∷ []))
     (sym (outcome_joins history first (filter_map result_ok (outcomes_behind chain next items))))
 
--- the outcome of one more item comes behind the others
-outcomes-push : (chain : ChainHash) (items : List Item) (item : Item) (written : Written)
+-- the outcome of one more item comes after the others
+outcomes-push : (chain : ChainHash) (items : List Item) (item : Item) (written : WriterResult)
     (outcome : Result Op Refusal) → IsWritten chain items written
     → outcome_of chain written.map item ≡ outcome
     → outcomes chain (items ++ item ∷ []) ≡ outcomes chain items ++ outcome ∷ []
 outcomes-push chain items item written outcome w is =
     outcomes_behind-push chain [] items item ∙ ap (λ o. outcomes chain items ++ o ∷ []) (ap (λ rows. outcome_of chain rows item) (sym w.rows) ∙ is)
 
-history-push : (chain : ChainHash) (items : List Item) (item : Item) (written : Written)
+history-push : (chain : ChainHash) (items : List Item) (item : Item) (written : WriterResult)
     (outcome : Result Op Refusal) → IsWritten chain items written
     → outcome_of chain written.map item ≡ outcome
     → history_of chain (items ++ item ∷ []) ≡ history_of chain items ++ cons_option (result_ok outcome) []
@@ -46,7 +46,7 @@ history-push chain items item written outcome w is =
     ap (filter_map result_ok) (outcomes-push chain items item written outcome w is)
     ∙ filter_map-append result_ok (outcomes chain items) (outcome ∷ [])
 
-refusals-push : (chain : ChainHash) (items : List Item) (item : Item) (written : Written)
+refusals-push : (chain : ChainHash) (items : List Item) (item : Item) (written : WriterResult)
     (outcome : Result Op Refusal) → IsWritten chain items written
     → outcome_of chain written.map item ≡ outcome
     → written.outcomes.items ++ result_err outcome ∷ [] ≡ map result_err (outcomes chain (items ++ item ∷ []))
@@ -55,7 +55,7 @@ refusals-push chain items item written outcome w is =
     ∙ ap (map result_err) (sym (outcomes-push chain items item written outcome w is))
 
 -- an item that is accepted
-pub accepted_written : (chain : ChainHash) (items : List Item) (item : Item) (old new : Written) (op : Op)
+pub accepted_written : (chain : ChainHash) (items : List Item) (item : Item) (old new : WriterResult) (op : Op)
     → outcome_of chain old.map item ≡ Ok op → new.map ≡ absorbed old.map op
     → new.outcomes.items ≡ old.outcomes.items ++ None ∷ [] → new.ops.items ≡ old.ops.items ++ op ∷ []
     → IsWritten chain items old → IsWritten chain (items ++ item ∷ []) new
@@ -68,7 +68,7 @@ accepted_written chain items item old new op is map_is outcomes_are ops_are w =
     }
 
 -- an item that is refused
-pub refused_written : (chain : ChainHash) (items : List Item) (item : Item) (old new : Written)
+pub refused_written : (chain : ChainHash) (items : List Item) (item : Item) (old new : WriterResult)
     (refusal : Refusal) → outcome_of chain old.map item ≡ Err refusal → new.map ≡ old.map
     → new.outcomes.items ≡ old.outcomes.items ++ Some refusal ∷ [] → new.ops.items ≡ old.ops.items
     → IsWritten chain items old → IsWritten chain (items ++ item ∷ []) new

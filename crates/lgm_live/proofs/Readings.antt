@@ -1,15 +1,15 @@
--- How reading a script goes on and ends.
+-- How reading a script continues and ends.
 use Rattle.std.proofs.Common.{◌≡◌, ℕ, ◌+◌, ◌<◌, ◌≤◌, List, [], ◌∷◌, ◌++◌, length, take, drop, Result, Ok, Err, refl, sym, subst, ◌∙◌}
 use Rattle.std.specs.Prelude.{◌≢◌, IfSome, IfOk}
 use Rattle.lgm_script.specs.declared.line_reader.TheConstants.{MAX_LINE}
 use Rattle.lgm_script.specs.declared.output.SendFault.TheVariants.{Write as SendWrite}
-use Rattle.lgm_script.specs.declared.reading.LineFault.{LineFault}
-use Rattle.lgm_script.specs.declared.reading.LineFault.TheVariants as lines
-use Rattle.lgm_script.specs.declared.request.Request.{Request}
+use Rattle.lgm_script.specs.declared.read.LineFault.{LineFault}
+use Rattle.lgm_script.specs.declared.read.LineFault.TheVariants as lines
+use Rattle.lgm_script.specs.declared.command.Command.{Command}
 use Rattle.lgm_script.specs.Device.{Input, IsAtEnd}
 use Rattle.lgm_script.specs.Lines.{ahead, IsFirstLine, IsLongerThan}
 use Rattle.lgm_script.specs.Output.{OutputState, Tells, TellsPart}
-use Rattle.lgm_script.specs.Request.{request_of}
+use Rattle.lgm_script.specs.Command.{command_of}
 use Rattle.lgm_answers.specs.declared.run_fault.TheConstants.{MAX_LINES}
 use Rattle.lgm_answers.proofs.LineFaults.{failed, ends_at}
 use Rattle.lgm_answers.specs.declared.run_fault.RunFault.{RunFault}
@@ -23,17 +23,17 @@ use Rattle.lgm_live.proofs.WholeLines.{SoFar, step, ends, many, long, silent, si
 abbrev ended : RunFault → Result (Unit {0}) RunFault
 ended e = Err e
 
--- these were asked so far, nothing was written meanwhile, and no device failed
-pub record IsReadTo (source : Input) (output : OutputState) (asked : List Request) (buffered : List ℕ)
+-- these were requested so far, nothing was written meanwhile, and no device failed
+pub record IsReadTo (source : Input) (output : OutputState) (asked : List Command) (buffered : List ℕ)
     (mid : Input) (between : OutputState) : Type 0 where
   pub read_same : mid.failures ≡ source.failures
   pub write_same : between.sink.failures ≡ output.sink.failures
   pub taken_same : between.sink.taken ≡ output.sink.taken
   pub writer : between.writer ≡ output.writer
-  pub clear : between.gathered ≡ []
+  pub clear : between.buffered ≡ []
   pub so_far : SoFar source.left asked (ahead buffered mid.left)
 
-module _ {source : Input} {output : OutputState} {asked : List Request} {buffered : List ℕ} {mid : Input}
+module _ {source : Input} {output : OutputState} {asked : List Command} {buffered : List ℕ} {mid : Input}
     {between : OutputState} (read_to : IsReadTo source output asked buffered mid between) where
   -- a line couldn't be read
   pub line_failed : {T : Type 0} {whole : Unit {0} → Type 0} (buffered' : List ℕ) (source' : Input)
@@ -62,7 +62,7 @@ module _ {source : Input} {output : OutputState} {asked : List Request} {buffere
             long source.left asked input (subst (SoFar source.left asked) (sym kept) read_to.so_far)
             (longer is).0 (longer is).1;
         silent = quiet.taken ∙ read_to.taken_same;
-        gathered = quiet.clear;
+        buffered = quiet.clear;
         read = end.read;
         write = end.write;
         well = end.well;
@@ -85,10 +85,10 @@ module _ {source : Input} {output : OutputState} {asked : List Request} {buffere
         so_far = subst (SoFar source.left asked) (sym kept) read_to.so_far;
       }
 
-  -- one more line is asked
+  -- one more line was read
   pub line_read : (count : ℕ) → IsFirstLine buffered mid.left count → count ≤ MAX_LINE
       → IsReadTo source output
-      (asked ++ request_of (take count buffered) ∷ []) (drop (count + 1) buffered) mid between
+      (asked ++ command_of (take count buffered) ∷ []) (drop (count + 1) buffered) mid between
   line_read count first small =
       record {
         read_same = read_to.read_same;
@@ -110,7 +110,7 @@ module _ {source : Input} {output : OutputState} {asked : List Request} {buffere
     too_many = too_many;
     too_long = λ same. absurd (too_long same);
     silent = read_to.taken_same;
-    gathered = read_to.clear;
+    buffered = read_to.clear;
     read = λ same. absurd (read same);
     write = λ same. absurd (write same);
     well = λ _. read_to.write_same;

@@ -1,4 +1,4 @@
--- A report of what both sides did.
+-- The report on the work of both sides.
 use Rattle.std.proofs.Common.{◌≡◌, ◌≤◌, ℕ, List, [], ◌∷◌, length, Option, Result, Ok, Err, IfOk, ap, subst, sym, ◌∙◌}
 use Rattle.std.specs.Prelude.{All, MatchResult}
 use Rattle.std.specs.List.{AllZip}
@@ -14,12 +14,12 @@ use Rattle.lgm_publish.specs.Handles.{Sight}
 use Rattle.lgm_live.specs.declared.fault.LiveFault.{LiveFault}
 use Rattle.lgm_live.specs.declared.report.LiveAnswer.{LiveAnswer}
 use Rattle.lgm_live.specs.declared.report.LiveReport.{LiveReport}
-use Rattle.lgm_live.specs.declared.working.Worked.{Worked}
-use Rattle.lgm_live.specs.declared.writing.Written.{Written}
+use Rattle.lgm_live.specs.declared.worker.WorkerResult.{WorkerResult}
+use Rattle.lgm_live.specs.declared.writer.WriterResult.{WriterResult}
 use Rattle.lgm_live.specs.Answers.{AreAnsweredBy, NeverFall, IsAtEnd}
 use Rattle.lgm_live.specs.Running.{IsReport}
-use Rattle.lgm_live.specs.inner.Worked.{HasWorked, AreOf, HaveWorked, IsTied, IsOfWriter}
-use Rattle.lgm_live.specs.inner.Written.{ArePublished}
+use Rattle.lgm_live.specs.inner.WorkerResult.{HasWorked, AreOf, HaveWorked, IsTied, IsOfWriter}
+use Rattle.lgm_live.specs.inner.WriterResult.{ArePublished}
 use Rattle.lgm_live.proofs.Answers.{zip_second}
 
 -- eyes of one board with the same known features
@@ -29,10 +29,10 @@ are_of book known eyes boards knowns = λ k d below. (boards k d below, knowns k
 
 -- the workers' eyes are of the board
 pub boards_stay : (book : Book) (known : Option (List ℕ)) (eyes : List Sight) (lists : List (List Request))
-    (works : Result (Vec Worked) LiveFault) → AreOf book known eyes
-    → IfOk works (λ ws. HaveWorked eyes lists ws.items) → IfOk works (λ ws. All (λ (worked : Worked). worked.eye.board ≡ book) ws.items)
+    (works : Result (Vec WorkerResult) LiveFault) → AreOf book known eyes
+    → IfOk works (λ ws. HaveWorked eyes lists ws.items) → IfOk works (λ ws. All (λ (worked : WorkerResult). worked.eye.board ≡ book) ws.items)
 boards_stay book known eyes lists (Ok ws) are have =
-    zip_second (HasWorked book known) (λ (worked : Worked). worked.eye.board ≡ book)
+    zip_second (HasWorked book known) (λ (worked : WorkerResult). worked.eye.board ≡ book)
     (λ requests worked done. done.board) lists ws.items (have book known are)
 boards_stay book known eyes lists (Err fault) are have = tt
 
@@ -54,7 +54,7 @@ zip_through R Q S gives (x ∷ xs) (y ∷ ys) [] first second = absurd second
 zip_through R Q S gives (x ∷ xs) (y ∷ ys) (z ∷ zs) first second = (gives x y z first.0 second.0, zip_through R Q S gives xs ys zs first.1 second.1)
 
 is_reported : (book : Book) (known : Option (List ℕ)) (published : List Op) (ends : List ℕ)
-    (requests : List Request) (worked : Worked) (answers : Vec LiveAnswer)
+    (requests : List Request) (worked : WorkerResult) (answers : Vec LiveAnswer)
     → HasWorked book known requests worked
     → IsTied published ends worked answers → IsReported known published ends requests answers
 is_reported book known published ends requests worked answers done tied = record {
@@ -68,7 +68,7 @@ abbrev pub AreReported : Option (List ℕ) → List Op → List (List Request) �
 AreReported known published lists report = AllZip (IsReported known published report.ends.items) lists report.answers.items
 
 pub are_reported : (book : Book) (known : Option (List ℕ)) (eyes : List Sight) (lists : List (List Request))
-    (published : List Op) (works : Result (Vec Worked) LiveFault) (report : Result LiveReport LiveFault)
+    (published : List Op) (works : Result (Vec WorkerResult) LiveFault) (report : Result LiveReport LiveFault)
     → AreOf book known eyes → IfOk works (λ ws. HaveWorked eyes lists ws.items)
     → IfOk report (λ r. MatchResult works (λ ws. AllZip (IsTied published r.ends.items) ws.items r.answers.items) (λ _. ⊥))
     → IfOk report (AreReported known published lists)
@@ -81,7 +81,7 @@ are_reported book known eyes lists published works (Err fault) are have tied = t
 
 -- what the writer published bounds where batches end
 pub ends_within : (chain : ChainHash) (batches : List (List Item)) (published : List Op)
-    (written : Result Written LiveFault) → IfOk written (ArePublished chain batches published)
+    (written : Result WriterResult LiveFault) → IfOk written (ArePublished chain batches published)
     → IfOk written (λ w. All (λ end. end ≤ length published) w.ends.items)
 ends_within chain batches published (Ok w) done =
     subst (λ (ops : List Op). All (λ end. end ≤ length ops) w.ends.items) (sym done.shown) done.within
@@ -89,7 +89,7 @@ ends_within chain batches published (Err fault) done = tt
 
 -- the report on the work of both sides is as promised
 pub reported : (chain : ChainHash) (known : Option (List ℕ)) (batches : List (List Item))
-    (lists : List (List Request)) (published : List Op) (written : Result Written LiveFault)
+    (lists : List (List Request)) (published : List Op) (written : Result WriterResult LiveFault)
     (report : Result LiveReport LiveFault) → IfOk report (λ r. MatchResult written (IsOfWriter r) (λ _. ⊥))
     → IfOk written (ArePublished chain batches published) → IfOk report (AreReported known published lists)
     → IfOk report (IsReport chain known batches lists)

@@ -4,12 +4,12 @@ use Rattle.std.specs.Prelude.{IfSome}
 use Rattle.lgm_wire.specs.declared.chain_hash.ChainHash.{ChainHash}
 use Rattle.lgm_route.specs.declared.request.Request.{Request as RouteRequest}
 use Rattle.lgm_script.specs.declared.item.Item.{Item}
-use Rattle.lgm_script.specs.declared.request.Request.{Request}
+use Rattle.lgm_script.specs.declared.command.Command.{Command}
 use Rattle.lgm_script.specs.Device.{Appends, AppendsSome}
 use Rattle.lgm_live.specs.declared.report.LiveReport.{LiveReport}
-use Rattle.lgm_live.specs.declared.slot.Slot.{Slot}
-use Rattle.lgm_live.specs.Agenda.{batches_of, payments_of}
-use Rattle.lgm_live.specs.inner.Gathered.{Gathered, slot_of, IsAgenda}
+use Rattle.lgm_live.specs.declared.parsed_script.LineAnswer.{LineAnswer}
+use Rattle.lgm_live.specs.ParsedScript.{batches_of, payments_of}
+use Rattle.lgm_live.specs.inner.Gathered.{Gathered, line_answer_of, IsParsed}
 use Rattle.lgm_live.specs.inner.Reading.{IsAsked}
 use Rattle.lgm_live.specs.Running.{IsReport, IsReportOn, IsToldWhole, IsToldInPart}
 use Rattle.lgm_live.specs.inner.Telling.{slots_before, AreThere}
@@ -17,18 +17,18 @@ use Rattle.lgm_live.specs.Text.{live_text, AreSame}
 use Rattle.lgm_live.proofs.Slots.{text_is, all_there}
 use Rattle.lgm_live.proofs.Scripts.{are_same, is_full}
 
--- a report on what is on an agenda, with a slot for each request
-pub record IsReported (chain : ChainHash) (known : Option (List ℕ)) (workers : ℕ) (asked : List Request)
-    (all : List Slot) (report : LiveReport) : Type 0 where
+-- a report on a parsed script, with an answer for each command
+pub record IsReported (chain : ChainHash) (known : Option (List ℕ)) (workers : ℕ) (asked : List Command)
+    (all : List LineAnswer) (report : LiveReport) : Type 0 where
   pub some : 0 < workers
   pub is_report : IsReportOn chain known workers asked report
-  pub slots : all ≡ map slot_of asked
+  pub line_answers : all ≡ map line_answer_of asked
 
-pub reported : {chain : ChainHash} {known : Option (List ℕ)} {workers : ℕ} {asked : List Request}
-    {agenda : Gathered}
-    {batches : List (List Item)} {lists : List (List RouteRequest)} {all : List Slot} {report : LiveReport}
-    → 0 < workers → IsAgenda workers asked agenda → batches ≡ agenda.batches → lists ≡ agenda.lists
-    → all ≡ agenda.slots → IsReport chain known batches lists report
+pub reported : {chain : ChainHash} {known : Option (List ℕ)} {workers : ℕ} {asked : List Command}
+    {parsed : Gathered}
+    {batches : List (List Item)} {lists : List (List RouteRequest)} {all : List LineAnswer} {report : LiveReport}
+    → 0 < workers → IsParsed workers asked parsed → batches ≡ parsed.batches → lists ≡ parsed.lists
+    → all ≡ parsed.line_answers → IsReport chain known batches lists report
     → IsReported chain known workers asked all report
 reported {chain} {known} {workers} {asked} {lists = lists} {report = report} some is batches_are lists_are
     slots_are report_is =
@@ -37,10 +37,10 @@ reported {chain} {known} {workers} {asked} {lists = lists} {report = report} som
       is_report =
           subst (λ ls. IsReport chain known (batches_of asked) ls report) (lists_are ∙ is.lists)
           (subst (λ bs. IsReport chain known bs lists report) (batches_are ∙ is.batches) report_is);
-      slots = slots_are ∙ is.slots;
+      line_answers = slots_are ∙ is.line_answers;
     }
 
-module _ {chain : ChainHash} {known : Option (List ℕ)} {workers : ℕ} {asked : List Request} {all : List Slot}
+module _ {chain : ChainHash} {known : Option (List ℕ)} {workers : ℕ} {asked : List Command} {all : List LineAnswer}
     {report : LiveReport} (is : IsReported chain known workers asked all report) where
   same_answers : AreSame workers known report (payments_of asked)
   same_answers = are_same chain known workers asked report is.some is.is_report
@@ -48,15 +48,15 @@ module _ {chain : ChainHash} {known : Option (List ℕ)} {workers : ℕ} {asked 
   pub there : AreThere workers report all
   there =
       all_there workers known report asked all (is_full chain known workers asked report is.is_report)
-      same_answers is.slots
+      same_answers is.line_answers
 
-  -- what is told by slots is the text of the script
+  -- the text of all line answers is the text of the script
   as_text : (Told : Option (List ℕ) → List ℕ → Type 0) (old mid : Option (List ℕ)) → mid ≡ old
       → Told mid (slots_before workers report all (length all))
       → Told old (live_text workers known report asked)
   as_text Told old mid same told =
       subst (λ o. Told o (live_text workers known report asked)) same
-      (subst (Told mid) (sym (text_is workers known report asked all same_answers is.slots)) told)
+      (subst (Told mid) (sym (text_is workers known report asked all same_answers is.line_answers)) told)
 
   pub whole : (script old mid new : Option (List ℕ)) → IfSome script (IsAsked asked) → mid ≡ old
       → Appends mid new (slots_before workers report all (length all))

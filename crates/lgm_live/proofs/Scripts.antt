@@ -1,4 +1,4 @@
--- A report on what a script asks.
+-- A report on what a script requests.
 use Rattle.std.proofs.Common.{◌≡◌, ℕ, ◌+◌, ◌/◌, ◌%◌, ◌<◌, ◌≤◌, Bool, true, cond, List, [], ◌∷◌, ◌++◌, length, Option}
 use Rattle.std.proofs.Common.{Some, None, Result, Ok, Err, codes, refl, sym, ap, subst, ◌∙◌, append_assoc, arith}
 use Rattle.std.specs.Prelude.{◌&&◌, MatchOption, count_by, nat_eq, slice_get}
@@ -22,15 +22,15 @@ use Rattle.lgm_route.specs.declared.route.Hop.{Hop}
 use Rattle.lgm_route.specs.declared.fault.RouteFault.{RouteFault}
 use Rattle.lgm_route.specs.Words.{route_word}
 use Rattle.lgm_script.specs.declared.item.Item.{Item}
-use Rattle.lgm_script.specs.declared.payment.Payment.{Payment}
-use Rattle.lgm_script.specs.declared.request.Request.{Request}
-use Rattle.lgm_script.specs.declared.request.Request.TheVariants as requests
+use Rattle.lgm_script.specs.declared.route_parameters.RouteParameters.{RouteParameters}
+use Rattle.lgm_script.specs.declared.command.Command.{Command}
+use Rattle.lgm_script.specs.declared.command.Command.TheVariants as requests
 use Rattle.lgm_answers.specs.Outcomes.{outcome_of, with_outcome, outcomes_behind, outcomes}
 use Rattle.lgm_answers.specs.Routing.{asked_route}
 use Rattle.lgm_answers.specs.Script.{item_in, items_of, is_commit}
 use Rattle.lgm_live.specs.declared.report.LiveAnswer.{LiveAnswer}
 use Rattle.lgm_live.specs.declared.report.LiveReport.{LiveReport}
-use Rattle.lgm_live.specs.Agenda.{batches_behind, batches_of, payments_of, dealt_from, list_for, lists_of}
+use Rattle.lgm_live.specs.ParsedScript.{batches_behind, batches_of, payments_of, dealt_from, list_for, lists_of}
 use Rattle.lgm_live.specs.Answers.{IsAnsweredBy, AreAnsweredBy}
 use Rattle.lgm_live.specs.Batches.{items_of as all_items, ends_behind}
 use Rattle.lgm_live.specs.Running.{IsReportOn}
@@ -62,7 +62,7 @@ answer_is_same : (answer : Result (List Hop) RouteFault) → same_answer answer 
 answer_is_same (Ok hops) = hops_are_same hops
 answer_is_same (Err fault) = same_numbers (route_word fault)
 
-replay_is_same : (known : Option (List ℕ)) (ops : List Op) (payment : Payment) (answer : LiveAnswer)
+replay_is_same : (known : Option (List ℕ)) (ops : List Op) (payment : RouteParameters) (answer : LiveAnswer)
     → IsAnsweredBy known ops (asked_route payment) answer
     → replay_word known ops payment answer ≡ codes "same"
 replay_is_same known ops payment answer answered =
@@ -81,20 +81,20 @@ zipped {A} {B} Q xs ys k x all at =
     found None some is = absurd some
     found (Some y) some is = (y, is, some)
 
-list_at : (workers worker : ℕ) (asked : List Request) → worker < workers
+list_at : (workers worker : ℕ) (asked : List Command) → worker < workers
     → slice_get (lists_of workers asked) worker ≡ Some (list_for workers (payments_of asked) worker)
 list_at workers worker asked below =
     let f = list_for workers (payments_of asked) in
     slice_get-get_or (lists_of workers asked) worker [] (omega (arith, below, length-map-range_with_len f 0 workers))
     ∙ ap (λ (l : List RouteRequest). Some l) (get_or-map-range_with_len f 0 workers worker worker [] below (omega arith))
 
-request_at : (workers place : ℕ) (payments : List Payment) (payment : Payment) → 0 < workers → slice_get payments place ≡ Some payment
+request_at : (workers place : ℕ) (payments : List RouteParameters) (payment : RouteParameters) → 0 < workers → slice_get payments place ≡ Some payment
     → slice_get (list_for workers payments (place % workers)) (place / workers) ≡ Some (asked_route payment)
 request_at workers place payments payment some at =
     slice_get-map asked_route (dealt_from workers (place % workers) 0 payments) (place / workers)
     ∙ ap (option_map asked_route) (dealt_in_turn workers place payments payment some at)
 
-pub are_same : (chain : ChainHash) (known : Option (List ℕ)) (workers : ℕ) (asked : List Request)
+pub are_same : (chain : ChainHash) (known : Option (List ℕ)) (workers : ℕ) (asked : List Command)
     (report : LiveReport) → 0 < workers → IsReportOn chain known workers asked report
     → AreSame workers known report (payments_of asked)
 are_same chain known workers asked report some is = λ place payment at.
@@ -120,21 +120,21 @@ one_more : {Y : Type 0} (o : Option Y) (found : List Y) (n : ℕ) → length fou
 one_more None found n few = omega (arith, few)
 one_more (Some y) found n few = omega (arith, few)
 
-found_few : {Y : Type 0} (h : Request → Option Y) (asked : List Request) → length (filter_map h asked) ≤ length asked
+found_few : {Y : Type 0} (h : Command → Option Y) (asked : List Command) → length (filter_map h asked) ≤ length asked
 found_few h [] = omega arith
 found_few h (r ∷ asked) = let more = one_more (h r) (filter_map h asked) (length asked) (found_few h asked) in omega (arith, more)
 
-items_behind : (items : List Item) (asked : List Request) → all_items (batches_behind items asked) ≡ items ++ items_of asked
+items_behind : (items : List Item) (asked : List Command) → all_items (batches_behind items asked) ≡ items ++ items_of asked
 items_behind items [] = refl
 items_behind items (requests.Offer item ∷ asked) = items_behind (items ++ item ∷ []) asked ∙ append_assoc items (item ∷ []) (items_of asked)
 items_behind items (requests.Commit ∷ asked) = ap (λ (l : List Item). items ++ l) (items_behind [] asked)
 items_behind items (request ∷ asked) = items_behind items asked
 
 -- a script has no more items than lines
-pub items_few : (asked : List Request) → length (all_items (batches_of asked)) ≤ length asked
+pub items_few : (asked : List Command) → length (all_items (batches_of asked)) ≤ length asked
 items_few asked = omega (arith, ap length (items_behind [] asked), found_few item_in asked)
 
-batches_count : (items : List Item) (asked : List Request) → length (batches_behind items asked) ≡ count_by is_commit asked + 1
+batches_count : (items : List Item) (asked : List Command) → length (batches_behind items asked) ≡ count_by is_commit asked + 1
 batches_count items [] = refl
 batches_count items (requests.Offer item ∷ asked) =
     omega
@@ -151,7 +151,7 @@ outcomes_count : (chain : ChainHash) (history : List Op) (items : List Item) →
 outcomes_count chain history [] = refl
 outcomes_count chain history (item ∷ items) = omega (arith, outcomes_count chain (with_outcome history (outcome_of chain (fold history) item)) items)
 
-pub is_full : (chain : ChainHash) (known : Option (List ℕ)) (workers : ℕ) (asked : List Request)
+pub is_full : (chain : ChainHash) (known : Option (List ℕ)) (workers : ℕ) (asked : List Command)
     (report : LiveReport) → IsReportOn chain known workers asked report → IsFull report asked
 is_full chain known workers asked report is = record {
   outcomes =

@@ -1,4 +1,4 @@
--- The text of slots, one after the other.
+-- The texts of line answers, one after the other.
 use Rattle.std.proofs.Common.{◌≡◌, ℕ, zero, suc, ◌+◌, ◌-◌, ◌<◌, Bool, cond, List, [], ◌∷◌, ◌++◌, length, get_or}
 use Rattle.std.proofs.Common.{take, codes, refl, sym, ap, subst, ◌∙◌, append_assoc, add-one, arith}
 use Rattle.std.specs.Prelude.{count_by}
@@ -10,9 +10,9 @@ use Rattle.lgm_script.specs.Output.{OutputState, Tells, TellsPart}
 use Rattle.lgm_script.specs.Text.{word_line}
 use Rattle.lgm_script.proofs.Telling.{tells_both, tells_part_behind, tells_part_more}
 use Rattle.lgm_live.specs.declared.report.LiveReport.{LiveReport}
-use Rattle.lgm_live.specs.declared.slot.Slot.{Slot}
-use Rattle.lgm_live.specs.declared.slot.Slot.TheVariants as slots
-use Rattle.lgm_live.specs.declared.telling.Place.{Place}
+use Rattle.lgm_live.specs.declared.parsed_script.LineAnswer.{LineAnswer}
+use Rattle.lgm_live.specs.declared.parsed_script.LineAnswer.TheVariants as line_answers
+use Rattle.lgm_live.specs.declared.write_answers.Place.{Place}
 use Rattle.lgm_live.specs.Text.{at_line}
 use Rattle.lgm_live.specs.inner.Telling.{is_item, is_end, is_payment, place_behind, place_passed, slot_text, slots_before}
 
@@ -28,8 +28,8 @@ version_line number version word is =
 count_push : {X : Type 0} (p : X → Bool) (xs : List X) (x : X) → count_by p (xs ++ x ∷ []) ≡ count_by p xs + cond (p x) 1 0
 count_push p xs x = omega (arith, sum_by-append (λ x. cond (p x) 1 0) xs (x ∷ []))
 
-place_push : (before : List Slot) (slot : Slot) → place_passed (place_behind before) slot ≡ place_behind (before ++ slot ∷ [])
-place_push before slot = rw (count_push is_item before slot, count_push is_end before slot, count_push is_payment before slot) (by_slot slot)
+place_push : (before : List LineAnswer) (line_answer : LineAnswer) → place_passed (place_behind before) line_answer ≡ place_behind (before ++ line_answer ∷ [])
+place_push before line_answer = rw (count_push is_item before line_answer, count_push is_end before line_answer, count_push is_payment before line_answer) (by_slot line_answer)
   where
     same : (place : Place) → place ≡ record { items = place.items + 0; ends = place.ends + 0; payments = place.payments + 0 }
     same place =
@@ -38,44 +38,44 @@ place_push before slot = rw (count_push is_item before slot, count_push is_end b
         let payments : place.payments + 0 ≡ place.payments = omega arith in
         rw (items, ends, payments) refl
 
-    by_slot : (slot : Slot) → place_passed (place_behind before) slot ≡ record {
-      items = count_by is_item before + cond (is_item slot) 1 0;
-      ends = count_by is_end before + cond (is_end slot) 1 0;
-      payments = count_by is_payment before + cond (is_payment slot) 1 0;
+    by_slot : (line_answer : LineAnswer) → place_passed (place_behind before) line_answer ≡ record {
+      items = count_by is_item before + cond (is_item line_answer) 1 0;
+      ends = count_by is_end before + cond (is_end line_answer) 1 0;
+      payments = count_by is_payment before + cond (is_payment line_answer) 1 0;
     }
-    by_slot slots.Quiet = same (place_behind before)
-    by_slot slots.Bad = same (place_behind before)
-    by_slot slots.Item = ap (λ (place : Place). record place { items = count_by is_item before + 1 }) (same (place_behind before))
-    by_slot slots.Commit = ap (λ (place : Place). record place { ends = count_by is_end before + 1 }) (same (place_behind before))
-    by_slot slots.NotLive = same (place_behind before)
-    by_slot (slots.Payment secret) = ap (λ (place : Place). record place { payments = count_by is_payment before + 1 }) (same (place_behind before))
+    by_slot line_answers.Quiet = same (place_behind before)
+    by_slot line_answers.Bad = same (place_behind before)
+    by_slot line_answers.Item = ap (λ (place : Place). record place { items = count_by is_item before + 1 }) (same (place_behind before))
+    by_slot line_answers.Commit = ap (λ (place : Place). record place { ends = count_by is_end before + 1 }) (same (place_behind before))
+    by_slot line_answers.NotLive = same (place_behind before)
+    by_slot (line_answers.Payment secret) = ap (λ (place : Place). record place { payments = count_by is_payment before + 1 }) (same (place_behind before))
 
-pub place_more : (all : List Slot) (k : ℕ) → k < length all
-    → place_passed (place_behind (take k all)) (get_or all k slots.Quiet) ≡ place_behind (take (k + 1) all)
-place_more all k below = place_push (take k all) (get_or all k slots.Quiet) ∙ ap place_behind (sym (take_more all k slots.Quiet below))
+pub place_more : (all : List LineAnswer) (k : ℕ) → k < length all
+    → place_passed (place_behind (take k all)) (get_or all k line_answers.Quiet) ≡ place_behind (take (k + 1) all)
+place_more all k below = place_push (take k all) (get_or all k line_answers.Quiet) ∙ ap place_behind (sym (take_more all k line_answers.Quiet below))
 
 -- ---- texts
 
--- that of the slot at a place
-abbrev pub text_at : ℕ → LiveReport → List Slot → ℕ → List ℕ
-text_at workers report all k = slot_text workers report (k + 1) (place_behind (take k all)) (get_or all k slots.Quiet)
+-- the text of the line answer at an index
+abbrev pub text_at : ℕ → LiveReport → List LineAnswer → ℕ → List ℕ
+text_at workers report all k = slot_text workers report (k + 1) (place_behind (take k all)) (get_or all k line_answers.Quiet)
 
-text_suc : (workers : ℕ) (report : LiveReport) (all : List Slot) (k : ℕ) → slots_before workers report all
+text_suc : (workers : ℕ) (report : LiveReport) (all : List LineAnswer) (k : ℕ) → slots_before workers report all
     (suc k) ≡ slots_before workers report all k ++ text_at workers report all k
 unfolding slots_before
 text_suc workers report all k = refl
 
-text_more : (workers : ℕ) (report : LiveReport) (all : List Slot) (k : ℕ) → slots_before workers report all (k
+text_more : (workers : ℕ) (report : LiveReport) (all : List LineAnswer) (k : ℕ) → slots_before workers report all (k
     + 1) ≡ slots_before workers report all k ++ text_at workers report all k
 text_more workers report all k =
     subst (λ n. slots_before workers report all n ≡ slots_before workers report all k
     ++ text_at workers report all k) (sym (add-one k)) (text_suc workers report all k)
 
-pub no_text : (workers : ℕ) (report : LiveReport) (all : List Slot) → slots_before workers report all 0 ≡ []
+pub no_text : (workers : ℕ) (report : LiveReport) (all : List LineAnswer) → slots_before workers report all 0 ≡ []
 unfolding slots_before
 no_text workers report all = refl
 
-text_behind : (workers : ℕ) (report : LiveReport) (all : List Slot) (k n : ℕ)
+text_behind : (workers : ℕ) (report : LiveReport) (all : List LineAnswer) (k n : ℕ)
     → (more : List ℕ) × (slots_before workers report all (k + n) ≡ slots_before workers report all k ++ more)
 text_behind workers report all k zero =
     let same : k + zero ≡ k = omega arith in
@@ -89,15 +89,15 @@ text_behind workers report all k (suc n) =
           ∙ append_assoc (slots_before workers report all k) others.0 (text_at workers report all (k + n)),
     )
 
--- the same, by the number of the slots before and the place behind them
-pub text_here : (workers : ℕ) (report : LiveReport) (all : List Slot) (k number : ℕ) (place : Place) → number ≡ k → place ≡ place_behind (take k all)
-    → slot_text workers report (number + 1) place (get_or all k slots.Quiet) ≡ text_at workers report all k
+-- the same, by the number of line answers before and the place after them
+pub text_here : (workers : ℕ) (report : LiveReport) (all : List LineAnswer) (k number : ℕ) (place : Place) → number ≡ k → place ≡ place_behind (take k all)
+    → slot_text workers report (number + 1) place (get_or all k line_answers.Quiet) ≡ text_at workers report all k
 text_here workers report all k number place number_is place_is =
-    ap (λ (n : ℕ). slot_text workers report (n + 1) place (get_or all k slots.Quiet)) number_is
-    ∙ ap (λ (p : Place). slot_text workers report (k + 1) p (get_or all k slots.Quiet)) place_is
+    ap (λ (n : ℕ). slot_text workers report (n + 1) place (get_or all k line_answers.Quiet)) number_is
+    ∙ ap (λ (p : Place). slot_text workers report (k + 1) p (get_or all k line_answers.Quiet)) place_is
 
--- one more slot was told
-pub one_more : (workers : ℕ) (report : LiveReport) (all : List Slot) (k : ℕ) (old mid new : OutputState)
+-- one more line answer was written
+pub one_more : (workers : ℕ) (report : LiveReport) (all : List LineAnswer) (k : ℕ) (old mid new : OutputState)
     → Tells old mid (slots_before workers report all k) → Tells mid new (text_at workers report all k)
     → Tells old new (slots_before workers report all (k + 1))
 one_more workers report all k old mid new so_far told =
@@ -105,7 +105,7 @@ one_more workers report all k old mid new so_far told =
     (slots_before workers report all k) (text_at workers report all k) so_far told)
 
 -- a part of it, and then a fault
-pub stops : (workers : ℕ) (report : LiveReport) (all : List Slot) (k : ℕ) (old mid new : OutputState)
+pub stops : (workers : ℕ) (report : LiveReport) (all : List LineAnswer) (k : ℕ) (old mid new : OutputState)
     (fault : SendFault) → k < length all → Tells old mid (slots_before workers report all k)
     → TellsPart mid new (text_at workers report all k) fault → TellsPart old new (slots_before workers report all (length all)) fault
 stops workers report all k old mid new fault below so_far part =

@@ -1,4 +1,4 @@
--- What requests are told, by their slots.
+-- The texts of commands, by their line answers.
 use Rattle.std.proofs.Common.{◌≡◌, ℕ, zero, suc, ◌+◌, ◌<◌, ◌≤◌, Bool, cond, List, [], ◌∷◌, ◌++◌, length, map}
 use Rattle.std.proofs.Common.{get_or, take, Option, Some, None, codes, refl, sym, ap, subst, ◌∙◌, arith}
 use Rattle.std.specs.Prelude.{is_some, count_by, slice_get}
@@ -7,18 +7,18 @@ use Rattle.std.proofs.lemmas.List.{length-map, take-map}
 use Rattle.std.proofs.lemmas.Option.{slice_get_within}
 use Rattle.std.proofs.Math.ListN.{get_or-map}
 use Rattle.std.proofs.lemmas.List.Sums.{sum_by-cons}
-use Rattle.lgm_script.specs.declared.payment.Payment.{Payment}
-use Rattle.lgm_script.specs.declared.request.Request.{Request}
-use Rattle.lgm_script.specs.declared.request.Request.TheVariants as requests
+use Rattle.lgm_script.specs.declared.route_parameters.RouteParameters.{RouteParameters}
+use Rattle.lgm_script.specs.declared.command.Command.{Command}
+use Rattle.lgm_script.specs.declared.command.Command.TheVariants as requests
 use Rattle.lgm_answers.specs.Answer.{outcome_text, route_text}
 use Rattle.lgm_script.specs.Text.{commit_line}
 use Rattle.lgm_answers.specs.Script.{item_in, items_of, is_commit}
 use Rattle.lgm_live.specs.declared.report.LiveAnswer.{LiveAnswer}
 use Rattle.lgm_live.specs.declared.report.LiveReport.{LiveReport}
-use Rattle.lgm_live.specs.declared.slot.Slot.{Slot}
-use Rattle.lgm_live.specs.declared.slot.Slot.TheVariants as slots
-use Rattle.lgm_live.specs.Agenda.{payment_in, payments_of}
-use Rattle.lgm_live.specs.inner.Gathered.{slot_of}
+use Rattle.lgm_live.specs.declared.parsed_script.LineAnswer.{LineAnswer}
+use Rattle.lgm_live.specs.declared.parsed_script.LineAnswer.TheVariants as line_answers
+use Rattle.lgm_live.specs.ParsedScript.{payment_in, payments_of}
+use Rattle.lgm_live.specs.inner.Gathered.{line_answer_of}
 use Rattle.lgm_live.specs.Text.{answer_at, at_line, replay_word, payment_text, live_text_for, live_text_before, live_text, AreSame}
 use Rattle.lgm_live.specs.inner.Telling.{is_item, is_end, is_payment, place_behind, same_text, slot_text, slots_before, IsThere, AreThere}
 
@@ -30,50 +30,50 @@ count_by-cons p x xs = sum_by-cons (λ y. cond (p y) 1 0) x xs
 as_one : Bool → ℕ
 as_one b = cond b 1 0
 
-one_found : {Y : Type 0} (o : Option Y) (found : List Y) (p : Slot → Bool) (slot : Slot) (all : List Slot)
-    → is_some o ≡ p slot → length found ≡ count_by p all
-    → length (cons_option o found) ≡ count_by p (slot ∷ all)
+one_found : {Y : Type 0} (o : Option Y) (found : List Y) (p : LineAnswer → Bool) (line_answer : LineAnswer) (all : List LineAnswer)
+    → is_some o ≡ p line_answer → length found ≡ count_by p all
+    → length (cons_option o found) ≡ count_by p (line_answer ∷ all)
 unfolding as_one
-one_found None found p slot all same count = omega (arith, count, count_by-cons p slot all, ap as_one same)
-one_found (Some y) found p slot all same count = omega (arith, count, count_by-cons p slot all, ap as_one same)
+one_found None found p line_answer all same count = omega (arith, count, count_by-cons p line_answer all, ap as_one same)
+one_found (Some y) found p line_answer all same count = omega (arith, count, count_by-cons p line_answer all, ap as_one same)
 
--- what is found in requests, counted by their slots
-found_count : {Y : Type 0} (h : Request → Option Y) (p : Slot → Bool) → ((r : Request) → is_some (h r)
-    ≡ p (slot_of r)) → (asked : List Request) → length (filter_map h asked) ≡ count_by p (map slot_of asked)
+-- what is found in commands, counted by their line answers
+found_count : {Y : Type 0} (h : Command → Option Y) (p : LineAnswer → Bool) → ((r : Command) → is_some (h r)
+    ≡ p (line_answer_of r)) → (asked : List Command) → length (filter_map h asked) ≡ count_by p (map line_answer_of asked)
 found_count h p same [] = refl
-found_count h p same (r ∷ asked) = one_found (h r) (filter_map h asked) p (slot_of r) (map slot_of asked) (same r) (found_count h p same asked)
+found_count h p same (r ∷ asked) = one_found (h r) (filter_map h asked) p (line_answer_of r) (map line_answer_of asked) (same r) (found_count h p same asked)
 
-offers : (r : Request) → is_some (item_in r) ≡ is_item (slot_of r)
+offers : (r : Command) → is_some (item_in r) ≡ is_item (line_answer_of r)
 offers requests.Quiet = refl
 offers _ = refl
 
-pays : (r : Request) → is_some (payment_in r) ≡ is_payment (slot_of r)
+pays : (r : Command) → is_some (payment_in r) ≡ is_payment (line_answer_of r)
 pays requests.Quiet = refl
 pays _ = refl
 
-commits : (r : Request) → is_commit r ≡ is_end (slot_of r)
+commits : (r : Command) → is_commit r ≡ is_end (line_answer_of r)
 commits requests.Quiet = refl
 commits _ = refl
 
-items_count : (asked : List Request) → length (items_of asked) ≡ count_by is_item (map slot_of asked)
+items_count : (asked : List Command) → length (items_of asked) ≡ count_by is_item (map line_answer_of asked)
 items_count asked = found_count item_in is_item offers asked
 
-payments_count : (asked : List Request) → length (payments_of asked) ≡ count_by is_payment (map slot_of asked)
+payments_count : (asked : List Command) → length (payments_of asked) ≡ count_by is_payment (map line_answer_of asked)
 payments_count asked = found_count payment_in is_payment pays asked
 
-commits_count : (asked : List Request) → count_by is_commit asked ≡ count_by is_end (map slot_of asked)
+commits_count : (asked : List Command) → count_by is_commit asked ≡ count_by is_end (map line_answer_of asked)
 unfolding as_one
 commits_count [] = refl
 commits_count (r ∷ asked) =
-    omega (arith, commits_count asked, count_by-cons is_commit r asked, count_by-cons is_end (slot_of r) (map slot_of asked), ap as_one (commits r))
+    omega (arith, commits_count asked, count_by-cons is_commit r asked, count_by-cons is_end (line_answer_of r) (map line_answer_of asked), ap as_one (commits r))
 
 one_before : {Y : Type 0} (o : Option Y) (found before : List Y) (y : Y) → slice_get found (length before)
     ≡ Some y → slice_get (cons_option o found) (length (cons_option o before)) ≡ Some y
 one_before None found before y is = is
 one_before (Some x) found before y is = is
 
--- what is found at a place comes behind what is found before
-found_at : {Y : Type 0} (h : Request → Option Y) (asked : List Request) (k : ℕ) (y : Y) → k < length asked
+-- what is found at an index comes after what is found before
+found_at : {Y : Type 0} (h : Command → Option Y) (asked : List Command) (k : ℕ) (y : Y) → k < length asked
     → h (get_or asked k requests.Quiet) ≡ Some y
     → slice_get (filter_map h asked) (length (filter_map h (take k asked))) ≡ Some y
 found_at h [] k y below is = absurd (omega (arith, below))
@@ -84,27 +84,27 @@ found_at h (r ∷ asked) (suc k) y below is =
 
 -- ---- the text
 
--- a payment behind these has an answer, which the replay gives too
-abbrev IsPaid : ℕ → Option (List ℕ) → LiveReport → List Request → Request → Type 0
-IsPaid workers known report before request = (payment : Payment) → request ≡ requests.Route payment
+-- a payment after these has an answer, and the replay gives the same
+abbrev IsPaid : ℕ → Option (List ℕ) → LiveReport → List Command → Command → Type 0
+IsPaid workers known report before request = (payment : RouteParameters) → request ≡ requests.Route payment
     → (answer : LiveAnswer) × (answer_at workers report.answers.items (length (payments_of before))
     ≡ Some answer) × (replay_word known report.ops.items payment answer ≡ codes "same")
 
-paid_text : (workers : ℕ) (known : Option (List ℕ)) (report : LiveReport) (number : ℕ) (before : List Request)
-    (payment : Payment) (answer : LiveAnswer)
+paid_text : (workers : ℕ) (known : Option (List ℕ)) (report : LiveReport) (number : ℕ) (before : List Command)
+    (payment : RouteParameters) (answer : LiveAnswer)
     → answer_at workers report.answers.items (length (payments_of before)) ≡ Some answer
     → replay_word known report.ops.items payment answer ≡ codes "same"
     → live_text_for workers known report number before (requests.Route payment)
-    ≡ slot_text workers report number (place_behind (map slot_of before)) (slots.Payment payment.secret)
+    ≡ slot_text workers report number (place_behind (map line_answer_of before)) (line_answers.Payment payment.secret)
 paid_text workers known report number before payment answer at same =
     ap (payment_text known report.ops.items number payment) at
     ∙ ap (λ (word : List ℕ). at_line number answer.version word ++ route_text number payment.secret answer.result) same
     ∙ sym (ap (same_text number payment.secret) at)
     ∙ ap (λ (place : ℕ). same_text number payment.secret (answer_at workers report.answers.items place)) (payments_count before)
 
-one_told : (workers : ℕ) (known : Option (List ℕ)) (report : LiveReport) (number : ℕ) (before : List Request)
-    (request : Request) → IsPaid workers known report before request
-    → live_text_for workers known report number before request ≡ slot_text workers report number (place_behind (map slot_of before)) (slot_of request)
+one_told : (workers : ℕ) (known : Option (List ℕ)) (report : LiveReport) (number : ℕ) (before : List Command)
+    (request : Command) → IsPaid workers known report before request
+    → live_text_for workers known report number before request ≡ slot_text workers report number (place_behind (map line_answer_of before)) (line_answer_of request)
 one_told workers known report number before (requests.Offer item) paid =
     ap (λ (place : ℕ). outcome_text number (get_or report.outcomes.items place None)) (items_count before)
 one_told workers known report number before requests.Commit paid =
@@ -113,16 +113,16 @@ one_told workers known report number before (requests.Route payment) paid =
     let has = paid payment refl in paid_text workers known report number before payment has.0 has.1 has.2
 one_told workers known report number before _ paid = refl
 
-paid_at : (workers : ℕ) (known : Option (List ℕ)) (report : LiveReport) (asked : List Request) (k : ℕ)
+paid_at : (workers : ℕ) (known : Option (List ℕ)) (report : LiveReport) (asked : List Command) (k : ℕ)
     → AreSame workers known report (payments_of asked) → k < length asked
     → IsPaid workers known report (take k asked) (get_or asked k requests.Quiet)
 paid_at workers known report asked k same below =
     λ payment is. same (length (payments_of (take k asked))) payment
     (found_at payment_in asked k payment below (ap payment_in is))
 
-text_before : (workers : ℕ) (known : Option (List ℕ)) (report : LiveReport) (asked : List Request) (k : ℕ)
+text_before : (workers : ℕ) (known : Option (List ℕ)) (report : LiveReport) (asked : List Command) (k : ℕ)
     → AreSame workers known report (payments_of asked) → k ≤ length asked
-    → live_text_before workers known report asked k ≡ slots_before workers report (map slot_of asked) k
+    → live_text_before workers known report asked k ≡ slots_before workers report (map line_answer_of asked) k
 unfolding live_text_before slots_before
 text_before workers known report asked zero same within = refl
 text_before workers known report asked (suc k) same within =
@@ -130,20 +130,20 @@ text_before workers known report asked (suc k) same within =
     let request = get_or asked k requests.Quiet in
     ap (λ (text : List ℕ). text ++ live_text_for workers known report (k + 1) (take k asked) request)
     (text_before workers known report asked k same (omega (arith, within)))
-    ∙ ap (λ (text : List ℕ). slots_before workers report (map slot_of asked) k ++ text)
+    ∙ ap (λ (text : List ℕ). slots_before workers report (map line_answer_of asked) k ++ text)
     (one_told workers known report (k + 1) (take k asked) request (paid_at workers known report asked k same below)
-    ∙ ap (λ (before : List Slot). slot_text workers report (k + 1) (place_behind before) (slot_of request)) (sym (take-map slot_of k asked))
-    ∙ ap (slot_text workers report (k + 1) (place_behind (take k (map slot_of asked)))) (sym (get_or-map slot_of asked k requests.Quiet)))
+    ∙ ap (λ (before : List LineAnswer). slot_text workers report (k + 1) (place_behind before) (line_answer_of request)) (sym (take-map line_answer_of k asked))
+    ∙ ap (slot_text workers report (k + 1) (place_behind (take k (map line_answer_of asked)))) (sym (get_or-map line_answer_of asked k requests.Quiet)))
 
--- the text of a script is that of its slots
-pub text_is : (workers : ℕ) (known : Option (List ℕ)) (report : LiveReport) (asked : List Request)
-    (all : List Slot) → AreSame workers known report (payments_of asked) → all ≡ map slot_of asked
+-- the text of a script is that of its line answers
+pub text_is : (workers : ℕ) (known : Option (List ℕ)) (report : LiveReport) (asked : List Command)
+    (all : List LineAnswer) → AreSame workers known report (payments_of asked) → all ≡ map line_answer_of asked
     → live_text workers known report asked ≡ slots_before workers report all (length all)
 text_is workers known report asked all same is =
     rw is (text_before workers known report asked (length asked) same (omega arith)
-    ∙ ap (slots_before workers report (map slot_of asked)) (sym (length-map asked slot_of)))
+    ∙ ap (slots_before workers report (map line_answer_of asked)) (sym (length-map asked line_answer_of)))
 
--- ---- what is told is there
+-- ---- what is written is in the report
 
 count_take : {X : Type 0} (p : X → Bool) (xs : List X) (k : ℕ) → count_by p (take k xs) ≤ count_by p xs
 count_take p [] k = none k
@@ -155,14 +155,14 @@ count_take p (x ∷ xs) zero = omega arith
 count_take p (x ∷ xs) (suc k) = omega (arith, count_take p xs k, count_by-cons p x xs, count_by-cons p x (take k xs))
 
 -- a report has an outcome for each item, and an end for each batch
-pub record IsFull (report : LiveReport) (asked : List Request) : Type 0 where
+pub record IsFull (report : LiveReport) (asked : List Command) : Type 0 where
   pub outcomes : length report.outcomes.items ≡ length (items_of asked)
   pub ends : length report.ends.items ≡ count_by is_commit asked + 1
 
-there_at : (workers : ℕ) (known : Option (List ℕ)) (report : LiveReport) (asked : List Request) (k : ℕ)
-    (request : Request) → IsFull report asked → AreSame workers known report (payments_of asked)
+there_at : (workers : ℕ) (known : Option (List ℕ)) (report : LiveReport) (asked : List Command) (k : ℕ)
+    (request : Command) → IsFull report asked → AreSame workers known report (payments_of asked)
     → k < length asked
-    → get_or asked k requests.Quiet ≡ request → IsThere workers report (place_behind (map slot_of (take k asked))) (slot_of request)
+    → get_or asked k requests.Quiet ≡ request → IsThere workers report (place_behind (map line_answer_of (take k asked))) (line_answer_of request)
 there_at workers known report asked k (requests.Offer item) full same below is =
     let within = slice_get_within (items_of asked) (length (items_of (take k asked))) item (found_at item_in asked k item below (ap item_in is)) in
     omega (arith, within, items_count (take k asked), full.outcomes)
@@ -173,13 +173,13 @@ there_at workers known report asked k (requests.Route payment) full same below i
     ap is_some (ap (answer_at workers report.answers.items) (sym (payments_count (take k asked))) ∙ has.1)
 there_at workers known report asked k _ full same below is = tt
 
-pub all_there : (workers : ℕ) (known : Option (List ℕ)) (report : LiveReport) (asked : List Request)
-    (all : List Slot) → IsFull report asked → AreSame workers known report (payments_of asked)
-    → all ≡ map slot_of asked
+pub all_there : (workers : ℕ) (known : Option (List ℕ)) (report : LiveReport) (asked : List Command)
+    (all : List LineAnswer) → IsFull report asked → AreSame workers known report (payments_of asked)
+    → all ≡ map line_answer_of asked
     → AreThere workers report all
 all_there workers known report asked all full same is = rw is (λ k below.
-    let within : k < length asked = omega (arith, below, length-map asked slot_of) in
+    let within : k < length asked = omega (arith, below, length-map asked line_answer_of) in
     let here = there_at workers known report asked k (get_or asked k requests.Quiet) full same within refl in
-    subst (λ (before : List Slot). IsThere workers report (place_behind before)
-    (get_or (map slot_of asked) k slots.Quiet)) (sym (take-map slot_of k asked))
-    (subst (IsThere workers report (place_behind (map slot_of (take k asked)))) (sym (get_or-map slot_of asked k requests.Quiet)) here))
+    subst (λ (before : List LineAnswer). IsThere workers report (place_behind before)
+    (get_or (map line_answer_of asked) k line_answers.Quiet)) (sym (take-map line_answer_of k asked))
+    (subst (IsThere workers report (place_behind (map line_answer_of (take k asked)))) (sym (get_or-map line_answer_of asked k requests.Quiet)) here))

@@ -6,14 +6,14 @@ use Rattle.std.specs.List.{AllByRecursion}
 use Rattle.std.proofs.lemmas.List.{append-nil, length-append, length-drop, length-take, take_all, map_push, nil_from_length}
 use Rattle.std.proofs.lemmas.Option.{IfSome_then}
 use Rattle.lgm_script.specs.declared.line_reader.TheConstants.{MAX_LINE}
-use Rattle.lgm_script.specs.declared.request.Request.{Request}
-use Rattle.lgm_script.specs.declared.reading.LineFault.{LineFault}
-use Rattle.lgm_script.specs.declared.reading.LineFault.TheVariants as lines
+use Rattle.lgm_script.specs.declared.command.Command.{Command}
+use Rattle.lgm_script.specs.declared.read.LineFault.{LineFault}
+use Rattle.lgm_script.specs.declared.read.LineFault.TheVariants as lines
 use Rattle.lgm_script.specs.declared.output.SendFault.TheVariants.{Write as SendWrite}
 use Rattle.lgm_script.specs.Device.{IsAtEnd, Appends}
 use Rattle.lgm_script.specs.Lines.{lines_of, ahead, IsFirstLine, IsLongerThan}
 use Rattle.lgm_script.specs.Output.{OutputState, Tells, TellsPart}
-use Rattle.lgm_script.specs.Request.{request_of}
+use Rattle.lgm_script.specs.Command.{command_of}
 use Rattle.lgm_script.proofs.Ahead.{left_is}
 use Rattle.lgm_script.proofs.FirstLines.{each-push, stands_at}
 use Rattle.lgm_script.proofs.Splitting.{next_of}
@@ -23,17 +23,17 @@ use Rattle.lgm_answers.proofs.Lines.{some_bytes, has_line}
 use Rattle.lgm_live.specs.Running.{AreShort, HasMoreLines, HasLongLine}
 use Rattle.lgm_live.specs.inner.Reading.{IsAsked}
 
--- so many lines were read, and this is left
-pub record IsAt (script : List ℕ) (asked : List Request) (input : Option (List ℕ)) : Type 0 where
+-- this many lines were read, and this is left
+pub record IsAt (script : List ℕ) (asked : List Command) (input : Option (List ℕ)) : Type 0 where
   pub rest : List ℕ
   pub input_is : input ≡ Some rest
   pub left : lines_of rest ≡ drop (length asked) (lines_of script)
   pub few : length asked ≤ length (lines_of script)
   pub short : AllByRecursion (λ line. length line ≤ MAX_LINE) (take (length asked) (lines_of script))
-  pub asked_is : asked ≡ map request_of (take (length asked) (lines_of script))
+  pub asked_is : asked ≡ map command_of (take (length asked) (lines_of script))
 
--- where the source tells its bytes
-abbrev pub SoFar : Option (List ℕ) → List Request → Option (List ℕ) → Type 0
+-- if the source specifies its bytes
+abbrev pub SoFar : Option (List ℕ) → List Command → Option (List ℕ) → Type 0
 SoFar script asked input = IfSome script (λ bytes. IsAt bytes asked input)
 
 pub starts : (script : Option (List ℕ)) → SoFar script [] (ahead [] script)
@@ -42,10 +42,10 @@ starts (Some script) = record { rest = script; input_is = refl; left = refl; few
 
 -- ---- one line
 
-module _ (script : Option (List ℕ)) (asked : List Request) (buffered : List ℕ) (left : Option (List ℕ))
+module _ (script : Option (List ℕ)) (asked : List Command) (buffered : List ℕ) (left : Option (List ℕ))
     (so_far : SoFar script asked (ahead buffered left)) where
   pub step : (count : ℕ) → IsFirstLine buffered left count → count ≤ MAX_LINE
-      → SoFar script (asked ++ request_of (take count buffered) ∷ []) (ahead (drop (count + 1) buffered) left)
+      → SoFar script (asked ++ command_of (take count buffered) ∷ []) (ahead (drop (count + 1) buffered) left)
   step count first small = IfSome_then script so_far (λ s at.
       let input = left_is buffered left at.rest at.input_is in
       let k = length asked in
@@ -54,8 +54,8 @@ module _ (script : Option (List ℕ)) (asked : List Request) (buffered : List �
       let rest = drop (count + 1) buffered ++ input.0 in
       let next = next_of buffered input.0 count (subst (λ o. IsFirstLine buffered o count) input.1 first) in
       let stand = stands_at all k [] line (lines_of rest) (sym at.left ∙ ap lines_of input.2 ∙ next.lines) in
-      let more : length (asked ++ request_of line ∷ []) ≡ k + 1 = omega (arith, length-append asked (request_of line ∷ [])) in
-      let front : take (length (asked ++ request_of line ∷ [])) all ≡ take k all ++ line ∷ [] = ap (λ n. take n all) more ∙ stand.front in
+      let more : length (asked ++ command_of line ∷ []) ≡ k + 1 = omega (arith, length-append asked (command_of line ∷ [])) in
+      let front : take (length (asked ++ command_of line ∷ [])) all ≡ take k all ++ line ∷ [] = ap (λ n. take n all) more ∙ stand.front in
       record {
         rest = rest;
         input_is = ap (ahead (drop (count + 1) buffered)) input.1;
@@ -65,8 +65,8 @@ module _ (script : Option (List ℕ)) (asked : List Request) (buffered : List �
             subst (λ (ls : List (List ℕ)). AllByRecursion (λ l. length l ≤ MAX_LINE) ls) (sym front)
             (each-push (λ l. length l ≤ MAX_LINE) (take k all) line at.short (omega (arith, small, length-take count buffered)));
         asked_is =
-            ap (λ (rs : List Request). rs ++ request_of line ∷ []) at.asked_is
-            ∙ sym (map_push request_of (take k all) line) ∙ ap (map request_of) (sym front);
+            ap (λ (rs : List Command). rs ++ command_of line ∷ []) at.asked_is
+            ∙ sym (map_push command_of (take k all) line) ∙ ap (map command_of) (sym front);
       })
 
   -- there are more than the limit
@@ -81,7 +81,7 @@ module _ (script : Option (List ℕ)) (asked : List Request) (buffered : List �
 
 -- ---- how it ends
 
-module _ (script : Option (List ℕ)) (asked : List Request) (input : Option (List ℕ)) (so_far : SoFar script asked input) where
+module _ (script : Option (List ℕ)) (asked : List Command) (input : Option (List ℕ)) (so_far : SoFar script asked input) where
   -- all was read
   pub ends : IsAtEnd input → length asked ≤ MAX_LINES → IfSome script (IsAsked asked)
   ends ended limit = IfSome_then script so_far (λ s at.
@@ -96,7 +96,7 @@ module _ (script : Option (List ℕ)) (asked : List Request) (input : Option (Li
           few = omega (arith, same);
           short = subst (λ (ls : List (List ℕ)). AllByRecursion (λ l. length l ≤ MAX_LINE) ls) whole at.short;
         };
-        all = at.asked_is ∙ ap (map request_of) whole;
+        all = at.asked_is ∙ ap (map command_of) whole;
       })
 
   -- the next line is too long
@@ -108,40 +108,40 @@ module _ (script : Option (List ℕ)) (asked : List Request) (input : Option (Li
 
 -- ---- nothing is written
 
--- what a text of no bytes leaves
+-- after writing no bytes
 pub record IsSilent (old new : OutputState) : Type 0 where
   pub writer : new.writer ≡ old.writer
   pub taken : new.sink.taken ≡ old.sink.taken
-  pub clear : new.gathered ≡ []
+  pub clear : new.buffered ≡ []
 
 nothing_taken : (old new : Option (List ℕ)) (written : List ℕ) → written ≡ [] → Appends old new written → new ≡ old
 nothing_taken None new written none taken = taken
 nothing_taken (Some bytes) new written none taken = taken ∙ ap (λ (w : List ℕ). some_bytes (bytes ++ w)) none ∙ ap some_bytes (append-nil bytes)
 
-pub silent : (old new : OutputState) → old.gathered ≡ [] → Tells old new [] → IsSilent old new
+pub silent : (old new : OutputState) → old.buffered ≡ [] → Tells old new [] → IsSilent old new
 silent old new clear told =
     let size = ap length told.whole ∙ ap (λ (g : List ℕ). length (g ++ [])) clear in
     record {
       writer = told.writer;
       taken =
           nothing_taken old.sink.taken new.sink.taken told.written (nil_from_length told.written
-          (omega (arith, size, length-append told.written new.gathered))) told.taken;
-      clear = nil_from_length new.gathered (omega (arith, size, length-append told.written new.gathered));
+          (omega (arith, size, length-append told.written new.buffered))) told.taken;
+      clear = nil_from_length new.buffered (omega (arith, size, length-append told.written new.buffered));
     }
 
-silent_part : (old new : OutputState) → old.gathered ≡ [] → TellsPart old new [] SendWrite → IsSilent old new
+silent_part : (old new : OutputState) → old.buffered ≡ [] → TellsPart old new [] SendWrite → IsSilent old new
 silent_part old new clear part =
     let size = ap length part.whole ∙ ap (λ (g : List ℕ). length (g ++ [])) clear in
-    let parts = length-append (part.written ++ new.gathered) part.lost in
-    let fronts = length-append part.written new.gathered in
+    let parts = length-append (part.written ++ new.buffered) part.lost in
+    let fronts = length-append part.written new.buffered in
     record {
       writer = part.writer;
       taken = nothing_taken old.sink.taken new.sink.taken part.written (nil_from_length part.written (omega (arith, size, parts, fronts))) part.taken;
-      clear = nil_from_length new.gathered (omega (arith, size, parts, fronts));
+      clear = nil_from_length new.buffered (omega (arith, size, parts, fronts));
     }
 
 -- whatever the fault
-pub silent_fault : {T : Type 0} (fault : LineFault) (old new : OutputState) → old.gathered ≡ []
+pub silent_fault : {T : Type 0} (fault : LineFault) (old new : OutputState) → old.buffered ≡ []
     → (failed {T = T} fault ≢ failed lines.Write → Tells old new [])
     → (failed {T = T} fault ≡ failed lines.Write → TellsPart old new [] SendWrite)
     → IsSilent old new

@@ -1,6 +1,6 @@
 pub mod Answers
 pub mod Batches
-pub mod Agenda
+pub mod ParsedScript
 pub mod Text
 pub mod Running
 pub mod RunsLive

@@ -6,11 +6,11 @@ use Rattle.lgm_wire.specs.declared.chain_hash.ChainHash.{ChainHash}
 use Rattle.lgm_route.specs.declared.request.Request.{Request as RouteRequest}
 use Rattle.lgm_script.specs.declared.line_reader.TheConstants.{MAX_LINE}
 use Rattle.lgm_script.specs.declared.item.Item.{Item}
-use Rattle.lgm_script.specs.declared.request.Request.{Request}
+use Rattle.lgm_script.specs.declared.command.Command.{Command}
 use Rattle.lgm_script.specs.Lines.{lines_of}
 use Rattle.lgm_answers.specs.declared.run_fault.TheConstants.{MAX_LINES}
 use Rattle.lgm_answers.specs.Outcomes.{outcomes, history_of}
-use Rattle.lgm_answers.specs.Script.{requests_of}
+use Rattle.lgm_answers.specs.Script.{commands_of}
 use Rattle.lgm_live.specs.declared.fault.LiveFault.{LiveFault}
 use Rattle.lgm_live.specs.declared.fault.LiveFault.TheVariants as live
 use Rattle.lgm_live.specs.declared.report.LiveReport.{LiveReport}
@@ -18,7 +18,7 @@ use Rattle.lgm_answers.specs.declared.run_fault.RunFault.{RunFault}
 use Rattle.lgm_answers.specs.declared.run_fault.RunFault.TheVariants as faults
 use Rattle.lgm_live.specs.Answers.{AreAnsweredBy, NeverFall, IsAtEnd}
 use Rattle.lgm_live.specs.Batches.{items_of, ends_of}
-use Rattle.lgm_live.specs.Agenda.{batches_of, payments_of, lists_of}
+use Rattle.lgm_live.specs.ParsedScript.{batches_of, payments_of, lists_of}
 use Rattle.lgm_live.specs.Text.{live_text, AreSame}
 
 -- the same fault as one of a script
@@ -47,7 +47,7 @@ pub record IsWithin (script : List ℕ) : Type 0 where
   pub short : AllByRecursion (λ line. length line ≤ MAX_LINE) (lines_of script)
 
 -- a report on what these requests ask
-abbrev pub IsReportOn : ChainHash → Option (List ℕ) → ℕ → List Request → LiveReport → Type 0
+abbrev pub IsReportOn : ChainHash → Option (List ℕ) → ℕ → List Command → LiveReport → Type 0
 IsReportOn chain known workers asked report =
     IsReport chain known (batches_of asked) (lists_of workers asked) report
 
@@ -55,17 +55,17 @@ IsReportOn chain known workers asked report =
 pub record IsToldWhole (chain : ChainHash) (known : Option (List ℕ)) (workers : ℕ) (told : List ℕ → Type 0)
     (report : LiveReport) (script : List ℕ) : Type 0 where
   pub limits : IsWithin script
-  pub is_report : IsReportOn chain known workers (requests_of script) report
-  pub text : told (live_text workers known report (requests_of script))
-  pub same : AreSame workers known report (payments_of (requests_of script))
+  pub is_report : IsReportOn chain known workers (commands_of script) report
+  pub text : told (live_text workers known report (commands_of script))
+  pub same : AreSame workers known report (payments_of (commands_of script))
 
 -- a prefix of the text of the whole script and of some report on it was written
 pub record IsToldInPart (chain : ChainHash) (known : Option (List ℕ)) (workers : ℕ)
     (told_part : List ℕ → Type 0) (script : List ℕ) : Type 0 where
   pub limits : IsWithin script
   pub report : LiveReport
-  pub is_report : IsReportOn chain known workers (requests_of script) report
-  pub text : told_part (live_text workers known report (requests_of script))
+  pub is_report : IsReportOn chain known workers (commands_of script) report
+  pub text : told_part (live_text workers known report (commands_of script))
 
 -- none of the first n lines is too long
 abbrev pub AreShort : List ℕ → ℕ → Type 0

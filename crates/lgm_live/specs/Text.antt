@@ -10,16 +10,16 @@ use Rattle.lgm_store.specs.History.{fold}
 use Rattle.lgm_route.specs.declared.route.Hop.{Hop}
 use Rattle.lgm_route.specs.declared.fault.RouteFault.{RouteFault}
 use Rattle.lgm_route.specs.Words.{route_word}
-use Rattle.lgm_script.specs.declared.payment.Payment.{Payment}
-use Rattle.lgm_script.specs.declared.request.Request.{Request}
-use Rattle.lgm_script.specs.declared.request.Request.TheVariants as requests
+use Rattle.lgm_script.specs.declared.route_parameters.RouteParameters.{RouteParameters}
+use Rattle.lgm_script.specs.declared.command.Command.{Command}
+use Rattle.lgm_script.specs.declared.command.Command.TheVariants as requests
 use Rattle.lgm_script.specs.Text.{word_line, commit_line}
 use Rattle.lgm_answers.specs.Answer.{outcome_text, route_text}
 use Rattle.lgm_answers.specs.Routing.{route_answer}
 use Rattle.lgm_answers.specs.Script.{items_of, is_commit}
 use Rattle.lgm_live.specs.declared.report.LiveAnswer.{LiveAnswer}
 use Rattle.lgm_live.specs.declared.report.LiveReport.{LiveReport}
-use Rattle.lgm_live.specs.Agenda.{payments_of}
+use Rattle.lgm_live.specs.ParsedScript.{payments_of}
 
 -- ---- whether two answers are the same
 
@@ -34,7 +34,7 @@ same_answer (Err fault) (Err other) = pointwise nat_eq (route_word fault) (route
 same_answer _ _ = false
 
 -- whether the map of the first operations, as many as the answer's version says, gives the same answer
-abbrev pub replay_word : Option (List ℕ) → List Op → Payment → LiveAnswer → List ℕ
+abbrev pub replay_word : Option (List ℕ) → List Op → RouteParameters → LiveAnswer → List ℕ
 replay_word known ops payment answer =
     if same_answer answer.result (route_answer known (fold (take answer.version ops)) payment)
     then codes "same" else codes "other"
@@ -52,14 +52,14 @@ abbrev pub at_line : ℕ → ℕ → List ℕ → List ℕ
 at_line number version word = word_line number (codes "at " ++ decimal version ++ codes " " ++ word)
 
 -- the answer to a payment: the version of its map, whether the replay gives the same, and the answer itself
-abbrev pub payment_text : Option (List ℕ) → List Op → ℕ → Payment → Option LiveAnswer → List ℕ
+abbrev pub payment_text : Option (List ℕ) → List Op → ℕ → RouteParameters → Option LiveAnswer → List ℕ
 payment_text known ops number payment None = []
 payment_text known ops number payment (Some answer) =
     at_line number answer.version (replay_word known ops payment answer)
     ++ route_text number payment.secret answer.result
 
 -- the text for a request after these, for the line with this number
-abbrev pub live_text_for : ℕ → Option (List ℕ) → LiveReport → ℕ → List Request → Request → List ℕ
+abbrev pub live_text_for : ℕ → Option (List ℕ) → LiveReport → ℕ → List Command → Command → List ℕ
 live_text_for workers known report number before requests.Quiet = []
 live_text_for workers known report number before requests.Bad = word_line number (codes "bad")
 live_text_for workers known report number before (requests.Offer item) =
@@ -73,19 +73,19 @@ live_text_for workers known report number before (requests.Route payment) =
     (answer_at workers report.answers.items (length (payments_of before)))
 
 -- the text for the first k requests
-unfoldable pub live_text_before : ℕ → Option (List ℕ) → LiveReport → List Request → ℕ → List ℕ
+unfoldable pub live_text_before : ℕ → Option (List ℕ) → LiveReport → List Command → ℕ → List ℕ
 live_text_before workers known report asked zero = []
 live_text_before workers known report asked (suc k) =
     live_text_before workers known report asked k
     ++ live_text_for workers known report (k + 1) (take k asked) (slice_index_or asked k requests.Quiet)
 
 -- the text for all requests
-abbrev pub live_text : ℕ → Option (List ℕ) → LiveReport → List Request → List ℕ
+abbrev pub live_text : ℕ → Option (List ℕ) → LiveReport → List Command → List ℕ
 live_text workers known report asked = live_text_before workers known report asked (length asked)
 
 -- each payment has an answer, and the replay gives the same
-abbrev pub AreSame : ℕ → Option (List ℕ) → LiveReport → List Payment → Type 0
+abbrev pub AreSame : ℕ → Option (List ℕ) → LiveReport → List RouteParameters → Type 0
 AreSame workers known report payments =
-    (place : ℕ) (payment : Payment) → slice_get payments place ≡ Some payment
+    (place : ℕ) (payment : RouteParameters) → slice_get payments place ≡ Some payment
     → (answer : LiveAnswer) × (answer_at workers report.answers.items place ≡ Some answer)
     × (replay_word known report.ops.items payment answer ≡ codes "same")

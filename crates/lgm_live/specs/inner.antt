@@ -1,6 +1,6 @@
 -- Definitions for contracts inside the crate.
-pub mod Written
-pub mod Worked
+pub mod WriterResult
+pub mod WorkerResult
 pub mod Gathered
 pub mod Telling
 pub mod Reading

@@ -30,8 +30,8 @@ impl Batch {
     }
 }
 
-/// Batches of items, in the order in which they are offered. There may be none, and a batch may be empty. Contracts see a
-/// list of lists.
+/// Batches of items, in the order in which they are offered. There may be none, and a batch may be empty. Contracts see
+/// a list of lists.
 #[derive(Debug, Drop)]
 pub struct Batches {
     batches: Vec<Batch>,

@@ -5,25 +5,23 @@
 //! does this with the items and payments of a script, and writes the results.
 #![tactic(auto)]
 
-mod admitting;
-mod agenda;
 mod batches;
 mod fault;
-mod growing;
-mod pacing;
-mod reading;
+mod live_batches;
+mod live_script;
+mod ordering_gate;
+mod parsed_script;
+mod read_script;
 mod report;
-mod requests;
-mod running;
-mod slot;
-mod telling;
-mod tying;
-mod working;
-mod writing;
+mod request_lists;
+mod versions;
+mod worker;
+mod write_answers;
+mod writer;
 
 pub use batches::Batches;
 pub use fault::LiveFault;
-pub use growing::live;
+pub use live_batches::live;
+pub use live_script::run_live;
 pub use report::{LiveAnswer, LiveReport};
-pub use requests::RequestLists;
-pub use running::run_live;
+pub use request_lists::RequestLists;

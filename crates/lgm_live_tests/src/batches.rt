@@ -1,5 +1,6 @@
-//! Two channels that come while routes over them are asked for. The expected route was worked out by hand.
+//! Two channels that are announced while routes over them are requested. The expected route was worked out by hand.
 
+use crate::gates::{Holding, InTurns, LIMIT, Passes, Plan};
 use crate::runs::TWO_CHANNELS;
 use lgm_check::Refusal;
 use lgm_gossip::{ChainHash, Point};
@@ -18,9 +19,6 @@ use std::sync::atomic::{AtomicU64, Ordering};
 use std::test::Fail;
 use std::thread;
 use std::thread::Threads;
-
-/// The most turns that anything is held.
-const LIMIT: u64 = 100_000_000;
 
 const CHAIN: ChainHash = ChainHash([0xc1; 32]);
 
@@ -42,7 +40,7 @@ fn items_of(alloc: Global, lines: &[Line]) -> Result<Vec<Item>, Fail> {
     Ok(items)
 }
 
-/// A batch of the two channels, and then so many empty ones.
+/// A batch of the two channels, and then this many empty ones.
 fn batches(alloc: Global, empty: usize) -> Result<Batches, Fail> {
     let mut batches = Batches::new(alloc);
     batches.push(items_of(alloc, &TWO_CHANNELS)?)?;
@@ -52,7 +50,7 @@ fn batches(alloc: Global, empty: usize) -> Result<Batches, Fail> {
     Ok(batches)
 }
 
-/// So many workers, each with the payment from node 0 to node 2 so many times.
+/// This many workers, each with the payment from node 0 to node 2 this many times.
 pub fn lists(alloc: Global, workers: usize, times: usize) -> Result<RequestLists, AllocError> {
     let request = Request {
         payer: node(0),
@@ -71,7 +69,7 @@ pub fn lists(alloc: Global, workers: usize, times: usize) -> Result<RequestLists
     Ok(lists)
 }
 
-/// Node 1 takes 200 and 2,000 millionths of 4,999,999, which are 9,999, and 20 blocks.
+/// Node 1 takes 200 and 2,000 ppm of 4,999,999, which are 9,999, and 20 blocks.
 fn is_the_route(route: &Route) -> bool {
     route.as_slice().len() == 2 && route.sent() == 5_010_198 && route.expiry() == 700_029
 }
@@ -80,89 +78,6 @@ fn is_right(answer: &LiveAnswer) -> bool {
     match &answer.result {
         Ok(route) => answer.version == 4 && is_the_route(route),
         Err(fault) => answer.version == 0 && *fault == RouteFault::NoRoute,
-    }
-}
-
-/// Who waits for whom.
-#[derive(Clone, Copy)]
-enum Plan {
-    /// Each worker waits until the writer passes.
-    Writer,
-    /// Worker 0 waits until another one passes.
-    Other,
-    /// Each worker waits until so many have begun.
-    All(u64),
-    /// The writer waits at its first pass until the only worker begins its second one, which waits until the writer
-    /// begins its second one.
-    Turns,
-}
-
-/// Counts what begins to pass, and holds it up by a plan.
-#[derive(Drop)]
-struct Holding {
-    plan: Plan,
-    workers: usize,
-    writer: AtomicU64,
-    first: AtomicU64,
-    others: AtomicU64,
-    turns: AtomicU64,
-}
-
-impl Holding {
-    fn new(plan: Plan, workers: usize) -> Holding {
-        Holding {
-            plan,
-            workers,
-            writer: AtomicU64::new(0),
-            first: AtomicU64::new(0),
-            others: AtomicU64::new(0),
-            turns: AtomicU64::new(0),
-        }
-    }
-
-    fn passed(&self, piece: usize) -> &AtomicU64 {
-        if piece == self.workers {
-            &self.writer
-        } else if piece == 0 {
-            &self.first
-        } else {
-            &self.others
-        }
-    }
-
-    /// Waits until so many passes were begun, of which these count.
-    fn hold(&self, passes: &AtomicU64, more: &AtomicU64, wanted: u64) {
-        let mut turns = 0;
-        for turn in 0..LIMIT {
-            turns = turn + 1;
-            let begun = passes.load(Ordering::SeqCst);
-            if begun >= wanted || more.load(Ordering::SeqCst) >= wanted.saturating_sub(begun) {
-                break;
-            }
-            thread::yield_now();
-        }
-        self.turns.fetch_add(turns, Ordering::SeqCst);
-    }
-
-    fn ended_by_itself(&self) -> bool {
-        let turns = self.turns.load(Ordering::SeqCst);
-        0 < turns && turns < LIMIT
-    }
-}
-
-impl Gate for Holding {
-    fn pass(&self, piece: usize) {
-        let before = self.passed(piece).fetch_add(1, Ordering::SeqCst);
-        let none = AtomicU64::new(0);
-        let writes = piece == self.workers;
-        match self.plan {
-            Plan::Writer if !writes => self.hold(&self.writer, &none, 1),
-            Plan::Other if piece == 0 => self.hold(&self.others, &none, 1),
-            Plan::All(wanted) if !writes => self.hold(&self.first, &self.others, wanted),
-            Plan::Turns if writes && before == 0 => self.hold(&self.first, &none, 2),
-            Plan::Turns if !writes && before == 1 => self.hold(&self.writer, &none, 2),
-            _ => {}
-        }
     }
 }
 
@@ -181,7 +96,7 @@ pub fn report_of<R: Abort + Threads + Wait + Sync + RandomSource, G: Gate>(
     Ok(live(rt, alloc, &CHAIN, &Known::all(), batches, lists, gate)?)
 }
 
-/// What is reported of the two channels and empty batches behind them.
+/// What is reported of the two channels and empty batches after them.
 fn run<R: Abort + Threads + Wait + Sync + RandomSource, G: Gate>(
     rt: &R,
     alloc: Global,
@@ -194,7 +109,7 @@ fn run<R: Abort + Threads + Wait + Sync + RandomSource, G: Gate>(
     report_of(rt, alloc, &batches, &lists, gate)
 }
 
-/// The two channels were accepted, and each worker gave so many right answers.
+/// The two channels were accepted, and each worker gave this many right answers.
 fn assert_right(rt: &impl Abort, report: &LiveReport, workers: usize, times: usize) {
     assert_eq!(rt; report.outcomes.as_slice(), [None; 4].as_slice());
     assert_eq!(rt; report.ops.len(), 4);
@@ -216,7 +131,7 @@ fn versions(alloc: Global, report: &LiveReport) -> Result<Vec<u64>, AllocError> 
     Ok(versions)
 }
 
-/// Two workers, of whom this plan holds one or both, answer right in the end.
+/// Two workers, one or both of which this plan delays, answer right in the end.
 fn assert_two_held<R: Abort + Threads + Wait + Sync + RandomSource>(
     rt: &R,
     alloc: Global,
@@ -263,34 +178,6 @@ fn all_workers_at_once(rt: HostRuntime) -> Result<(), Fail> {
     Ok(())
 }
 
-/// Counts how often the gate was passed with each number below eight, and what it is told of publications.
-#[derive(Drop)]
-struct Passes {
-    /// Eight bits for each number.
-    counts: AtomicU64,
-    /// Eight bits for each number of batches, the last one first.
-    published: AtomicU64,
-    ended: AtomicU64,
-}
-
-impl Gate for Passes {
-    fn pass(&self, piece: usize) {
-        if piece < 8 {
-            self.counts.fetch_add(1 << (8 * piece), Ordering::SeqCst);
-        }
-    }
-
-    fn published(&self, batches: usize) {
-        if batches == usize::MAX {
-            self.ended.fetch_add(1, Ordering::SeqCst);
-        } else {
-            let before = self.published.load(Ordering::SeqCst);
-            let all = (before << 8) | batches as u64;
-            self.published.store(all, Ordering::SeqCst);
-        }
-    }
-}
-
 // Five workers of two payments each, and the writer with three batches.
 #[test]
 fn numbers_at_the_gate(rt: HostRuntime) -> Result<(), Fail> {
@@ -305,47 +192,6 @@ fn numbers_at_the_gate(rt: HostRuntime) -> Result<(), Fail> {
     assert_eq!(rt; gate.published.load(Ordering::SeqCst), 0x0001_0203);
     assert_eq!(rt; gate.ended.load(Ordering::SeqCst), 1);
     Ok(())
-}
-
-/// Lets one worker and the writer go in turns: each payment comes behind one more publication.
-#[derive(Drop)]
-struct InTurns {
-    begun: AtomicU64,
-    passed: AtomicU64,
-    published: AtomicU64,
-    turns: AtomicU64,
-}
-
-impl InTurns {
-    fn hold(&self, count: &AtomicU64, wanted: u64) {
-        let mut turns = 0;
-        for turn in 0..LIMIT {
-            turns = turn + 1;
-            if count.load(Ordering::SeqCst) >= wanted {
-                break;
-            }
-            thread::yield_now();
-        }
-        self.turns.fetch_max(turns, Ordering::SeqCst);
-    }
-}
-
-impl Gate for InTurns {
-    fn pass(&self, piece: usize) {
-        if piece == 0 {
-            let before = self.begun.fetch_add(1, Ordering::SeqCst);
-            self.hold(&self.published, before.saturating_add(1));
-        } else {
-            let before = self.passed.fetch_add(1, Ordering::SeqCst);
-            if before > 0 {
-                self.hold(&self.begun, before.saturating_add(1));
-            }
-        }
-    }
-
-    fn published(&self, _batches: usize) {
-        self.published.fetch_add(1, Ordering::SeqCst);
-    }
 }
 
 // Each of the four items is a batch. The route is there with the last of them.
@@ -382,7 +228,7 @@ fn four_payments_over_four_versions(rt: HostRuntime) -> Result<(), Fail> {
 }
 
 #[test]
-fn nothing_is_held(rt: HostRuntime) -> Result<(), Fail> {
+fn nothing_is_stored(rt: HostRuntime) -> Result<(), Fail> {
     let report = run(&rt, rt.alloc(), 0, 3, 1, &Open)?;
     assert_right(&rt, &report, 3, 1);
     Ok(())
@@ -400,7 +246,7 @@ fn a_worker_may_have_no_payment(rt: HostRuntime) -> Result<(), Fail> {
 #[test]
 fn refusals_are_reported(rt: HostRuntime) -> Result<(), Fail> {
     let alloc: Global = rt.alloc();
-    let channel = Line::Channel(600_000, 0, 1, 100_000, "0000");
+    let channel = Line::Channel(600_000, 0, 1, 100_000, &[]);
     let close = Line::Close(600_000);
     let mut batches = Batches::new(alloc);
     batches.push(items_of(alloc, &[close, channel])?)?;

@@ -1,4 +1,4 @@
-//! Devices that fail, and limits, in whole scripts whose payments are answered beside.
+//! Devices that fail, and limits, in whole scripts whose payments are answered beside a writer.
 
 use crate::runs::{self, run_by};
 use lgm_par::Open;
@@ -40,7 +40,7 @@ const TEXT: &str = "1 accepted\n\
     8 bad\n\
     10 not-live\n";
 
-/// How the script ends where a read and a write fail, each by its number, and what is written then.
+/// How the script ends if a read and a write fail, each by its number, and what is written then.
 fn ended<Rt: Threads + Wait + Sync + RandomSource>(
     rt: &Rt,
     alloc: Global,
@@ -111,14 +111,14 @@ fn a_line_that_is_too_long(rt: HostRuntime) -> Result<(), Fail> {
     Ok(())
 }
 
-/// So many empty lines.
+/// This many empty lines.
 fn empty_lines(alloc: Global, count: usize) -> Result<Vec<u8>, AllocError> {
     let mut script = Vec::new(alloc);
     script.resize(count, b'\n')?;
     Ok(script)
 }
 
-// One line more than there may be.
+// One more line than the limit.
 #[test]
 fn lines_beyond_the_limit(rt: HostRuntime) -> Result<(), Fail> {
     let script = empty_lines(rt.alloc(), 10_000_001)?;
@@ -128,7 +128,7 @@ fn lines_beyond_the_limit(rt: HostRuntime) -> Result<(), Fail> {
     Ok(())
 }
 
-// Line 2 is too long, and there are too many lines behind it.
+// Line 2 is too long, and there are too many lines after it.
 #[test]
 fn a_long_line_before_the_limit(rt: HostRuntime) -> Result<(), Fail> {
     let mut script = empty_lines(rt.alloc(), 1)?;

@@ -1,4 +1,4 @@
-//! How much memory runs take, as Linux counts it.
+//! The memory of runs, as Linux counts it.
 
 use crate::batches::{lists, report_of};
 use lgm_graph::Known;
@@ -23,9 +23,10 @@ fn most_memory<R: Files + AllocGlobal>(rt: &R) -> Result<u64, Fail> {
     Err(Fail::from("no figure"))
 }
 
-/// The line that announces a channel between the nodes 0 and 1 by a message of 65,535 bytes, the most that one may have.
+/// The line that announces a channel between the nodes 0 and 1 by a message of 65,535 bytes, the most that one may
+/// have.
 fn long_channel(alloc: Global, block: u32) -> Result<String, Fail> {
-    let line = Line::Channel(block, 0, 1, 100_000, "0000").text(alloc)?;
+    let line = Line::Channel(block, 0, 1, 100_000, &[]).text(alloc)?;
     let (message, _) = line.split_once(" all ").ok_or("no message")?;
     let zeros = String::from_utf8(vec![in alloc; b'0'; 131_072usize.saturating_sub(
         message.len()
@@ -33,7 +34,7 @@ fn long_channel(alloc: Global, block: u32) -> Result<String, Fail> {
     Ok(format!(in alloc; "{message}{zeros} all 100000\n")?)
 }
 
-/// A sink that keeps nothing of what it takes.
+/// A sink that stores nothing of what it accepts.
 #[derive(Drop)]
 struct Counter {
     taken: u64,
@@ -50,7 +51,7 @@ impl Sink for Counter {
     }
 }
 
-/// A query that names the channel 7x0x0 2,000 times, behind its announcement.
+/// A query that names the channel 7x0x0 2,000 times, after its announcement.
 fn repeated_query(alloc: Global) -> Result<String, Fail> {
     let mut script = long_channel(alloc, 7)?;
     script.push_str(format!(in alloc; "commit\nq 0105{CHAIN}3e8100")?.as_str())?;
@@ -60,8 +61,8 @@ fn repeated_query(alloc: Global) -> Result<String, Fail> {
     Ok(script)
 }
 
-/// The reply has 131,070,000 bytes of announcements, twice as many digits, and 95 bytes in the other lines. If it copied
-/// them from the map, it would take 128,000 KiB.
+/// The reply has 131,070,000 bytes of announcements, twice as many digits, and 95 bytes in the other lines. If it
+/// copied them from the map, it would take 128,000 KiB.
 #[test]
 fn replies_borrow_from_the_map(rt: HostRuntime) -> Result<(), Fail> {
     let alloc = rt.alloc();
@@ -84,7 +85,7 @@ fn replies_borrow_from_the_map(rt: HostRuntime) -> Result<(), Fail> {
     Ok(())
 }
 
-/// Twenty channels are published 400 times. If a board left them behind, that would be 512,000 KiB. Where `rt try` runs
+/// Twenty channels are published 400 times. If a board leaked them, that would be 512,000 KiB. If `rt try` runs
 /// the test, freed memory is kept for a while, so that it takes up to 300,000.
 #[test]
 fn an_ended_board_keeps_nothing(rt: HostRuntime) -> Result<(), Fail> {

@@ -1,5 +1,5 @@
-//! Whole scripts through `run_live`: payments that are answered while items are admitted. The expected routes were worked
-//! out by hand.
+//! Whole scripts through `run_live`: payments that are answered while items are admitted. The expected routes were
+//! worked out by hand.
 
 use crate::runs::{TWO_CHANNELS, ended};
 use lgm_par::{Gate, Open};
@@ -15,7 +15,7 @@ use std::test::Fail;
 use std::thread;
 use std::thread::Threads;
 
-/// The most turns that a worker is held.
+/// The maximum number of turns that a worker waits.
 const LIMIT: u64 = 100_000_000;
 
 /// What is asked of the two channels, and an update that isn't newer.
@@ -54,7 +54,7 @@ fn text(alloc: Global) -> Result<String, Fail> {
     )?)
 }
 
-/// Holds each worker until the writer has begun so many publications.
+/// Delays each worker until the writer has begun this many publications.
 #[derive(Drop)]
 struct Behind {
     workers: usize,
@@ -112,7 +112,7 @@ fn all_is_told_in_its_place(rt: HostRuntime) -> Result<(), Fail> {
     Ok(())
 }
 
-/// Whether a payment over the two channels may be told this.
+/// Whether this may be the answer to a payment over the two channels.
 fn is_lawful(told: &str) -> bool {
     told == "2 at 0 same\n2 no-route\n"
         || told
@@ -152,7 +152,7 @@ fn an_empty_script_has_one_batch(rt: HostRuntime) -> Result<(), Fail> {
     Ok(())
 }
 
-/// To be run with each allocation refused in turn. The writer fails where it is refused memory itself.
+/// To be run with each allocation refused in turn. The writer fails if memory is refused to it.
 #[test]
 fn refused_memory(rt: HostRuntime) -> Result<(), Fail> {
     let alloc = rt.alloc();
@@ -169,8 +169,8 @@ fn refused_memory(rt: HostRuntime) -> Result<(), Fail> {
     Ok(())
 }
 
-/// A payment before all items, one behind the first commit, and one behind the second: the later ones are answered on
-/// what was committed above them.
+/// A payment before all items, one after the first commit, and one after the second: the later ones are answered on
+/// what was committed before them.
 #[test]
 fn a_payment_waits_for_what_is_above_it(rt: HostRuntime) -> Result<(), Fail> {
     let alloc = rt.alloc();
@@ -199,7 +199,7 @@ fn a_payment_waits_for_what_is_above_it(rt: HostRuntime) -> Result<(), Fail> {
     Ok(())
 }
 
-/// Holds the writer's second publication until the only worker has begun its second payment.
+/// Delays the writer's second publication until the only worker has begun its second payment.
 #[derive(Drop)]
 struct Between {
     begun: AtomicU64,
@@ -228,7 +228,7 @@ impl Gate for Between {
     }
 }
 
-/// A payment behind the first commit is answered while the writer is held before its second publication: the worker's
+/// A payment after the first commit is answered while the writer waits before its second publication: the worker's
 /// second payment begins only then.
 #[test]
 fn a_payment_is_answered_beside_the_writer(rt: HostRuntime) -> Result<(), Fail> {

@@ -12,10 +12,10 @@ use std::random::RandomSource;
 use std::sync::Wait;
 use std::thread::Threads;
 
-/// Two channels from node 0 over node 1 to node 2, and what their first nodes ask for.
+/// Two channels from node 0 over node 1 to node 2, and the terms of their first nodes.
 pub const TWO_CHANNELS: [Line; 4] = [
-    Line::Channel(600_000, 0, 1, 100_000, "0000"),
-    Line::Channel(600_001, 1, 2, 100_000, "0000"),
+    Line::Channel(600_000, 0, 1, 100_000, &[]),
+    Line::Channel(600_001, 1, 2, 100_000, &[]),
     Line::Update(600_000, 0, 1, 1, Terms { delta: 10, ..FREE }),
     Line::Update(
         600_001,
@@ -45,7 +45,7 @@ pub fn run_by<Rt: Threads + Wait + Sync + RandomSource, R: Source, W: Sink, G: G
     run_live(rt, alloc, reader, writer, &chain, &known, workers, gate)
 }
 
-/// How the script ends, which is read in pieces of so many bytes, and the sink with what is written then.
+/// How the script ends, which is read in pieces of this many bytes, and the sink with what is written then.
 pub fn ended<Rt: Threads + Wait + Sync + RandomSource, G: Gate>(
     rt: &Rt,
     alloc: Global,

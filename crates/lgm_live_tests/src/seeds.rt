@@ -12,7 +12,7 @@ use std::sync::atomic::{AtomicU64, Ordering};
 use std::test::Fail;
 use std::thread::Threads;
 
-/// A runtime that counts the random bytes that it is asked for.
+/// A runtime that counts the random bytes that are requested.
 #[derive(Drop)]
 struct Asked<'a, R> {
     rt: &'a R,
@@ -30,7 +30,7 @@ impl<R: RandomSource> RandomSource for Asked<'_, R> {
     }
 }
 
-/// A runtime that wasn't asked yet.
+/// A runtime that wasn't used yet.
 fn unasked<R>(rt: &R) -> Asked<'_, R> {
     Asked {
         rt,

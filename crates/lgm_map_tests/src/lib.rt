@@ -1,4 +1,4 @@
-//! Tests of the map: beside a plain program, and histories.
+//! Tests of the map: comparisons with a plain program, and histories.
 #![tactic(auto)]
 
 #[cfg(test)]

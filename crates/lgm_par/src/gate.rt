@@ -2,8 +2,8 @@
 
 use std::marker::Sync;
 
-/// Each chunk of work passes the gate once before it starts; a test can thus hold one chunk until another has started.
-/// The publisher notifies the gate, so that a chunk can be held until something is published. No result depends on it.
+/// Each chunk of work passes the gate once before it starts; a test can thus delay one chunk until another has started.
+/// The publisher notifies the gate, so that a chunk can wait until something is published. No result depends on it.
 pub trait Gate: Sync {
     /// Called before chunk `piece`, counted from 0, starts, on the thread that runs it. It may wait.
     fn pass(&self, piece: usize);
@@ -13,7 +13,7 @@ pub trait Gate: Sync {
     fn published(&self, _batches: usize) {}
 }
 
-/// The gate that holds nothing.
+/// The gate that delays nothing.
 #[derive(Clone, Copy, Debug)]
 pub struct Open;
 

@@ -3,10 +3,10 @@
 #![tactic(auto)]
 
 mod gate;
-mod mapping;
+mod map;
 mod pieces;
 mod pool;
 
 pub use gate::{Gate, Open};
-pub use mapping::map_chunks;
+pub use map::map_chunks;
 pub use pool::{MAX_WORKERS, Pool};

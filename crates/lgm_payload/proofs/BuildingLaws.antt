@@ -1,4 +1,4 @@
--- The payloads of a route: all but the last are told by the hop behind.
+-- The payloads of a route: all but the last depend on the next hop.
 use Rattle.std.proofs.Common.{◌≡◌, ℕ, suc, ◌+◌, ◌-◌, ◌<◌, ◌≤◌, List, [], ◌∷◌, ◌++◌, length, get_or, take, drop, map, refl, sym, ap, ◌∙◌, arith}
 use Rattle.std.proofs.lemmas.List.{take_more, take_all, map-append, length-drop}
 use Rattle.lgm_route.specs.declared.route.Hop.{Hop}

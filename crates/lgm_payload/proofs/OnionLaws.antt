@@ -112,7 +112,7 @@ pub onion_fits : (secret : List ℕ) (hops : List Hop) → length secret ≡ 32 
     → onion_len (payloads_of secret hops) ≤ 1300
 onion_fits secret hops len some few = let most = onion_most secret hops len some in omega arith
 
--- ---- what was built spells what it was built from
+-- ---- what was built encodes what it was built from
 
 forward_spelled : (next : Hop) → IsSized next → IsPayload (forward next) (payload_bytes (forward next))
 forward_spelled next sized =

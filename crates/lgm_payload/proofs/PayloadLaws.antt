@@ -1,4 +1,4 @@
--- The laws of payloads: what is read is spelled so, and what is spelled so is read.
+-- The laws of payloads: reading returns a value if and only if the bytes encode it.
 use Rattle.std.proofs.Common.{◌≡◌, ◌⊎◌, ℕ, ◌-◌, ◌%◌, ◌^◌, ◌<◌, ◌≤◌, true, false, cond, eqb, List, [], ◌∷◌, length, get_or}
 use Rattle.std.proofs.Common.{take, drop, Option, Some, None, Result, Ok, Err, refl, sym, ap, subst, ◌∙◌, arith, inl, inr}
 use Rattle.std.specs.Prelude.{IfOk, MatchResult, ◌&&◌}
@@ -23,7 +23,7 @@ use Rattle.lgm_payload.specs.declared.fault.PayloadFault.{PayloadFault}
 use Rattle.lgm_payload.specs.declared.fault.PayloadFault.TheVariants.{Length, Extra, NoMemory}
 use Rattle.lgm_payload.specs.declared.hop_payload.HopPayload.{HopPayload}
 use Rattle.lgm_payload.specs.declared.hop_payload.Payment.{Payment}
-use Rattle.lgm_payload.specs.declared.reading.Known.{Known}
+use Rattle.lgm_payload.specs.declared.reader.FoundValues.{FoundValues}
 use Rattle.lgm_payload.specs.HopPayload.{value_of, payment_bytes, IsKnown, IsOneWay, IsPayload}
 use Rattle.lgm_payload.specs.reading.Reading.{unless, behind_len, or_tlv, number_fault, payment_of}
 use Rattle.lgm_payload.specs.reading.Reading.{record_fault, first_fault, known_in, known_at}
@@ -31,9 +31,9 @@ use Rattle.lgm_payload.specs.reading.Reading.{whole_of, whole, payload_at, fault
 use Rattle.lgm_payload.proofs.Values.{number_lawful, number_spelled, number_again, scid_lawful, payment_lawful, payment_spelled, payment_again}
 use Rattle.lgm_payload.proofs.Records.{lawful_value, each_value, kinds_of, odd_skipped, AreTold, fault_at}
 
--- ---- what is read is spelled so
+-- ---- bytes that are read encode the value
 
-record IsWhole (known : Known) (payload : HopPayload) : Type 0 where
+record IsWhole (known : FoundValues) (payload : HopPayload) : Type 0 where
   amount : known.amount ≡ Some payload.amount
   expiry : known.expiry ≡ Some payload.expiry
   next : known.next ≡ payload.next
@@ -47,7 +47,7 @@ one_of None payment p out e = (inl refl, ok_is p out e)
 one_of (Some scid) None p out e = (inr refl, ok_is p out e)
 one_of (Some scid) (Some payment) p out e = absurd cc
 
-whole_is : (known : Known) (payload : HopPayload) → whole known ≡ Ok payload → IsWhole known payload
+whole_is : (known : FoundValues) (payload : HopPayload) → whole known ≡ Ok payload → IsWhole known payload
 whole_is known payload e = by known.amount known.expiry refl refl e
   where
     made : ℕ → ℕ → HopPayload
@@ -61,7 +61,7 @@ whole_is known payload e = by known.amount known.expiry refl refl e
         let t = one_of known.next known.payment (made a x) payload given in
         subst (IsWhole known) t.1 (record { amount = a-is; expiry = x-is; next = refl; payment = refl; metadata = refl; one_way = t.0 })
 
-known_ok : (records : List TlvRecord) (known : Known) → known_at records ≡ Ok known → (first_fault records ≡ None) × (known_in records ≡ known)
+known_ok : (records : List TlvRecord) (known : FoundValues) → known_at records ≡ Ok known → (first_fault records ≡ None) × (known_in records ≡ known)
 known_ok records known e = by (first_fault records) refl e
   where
     by : (f : Option PayloadFault) → first_fault records ≡ f → unless f (known_in records) ≡ Ok known
@@ -84,13 +84,13 @@ stream_ok : (r : Result (List TlvRecord) WireFault) (l : List TlvRecord) → or_
 stream_ok (Ok x) l e = ap (λ (y : List TlvRecord). Ok y) (ok_is x l e)
 stream_ok (Err f) l e = absurd cc
 
--- the value of an option, by a function that spells it
+-- the value of an option, by a function that encodes it
 mapped : {A : Type 0} (spell : A → List ℕ) (of : List ℕ → A) (o : Option (List ℕ)) (x : Option A)
     → option_map of o ≡ x → ((v : List ℕ) → o ≡ Some v → v ≡ spell (of v)) → o ≡ option_map spell x
 mapped spell of None x e each = ap (option_map spell) e
 mapped spell of (Some v) x e each = ap (λ (w : List ℕ). Some w) (each v refl) ∙ ap (option_map spell) e
 
--- and what holds of it
+-- and a fact about it
 for_mapped : {A : Type 0} (P : A → Type 0) (of : List ℕ → A) (o : Option (List ℕ)) (x : Option A)
     → option_map of o ≡ x → ((v : List ℕ) → o ≡ Some v → P (of v)) → ForSome x P
 for_mapped P of None x e each = λ y is. absurd cc
@@ -158,9 +158,9 @@ payload_takes bytes payload fits e =
       one_way = is.one_way;
     }
 
--- ---- what is spelled so is read
+-- ---- an encoding is read as its value
 
--- an option's value, by what it spells
+-- an option's value, by what it encodes
 spelled_by : {A : Type 0} (spell : A → List ℕ) (x : Option A) (v : List ℕ) → option_map spell x ≡ Some v
     → (y : A) × (v ≡ spell y) × (x ≡ Some y)
 spelled_by spell None v e = absurd cc
@@ -192,7 +192,7 @@ module _ (payload : HopPayload) (bytes : List ℕ) (is : IsPayload payload bytes
   records_lawful [] kinds values = refl
   records_lawful (r ∷ rs) kinds values = rw (record_lawful r kinds.0 values.0) (records_lawful rs kinds.1 values.1)
 
--- what was spelled is found again
+-- what was encoded is found again
 again : {A : Type 0} (spell : A → List ℕ) (of : List ℕ → A) (x : Option A) → ((y : A) → x ≡ Some y → of (spell y) ≡ y)
     → option_map of (option_map spell x) ≡ x
 again spell of None each = refl
@@ -226,7 +226,7 @@ payload_again bytes payload is =
     let payment : option_map payment_of (value_of 8 is.records) ≡ payload.payment =
     ap (option_map payment_of) is.payment
     ∙ again _ _ payload.payment (λ p there. payment_again p (is.fits.secret p there) (is.fits.total p there)) in
-    let values : Known = record {
+    let values : FoundValues = record {
       amount = Some payload.amount;
       expiry = Some payload.expiry;
       next = payload.next;
@@ -287,9 +287,9 @@ text_none bytes result e fits failed reads =
     let f = big_not_found bytes result e fits failed reads in
     ap behind_len f.1
 
--- ---- a record at fault ends a loop
+-- ---- a faulty record ends a loop
 
-pub told_fails : (tlvs : List Tlv) (i : ℕ) (d : Tlv) (known : Known) (fault : PayloadFault) → i < length tlvs
+pub told_fails : (tlvs : List Tlv) (i : ℕ) (d : Tlv) (known : FoundValues) (fault : PayloadFault) → i < length tlvs
     → AreTold (records_of (take i tlvs)) known
     → (fault ≡ NoMemory) ⊎ (record_fault (record_of (get_or tlvs i d)) ≡ Some fault) → (fault ≡ NoMemory) ⊎ (known_at (records_of tlvs) ≡ Err fault)
 told_fails tlvs i d known fault lt told (inl none) = inl none

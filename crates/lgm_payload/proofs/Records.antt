@@ -13,7 +13,7 @@ use Rattle.lgm_wire.specs.Tlv.{TlvRecord, RisesFrom}
 use Rattle.lgm_wire.specs.TlvView.{record_of, records_of}
 use Rattle.lgm_gossip.proofs.WireLaws.{chosen, IsBytes}
 use Rattle.lgm_payload.specs.declared.fault.PayloadFault.{PayloadFault}
-use Rattle.lgm_payload.specs.declared.reading.Known.{Known}
+use Rattle.lgm_payload.specs.declared.reader.FoundValues.{FoundValues}
 use Rattle.lgm_payload.specs.HopPayload.{value_of, value_before, IsKnown}
 use Rattle.lgm_payload.specs.reading.Reading.{record_fault, or_later, first_fault, payment_of, with_record, known_in}
 
@@ -52,7 +52,7 @@ pub both_none : (a b : Option PayloadFault) → or_later a b ≡ None → (a ≡
 both_none None b e = (refl, e)
 both_none (Some fault) b e = absurd cc
 
--- what has no fault in front of a record
+-- no fault before a record
 pub first_fault-none : (xs ys : List TlvRecord) → first_fault xs ≡ None → first_fault (xs ++ ys) ≡ first_fault ys
 first_fault-none [] ys none = refl
 first_fault-none (x ∷ xs) ys none =
@@ -77,7 +77,7 @@ odd_skipped kind value odd = grind (arith, nat_tests)
 
 -- ---- a loop over the records
 
-pub record AreTold (records : List TlvRecord) (known : Known) : Type 0 where
+pub record AreTold (records : List TlvRecord) (known : FoundValues) : Type 0 where
   pub faultless : first_fault records ≡ None
   pub is : known ≡ known_in records
 
@@ -86,7 +86,7 @@ records_more : (tlvs : List Tlv) (i : ℕ) (d : Tlv) → i < length tlvs
     → records_of (take (i + 1) tlvs) ≡ records_of (take i tlvs) ++ record_of (get_or tlvs i d) ∷ []
 records_more tlvs i d lt = ap records_of (take_more tlvs i d lt) ∙ map-append record_of (take i tlvs) (get_or tlvs i d ∷ [])
 
-pub told_more : (tlvs : List Tlv) (i : ℕ) (d : Tlv) (known after : Known) → i < length tlvs → AreTold (records_of (take i tlvs)) known
+pub told_more : (tlvs : List Tlv) (i : ℕ) (d : Tlv) (known after : FoundValues) → i < length tlvs → AreTold (records_of (take i tlvs)) known
     → record_fault (record_of (get_or tlvs i d)) ≡ None
     → after ≡ with_record known (record_of (get_or tlvs i d)) → AreTold (records_of (take (i + 1) tlvs)) after
 told_more tlvs i d known after lt told none is =
@@ -97,7 +97,7 @@ told_more tlvs i d known after lt told none is =
       is = is ∙ ap (λ k. with_record k r) told.is ∙ sym (known_in-push xs r);
     })
 
-pub fault_at : (tlvs : List Tlv) (i : ℕ) (d : Tlv) (known : Known) (fault : PayloadFault) → i < length tlvs → AreTold (records_of (take i tlvs)) known
+pub fault_at : (tlvs : List Tlv) (i : ℕ) (d : Tlv) (known : FoundValues) (fault : PayloadFault) → i < length tlvs → AreTold (records_of (take i tlvs)) known
     → record_fault (record_of (get_or tlvs i d)) ≡ Some fault → first_fault (records_of tlvs) ≡ Some fault
 fault_at tlvs i d known fault lt told is =
     let r : TlvRecord = record_of (get_or tlvs i d) in
@@ -142,7 +142,7 @@ lawful_value kind (r ∷ rs) v none fits is =
     let both = both_none (record_fault r) (first_fault rs) none in
     lawful_one kind r v (value_of kind rs) both.0 fits.0 (λ there. lawful_value kind rs v both.1 fits.1 there) is
 
--- behind a type there is no record of that type or a lesser one
+-- after a type there is no record of that type or a lesser one
 absent : (kind last : ℕ) (rs : List TlvRecord) → RisesFrom (Some last) rs → kind ≤ last → value_of kind rs ≡ None
 absent kind last [] rises le = refl
 absent kind last (r ∷ rs) rises le =

@@ -34,7 +34,7 @@ digits_each (b ∷ bs) fits = (fits 0, digits_each bs (IsBytes-rest b bs fits))
 are_digits : (bytes : List ℕ) → IsBytes bytes → All (λ digit. digit < 256) bytes
 are_digits bytes fits = All-from_recursion (λ digit. digit < 256) bytes (digits_each bytes fits)
 
--- a number without fault is spelled by its value
+-- a number without fault is the encoding of its value
 pub record IsNumber (most : ℕ) (value : List ℕ) : Type 0 where
   pub spells : value ≡ truncated_bytes (number_of value)
   pub below : number_of value < 256 ^ most
@@ -56,7 +56,7 @@ number_lawful kind most value few none fits =
       below = omega arith;
     }
 
--- and a number's spelling has no fault
+-- and a number's encoding has no fault
 pub number_spelled : (kind most n : ℕ) → n < 256 ^ most → most ≤ 8 → number_fault kind most (truncated_bytes n) ≡ None
 number_spelled kind most n lt few =
     let wide : 256 ^ most ≤ 256 ^ 8 = pow-le-pow_right {n = 256} (omega arith) {i = most} {j = 8} few in

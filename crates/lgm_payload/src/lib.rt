@@ -4,15 +4,15 @@
 //! fault. Contracts say which bytes encode which payload.
 #![tactic(auto)]
 
-mod building;
+mod builder;
 mod fault;
 mod hop_payload;
 mod payloads;
-mod reading;
-mod writing;
+mod reader;
+mod writer;
 
-pub use building::{build, built_is_read};
+pub use builder::{build, built_is_read};
 pub use fault::PayloadFault;
 pub use hop_payload::{HopPayload, Payment};
 pub use payloads::Payloads;
-pub use reading::{one_payload, read};
+pub use reader::{one_payload, read};

@@ -1,4 +1,4 @@
--- Each kind of step keeps the rule of a board.
+-- Each kind of step preserves the rule of a board.
 use Rattle.std.proofs.Common.{◌≡◌, Result, Ok, Err, ℕ, ◌+◌, ◌≤◌, ◌==◌, ◌≢◌, false, fold, length, length-append, append_assoc}
 use Rattle.std.proofs.Common.{arith, Option, Some, None, List, [], ◌∷◌, ◌++◌, set, refl, sym, ap, ◌∙◌, subst, ⊎_elim, inl, inr}
 use Rattle.std.proofs.lemmas.List.{append-nil}
@@ -12,12 +12,12 @@ use Rattle.lgm_store.specs.declared.op.Op.{Op}
 use Rattle.lgm_store.specs.Rows.{Rows, empty}
 use Rattle.lgm_store.specs.History.{fold_from}
 use Rattle.lgm_store.specs.History as store
-use Rattle.lgm_publish.specs.declared.edition.TheConstants.{MAX_OPERATIONS}
-use Rattle.lgm_publish.specs.declared.edition.Entry.{Entry}
-use Rattle.lgm_publish.specs.declared.edition.Entry.TheVariants.{Absorb, Reach}
+use Rattle.lgm_publish.specs.declared.snapshot.TheConstants.{MAX_OPERATIONS}
+use Rattle.lgm_publish.specs.declared.snapshot.LogEntry.{LogEntry}
+use Rattle.lgm_publish.specs.declared.snapshot.LogEntry.TheVariants.{Absorb, Reached}
 use Rattle.lgm_publish.specs.Handles.{History, history}
 use Rattle.lgm_publish.specs.inner.Contents.{Contents}
-use Rattle.lgm_publish.specs.inner.Editions.{after_op, after_entry}
+use Rattle.lgm_publish.specs.inner.Snapshots.{after_op, after_entry}
 use Rattle.lgm_publish.specs.inner.Shown.{ops_of, reached, whole, IsComplete, Publishes, IsFold, GoesOn, Follows, Holds, Sees}
 use Rattle.lgm_publish.proofs.Beginnings.{prefix_self, prefix_trans}
 
@@ -26,7 +26,7 @@ use Rattle.lgm_publish.proofs.Beginnings.{prefix_self, prefix_trans}
 abbrev Last : Type 0
 Last = Option Contents
 
--- the edition follows what the thread saw last
+-- the snapshot follows what the thread saw last
 abbrev Fits : Contents → Last → Type 0
 Fits shown last = (first : Contents) → last ≡ Some first → Follows first shown
 
@@ -64,14 +64,14 @@ fits_at shown views seat v h at first e = h seat first (at ∙ ap some e)
 pub admits : Admits Holds None
 admits x views h = (h.0, one_more x views None h.1 (fits_none x))
 
--- an empty edition, seen by nobody
+-- an empty snapshot, seen by nobody
 pub opens : (x : Contents) → x.rows ≡ empty → x.absorbed ≡ 0 → x.told.ops ≡ [] → Holds x (None ∷ [])
 opens x rows none ops = (
   (rows ∙ sym (ap store.fold ops), none ∙ sym (ap length ops)),
   one_more x [] None (λ seat first at. absurd (some-ne-none (Some first) (sym at))) (fits_none x),
 )
 
--- a step that shows y in place of x, or takes it where they are the same
+-- a step that shows y in place of x, or takes it if they are the same
 pub sees : (seat : ℕ) (v : Last) (x y : Contents) → (IsFold x → IsFold y) → (IsFold x → Follows x y)
     → TurnsAt Holds seat v x y (λ v _ y w. Sees v y w)
 sees seat v x y folds follows views h at =
@@ -87,7 +87,7 @@ forks seat v x views h at =
     let mine = fits_at x views seat v h.1 at in
     (h.0, one_more x (set views seat v) v (refits x views seat v h.1 mine) mine)
 
--- another thread takes it in
+-- another thread takes it over
 pub merges : (seat : ℕ) (v : Last) (other : ℕ) (w : Last) → Merges Holds seat v other w w None
 merges seat v other w x views h at apart there =
     let theirs =
@@ -96,7 +96,7 @@ merges seat v other w x views h at apart there =
     (at_set views seat other w w there) in
     (h.0, refits x (set views seat w) other None (refits x views seat w h.1 theirs) (fits_none x))
 
--- ---- what entries make of an edition
+-- ---- a snapshot after entries
 
 -- an operation leaves the list alone
 op_told : (c : Contents) (op : Op) → (after_op c op).told ≡ c.told
@@ -106,44 +106,44 @@ op_told c op = elim (cases_Bool (c.absorbed == MAX_OPERATIONS)) [ inl is ↦ rw 
 op_known : (c : Contents) (op : Op) → (after_op c op).known ≡ c.known
 op_known c op = elim (cases_Bool (c.absorbed == MAX_OPERATIONS)) [ inl is ↦ rw is refl | inr is ↦ rw is refl ]
 
--- below the limit it is done
+-- below the limit it is applied
 op_done : (c : Contents) (op : Op) → c.absorbed + 1 ≤ MAX_OPERATIONS
     → after_op c op ≡ record c { rows = store.absorbed c.rows op; absorbed = c.absorbed + 1 }
 op_done c op below =
     let other : (c.absorbed == MAX_OPERATIONS) ≡ false = grind (arith, nat_tests) in
     rw other refl
 
--- the list that an edition comes to
-pub told_after : (c : Contents) (es : List Entry) → (fold after_entry c es).told ≡ reached c.told es
+-- the list that a snapshot reaches
+pub told_after : (c : Contents) (es : List LogEntry) → (fold after_entry c es).told ≡ reached c.told es
 told_after c [] = refl
 told_after c (Absorb op ∷ es) = told_after (after_op c op) es ∙ ap (λ told. reached told es) (op_told c op)
-told_after c (Reach told ∷ es) = told_after (record c { told = told }) es
+told_after c (Reached told ∷ es) = told_after (record c { told = told }) es
 
 -- the known features stay
-pub known_after : (c : Contents) (es : List Entry) → (fold after_entry c es).known ≡ c.known
+pub known_after : (c : Contents) (es : List LogEntry) → (fold after_entry c es).known ≡ c.known
 known_after c [] = refl
 known_after c (Absorb op ∷ es) = known_after (after_op c op) es ∙ op_known c op
-known_after c (Reach told ∷ es) = known_after (record c { told = told }) es
+known_after c (Reached told ∷ es) = known_after (record c { told = told }) es
 
--- what was absorbed, where it is no more than the limit
-abbrev Absorbs : Contents → List Entry → Contents → Type 0
+-- the number of operations applied, if it is no more than the limit
+abbrev Absorbs : Contents → List LogEntry → Contents → Type 0
 Absorbs c es d = (d.rows ≡ fold_from c.rows (ops_of es)) × (d.absorbed ≡ c.absorbed + length (ops_of es))
 
-absorbs : (c : Contents) (es : List Entry) → c.absorbed + length (ops_of es) ≤ MAX_OPERATIONS → Absorbs c es (fold after_entry c es)
+absorbs : (c : Contents) (es : List LogEntry) → c.absorbed + length (ops_of es) ≤ MAX_OPERATIONS → Absorbs c es (fold after_entry c es)
 absorbs c [] few = (refl, omega arith)
 absorbs c (Absorb op ∷ es) few =
     let next : Contents = record c { rows = store.absorbed c.rows op; absorbed = c.absorbed + 1 } in
     let is : after_op c op ≡ next = op_done c op (omega arith) in
     let rest = absorbs next es (omega arith) in
     subst (λ d. Absorbs c (Absorb op ∷ es) (fold after_entry d es)) (sym is) (rest.0, omega (arith, rest.1))
-absorbs c (Reach told ∷ es) few = absorbs (record c { told = told }) es few
+absorbs c (Reached told ∷ es) few = absorbs (record c { told = told }) es few
 
 fold_append : (rows : Rows) (xs ys : List Op) → fold_from rows (xs ++ ys) ≡ fold_from (fold_from rows xs) ys
 fold_append rows [] ys = refl
 fold_append rows (x ∷ xs) ys = fold_append (store.absorbed rows x) xs ys
 
--- a publication, where the entries have come to the whole
-pub publishes : (seat : ℕ) (v : Last) (x y : Contents) (es : List Entry) → IsComplete x.told es → length (whole x.told es).ops ≤ MAX_OPERATIONS
+-- a publication, if the entries reach the whole list
+pub publishes : (seat : ℕ) (v : Last) (x y : Contents) (es : List LogEntry) → IsComplete x.told es → length (whole x.told es).ops ≤ MAX_OPERATIONS
     → y ≡ fold after_entry x es → TurnsAt Holds seat v x y (λ v _ y w. Sees v y w)
 publishes seat v x y es come few is =
     let told : y.told ≡ whole x.told es = ap (λ (c : Contents). c.told) is ∙ (told_after x es ∙ come) in
@@ -160,32 +160,32 @@ publishes seat v x y es come few is =
 
 -- ---- the entries
 
-ops_append : (es fs : List Entry) → ops_of (es ++ fs) ≡ ops_of es ++ ops_of fs
+ops_append : (es fs : List LogEntry) → ops_of (es ++ fs) ≡ ops_of es ++ ops_of fs
 ops_append [] fs = refl
 ops_append (Absorb op ∷ es) fs = ap (λ w. op ∷ w) (ops_append es fs)
-ops_append (Reach told ∷ es) fs = ops_append es fs
+ops_append (Reached told ∷ es) fs = ops_append es fs
 
 -- the list that was told last
-reached_last : (k : History) (es : List Entry) (told : History) → reached k (es ++ Reach told ∷ []) ≡ told
+reached_last : (k : History) (es : List LogEntry) (told : History) → reached k (es ++ Reached told ∷ []) ≡ told
 reached_last k [] told = refl
 reached_last k (Absorb op ∷ es) told = reached_last k es told
-reached_last k (Reach other ∷ es) told = reached_last other es told
+reached_last k (Reached other ∷ es) told = reached_last other es told
 
--- entries are complete once they end with the list that they come to
-pub completes : (k : History) (es : List Entry) (told : History) → told ≡ whole k es → IsComplete k (es ++ Reach told ∷ [])
+-- entries are complete once they end with the list that they reach
+pub completes : (k : History) (es : List LogEntry) (told : History) → told ≡ whole k es → IsComplete k (es ++ Reached told ∷ [])
 completes k es told is =
-    reached_last k es told ∙ (is ∙ ap (λ ops. history k.board (k.ops ++ ops)) (sym (ops_append es (Reach told ∷ []) ∙ append-nil (ops_of es))))
+    reached_last k es told ∙ (is ∙ ap (λ ops. history k.board (k.ops ++ ops)) (sym (ops_append es (Reached told ∷ []) ∙ append-nil (ops_of es))))
 
 -- telling adds no operation
-pub ops_reach : (es : List Entry) (told : History) → ops_of (es ++ Reach told ∷ []) ≡ ops_of es
-ops_reach es told = ops_append es (Reach told ∷ []) ∙ append-nil (ops_of es)
+pub ops_reach : (es : List LogEntry) (told : History) → ops_of (es ++ Reached told ∷ []) ≡ ops_of es
+ops_reach es told = ops_append es (Reached told ∷ []) ∙ append-nil (ops_of es)
 
 -- an operation adds itself
-pub ops_absorb : (es : List Entry) (op : Op) → ops_of (es ++ Absorb op ∷ []) ≡ ops_of es ++ op ∷ []
+pub ops_absorb : (es : List LogEntry) (op : Op) → ops_of (es ++ Absorb op ∷ []) ≡ ops_of es ++ op ∷ []
 ops_absorb es op = ops_append es (Absorb op ∷ [])
 
--- what the pen's book has begins the whole, also after one more operation
-pub appends : (noted k : History) (es fs : List Entry) (op : Op) (n : ℕ) → ops_of fs ≡ ops_of es ++ op ∷ []
+-- the list of the pen's book is a prefix of the whole, also after one more operation
+pub appends : (noted k : History) (es fs : List LogEntry) (op : Op) (n : ℕ) → ops_of fs ≡ ops_of es ++ op ∷ []
     → GoesOn noted (whole k es) → n ≡ length (whole k es).ops
     → GoesOn noted (whole k fs) × (n + 1 ≡ length (whole k fs).ops)
 appends noted k es fs op n is h count =
@@ -201,11 +201,11 @@ appends noted k es fs op n is h count =
       omega (arith, count, ap length longer, length-append (k.ops ++ ops_of es) (op ∷ [])),
     )
 
--- the book has the whole, where it went on to it
+-- the book has the whole list once it was extended to it
 pub noted_whole : (noted new k l : History) → GoesOn noted k → new.board ≡ noted.board → new.ops ≡ k.ops → l ≡ k → GoesOn new l
 noted_whole noted new k l h board ops is = rw is (h.0 ∙ sym board, ([], append-nil new.ops ∙ ops))
 
--- the whole stays the same when it is published, and when it is not
-pub publishes_whole : {A B : Type 0} (done : Result A B) (k l : History) (es fs : List Entry) → Publishes done k l es fs → whole l fs ≡ whole k es
+-- the whole list is the same whether it is published or not
+pub publishes_whole : {A B : Type 0} (done : Result A B) (k l : History) (es fs : List LogEntry) → Publishes done k l es fs → whole l fs ≡ whole k es
 publishes_whole (Ok x) k l es fs h = rw (h.0, h.1) (ap (λ w. history k.board w) (append-nil (k.ops ++ ops_of es)))
 publishes_whole (Err x) k l es fs h = rw (h.0, h.1) refl

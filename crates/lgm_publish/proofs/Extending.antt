@@ -1,4 +1,4 @@
--- The exchange that goes on with the history keeps the rule of the book.
+-- The exchange that extends the history preserves the rule of the book.
 use Rattle.std.proofs.Common.{◌≡◌, ℕ, ◌<◌, ◌==◌, Bool, true, false, List, [], ◌∷◌, ◌++◌, length, refl, ap, sym, ◌∙◌, subst, arith, inl, None}
 use Rattle.std.proofs.lemmas.List.{append-nil}
 use Rattle.std.proofs.lemmas.Bool.Decides.{nat_tests}
@@ -51,7 +51,7 @@ module _ (v : List (List Op)) (ask : List Op) (old new : ℕ) where
         rw is tt,
       )
 
-  -- whatever the book is, the exchange goes on to the operations that are asked, or finds that it has more
+  -- whatever the book is, the exchange extends it to the requested operations, or finds that it has more
   pub extends_moves : length (joined v) ≡ old → length ask ≡ new → IsPrefix (joined v) ask
       → Moves IsKept shown moved 0 (v, (no_nib, None)) (λ n. either (n == old) new n) (Extends (step 0 old new ask) (v, (no_nib, None)))
   extends_moves len all more cs log kept pre away =

@@ -1,4 +1,4 @@
--- What holds of a world after any events.
+-- Laws of a world after any events.
 use Rattle.std.proofs.Common.{◌≡◌, ◌⊎◌, inl, inr, ℕ, ◌+◌, ◌<◌, ◌≤◌, ◌==◌, Option, List, [], ◌∷◌, ◌++◌}
 use Rattle.std.proofs.Common.{length, take, drop, length-append, append_assoc, refl, sym, ap, ◌∙◌, subst, arith}
 use Rattle.std.specs.Prelude.{Contains}
@@ -9,7 +9,7 @@ use Rattle.std.proofs.Math.Seq.{take-length, take-nil}
 use mathlib.Core.List.{IsPrefix}
 use Rattle.lgm_store.specs.declared.op.Op.{Op}
 use Rattle.lgm_graph.proofs.Members.{Contains-Among, Among-Contains}
-use Rattle.lgm_publish.specs.declared.edition.TheConstants.{MAX_OPERATIONS}
+use Rattle.lgm_publish.specs.declared.snapshot.TheConstants.{MAX_OPERATIONS}
 use Rattle.lgm_publish.specs.declared.event.Event.{Event}
 use Rattle.lgm_publish.specs.declared.event.Event.TheVariants.{Append, Publish, Enter, Learn, Answer}
 use Rattle.lgm_publish.specs.World.{Standing, opening, marks, marks_of, published_in, entered_by, refusal, after, stepped, world_after, IsOrdered}
@@ -72,7 +72,7 @@ are_answered known eyes events eye request below =
 
 -- ---- what was published
 
--- at the opening an eye took nothing
+-- in the initial state an eye took nothing
 opens_empty : (known : Option (List ℕ)) (eyes eye : ℕ) → entered_by (opening known eyes) eye ≡ []
 opens_empty known eyes eye = take-nil (marks_of (opening known eyes) eye).entered
 
@@ -164,7 +164,7 @@ are_entered = record {
 
 -- ---- no list shrinks
 
--- a beginning of a list begins its longer beginnings
+-- a prefix of a list is a prefix of its longer prefixes
 take_prefix : {A : Type 0} (few more : ℕ) (xs : List A) → few ≤ more → IsPrefix (take few xs) (take more xs)
 take_prefix few more xs le = (
   drop few (take more xs),
@@ -194,7 +194,7 @@ never_shrink known eyes events more eye =
 abbrev Brings : Standing → List Event → Type 0
 Brings world events = (world_after world events).appended ≡ take MAX_OPERATIONS (world.appended ++ brought_by events)
 
--- an operation more, or one too many
+-- one more operation, or one too many
 brings_op : (world : Standing) (op : Op) (events : List Event) → length world.appended ≤ MAX_OPERATIONS
     → ((next : Standing) → length next.appended ≤ MAX_OPERATIONS → Brings next events) → Brings world (Append op ∷ events)
 brings_op world op events few rest = elim (cases_Bool (length world.appended == MAX_OPERATIONS)) [

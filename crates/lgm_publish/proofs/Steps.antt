@@ -1,4 +1,4 @@
--- What one event does to a world.
+-- The effect of one event on a world.
 use Rattle.std.proofs.Common.{◌≡◌, ◌≢◌, ◌⊎◌, inl, inr, ℕ, ◌<◌, ◌≤◌, Bool, true, false, nat_lt, nat_eq, is_some, if◌then◌else◌}
 use Rattle.std.proofs.Common.{Option, Some, None, [], ◌∷◌, length, take, set, get_or, refl, sym, ap, ◌∙◌, arith}
 use Rattle.std.proofs.lemmas.List.{get_or-set_same, get_or-set_other, length-set, take-append-le}
@@ -36,7 +36,7 @@ not_refused world eye below = let is : nat_lt eye (length world.eyes) ≡ true =
 
 -- ---- order
 
--- a step keeps the order
+-- a step preserves the order
 pub ordered_step : (world : Standing) (event : Event) → IsOrdered world → IsOrdered (stepped world event)
 ordered_step world event h = chosen IsOrdered world (after world event) (refusal world event) h (by event)
   where

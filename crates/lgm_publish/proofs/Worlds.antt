@@ -13,7 +13,7 @@ seen_more eyes few more le h =
     (λ i below. let at : (get_or eyes i (marks 0 0)).seen
     ≤ few = All-get_or (λ eye. eye.seen ≤ few) eyes i (marks 0 0) below h in omega (arith, at, le))
 
--- nothing is seen where nothing is published
+-- nothing is observed if nothing is published
 pub ordered_opening : (known : Option (List ℕ)) (eyes : ℕ) → IsOrdered (opening known eyes)
 ordered_opening known eyes = record {
   entered = All-replicate (λ m. m.entered ≤ m.seen) eyes (marks 0 0) (omega arith);

@@ -1,6 +1,6 @@
 -- When an operation is refused for the number of operations.
 use Rattle.std.specs.Prelude.{◌≡◌, ◌↔◌, ℕ, Result, Ok, Err}
-use Rattle.lgm_publish.specs.declared.edition.TheConstants.{MAX_OPERATIONS}
+use Rattle.lgm_publish.specs.declared.snapshot.TheConstants.{MAX_OPERATIONS}
 use Rattle.lgm_publish.specs.declared.faults.AppendFault.{AppendFault}
 use Rattle.lgm_publish.specs.declared.faults.AppendCause.TheVariants.{Full}
 

@@ -6,7 +6,7 @@ use Rattle.lgm_store.specs.History.{fold}
 use Rattle.lgm_graph.specs.Edges.{edges_of}
 use Rattle.lgm_route.specs.declared.request.Request.{Request}
 use Rattle.lgm_route.specs.Choice.{answer_of}
-use Rattle.lgm_publish.specs.declared.edition.TheConstants.{MAX_OPERATIONS}
+use Rattle.lgm_publish.specs.declared.snapshot.TheConstants.{MAX_OPERATIONS}
 use Rattle.lgm_publish.specs.declared.event.Event.{Event}
 use Rattle.lgm_publish.specs.declared.event.Event.TheVariants.{Append, Publish, Enter, Learn, Answer}
 use Rattle.lgm_publish.specs.declared.event.Reply.TheVariants.{Routed}

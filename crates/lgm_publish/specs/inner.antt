@@ -1,5 +1,5 @@
 -- Definitions for contracts inside the crate.
 pub mod Book
 pub mod Contents
-pub mod Editions
+pub mod Snapshots
 pub mod Shown

@@ -8,8 +8,8 @@ ghost use Rattle.lgm_graph.specs.Graph.{IsGraphOf};
 ghost use Rattle.lgm_publish.specs.inner.Contents.{Contents, sight, known_in};
 ghost use Rattle.lgm_publish.specs.Lists.{IsLonger};
 
-use crate::edition::{Edition, MAX_OPERATIONS};
 use crate::rule::{Last, Published, Seeing};
+use crate::snapshot::{MAX_OPERATIONS, Snapshot};
 use crate::told::Told;
 use left_right::reader::{Reader, Reading};
 use lgm_graph::View;
@@ -20,7 +20,7 @@ use std::marker::Model;
 /// operations that it has observed or learned. It may be dropped at any time.
 #[derive(Drop)]
 pub struct Eye {
-    reader: Reader<Edition, Last, Published>,
+    reader: Reader<Snapshot, Last, Published>,
     told: Told,
 }
 
@@ -42,7 +42,7 @@ impl Model for Eye {
 
 impl Eye {
     /// An eye that has observed what its place at the table says.
-    pub(crate) fn new(reader: Reader<Edition, Last, Published>, told: Told) -> Eye
+    pub(crate) fn new(reader: Reader<Snapshot, Last, Published>, told: Told) -> Eye
         requires { (last : Contents) × (last_of reader.place ≡ Some last) × (last.told.board ≡ told.board) }
         ensures { result ≡ sight (known_in (last_of reader.place)) told }
     {
@@ -93,7 +93,7 @@ impl Eye {
 /// A reader that is reading. Contracts see its board, the known feature bits of nodes, and the list of operations whose
 /// map it shows. It ends with `leave`; until then the writer may have to wait for it.
 pub struct Guard {
-    reading: Reading<Edition, Last, Published>,
+    reading: Reading<Snapshot, Last, Published>,
 }
 
 impl Model for Guard {
@@ -141,7 +141,7 @@ impl Guard {
         ensures { result ≡ self }
     {
         let Guard { reading } = self;
-        let told = reading.get().told().again();
+        let told = reading.get().told().reborrow();
         Eye {
             reader: reading.leave(),
             told,

@@ -2,32 +2,31 @@
 //!
 //! A [`Pen`] appends operations and publishes all pending ones atomically. An [`Eye`] enters, and gets a [`Guard`] with
 //! the map published last, and its view. No reader waits for the writer or for another reader; when the writer
-//! publishes, it waits for the guards that still show the edition before the last publication. A guard shows the map of
-//! a prefix of the appended operations, which never shrinks from one guard of an eye to the next, and contains what the
-//! eye was told.
+//! publishes, it waits for the guards that still show the snapshot before the last publication. A guard shows the map
+//! of a prefix of the appended operations, which never shrinks from one guard of an eye to the next, and contains what
+//! the eye was told.
 //!
 //! [`World`] is the same as a plain single-threaded state machine, with a law on its answers.
 #![tactic(auto)]
 
-mod edition;
 mod event;
 mod eye;
 mod faults;
-mod finding;
 mod laws;
-mod opening;
+mod new_board;
 mod pen;
 mod rule;
-mod sides;
+mod snapshot;
 mod told;
 mod world;
+mod writer;
 
-pub use edition::MAX_OPERATIONS;
 pub use event::{Event, Reply, WorldFault};
 pub use eye::{Eye, Guard};
 pub use faults::{AppendCause, AppendFault, NoMemory, PublishFault};
 pub use laws::eyes_answer_on_published_maps;
-pub use opening::{MAX_READERS, board};
+pub use new_board::{MAX_READERS, board};
 pub use pen::Pen;
+pub use snapshot::MAX_OPERATIONS;
 pub use told::Told;
 pub use world::World;

@@ -5,10 +5,10 @@ ghost use Rattle.lgm_publish.specs.Appended.{AppendIs};
 ghost use Rattle.lgm_publish.specs.inner.Book.{head_of};
 ghost use Rattle.lgm_publish.specs.inner.Shown.{IsComplete, Publishes, whole};
 
-use crate::edition::MAX_OPERATIONS;
 use crate::faults::{AppendCause, AppendFault, NoMemory};
-use crate::sides::{Sides, absorb, publish_all, reach};
+use crate::snapshot::MAX_OPERATIONS;
 use crate::told::{Head, Told};
+use crate::writer::{Sides, absorb, publish_all, reach};
 use core::mem::replace_with;
 use lgm_store::Op;
 use logbook::Plain;
@@ -106,7 +106,7 @@ impl Pen {
         }
     }
 
-    /// Publishes all pending operations atomically. Waits for the guards that still show the edition before the last
+    /// Publishes all pending operations atomically. Waits for the guards that still show the snapshot before the last
     /// publication.
     ///
     /// On an error the published and the pending operations are unchanged; the next call publishes them.
@@ -123,7 +123,7 @@ impl Pen {
         {
             return Err(NoMemory);
         }
-        reach(&mut self.writer, self.noted.again())?;
+        reach(&mut self.writer, self.noted.reborrow())?;
         replace_with(
             &mut self.writer,
             rt,
@@ -144,7 +144,7 @@ impl Pen {
         ensures board { result.board ≡ self.old.board }
         ensures told { result.ops ≡ self.old.published }
     {
-        self.writer.published().told().again()
+        self.writer.published().told().reborrow()
     }
 
     /// The number of published operations. Nothing is allocated.

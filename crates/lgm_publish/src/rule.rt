@@ -3,17 +3,17 @@
 ghost use Rattle.std.specs.Prelude.{None};
 ghost use Rattle.lgm_publish.specs.inner.Shown.{Holds, Sees, taken};
 
-use crate::edition::Edition;
+use crate::snapshot::Snapshot;
 use atomic_table::{Join, Split};
 use crossbeam_utils::rule::{Outcome, Protocol};
 
-/// The edition that a thread observed last, if any. No value of this type is made.
-pub(crate) type Last = Option<Edition>;
+/// The snapshot that a thread observed last, if any. No value of this type is made.
+pub(crate) type Last = Option<Snapshot>;
 
 /// The invariant.
 pub(crate) struct Published;
 
-impl Protocol<Edition, Last> for Published {
+impl Protocol<Snapshot, Last> for Published {
     ghost holds = { Holds };
 
     ghost first = { None };
@@ -22,7 +22,7 @@ impl Protocol<Edition, Last> for Published {
 /// The steps of publishing and entering.
 pub(crate) struct Seeing;
 
-impl Outcome<Edition, Last> for Seeing {
+impl Outcome<Snapshot, Last> for Seeing {
     ghost then = { λ v _ y w. Sees v y w };
 }
 

@@ -4,7 +4,7 @@ ghost use Rattle.std.specs.Prelude.{◌≡◌, ◌≤◌, [], length, None, Matc
 ghost use mathlib.Core.List.{IsPrefix};
 ghost use Rattle.lgm_publish.specs.inner.Book.{head_of};
 
-use crate::edition::MAX_OPERATIONS;
+use crate::snapshot::MAX_OPERATIONS;
 use lgm_store::Op;
 use logbook::{Gain, Offer, Plain, Play, Rule, Seen, Start, Word};
 use std::marker::Model;
@@ -61,7 +61,7 @@ pub struct Told {
 
 impl Model for Told {
     ghost use Rattle.std.specs.Prelude.{◌≡◌, ◌≤◌, length};
-    ghost use Rattle.lgm_publish.specs.declared.edition.TheConstants.{MAX_OPERATIONS};
+    ghost use Rattle.lgm_publish.specs.declared.snapshot.TheConstants.{MAX_OPERATIONS};
     ghost use Rattle.lgm_publish.specs.Lists.{joined};
     ghost use Rattle.lgm_publish.specs.Handles.{History, history_code, history};
 
@@ -93,7 +93,7 @@ impl Told {
     }
 
     /// A copy.
-    pub(crate) fn again(&self) -> Told
+    pub(crate) fn reborrow(&self) -> Told
         ensures { result ≡ self.now }
     {
         Told {

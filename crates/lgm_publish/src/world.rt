@@ -3,9 +3,9 @@
 ghost use Rattle.std.specs.Prelude.{◌≡◌, ◌≢◌, ◌⊎◌, Some, Err, Ok, IfOk, OnOk, OnErr};
 ghost use Rattle.lgm_publish.specs.World.{opening, refusal, outcome, after, IsStep};
 
-use crate::edition::MAX_OPERATIONS;
 use crate::event::{Event, Reply, WorldFault};
-use crate::finding::find_route;
+use crate::new_board::find_route;
+use crate::snapshot::MAX_OPERATIONS;
 use lgm_graph::Known;
 use lgm_route::{Request, RouteFault};
 use lgm_store::Op;
@@ -35,7 +35,7 @@ pub struct World {
 
 impl Model for World {
     ghost use Rattle.std.specs.Prelude.{◌≤◌, length};
-    ghost use Rattle.lgm_publish.specs.declared.edition.TheConstants.{MAX_OPERATIONS};
+    ghost use Rattle.lgm_publish.specs.declared.snapshot.TheConstants.{MAX_OPERATIONS};
     ghost use Rattle.lgm_publish.specs.World.{Standing, standing, IsOrdered};
 
     ghost Value = { Standing };

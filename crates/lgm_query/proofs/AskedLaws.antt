@@ -1,4 +1,4 @@
--- What is asked for, place by place.
+-- What is requested, index by index.
 use Rattle.std.proofs.Common.{◌≡◌, ℕ, ◌+◌, ◌≤◌, ◌<◌, List, [], ◌∷◌, ◌++◌, length, take, get_or, Option, Some, None, refl, ap, ◌∙◌, arith}
 use Rattle.std.specs.List.{flat_map, zip}
 use Rattle.std.specs.Option.{ForSome}
@@ -18,7 +18,7 @@ length-flags_of query one_each = by query.flags refl
     by None is = rw is (length-map query.ids (λ id. 31))
     by (Some flags) is = rw is (one_each flags is)
 
--- one more place
+-- one more index
 pub AreSent-more : (rows : Rows) (query : Query) (i id flags : ℕ) (old new : Sent) → i < length query.ids → length (flags_of query) ≡ length query.ids
     → id ≡ get_or query.ids i 0 → flags ≡ get_or (flags_of query) i 0
     → AreSent (flat_map (chosen rows) (take i (zip query.ids (flags_of query)))) old → Sends (chosen rows (id, flags)) old new
@@ -36,7 +36,7 @@ AreSent-more rows query i id flags old new within same_len id_is flags_is are se
     ∙ ap (λ (last : _). flat_map (chosen rows) (take i (zip query.ids (flags_of query))) ++ last) (append-nil (chosen rows (id, flags))) in
     rw more (sends _ are)
 
--- all places
+-- all indices
 pub messages-all : (rows : Rows) (query : Query) (i : ℕ) (sent : Sent) → length query.ids ≤ i
     → AreSent (flat_map (chosen rows) (take i (zip query.ids (flags_of query)))) sent → sent.messages ≡ messages_asked_for rows query
 messages-all rows query i sent all are =

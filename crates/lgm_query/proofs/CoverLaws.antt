@@ -1,4 +1,4 @@
--- Replies to ids that ascend.
+-- Replies with ascending ids.
 use Rattle.std.proofs.Common.{◌≡◌, ℕ, zero, suc, ◌+◌, ◌-◌, ◌*◌, ◌<◌, ◌≤◌, Bool, true, false, List, [], ◌∷◌, ◌++◌, length}
 use Rattle.std.proofs.Common.{map, take, drop, refl, sym, ap, subst, ◌∙◌, arith, add-one, length-take, length-drop}
 use Rattle.std.specs.Prelude.{nat_eq, nat_lt, nat_le, ◌&&◌, slice_index, ◌==◌, if◌then◌else◌}
@@ -48,7 +48,7 @@ asked-ascend chain rows query sorted = by (pointwise nat_eq query.chain_hash.0 c
         _ (ids-ascend rows.channels sorted))
     by false is = rw is none-ascend
 
--- blocks don't fall
+-- blocks don't decrease
 blocks : (ids : List ℕ) → IsStrictlySortedBy nat_cmp ids → (i j : ℕ) → i ≤ j → j < length ids
     → block_of (slice_index ids i) ≤ block_of (slice_index ids j)
 blocks ids sorted i j le within = of (slice_index ids i) (slice_index ids j) (non_decreasing_from_sorted ids sorted i j 0 le within)
@@ -86,7 +86,7 @@ last-false ids i less = of (i + 1) (reply_count ids) less
     of : (a b : ℕ) → a < b → (a == b) ≡ false
     of a b e = grind (arith, nat_tests)
 
--- a reply that isn't the last is full, and an id stands behind it
+-- a reply that isn't the last is full, and an id follows it
 full : (ids : List ℕ) (i : ℕ) → i + 1 < reply_count ids → 4000 * i + 4000 < length ids
 full ids i less = omega arith
 
@@ -136,7 +136,7 @@ module _ (query : RangeQuery) (ids : List ℕ) (sorted : IsStrictlySortedBy nat_
       let own : first_block ids (suc i) ≤ block_of (slice_index ids j) = blocks ids sorted (4000 * (suc i)) j low high in
       rw (last-false ids i more) (omega (arith, start_low (last_block ids i) (first_block ids (suc i)) order))
 
-  -- and ends behind them
+  -- and ends after them
   ends : (i j : ℕ) → i < reply_count ids → j < 4000 * i + 4000 → j < length ids → block_of (slice_index ids j) < reply_end query ids i
   ends i j within low high = by (is_last ids i) refl
     where
@@ -181,9 +181,9 @@ module _ (query : RangeQuery) (ids : List ℕ) (sorted : IsStrictlySortedBy nat_
           let end : 0 + 1 ≡ reply_count ids = omega arith in
           rw (only, last-true ids 0 end) (omega arith)
 
-  held : (i k : ℕ) → i < reply_count ids → k < length (ids_at ids i)
+  stored : (i k : ℕ) → i < reply_count ids → k < length (ids_at ids i)
       → (reply_start query ids i ≤ block_of (slice_index (ids_at ids i) k)) × (block_of (slice_index (ids_at ids i) k) < reply_end query ids i)
-  held i k within own =
+  stored i k within own =
       let few : k < 4000 = below_4000 ids i k own in
       rw (at_place ids i k own) (
         starts i (4000 * i + k) within (omega arith) (within_all ids i k own),
@@ -215,7 +215,7 @@ CoverRange-asked chain rows query ascend =
       first = refl;
       joined = joined query ids sorted between;
       last = λ i is. rw (last-true ids i is) refl;
-      blocks = held query ids sorted between;
+      blocks = stored query ids sorted between;
       forward = forward query ids sorted between;
       whole = whole ids;
     }

@@ -3,7 +3,7 @@ use Rattle.std.proofs.Common.{◌≡◌, ℕ, false, List, [], ◌∷◌, Option
 use Rattle.std.specs.List.{flat_map}
 use Rattle.lgm_check.specs.declared.row.UpdateRow.{UpdateRow}
 use Rattle.lgm_check.specs.declared.row.NodeRow.{NodeRow}
-use Rattle.lgm_store.specs.declared.held.Held.{Held}
+use Rattle.lgm_store.specs.declared.channel_info.ChannelInfo.{ChannelInfo}
 use Rattle.lgm_query.specs.declared.filter.Filter.{Filter}
 use Rattle.lgm_query.specs.declared.pairs.ChannelPair.{ChannelPair}
 use Rattle.lgm_query.specs.declared.pairs.NodePair.{NodePair}
@@ -17,22 +17,22 @@ no_update : (f : Filter) (row : Option UpdateRow) → f.range ≡ 0 → passing_
 no_update f None idle = refl
 no_update f (Some row) idle = rw (nothing_passes f row.message.timestamp idle) refl
 
-no_channel : (f : Filter) (held : Held) → f.range ≡ 0 → passing_channel f held ≡ []
-no_channel f held idle = rw (no_update f held.first idle, no_update f held.second idle) refl
+no_channel : (f : Filter) (stored : ChannelInfo) → f.range ≡ 0 → passing_channel f stored ≡ []
+no_channel f stored idle = rw (no_update f stored.first idle, no_update f stored.second idle) refl
 
 no_node : (f : Filter) (row : NodeRow) → f.range ≡ 0 → passing_node f row ≡ []
 no_node f row idle = rw (nothing_passes f row.message.timestamp idle) refl
 
-no_channels : (f : Filter) (channels : List Held) → f.range ≡ 0 → flat_map (passing_channel f) channels ≡ []
+no_channels : (f : Filter) (channels : List ChannelInfo) → f.range ≡ 0 → flat_map (passing_channel f) channels ≡ []
 no_channels f [] idle = refl
-no_channels f (held ∷ channels) idle = rw (no_channel f held idle, no_channels f channels idle) refl
+no_channels f (stored ∷ channels) idle = rw (no_channel f stored idle, no_channels f channels idle) refl
 
 no_nodes : (f : Filter) (nodes : List NodeRow) → f.range ≡ 0 → flat_map (passing_node f) nodes ≡ []
 no_nodes f [] idle = refl
 no_nodes f (row ∷ nodes) idle = rw (no_node f row idle, no_nodes f nodes idle) refl
 
 -- nothing passes
-pub no_rows : (f : Filter) (channels : List Held) (nodes : List NodeRow) → f.range ≡ 0 → passing_rows f channels nodes ≡ []
+pub no_rows : (f : Filter) (channels : List ChannelInfo) (nodes : List NodeRow) → f.range ≡ 0 → passing_rows f channels nodes ≡ []
 no_rows f channels nodes idle = rw (no_channels f channels idle, no_nodes f nodes idle) refl
 
 no_channel_news : (f : Filter) (pairs : List ChannelPair) → f.range ≡ 0 → flat_map (news_of_channel_pair f) pairs ≡ []

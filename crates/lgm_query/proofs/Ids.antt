@@ -1,4 +1,4 @@
--- Ids, told apart by their order.
+-- Ids, distinguished by their order.
 use Rattle.std.proofs.Common.{◌≡◌, ℕ, arith}
 use Rattle.std.specs.Prelude.{◌==◌}
 use Rattle.std.specs.declared.cmp.Ordering.TheVariants.{Equal}

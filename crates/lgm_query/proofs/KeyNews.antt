@@ -20,7 +20,7 @@ use Rattle.lgm_check.specs.declared.row.ChannelRow.{ChannelRow}
 use Rattle.lgm_check.specs.declared.row.UpdateRow.{UpdateRow}
 use Rattle.lgm_check.specs.declared.row.NodeRow.{NodeRow}
 use Rattle.lgm_store.specs.Rows.{Rows, IsAscending, update_of}
-use Rattle.lgm_store.specs.Held.{held_at}
+use Rattle.lgm_store.specs.ChannelInfo.{stored_at}
 use Rattle.lgm_store.specs.Keys.{point_cmp, point_of, id_of}
 use Rattle.lgm_store.proofs.ListLaws.{All-append, All-each, filter-alike, find-same}
 use Rattle.lgm_store.proofs.Points.{is_at-point}
@@ -85,12 +85,12 @@ passing_about f subject (Some row) about = by (passes f row.message.timestamp)
 
 -- what passes of a row's channel
 abbrev pub passing_at : Filter → Rows → ChannelRow → List (List ℕ)
-passing_at f rows row = passing_channel f (held_at rows row)
+passing_at f rows row = passing_channel f (stored_at rows row)
 
 backlog_rows : (f : Filter) (rows : Rows) → backlog rows f ≡ flat_map (passing_at f rows) rows.channels ++ flat_map (passing_node f) rows.nodes
 backlog_rows f rows =
     ap (λ (messages : List (List ℕ)). messages ++ flat_map (passing_node f) rows.nodes)
-    (flat_map-map (passing_channel f) (held_at rows) rows.channels)
+    (flat_map-map (passing_channel f) (stored_at rows) rows.channels)
 
 behind_about : (subject : Subject) (row : ChannelRow) (updates : List (List ℕ)) → About subject row.raw
     → AllByRecursion (About subject) updates
@@ -176,7 +176,7 @@ same_as_given : (known given : List (List ℕ)) (messages : List (List ℕ))
     → without_known known messages ≡ without_known given messages
 same_as_given known given messages same = filter-alike _ _ messages (All-given _ _ _ messages (λ m is other. ap not is) same same)
 
--- what is told of a row is told of its key
+-- the news of a row are those of its key
 told : {R K : Type 0} (key : R → K) (c : K → K → Ordering) (about : K → Subject) (h : R → List (List ℕ))
     (g : K → List (List ℕ)) (earlier : List (List ℕ)) (given : K → List (List ℕ)) (rows : List R)
     → ((m : List ℕ) (k : K) → subject_of m ≡ about k → is_among earlier m ≡ is_among (given k) m)
@@ -232,7 +232,7 @@ node_news f before after nodes before_ascends after_ascends before_tells after_t
         ap (λ o. without_known (passing_of_node f before node) (option_map_or (passing_node f) o []))
         (sym (find-same _ _ (λ row. is_at-point (point_of row) node) after.nodes) ∙ is)
 
--- where bytes tell their keys, the news are those of the keys at which there are any
+-- if bytes determine their keys, the news are those of the keys that have any
 pub news_at_keys : (f : Filter) (before after : Rows) (ids : List ℕ) (nodes : List Point) → IsAscending before
     → IsAscending after → TellKeys before → TellKeys after
     → LieAt f before after ids nodes → news before after f

@@ -1,4 +1,4 @@
--- News can be told key by key, where bytes tell their keys.
+-- News can be computed key by key, if bytes determine their keys.
 use Rattle.std.proofs.Common.{◌≡◌, ℕ, Bool, true, false, ◌||◌, cond, List, [], ◌∷◌, ◌++◌, Option, Some, None, refl, sym, ap, ◌∙◌}
 use Rattle.std.specs.Prelude.{nat_eq}
 use Rattle.std.specs.Cmp.{IsTotalOrder}
@@ -25,7 +25,7 @@ other_subject message (m ∷ ms) subject all other = by (other_subject message m
     by rest true is = absurd (other (ap subject_of (same_text message m (sym is)) ∙ all.0))
     by rest false is = rw (is, rest) refl
 
--- a filter goes through
+-- a filter distributes
 pub filter-flat_map : {R : Type 0} (p : List ℕ → Bool) (h : R → List (List ℕ)) (rows : List R)
     → filter p (flat_map h rows) ≡ flat_map (λ row. filter p (h row)) rows
 filter-flat_map p h [] = refl
@@ -86,7 +86,7 @@ module _ {R K : Type 0} (key : R → K) (c : K → K → Ordering) (total : IsTo
       by rest Less at = rw (at, other_subject message (h row) (about (key row)) tell.0 (differs Less at (λ e. absurd cc))) rest
       by rest Greater at = rw (at, other_subject message (h row) (about (key row)) tell.0 (differs Greater at (λ e. absurd cc))) rest
 
--- ---- what is told along rows is told along keys
+-- ---- news along rows are news along keys
 
 flat_map-none : {X : Type 0} (g : X → List (List ℕ)) (xs : List X) → AllByRecursion (λ x. g x ≡ []) xs → flat_map g xs ≡ []
 flat_map-none g [] none = refl
@@ -148,7 +148,7 @@ module _ {R K : Type 0} (key : R → K) (c : K → K → Ordering) (total : IsTo
           (All-given _ _ _ (row ∷ rows) (λ r give other. give refl) row_gives row_gives)
       inner (k ∷ ks) ascend row_gives key_gives rest = by (c (key row) k) refl (λ a r y. inner ks a r y rest)
         where
-          -- a key further: a row that isn't equal to it gives as before
+          -- one more key: a row that isn't equal to it gives the same as before
           row_further : (r : R) → c (key r) k ≡ Greater → RowGives (k ∷ ks) r → RowGives ks r
           row_further r greater give none = give (rw (greater, none) refl)
 

@@ -11,7 +11,7 @@ use Rattle.std.proofs.lemmas.List.{take_more}
 use Rattle.std.proofs.lemmas.List.Folds.{list_any-append}
 use Rattle.std.proofs.Math.Bool.{or_comm}
 use Rattle.lgm_query.specs.Backlog.{is_among}
-use Rattle.lgm_query.specs.inner.Known.{is_known}
+use Rattle.lgm_query.specs.inner.MessageSet.{is_known}
 
 -- the order of messages
 abbrev pub message_cmp : Bor (List ℕ) → Bor (List ℕ) → Ordering

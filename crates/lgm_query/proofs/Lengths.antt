@@ -1,4 +1,4 @@
--- How long replies are.
+-- The lengths of replies.
 use Rattle.std.proofs.Common.{◌≡◌, ℕ, suc, ◌+◌, ◌*◌, ◌≤◌, Bool, true, false, List, [], ◌∷◌}
 use Rattle.std.proofs.Common.{◌++◌, length, Option, Some, None, arith, refl, length-append}
 use Rattle.std.specs.Prelude.{nat_lt}
@@ -10,7 +10,7 @@ use Rattle.lgm_gossip.specs.declared.timestamps.Timestamps.{Timestamps}
 use Rattle.lgm_gossip.specs.declared.message.Message.TheVariants as messages
 use Rattle.lgm_gossip.specs.Streams.{bigsize_bytes}
 use Rattle.lgm_gossip.specs.TimestampList.{pair_bytes}
-use Rattle.lgm_gossip.specs.RangeReply.{Reply}
+use Rattle.lgm_gossip.specs.RangeReply.{ReplyFields}
 use Rattle.lgm_gossip.specs.Spelling.{spelling, pairs_text, option_text}
 
 -- the end of a reply by ids
@@ -41,7 +41,7 @@ length-bigsize n = by (nat_lt n 0xfd) refl (nat_lt n 0x10000) refl (nat_lt n 0x1
 length-record : (size value : List ℕ) (n : ℕ) → length size ≤ 9 → length value + 10 ≤ n → suc (length (size ++ value)) ≤ n
 length-record size value n few fits = omega (arith, length-append size value)
 
--- the record of timestamps, where there is one
+-- the record of timestamps, if there is one
 length-option : (pairs : Option (List Timestamps)) (count : ℕ) → ForSome pairs (λ ps. length ps ≡ count)
     → length (option_text pairs_text pairs) ≤ 8 * count + 11
 length-option None count are = omega arith
@@ -51,7 +51,7 @@ length-option (Some ps) count are =
     length-record (bigsize_bytes (length (pairs_text ps))) (pairs_text ps) (8 * count + 11) (length-bigsize (length (pairs_text ps))) (omega arith)
 
 -- a reply of at most 4,000 ids
-pub length-reply : (m : Reply) → length m.chain_hash.0 ≡ 32 → length m.ids ≤ 4000 → ForSome m.timestamps
+pub length-reply : (m : ReplyFields) → length m.chain_hash.0 ≡ 32 → length m.ids ≤ 4000 → ForSome m.timestamps
     (λ pairs. length pairs ≡ length m.ids) → length (spelling (messages.RangeReply m)) ≤ 65535
 length-reply m chain few pairs =
     let eight : length (flat_map (to_be_bytes w64) m.ids) ≡ 8 * length m.ids = length-ids m.ids in

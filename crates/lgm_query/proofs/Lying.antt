@@ -1,4 +1,4 @@
--- Where news lie: at what operations touch.
+-- News are at the keys that operations touch.
 use Rattle.std.proofs.Common.{◌≡◌, ◌⊎◌, inl, inr, ℕ, Bool, true, false, cond, List, [], ◌∷◌, ◌++◌, Option, Some, None, refl, sym, ap, ◌∙◌}
 use Rattle.std.specs.Prelude.{◌==◌}
 use Rattle.std.specs.List.{AllByRecursion, flat_map}
@@ -29,7 +29,7 @@ each_known : (messages : List (List ℕ)) → AllByRecursion (λ m. is_among mes
 each_known [] = tt
 each_known (m ∷ ms) = (rw (nat_list_eq_equiv.refl m) refl, All-given _ _ _ ms (λ x is other. rw is (or_right _ true refl)) (each_known ms) (each_known ms))
 
--- nothing is new beside itself
+-- nothing is new compared with itself
 nothing_new : (messages : List (List ℕ)) → without_known messages messages ≡ []
 nothing_new messages = all_known messages messages (each_known messages)
 
@@ -69,7 +69,7 @@ no_node_news : (f : Filter) (node : Point) (before after : Rows) → SameNode no
 no_node_news f node before after (inl same) = rw same (nothing_new (passing_of_node f before node))
 no_node_news f node before after (inr none) = rw none refl
 
--- news lie at what operations touch
+-- news are at the keys that operations touch
 pub lie_at : (f : Filter) (before after : Rows) (history : List Op) (touched : Touched) → IsAscending before
     → after ≡ fold_from before history → HasTouched history touched
     → LieAt f before after touched.channels touched.nodes
@@ -82,7 +82,7 @@ lie_at f before after history touched ascend is has = rw is (record {
   of_nodes = λ node none. no_node_news f node before (fold_from before history) (node_untouched node before history (sym (has.of_nodes node) ∙ none));
 })
 
--- the news of a map that came of an earlier one
+-- the news of a map that was made from an earlier one
 pub news_of_touched : (f : Filter) (before after : Rows) (touched : Touched) → IsAscending before → IsAscending after
     → AreSpelled before → AreSpelled after → ComesOf before after touched
     → news before after f ≡ flat_map (news_of_channel f before after) touched.channels ++ flat_map (news_of_node f before after) touched.nodes

@@ -8,7 +8,7 @@ use Rattle.lgm_query.specs.declared.pairs.ChannelPair.{ChannelPair}
 use Rattle.lgm_query.specs.KeyNews.{news_of_channel}
 use Rattle.lgm_query.specs.inner.Pairs.{news_of_channel_pair}
 
--- one more pair tells what was left to its id
+-- one more pair gives what was left to its id
 pub one_more_pair : (f : Filter) (before after : Rows) (pairs : List ChannelPair) (pair : ChannelPair) (id : ℕ) (ids : List ℕ)
     → news_of_channel_pair f pair ≡ news_of_channel f before after id
     → flat_map (news_of_channel_pair f) (pairs ++ pair ∷ []) ++ flat_map (news_of_channel f before after) ids

@@ -9,7 +9,7 @@ use Rattle.lgm_query.specs.Piece.{Piece, are_of_one_node, with_nodes_once}
 abbrev pub comes_again : List Piece → Piece → Bool
 comes_again pieces piece = list_any (λ earlier. are_of_one_node earlier piece) pieces
 
--- a piece at the end: it is left out where its node's announcement came before
+-- a piece at the end: it is left out if its node's announcement came before
 pub with_nodes_once-push : (pieces : List Piece) (piece : Piece)
     → with_nodes_once (pieces ++ piece ∷ []) ≡ with_nodes_once pieces ++ (if comes_again pieces piece then [] else piece ∷ [])
 with_nodes_once-push [] piece = refl

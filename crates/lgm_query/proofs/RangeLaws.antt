@@ -1,4 +1,4 @@
--- Replies, put together from their parts.
+-- Replies, built from their parts.
 use Rattle.std.proofs.Common.{◌≡◌, ℕ, ◌-◌, ◌*◌, ◌≤◌, Bool, true, false, List, [], ◌∷◌, length, map, take, drop, Option}
 use Rattle.std.proofs.Common.{Some, None, Result, Ok, Err, refl, ap, ◌∙◌, arith, length-take, length-drop}
 use Rattle.std.specs.Prelude.{IfOk, nat_eq, if◌then◌else◌}
@@ -9,15 +9,15 @@ use Rattle.std.proofs.lemmas.List.Elements.{filter_passes, All-nil}
 use Rattle.lgm_wire.specs.declared.chain_hash.ChainHash.{ChainHash}
 use Rattle.lgm_gossip.specs.declared.range_query.RangeQuery.{RangeQuery}
 use Rattle.lgm_gossip.specs.declared.timestamps.Timestamps.{Timestamps}
-use Rattle.lgm_gossip.specs.RangeReply.{Reply}
+use Rattle.lgm_gossip.specs.RangeReply.{ReplyFields}
 use Rattle.lgm_check.specs.declared.row.ChannelRow.{ChannelRow}
-use Rattle.lgm_store.specs.Held.{held_at}
+use Rattle.lgm_store.specs.ChannelInfo.{stored_at}
 use Rattle.lgm_store.specs.Rows.{Rows}
 use Rattle.lgm_store.specs.Reading.{is_between, ids_between_of, channels_between_of}
 use Rattle.lgm_query.specs.RangeReply.{range_end, ids_asked_for, AreInRange, is_last, piece_at, ids_at, reply_start, reply_end, timestamps_of}
 use Rattle.lgm_query.specs.RangeReply.{timestamps_in, all_timestamps_of, timestamps_beside, asks_for_timestamps, timestamps_asked_for, reply}
 
--- the ids that are asked for lie in the range
+-- the requested ids are in the range
 pub All-ids_asked_for : (chain : ChainHash) (rows : Rows) (query : RangeQuery)
     → AreInRange query (ids_asked_for chain rows query)
 All-ids_asked_for chain rows query = by (pointwise nat_eq query.chain_hash.0 chain.0) refl
@@ -51,22 +51,22 @@ ForSome-piece query times ids i pairs beside is = rw is (by (asks_for_timestamps
         ))
     by false asks = λ own e. absurd cc
 
--- the timestamps beside the ids in a range, channel by channel
+-- the timestamps of the ids in a range, channel by channel
 pub timestamps-walked : (rows : Rows) (from to : ℕ) (channels : List ChannelRow)
-    → map timestamps_in (map (held_at rows) (channels_between_of channels from to)) ≡ all_timestamps_of rows (ids_between_of channels from to)
+    → map timestamps_in (map (stored_at rows) (channels_between_of channels from to)) ≡ all_timestamps_of rows (ids_between_of channels from to)
 timestamps-walked rows from to [] = refl
 timestamps-walked rows from to (row ∷ channels) = by (is_between row.message.short_channel_id from to) refl (timestamps-walked rows from to channels)
   where
     by : (b : Bool) → is_between row.message.short_channel_id from to ≡ b
-        → map timestamps_in (map (held_at rows) (channels_between_of channels from to)) ≡ all_timestamps_of rows (ids_between_of channels from to)
-        → map timestamps_in (map (held_at rows) (channels_between_of (row ∷ channels) from to))
+        → map timestamps_in (map (stored_at rows) (channels_between_of channels from to)) ≡ all_timestamps_of rows (ids_between_of channels from to)
+        → map timestamps_in (map (stored_at rows) (channels_between_of (row ∷ channels) from to))
         ≡ all_timestamps_of rows (ids_between_of (row ∷ channels) from to)
     by true is rest = rw (is, rest) refl
     by false is rest = rw is rest
 
 pub timestamps-all : (chain : ChainHash) (rows : Rows) (query : RangeQuery) (times : List Timestamps)
     → asks_for_timestamps query ≡ true → pointwise nat_eq query.chain_hash.0 chain.0 ≡ true
-    → times ≡ map timestamps_in (map (held_at rows) (channels_between_of rows.channels query.first_blocknum (range_end query)))
+    → times ≡ map timestamps_in (map (stored_at rows) (channels_between_of rows.channels query.first_blocknum (range_end query)))
     → times ≡ timestamps_beside rows query (ids_asked_for chain rows query)
 timestamps-all chain rows query times asks known is =
     rw (asks, known) (is ∙ timestamps-walked rows query.first_blocknum (range_end query) rows.channels)
@@ -89,7 +89,7 @@ timestamps-piece rows query ids i = by (asks_for_timestamps query) refl
 pub reply-parts : (rows : Rows) (query : RangeQuery) (ids : List ℕ) (i first number complete : ℕ) (own : List ℕ) (pairs : Option (List Timestamps))
     → first ≡ reply_start query ids i → number ≡ reply_end query ids i - reply_start query ids i → complete ≡ (if is_last ids i then 1 else 0)
     → own ≡ ids_at ids i → pairs ≡ timestamps_asked_for rows query (ids_at ids i)
-    → (let m : Reply = record {
+    → (let m : ReplyFields = record {
       chain_hash = query.chain_hash;
       first_blocknum = first;
       number_of_blocks = number;

@@ -9,7 +9,7 @@ use Rattle.lgm_wire.specs.declared.point.Point.{Point}
 use Rattle.lgm_check.specs.declared.row.ChannelRow.{ChannelRow}
 use Rattle.lgm_check.specs.declared.row.UpdateRow.{UpdateRow}
 use Rattle.lgm_check.specs.declared.row.NodeRow.{NodeRow}
-use Rattle.lgm_store.specs.declared.held.Held.{Held}
+use Rattle.lgm_store.specs.declared.channel_info.ChannelInfo.{ChannelInfo}
 use Rattle.lgm_store.specs.Rows.{is_point, node_of}
 use Rattle.lgm_store.proofs.Points.{same_point}
 use Rattle.std.proofs.Math.Bool.{or-false}
@@ -66,14 +66,14 @@ Sends-update row old new message same = plain (update row) old new (not_again (u
     apart (update r) = refl
     apart (node r) = refl
 
--- a node comes again where it was announced
+-- a node whose announcement was sent before
 again : (row : NodeRow) (pieces : List Piece) → comes_again pieces (node row) ≡ list_any (is_of_node row.message.node_id) pieces
 again row [] = refl
 again row (channel r ∷ pieces) = again row pieces
 again row (update r ∷ pieces) = again row pieces
 again row (node r ∷ pieces) = ap (λ (b : Bool). is_point r.message.node_id row.message.node_id || b) (again row pieces)
 
--- the node is in the set behind it
+-- the node is in the set after it
 known : (row : NodeRow) (old new : Sent)
     → ((q : Point) → list_any (is_point q) new.nodes
     ≡ cond (is_point row.message.node_id q) true (list_any (is_point q) old.nodes))
@@ -111,20 +111,20 @@ Sends-new_node : (nodes : List NodeRow) (row : NodeRow) (point : Point) (keys : 
     → list_any (is_point point) keys ≡ false
     → ((q : Point) → list_any (is_point q) new.nodes ≡ cond (is_point point q) true (list_any (is_point q) keys))
     → new.messages ≡ old.messages ++ row.raw ∷ [] → Sends (option_to_list (option_map node (node_of nodes point))) old new
-Sends-new_node nodes row point keys old new held were absent inserts message =
-    let own : row.message.node_id ≡ point = found_node nodes point row (sym held) in
+Sends-new_node nodes row point keys old new stored were absent inserts message =
+    let own : row.message.node_id ≡ point = found_node nodes point row (sym stored) in
     let absent' : list_any (is_point row.message.node_id) old.nodes ≡ false = rw (were, own) absent in
     let inserts' : (q : Point) → list_any (is_point q) new.nodes
     ≡ cond (is_point row.message.node_id q) true (list_any (is_point q) old.nodes) =
     λ q. rw (were, own) (inserts q) in
-    rw (← held) (λ pieces are. record {
+    rw (← stored) (λ pieces are. record {
       messages = message ∙ ap (λ (ms : List (List ℕ)). ms ++ row.raw ∷ []) are.messages
           ∙ sym (map-append bytes_of (with_nodes_once pieces) (node row ∷ []))
           ∙ ap (map bytes_of) (sym (with_nodes_once-push pieces (node row) ∙ rw (again row pieces, ← are.nodes row.message.node_id, absent') refl));
       nodes = known row old new inserts' pieces are.nodes;
     })
 
--- that of one that was, if it is held
+-- that of one that was, if it is in the map
 pub Sends-known_node : (nodes : List NodeRow) (point : Point) (keys : List Point) (old new : Sent)
     → old.nodes ≡ keys → list_any (is_point point) keys ≡ true → new ≡ old
     → Sends (option_to_list (option_map node (node_of nodes point))) old new
@@ -157,7 +157,7 @@ Sends-known_node nodes point keys old new were present same = rw same (by (node_
               ∙ sym (list_any-append (is_of_node q) pieces (node row ∷ []));
         }
 
--- a message that is put at the end
+-- a message that is appended
 pub OnOk-channel : {E : Type 0} (r : Result (Unit {0}) E) (row : ChannelRow) (raw : List ℕ) (old new : Sent) → raw ≡ row.raw
     → OnOk r (new.messages ≡ old.messages ++ raw ∷ []) → OnOk r (new.nodes ≡ old.nodes) → OnOk r (Sends (channel row ∷ []) old new)
 OnOk-channel (Ok u) row raw old new is message same = Sends-channel row old new (rw is at message) same
@@ -167,9 +167,9 @@ pub OnOk-update : {E : Type 0} (r : Result (Unit {0}) E) (raw : List ℕ) (found
     (old new : Sent) → Some raw ≡ option_map (λ (row : UpdateRow). row.raw) found
     → OnOk r (new.messages ≡ old.messages ++ raw ∷ []) → OnOk r (new.nodes ≡ old.nodes)
     → OnOk r (Sends (option_to_list (option_map update found)) old new)
-OnOk-update (Ok u) raw None old new held message same = absurd cc
-OnOk-update (Ok u) raw (Some row) old new held message same = let is : raw ≡ row.raw = cc in Sends-update row old new (rw is at message) same
-OnOk-update (Err e) raw found old new held message same = tt
+OnOk-update (Ok u) raw None old new stored message same = absurd cc
+OnOk-update (Ok u) raw (Some row) old new stored message same = let is : raw ≡ row.raw = cc in Sends-update row old new (rw is at message) same
+OnOk-update (Err e) raw found old new stored message same = tt
 
 pub OnOk-node : {E : Type 0} (r : Result (Unit {0}) E) (nodes : List NodeRow) (row : NodeRow) (raw : List ℕ)
     (point : Point) (keys inserted : List Point) (old mid new : Sent) → Some row ≡ node_of nodes point
@@ -178,18 +178,18 @@ pub OnOk-node : {E : Type 0} (r : Result (Unit {0}) E) (nodes : List NodeRow) (r
     → ((q : Point) → list_any (is_point q) inserted ≡ cond (is_point point q) true (list_any (is_point q) keys))
     → mid.messages ≡ old.messages → mid.nodes ≡ inserted → OnOk r (new.messages ≡ mid.messages ++ raw ∷ []) → OnOk r (new.nodes ≡ mid.nodes)
     → OnOk r (Sends (option_to_list (option_map node (node_of nodes point))) old new)
-OnOk-node (Ok u) nodes row raw point keys inserted old mid new held is were absent inserts kept with message same =
-    Sends-new_node nodes row point keys old new held were absent (λ q. ap (list_any (is_point q)) (same ∙ with) ∙ inserts q)
+OnOk-node (Ok u) nodes row raw point keys inserted old mid new stored is were absent inserts kept with message same =
+    Sends-new_node nodes row point keys old new stored were absent (λ q. ap (list_any (is_point q)) (same ∙ with) ∙ inserts q)
     ((rw is at message) ∙ ap (λ (ms : List (List ℕ)). ms ++ row.raw ∷ []) kept)
-OnOk-node (Err e) nodes row raw point keys inserted old mid new held is were absent inserts kept with message same = tt
+OnOk-node (Err e) nodes row raw point keys inserted old mid new stored is were absent inserts kept with message same = tt
 
--- what the five bits choose
-pub Sends-chosen : (nodes : List NodeRow) (flags : ℕ) (held : Held) (a b c d e f : Sent)
-    → Sends (if_set flags 0 (Some (channel held.channel))) a b
-    → Sends (if_set flags 1 (option_map update held.first)) b c
-    → Sends (if_set flags 2 (option_map update held.second)) c d
-    → Sends (if_set flags 3 (option_map node (node_of nodes held.channel.message.node_id_1))) d e
-    → Sends (if_set flags 4 (option_map node (node_of nodes held.channel.message.node_id_2))) e f
-    → Sends (chosen_of nodes flags held) a f
-Sends-chosen nodes flags held a b c d e f announcement update_1 update_2 node_1 node_2 =
+-- what the five bits select
+pub Sends-chosen : (nodes : List NodeRow) (flags : ℕ) (stored : ChannelInfo) (a b c d e f : Sent)
+    → Sends (if_set flags 0 (Some (channel stored.channel))) a b
+    → Sends (if_set flags 1 (option_map update stored.first)) b c
+    → Sends (if_set flags 2 (option_map update stored.second)) c d
+    → Sends (if_set flags 3 (option_map node (node_of nodes stored.channel.message.node_id_1))) d e
+    → Sends (if_set flags 4 (option_map node (node_of nodes stored.channel.message.node_id_2))) e f
+    → Sends (chosen_of nodes flags stored) a f
+Sends-chosen nodes flags stored a b c d e f announcement update_1 update_2 node_1 node_2 =
     Sends-then _ _ a e f (Sends-then _ _ a d e (Sends-then _ _ a c d (Sends-then _ _ a b c announcement update_1) update_2) node_1) node_2

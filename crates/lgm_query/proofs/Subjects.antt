@@ -35,7 +35,7 @@ pub record TellKeys (rows : Rows) : Type 0 where
       (λ row. subject_of row.raw ≡ of_channel row.message.short_channel_id) rows.updates
   pub nodes : AllByRecursion (λ row. subject_of row.raw ≡ of_node row.message.node_id) rows.nodes
 
--- bytes are about what they spell
+-- bytes are about what they encode
 subject_is : (m : Message) (bytes : List ℕ) → Wire m bytes → subject_of bytes ≡ subject_in (Ok m)
 unfolding subject_of
 subject_is m bytes wire = ap subject_in (message_again bytes m wire)

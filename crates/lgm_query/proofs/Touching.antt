@@ -15,7 +15,7 @@ use Rattle.lgm_store.proofs.Points.{is_at-point}
 use Rattle.lgm_query.proofs.Ids.{id_test}
 use Rattle.lgm_query.specs.Touched.{touches_channel, touches_node, Touched, HasTouched}
 
--- one more is asked last
+-- one more is requested last
 asked_last : (b others : Bool) → cond b true others ≡ (others || (b || false))
 asked_last b others = grind arith
 

@@ -1,4 +1,4 @@
--- What operations leave as it was.
+-- What operations leave unchanged.
 use Rattle.std.proofs.Common.{◌≡◌, ◌⊎◌, inl, inr, ℕ, Bool, true, false, ◌||◌, not, List, [], ◌∷◌, None, refl, sym, ap, ◌∙◌, arith}
 use Rattle.std.specs.Prelude.{◌==◌, is_some, if◌then◌else◌}
 use Rattle.std.specs.List.{AllByRecursion, list_any}
@@ -14,7 +14,7 @@ use Rattle.lgm_store.specs.declared.op.Op.{Op}
 use Rattle.lgm_store.specs.declared.op.Op.TheVariants as ops
 use Rattle.lgm_store.specs.Rows.{Rows, IsAscending, put, by_id, by_direction, by_node}
 use Rattle.lgm_store.specs.Rows.{channel_of, update_of, node_of, ends_channel, ends_banned}
-use Rattle.lgm_store.specs.History.{channels_without, ended_nodes, with_banned, allowed_channels, without_held}
+use Rattle.lgm_store.specs.History.{channels_without, ended_nodes, with_banned, allowed_channels, without_stored}
 use Rattle.lgm_store.specs.History.{banned_channels, banning, absorbed, fold_from}
 use Rattle.lgm_store.proofs.ListLaws.{All-each, All-to, find-kept, find-gone}
 use Rattle.lgm_store.proofs.Finding.{channel_of-put, update_of-put, node_of-put}
@@ -22,14 +22,14 @@ use Rattle.lgm_store.proofs.Ascending.{IsAscending-absorbed}
 use Rattle.lgm_store.proofs.Points.{same_point}
 use Rattle.lgm_query.specs.Touched.{touches_channel, touches_node}
 
--- ---- what is held of a channel that isn't touched: the same, or nothing any more
+-- ---- the rows of a channel that isn't touched: the same, or none any more
 
 abbrev pub SameChannel : ℕ → Rows → Rows → Type 0
 SameChannel id before after =
     (channel_of after.channels id ≡ channel_of before.channels id)
     × ((second : Bool) → update_of after.updates id second ≡ update_of before.updates id second)
 
--- or it isn't held any more
+-- or it isn't in the map any more
 abbrev pub NoChannel : ℕ → Rows → Type 0
 NoChannel id after = channel_of after.channels id ≡ None
 
@@ -39,7 +39,7 @@ other_id x id other differ is = grind (arith, nat_tests)
 own_id : (x id other : ℕ) → (other == id) ≡ true → (x == id) ≡ true → not (x == other) ≡ false
 own_id x id other same is = grind (arith, nat_tests)
 
--- a channel stands alone with its id: its rows pass a test together
+-- a channel's id is unique: its rows pass a test together
 id_alike : (id : ℕ) (q : ChannelRow → Bool) (rows : List ChannelRow) → IsStrictlySortedBy by_id rows
     → (b : Bool) × AllByRecursion (λ x. (x.message.short_channel_id == id) ≡ true → q x ≡ b) rows
 unfolding IsStrictlySortedBy
@@ -82,14 +82,14 @@ channel_step id rows (ops.Node row) ascend differ = by (ends_channel rows.channe
     by false = inl (refl, λ second. refl)
 channel_step id rows (ops.Close other) ascend differ = by (is_some (channel_of rows.channels other))
   where
-    at : (b : Bool) → (other == id) ≡ b → SameChannel id rows (without_held rows other) ⊎ NoChannel id (without_held rows other)
+    at : (b : Bool) → (other == id) ≡ b → SameChannel id rows (without_stored rows other) ⊎ NoChannel id (without_stored rows other)
     at true own = inr (find-gone _ _ rows.channels (All-each _ _ (λ x is. own_id x.message.short_channel_id id other own is)))
     at false other_is = inl (
       find-kept _ _ rows.channels (All-each _ _ (λ x is. other_id x.message.short_channel_id id other other_is is)),
       λ second. find-kept _ _ rows.updates (All-each _ _ (λ x is. other_id x.message.short_channel_id id other other_is (and_parts _ _ is).0)),
     )
 
-    by : (b : Bool) → SameChannel id rows (if b then without_held rows other else rows) ⊎ NoChannel id (if b then without_held rows other else rows)
+    by : (b : Bool) → SameChannel id rows (if b then without_stored rows other else rows) ⊎ NoChannel id (if b then without_stored rows other else rows)
     by true = at (other == id) refl
     by false = inl (refl, λ second. refl)
 channel_step id rows (ops.Ban ban) ascend differ = by alike.0 alike.1
@@ -129,7 +129,7 @@ channel_untouched id rows (op ∷ history) ascend none =
     both_channel_steps id rows (absorbed rows op) (fold_from (absorbed rows op) history) (channel_step id rows op ascend parts.0)
     (channel_untouched id (absorbed rows op) history (IsAscending-absorbed rows op ascend) parts.1)
 
--- ---- what is held of a node that isn't touched: the same, or nothing any more
+-- ---- the row of a node that isn't touched: the same, or none any more
 
 abbrev pub SameNode : Point → Rows → Rows → Type 0
 SameNode node before after = (node_of after.nodes node ≡ node_of before.nodes node) ⊎ (node_of after.nodes node ≡ None)
@@ -157,7 +157,7 @@ node_step node rows (ops.Node row) differ = by (ends_channel rows.channels row.m
     by false = inl refl
 node_step node rows (ops.Close other) differ = by (is_some (channel_of rows.channels other))
   where
-    by : (b : Bool) → SameNode node rows (if b then without_held rows other else rows)
+    by : (b : Bool) → SameNode node rows (if b then without_stored rows other else rows)
     by true = ended_same node (channels_without rows.channels other) rows.nodes (ends_channel (channels_without rows.channels other) node) refl
     by false = inl refl
 node_step node rows (ops.Ban ban) differ =

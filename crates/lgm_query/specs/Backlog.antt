@@ -7,8 +7,8 @@ use Rattle.std.specs.Option.{option_to_list}
 use Rattle.lgm_check.specs.declared.row.ChannelRow.{ChannelRow}
 use Rattle.lgm_check.specs.declared.row.UpdateRow.{UpdateRow}
 use Rattle.lgm_check.specs.declared.row.NodeRow.{NodeRow}
-use Rattle.lgm_store.specs.declared.held.Held.{Held}
-use Rattle.lgm_store.specs.Held.{held_at}
+use Rattle.lgm_store.specs.declared.channel_info.ChannelInfo.{ChannelInfo}
+use Rattle.lgm_store.specs.ChannelInfo.{stored_at}
 use Rattle.lgm_store.specs.Rows.{Rows}
 use Rattle.lgm_query.specs.declared.filter.Filter.{Filter}
 
@@ -27,22 +27,22 @@ behind_announcement row [] = []
 behind_announcement row (update ∷ updates) = row.raw ∷ update ∷ updates
 
 -- what passes of a channel with its updates, that by node 1 first
-abbrev pub passing_channel : Filter → Held → List (List ℕ)
-passing_channel f held =
-    behind_announcement held.channel
-    (option_to_list (passing_update f held.first) ++ option_to_list (passing_update f held.second))
+abbrev pub passing_channel : Filter → ChannelInfo → List (List ℕ)
+passing_channel f stored =
+    behind_announcement stored.channel
+    (option_to_list (passing_update f stored.first) ++ option_to_list (passing_update f stored.second))
 
 -- what passes of a node announcement
 abbrev pub passing_node : Filter → NodeRow → List (List ℕ)
 passing_node f row = if passes f row.message.timestamp then row.raw ∷ [] else []
 
 -- what passes of channels, and then of nodes
-abbrev pub passing_rows : Filter → List Held → List NodeRow → List (List ℕ)
+abbrev pub passing_rows : Filter → List ChannelInfo → List NodeRow → List (List ℕ)
 passing_rows f channels nodes = flat_map (passing_channel f) channels ++ flat_map (passing_node f) nodes
 
 -- what passes of a map: channels by id, and then nodes
 abbrev pub backlog : Rows → Filter → List (List ℕ)
-backlog rows f = passing_rows f (map (held_at rows) rows.channels) rows.nodes
+backlog rows f = passing_rows f (map (stored_at rows) rows.channels) rows.nodes
 
 -- a message is one of these
 abbrev pub is_among : List (List ℕ) → List ℕ → Bool

@@ -10,8 +10,8 @@ use Rattle.lgm_gossip.specs.declared.message.Message.TheVariants as messages
 use Rattle.lgm_gossip.specs.IdsQuery.{Query}
 use Rattle.lgm_gossip.specs.Spelling.{spelling}
 use Rattle.lgm_check.specs.declared.row.NodeRow.{NodeRow}
-use Rattle.lgm_store.specs.declared.held.Held.{Held}
-use Rattle.lgm_store.specs.Held.{held_at}
+use Rattle.lgm_store.specs.declared.channel_info.ChannelInfo.{ChannelInfo}
+use Rattle.lgm_store.specs.ChannelInfo.{stored_at}
 use Rattle.lgm_store.specs.Rows.{Rows, channel_of, node_of}
 use Rattle.lgm_query.specs.Piece.{Piece, channel, update, node, bytes_of, with_nodes_once}
 
@@ -24,18 +24,18 @@ abbrev pub if_set : ℕ → ℕ → Option Piece → List Piece
 if_set flags bit piece = when (bit_at flags bit == 1) piece
 
 -- what the flags select of a channel, in the order of the bits; higher bits select nothing
-abbrev pub chosen_of : List NodeRow → ℕ → Held → List Piece
-chosen_of nodes flags held =
-    if_set flags 0 (Some (channel held.channel))
-    ++ if_set flags 1 (option_map update held.first)
-    ++ if_set flags 2 (option_map update held.second)
-    ++ if_set flags 3 (option_map node (node_of nodes held.channel.message.node_id_1))
-    ++ if_set flags 4 (option_map node (node_of nodes held.channel.message.node_id_2))
+abbrev pub chosen_of : List NodeRow → ℕ → ChannelInfo → List Piece
+chosen_of nodes flags stored =
+    if_set flags 0 (Some (channel stored.channel))
+    ++ if_set flags 1 (option_map update stored.first)
+    ++ if_set flags 2 (option_map update stored.second)
+    ++ if_set flags 3 (option_map node (node_of nodes stored.channel.message.node_id_1))
+    ++ if_set flags 4 (option_map node (node_of nodes stored.channel.message.node_id_2))
 
 -- what the flags select of an id: nothing if the channel isn't in the map
 abbrev pub chosen : Rows → ℕ × ℕ → List Piece
 chosen rows place =
-    option_map_or (λ row. chosen_of rows.nodes place.1 (held_at rows row))
+    option_map_or (λ row. chosen_of rows.nodes place.1 (stored_at rows row))
     (channel_of rows.channels place.0) []
 
 -- the flags for each id: all five if the query has none

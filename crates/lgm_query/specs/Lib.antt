@@ -6,6 +6,6 @@ pub mod Backlog
 pub mod Cover
 pub mod KeyNews
 pub mod Touched
-pub mod Differences
+pub mod MapDiff
 pub mod ComesOf
 pub mod inner

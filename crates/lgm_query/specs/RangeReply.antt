@@ -10,10 +10,10 @@ use Rattle.lgm_wire.specs.declared.chain_hash.ChainHash.{ChainHash}
 use Rattle.lgm_gossip.specs.declared.message.Message.TheVariants as messages
 use Rattle.lgm_gossip.specs.declared.range_query.RangeQuery.{RangeQuery}
 use Rattle.lgm_gossip.specs.declared.timestamps.Timestamps.{Timestamps}
-use Rattle.lgm_gossip.specs.RangeReply.{Reply}
+use Rattle.lgm_gossip.specs.RangeReply.{ReplyFields}
 use Rattle.lgm_gossip.specs.Spelling.{spelling}
 use Rattle.lgm_check.specs.declared.row.UpdateRow.{UpdateRow}
-use Rattle.lgm_store.specs.declared.held.Held.{Held}
+use Rattle.lgm_store.specs.declared.channel_info.ChannelInfo.{ChannelInfo}
 use Rattle.lgm_store.specs.Rows.{Rows, update_of}
 use Rattle.lgm_store.specs.Reading.{block_of, is_between, ids_between_of}
 
@@ -78,8 +78,8 @@ timestamps_of rows id =
     }
 
 -- the same of a channel with its updates
-abbrev pub timestamps_in : Held → Timestamps
-timestamps_in held = record { node_1 = timestamp_of held.first; node_2 = timestamp_of held.second }
+abbrev pub timestamps_in : ChannelInfo → Timestamps
+timestamps_in stored = record { node_1 = timestamp_of stored.first; node_2 = timestamp_of stored.second }
 
 abbrev pub all_timestamps_of : Rows → List ℕ → List Timestamps
 all_timestamps_of rows ids = map (timestamps_of rows) ids
@@ -98,7 +98,7 @@ timestamps_asked_for rows query ids =
     if asks_for_timestamps query then Some (all_timestamps_of rows ids) else None
 
 -- reply i, reply_channel_range
-abbrev pub reply : Rows → RangeQuery → List ℕ → ℕ → Reply
+abbrev pub reply : Rows → RangeQuery → List ℕ → ℕ → ReplyFields
 reply rows query ids i = record {
   chain_hash = query.chain_hash;
   first_blocknum = reply_start query ids i;

@@ -1,6 +1,6 @@
 -- Definitions for contracts inside the crate.
-pub mod Reply
+pub mod ReplyMessage
 pub mod Sent
 pub mod SentWith
-pub mod Known
+pub mod MessageSet
 pub mod Pairs

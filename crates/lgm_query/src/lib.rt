@@ -2,41 +2,33 @@
 //!
 //! [`read_query`] and [`read_filter`] read what a peer requests. [`answer_ids`] returns the messages in the map about
 //! given channels, and [`answer_range`] the ids of the channels in a range of blocks. A [`Backlog`] iterates over what
-//! passes a [`Filter`], [`backlog`] collects it, and [`news`] returns what is new of it in a later map; if operations led
-//! from the earlier map to the later one, [`Differences`] iterate over it without looking at the rest. All return whole
-//! messages as bytes, ready to be sent.
+//! passes a [`Filter`], [`backlog`] collects it, and [`news`] returns what is new of it in a later map; if operations
+//! led from the earlier map to the later one, a [`MapDiff`] iterates over it without looking at the rest. All return
+//! whole messages as bytes, ready to be sent.
 #![tactic(auto)]
 
-mod answering_ids;
-mod answering_range;
-mod backlogs;
-mod changes;
-mod differences;
-mod encoded;
+mod backlog_iter;
 mod filter;
-mod gathering;
+mod ids_reply;
 mod laws;
-mod newer;
-mod news_walk;
+mod map_diff;
+mod matching_messages;
+mod news_iter;
 mod pairs;
-mod passing;
-mod ranges;
-mod replies;
+mod range_reply;
 mod reply;
+mod reply_builder;
 mod request;
-mod sending;
 mod sent_with;
+mod touched_keys;
 
-pub use answering_ids::answer_ids;
-pub use answering_range::answer_range;
-pub use backlogs::Backlog;
-pub use changes::Changes;
-pub use differences::Differences;
-pub use filter::Filter;
-pub use gathering::backlog;
+pub use backlog_iter::Backlog;
+pub use filter::{Filter, news};
+pub use ids_reply::answer_ids;
 pub use laws::replies_cover_range;
-pub use newer::news;
-pub use news_walk::News;
-pub use replies::Replies;
-pub use reply::Reply;
+pub use map_diff::MapDiff;
+pub use news_iter::News;
+pub use range_reply::answer_range;
+pub use reply::{Replies, ReplyMessage, backlog};
 pub use request::{Query, RequestFault, read_filter, read_query};
+pub use touched_keys::TouchedKeys;

@@ -7,16 +7,16 @@ ghost use Rattle.lgm_query.specs.KeyNews.{news_of_channel, news_of_node};
 ghost use Rattle.lgm_query.specs.inner.SentWith.{sent_with, update_message, is_node_message};
 
 use crate::sent_with::SentWith;
-use lgm_check::KeptNode;
+use lgm_check::StoredNode;
 use lgm_gossip::{Point, Scid};
-use lgm_store::{Held, Map};
+use lgm_store::{ChannelInfo, Map};
 
 /// A channel of a later map, its row in an earlier one, and for each message the earlier updates with which it was
 /// sent.
 #[derive(Drop)]
 pub(crate) struct ChannelPair<'a> {
-    pub(crate) before: Option<&'a Held>,
-    pub(crate) after: &'a Held,
+    pub(crate) before: Option<&'a ChannelInfo>,
+    pub(crate) after: &'a ChannelInfo,
     pub(crate) announcement: SentWith,
     pub(crate) first: SentWith,
     pub(crate) second: SentWith,
@@ -28,8 +28,8 @@ pub(crate) struct ChannelPair<'a> {
 /// A node of a later map, its row in an earlier one, and whether both have the same message.
 #[derive(Drop)]
 pub(crate) struct NodePair<'a> {
-    pub(crate) before: Option<&'a KeptNode>,
-    pub(crate) after: &'a KeptNode,
+    pub(crate) before: Option<&'a StoredNode>,
+    pub(crate) after: &'a StoredNode,
     pub(crate) is_same: bool,
     ghost same: { is_same ≡ is_node_message (option_copied before) after.now.raw },
 }
@@ -42,8 +42,8 @@ impl<'a> ChannelPair<'a> {
         ensures { (f : Filter)
             → option_map_or (news_of_channel_pair f) result [] ≡ news_of_channel f before.now after.now scid }
     {
-        let after = after.held(scid)?;
-        let before = before.held(scid);
+        let after = after.channel_info(scid)?;
+        let before = before.channel_info(scid);
         Some(ChannelPair {
             before,
             after,
@@ -62,8 +62,8 @@ impl<'a> NodePair<'a> {
         ensures { (f : Filter)
             → option_map_or (news_of_node_pair f) result [] ≡ news_of_node f before.now after.now node.now }
     {
-        let after = after.kept_node(node)?;
-        let before = before.kept_node(node);
+        let after = after.stored_node(node)?;
+        let before = before.stored_node(node);
         let is_same = match before {
             Some(row) => row.raw() == after.raw(),
             None => false,

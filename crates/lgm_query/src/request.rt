@@ -6,10 +6,10 @@ ghost use Rattle.lgm_check.specs.Refusal.{refusal_of};
 ghost use Rattle.lgm_query.specs.Requests.{query_in, query_read, replies_to};
 ghost use Rattle.lgm_query.specs.Requests.{filter_in, filter_read, request_word};
 
-use crate::answering_ids::answer_ids;
-use crate::answering_range::answer_range;
 use crate::filter::Filter;
-use crate::replies::Replies;
+use crate::ids_reply::answer_ids;
+use crate::range_reply::answer_range;
+use crate::reply::Replies;
 use lgm_check::Refusal;
 use lgm_gossip::{ChainHash, DecodeFault, IdsQuery, Message, RangeQuery, decode};
 use lgm_store::Map;
@@ -25,7 +25,7 @@ pub enum Query {
     Range(RangeQuery),
 }
 
-/// Why a message isn't taken as a query or as a filter.
+/// Why a message isn't accepted as a query or as a filter.
 #[derive(Clone, Copy, Debug, PartialEq, Eq, Error)]
 pub enum RequestFault {
     /// The bytes aren't a message, it is a filter of another chain, or memory ran out.

@@ -1,4 +1,4 @@
--- What the pass from the payer tells.
+-- The bounds of the forward search.
 use Rattle.std.proofs.Common.{◌≡◌, ◌≢◌, ◌⊎◌, ℕ, zero, suc, ◌+◌, ◌-◌, ◌^◌, ◌<◌, ◌≤◌, min, List, [], ◌∷◌, ◌++◌, length, get_or}
 use Rattle.std.proofs.Common.{set, Bool, true, false, refl, sym, ◌∙◌, ap, subst, inl, inr, arith, get_or-set_other}
 use Rattle.std.specs.List.{Contains}
@@ -6,7 +6,7 @@ use Rattle.std.proofs.lemmas.List.{get_or_default, get_or_push, length_push, get
 use Rattle.lgm_graph.specs.Fee.{fee_of}
 use Rattle.lgm_graph.specs.Graph.{Graph, edges, edges_leaving, AreListed}
 use Rattle.lgm_graph.specs.declared.edge.Edge.{Edge}
-use Rattle.lgm_route.specs.declared.numbered_request.NumberedRequest.{NumberedRequest}
+use Rattle.lgm_route.specs.declared.request.NumberedRequest.{NumberedRequest}
 use Rattle.lgm_route.specs.inner.Searching.{number_at, no_edge, edge_at}
 use Rattle.lgm_route.specs.inner.Bounding.{AreLow, IsLowered, IsSpread, IsRadius, AreCut, AreReached, bounds_in, is_closed, IsNear, IsLooked}
 use Rattle.lgm_route.proofs.Rests.{trichotomy}
@@ -23,7 +23,7 @@ near_later request start nodes dist after edge falls near =
       first = λ to min max from. omega (arith, falls edge.to, near.first to min max from);
     }
 
--- lowered, the closed nodes tell the same
+-- after fees are lowered, the same holds of closed nodes
 pub spread_lowered : (edges : List Edge) (request : NumberedRequest) (dist : List ℕ) (closed : List Bool)
     (node amount : ℕ) (after : List ℕ) (now : List Bool) →
     IsLowered dist closed node amount after now → IsSpread edges request dist closed → IsSpread edges request after now
@@ -44,7 +44,7 @@ start_lowered dist closed node amount after now start at low h k = by (low.least
     by (inl e) = omega arith
     by (inr p) = omega arith
 
--- what a look at an edge leaves
+-- after an edge is relaxed
 pub looked : (request : NumberedRequest) (start amount node : ℕ) (edge : Edge) (dist : List ℕ)
     (closed : List Bool) (after : List ℕ) (now : List Bool) →
     IsLowered dist closed node amount after now → node ≡ edge.to → start ≤ amount → (edge.from ≡ request.payer
@@ -63,7 +63,7 @@ looked request start amount node edge dist closed after now low to more first mo
           };
     }
 
--- one more edge out of the node was looked at
+-- one more edge out of the node was relaxed
 pub near_more : (request : NumberedRequest) (start nodes place : ℕ) (leaving : List Edge) (dist after : List ℕ) →
     ((other : ℕ) → number_at after other ≤ number_at dist other) →
     ((j : ℕ) → j < place → IsNear request start nodes dist (edge_at leaving j)) → IsNear request start nodes after (edge_at leaving place) →
@@ -118,7 +118,7 @@ spread_closed graph request dist closed node start listed long within none low n
         omega (arith, (found edge there e).first (inside edge there) min max from, none (sym e ∙ from))
     at_first edge there min max from shut (inr (inr p)) = is.first edge there (before edge.from (λ e. omega (arith, p)) shut) min max from
 
--- cut at the least of the open nodes these are bounds
+-- cut at the radius, the fees are lower bounds
 pub low_of : (edges : List Edge) (request : NumberedRequest) (dist : List ℕ) (closed : List Bool) (most : ℕ) (after : List ℕ) →
     ((edge : Edge) → Contains edges edge → (edge.from < length dist) × (edge.to < length dist))
     → IsSpread edges request dist closed → IsRadius dist closed most → AreCut dist most after
@@ -183,13 +183,13 @@ cut_bounds radius dist =
 
 -- ---- nodes that were reached
 
--- what is charged up to open nodes of the list is no less
+-- the fees to open nodes of the list are no less
 abbrev pub IsLeastOf : List ℕ → List Bool → List ℕ → ℕ → ℕ → Type 0
 IsLeastOf dist closed reached place most =
     (k : ℕ) → k < place → get_or reached k 0 < length dist → is_closed closed (get_or reached k 0) ≡ false
     → most ≤ number_at dist (get_or reached k 0)
 
--- a node more in the list, and what is charged up to it lowered
+-- one more node in the list, with lowered fees
 pub reached_more : (dist after : List ℕ) (reached : List ℕ) (node : ℕ) → length after ≡ length dist
     → ((other : ℕ) → (other ≡ node) ⊎ (number_at after other ≡ number_at dist other)) →
     AreReached dist reached → AreReached after (reached ++ node ∷ [])

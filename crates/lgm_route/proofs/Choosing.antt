@@ -1,4 +1,4 @@
--- The walk that trial gives is the least one, and the only one.
+-- Exhaustive search finds the best walk, which is unique.
 use Rattle.std.proofs.Common.{◌≡◌, ◌≢◌, ◌⊎◌, ◌↔◌, ℕ, ◌≤◌, Bool, List, [], ◌∷◌, length, map, Ordering, zero}
 use Rattle.std.proofs.Common.{suc, true, false, cond, refl, sym, ◌∙◌, ap, subst, inl, inr, arith}
 use Rattle.std.specs.Prelude.{nat_le, nat_lt, nat_eq, is_some, ◌&&◌, Option, Some, None, Result, Ok, Err}
@@ -21,7 +21,7 @@ use Rattle.lgm_route.specs.declared.fault.RouteFault.TheVariants.{AmountZero, Am
 use Rattle.lgm_route.specs.Routes.{owed, walk_key, hops_of, IsRest, IsUsable, Precedes}
 use Rattle.lgm_route.specs.Answers.{refusal, IsFoundOver, IsAnswerBy, IsAnswer}
 use Rattle.lgm_route.specs.inner.Searching.{NotAfter}
-use Rattle.lgm_route.specs.Choice.{lists_of, leads, usable_walks, lesser, least_of, least_walk, found_by, answer_by, answer_of}
+use Rattle.lgm_route.specs.Choice.{lists_of, relaxations, usable_walks, lesser, least_of, least_walk, found_by, answer_by, answer_of}
 use Rattle.lgm_route.proofs.Orders.{NotAfter-refl, NotAfter-trans, NotAfter-excludes}
 use Rattle.lgm_route.proofs.Visits.{least-unique, not_after}
 
@@ -61,7 +61,7 @@ true_le : (a b : ℕ) → nat_le a b ≡ true → a ≤ b
 true_le a b h = grind (arith, nat_tests)
 
 rests_lead : (edges : List PointEdge) (request : Request) (node : Point) (walk : List PointEdge)
-    → IsRest edges request node walk → (leads request node walk ≡ true) × AreOf edges walk
+    → IsRest edges request node walk → (relaxations request node walk ≡ true) × AreOf edges walk
 rests_lead edges request node [] joins = (subst (λ p. is_point node p ≡ true) joins (is_point-self node), tt)
 rests_lead edges request node (edge ∷ rest) joins =
     let later = rests_lead edges request edge.to rest joins.1 in
@@ -71,12 +71,12 @@ rests_lead edges request node (edge ∷ rest) joins =
     (rw (here, least, most, later.0) refl, (joins.0.there, later.1))
 
 leads_rest : (edges : List PointEdge) (request : Request) (node : Point) (walk : List PointEdge)
-    → leads request node walk ≡ true → AreOf edges walk → IsRest edges request node walk
+    → relaxations request node walk ≡ true → AreOf edges walk → IsRest edges request node walk
 leads_rest edges request node [] h of = same_point node request.payee h
 leads_rest edges request node (edge ∷ rest) h of =
     let below = nat_le (owed request.amount rest) edge.max in
     let above = nat_le edge.min request.amount in
-    let last = and_parts (is_point edge.from node && above && below) (leads request edge.to rest) h in
+    let last = and_parts (is_point edge.from node && above && below) (relaxations request edge.to rest) h in
     let third = and_parts (is_point edge.from node && above) below last.0 in
     let second = and_parts (is_point edge.from node) above third.0 in (
       record {
@@ -89,7 +89,7 @@ leads_rest edges request node (edge ∷ rest) h of =
     )
 
 abbrev is_usable : Request → List PointEdge → Bool
-is_usable request walk = nat_le 1 (length walk) && leads request request.payer walk
+is_usable request walk = nat_le 1 (length walk) && relaxations request request.payer walk
 
 usable_found : (edges : List PointEdge) (request : Request) (walk : List PointEdge) → IsUsable edges request walk → Among (usable_walks edges request) walk
 usable_found edges request walk usable =
@@ -101,10 +101,10 @@ found_usable : (edges : List PointEdge) (request : Request) (walk : List PointEd
 found_usable edges request walk there =
     let passed = Among-passed (is_usable request) (lists_of edges 20) walk there in
     let list = list_found edges walk 20 passed.0 in
-    let is = and_parts (nat_le 1 (length walk)) (leads request request.payer walk) passed.1 in
+    let is = and_parts (nat_le 1 (length walk)) (relaxations request request.payer walk) passed.1 in
     record { some = true_le 1 (length walk) is.0; few = list.1; joins = leads_rest edges request request.payer walk is.1 list.0 }
 
--- ---- the least of them
+-- ---- the best of them
 
 -- no walk of the list has a lesser key
 abbrev NoneBefore : Request → List PointEdge → List (List PointEdge) → Type 0
@@ -132,7 +132,7 @@ lesser_of request walk other = by (slice_cmp nat_cmp (walk_key request other) (w
     by Equal e = rw e (kept (λ less. let bad = sym e ∙ less in absurd cc))
     by Greater e = rw e (kept (λ less. let bad = sym e ∙ less in absurd cc))
 
--- with a walk more in front
+-- with one more walk in front
 one_more : (request : Request) (best walk next last : List PointEdge) (walks : List (List PointEdge)) → IsLesser request best walk next →
     Among (next ∷ walks) last × NoneBefore request last (next ∷ walks)
     → Among (best ∷ walk ∷ walks) last × NoneBefore request last (best ∷ walk ∷ walks)
@@ -188,7 +188,7 @@ least_found edges request (walk ∷ walks) same = (best, record { usable = usabl
         NotAfter-excludes (walk_key request best) (walk_key request other) (is.1 other
         (subst (λ ws. Among ws other) (sym same) (usable_found edges request other able))) before
 
--- trial gives an answer
+-- exhaustive search returns an answer
 pub tried : (edges : List PointEdge) (request : Request) → IsAnswer edges request (answer_of edges request)
 unfolding answer_of least_walk
 tried edges request = by (refusal request)
@@ -245,16 +245,16 @@ HaveSame edges others = (edge : PointEdge) → Contains edges edge ↔ Contains 
 rest_over : (edges others : List PointEdge) (request : Request) (node : Point) (walk : List PointEdge)
     → ((edge : PointEdge) → Contains edges edge → Contains others edge) →
     IsRest edges request node walk → IsRest others request node walk
-rest_over edges others request node [] held joins = joins
-rest_over edges others request node (edge ∷ rest) held joins = (
-  record { there = held edge joins.0.there; leaves = joins.0.leaves; above_min = joins.0.above_min; below_max = joins.0.below_max },
-  rest_over edges others request edge.to rest held joins.1,
+rest_over edges others request node [] stored joins = joins
+rest_over edges others request node (edge ∷ rest) stored joins = (
+  record { there = stored edge joins.0.there; leaves = joins.0.leaves; above_min = joins.0.above_min; below_max = joins.0.below_max },
+  rest_over edges others request edge.to rest stored joins.1,
 )
 
 usable_over : (edges others : List PointEdge) (request : Request) (walk : List PointEdge) → ((edge : PointEdge) → Contains edges edge → Contains others edge) →
     IsUsable edges request walk → IsUsable others request walk
-usable_over edges others request walk held usable =
-    record { some = usable.some; few = usable.few; joins = rest_over edges others request request.payer walk held usable.joins }
+usable_over edges others request walk stored usable =
+    record { some = usable.some; few = usable.few; joins = rest_over edges others request request.payer walk stored usable.joins }
 
 found_over : (edges others : List PointEdge) (request : Request) (answer : Result (List Hop) RouteFault) → HaveSame edges others →
     IsFoundOver edges request answer → IsFoundOver others request answer
@@ -277,14 +277,14 @@ answer-over edges others request answer same is = by (refusal request) is
     by (Some fault) is = is
     by None is = found_over edges others request answer same is
 
--- the answer is that of trial
+-- the answer is that of exhaustive search
 pub answer-tried : (edges others : List PointEdge) (request : Request) (answer : Result (List Hop) RouteFault)
     → AreDirections others → HaveSame edges others →
     IsAnswer edges request answer → answer ≡ answer_of others request
 answer-tried edges others request answer directions same is =
     answer-unique others request answer (answer_of others request) directions (answer-over edges others request answer same is) (tried others request)
 
--- so it is over the edges of the rows, where memory sufficed
+-- so it is over the edges of the rows, unless memory ran out
 pub answered : {E : Type 0} (edges others : List PointEdge) (request : Request) (answer : Result (List Hop) RouteFault)
     → AreDirections others → HaveSame edges others → E ⊎ IsAnswer edges request answer
     → E ⊎ (answer ≡ answer_of others request)

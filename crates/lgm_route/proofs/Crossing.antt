@@ -14,7 +14,7 @@ use Rattle.lgm_graph.specs.declared.edge.Edge.{Edge}
 use Rattle.lgm_graph.specs.Graph.{Graph, number_of, IsNumbered, no_point, edge_between, edges, point_edges, AreListed}
 use Rattle.lgm_graph.proofs.Numbers.{number_none, number_some, get_number}
 use Rattle.lgm_route.specs.declared.request.Request.{Request}
-use Rattle.lgm_route.specs.declared.numbered_request.NumberedRequest.{NumberedRequest}
+use Rattle.lgm_route.specs.declared.request.NumberedRequest.{NumberedRequest}
 use Rattle.lgm_route.specs.Routes as routes
 use Rattle.lgm_route.specs.inner.Numbered as walks
 

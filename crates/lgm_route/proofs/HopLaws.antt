@@ -1,4 +1,4 @@
--- The hops of a walk, made from its end on.
+-- The hops of a walk, built from its end on.
 use Rattle.std.proofs.Common.{◌≡◌, ℕ, suc, ◌+◌, ◌-◌, ◌*◌, ◌^◌, ◌<◌, ◌≤◌, List, [], ◌∷◌}
 use Rattle.std.proofs.Common.{◌++◌, length, get_or, drop, reverse, refl, sym, ◌∙◌, ap, arith}
 use Rattle.std.proofs.lemmas.List.{drop_more, reverse-append}
@@ -7,7 +7,7 @@ use Rattle.lgm_graph.specs.Edges.{PointEdge}
 use Rattle.lgm_graph.specs.Graph.{Graph, edges, AreListed}
 use Rattle.lgm_graph.specs.declared.edge.Edge.{Edge}
 use Rattle.lgm_route.specs.declared.request.Request.{Request}
-use Rattle.lgm_route.specs.declared.numbered_request.NumberedRequest.{NumberedRequest}
+use Rattle.lgm_route.specs.declared.request.NumberedRequest.{NumberedRequest}
 use Rattle.lgm_route.specs.declared.route.Hop.{Hop}
 use Rattle.lgm_route.specs.Routes.{owed, due, hops_of}
 use Rattle.lgm_route.specs.inner.Numbered as walks
@@ -18,7 +18,7 @@ use Rattle.lgm_route.proofs.Rests.{carried_at}
 
 -- ---- hop by hop
 
--- the hops of the last edges, so many of them, and what is owed and due before them
+-- the hops of this many last edges, and the amount and expiry before them
 pub record AreHops (graph : Graph) (request : Request) (walk : List Edge) (i owes falls : ℕ) (hops : List Hop) : Type 0 where
   pub owed_is : owes ≡ owed request.amount (edges_in graph (drop (length walk - i) walk))
   pub due_is : falls ≡ due request.expiry (edges_in graph (drop (length walk - i) walk))
@@ -53,7 +53,7 @@ hops_more graph request walk i owes falls hops after d edge hop fee lt is small 
           (due request.expiry (edges_in graph back)) ∷ r) before.hops_are);
     }
 
--- what is owed at each place fits
+-- each amount fits 64 bits
 pub owed_fits : (graph : Graph) (request : Request) (walk : List Edge) (i owes falls : ℕ) (hops : List Hop)
     → i < length walk → AreCarried request.amount (walk) → AreHops graph request walk i owes falls hops
     → owes < 2 ^ 64

@@ -3,9 +3,10 @@ pub mod Rests
 pub mod Labels
 pub mod Chains
 pub mod Steps
-pub mod Leads
+pub mod Endings
+pub mod RelaxationLaws
 pub mod Bounded
-pub mod Passes
+pub mod ForwardStates
 pub mod Searches
 pub mod Crossing
 pub mod HopLaws

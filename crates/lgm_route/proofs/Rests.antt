@@ -1,11 +1,11 @@
--- Rests of walks: what they owe, and which serves in place of which.
+-- Rests of walks: their amounts, and which dominates which.
 use Rattle.std.proofs.Common.{◌≡◌, ◌⊎◌, ℕ, suc, ◌+◌, ◌*◌, ◌^◌, ◌<◌, ◌≤◌, List, [], ◌∷◌, length, drop, zero, refl, ap, inl, inr, arith}
 use Rattle.std.proofs.Math.Nat.{mul-le-mul_right}
 use Rattle.lgm_graph.specs.Fee.{fee_of}
 use Rattle.lgm_graph.specs.declared.edge.Edge.{Edge}
-use Rattle.lgm_route.specs.declared.numbered_request.NumberedRequest.{NumberedRequest}
+use Rattle.lgm_route.specs.declared.request.NumberedRequest.{NumberedRequest}
 use Rattle.lgm_route.specs.inner.Numbered.{owed, sent, ids, IsStep}
-use Rattle.lgm_route.specs.inner.Searching.{cost, NotAfter, rest_key, walk_key, Serves, AreCarried}
+use Rattle.lgm_route.specs.inner.Searching.{cost, NotAfter, rest_key, walk_key, Dominates, AreCarried}
 use Rattle.lgm_route.proofs.Orders.{NotAfter-refl, NotAfter-trans, NotAfter-split, NotAfter-join, NotAfter-heads}
 
 -- a larger amount is charged no less
@@ -16,35 +16,35 @@ fee-monotone x y base millionths h = let grown = mul-le-mul_right millionths h i
 pub trichotomy : (a b : ℕ) → (a < b) ⊎ (a ≡ b) ⊎ (b < a)
 trichotomy a b = grind arith
 
--- what the node before owes rises strictly with what is passed on
+-- the amount before an edge is strictly increasing in the amount after it
 pub raised-lt : (a b base millionths : ℕ) → a < b → a + fee_of a base millionths < b + fee_of b base millionths
 raised-lt a b base millionths h = let grown = fee-monotone a b base millionths (omega arith) in omega (arith, grown)
 
 pub raised-le : (a b base millionths : ℕ) → a ≤ b → a + fee_of a base millionths ≤ b + fee_of b base millionths
 raised-le a b base millionths h = let grown = fee-monotone a b base millionths h in omega (arith, grown)
 
--- lemma 3: what owes no more may be passed on wherever the other may
+-- lemma 3: a lesser amount can be carried wherever a greater one can
 pub step-cheaper : (edges : List Edge) (request : NumberedRequest) (node : ℕ) (edge : Edge) (rest other : List Edge) →
     owed request.amount rest ≤ owed request.amount other →
     IsStep edges request node edge other → IsStep edges request node edge rest
 step-cheaper edges request node edge rest other h step =
     record { there = step.there; leaves = step.leaves; above_min = step.above_min; below_max = omega (arith, step.below_max) }
 
-pub Serves-refl : (request : NumberedRequest) (rest : List Edge) → Serves request rest rest
-Serves-refl request rest = record { fewer = omega arith; before = NotAfter-refl (rest_key request rest) }
+pub Dominates-refl : (request : NumberedRequest) (rest : List Edge) → Dominates request rest rest
+Dominates-refl request rest = record { fewer = omega arith; before = NotAfter-refl (rest_key request rest) }
 
-pub Serves-trans : (request : NumberedRequest) (a b c : List Edge) → Serves request a b → Serves request b c → Serves request a c
-Serves-trans request a b c h k =
+pub Dominates-trans : (request : NumberedRequest) (a b c : List Edge) → Dominates request a b → Dominates request b c → Dominates request a c
+Dominates-trans request a b c h k =
     record {
       fewer = omega (arith, h.fewer, k.fewer);
       before =
           NotAfter-trans (rest_key request a) (rest_key request b) (rest_key request c) h.before k.before;
     }
 
-pub Serves-owed : (request : NumberedRequest) (a b : List Edge) → Serves request a b → owed request.amount a ≤ owed request.amount b
-Serves-owed request a b h = NotAfter-heads (owed request.amount a) (owed request.amount b) (length a ∷ ids a) (length b ∷ ids b) h.before
+pub Dominates-owed : (request : NumberedRequest) (a b : List Edge) → Dominates request a b → owed request.amount a ≤ owed request.amount b
+Dominates-owed request a b h = NotAfter-heads (owed request.amount a) (owed request.amount b) (length a ∷ ids a) (length b ∷ ids b) h.before
 
--- lemma 2: an edge put before two rests keeps their order
+-- lemma 2: an edge in front of two rests preserves their order
 abbrev Tails : List Edge → List Edge → Type 0
 Tails a b = NotAfter (length a ∷ ids a) (length b ∷ ids b)
 
@@ -56,8 +56,8 @@ tails_prepend edge a b h = by (NotAfter-split (length a) (length b) (ids a) (ids
     by (inr p) = NotAfter-join (suc (length a)) (suc (length b)) (ids (edge ∷ a)) (ids (edge ∷ b))
         (inr (ap suc p.0, NotAfter-join edge.scid edge.scid (ids a) (ids b) (inr (refl, p.1))))
 
-pub Serves-prepend : (request : NumberedRequest) (edge : Edge) (a b : List Edge) → Serves request a b → Serves request (edge ∷ a) (edge ∷ b)
-Serves-prepend request edge a b h =
+pub Dominates-prepend : (request : NumberedRequest) (edge : Edge) (a b : List Edge) → Dominates request a b → Dominates request (edge ∷ a) (edge ∷ b)
+Dominates-prepend request edge a b h =
     record { fewer = omega (arith, h.fewer); before = by (NotAfter-split x y (length a ∷ ids a) (length b ∷ ids b) h.before) }
   where
     x : ℕ
@@ -77,9 +77,9 @@ Serves-prepend request edge a b h =
         (inr (ap (λ z. z + fee_of z edge.base edge.millionths) p.0, tails_prepend edge a b p.1))
 
 -- and as whole walks, where the first edge charges nothing
-pub Serves-walk : (request : NumberedRequest) (edge : Edge) (a b : List Edge) → Serves request a b
+pub Dominates-walk : (request : NumberedRequest) (edge : Edge) (a b : List Edge) → Dominates request a b
     → NotAfter (walk_key request (edge ∷ a)) (walk_key request (edge ∷ b))
-Serves-walk request edge a b h = by (NotAfter-split x y (length a ∷ ids a) (length b ∷ ids b) h.before)
+Dominates-walk request edge a b h = by (NotAfter-split x y (length a ∷ ids a) (length b ∷ ids b) h.before)
   where
     x : ℕ
     x = owed request.amount a
@@ -91,7 +91,7 @@ Serves-walk request edge a b h = by (NotAfter-split x y (length a ∷ ids a) (le
     by (inl p) = NotAfter-join x y (length (edge ∷ a) ∷ ids (edge ∷ a)) (length (edge ∷ b) ∷ ids (edge ∷ b)) (inl p)
     by (inr p) = NotAfter-join x y (length (edge ∷ a) ∷ ids (edge ∷ a)) (length (edge ∷ b) ∷ ids (edge ∷ b)) (inr (p.0, tails_prepend edge a b p.1))
 
--- what is sent, and then how many edges, in one number
+-- what is sent, and then the number of edges, in one number
 pub walk_less : (request : NumberedRequest) (walk other : List Edge) → length walk ≤ 20 → length other ≤ 20 →
     cost (sent request.amount walk) (length walk) < cost (sent request.amount other) (length other) →
     NotAfter (walk_key request walk) (walk_key request other)
@@ -105,7 +105,7 @@ walk_less request walk other few also p = by (trichotomy (sent request.amount wa
         (inr (r, NotAfter-join (length walk) (length other) (ids walk) (ids other) (inl (omega arith))))
     by (inr (inr r)) = absurd (omega arith)
 
--- a rest owes no less than the amount
+-- the amount of a rest is at least the payment's
 pub owed-least : (amount : ℕ) (rest : List Edge) → amount ≤ owed amount rest
 owed-least amount [] = omega arith
 owed-least amount (edge ∷ rest) = omega (arith, owed-least amount rest)
@@ -118,7 +118,7 @@ pub carried_under : (amount : ℕ) (walk : List Edge) → sent amount walk < 2 ^
 carried_under amount [] small = tt
 carried_under amount (edge ∷ rest) small = (small, carried_under amount rest (omega (arith, sent_below amount rest)))
 
--- what is owed behind the edge at a place fits
+-- the amount after each edge fits 64 bits
 pub carried_at : (amount : ℕ) (walk : List Edge) (k : ℕ) → AreCarried amount walk → k < length walk → owed amount (drop (suc k) walk) < 2 ^ 64
 carried_at amount [] k carried within = absurd (omega arith)
 carried_at amount (edge ∷ rest) zero carried within = carried.0

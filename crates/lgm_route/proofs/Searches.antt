@@ -3,119 +3,120 @@ use Rattle.std.proofs.Common.{◌≡◌, ◌⊎◌, ℕ, zero, suc, ◌+◌, ◌
 use Rattle.std.proofs.Common.{Option, Some, None, Bool, true, false, refl, sym, ◌∙◌, subst, inl, inr, arith}
 use Rattle.lgm_graph.specs.Graph.{Graph, edges, edges_into, AreListed}
 use Rattle.lgm_graph.specs.declared.edge.Edge.{Edge}
-use Rattle.lgm_route.specs.declared.numbered_request.NumberedRequest.{NumberedRequest}
+use Rattle.lgm_route.specs.declared.request.NumberedRequest.{NumberedRequest}
 use Rattle.lgm_route.specs.declared.label.Label.{Label}
 use Rattle.lgm_route.specs.inner.Bounding.{AreLow}
 use Rattle.lgm_route.specs.inner.Numbered.{sent, IsLeast}
 use Rattle.lgm_route.specs.inner.Searching.{cost, label_at, edge_at, Spells, first_of, bound_of, number_at, IsSettled, AreLabels, IsFound}
-use Rattle.lgm_route.specs.inner.Searching.{Grows, IsOffered, IsBetter, PassesOn, AreSpelled, SomeRest, IsNoBetter, StandsIn}
-use Rattle.lgm_route.specs.inner.Leading.{IsLed, AreLeads}
+use Rattle.lgm_route.specs.inner.Searching.{Grows, IsOffered, IsBetter, RelaxesOn, AreSpelled, SomeRest, IsNoBetter, IsDominatorOf}
+use Rattle.lgm_route.specs.inner.Relaxations.{IsRelaxationOf, AreRelaxations}
 use Rattle.lgm_route.specs.inner.State.{Ground, State, state_of, IsGround, IsSearch, Extends, IsSettledAt, IsMarkedAt}
-use Rattle.lgm_route.specs.inner.State.{AreLeadsAt, IsPassedOn, IsLeftAt, IsFinished, bound_in}
+use Rattle.lgm_route.specs.inner.State.{AreRelaxationsAt, IsRelaxedOn, IsLeftAt, IsFinished, bound_in}
 use Rattle.lgm_route.proofs.Rests.{trichotomy}
 use Rattle.lgm_route.proofs.Labels.{grows-refl, grows-trans, found-grows, no_better-grows, none_better}
-use Rattle.lgm_route.proofs.Steps.{least_of, sent_small, still_settled, settled_left, settled_hopeless}
+use Rattle.lgm_route.proofs.Steps.{still_settled, settled_left, settled_hopeless}
+use Rattle.lgm_route.proofs.Endings.{least_of, sent_small}
 use Rattle.lgm_route.proofs.Steps.{settled_for, passes_from, passes_later, all_passed, spelled_labels}
-use Rattle.lgm_route.proofs.Leads.{leads_later, led_later, all_taken}
+use Rattle.lgm_route.proofs.RelaxationLaws.{leads_later, led_later, all_taken}
 
 -- ---- one search, later
 
--- what the ground says holds of the later search too
+-- facts about the input hold of the later search too
 abbrev Growing : Ground → State → State → Type 0
-Growing ground before after = Grows ground.graph ground.request ground.start before.labels before.best after.labels after.best
+Growing ground before after = Grows ground.graph ground.request ground.upper_bound before.labels before.best after.labels after.best
 
 pub extends-trans : (a b c : State) → Extends a b → Extends b c → Extends a c
 extends-trans a b c h k = record {
   ground = k.ground ∙ h.ground;
-  grows = grows-trans a.ground.graph a.ground.request a.ground.start a.labels b.labels c.labels a.best b.best c.best h.grows
+  grows = grows-trans a.ground.graph a.ground.request a.ground.upper_bound a.labels b.labels c.labels a.best b.best c.best h.grows
       (subst (λ g. Growing g b c) h.ground k.grows);
   still = λ i m. k.still i (h.still i m);
 }
 
-abbrev Passing : Ground → List Label → ℕ → State → Edge → Type 0
-Passing ground labels i after edge = PassesOn ground.graph ground.request ground.low ground.start labels i after.labels after.best edge
+abbrev Relaxing : Ground → List Label → ℕ → State → Edge → Type 0
+Relaxing ground labels i after edge = RelaxesOn ground.graph ground.request ground.low ground.upper_bound labels i after.labels after.best edge
 
--- passing over an edge, seen from an earlier state, or in a later one
-pub passed_from : (a b c : State) (i : ℕ) (edge : Edge) → Extends a b → i < length a.labels → IsPassedOn b i edge c → IsPassedOn a i edge c
+-- relaxing over an edge, seen from an earlier state, or in a later one
+pub passed_from : (a b c : State) (i : ℕ) (edge : Edge) → Extends a b → i < length a.labels → IsRelaxedOn b i edge c → IsRelaxedOn a i edge c
 passed_from a b c i edge h within passed =
-    passes_from a.ground.graph a.ground.request a.ground.low a.ground.start i a.labels a.best b.labels b.best c.labels c.best edge h.grows within
-    (subst (λ g. Passing g b.labels i c edge) h.ground passed)
+    passes_from a.ground.graph a.ground.request a.ground.low a.ground.upper_bound i a.labels a.best b.labels b.best c.labels c.best edge h.grows within
+    (subst (λ g. Relaxing g b.labels i c edge) h.ground passed)
 
-pub passed_later : (a b c : State) (i : ℕ) (edge : Edge) → Extends a b → Extends b c → IsPassedOn a i edge b → IsPassedOn a i edge c
+pub passed_later : (a b c : State) (i : ℕ) (edge : Edge) → Extends a b → Extends b c → IsRelaxedOn a i edge b → IsRelaxedOn a i edge c
 passed_later a b c i edge h k passed =
-    passes_later a.ground.graph a.ground.request a.ground.low a.ground.start i a.labels b.labels b.best c.labels c.best edge
+    passes_later a.ground.graph a.ground.request a.ground.low a.ground.upper_bound i a.labels b.labels b.best c.labels c.best edge
     (subst (λ g. Growing g b c) h.ground k.grows) passed
 
--- one more of several edges was passed over
+-- relaxed over one more of several edges
 pub passed_more : (a b c : State) (at : ℕ → Edge) (i place : ℕ) → i < length a.labels → Extends a b → Extends b c →
-    ((j : ℕ) → j < place → IsPassedOn a i (at j) b) → IsPassedOn b i (at place) c → (j : ℕ) → j < place + 1 → IsPassedOn a i (at j) c
+    ((j : ℕ) → j < place → IsRelaxedOn a i (at j) b) → IsRelaxedOn b i (at place) c → (j : ℕ) → j < place + 1 → IsRelaxedOn a i (at j) c
 passed_more a b c at i place within h k before new j to = by (trichotomy j place)
   where
-    by : (j < place) ⊎ (j ≡ place) ⊎ (place < j) → IsPassedOn a i (at j) c
+    by : (j < place) ⊎ (j ≡ place) ⊎ (place < j) → IsRelaxedOn a i (at j) c
     by (inl p) = passed_later a b c i (at j) h k (before j p)
-    by (inr (inl e)) = passed_from a b c i (at j) h within (subst (λ n. IsPassedOn b i (at n) c) (sym e) new)
+    by (inr (inl e)) = passed_from a b c i (at j) h within (subst (λ n. IsRelaxedOn b i (at n) c) (sym e) new)
     by (inr (inr p)) = absurd (omega arith)
 
 -- over all edges into the node
 pub left_all : (a b : State) (i : ℕ) → IsGround a.ground →
     ((j : ℕ) → j < length (edges_into a.ground.graph (label_at a.labels i).node)
-    → IsPassedOn a i (edge_at (edges_into a.ground.graph (label_at a.labels i).node) j) b) →
+    → IsRelaxedOn a i (edge_at (edges_into a.ground.graph (label_at a.labels i).node) j) b) →
     IsLeftAt a i b
 left_all a b i ground passed =
-    all_passed a.ground.graph a.ground.request a.ground.low a.ground.start i a.labels b.labels b.best ground.listed passed
+    all_passed a.ground.graph a.ground.request a.ground.low a.ground.upper_bound i a.labels b.labels b.best ground.listed passed
 
--- ---- what the fields of a search keep
+-- ---- what the fields of a search preserve
 
 -- more labels, and a better walk
 pub search_grown : (s : State) (labels : List Label) (best : Option Label) → IsSearch s → AreLabels s.ground.graph s.ground.request labels →
-    IsFound s.ground.graph s.ground.request labels s.ground.start best
-    → Grows s.ground.graph s.ground.request s.ground.start s.labels s.best labels best →
+    IsFound s.ground.graph s.ground.request labels s.ground.upper_bound best
+    → Grows s.ground.graph s.ground.request s.ground.upper_bound s.labels s.best labels best →
     IsSearch (record s { labels = labels; best = best })
 search_grown s labels best is labelled found grows = record {
   ground = is.ground;
   labelled = labelled;
   found = found;
-  settled = still_settled s.ground.graph s.ground.request s.ground.low s.ground.start s.labels s.best labels best s.done grows is.settled;
+  settled = still_settled s.ground.graph s.ground.request s.ground.low s.ground.upper_bound s.labels s.best labels best s.done grows is.settled;
 }
 
 -- a label was offered
 pub offered_grows : (s : State) (new : Label) (labels : List Label) → IsOffered s.ground.graph s.ground.request s.labels new labels →
-    Grows s.ground.graph s.ground.request s.ground.start s.labels s.best labels s.best
+    Grows s.ground.graph s.ground.request s.ground.upper_bound s.labels s.best labels s.best
 offered_grows s new labels offered = record {
   more = offered.more;
   is = offered.is;
   lower = omega arith;
-  first = λ walk h. subst (λ ls. IsNoBetter s.ground.graph s.ground.request ls s.ground.start s.best walk) (sym offered.is)
-      (no_better-grows s.ground.graph s.ground.request s.labels offered.more s.ground.start s.best walk h);
+  first = λ walk h. subst (λ ls. IsNoBetter s.ground.graph s.ground.request ls s.ground.upper_bound s.best walk) (sym offered.is)
+      (no_better-grows s.ground.graph s.ground.request s.labels offered.more s.ground.upper_bound s.best walk h);
 }
 
 pub search_offered : (s : State) (new : Label) (labels : List Label) → IsSearch s → IsOffered s.ground.graph s.ground.request s.labels new labels →
     IsSearch (record s { labels = labels })
 search_offered s new labels is offered =
     search_grown s labels s.best is offered.labelled
-    (subst (λ ls. IsFound s.ground.graph s.ground.request ls s.ground.start s.best) (sym offered.is)
-    (found-grows s.ground.graph s.ground.request s.labels offered.more s.ground.start s.best is.found))
+    (subst (λ ls. IsFound s.ground.graph s.ground.request ls s.ground.upper_bound s.best) (sym offered.is)
+    (found-grows s.ground.graph s.ground.request s.labels offered.more s.ground.upper_bound s.best is.found))
     (offered_grows s new labels offered)
 
 pub extends_offered : (s : State) (new : Label) (labels : List Label) → IsOffered s.ground.graph s.ground.request s.labels new labels →
     Extends s (record s { labels = labels })
 extends_offered s new labels offered = record { ground = refl; grows = offered_grows s new labels offered; still = λ i h. h }
 
--- a walk was taken, or not
+-- a walk became the best, or not
 pub better_grows : (s : State) (new : Label) (best : Option Label)
-    → IsBetter s.ground.graph s.ground.request s.labels s.ground.start s.best new best →
-    Grows s.ground.graph s.ground.request s.ground.start s.labels s.best s.labels best
+    → IsBetter s.ground.graph s.ground.request s.labels s.ground.upper_bound s.best new best →
+    Grows s.ground.graph s.ground.request s.ground.upper_bound s.labels s.best s.labels best
 better_grows s new best better =
-    let same = grows-refl s.ground.graph s.ground.request s.ground.start s.labels s.best in
+    let same = grows-refl s.ground.graph s.ground.request s.ground.upper_bound s.labels s.best in
     record { more = same.more; is = same.is; lower = better.lower; first = better.keeps }
 
 pub search_better : (s : State) (new : Label) (best : Option Label) → IsSearch s
-    → IsBetter s.ground.graph s.ground.request s.labels s.ground.start s.best new best →
+    → IsBetter s.ground.graph s.ground.request s.labels s.ground.upper_bound s.best new best →
     IsSearch (record s { best = best })
 search_better s new best is better = search_grown s s.labels best is is.labelled better.found_is (better_grows s new best better)
 
 pub extends_better : (s : State) (new : Label) (best : Option Label)
-    → IsBetter s.ground.graph s.ground.request s.labels s.ground.start s.best new best →
+    → IsBetter s.ground.graph s.ground.request s.labels s.ground.upper_bound s.best new best →
     Extends s (record s { best = best })
 extends_better s new best better = record { ground = refl; grows = better_grows s new best better; still = λ i h. h }
 
@@ -125,27 +126,27 @@ pub spelled : (s : State) → IsSearch s → AreSpelled s.ground.graph s.labels
 spelled s is = spelled_labels s.ground.graph s.ground.request s.labels is.labelled
 
 abbrev Settled : Ground → State → ℕ → Type 0
-Settled ground s i = IsSettled ground.graph ground.request ground.low ground.start s.labels s.best (label_at s.labels i)
+Settled ground s i = IsSettled ground.graph ground.request ground.low ground.upper_bound s.labels s.best (label_at s.labels i)
 
--- a label that was led on is settled
+-- a label that was relaxed is settled
 pub settled_led : (a b : State) (i : ℕ) → IsSearch a → Extends a b → i < length a.labels → IsLeftAt a i b → IsSettledAt b i
 settled_led a b i is h within left =
     subst (λ g. Settled g b i) (sym h.ground)
-    (settled_left a.ground.graph a.ground.request a.ground.low a.ground.start a.labels a.best b.labels b.best
+    (settled_left a.ground.graph a.ground.request a.ground.low a.ground.upper_bound a.labels a.best b.labels b.best
     i h.grows within (is.labelled.sound i within) left)
 
--- so is one that no walk over it can make better
+-- so is a pruned one
 pub settled_vain : (s : State) (i : ℕ) → IsSearch s → i < length s.labels →
-    bound_in s ≤ cost ((label_at s.labels i).owed + number_at s.ground.low (label_at s.labels i).node) (label_at s.labels i).count → IsSettledAt s i
+    bound_in s ≤ cost ((label_at s.labels i).amount + number_at s.ground.low (label_at s.labels i).node) (label_at s.labels i).hops → IsSettledAt s i
 settled_vain s i is within h =
-    settled_hopeless s.ground.graph s.ground.request s.ground.low s.ground.start s.labels s.best (label_at s.labels i) (is.labelled.sound i within) h
+    settled_hopeless s.ground.graph s.ground.request s.ground.low s.ground.upper_bound s.labels s.best (label_at s.labels i) (is.labelled.sound i within) h
 
--- and one for which another stands in that is
+-- and one that is dominated by a settled one
 pub settled_by : (a b : State) (i place : ℕ) → IsSearch a → IsSearch b → Extends a b → i < length a.labels
-    → StandsIn a.ground.graph a.labels i place → IsMarkedAt b place → IsSettledAt b i
+    → IsDominatorOf a.ground.graph a.labels i place → IsMarkedAt b place → IsSettledAt b i
 settled_by a b i place is later h within stands marked =
     subst (λ g. Settled g b i) (sym h.ground)
-    (settled_for a.ground.graph a.ground.request a.ground.low a.ground.start a.labels a.best b.labels b.best i place h.grows is.labelled within stands
+    (settled_for a.ground.graph a.ground.request a.ground.low a.ground.upper_bound a.labels a.best b.labels b.best i place h.grows is.labelled within stands
     (subst (λ g. Settled g b place) h.ground (later.settled place marked).1))
 
 -- one more label is marked
@@ -160,29 +161,29 @@ marked_more a b i h before here j to = by (trichotomy j i)
 -- once all labels are marked the search is finished
 pub finished : (s : State) → IsSearch s → ((i : ℕ) → i < length s.labels → IsMarkedAt s i) → IsFinished s
 finished s is all =
-    none_better s.ground.graph s.ground.request s.ground.low s.ground.start s.labels s.best is.labelled
+    none_better s.ground.graph s.ground.request s.ground.low s.ground.upper_bound s.labels s.best is.labelled
     is.ground.low (λ i within. (is.settled i (all i within)).1) is.found
 
 -- the best walk is the least
 pub walk_least : (s : State) (best : Label) (walk : List Edge) → s.best ≡ Some best → IsSearch s → IsFinished s →
-    Spells s.ground.graph s.labels best walk × (length walk ≡ best.count) →
+    Spells s.ground.graph s.labels best walk × (length walk ≡ best.hops) →
     IsLeast (edges s.ground.graph) s.ground.request walk × (sent s.ground.request.amount walk < 2 ^ 64)
 walk_least s best walk some is finished spelled =
-    let found = subst (λ o. IsFound s.ground.graph s.ground.request s.labels s.ground.start o) some is.found in (
-      least_of s.ground.graph s.ground.request s.labels s.ground.start best walk
-          (λ other usable. subst (λ o. IsNoBetter s.ground.graph s.ground.request s.labels s.ground.start o
+    let found = subst (λ o. IsFound s.ground.graph s.ground.request s.labels s.ground.upper_bound o) some is.found in (
+      least_of s.ground.graph s.ground.request s.labels s.ground.upper_bound best walk
+          (λ other usable. subst (λ o. IsNoBetter s.ground.graph s.ground.request s.labels s.ground.upper_bound o
           other) some (finished other usable)) found spelled.0 spelled.1,
-      sent_small s.ground.graph s.ground.request s.labels s.ground.start best walk is.ground.small found spelled.0 spelled.1,
+      sent_small s.ground.graph s.ground.request s.labels s.ground.upper_bound best walk is.ground.small found spelled.0 spelled.1,
     )
 
--- a search that begins
-pub begun : (graph : Graph) (request : NumberedRequest) (low : List ℕ) (start : ℕ) → AreListed graph
-    → length low ≡ length graph.points → AreLow (edges graph) request low → start ≤ 2 ^ 64 →
+-- a new search
+pub begun : (graph : Graph) (request : NumberedRequest) (low : List ℕ) (upper_bound : ℕ) → AreListed graph
+    → length low ≡ length graph.points → AreLow (edges graph) request low → upper_bound ≤ 2 ^ 64 →
     (labels : List Label)
-    → labels ≡ record { owed = request.amount; next = 0; at = 0; node = request.payee; count = 0 } ∷ []
+    → labels ≡ record { amount = request.amount; parent = 0; at = 0; node = request.payee; hops = 0 } ∷ []
     → (done : List Bool) → done ≡ [] →
-    IsSearch (state_of graph request low start labels None done)
-begun graph request low start listed long are_low small labels one done none = record {
+    IsSearch (state_of graph request low upper_bound labels None done)
+begun graph request low upper_bound listed long are_low small labels one done none = record {
   ground = record { listed = listed; long = long; low = are_low; small = small };
   labelled = rw one first;
   found = tt;
@@ -193,52 +194,52 @@ begun graph request low start listed long are_low small labels one done none = r
     no i h = cc
 
     label : Label
-    label = record { owed = request.amount; next = 0; at = 0; node = request.payee; count = 0 }
+    label = record { amount = request.amount; parent = 0; at = 0; node = request.payee; hops = 0 }
 
     sound : (i : ℕ) → i < length (label ∷ []) → SomeRest graph request (label ∷ []) (label_at (label ∷ []) i)
     sound zero within = ([], record { spells = tt; long = refl; joins = refl; owes = refl })
     sound (suc i) within = absurd (omega arith)
 
-    few : (i : ℕ) → i < length (label ∷ []) → (label_at (label ∷ []) i).count ≤ 19
+    few : (i : ℕ) → i < length (label ∷ []) → (label_at (label ∷ []) i).hops ≤ 19
     few zero within = omega arith
     few (suc i) within = absurd (omega arith)
 
     first : AreLabels graph request (label ∷ [])
     first = record { some = omega arith; first = (refl, refl); sound = sound; few = few }
 
--- ---- taking leads
+-- ---- applying relaxations
 
 abbrev Led : Ground → State → ℕ → List Label → Type 0
-Led ground s i leads = AreLeads ground.graph ground.request ground.low (bound_of ground.start s.best) s.labels i leads
+Led ground s i relaxations = AreRelaxations ground.graph ground.request ground.low (bound_of ground.upper_bound s.best) s.labels i relaxations
 
-pub leads_at_later : (a b : State) (i : ℕ) (leads : List Label) → Extends a b → i < length a.labels → AreLeadsAt a i leads → AreLeadsAt b i leads
-leads_at_later a b i leads h within are =
-    subst (λ g. Led g b i leads) (sym h.ground)
-    (leads_later a.ground.graph a.ground.request a.ground.low a.ground.start a.labels a.best b.labels b.best i leads h.grows within are)
+pub leads_at_later : (a b : State) (i : ℕ) (relaxations : List Label) → Extends a b → i < length a.labels → AreRelaxationsAt a i relaxations → AreRelaxationsAt b i relaxations
+leads_at_later a b i relaxations h within are =
+    subst (λ g. Led g b i relaxations) (sym h.ground)
+    (leads_later a.ground.graph a.ground.request a.ground.low a.ground.upper_bound a.labels a.best b.labels b.best i relaxations h.grows within are)
 
--- what was led on leads from the label that it names
-pub led_self : (s : State) (i : ℕ) (edge : Edge) (new : Label) → IsLed s.ground.graph s.ground.request s.labels i edge new →
-    IsLed s.ground.graph s.ground.request s.labels new.next (first_of s.ground.graph s.labels new) new
+-- a relaxation extends its parent
+pub led_self : (s : State) (i : ℕ) (edge : Edge) (new : Label) → IsRelaxationOf s.ground.graph s.ground.request s.labels i edge new →
+    IsRelaxationOf s.ground.graph s.ground.request s.labels new.parent (first_of s.ground.graph s.labels new) new
 led_self s i edge new led =
-    subst (λ n. IsLed s.ground.graph s.ground.request s.labels n (first_of s.ground.graph s.labels new) new) (sym led.next)
-    (subst (λ e. IsLed s.ground.graph s.ground.request s.labels i e new) (sym led.over) led)
+    subst (λ n. IsRelaxationOf s.ground.graph s.ground.request s.labels n (first_of s.ground.graph s.labels new) new) (sym led.parent)
+    (subst (λ e. IsRelaxationOf s.ground.graph s.ground.request s.labels i e new) (sym led.over) led)
 
-pub passed_self : (a b : State) (i : ℕ) (edge : Edge) (new : Label) → IsLed a.ground.graph a.ground.request a.labels i edge new →
-    IsPassedOn a new.next (first_of a.ground.graph a.labels new) b → IsPassedOn a i edge b
-passed_self a b i edge new led passed = subst (λ n. IsPassedOn a n edge b) led.next (subst (λ e. IsPassedOn a new.next e b) led.over passed)
+pub passed_self : (a b : State) (i : ℕ) (edge : Edge) (new : Label) → IsRelaxationOf a.ground.graph a.ground.request a.labels i edge new →
+    IsRelaxedOn a new.parent (first_of a.ground.graph a.labels new) b → IsRelaxedOn a i edge b
+passed_self a b i edge new led passed = subst (λ n. IsRelaxedOn a n edge b) led.parent (subst (λ e. IsRelaxedOn a new.parent e b) led.over passed)
 
--- what was led on, later
+-- a relaxation, later in the search
 abbrev IsLedBy : Ground → List Label → ℕ → Edge → Label → Type 0
-IsLedBy ground labels i edge new = IsLed ground.graph ground.request labels i edge new
+IsLedBy ground labels i edge new = IsRelaxationOf ground.graph ground.request labels i edge new
 
 pub led_at_later : (a b : State) (i : ℕ) (edge : Edge) (new : Label) → Extends a b → i < length a.labels
-    → IsLed a.ground.graph a.ground.request a.labels i edge new →
-    IsLed b.ground.graph b.ground.request b.labels i edge new
+    → IsRelaxationOf a.ground.graph a.ground.request a.labels i edge new →
+    IsRelaxationOf b.ground.graph b.ground.request b.labels i edge new
 led_at_later a b i edge new h within led =
     subst (λ g. IsLedBy g b.labels i edge new) (sym h.ground)
-    (led_later a.ground.graph a.ground.request a.ground.low a.ground.start a.labels a.best b.labels b.best h.grows i within edge new led)
+    (led_later a.ground.graph a.ground.request a.ground.low a.ground.upper_bound a.labels a.best b.labels b.best h.grows i within edge new led)
 
-pub left_taken : (a b : State) (i : ℕ) (leads : List Label) → IsGround a.ground → Extends a b → AreLeadsAt a i leads →
-    ((k : ℕ) → k < length leads → IsPassedOn a i (first_of a.ground.graph a.labels (label_at leads k)) b) → IsLeftAt a i b
-left_taken a b i leads ground h are taken =
-    all_taken a.ground.graph a.ground.request a.ground.low a.ground.start i a.labels a.best b.labels b.best leads ground.listed h.grows are taken
+pub left_taken : (a b : State) (i : ℕ) (relaxations : List Label) → IsGround a.ground → Extends a b → AreRelaxationsAt a i relaxations →
+    ((k : ℕ) → k < length relaxations → IsRelaxedOn a i (first_of a.ground.graph a.labels (label_at relaxations k)) b) → IsLeftAt a i b
+left_taken a b i relaxations ground h are taken =
+    all_taken a.ground.graph a.ground.request a.ground.low a.ground.upper_bound i a.labels a.best b.labels b.best relaxations ground.listed h.grows are taken

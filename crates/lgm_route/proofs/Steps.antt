@@ -1,30 +1,30 @@
--- One step of the search: labels compared, added and led on.
+-- One step of the search: labels are compared, added and relaxed.
+-- the label comes first: by its amount, then by its number of edges, then by their ids
 use Rattle.std.specs.Prelude.{if◌then◌else◌}
-use Rattle.std.proofs.Common.{◌≡◌, ◌≢◌, ◌⊎◌, ℕ, ◌+◌, ◌*◌, ◌^◌, ◌<◌, ◌≤◌, List, [], ◌∷◌, ◌++◌, length, Option}
+use Rattle.std.proofs.Common.{◌≡◌, ◌≢◌, ◌⊎◌, ℕ, ◌+◌, ◌<◌, ◌≤◌, List, [], ◌∷◌, ◌++◌, length, Option}
 use Rattle.std.proofs.Common.{Some, None, Bool, true, false, refl, sym, ◌∙◌, ap, subst, inl, inr, arith}
 use Rattle.std.specs.List.{Contains}
 use Rattle.std.proofs.lemmas.List.{get_or_push, length_push, get_or_default, append-nil}
 use Rattle.lgm_graph.specs.Fee.{fee_of}
-use Rattle.lgm_graph.specs.Graph.{Graph, edges, edges_into, edges_leaving, AreListed}
+use Rattle.lgm_graph.specs.Graph.{Graph, edges, edges_into, AreListed}
 use Rattle.lgm_graph.specs.declared.edge.Edge.{Edge}
-use Rattle.lgm_route.specs.declared.numbered_request.NumberedRequest.{NumberedRequest}
+use Rattle.lgm_route.specs.declared.request.NumberedRequest.{NumberedRequest}
 use Rattle.lgm_route.specs.declared.label.Label.{Label}
-use Rattle.lgm_route.specs.inner.Numbered.{sent, ids, IsUsable, IsLeast, Precedes}
-use Rattle.lgm_route.specs.inner.Searching.{cost, NotAfter, walk_key, Serves, no_edge, edge_at, label_at, no_label, number_at, Spells}
-use Rattle.lgm_route.specs.inner.Searching.{IdsFirst, IsLabel, IsWalk, DoesServe, SomeRest, SomeWalk, bound_of, IsNoBetter, IsHopeless}
-use Rattle.lgm_route.specs.inner.Searching.{IsPassed, IsLeft, IsSettled, AreLabels, IsFound, Grows, IsBetter, IsOffered, PassesOn}
-use Rattle.lgm_route.specs.inner.Searching.{LeadsOn, StandsIn, AreSpelled, AreSettled, IsStart}
-use Rattle.lgm_route.specs.inner.Leading.{IsInto, IsLed}
-use Rattle.lgm_route.proofs.Orders.{NotAfter-refl, NotAfter-trans, NotAfter-join, NotAfter-excludes}
-use Rattle.lgm_route.proofs.Rests.{trichotomy, Serves-refl, Serves-trans}
-use Rattle.lgm_route.proofs.Labels.{Spells-unique, label-unique, label_left, label-grows, hopeless-serves}
+use Rattle.lgm_route.specs.inner.Numbered.{sent, ids}
+use Rattle.lgm_route.specs.inner.Searching.{cost, NotAfter, walk_key, Dominates, no_edge, edge_at, label_at, no_label, number_at}
+use Rattle.lgm_route.specs.inner.Searching.{IdsFirst, IsLabel, IsWalk, DoesDominate, SomeRest, SomeWalk, bound_of, IsHopeless}
+use Rattle.lgm_route.specs.inner.Searching.{IsRelaxed, IsLeft, IsSettled, AreLabels, IsFound, Grows, IsBetter, IsOffered, RelaxesOn}
+use Rattle.lgm_route.specs.inner.Searching.{RelaxesAll, IsDominatorOf, AreSpelled, AreSettled}
+use Rattle.lgm_route.specs.inner.Relaxations.{IsInto, IsRelaxationOf}
+use Rattle.lgm_route.proofs.Orders.{NotAfter-refl, NotAfter-trans, NotAfter-join}
+use Rattle.lgm_route.proofs.Rests.{trichotomy, Dominates-refl, Dominates-trans}
+use Rattle.lgm_route.proofs.Labels.{label-unique, label_left, label-grows, hopeless-dominates}
 use Rattle.lgm_route.proofs.Labels.{label-later, at-later, long-later, passed-later, settled-later}
 
--- the label comes first: by what it owes, then by how many edges it has, then by their ids
 abbrev pub IsBefore : Graph → List Label → Label → Label → Type 0
 IsBefore graph labels x y =
-    (x.owed < y.owed) ⊎ ((x.owed ≡ y.owed) × (x.count < y.count))
-    ⊎ ((x.owed ≡ y.owed) × (x.count ≡ y.count) × IdsFirst graph labels x y)
+    (x.amount < y.amount) ⊎ ((x.amount ≡ y.amount) × (x.hops < y.hops))
+    ⊎ ((x.amount ≡ y.amount) × (x.hops ≡ y.hops) × IdsFirst graph labels x y)
 
 pub before_walk : (graph : Graph) (request : NumberedRequest) (labels : List Label) (x y : Label)
     (walk other : List Edge) → IsWalk graph request labels x walk → IsWalk graph request labels y other →
@@ -44,8 +44,8 @@ before_walk graph request labels x y walk other h k (inr (inr p)) =
     ))
 
 -- the better of two walks
-module _ (graph : Graph) (request : NumberedRequest) (labels : List Label) (start : ℕ) where
-  pub better_first : (new : Label) → SomeWalk graph request labels new → new.owed < start → IsBetter graph request labels start None new (Some new)
+module _ (graph : Graph) (request : NumberedRequest) (labels : List Label) (upper_bound : ℕ) where
+  pub better_first : (new : Label) → SomeWalk graph request labels new → new.amount < upper_bound → IsBetter graph request labels upper_bound None new (Some new)
   better_first new some low =
       record {
         found_is = (some, low);
@@ -61,9 +61,9 @@ module _ (graph : Graph) (request : NumberedRequest) (labels : List Label) (star
         takes = λ walk is. (walk, is, NotAfter-refl (walk_key request walk));
       }
 
-  pub better_takes : (best new : Label) → IsFound graph request labels start (Some best)
+  pub better_takes : (best new : Label) → IsFound graph request labels upper_bound (Some best)
       → SomeWalk graph request labels new → IsBefore graph labels new best
-      → IsBetter graph request labels start (Some best) new (Some new)
+      → IsBetter graph request labels upper_bound (Some best) new (Some new)
   better_takes best new found some before =
       record {
         found_is = (some, low before);
@@ -79,18 +79,18 @@ module _ (graph : Graph) (request : NumberedRequest) (labels : List Label) (star
         takes = λ walk is. (walk, is, NotAfter-refl (walk_key request walk));
       }
     where
-      low : IsBefore graph labels new best → new.owed < start
+      low : IsBefore graph labels new best → new.amount < upper_bound
       low (inl p) = omega (arith, found.1)
       low (inr (inl p)) = omega (arith, found.1, p.0)
       low (inr (inr p)) = omega (arith, found.1, p.0)
 
-      lower : IsBefore graph labels new best → cost new.owed new.count ≤ cost best.owed best.count
+      lower : IsBefore graph labels new best → cost new.amount new.hops ≤ cost best.amount best.hops
       lower (inl p) = omega (arith, some.1.few)
       lower (inr (inl p)) = omega (arith, p.0, p.1)
       lower (inr (inr p)) = omega (arith, p.0, p.1)
 
-  pub better_keeps : (best new : Label) → IsFound graph request labels start (Some best)
-      → IsBefore graph labels best new → IsBetter graph request labels start (Some best) new (Some best)
+  pub better_keeps : (best new : Label) → IsFound graph request labels upper_bound (Some best)
+      → IsBefore graph labels best new → IsBetter graph request labels upper_bound (Some best) new (Some best)
   better_keeps best new found before =
       record {
         found_is = found;
@@ -100,13 +100,13 @@ module _ (graph : Graph) (request : NumberedRequest) (labels : List Label) (star
         takes = λ walk is. ((found.0).0, (found.0).1, before_walk graph request labels best new (found.0).0 walk (found.0).1 is before);
       }
     where
-      below : IsBefore graph labels best new → cost best.owed best.count ≤ cost new.owed new.count
+      below : IsBefore graph labels best new → cost best.amount best.hops ≤ cost new.amount new.hops
       below (inl p) = omega (arith, (found.0).1.few)
       below (inr (inl p)) = omega (arith, p.0, p.1)
       below (inr (inr p)) = omega (arith, p.0, p.1)
 
-  -- no walk was found yet, and this one isn't below the start
-  pub better_none : (new : Label) → start ≤ new.owed → IsBetter graph request labels start None new None
+  -- no walk was found yet, and this one isn't below the upper bound
+  pub better_none : (new : Label) → upper_bound ≤ new.amount → IsBetter graph request labels upper_bound None new None
   better_none new high =
       record {
         found_is = tt;
@@ -116,26 +116,26 @@ module _ (graph : Graph) (request : NumberedRequest) (labels : List Label) (star
         takes = λ walk is. omega (arith, is.sends);
       }
 
-  pub better_choice : (best : Option Label) (new : Label) (b : Bool) → (b ≡ true → IsBetter graph request labels start best new (Some new)) →
-      (b ≡ false → IsBetter graph request labels start best new best) → IsBetter graph request labels start best new (if b then Some new else best)
+  pub better_choice : (best : Option Label) (new : Label) (b : Bool) → (b ≡ true → IsBetter graph request labels upper_bound best new (Some new)) →
+      (b ≡ false → IsBetter graph request labels upper_bound best new best) → IsBetter graph request labels upper_bound best new (if b then Some new else best)
   better_choice best new true f g = f refl
   better_choice best new false f g = g refl
 
   -- the better of the best so far and a new walk, by a test
-  pub better_by : (best : Option Label) (old new : Label) (b : Bool) → best ≡ Some old → IsFound graph request labels start best
+  pub better_by : (best : Option Label) (old new : Label) (b : Bool) → best ≡ Some old → IsFound graph request labels upper_bound best
       → SomeWalk graph request labels new → (b ≡ true → IsBefore graph labels new old)
       → (b ≡ false → IsBefore graph labels old new)
-      → IsBetter graph request labels start best new (if b then Some new else best)
+      → IsBetter graph request labels upper_bound best new (if b then Some new else best)
   better_by best old new b is found some before after =
-      let held : IsFound graph request labels start (Some old) = rw is at found in
-      subst (λ (o : Option Label). IsBetter graph request labels start o new (if b then Some new else o)) (sym is)
-      (better_choice (Some old) new b (λ e. better_takes old new held some (before e)) (λ e. better_keeps old new held (after e)))
+      let stored : IsFound graph request labels upper_bound (Some old) = rw is at found in
+      subst (λ (o : Option Label). IsBetter graph request labels upper_bound o new (if b then Some new else o)) (sym is)
+      (better_choice (Some old) new b (λ e. better_takes old new stored some (before e)) (λ e. better_keeps old new stored (after e)))
 
--- a label that serves is there
+-- a dominating label is there
 pub offered_there : (graph : Graph) (request : NumberedRequest) (labels : List Label) (new : Label)
     (place : ℕ) → AreLabels graph request labels → place < length labels →
-    (label_at labels place).node ≡ new.node → DoesServe graph labels (label_at labels place) new → IsOffered graph request labels new labels
-offered_there graph request labels new place are within at serves =
+    (label_at labels place).node ≡ new.node → DoesDominate graph labels (label_at labels place) new → IsOffered graph request labels new labels
+offered_there graph request labels new place are within at dominates =
     record {
       labelled = are;
       more = [];
@@ -146,7 +146,7 @@ offered_there graph request labels new place are within at serves =
         at = at;
         other = (are.sound place within).0;
         is = (are.sound place within).1;
-        serves = serves request (are.sound place within).0 rest (are.sound place within).1 is;
+        dominates = dominates request (are.sound place within).0 rest (are.sound place within).1 is;
       };
     }
 
@@ -155,14 +155,14 @@ label_new labels new i long = get_or_push labels new no_label i long
 
 -- or it is added
 pub offered_new : (graph : Graph) (request : NumberedRequest) (labels : List Label) (new : Label) → AreLabels graph request labels →
-    SomeRest graph request labels new → new.count ≤ 19 → IsOffered graph request labels new (labels ++ new ∷ [])
+    SomeRest graph request labels new → new.hops ≤ 19 → IsOffered graph request labels new (labels ++ new ∷ [])
 offered_new graph request labels new are some few =
     record {
       labelled = record {
         some = omega (arith, all, are.some);
         first = (
           ap (λ l. l.node) (label_left labels (new ∷ []) 0 (omega (arith, are.some))) ∙ are.first.0,
-          ap (λ l. l.count) (label_left labels (new ∷ []) 0 (omega (arith, are.some))) ∙ are.first.1,
+          ap (λ l. l.hops) (label_left labels (new ∷ []) 0 (omega (arith, are.some))) ∙ are.first.1,
         );
         sound = λ i within. sound i (trichotomy i (length labels)) within;
         few = λ i within. low i (trichotomy i (length labels)) within;
@@ -175,7 +175,7 @@ offered_new graph request labels new are some few =
         at = ap (λ l. l.node) last;
         other = rest;
         is = subst (λ l. IsLabel graph request (labels ++ new ∷ []) l rest) (sym last) (label-grows graph request labels (new ∷ []) new rest is);
-        serves = Serves-refl request rest;
+        dominates = Dominates-refl request rest;
       };
     }
   where
@@ -200,30 +200,30 @@ offered_new graph request labels new are some few =
     sound i (inr (inr p)) within = absurd (omega (arith, all))
 
     low : (i : ℕ) → (i < length labels) ⊎ (i ≡ length labels) ⊎ (length labels < i)
-        → i < length (labels ++ new ∷ []) → (label_at (labels ++ new ∷ []) i).count ≤ 19
-    low i (inl p) within = omega (arith, are.few i p, ap (λ l. l.count) (label_left labels (new ∷ []) i p))
-    low i (inr (inl e)) within = omega (arith, ap (λ l. l.count) (label_new labels new i (sym e)))
+        → i < length (labels ++ new ∷ []) → (label_at (labels ++ new ∷ []) i).hops ≤ 19
+    low i (inl p) within = omega (arith, are.few i p, ap (λ l. l.hops) (label_left labels (new ∷ []) i p))
+    low i (inr (inl e)) within = omega (arith, ap (λ l. l.hops) (label_new labels new i (sym e)))
     low i (inr (inr p)) within = absurd (omega (arith, all))
 
--- passing over an edge, seen from an earlier state, or in a later one
-pub passes_from : (graph : Graph) (request : NumberedRequest) (low : List ℕ) (start i : ℕ)
+-- relaxing over an edge, seen from an earlier state, or in a later one
+pub passes_from : (graph : Graph) (request : NumberedRequest) (low : List ℕ) (upper_bound i : ℕ)
     (labels : List Label) (found : Option Label) (after : List Label) (now : Option Label) (last : List Label)
     (best : Option Label) (edge : Edge) →
-    Grows graph request start labels found after now → i < length labels → PassesOn graph request low start
-    after i last best edge → PassesOn graph request low start labels i last best edge
-passes_from graph request low start i labels found after now last best edge grows within passes rest is to min max =
-    let same = at-later graph request low start labels found after now grows i within in
+    Grows graph request upper_bound labels found after now → i < length labels → RelaxesOn graph request low upper_bound
+    after i last best edge → RelaxesOn graph request low upper_bound labels i last best edge
+passes_from graph request low upper_bound i labels found after now last best edge grows within passes rest is to min max =
+    let same = at-later graph request low upper_bound labels found after now grows i within in
     passes rest (subst (λ l. IsLabel graph request after l rest) (sym same)
-    (label-later graph request low start labels found after now grows (label_at labels i) rest is))
+    (label-later graph request low upper_bound labels found after now grows (label_at labels i) rest is))
     (to ∙ ap (λ l. l.node) (sym same)) min max
 
-pub passes_later : (graph : Graph) (request : NumberedRequest) (low : List ℕ) (start i : ℕ)
+pub passes_later : (graph : Graph) (request : NumberedRequest) (low : List ℕ) (upper_bound i : ℕ)
     (labels : List Label) (after : List Label) (now : Option Label) (last : List Label) (best : Option Label)
     (edge : Edge) →
-    Grows graph request start after now last best → PassesOn graph request low start labels i after now edge
-    → PassesOn graph request low start labels i last best edge
-passes_later graph request low start i labels after now last best edge grows passes rest is to min max =
-    passed-later graph request low start after now last best grows edge rest (passes rest is to min max)
+    Grows graph request upper_bound after now last best → RelaxesOn graph request low upper_bound labels i after now edge
+    → RelaxesOn graph request low upper_bound labels i last best edge
+passes_later graph request low upper_bound i labels after now last best edge grows passes rest is to min max =
+    passed-later graph request low upper_bound after now last best grows edge rest (passes rest is to min max)
 
 -- an edge of the graph into a node, both ends of which are numbered
 pub record IsEdgeInto (graph : Graph) (node : ℕ) (edge : Edge) : Type 0 where
@@ -243,172 +243,128 @@ into_node graph labels i at edge listed into =
 
 -- a label, relaxed over an edge into its node that can carry it
 pub led : (graph : Graph) (request : NumberedRequest) (labels : List Label) (i at owed : ℕ) (label : Label) (edge : Edge)
-    → AreListed graph → IsInto graph labels i at edge → label ≡ label_at labels i → edge.min ≤ request.amount → label.owed ≤ edge.max
-    → (edge.from ≡ request.payer → owed ≡ label.owed)
-    → (edge.from ≢ request.payer → (label.count < 19) × (owed ≡ label.owed + fee_of label.owed edge.base edge.millionths))
-    → IsLed graph request labels i edge (record { owed = owed; next = i; at = at; node = edge.from; count = label.count + 1 })
+    → AreListed graph → IsInto graph labels i at edge → label ≡ label_at labels i → edge.min ≤ request.amount → label.amount ≤ edge.max
+    → (edge.from ≡ request.payer → owed ≡ label.amount)
+    → (edge.from ≢ request.payer → (label.hops < 19) × (owed ≡ label.amount + fee_of label.amount edge.base edge.millionths))
+    → IsRelaxationOf graph request labels i edge (record { amount = owed; parent = i; at = at; node = edge.from; hops = label.hops + 1 })
 led graph request labels i at owed label edge listed into is min max whole longer =
     let e = into_node graph labels i at edge listed into in
-    let same = ap (λ (l : Label). l.owed) is in
+    let same = ap (λ (l : Label). l.amount) is in
     record {
       within = into.within;
       there = e.there;
       to = e.to;
       above_min = min;
       below_max = omega (arith, same, max);
-      begins = record { next = into.within; at = into.inside };
+      begins = record { parent = into.within; at = into.inside };
       over = into.is;
-      next = refl;
+      parent = refl;
       node = refl;
-      count = ap (λ (l : Label). l.count + 1) is;
+      hops = ap (λ (l : Label). l.hops + 1) is;
       whole = λ from. whole from ∙ same;
-      longer = λ other. (omega (arith, (longer other).0), (longer other).1 ∙ ap (λ (l : Label). l.owed + fee_of l.owed edge.base edge.millionths) is);
+      longer = λ other. (omega (arith, (longer other).0), (longer other).1 ∙ ap (λ (l : Label). l.amount + fee_of l.amount edge.base edge.millionths) is);
     }
 
 -- each edge into the label's node is in the run of edges into it
-pub all_passed : (graph : Graph) (request : NumberedRequest) (low : List ℕ) (start i : ℕ)
+pub all_passed : (graph : Graph) (request : NumberedRequest) (low : List ℕ) (upper_bound i : ℕ)
     (labels after : List Label) (now : Option Label) → AreListed graph →
-    ((j : ℕ) → j < length (edges_into graph (label_at labels i).node) → PassesOn graph request low start
+    ((j : ℕ) → j < length (edges_into graph (label_at labels i).node) → RelaxesOn graph request low upper_bound
     labels i after now (edge_at (edges_into graph (label_at labels i).node) j)) →
-    LeadsOn graph request low start labels i after now
-all_passed graph request low start i labels after now listed passes rest is edge there to min max =
+    RelaxesAll graph request low upper_bound labels i after now
+all_passed graph request low upper_bound i labels after now listed passes rest is edge there to min max =
     let run = edges_into graph (label_at labels i).node in
     let place : Contains run edge = subst (λ n. Contains (edges_into graph n) edge) to (listed.each edge there).there in
     let same : edge_at run place.0 ≡ edge = subst (λ e. e ≡ edge) (get_or_default run place.0 edge no_edge place.1) place.2 in
-    subst (λ e. IsPassed graph request low start after now e rest) same
+    subst (λ e. IsRelaxed graph request low upper_bound after now e rest) same
     (passes place.0 place.1 rest is (ap (λ e. e.to) same ∙ to) (omega (arith, ap (λ e. e.min) same, min)) (omega (arith, ap (λ e. e.max) same, max)))
 
--- a label is settled where one is that serves in its place
-pub settled_serves : (graph : Graph) (request : NumberedRequest) (low : List ℕ) (start : ℕ)
+-- a label is settled if one that dominates it is
+pub settled_serves : (graph : Graph) (request : NumberedRequest) (low : List ℕ) (upper_bound : ℕ)
     (labels : List Label) (found : Option Label) (x y : Label) (rest : List Edge) →
     x.node ≡ y.node → ((a b : List Edge) → IsLabel graph request labels x a → IsLabel graph request labels y b
-    → Serves request a b) → IsLabel graph request labels y rest
-    → IsSettled graph request low start labels found x → IsSettled graph request low start labels found y
-settled_serves graph request low start labels found x y rest node serves is settled =
+    → Dominates request a b) → IsLabel graph request labels y rest
+    → IsSettled graph request low upper_bound labels found x → IsSettled graph request low upper_bound labels found y
+settled_serves graph request low upper_bound labels found x y rest node dominates is settled =
     record {
       rest = rest;
       is = is;
       done =
-          subst (λ n. IsHopeless request low (bound_of start found) n rest ⊎ ((other : List Edge)
-          × Serves request other rest × IsLeft graph request low start labels found n other)) node
+          subst (λ n. IsHopeless request low (bound_of upper_bound found) n rest ⊎ ((other : List Edge)
+          × Dominates request other rest × IsLeft graph request low upper_bound labels found n other)) node
           (by settled.done);
     }
   where
-    better : Serves request settled.rest rest
-    better = serves settled.rest rest settled.is is
+    better : Dominates request settled.rest rest
+    better = dominates settled.rest rest settled.is is
 
-    by : IsHopeless request low (bound_of start found) x.node settled.rest ⊎ ((other : List Edge)
-        × Serves request other settled.rest × IsLeft graph request low start labels found x.node other) →
-        IsHopeless request low (bound_of start found) x.node rest ⊎ ((other : List Edge)
-        × Serves request other rest × IsLeft graph request low start labels found x.node other)
-    by (inl p) = inl (hopeless-serves request low (bound_of start found) x.node settled.rest rest better p)
-    by (inr p) = inr (p.0, Serves-trans request p.0 settled.rest rest p.1 better, p.2)
+    by : IsHopeless request low (bound_of upper_bound found) x.node settled.rest ⊎ ((other : List Edge)
+        × Dominates request other settled.rest × IsLeft graph request low upper_bound labels found x.node other) →
+        IsHopeless request low (bound_of upper_bound found) x.node rest ⊎ ((other : List Edge)
+        × Dominates request other rest × IsLeft graph request low upper_bound labels found x.node other)
+    by (inl p) = inl (hopeless-dominates request low (bound_of upper_bound found) x.node settled.rest rest better p)
+    by (inr p) = inr (p.0, Dominates-trans request p.0 settled.rest rest p.1 better, p.2)
 
-pub serves_itself : (graph : Graph) (labels : List Label) (label : Label) → DoesServe graph labels label label
+pub serves_itself : (graph : Graph) (labels : List Label) (label : Label) → DoesDominate graph labels label label
 serves_itself graph labels label request rest also is also_is =
-    subst (λ r. Serves request rest r) (label-unique graph request labels label rest also is also_is) (Serves-refl request rest)
+    subst (λ r. Dominates request rest r) (label-unique graph request labels label rest also is also_is) (Dominates-refl request rest)
 
 pub spelled_labels : (graph : Graph) (request : NumberedRequest) (labels : List Label) → AreLabels graph request labels → AreSpelled graph labels
 spelled_labels graph request labels labelled i within = let s = labelled.sound i within in (s.0, s.1.spells, s.1.long)
 
 -- marked labels are settled, and one more
-module _ (graph : Graph) (request : NumberedRequest) (low : List ℕ) (start : ℕ) where
+module _ (graph : Graph) (request : NumberedRequest) (low : List ℕ) (upper_bound : ℕ) where
   pub still_settled : (labels : List Label) (found : Option Label) (after : List Label) (now : Option Label) (done : List Bool) →
-      Grows graph request start labels found after now → AreSettled graph request low start labels found done
-      → AreSettled graph request low start after now done
+      Grows graph request upper_bound labels found after now → AreSettled graph request low upper_bound labels found done
+      → AreSettled graph request low upper_bound after now done
   still_settled labels found after now done grows settled j h = (
-    omega (arith, (settled j h).0, long-later graph request low start labels found after now grows),
-    subst (λ l. IsSettled graph request low start after now l) (sym (at-later graph request low start labels found after now grows j (settled j h).0))
-        (settled-later graph request low start labels found after now grows (label_at labels j) (settled j h).1),
+    omega (arith, (settled j h).0, long-later graph request low upper_bound labels found after now grows),
+    subst (λ l. IsSettled graph request low upper_bound after now l) (sym (at-later graph request low upper_bound labels found after now grows j (settled j h).0))
+        (settled-later graph request low upper_bound labels found after now grows (label_at labels j) (settled j h).1),
   )
 
-  -- a label whose rest was led on
+  -- a label that was relaxed
   pub settled_left : (labels : List Label) (found : Option Label) (after : List Label) (now : Option Label) (i : ℕ) →
-      Grows graph request start labels found after now → i < length labels → SomeRest graph request labels
-      (label_at labels i) → LeadsOn graph request low start labels i after now →
-      IsSettled graph request low start after now (label_at after i)
-  settled_left labels found after now i grows within some leads =
-      subst (λ l. IsSettled graph request low start after now l) (sym (at-later graph request low start labels found after now grows i within))
+      Grows graph request upper_bound labels found after now → i < length labels → SomeRest graph request labels
+      (label_at labels i) → RelaxesAll graph request low upper_bound labels i after now →
+      IsSettled graph request low upper_bound after now (label_at after i)
+  settled_left labels found after now i grows within some relaxations =
+      subst (λ l. IsSettled graph request low upper_bound after now l) (sym (at-later graph request low upper_bound labels found after now grows i within))
       (record {
         rest = some.0;
-        is = label-later graph request low start labels found after now grows (label_at labels i) some.0 some.1;
-        done = inr (some.0, Serves-refl request some.0, leads some.0 some.1);
+        is = label-later graph request low upper_bound labels found after now grows (label_at labels i) some.0 some.1;
+        done = inr (some.0, Dominates-refl request some.0, relaxations some.0 some.1);
       })
 
   pub settled_hopeless : (labels : List Label) (found : Option Label) (label : Label) → SomeRest graph request labels label →
-      bound_of start found ≤ cost (label.owed + number_at low label.node) label.count → IsSettled graph request low start labels found label
+      bound_of upper_bound found ≤ cost (label.amount + number_at low label.node) label.hops → IsSettled graph request low upper_bound labels found label
   settled_hopeless labels found label some h = record { rest = some.0; is = some.1; done = inl (omega (arith, h, some.1.owes, some.1.long)) }
 
-  -- a label for which another stands in
+  -- a label that another one dominates
   pub settled_for : (labels : List Label) (found : Option Label) (after : List Label) (now : Option Label) (i place : ℕ) →
-      Grows graph request start labels found after now → AreLabels graph request labels → i < length labels → StandsIn graph labels i place →
-      IsSettled graph request low start after now (label_at after place) → IsSettled graph request low start after now (label_at after i)
+      Grows graph request upper_bound labels found after now → AreLabels graph request labels → i < length labels → IsDominatorOf graph labels i place →
+      IsSettled graph request low upper_bound after now (label_at after place) → IsSettled graph request low upper_bound after now (label_at after i)
   settled_for labels found after now i place grows are within stands settled =
-      settled_serves graph request low start after now (label_at after place) (label_at after i) mine.0
-      (ap (λ l. l.node) (at place stands.within) ∙ stands.node ∙ sym (ap (λ l. l.node) (at i within))) serves mine.1 settled
+      settled_serves graph request low upper_bound after now (label_at after place) (label_at after i) mine.0
+      (ap (λ l. l.node) (at place stands.within) ∙ stands.node ∙ sym (ap (λ l. l.node) (at i within))) dominates mine.1 settled
     where
       at : (j : ℕ) → j < length labels → label_at after j ≡ label_at labels j
-      at j inside = at-later graph request low start labels found after now grows j inside
+      at j inside = at-later graph request low upper_bound labels found after now grows j inside
 
       later : (j : ℕ) → j < length labels → SomeRest graph request after (label_at after j)
       later j inside = (
         (are.sound j inside).0,
         subst (λ l. IsLabel graph request after l (are.sound j inside).0) (sym (at j inside))
-            (label-later graph request low start labels found after now grows (label_at labels j) (are.sound j inside).0 (are.sound j inside).1),
+            (label-later graph request low upper_bound labels found after now grows (label_at labels j) (are.sound j inside).0 (are.sound j inside).1),
       )
 
       mine : SomeRest graph request after (label_at after i)
       mine = later i within
 
-      serves : (a b : List Edge) → IsLabel graph request after (label_at after place) a
-          → IsLabel graph request after (label_at after i) b → Serves request a b
-      serves a b is_a is_b =
+      dominates : (a b : List Edge) → IsLabel graph request after (label_at after place) a
+          → IsLabel graph request after (label_at after i) b → Dominates request a b
+      dominates a b is_a is_b =
           let p = are.sound place stands.within in
           let q = are.sound i within in
           let one : p.0 ≡ a = label-unique graph request after (label_at after place) p.0 a (later place stands.within).1 is_a in
           let two : q.0 ≡ b = label-unique graph request after (label_at after i) q.0 b mine.1 is_b in
-          subst (λ r. Serves request a r) two (subst (λ r. Serves request r q.0) one (stands.serves request p.0 q.0 p.1 q.1))
-
--- over the payer's edges goes no more than the most
-pub start_of : (graph : Graph) (most : ℕ) (request : NumberedRequest) → AreListed graph →
-    ((j : ℕ) → j < length (edges_leaving graph request.payer)
-    → (edge_at (edges_leaving graph request.payer) j).max < most) → IsStart (edges graph) request most
-start_of graph most request listed above [] usable = absurd (omega (arith, usable.some))
-start_of graph most request listed above (edge ∷ rest) usable =
-    let step = usable.joins.0 in
-    let run = edges_leaving graph request.payer in
-    let place : Contains run edge = subst (λ n. Contains (edges_leaving graph n) edge) step.leaves (listed.each edge step.there).leaves in
-    let same : edge_at run place.0 ≡ edge = subst (λ e. e ≡ edge) (get_or_default run place.0 edge no_edge place.1) place.2 in
-    let max = above place.0 place.1 in
-    (edge ∷ rest, usable, omega (arith, step.below_max, max, ap (λ e. e.max) same))
-
--- the best walk, once none is better, is the least
-pub least_of : (graph : Graph) (request : NumberedRequest) (labels : List Label) (start : ℕ) (found : Label) (walk : List Edge) →
-    ((other : List Edge) → IsUsable (edges graph) request other → IsNoBetter graph request labels start
-    (Some found) other) → IsFound graph request labels start (Some found) →
-    Spells graph labels found walk → length walk ≡ found.count → IsLeast (edges graph) request walk
-least_of graph request labels start found walk best is spells long =
-    subst (λ w. IsLeast (edges graph) request w) (same (is.0).0 (is.0).1)
-    (record {
-      usable =
-          record {
-            some = omega (arith, (is.0).1.some, (is.0).1.long);
-            few = omega (arith, (is.0).1.few, (is.0).1.long);
-            joins = (is.0).1.joins;
-          };
-      first = λ other usable before. by other (best other usable) before;
-    })
-  where
-    same : (w : List Edge) → IsWalk graph request labels found w → w ≡ walk
-    same w k = Spells-unique graph labels found w walk k.spells spells (k.long ∙ sym long)
-
-    by : (other : List Edge) → IsNoBetter graph request labels start (Some found) other → Precedes request other (is.0).0 → ⊥
-    by other h before =
-        NotAfter-excludes (walk_key request (is.0).0) (walk_key request other)
-        (subst (λ w. NotAfter (walk_key request w) (walk_key request other)) (same h.0 h.1 ∙ sym (same (is.0).0 (is.0).1)) h.2) before
-
-pub sent_small : (graph : Graph) (request : NumberedRequest) (labels : List Label) (start : ℕ) (found : Label) (walk : List Edge) → start ≤ 2 ^ 64 →
-    IsFound graph request labels start (Some found) → Spells graph labels found walk → length walk ≡ found.count → sent request.amount walk < 2 ^ 64
-sent_small graph request labels start found walk low is spells long =
-    let same = Spells-unique graph labels found (is.0).0 walk (is.0).1.spells spells ((is.0).1.long ∙ sym long) in
-    omega (arith, is.1, (is.0).1.sends, ap (λ w. sent request.amount w) same)
+          subst (λ r. Dominates request a r) two (subst (λ r. Dominates request r q.0) one (stands.dominates request p.0 q.0 p.1 q.1))

@@ -1,4 +1,4 @@
--- The least walk comes back to no node, and its ids name it.
+-- The best walk visits no node twice, and its ids identify it.
 use Rattle.std.proofs.Common.{◌≡◌, ◌≢◌, ◌⊎◌, ℕ, ◌<◌, ◌≤◌, Bool, List, [], ◌∷◌, length, Ordering}
 use Rattle.std.proofs.Common.{true, false, refl, sym, ◌∙◌, ap, subst, inl, inr, arith}
 use Rattle.std.specs.declared.cmp.Ordering.TheVariants.{Less, Equal, Greater}
@@ -25,7 +25,7 @@ abbrev Shorter : List PointEdge → Request → Point → List PointEdge → Typ
 Shorter edges request node walk =
     (other : List PointEdge) × IsRest edges request node other × (length other < length walk) × (owed request.amount other ≤ sent request.amount walk)
 
--- from a node that is visited the rest of the walk leads on
+-- from a visited node the rest of the walk continues
 from_visit : (edges : List PointEdge) (request : Request) (node visited : Point) (walk : List PointEdge)
     → IsRest edges request node walk → Visits visited walk →
     Shorter edges request visited walk
@@ -56,21 +56,21 @@ visits_or_not node (edge ∷ rest) = by (same_or_not edge.to node) (visits_or_no
         none (inl e) = n e
         none (inr h) = f h
 
--- what owes no more may be passed on wherever the other may
+-- a lesser amount can be carried wherever a greater one can
 step-cheaper : (edges : List PointEdge) (request : Request) (node : Point) (edge : PointEdge) (rest other : List PointEdge) →
     owed request.amount rest ≤ owed request.amount other →
     IsStep edges request node edge other → IsStep edges request node edge rest
 step-cheaper edges request node edge rest other h step =
     record { there = step.there; leaves = step.leaves; above_min = step.above_min; below_max = omega (arith, step.below_max) }
 
--- a walk from the node, of fewer edges, over which neither more is sent nor more is owed
+-- a walk from the node with fewer edges and no greater amounts
 abbrev Better : List PointEdge → Request → Point → List PointEdge → Type 0
 Better edges request node walk =
     (other : List PointEdge) × IsRest edges request node other × (length other < length walk)
     × (owed request.amount other ≤ owed request.amount walk)
     × (sent request.amount other ≤ sent request.amount walk)
 
--- a walk comes back to no node, or a better one does without the way round
+-- a walk visits no node twice, or there is a better one without the loop
 simple_or_better : (edges : List PointEdge) (request : Request) (node : Point) (walk : List PointEdge) → IsRest edges request node walk →
     IsSimple node walk ⊎ Better edges request node walk
 simple_or_better edges request node [] joins = inl tt
@@ -124,7 +124,7 @@ some_edges : (edges : List PointEdge) (request : Request) (walk : List PointEdge
 some_edges edges request [] apart joins = absurd (apart joins)
 some_edges edges request (edge ∷ rest) apart joins = omega arith
 
--- the least walk comes back to no node
+-- the best walk visits no node twice
 pub least-simple : (edges : List PointEdge) (request : Request) (walk : List PointEdge) → request.payer ≢ request.payee
     → IsLeast edges request walk → IsSimple request.payer walk
 least-simple edges request walk apart least = by (simple_or_better edges request request.payer walk least.usable.joins)
@@ -162,7 +162,7 @@ head_of x y xs ys e = cc
 tail_of : (x y : ℕ) (xs ys : List ℕ) → x ∷ xs ≡ y ∷ ys → xs ≡ ys
 tail_of x y xs ys e = cc
 
--- the ids of a walk that comes back to no node name it
+-- the ids of a walk that visits no node twice identify it
 pub ids_name : (edges : List PointEdge) (request : Request) (node : Point) (walk other : List PointEdge) → AreDirections edges →
     IsRest edges request node walk → IsRest edges request node other → IsSimple node walk → ids walk ≡ ids other → walk ≡ other
 ids_name edges request node [] [] directions joins also simple e = refl
@@ -177,7 +177,7 @@ ids_name edges request node (edge ∷ rest) (edge' ∷ rest') directions joins a
     by (inl same) tails = let tail = tails same in cc (same, tail)
     by (inr back) tails = absurd (simple.0 (inl (back.1 ∙ also.0.leaves)))
 
--- there is one least walk
+-- there is one best walk
 pub least-unique : (edges : List PointEdge) (request : Request) (walk other : List PointEdge) → AreDirections edges → request.payer ≢ request.payee →
     IsLeast edges request walk → IsLeast edges request other → walk ≡ other
 least-unique edges request walk other directions apart least also =

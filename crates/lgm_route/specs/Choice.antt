@@ -20,16 +20,16 @@ lists_of edges zero = [] ∷ []
 lists_of edges (suc more) = [] ∷ flat_map (λ edge. map (λ rest. edge ∷ rest) (lists_of edges more)) edges
 
 -- whether edges are consecutive, from the node to the payee, and each can carry what the edges after it need
-abbrev pub leads : Request → Point → List PointEdge → Bool
-leads request node [] = is_point node request.payee
-leads request node (edge ∷ rest) =
+abbrev pub relaxations : Request → Point → List PointEdge → Bool
+relaxations request node [] = is_point node request.payee
+relaxations request node (edge ∷ rest) =
     is_point edge.from node && nat_le edge.min request.amount && nat_le (owed request.amount rest) edge.max
-    && leads request edge.to rest
+    && relaxations request edge.to rest
 
 -- the usable walks of 1 to 20 of the edges
 abbrev pub usable_walks : List PointEdge → Request → List (List PointEdge)
 usable_walks edges request =
-    filter (λ walk. nat_le 1 (length walk) && leads request request.payer walk) (lists_of edges 20)
+    filter (λ walk. nat_le 1 (length walk) && relaxations request request.payer walk) (lists_of edges 20)
 
 -- the second walk if it precedes the first
 abbrev pub lesser : Request → List PointEdge → List PointEdge → List PointEdge

@@ -11,7 +11,7 @@ use Rattle.lgm_route.specs.declared.request.Request.{Request}
 use Rattle.lgm_route.specs.declared.route.Hop.{Hop}
 
 -- what has to reach the first node of these edges so that the amount reaches their end, with the fee of each node on
--- the way: each edge carries what is owed at the edges after it
+-- the way: each edge carries what has to reach the edges after it
 abbrev pub owed : ℕ → List PointEdge → ℕ
 owed amount [] = amount
 owed amount (edge ∷ rest) = let passed = owed amount rest in passed + fee_of passed edge.base edge.millionths
@@ -64,7 +64,7 @@ pub record IsLeast (edges : List PointEdge) (request : Request) (walk : List Poi
   pub usable : IsUsable edges request walk
   pub first : (other : List PointEdge) → IsUsable edges request other → Precedes request other walk → ⊥
 
--- the walk as hops: each edge carries what is owed and due at the edges after it
+-- the walk as hops: the amount and expiry of each edge are what has to reach the edges after it
 abbrev pub hops_of : Request → List PointEdge → List Hop
 hops_of request [] = []
 hops_of request (edge ∷ rest) =

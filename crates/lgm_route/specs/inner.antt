@@ -2,7 +2,7 @@
 pub mod Numbered
 pub mod Searching
 pub mod Bounding
-pub mod Passing
-pub mod Leading
+pub mod ForwardState
+pub mod Relaxations
 pub mod State
 pub mod Best

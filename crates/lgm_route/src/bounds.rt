@@ -1,23 +1,28 @@
 //! Lower bounds on the fees from the payer to each node.
 
-ghost use Rattle.std.specs.Prelude.{◌≡◌, length};
+ghost use Rattle.std.specs.Prelude.{◌≡◌, length, IfOk};
 ghost use Rattle.lgm_route.specs.inner.Searching.{number_at};
-ghost use Rattle.lgm_route.specs.inner.Bounding.{bounds_in};
+ghost use Rattle.lgm_route.specs.inner.Bounding.{bounds_in, AreLow};
+ghost use Rattle.lgm_graph.specs.Graph.{edges};
 
+use crate::forward_search::ForwardSearch;
+use crate::request::NumberedRequest;
 use lgm_gossip::Scid;
+use lgm_graph::View;
+use std::alloc::{AllocError, Global};
 use std::marker::Model;
 
 /// Lower bounds on the fees from the payer to each node, in msat. Contracts see the bounds by number of the node.
 ///
-/// They are computed by a pass from the payer. It also finds over which channel each node is reached for these fees,
-/// which is a hint: no proof depends on it.
+/// They are computed by a forward search from the payer. It also finds over which channel each node is reached for
+/// these fees, which no contract depends on.
 #[derive(Drop)]
 pub(crate) struct Bounds {
-    /// The fees to each node that the pass reached.
+    /// The fees to each node that the forward search reached, in msat.
     charged: Vec<u64>,
-    /// The channel over which the pass reached each node for these fees.
+    /// The channel over which it reached each node for these fees.
     over: Vec<Scid>,
-    /// The least fees to a node that was reached and not expanded: no bound exceeds it.
+    /// The radius: the least fees to a node that was reached and not expanded, in msat. No bound exceeds it.
     radius: u64,
 }
 
@@ -48,7 +53,7 @@ impl Bounds {
         self.charged.len()
     }
 
-    /// The bound of a node, and 0 for an unknown number.
+    /// The bound of a node, in msat; 0 for an unknown number.
     #[inline(always)]
     pub(crate) fn at(&self, node: u32) -> u64
         ensures { result ≡ number_at self.now node }
@@ -61,7 +66,7 @@ impl Bounds {
         }
     }
 
-    /// The channel over which the pass reached a node, if the node is within the radius.
+    /// The channel over which the forward search reached a node, if the node is within the radius.
     pub(crate) fn channel_to(&self, node: u32) -> Option<Scid> {
         let charged = self.charged.get(node as usize)?;
         if *charged == u64::MAX || self.radius < *charged {
@@ -70,4 +75,29 @@ impl Bounds {
         let over = self.over.get(node as usize)?;
         Some(*over)
     }
+}
+
+/// The number of nodes that a forward search expands: the square root of their number, from 64 to 1,024. No contract
+/// depends on it.
+fn steps_for(nodes: usize) -> usize {
+    for steps in 64..1_024 {
+        if nodes <= steps * steps {
+            return steps;
+        }
+    }
+    1_024
+}
+
+/// Lower bounds on the fees from the payer to each node of a view.
+pub(crate) fn lower_bounds(
+    alloc: Global,
+    view: &View,
+    request: &NumberedRequest,
+) -> Result<Bounds, AllocError>
+    ensures long { IfOk result (λ low. length low ≡ length view.now.points) }
+    ensures low { IfOk result (λ low. AreLow (edges view.now) request.now low) }
+{
+    let mut pass = ForwardSearch::new(alloc, view, request)?;
+    pass.expand(steps_for(view.nodes()))?;
+    Ok(pass.into_bounds())
 }

@@ -12,7 +12,7 @@ const PLACES: u64 = 67_108_864;
 const COUNTS: u64 = 32;
 
 /// An index in a [`BinaryHeap`](std::collections::BinaryHeap): the least amount comes first, then the fewest edges.
-/// Amounts from 2^33 - 1 msat on count as equal. What the queue returns is a hint: whoever pops an entry checks its
+/// Amounts from 2^33 - 1 msat on count as equal. No contract depends on the order: whoever pops an entry checks its
 /// index.
 #[derive(Clone, Copy, PartialEq, Eq, PartialOrd, Ord)]
 pub(crate) struct Entry {
@@ -20,12 +20,12 @@ pub(crate) struct Entry {
 }
 
 impl Entry {
-    pub(crate) fn new(amount: u64, count: u32, place: usize) -> Entry
+    pub(crate) fn new(amount: u64, hops: u32, place: usize) -> Entry
         ensures amount { (2 ^ 64 - 1 - result.key) / 2 ^ 31 ≡ min amount (2 ^ 33 - 1) }
         ensures place { (2 ^ 64 - 1 - result.key) % 2 ^ 26 ≡ place % 2 ^ 26 }
     {
         let amount = amount.min(MOST_AMOUNT);
-        let order = (amount * COUNTS + count as u64 % COUNTS) * PLACES + place as u64 % PLACES;
+        let order = (amount * COUNTS + hops as u64 % COUNTS) * PLACES + place as u64 % PLACES;
         Entry {
             key: u64::MAX - order,
         }

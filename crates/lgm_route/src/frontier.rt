@@ -2,8 +2,8 @@
 
 ghost use Rattle.std.specs.Prelude.{◌≡◌, ◌<◌, ◌≤◌, ◌++◌, length, All, IfOk};
 ghost use Rattle.std.specs.List.{AllZip};
-ghost use Rattle.lgm_route.specs.inner.Leading.{in_list};
-ghost use Rattle.lgm_route.specs.inner.State.{AreLeadsAt, Extends};
+ghost use Rattle.lgm_route.specs.inner.Relaxations.{in_list};
+ghost use Rattle.lgm_route.specs.inner.State.{AreRelaxationsAt, Extends};
 
 use crate::label::Label;
 use crate::search::Search;
@@ -23,17 +23,17 @@ fn push(labels: &mut Vec<Label>, label: Option<Label>) -> Result<(), AllocError>
 }
 
 /// The relaxations of each label of a frontier, computed in chunks.
-fn all_leads<Rt: Threads + Sync, G: Gate>(
+fn all_relaxations<Rt: Threads + Sync, G: Gate>(
     pool: &Pool<'_, Rt, G>,
     search: &Search,
     frontier: &[usize],
 ) -> Result<Vec<Result<Vec<Label>, AllocError>>, AllocError>
     requires { All (λ i. i < length search.now.labels) frontier.now }
     ensures { IfOk result (λ all. AllZip
-        (λ i leads. IfOk leads (λ leads. AreLeadsAt search.now i leads.items)) frontier.now all.items) }
+        (λ i relaxations. IfOk relaxations (λ relaxations. AreRelaxationsAt search.now i relaxations.items)) frontier.now all.items) }
 {
     let alloc = pool.alloc;
-    pool.map(frontier, &|i| search.leads(alloc, *i))
+    pool.map(frontier, &|i| search.relaxations(alloc, *i))
 }
 
 impl<'a> Search<'a> {
@@ -42,33 +42,33 @@ impl<'a> Search<'a> {
         requires { i < length self.now.labels }
     {
         let label = self.label(i);
-        !self.is_done(i) && self.hope(&label) < self.bound() && self.stand_in(i) == i
+        !self.is_done(i) && self.cost_lower_bound(&label) < self.bound() && self.dominator(i) == i
     }
 
     /// The relaxations of a label.
-    fn leads(&self, alloc: Global, i: usize) -> Result<Vec<Label>, AllocError>
+    fn relaxations(&self, alloc: Global, i: usize) -> Result<Vec<Label>, AllocError>
         requires { i < length self.now.labels }
-        ensures { IfOk result (λ leads. AreLeadsAt self.now i leads.items) }
+        ensures { IfOk result (λ relaxations. AreRelaxationsAt self.now i relaxations.items) }
     {
         let label = self.label(i);
         let edges = self.edges_into(label.node);
-        let mut leads = Vec::new(alloc);
+        let mut relaxations = Vec::new(alloc);
         for at in 0..edges.len() {
-            push(&mut leads, self.lead(i, &label, at, &edges[at]))?;
+            push(&mut relaxations, self.relaxation(i, &label, at, &edges[at]))?;
         }
-        Ok(leads)
+        Ok(relaxations)
     }
 
     /// Applies the relaxations of a label, and marks the label.
-    fn merge(&mut self, i: usize, leads: &[Label]) -> Result<(), AllocError>
+    fn merge(&mut self, i: usize, relaxations: &[Label]) -> Result<(), AllocError>
         requires label { i < length self.old.labels }
-        requires leads { AreLeadsAt self.old i leads.now }
+        requires relaxations { AreRelaxationsAt self.old i relaxations.now }
         ensures { IfOk result (λ _. Extends self.old self.new) }
     {
         // The contract of `len` says that labels represent rests.
         let _len = self.len();
-        for new in leads {
-            self.take(*new)?;
+        for new in relaxations {
+            self.insert(*new)?;
         }
         self.mark(i)?;
         Ok(())
@@ -83,10 +83,10 @@ impl<'a> Search<'a> {
         requires { All (λ i. i < length self.old.labels) frontier.now }
         ensures { IfOk result (λ _. Extends self.old self.new) }
     {
-        let all = all_leads(pool, self, frontier)?;
+        let all = all_relaxations(pool, self, frontier)?;
         for k in 0..frontier.len() {
             match &all[k] {
-                Ok(leads) => self.merge(frontier[k], leads)?,
+                Ok(relaxations) => self.merge(frontier[k], relaxations)?,
                 Err(e) => return Err(*e),
             }
         }
@@ -104,7 +104,8 @@ impl<'a> Search<'a> {
         Ok(())
     }
 
-    /// Settles the labels of a frontier: in one chunk for each `share` of them, or one after the other if they are fewer.
+    /// Settles the labels of a frontier: in one chunk for each `share` of them, or one after the other if they are
+    /// fewer.
     pub(crate) fn settle_frontier<Rt: Threads + Sync, G: Gate>(
         &mut self,
         pool: &Pool<'_, Rt, G>,

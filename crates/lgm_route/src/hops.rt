@@ -3,8 +3,9 @@
 ghost use Rattle.std.specs.Prelude.{◌≡◌, ◌≤◌, ◌<◌, length, IfOk};
 ghost use Rattle.lgm_route.specs.inner.Best.{edges_in, point_at, hop_over, AreNumbered};
 ghost use Rattle.lgm_route.specs.Routes.{hops_of};
-ghost use Rattle.lgm_route.specs.inner.Searching.{AreCarried};
+ghost use Rattle.lgm_route.specs.inner.Searching.{AreCarried, IsSpelled, Spells};
 
+use crate::label::{Label, first_of};
 use crate::request::Request;
 use crate::route::Hop;
 use lgm_gossip::Point;
@@ -63,4 +64,24 @@ pub(crate) fn hops(
     }
     hops.reverse();
     Ok(hops)
+}
+
+/// The walk that a label represents.
+pub(crate) fn rebuild(
+    alloc: Global,
+    view: &View,
+    labels: &[Label],
+    found: &Label,
+) -> Result<Vec<Edge>, AllocError>
+    requires { IsSpelled view.now labels.now found.now }
+    ensures { IfOk result
+        (λ walk. Spells view.now labels.now found.now walk.items × (length walk.items ≡ found.now.hops)) }
+{
+    let mut walk = Vec::new(alloc);
+    let mut here = *found;
+    for step in 0..found.hops {
+        walk.push(*first_of(view, labels, &here))?;
+        here = labels[here.parent];
+    }
+    Ok(walk)
 }

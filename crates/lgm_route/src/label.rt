@@ -1,25 +1,26 @@
 //! Labels: the search's representation of the rest of a walk.
 
-ghost use Rattle.std.specs.Prelude.{◌≡◌};
-ghost use Rattle.lgm_route.specs.inner.Searching.{Begins, first_of};
+ghost use Rattle.std.specs.Prelude.{◌≡◌, ◌^◌, ◌≤◌, true, false, if◌then◌else◌};
+ghost use Rattle.lgm_route.specs.inner.Searching.{Begins, first_of, IsSpelled, IdsFirst, bound_of, IsFound};
+ghost use Rattle.lgm_route.specs.inner.Searching.{DoesDominate, SomeWalk, IsBetter, cost};
 
+use crate::request::NumberedRequest;
 use lgm_graph::{Edge, View};
 
-/// The rest of a walk from a node to the payee: its first edge, followed by the rest of another
-/// label. A label without edges is at the payee. A whole walk is stored as a label too, which owes
-/// what the payer sends.
+/// The rest of a walk from a node to the payee: its first edge, followed by the rest of another label, its parent. A
+/// label without edges is at the payee. A whole walk is stored as a label too, whose amount is what the payer sends.
 #[derive(Clone, Copy)]
 pub(crate) struct Label {
-    /// What has to reach the node, in msat.
-    pub owed: u64,
-    /// The index of the label of the edges after the first one.
-    pub next: usize,
-    /// The index of the first edge among those into the node of that label.
+    /// The amount that has to reach the node, in msat.
+    pub amount: u64,
+    /// The index of the parent: the label of the edges after the first one.
+    pub parent: usize,
+    /// The index of the first edge among those into the parent's node.
     pub at: usize,
     /// The node at which the rest begins.
     pub node: u32,
     /// The number of edges.
-    pub count: u32,
+    pub hops: u32,
 }
 
 /// The first edge of a label.
@@ -27,6 +28,100 @@ pub(crate) fn first_of<'a>(view: &'a View, labels: &[Label], label: &Label) -> &
     requires { Begins view.now labels.now label.now }
     ensures { result.now ≡ first_of view.now labels.now label.now }
 {
-    let node = labels[label.next].node;
+    let node = labels[label.parent].node;
     &view.edges_into(node)[label.at]
+}
+
+/// Whether the ids of a label's edges precede or equal those of another's.
+pub(crate) fn ids_first(view: &View, labels: &[Label], label: &Label, other: &Label) -> bool
+    requires spelled { IsSpelled view.now labels.now label.now }
+    requires also { IsSpelled view.now labels.now other.now }
+    requires equal { label.now.hops ≡ other.now.hops }
+    ensures first { result ≡ true → IdsFirst view.now labels.now label.now other.now }
+    ensures after { result ≡ false → IdsFirst view.now labels.now other.now label.now }
+{
+    let mut here = *label;
+    let mut there = *other;
+    for step in 0..label.hops {
+        let id = first_of(view, labels, &here).scid.to_u64();
+        let also = first_of(view, labels, &there).scid.to_u64();
+        if id < also {
+            return true;
+        }
+        if also < id {
+            return false;
+        }
+        if here.parent == there.parent {
+            return true;
+        }
+        here = labels[here.parent];
+        there = labels[there.parent];
+    }
+    true
+}
+
+/// Whether a label's rest dominates another's.
+pub(crate) fn dominates(view: &View, labels: &[Label], label: &Label, other: &Label) -> bool
+    requires spelled { IsSpelled view.now labels.now label.now }
+    requires also { IsSpelled view.now labels.now other.now }
+    ensures { result ≡ true → DoesDominate view.now labels.now label.now other.now }
+{
+    if other.hops < label.hops || other.amount < label.amount {
+        false
+    } else if label.amount < other.amount || label.hops < other.hops {
+        true
+    } else {
+        ids_first(view, labels, label, other)
+    }
+}
+
+/// The bound that a better walk is below.
+#[inline(always)]
+pub(crate) fn bound_of(upper_bound: u128, best: &Option<Label>) -> u128
+    requires { upper_bound ≤ 2 ^ 64 }
+    ensures exact { result ≡ bound_of upper_bound best.now }
+    ensures low { result ≤ 2 ^ 70 }
+{
+    match best {
+        None => cost(upper_bound, 0),
+        Some(best) => cost(best.amount as u128, best.hops as u128),
+    }
+}
+
+/// Whether a new walk is better than the best so far.
+pub(crate) fn is_better(
+    view: &View,
+    request: &NumberedRequest,
+    labels: &[Label],
+    upper_bound: u128,
+    best: &Option<Label>,
+    new: &Label,
+) -> bool
+    requires found { IsFound view.now request.now labels.now upper_bound best.now }
+    requires new { SomeWalk view.now request.now labels.now new.now }
+    ensures { IsBetter view.now request.now labels.now upper_bound best.now new.now
+        (if result then Some new.now else best.now) }
+{
+    match best {
+        None => (new.amount as u128) < upper_bound,
+        Some(best) => {
+            if new.amount != best.amount {
+                new.amount < best.amount
+            } else if new.hops != best.hops {
+                new.hops < best.hops
+            } else {
+                ids_first(view, labels, new, best)
+            }
+        }
+    }
+}
+
+/// What is sent, in msat, and then the number of edges, below 32, as one number: a walk with a smaller one is better.
+#[inline(always)]
+pub(crate) fn cost(msat: u128, edges: u128) -> u128
+    requires msat { msat ≤ 2 ^ 120 }
+    requires edges { edges ≤ 2 ^ 64 }
+    ensures { result ≡ cost msat edges }
+{
+    msat * 32 + edges
 }

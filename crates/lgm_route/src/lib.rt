@@ -4,37 +4,27 @@
 //! and the expiry on each, and a [`RouteFault`] why there is none.
 #![tactic(auto)]
 
-mod answering;
-mod bounding;
+mod answers;
+mod best_route;
 mod bounds;
-mod comparing;
-mod cost;
-mod diving;
 mod entry;
 mod fault;
+mod forward_search;
 mod frontier;
-mod fronts;
 mod hops;
 mod label;
 mod laws;
-mod layering;
-mod leading;
-mod numbered_request;
-mod offering;
-mod pass;
+mod layers;
+mod pareto_fronts;
 mod queue;
-mod rebuilding;
+mod relaxation;
 mod request;
 mod route;
-mod routing;
 mod search;
-mod settling;
-mod starting;
-mod trail;
 
-pub use answering::{answer, answer_chunked};
+pub use answers::{answer, answer_chunked};
+pub use best_route::{least, least_chunked, least_pooled};
 pub use fault::RouteFault;
 pub use laws::{answer_is_one, least_is_one};
 pub use request::Request;
 pub use route::{Hop, Route};
-pub use routing::{least, least_chunked, least_pooled};

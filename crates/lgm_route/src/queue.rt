@@ -1,11 +1,10 @@
-//! Settling labels best-first (A\*), and the frontiers of the most promising ones.
+//! Settling labels best-first (A\*), and the frontiers of those with the least lower bound.
 
 ghost use Rattle.std.specs.Prelude.{◌<◌, length, All, IfOk, IfSome};
 ghost use Rattle.lgm_route.specs.inner.State.{Extends};
 
-use crate::cost::cost;
-use crate::diving::Dives;
 use crate::entry::Entry;
+use crate::label::cost;
 use crate::search::Search;
 use std::alloc::{AllocError, Global};
 use std::collections::BinaryHeap;
@@ -42,10 +41,10 @@ impl Queue {
             if search.len() <= i {
                 break;
             }
-            let promise = search.promise(i);
+            let excess_lower_bound = search.excess_lower_bound(i);
             self.heap
-                .push(Entry::new(promise, search.label(i).count, i))?;
-            self.dives.dive(search, i, promise)?;
+                .push(Entry::new(excess_lower_bound, search.label(i).hops, i))?;
+            self.dives.dive(search, i, excess_lower_bound)?;
         }
         Ok(())
     }
@@ -69,7 +68,7 @@ impl Queue {
 }
 
 impl Queue {
-    /// The most promising open label, unless the remaining ones can be pruned.
+    /// The open label with the least lower bound, unless the remaining ones can be pruned.
     fn next_open(&mut self, search: &Search) -> Option<usize>
         ensures { IfSome result (λ i. i < length search.now.labels) }
     {
@@ -86,15 +85,15 @@ impl Queue {
     fn is_next_level_with(&self, search: &Search, i: usize) -> bool
         requires { i < length search.now.labels }
     {
-        let entry = Entry::new(search.promise(i), search.label(i).count, i);
+        let entry = Entry::new(search.excess_lower_bound(i), search.label(i).hops, i);
         match self.heap.peek() {
             Some(next) => next.is_level_with(entry),
             None => false,
         }
     }
 
-    /// The next frontier: the most promising open labels, which have the smallest lower bound, and of these those with
-    /// the fewest edges. Empty if the remaining labels can be pruned.
+    /// The next frontier: of the open labels with the least lower bound, those with the fewest edges. Empty if the
+    /// remaining labels can be pruned.
     pub(crate) fn frontier(
         &mut self,
         alloc: Global,
@@ -125,12 +124,12 @@ impl Queue {
 impl<'a> Search<'a> {
     /// A lower bound on what walks over a label send above the request's amount, in msat.
     #[inline(always)]
-    pub(crate) fn promise(&self, i: usize) -> u64
+    pub(crate) fn excess_lower_bound(&self, i: usize) -> u64
         requires { i < length self.now.labels }
     {
         let label = self.label(i);
-        let above = label.owed.saturating_sub(self.request().amount);
-        above.saturating_add(self.low(label.node))
+        let above = label.amount.saturating_sub(self.request().amount);
+        above.saturating_add(self.lower_bound(label.node))
     }
 
     /// Settles labels best-first until the remaining ones can be pruned.
@@ -162,5 +161,47 @@ impl<'a> Search<'a> {
             queue.fill(self)?;
         }
         Ok(true)
+    }
+}
+
+/// The maximum number of dives of a search.
+const MOST_DIVES: u32 = 64;
+
+/// The dives of a search: each starts at a label with a smaller lower bound than those before.
+#[derive(Drop)]
+pub(crate) struct Dives {
+    /// The smallest lower bound so far, in msat above the request's amount.
+    least: u64,
+    left: u32,
+}
+
+impl Dives {
+    pub(crate) fn new() -> Dives {
+        Dives {
+            least: u64::MAX,
+            left: MOST_DIVES,
+        }
+    }
+
+    /// Dives from a label with this bound, if it is smaller than those before and the label's node is near the payer.
+    #[inline(always)]
+    pub(crate) fn dive(
+        &mut self,
+        search: &mut Search,
+        i: usize,
+        excess_lower_bound: u64,
+    ) -> Result<(), AllocError>
+        requires { i < length search.old.labels }
+        ensures { IfOk result (λ _. Extends search.old search.new) }
+    {
+        if self.least <= excess_lower_bound
+            || self.left == 0
+            || !search.is_near(search.label(i).node)
+        {
+            return Ok(());
+        }
+        self.least = excess_lower_bound;
+        self.left -= 1;
+        search.dive(i)
     }
 }

@@ -43,3 +43,14 @@ impl Request {
         }
     }
 }
+
+/// A [`Request`](crate::Request) as a search reads it: with the node indices of payer and payee in a view.
+#[derive(Clone, Copy)]
+pub(crate) struct NumberedRequest {
+    /// The index of the node that pays.
+    pub payer: u32,
+    /// The index of the node that is paid.
+    pub payee: u32,
+    /// What the payee receives, in msat.
+    pub amount: u64,
+}

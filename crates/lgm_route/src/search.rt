@@ -1,22 +1,19 @@
 //! The search for the best walk as one value.
 
-ghost use Rattle.std.specs.Prelude.{◌≡◌, ◌^◌, ◌<◌, ◌≤◌, length, IfOk, false, slice_index_or};
+ghost use Rattle.std.specs.Prelude.{◌≡◌, ◌^◌, ◌<◌, ◌≤◌, length, IfOk, false, slice_index_or, ◌+◌, ◌*◌};
 ghost use Rattle.lgm_graph.specs.Graph.{edges, edges_into, AreListed};
 ghost use Rattle.lgm_route.specs.inner.Bounding.{AreLow};
-ghost use Rattle.lgm_route.specs.inner.Searching.{label_at, number_at, SomeRest, SomeWalk};
-ghost use Rattle.lgm_route.specs.inner.Searching.{IsOffered, IsBetter, IsStart, StandsIn};
-ghost use Rattle.lgm_route.specs.inner.State.{IsSearch, Extends, IsSettledAt, IsMarkedAt};
-ghost use Rattle.lgm_route.specs.inner.State.{IsFinished, bound_in};
+ghost use Rattle.lgm_route.specs.inner.Searching.{label_at, number_at, SomeRest, SomeWalk, IsOffered, IsBetter};
+ghost use Rattle.lgm_route.specs.inner.Searching.{IsUpperBound, IsDominatorOf, cost};
+ghost use Rattle.lgm_route.specs.inner.State.{IsSearch, Extends, IsSettledAt, IsMarkedAt, IsFinished, bound_in};
 ghost use Rattle.lgm_route.specs.inner.Best.{IsBestWalk};
 ghost use Rattle.std.specs.Option.{option_map};
 
 use crate::bounds::Bounds;
-use crate::comparing::{bound_of, is_better};
-use crate::fronts::Fronts;
-use crate::label::Label;
-use crate::numbered_request::NumberedRequest;
-use crate::offering::{mark, offer};
-use crate::rebuilding::rebuild;
+use crate::hops::rebuild;
+use crate::label::{Label, bound_of, cost, is_better};
+use crate::pareto_fronts::{ParetoFronts, mark, offer};
+use crate::request::NumberedRequest;
 use lgm_gossip::Scid;
 use lgm_graph::{Edge, View};
 use std::alloc::{AllocError, Global};
@@ -36,12 +33,12 @@ pub(crate) struct Search<'a> {
     view: &'a View,
     request: NumberedRequest,
     low: Bounds,
-    /// More than some usable walk sends, in msat, if there is a usable walk.
-    start: u128,
+    /// An upper bound: some usable walk sends less, in msat, if there is one.
+    upper_bound: u128,
     labels: Vec<Label>,
     /// The best walk so far.
     best: Option<Label>,
-    fronts: Fronts,
+    fronts: ParetoFronts,
     /// Which labels are settled.
     done: Vec<bool>,
 }
@@ -51,23 +48,23 @@ impl<'a> Model for Search<'a> {
 
     ghost Value = { State };
 
-    ghost view = { λ s. state_of s.view.now s.request s.low s.start s.labels.items s.best s.done.items };
+    ghost view = { λ s. state_of s.view.now s.request s.low s.upper_bound s.labels.items s.best s.done.items };
 
     ghost invariant = { λ s. IsSearch
-        (state_of s.view.now s.request s.low s.start s.labels.items s.best s.done.items) };
+        (state_of s.view.now s.request s.low s.upper_bound s.labels.items s.best s.done.items) };
 }
 
 /// The label without edges.
 fn at_payee(request: &NumberedRequest) -> Label
     ensures { result
-        ≡ record { owed = request.now.amount; next = 0; at = 0; node = request.now.payee; count = 0 } }
+        ≡ record { amount = request.now.amount; parent = 0; at = 0; node = request.now.payee; hops = 0 } }
 {
     Label {
-        owed: request.amount,
-        next: 0,
+        amount: request.amount,
+        parent: 0,
         at: 0,
         node: request.payee,
-        count: 0,
+        hops: 0,
     }
 }
 
@@ -78,23 +75,23 @@ impl<'a> Search<'a> {
         view: &'a View,
         request: NumberedRequest,
         low: Bounds,
-        start: u128,
+        upper_bound: u128,
     ) -> Result<Search<'a>, AllocError>
         requires listed { AreListed view.now }
         requires long { length low ≡ length view.now.points }
         requires low { AreLow (edges view.now) request low }
-        requires small { start ≤ 2 ^ 64 }
+        requires small { upper_bound ≤ 2 ^ 64 }
         ensures { IfOk result (λ search. search.ground
-            ≡ record { graph = view.entry.now; request = request; low = low; start = start }) }
+            ≡ record { graph = view.entry.now; request = request; low = low; upper_bound = upper_bound }) }
     {
-        let fronts = Fronts::new(alloc, low.len())?;
+        let fronts = ParetoFronts::new(alloc, low.len())?;
         let mut labels = Vec::new(alloc);
         labels.push(at_payee(&request))?;
         Ok(Search {
             view,
             request,
             low,
-            start,
+            upper_bound,
             labels,
             best: None,
             fronts,
@@ -144,7 +141,7 @@ impl<'a> Search<'a> {
 
     /// A lower bound on the fees from the payer to a node, in msat.
     #[inline(always)]
-    pub(crate) fn low(&self, node: u32) -> u64
+    pub(crate) fn lower_bound(&self, node: u32) -> u64
         ensures { result ≡ number_at self.now.ground.low node }
     {
         self.low.at(node)
@@ -155,7 +152,7 @@ impl<'a> Search<'a> {
         self.low.channel_to(node)
     }
 
-    /// Whether a node is near the payer: then the pass found a way from the payer to it.
+    /// Whether a node is near the payer: then the forward search found a way to it.
     pub(crate) fn is_near(&self, node: u32) -> bool {
         self.low.channel_to(node).is_some()
     }
@@ -166,7 +163,7 @@ impl<'a> Search<'a> {
         ensures exact { result ≡ bound_in self.now }
         ensures low { result ≤ 2 ^ 70 }
     {
-        bound_of(self.start, &self.best)
+        bound_of(self.upper_bound, &self.best)
     }
 
     /// Whether some walk was found.
@@ -184,11 +181,14 @@ impl<'a> Search<'a> {
     }
 
     /// The index of a label of the same node that dominates this one, possibly this one itself.
-    pub(crate) fn stand_in(&self, i: usize) -> usize
+    pub(crate) fn dominator(&self, i: usize) -> usize
         requires { i < length self.now.labels }
-        ensures { StandsIn self.now.ground.graph self.now.labels i result }
+        ensures { IsDominatorOf self.now.ground.graph self.now.labels i result }
     {
-        match self.fronts.server(self.view, &self.labels, &self.labels[i]) {
+        match self
+            .fronts
+            .find_dominator(self.view, &self.labels, &self.labels[i])
+        {
             Some(place) => place,
             None => i,
         }
@@ -200,7 +200,7 @@ impl<'a> Search<'a> {
     #[inline(always)]
     pub(crate) fn offer(&mut self, new: Label) -> Result<(), AllocError>
         requires new { SomeRest self.old.ground.graph self.old.ground.request self.old.labels new }
-        requires few { new.count ≤ 19 }
+        requires few { new.hops ≤ 19 }
         ensures extends { IfOk result (λ _. Extends self.old self.new) }
         ensures offered { IfOk result (λ _.
             IsOffered self.old.ground.graph self.old.ground.request self.old.labels new self.new.labels) }
@@ -222,13 +222,13 @@ impl<'a> Search<'a> {
         ensures extends { Extends self.old self.new }
         ensures labels { self.new.labels ≡ self.old.labels }
         ensures better { IsBetter self.old.ground.graph self.old.ground.request self.old.labels
-            self.old.ground.start self.old.best new self.new.best }
+            self.old.ground.upper_bound self.old.best new self.new.best }
     {
         if is_better(
             self.view,
             &self.request,
             &self.labels,
-            self.start,
+            self.upper_bound,
             &self.best,
             &new,
         ) {
@@ -253,7 +253,7 @@ impl<'a> Search<'a> {
     /// The best walk, once the search is finished, if one is usable.
     pub(crate) fn best_walk(&self, alloc: Global) -> Result<Option<Vec<Edge>>, AllocError>
         requires finished { IsFinished self.now }
-        requires start { IsStart (edges self.now.ground.graph) self.now.ground.request self.now.ground.start }
+        requires upper_bound { IsUpperBound (edges self.now.ground.graph) self.now.ground.request self.now.ground.upper_bound }
         ensures { IfOk result (λ best. IsBestWalk (edges self.now.ground.graph) self.now.ground.request
             (option_map (λ walk. walk.items) best)) }
     {
@@ -264,5 +264,70 @@ impl<'a> Search<'a> {
                 Ok(Some(walk))
             }
         }
+    }
+}
+
+impl<'a> Search<'a> {
+    /// A lower bound on the cost of walks over the label.
+    #[inline(always)]
+    pub(crate) fn cost_lower_bound(&self, label: &Label) -> u128
+        ensures { result
+            ≡ cost (label.now.amount + number_at self.now.ground.low label.now.node) label.now.hops }
+    {
+        cost(
+            label.amount as u128 + self.lower_bound(label.node) as u128,
+            label.hops as u128,
+        )
+    }
+
+    /// Relaxes a label, unless that was done.
+    fn close(&mut self, i: usize) -> Result<(), AllocError>
+        requires { i < length self.old.labels }
+        ensures extends { IfOk result (λ _. Extends self.old self.new) }
+        ensures here { IfOk result (λ _. IsMarkedAt self.new i) }
+    {
+        if self.is_done(i) {
+            return Ok(());
+        }
+        self.relax(i)?;
+        self.mark(i)?;
+        Ok(())
+    }
+
+    /// Settles a label: prunes it, or relaxes it or one that dominates it.
+    pub(crate) fn settle(&mut self, i: usize) -> Result<(), AllocError>
+        requires { i < length self.old.labels }
+        ensures extends { IfOk result (λ _. Extends self.old self.new) }
+        ensures here { IfOk result (λ _. IsMarkedAt self.new i) }
+    {
+        if self.is_done(i) {
+            return Ok(());
+        }
+        let label = self.label(i);
+        if self.bound() <= self.cost_lower_bound(&label) {
+            self.mark(i)?;
+            return Ok(());
+        }
+        let place = self.dominator(i);
+        self.close(place)?;
+        if self.is_done(i) {
+            return Ok(());
+        }
+        self.mark(i)?;
+        Ok(())
+    }
+
+    /// Settles all remaining labels: then no usable walk is better than the best one.
+    pub(crate) fn sweep(&mut self) -> Result<(), AllocError>
+        ensures { IfOk result (λ _. (self.new.ground ≡ self.old.ground) × IsFinished self.new) }
+    {
+        for i in 0..usize::MAX {
+            if self.len() <= i {
+                return Ok(());
+            }
+            self.settle(i)?;
+        }
+        let _len = self.len();
+        Ok(())
     }
 }

@@ -1,4 +1,4 @@
--- What was written, from what was told.
+-- What was written at the end of a run.
 use Rattle.std.proofs.Common.{◌≡◌, inl, inr, ℕ, List, [], Option, Some, None, Result, Ok, Err, refl, sym, ap, subst, ◌∙◌, arith}
 use Rattle.std.specs.Prelude.{◌≢◌, IfSome, IfOk, IfErr}
 use Rattle.std.proofs.lemmas.Option.{IfSome_then}
@@ -12,13 +12,13 @@ use Rattle.lgm_script.proofs.Telling.{taken_all, taken_some, some_flushed, some_
 use Rattle.lgm_answers.specs.declared.run_fault.TheConstants.{MAX_LINES}
 use Rattle.lgm_answers.specs.declared.run_fault.RunFault.{RunFault}
 use Rattle.lgm_answers.specs.declared.run_fault.RunFault.TheVariants as faults
-use Rattle.lgm_run.specs.declared.running.Counts.{Counts}
+use Rattle.lgm_run.specs.declared.script_run.Counts.{Counts}
 use Rattle.lgm_run.specs.Running.{NeedsNoBoard, IsTold, IsAnswered, IsTooMany, IsTooLong, IsCutShort}
 use Rattle.lgm_run.specs.Runs.{Runs}
 use Rattle.lgm_run.specs.inner.Ending.{IsFlushed, IsEnded}
 
 told_as : (chain : ChainHash) (known : Option (List ℕ)) (script : List ℕ) (n : ℕ) (old mid new : OutputState)
-    → old.gathered ≡ [] → Tells mid new [] → new.gathered ≡ [] → IsTold chain known (Tells old mid) script n
+    → old.buffered ≡ [] → Tells mid new [] → new.buffered ≡ [] → IsTold chain known (Tells old mid) script n
     → IsTold chain known (Appends old.sink.taken new.sink.taken) script n
 told_as chain known script n old mid new empty flushed clear told =
     record {
@@ -44,7 +44,7 @@ flushed_at mid new answered result fault ended other told is by =
       ]
     ]
 
--- a script that was cut short, of which another text is told
+-- a script that was cut short, with another text
 cut_by : (chain : ChainHash) (known : Option (List ℕ)) (left script : Option (List ℕ))
     (told told' : List ℕ → Type 0)
     → ((text : List ℕ) → told text → told' text) → IfSome script (IsCutShort chain known told left)
@@ -61,7 +61,7 @@ if_err (Ok counts) holds = tt
 if_err (Err fault) holds = holds
 
 module _ (chain : ChainHash) (known : Option (List ℕ)) (script : Option (List ℕ)) (old mid new : OutputState)
-    (answered result : Result Counts RunFault) (empty : old.gathered ≡ [])
+    (answered result : Result Counts RunFault) (empty : old.buffered ≡ [])
     (ended : IsEnded mid new answered result) where
   ok_flushed : (counts : Counts) → IsFlushed mid new answered result
       → IfSome script (IsAnswered chain known (Tells old mid) counts)
@@ -108,7 +108,7 @@ module _ (chain : ChainHash) (known : Option (List ℕ)) (script : Option (List 
         text = told_as chain known s told.place old mid new empty flushed.told flushed.clear told.text;
       }))
 
-  -- what was told at a fault, or a whole text that couldn't be written
+  -- what was written at a fault, or a whole text that couldn't be written
   cut_written : (left : Option (List ℕ)) → IfSome script (IsCutShort chain known (TellsSome old new) left)
       → IfErr result (λ _. IfSome script (IsCutShort chain known (AppendsSome old.sink.taken new.sink.taken) left))
   cut_written left cut =
@@ -143,7 +143,7 @@ module _ (chain : ChainHash) (known : Option (List ℕ)) (script : Option (List 
         ]
       ]
 
-  -- writing what is left asks no board either
+  -- a fault of writing what is left isn't one of a board either
   pub own_ended : IfErr answered NeedsNoBoard → IfErr result NeedsNoBoard
   own_ended own =
       elim ended [
@@ -154,7 +154,7 @@ module _ (chain : ChainHash) (known : Option (List ℕ)) (script : Option (List 
         ]
       ]
 
--- where no memory was there at the start, nothing was read or written
+-- if there was no memory at the start, nothing was read or written
 pub nothing_written : (chain : ChainHash) (known : Option (List ℕ)) (script taken : Option (List ℕ))
     → IfSome script (IsCutShort chain known (AppendsSome taken taken) script)
 nothing_written chain known None taken = tt

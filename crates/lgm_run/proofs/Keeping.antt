@@ -12,20 +12,20 @@ use Rattle.lgm_store.specs.Admission.{admitted, admitted_close, Offers}
 use Rattle.lgm_store.proofs.Verdicts.{offers_gives}
 use Rattle.lgm_script.specs.declared.item.Item.{Item}
 use Rattle.lgm_script.specs.declared.item.Item.TheVariants.{Gossip, Close}
-use Rattle.lgm_run.specs.declared.checking.Offered.{Offered}
-use Rattle.lgm_run.specs.declared.checking.Offered.TheVariants.{Message, Close as Closes}
+use Rattle.lgm_run.specs.declared.checked_item.CheckedItem.{CheckedItem}
+use Rattle.lgm_run.specs.declared.checked_item.CheckedItem.TheVariants.{Message, Close as Closes}
 use Rattle.lgm_answers.specs.Outcomes.{outcome_of}
-use Rattle.lgm_run.specs.inner.Offered.{offered_by, offered_of, outcome_on}
+use Rattle.lgm_run.specs.inner.CheckedItem.{offered_by, offered_of, outcome_on}
 
 -- a message in its turn
-pub message_offers : (rows : Rows) (item : Offered) (checked : Checked) (answer : Result Op Refusal)
+pub message_offers : (rows : Rows) (item : CheckedItem) (checked : Checked) (answer : Result Op Refusal)
     → item ≡ Message checked → Offers answer (admitted rows checked)
     → Gives refusals.NoMemory (λ op. op) answer (outcome_on rows item)
 unfolding outcome_on
 message_offers rows item checked answer is offers = rw is (offers_gives answer (admitted rows checked) offers)
 
 -- a close in its turn
-pub close_offers : (rows : Rows) (item : Offered) (id : ℕ) (answer : Result Op Refusal)
+pub close_offers : (rows : Rows) (item : CheckedItem) (id : ℕ) (answer : Result Op Refusal)
     → item ≡ Closes id → Offers answer (admitted_close rows id)
     → Gives refusals.NoMemory (λ op. op) answer (outcome_on rows item)
 unfolding outcome_on
@@ -33,7 +33,7 @@ close_offers rows item id answer is offers = rw is (offers_gives answer (admitte
 
 -- ---- the check apart from the turn
 
--- the outcome of an item is what becomes of it in its turn, once it was checked
+-- the outcome of an item is that of its checked item in its turn
 pub outcome_checked : (chain : ChainHash) (rows : Rows) (item : Item) → outcome_of chain rows item ≡ outcome_on rows (offered_of chain item)
 unfolding outcome_of outcome_on
 outcome_checked chain rows (Gossip bytes evidence) = by (checked_of chain bytes evidence)

@@ -1,4 +1,4 @@
--- How the two networks are kept.
+-- The two networks of `Maps`.
 use Rattle.std.proofs.Common.{◌≡◌, ◌⊎◌, List, [], Option, Some, None, Result, Ok, Err, inl, inr, sym, ap, ◌∙◌}
 use Rattle.std.specs.Prelude.{◌≢◌, IsSome, OnOk, OnErr}
 use Rattle.lgm_check.specs.declared.refusal.Refusal.{Refusal}
@@ -6,30 +6,30 @@ use Rattle.lgm_store.specs.declared.op.Op.{Op}
 use Rattle.lgm_store.specs.History.{absorbed, fold_from}
 use Rattle.lgm_store.proofs.Histories.{fold_from-push}
 use Rattle.lgm_graph.specs.Graph.{Graph}
-use Rattle.lgm_graph.specs.Network.{Charted}
+use Rattle.lgm_graph.specs.Network.{NetworkState}
 use Rattle.lgm_graph.specs.declared.replica.Replica.{Replica}
-use Rattle.lgm_script.specs.declared.request.Request.{Request}
+use Rattle.lgm_script.specs.declared.command.Command.{Command}
 use Rattle.lgm_script.specs.Groups.{IsNoRoute}
 use Rattle.lgm_run.specs.inner.Behind.{Keeps}
 use Rattle.lgm_run.specs.inner.Maps.{AreKept}
 use Rattle.lgm_run.specs.inner.Questions.{IsReady}
 
 -- with a view any question can be answered, and without one all but routes
-pub ready_for : (graph : Option Graph) (request : Request) → IsSome graph ⊎ IsNoRoute request → IsReady graph request
+pub ready_for : (graph : Option Graph) (request : Command) → IsSome graph ⊎ IsNoRoute request → IsReady graph request
 ready_for None request (inl some) = absurd cc
 ready_for None request (inr none) = none
 ready_for (Some graph) request either = tt
 
 -- what the one that is behind has to catch up with, if anything is due
-pub due_leads : (growing : Replica) (committed : Charted) (pending : List Op) → AreKept growing committed pending
+pub due_leads : (growing : Replica) (committed : NetworkState) (pending : List Op) → AreKept growing committed pending
     → (growing.due.items ≡ []) ⊎ (fold_from growing.network.rows growing.due.items ≡ committed.rows)
 due_leads growing committed pending kept = elim kept.one [
   | inl none ↦ inl none
   | inr none ↦ inr (kept.behind ∙ ap (fold_from committed.rows) none)
 ]
 
--- it did some of what is due
-pub leveled_kept : (growing growing' : Replica) (committed committed' : Charted) (pending : List Op)
+-- it applied some of what is due
+pub leveled_kept : (growing growing' : Replica) (committed committed' : NetworkState) (pending : List Op)
     → AreKept growing committed pending
     → fold_from growing'.network.rows growing'.due.items ≡ fold_from growing.network.rows growing.due.items
     → growing'.network.known ≡ growing.network.known → (growing.due.items ≡ [] → growing'.due.items ≡ [])
@@ -40,8 +40,8 @@ leveled_kept growing growing' committed committed' pending old rows known none s
   one = elim old.one [ inl empty ↦ inl (none empty) | inr empty ↦ inr empty ];
 }
 
--- they change places
-pub committed_kept : (growing growing' : Replica) (committed committed' : Charted) (pending pending' : List Op)
+-- they are swapped
+pub committed_kept : (growing growing' : Replica) (committed committed' : NetworkState) (pending pending' : List Op)
     → AreKept growing committed pending → pending ≢ []
     → growing'.network ≡ committed → committed' ≡ growing.network → growing'.due.items ≡ pending
     → pending' ≡ growing.due.items → AreKept growing' committed' pending'
@@ -59,7 +59,7 @@ committed_kept growing growing' committed committed' pending pending' old some n
     ]
 
 -- an item was offered
-pub offered_kept : (outcome : Result Op Refusal) (growing growing' : Replica) (committed : Charted) (pending pushed : List Op)
+pub offered_kept : (outcome : Result Op Refusal) (growing growing' : Replica) (committed : NetworkState) (pending pushed : List Op)
     → growing.due.items ≡ [] → growing'.due.items ≡ [] → growing'.network.known ≡ growing.network.known
     → Keeps outcome growing.network.rows growing'.network.rows pending pushed
     → AreKept growing committed pending → AreKept growing' committed pushed
@@ -81,7 +81,7 @@ offered_kept (Err refusal) growing growing' committed pending pushed none still 
 }
 
 pub after_offer : {T E : Type 0} (result : Result T E) (outcome : Result Op Refusal) (growing growing' : Replica)
-    (committed : Charted) (pending pushed : List Op)
+    (committed : NetworkState) (pending pushed : List Op)
     → growing.due.items ≡ [] → growing'.due.items ≡ [] → growing'.network.known ≡ growing.network.known
     → OnOk result (Keeps outcome growing.network.rows growing'.network.rows pending pushed)
     → OnErr result (growing'.network.rows ≡ growing.network.rows) → OnErr result (pushed ≡ pending)

@@ -9,12 +9,12 @@ use Rattle.std.proofs.lemmas.List.Elements.{filter-append}
 use Rattle.std.proofs.lemmas.Option.{IfSome_then}
 use Rattle.lgm_wire.specs.declared.chain_hash.ChainHash.{ChainHash}
 use Rattle.lgm_script.specs.declared.line_reader.TheConstants.{MAX_LINE}
-use Rattle.lgm_script.specs.declared.request.Request.{Request}
-use Rattle.lgm_script.specs.declared.request.Request.TheVariants as requests
+use Rattle.lgm_script.specs.declared.command.Command.{Command}
+use Rattle.lgm_script.specs.declared.command.Command.TheVariants as requests
 use Rattle.lgm_script.specs.Device.{IsAtEnd}
 use Rattle.lgm_script.specs.Lines.{ends_line, lines_of, ahead, IsFirstLine, IsLongerThan}
 use Rattle.lgm_script.specs.Groups.{AreFirstLines}
-use Rattle.lgm_script.specs.Request.{request_of}
+use Rattle.lgm_script.specs.Command.{command_of}
 use Rattle.lgm_script.specs.Output.{OutputState, Tells, TellsSome}
 use Rattle.lgm_script.proofs.Ahead.{left_is}
 use Rattle.lgm_script.proofs.FirstLines.{each-push, first_line_alone, stands_at}
@@ -23,14 +23,14 @@ use Rattle.lgm_script.proofs.Splitting.{next_of}
 use Rattle.lgm_script.proofs.Telling.{tells_nothing, tells_both, some_behind}
 use Rattle.lgm_answers.specs.declared.run_fault.TheConstants.{MAX_LINES}
 use Rattle.lgm_answers.specs.Outcomes.{history_of}
-use Rattle.lgm_answers.specs.Script.{requests_of, items_of, State, state_of, text_for, text_at, text_before}
+use Rattle.lgm_answers.specs.Script.{commands_of, items_of, State, state_of, text_for, text_at, text_before}
 use Rattle.lgm_answers.proofs.Lines.{has_line}
 use Rattle.lgm_run.specs.inner.Steps.{opening, state_after, state_from, text_from}
 use Rattle.lgm_run.specs.inner.Progress.{AreNext, HaveAnswers, HaveBegun}
 use Rattle.lgm_run.specs.Running.{IsTold, IsAnswered, IsTooMany, IsTooLong, IsCutShort}
 use Rattle.lgm_run.proofs.Stepping.{opening_is, state_after-request}
 
--- k lines were read, this is left, and this is the state behind them
+-- k lines were read, this is left, and this is the state after them
 pub record IsAtLine (chain : ChainHash) (known : Option (List ℕ)) (script : List ℕ) (k : ℕ) (state : State) (rest : List ℕ) : Type 0 where
   pub front : List ℕ
   pub parts : script ≡ front ++ rest
@@ -38,7 +38,7 @@ pub record IsAtLine (chain : ChainHash) (known : Option (List ℕ)) (script : Li
   pub read : (k ≤ length (filter ends_line front)) ⊎ (rest ≡ [])
   pub few : k ≤ length (lines_of script)
   pub short : AllByRecursion (λ line. length line ≤ MAX_LINE) (take k (lines_of script))
-  pub state_is : state ≡ state_of chain known (take k (requests_of script))
+  pub state_is : state ≡ state_of chain known (take k (commands_of script))
 
 -- and they were answered
 pub record IsSoFar (chain : ChainHash) (known : Option (List ℕ)) (script : List ℕ) (k : ℕ) (state : State)
@@ -46,16 +46,16 @@ pub record IsSoFar (chain : ChainHash) (known : Option (List ℕ)) (script : Lis
   pub rest : List ℕ
   pub input_is : input ≡ Some rest
   pub at : IsAtLine chain known script k state rest
-  pub text : Tells old mid (text_before chain known (requests_of script) k)
+  pub text : Tells old mid (text_before chain known (commands_of script) k)
 
 -- if there is a script
 abbrev pub SoFar : ChainHash → Option (List ℕ) → Option (List ℕ) → ℕ → State → Option (List ℕ) → OutputState → OutputState → Type 0
 SoFar chain known script k state input old mid = IfSome script (λ s. IsSoFar chain known s k state input old mid)
 
--- lines were read on, and their text goes on
+-- more lines were read, and their text follows
 record Steps (chain : ChainHash) (known : Option (List ℕ)) (script : List ℕ) (k n : ℕ) (state : State) (rest text : List ℕ) : Type 0 where
   pub at : IsAtLine chain known script n state rest
-  pub text_is : text_before chain known (requests_of script) n ≡ text_before chain known (requests_of script) k ++ text
+  pub text_is : text_before chain known (commands_of script) n ≡ text_before chain known (commands_of script) k ++ text
 
 -- ---- the lines that are left
 
@@ -79,7 +79,7 @@ first_alone buffered first within small = record {
       buffered) left first within refl (drop_min (first + 1) buffered) line;
 }
 
--- ---- the text of one line more
+-- ---- the text of one more line
 
 module _ (chain : ChainHash) (known : Option (List ℕ)) where
   pub starts : (script : Option (List ℕ)) (told : OutputState) → SoFar chain known script 0 (opening known) (ahead [] script) told told
@@ -100,17 +100,17 @@ module _ (chain : ChainHash) (known : Option (List ℕ)) where
     text = tells_nothing told;
   }
 
-  text_before-suc : (asked : List Request) (k : ℕ)
+  text_before-suc : (asked : List Command) (k : ℕ)
       → text_before chain known asked (suc k) ≡ text_before chain known asked k ++ text_at chain known asked k
   unfolding text_before
   text_before-suc asked k = refl
 
-  text_is : (asked : List Request) (k : ℕ) (state : State) (request : Request) → state ≡ state_of chain known (take k asked)
+  text_is : (asked : List Command) (k : ℕ) (state : State) (request : Command) → state ≡ state_of chain known (take k asked)
       → get_or asked k requests.Quiet ≡ request → text_at chain known asked k ≡ text_for chain (k + 1) state request
   unfolding text_at
   text_is asked k state request s r = rw (s, ← r) refl
 
-  text_more : (asked : List Request) (k : ℕ) (state : State) (request : Request) → state ≡ state_of chain known (take k asked)
+  text_more : (asked : List Command) (k : ℕ) (state : State) (request : Command) → state ≡ state_of chain known (take k asked)
       → get_or asked k requests.Quiet ≡ request
       → text_before chain known asked (k + 1) ≡ text_before chain known asked k ++ text_for chain (k + 1) state request
   text_more asked k state request s r =
@@ -118,7 +118,7 @@ module _ (chain : ChainHash) (known : Option (List ℕ)) where
 
 -- ---- the next lines
 
--- the line that was found is the next one, and behind it one more was read
+-- the line that was found is the next one, and after it one more was read
 record NextOf (script : List ℕ) (k len : ℕ) (buffered left front : List ℕ) : Type 0 where
   pub line_here : drop k (lines_of script) ≡ take len buffered ∷ lines_of (drop (len + 1) buffered ++ left)
   pub parts : script ≡ (front ++ take (len + 1) buffered) ++ (drop (len + 1) buffered ++ left)
@@ -154,18 +154,18 @@ module _ (chain : ChainHash) (known : Option (List ℕ)) (script : List ℕ) whe
   -- one line
   line_step : (k : ℕ) (state : State) (buffered left line : List ℕ) → IsAtLine chain known script k state (buffered ++ left)
       → line ≡ take (length line) buffered → IsFirstLine buffered (Some left) (length line) → length line ≤ MAX_LINE
-      → Steps chain known script k (k + 1) (state_after chain state (request_of line))
-      (drop (length line + 1) buffered ++ left) (text_for chain (k + 1) state (request_of line))
+      → Steps chain known script k (k + 1) (state_after chain state (command_of line))
+      (drop (length line + 1) buffered ++ left) (text_for chain (k + 1) state (command_of line))
   line_step k state buffered left line at line_is first small =
       let len = length line in
-      let asked = requests_of script in
+      let asked = commands_of script in
       let next = next_line_of k len state buffered left at first in
       let others = lines_of (drop (len + 1) buffered ++ left) in
       let here : drop k (lines_of script) ≡ line ∷ others = next.line_here ∙ ap (λ (l : List ℕ). l ∷ others) (sym line_is) in
       let stand = stands_at (lines_of script) k [] line others here in
-      let request_here : drop k asked ≡ request_of line ∷ map request_of others =
-      drop-map request_of k (lines_of script) ∙ ap (map request_of) here in
-      let of = stands_at asked k requests.Quiet (request_of line) (map request_of others) request_here in
+      let request_here : drop k asked ≡ command_of line ∷ map command_of others =
+      drop-map command_of k (lines_of script) ∙ ap (map command_of) here in
+      let of = stands_at asked k requests.Quiet (command_of line) (map command_of others) request_here in
       record {
         at = record {
           front = at.front ++ take (len + 1) buffered;
@@ -177,37 +177,37 @@ module _ (chain : ChainHash) (known : Option (List ℕ)) (script : List ℕ) whe
               subst (λ (ls : List (List ℕ)). AllByRecursion (λ l. length l ≤ MAX_LINE) ls) (sym stand.front)
               (each-push (λ l. length l ≤ MAX_LINE) (take k (lines_of script)) line at.short small);
           state_is =
-              ap (λ (x : State). state_after chain x (request_of line)) at.state_is
-              ∙ state_after-request chain known (take k asked) (request_of line) (request_is_lawful line)
+              ap (λ (x : State). state_after chain x (command_of line)) at.state_is
+              ∙ state_after-request chain known (take k asked) (command_of line) (request_is_lawful line)
               ∙ ap (state_of chain known) (sym of.front);
         };
-        text_is = text_more chain known asked k state (request_of line) at.state_is of.here;
+        text_is = text_more chain known asked k state (command_of line) at.state_is of.here;
       }
 
   -- several
   lines_step : (k : ℕ) (state : State) (buffered left rest : List ℕ) (lines : List (List ℕ))
       → IsAtLine chain known script k state (buffered ++ left)
       → AreFirstLines buffered (Some left) lines rest → AllByRecursion (λ line. length line ≤ MAX_LINE) lines
-      → Steps chain known script k (k + length lines) (state_from chain state (map request_of lines))
-      (rest ++ left) (text_from chain (k + 1) state (map request_of lines))
+      → Steps chain known script k (k + length lines) (state_from chain state (map command_of lines))
+      (rest ++ left) (text_from chain (k + 1) state (map command_of lines))
   lines_step k state buffered left rest [] at first short =
       subst (λ n. Steps chain known script k n state (rest ++ left) []) (omega arith)
       (record {
         at = subst (λ (s : List ℕ). IsAtLine chain known script k state (s ++ left)) (sym first) at;
-        text_is = sym (append-nil (text_before chain known (requests_of script) k));
+        text_is = sym (append-nil (text_before chain known (commands_of script) k));
       })
   lines_step k state buffered left rest (line ∷ lines) at first short =
       let one = line_step k state buffered left line at first.0 first.1 short.0 in
-      let after = state_after chain state (request_of line) in
+      let after = state_after chain state (command_of line) in
       let more = lines_step (k + 1) after (drop (length line + 1) buffered) left rest lines one.at first.2 short.1 in
-      let others = text_from chain (k + 1 + 1) after (map request_of lines) in
-      subst (λ n. Steps chain known script k n (state_from chain state (map request_of (line ∷ lines)))
-      (rest ++ left) (text_from chain (k + 1) state (map request_of (line ∷ lines)))) (omega arith)
+      let others = text_from chain (k + 1 + 1) after (map command_of lines) in
+      subst (λ n. Steps chain known script k n (state_from chain state (map command_of (line ∷ lines)))
+      (rest ++ left) (text_from chain (k + 1) state (map command_of (line ∷ lines)))) (omega arith)
       (record {
         at = more.at;
         text_is =
             more.text_is ∙ ap (λ (t : List ℕ). t ++ others) one.text_is
-            ∙ append_assoc (text_before chain known (requests_of script) k) (text_for chain (k + 1) state (request_of line)) others;
+            ∙ append_assoc (text_before chain known (commands_of script) k) (text_for chain (k + 1) state (command_of line)) others;
       })
 
 -- ---- what was answered so far
@@ -219,15 +219,15 @@ told_of at = record { few = at.at.few; short = at.at.short; text = at.text }
 
 module _ (chain : ChainHash) (known : Option (List ℕ)) (script : Option (List ℕ)) (k : ℕ) (state : State)
     (input : Option (List ℕ)) (old mid : OutputState) (so_far : SoFar chain known script k state input old mid) where
-  -- something more was told than the text so far: nothing
+  -- nothing was written beyond the text so far
   pub told_on : (new : OutputState) → Tells mid new [] → SoFar chain known script k state input old new
   told_on new told = IfSome_then script so_far (λ s at. record {
     rest = at.rest;
     input_is = at.input_is;
     at = at.at;
     text =
-        subst (Tells old new) (append-nil (text_before chain known (requests_of s) k))
-        (tells_both old mid new (text_before chain known (requests_of s) k) [] at.text told);
+        subst (Tells old new) (append-nil (text_before chain known (commands_of s) k))
+        (tells_both old mid new (text_before chain known (commands_of s) k) [] at.text told);
   })
 
   -- all was answered
@@ -238,14 +238,14 @@ module _ (chain : ChainHash) (known : Option (List ℕ)) (script : Option (List 
       let none : drop k (lines_of s) ≡ [] = sym at.at.left ∙ ap lines_of rest_is in
       let few = at.at.few in
       let all : k ≡ length (lines_of s) = omega (arith, ap length none, length-drop k (lines_of s)) in
-      let whole : take k (requests_of s) ≡ requests_of s =
-      take-map request_of k (lines_of s) ∙ ap (map request_of) (take_all k (lines_of s) (omega arith)) in
+      let whole : take k (commands_of s) ≡ commands_of s =
+      take-map command_of k (lines_of s) ∙ ap (map command_of) (take_all k (lines_of s) (omega arith)) in
       record {
         lines = all;
         limit = limit;
         accepted =
             ap (λ (x : State). x.accepted) at.at.state_is
-            ∙ ap (λ (asked : List Request). length (history_of chain (items_of asked))) whole;
+            ∙ ap (λ (asked : List Command). length (history_of chain (items_of asked))) whole;
         text = told_of at;
       })
 
@@ -279,8 +279,8 @@ module _ (chain : ChainHash) (known : Option (List ℕ)) (script : Option (List 
   -- the steps of the next ones
   next_steps : (s : List ℕ) (at : IsSoFar chain known s k state (ahead buffered left) old mid) (first len : ℕ) (lines : List (List ℕ))
       → IsFirstLine buffered left first → AreNext buffered first len lines → (bytes : List ℕ) × (left ≡ Some bytes)
-      × Steps chain known s k (k + length lines) (state_from chain state (map request_of lines))
-      (drop len buffered ++ bytes) (text_from chain (k + 1) state (map request_of lines))
+      × Steps chain known s k (k + length lines) (state_from chain state (map command_of lines))
+      (drop len buffered ++ bytes) (text_from chain (k + 1) state (map command_of lines))
   next_steps s at first len lines line next =
       let input = left_is buffered left at.rest at.input_is in (
         input.0,
@@ -303,11 +303,11 @@ module _ (chain : ChainHash) (known : Option (List ℕ)) (script : Option (List 
         at = steps.2.at;
         text =
             subst (Tells old new) (sym steps.2.text_is)
-            (tells_both old mid new (text_before chain known (requests_of s) k)
-            (text_from chain (k + 1) state (map request_of lines)) at.text answers.text);
+            (tells_both old mid new (text_before chain known (commands_of s) k)
+            (text_from chain (k + 1) state (map command_of lines)) at.text answers.text);
       }))
 
-  -- a first part of the text of lines that were read was told
+  -- a prefix of the text of lines that were read was written
   cut_at : (s : List ℕ) (at : IsSoFar chain known s k state (ahead buffered left) old mid) (n : ℕ) (state' : State)
       (read bytes text : List ℕ) (new : OutputState) → left ≡ Some bytes → n ≤ MAX_LINES
       → Steps chain known s k n state' (read ++ bytes) text → TellsSome mid new text → IsCutShort chain known (TellsSome old new) left s
@@ -334,7 +334,7 @@ module _ (chain : ChainHash) (known : Option (List ℕ)) (script : Option (List 
       short = steps.at.short;
       text =
           subst (TellsSome old new) (sym steps.text_is)
-          (some_behind old mid new (text_before chain known (requests_of s) k) text at.text some);
+          (some_behind old mid new (text_before chain known (commands_of s) k) text at.text some);
     };
   }
 
@@ -345,15 +345,15 @@ module _ (chain : ChainHash) (known : Option (List ℕ)) (script : Option (List 
       cut_at s at k state buffered input.0 [] new input.1 limit
       (record {
         at = subst (IsAtLine chain known s k state) input.2 at.at;
-        text_is = sym (append-nil (text_before chain known (requests_of s) k));
+        text_is = sym (append-nil (text_before chain known (commands_of s) k));
       }) some)
 
-  -- only a first part of their answers is written
+  -- only a prefix of their answers is written
   pub cut_in : (most first : ℕ) (new : OutputState) → k + most ≤ MAX_LINES → IsFirstLine buffered left first
       → HaveBegun chain (k + 1) most state buffered first (TellsSome mid new)
       → IfSome script (IsCutShort chain known (TellsSome old new) left)
   cut_in most first new within line begun = IfSome_then script so_far (λ s at.
-      let asked = map request_of begun.lines in
+      let asked = map command_of begun.lines in
       let steps = next_steps s at first begun.len begun.lines line begun.next in
       cut_at s at (k + length begun.lines) (state_from chain state asked) (drop begun.len buffered) steps.0
       (text_from chain (k + 1) state asked) new steps.1

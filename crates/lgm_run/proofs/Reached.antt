@@ -32,7 +32,7 @@ up_to_first chain known source output = record {
 module _ {chain : ChainHash} {known : Option (List ℕ)} {source : Input} {output : OutputState} {k : ℕ}
     {state : State} {buffered : List ℕ} {mid : Input} {between : OutputState}
     (up_to : IsUpTo chain known source output k state buffered mid between) where
-  -- the same, where what is left was read on
+  -- the same, after more was read
   pub so_far_on : (buffered' : List ℕ) (source' : Input)
       → ahead buffered' source'.left ≡ ahead buffered mid.left
       → SoFar chain known source.left k state (ahead buffered' source'.left) output between

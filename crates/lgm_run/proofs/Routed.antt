@@ -1,4 +1,4 @@
--- What a payment is told.
+-- The answer to a payment.
 use Rattle.std.proofs.Common.{◌≡◌, ◌⊎◌, ℕ, List, Result, Ok, Err, inl, inr, subst}
 use Rattle.std.specs.Prelude.{◌≢◌, IfOk}
 use Rattle.lgm_route.specs.declared.route.Hop.{Hop}

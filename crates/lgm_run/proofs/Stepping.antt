@@ -1,4 +1,4 @@
--- How the state goes on from request to request.
+-- How the state changes from command to command.
 use Rattle.std.proofs.Common.{◌≡◌, ℕ, ◌+◌, ◌<◌, ◌≤◌, Bool, true, false, ◌||◌, cond, eqb, List, [], ◌∷◌, ◌++◌, length}
 use Rattle.std.proofs.Common.{Option, Some, None, Result, Ok, Err, refl, sym, ap, ◌∙◌, arith}
 use Rattle.std.specs.List.{filter_map, cons_option, last_or, list_any}
@@ -15,9 +15,9 @@ use Rattle.lgm_store.specs.History.{fold}
 use Rattle.lgm_store.proofs.Histories.{fold_from-push}
 use Rattle.lgm_query.specs.declared.filter.Filter.{Filter}
 use Rattle.lgm_script.specs.declared.item.Item.{Item}
-use Rattle.lgm_script.specs.declared.request.Request.{Request}
-use Rattle.lgm_script.specs.declared.request.Request.TheVariants as requests
-use Rattle.lgm_script.specs.Request.{HasLawfulPeer}
+use Rattle.lgm_script.specs.declared.command.Command.{Command}
+use Rattle.lgm_script.specs.declared.command.Command.TheVariants as requests
+use Rattle.lgm_script.specs.Command.{HasLawfulPeer}
 use Rattle.lgm_answers.specs.declared.filters.PeerFilter.{PeerFilter}
 use Rattle.lgm_query.specs.declared.request.RequestFault.{RequestFault}
 use Rattle.lgm_answers.specs.Filters.{filters_with, filters_from}
@@ -52,32 +52,32 @@ history_of-push : (chain : ChainHash) (items : List Item) (item : Item) → hist
     ∷ []) ≡ with_outcome (history_of chain items) (outcome_of chain (fold (history_of chain items)) item)
 history_of-push chain items item = history_behind-push chain [] items item
 
--- the history with a request more
-abbrev history_after : ChainHash → List Op → Request → List Op
+-- the history after one more request
+abbrev history_after : ChainHash → List Op → Command → List Op
 history_after chain history (requests.Offer item) = with_outcome history (outcome_of chain (fold history) item)
 history_after chain history _ = history
 
-items_of-push : (asked : List Request) (request : Request) → items_of (asked ++ request ∷ []) ≡ items_of asked ++ cons_option (item_in request) []
+items_of-push : (asked : List Command) (request : Command) → items_of (asked ++ request ∷ []) ≡ items_of asked ++ cons_option (item_in request) []
 items_of-push asked request = filter_map-append item_in asked (request ∷ [])
 
-history_asked-push : (chain : ChainHash) (asked : List Request) (request : Request) → history_of chain
+history_asked-push : (chain : ChainHash) (asked : List Command) (request : Command) → history_of chain
     (items_of (asked ++ request ∷ [])) ≡ history_after chain (history_of chain (items_of asked)) request
 history_asked-push chain asked request = ap (history_of chain) (items_of-push asked request) ∙ by request
   where
     none : history_of chain (items_of asked ++ []) ≡ history_of chain (items_of asked)
     none = ap (history_of chain) (append-nil (items_of asked))
 
-    by : (r : Request) → history_of chain (items_of asked ++ cons_option (item_in r) []) ≡ history_after chain (history_of chain (items_of asked)) r
+    by : (r : Command) → history_of chain (items_of asked ++ cons_option (item_in r) []) ≡ history_after chain (history_of chain (items_of asked)) r
     by (requests.Offer item) = history_of-push chain (items_of asked) item
     by _ = none
 
 -- ---- the last commit
 
--- the requests before the last commit, where one more is a commit or not
-abbrev before_commit_and : List Request → Request → List Request
+-- the requests before the last commit, if one more is a commit or not
+abbrev before_commit_and : List Command → Command → List Command
 before_commit_and asked request = cond (is_commit request) asked (before_commit asked)
 
-before_commit-push : (asked : List Request) (request : Request) → before_commit (asked ++ request ∷ []) ≡ before_commit_and asked request
+before_commit-push : (asked : List Command) (request : Command) → before_commit (asked ++ request ∷ []) ≡ before_commit_and asked request
 before_commit-push [] request = by (is_commit request)
   where
     by : (b : Bool) → [] ≡ cond b [] (before_commit [])
@@ -87,7 +87,7 @@ before_commit-push (r ∷ rs) request =
     rw (list_any-append is_commit rs (request ∷ []))
     (by (is_commit request) (list_any is_commit rs) (before_commit (rs ++ request ∷ [])) (before_commit-push rs request))
   where
-    by : (b any : Bool) (rest : List Request) → rest ≡ cond b rs (before_commit rs)
+    by : (b any : Bool) (rest : List Command) → rest ≡ cond b rs (before_commit rs)
         → cond (any || (b || false)) (r ∷ rest) [] ≡ cond b (r ∷ rs) (cond any (r ∷ before_commit rs) [])
     by true true rest e = rw e refl
     by true false rest e = rw e refl
@@ -100,12 +100,12 @@ last_or-push : {X : Type 0} (o : Option X) (xs : List X) (x : X) → last_or o (
 last_or-push o [] x = refl
 last_or-push o (y ∷ ys) x = last_or-push (Some y) ys x
 
--- the filter of a peer with a request more
+-- the filter of a peer after one more request
 abbrev given_or : Option Filter → Option Filter → Option Filter
 given_or None old = old
 given_or (Some f) old = Some f
 
-filter_of-push : (chain : ChainHash) (asked : List Request) (request : Request) (peer : ℕ) → filter_of chain
+filter_of-push : (chain : ChainHash) (asked : List Command) (request : Command) (peer : ℕ) → filter_of chain
     (asked ++ request ∷ []) peer ≡ given_or (filter_given chain peer request) (filter_of chain asked peer)
 filter_of-push chain asked request peer =
     ap (last_or None) (filter_map-append (filter_given chain peer) asked (request ∷ [])) ∙ by (filter_given chain peer request)
@@ -115,12 +115,12 @@ filter_of-push chain asked request peer =
     by None = ap (last_or None) (append-nil (filter_map (filter_given chain peer) asked))
     by (Some f) = last_or-push None (filter_map (filter_given chain peer) asked) f
 
-filters_of-is : (chain : ChainHash) (asked : List Request) → filters_of chain asked ≡ filters_from (filter_of chain asked) 0 1000
+filters_of-is : (chain : ChainHash) (asked : List Command) → filters_of chain asked ≡ filters_from (filter_of chain asked) 0 1000
 unfolding filters_of
 filters_of-is chain asked = refl
 
--- filters of requests with one more that sets none
-filters_kept : (chain : ChainHash) (asked : List Request) (request : Request)
+-- the filters after one more request that sets none
+filters_kept : (chain : ChainHash) (asked : List Command) (request : Command)
     → ((peer : ℕ) → filter_given chain peer request ≡ None)
     → filters_of chain (asked ++ request ∷ []) ≡ filters_of chain asked
 filters_kept chain asked request none =
@@ -130,8 +130,8 @@ filters_kept chain asked request none =
     ∙ ap (λ (o : Option Filter). given_or o (filter_of chain asked peer)) (none peer))
     ∙ sym (filters_of-is chain asked)
 
--- filters of requests with one more, which sets that of a peer
-filters_set : (chain : ChainHash) (asked : List Request) (peer : ℕ) (bytes : List ℕ)
+-- the filters after one more request, which sets that of a peer
+filters_set : (chain : ChainHash) (asked : List Command) (peer : ℕ) (bytes : List ℕ)
     (read : Result Filter RequestFault) → filter_read chain bytes ≡ read → peer < 1000
     → filters_with (filters_of chain asked) peer read ≡ filters_of chain (asked ++ requests.Filter peer bytes ∷ [])
 filters_set chain asked peer bytes (Err fault) is small = sym (filters_kept chain asked (requests.Filter peer bytes) (λ p. by (eqb peer p)))
@@ -175,17 +175,17 @@ state_behind-outcome : (known : Option (List ℕ)) (history committed : List Op)
 state_behind-outcome known history committed filters (Ok op) = rw (fold_from-push empty history op, length_push history op) refl
 state_behind-outcome known history committed filters (Err refusal) = refl
 
--- the filters with a request more
-abbrev filters_after : ChainHash → List PeerFilter → Request → List PeerFilter
+-- the filters after one more request
+abbrev filters_after : ChainHash → List PeerFilter → Command → List PeerFilter
 filters_after chain filters (requests.Filter peer bytes) = filters_with filters peer (filter_read chain bytes)
 filters_after chain filters _ = filters
 
-filters_of-push : (chain : ChainHash) (asked : List Request) (request : Request) → HasLawfulPeer request
+filters_of-push : (chain : ChainHash) (asked : List Command) (request : Command) → HasLawfulPeer request
     → filters_after chain (filters_of chain asked) request ≡ filters_of chain (asked ++ request ∷ [])
 filters_of-push chain asked (requests.Filter peer bytes) small = filters_set chain asked peer bytes (filter_read chain bytes) refl small
 filters_of-push chain asked request small = sym (filters_kept chain asked request (λ p. refl))
 
-by_request : (chain : ChainHash) (known : Option (List ℕ)) (asked : List Request) (request : Request)
+by_request : (chain : ChainHash) (known : Option (List ℕ)) (asked : List Command) (request : Command)
     → state_after chain (state_of chain known asked) request
     ≡ state_at known (history_after chain (history_of chain (items_of asked)) request) (history_of chain
     (items_of (before_commit_and asked request))) (filters_after chain (filters_of chain asked) request)
@@ -195,9 +195,9 @@ by_request chain known asked (requests.Offer item) =
     (outcome_of chain (fold (history_of chain (items_of asked))) item)
 by_request chain known asked _ = refl
 
--- the state behind one more request
-pub state_after-request : (chain : ChainHash) (known : Option (List ℕ)) (asked : List Request)
-    (request : Request) → HasLawfulPeer request
+-- the state after one more request
+pub state_after-request : (chain : ChainHash) (known : Option (List ℕ)) (asked : List Command)
+    (request : Command) → HasLawfulPeer request
     → state_after chain (state_of chain known asked) request ≡ state_of chain known (asked ++ request ∷ [])
 state_after-request chain known asked request small =
     by_request chain known asked request
@@ -208,12 +208,12 @@ state_behind-le state (Ok op) = omega arith
 state_behind-le state (Err refusal) = omega arith
 
 -- a request has one item at most
-pub accepted-le : (chain : ChainHash) (state : State) (request : Request) → (state_after chain state request).accepted ≤ state.accepted + 1
+pub accepted-le : (chain : ChainHash) (state : State) (request : Command) → (state_after chain state request).accepted ≤ state.accepted + 1
 accepted-le chain state (requests.Offer item) = state_behind-le state (outcome_of chain state.rows item)
 accepted-le chain state _ = omega arith
 
--- and so many requests so many items
-pub accepted_from-le : (chain : ChainHash) (state : State) (asked : List Request)
+-- and this many requests at most this many items
+pub accepted_from-le : (chain : ChainHash) (state : State) (asked : List Command)
     → (state_from chain state asked).accepted ≤ state.accepted + length asked
 accepted_from-le chain state [] = omega arith
 accepted_from-le chain state (request ∷ asked) =

@@ -5,8 +5,8 @@ use Rattle.lgm_wire.specs.declared.chain_hash.ChainHash.{ChainHash}
 use Rattle.lgm_script.specs.declared.line_reader.TheConstants.{MAX_LINE}
 use Rattle.lgm_script.specs.declared.output.SendFault.{SendFault}
 use Rattle.lgm_script.specs.declared.output.SendFault.TheVariants as sending
-use Rattle.lgm_script.specs.declared.reading.LineFault.{LineFault}
-use Rattle.lgm_script.specs.declared.reading.LineFault.TheVariants as lines
+use Rattle.lgm_script.specs.declared.read.LineFault.{LineFault}
+use Rattle.lgm_script.specs.declared.read.LineFault.TheVariants as lines
 use Rattle.lgm_script.specs.Device.{Input, IsAtEnd}
 use Rattle.lgm_script.specs.Lines.{ahead, IsFirstLine, IsLongerThan}
 use Rattle.lgm_script.specs.Output.{OutputState, Tells, TellsPart, TellsSome}
@@ -14,7 +14,7 @@ use Rattle.lgm_script.proofs.Telling.{some_of_all, some_of_part, tells_nothing}
 use Rattle.lgm_answers.specs.declared.run_fault.TheConstants.{MAX_LINES}
 use Rattle.lgm_answers.specs.declared.run_fault.RunFault.{RunFault}
 use Rattle.lgm_answers.specs.declared.run_fault.RunFault.TheVariants as faults
-use Rattle.lgm_run.specs.declared.running.Counts.{Counts}
+use Rattle.lgm_run.specs.declared.script_run.Counts.{Counts}
 use Rattle.lgm_answers.specs.Faults.{line_fault, send_fault}
 use Rattle.lgm_run.specs.Running.{NeedsNoBoard, IsAnswered, IsTooMany, IsCutShort}
 use Rattle.lgm_answers.specs.Script.{State}
@@ -26,7 +26,7 @@ use Rattle.lgm_run.proofs.Reached.{IsUpTo, so_far_on}
 abbrev ended : RunFault → Result Counts RunFault
 ended e = Err e
 
--- whatever the fault of a line, a first part was told
+-- whatever the fault of a line, a prefix was written
 line_some : {T : Type 0} (fault : LineFault) (mid new : OutputState)
     → (failed {T = T} fault ≢ failed lines.Write → Tells mid new [])
     → (failed {T = T} fault ≡ failed lines.Write → TellsPart mid new [] sending.Write) → TellsSome mid new []
@@ -42,7 +42,7 @@ line_writer lines.Read mid new told part = (told (λ e. absurd cc)).writer
 line_writer lines.Write mid new told part = (part refl).writer
 line_writer lines.TooLong mid new told part = (told (λ e. absurd cc)).writer
 
--- a line that can't be read asks no board
+-- a fault of reading a line isn't one of a board
 line_own : (fault : LineFault) → NeedsNoBoard (line_fault fault)
 line_own lines.Read = tt
 line_own lines.Write = tt
@@ -125,7 +125,7 @@ module _ {chain : ChainHash} {known : Option (List ℕ)} {source : Input} {outpu
       (λ _. many chain known source.left k state buffered mid.left output between up_to.so_far full more)
       (λ same. absurd cc) (λ same. absurd cc) (λ same. absurd cc) tt
 
-  -- an answer couldn't be given or written
+  -- an answer couldn't be computed or written
   answered_some : (first most : ℕ) (output' : OutputState) (fault : SendFault)
       → IsFirstLine buffered mid.left first
       → k + most ≤ MAX_LINES

@@ -43,12 +43,12 @@ filters_from-same g h first (suc n) same = rw (same first (omega arith), filters
 pub filters_from-agree : (g h : ℕ → Option Filter) (first count : ℕ) → ((p : ℕ) → g p ≡ h p) → filters_from g first count ≡ filters_from h first count
 filters_from-agree g h first count same = filters_from-same g h first count (λ p le. same p)
 
--- where no peer has a filter, the table is empty
+-- if no peer has a filter, the table is empty
 pub no_filters : (g : ℕ → Option Filter) (first count : ℕ) → ((p : ℕ) → g p ≡ None) → filters_from g first count ≡ []
 no_filters g first zero none = refl
 no_filters g first (suc n) none = rw (none first) (no_filters g (first + 1) n none)
 
--- the filter of a peer put into the table of the others
+-- the filter of a peer, added to the table of the others
 pub filters_from-put : (g h : ℕ → Option Filter) (peer : ℕ) (f : Filter) (first count : ℕ) → first ≤ peer → peer < first + count → h peer ≡ Some f
     → ((p : ℕ) → (p ≡ peer → ⊥) → g p ≡ h p) → put by_peer (filters_from g first count) (with_peer peer f) ≡ filters_from h first count
 filters_from-put g h peer f first zero low high own others = absurd (omega arith)

@@ -2,7 +2,7 @@
 use Rattle.std.proofs.Common.{List, [], ◌∷◌, map, Result, Ok, Err, IfOk, Vec}
 use Rattle.std.specs.List.{AllZip}
 
--- a relation of what a function makes of the first list
+-- a relation to the results of a function on the first list
 pub zip_of : {A B C : Type 0} (f : A → C) (R : C → B → Type 0) (xs : List A) (ys : List B) → AllZip (λ x y. R (f x) y) xs ys → AllZip R (map f xs) ys
 zip_of f R [] [] all = all
 zip_of f R [] (y ∷ ys) all = absurd all

@@ -8,9 +8,9 @@ use Rattle.lgm_script.specs.Lines.{ends_line, lines_of}
 use Rattle.lgm_answers.specs.declared.run_fault.TheConstants.{MAX_LINES}
 use Rattle.lgm_answers.specs.declared.run_fault.RunFault.{RunFault}
 use Rattle.lgm_answers.specs.declared.run_fault.RunFault.TheVariants as faults
-use Rattle.lgm_run.specs.declared.running.Counts.{Counts}
+use Rattle.lgm_run.specs.declared.script_run.Counts.{Counts}
 use Rattle.lgm_answers.specs.Outcomes.{history_of}
-use Rattle.lgm_answers.specs.Script.{requests_of, items_of, text_before}
+use Rattle.lgm_answers.specs.Script.{commands_of, items_of, text_before}
 
 -- a fault that needs no board: no reader has to find a map there
 abbrev pub NeedsNoBoard : RunFault → Type 0
@@ -23,14 +23,14 @@ pub record IsTold (chain : ChainHash) (known : Option (List ℕ)) (told : List �
     (n : ℕ) : Type 0 where
   pub few : n ≤ length (lines_of script)
   pub short : AllByRecursion (λ line. length line ≤ MAX_LINE) (take n (lines_of script))
-  pub text : told (text_before chain known (requests_of script) n)
+  pub text : told (text_before chain known (commands_of script) n)
 
 -- all lines are within the limits, and the whole text was written
 pub record IsAnswered (chain : ChainHash) (known : Option (List ℕ)) (told : List ℕ → Type 0) (counts : Counts)
     (script : List ℕ) : Type 0 where
   pub lines : counts.lines ≡ length (lines_of script)
   pub limit : counts.lines ≤ MAX_LINES
-  pub accepted : counts.accepted ≡ length (history_of chain (items_of (requests_of script)))
+  pub accepted : counts.accepted ≡ length (history_of chain (items_of (commands_of script)))
   pub text : IsTold chain known told script counts.lines
 
 -- one more line than the limit begins, and the text of the lines before it was written

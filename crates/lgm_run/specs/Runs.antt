@@ -4,7 +4,7 @@ use Rattle.lgm_wire.specs.declared.chain_hash.ChainHash.{ChainHash}
 use Rattle.lgm_script.specs.Device.{Input, Written, Appends, AppendsSome}
 use Rattle.lgm_answers.specs.declared.run_fault.RunFault.{RunFault}
 use Rattle.lgm_answers.specs.declared.run_fault.RunFault.TheVariants as faults
-use Rattle.lgm_run.specs.declared.running.Counts.{Counts}
+use Rattle.lgm_run.specs.declared.script_run.Counts.{Counts}
 use Rattle.lgm_run.specs.Running.{NeedsNoBoard, IsAnswered, IsTooMany, IsTooLong, IsCutShort}
 
 pub record Runs (chain : ChainHash) (known : Option (List ℕ)) (reader reader' : Input) (writer writer' : Written)

@@ -4,7 +4,7 @@ pub mod Maps
 pub mod Engine
 pub mod Turns
 pub mod Steps
-pub mod Offered
+pub mod CheckedItem
 pub mod Questions
 pub mod Progress
 pub mod Ending

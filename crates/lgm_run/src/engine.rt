@@ -4,19 +4,19 @@ ghost use Rattle.std.specs.Prelude.{◌≡◌, ◌+◌, ◌≤◌, ◌<◌, ◌^
 ghost use Rattle.lgm_wire.specs.reading.Reading.{Gives};
 ghost use Rattle.lgm_script.specs.Output.{told_by, Writes};
 ghost use Rattle.lgm_answers.specs.Answer.{commit_text, route_text, answer_text};
-ghost use Rattle.lgm_run.specs.inner.Offered.{outcome_on, settled};
+ghost use Rattle.lgm_run.specs.inner.CheckedItem.{outcome_on, settled};
 ghost use Rattle.lgm_run.specs.inner.Questions.{asked_in, filters_behind, questions_text};
 ghost use Rattle.lgm_answers.specs.Routing.{route_answer};
 ghost use Rattle.lgm_run.specs.inner.Steps.{opening, state_behind, state_committed};
 
-use crate::checking::Offered;
+use crate::checked_item::CheckedItem;
 use crate::context::Context;
 use crate::maps::Maps;
 use lgm_answers::{Answer, Filters, answer_found, asked_route};
 use lgm_check::Refusal;
 use lgm_graph::{Known, MAX_CHANNELS};
 use lgm_par::{Gate, Pool};
-use lgm_script::{Output, Payment, SendFault, Sink};
+use lgm_script::{Output, RouteParameters, SendFault, Sink};
 use lgm_store::Seed;
 use std::alloc::{AllocError, Global};
 use std::marker::Model;
@@ -67,8 +67,13 @@ impl Engine {
         self.accepted
     }
 
+    /// Notes where the channel of a checked update is stored, so that it is offered faster.
+    pub fn locate(&self, item: &CheckedItem) {
+        self.maps.locate(item);
+    }
+
     /// Offers a checked item. A refusal or out of memory leaves all unchanged.
-    pub fn offer(&mut self, alloc: Global, item: Offered) -> Result<(), Refusal>
+    pub fn offer(&mut self, alloc: Global, item: CheckedItem) -> Result<(), Refusal>
         requires { self.old.accepted + 1 < 2 ^ 64 }
         ensures outcome { Gives Refusal.NoMemory (λ done. done) result
             (settled (outcome_on self.old.rows item)) }
@@ -84,7 +89,7 @@ impl Engine {
     pub fn answer_route<Rt: Threads + Sync, G: Gate>(
         &mut self,
         pool: &Pool<'_, Rt, G>,
-        payment: &Payment,
+        payment: &RouteParameters,
     ) -> Result<Answer<'static>, AllocError>
         requires few { self.old.accepted ≤ MAX_CHANNELS }
         ensures same { self.new ≡ self.old }
@@ -115,7 +120,7 @@ impl Engine {
             .answer_questions(context, number, lines, &mut self.filters, output)
     }
 
-    /// Makes all accepted items committed ones, and writes the news of peers. The cost is that of what was accepted
+    /// Commits all accepted items, and writes the news of peers. The cost is that of the items accepted
     /// since the last commit.
     pub fn commit<W: Sink>(
         &mut self,
@@ -154,7 +159,7 @@ fn committed<'a>(
     if filters.as_map().is_empty() {
         return Ok(Answer::Committed(accepted));
     }
-    Ok(Answer::News(accepted, filters, maps.differences(alloc)?))
+    Ok(Answer::News(accepted, filters, maps.map_diff(alloc)?))
 }
 
 /// Writes the answer to a commit.

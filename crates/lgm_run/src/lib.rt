@@ -4,16 +4,15 @@
 //! [`Sink`](lgm_script::Sink). Its contract defines that text, line by line, however the bytes of the script arrive.
 #![tactic(auto)]
 
-mod answering;
-mod checking;
+mod answer_lines;
+mod checked_item;
 mod context;
 mod engine;
+mod final_state;
 mod maps;
-mod offering;
 mod questions;
-mod remains;
-mod running;
+mod script_run;
 
 pub use context::Context;
-pub use remains::Remains;
-pub use running::{Counts, run, run_keeping};
+pub use final_state::FinalState;
+pub use script_run::{Counts, run, run_keeping};

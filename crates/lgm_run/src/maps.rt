@@ -1,25 +1,25 @@
 //! The network of all accepted items, and that of the committed ones.
 
-ghost use Rattle.std.specs.Prelude.{◌≡◌, ◌⊎◌, ◌+◌, ◌≤◌, ◌<◌, ◌^◌};
-ghost use Rattle.std.specs.Prelude.{length, Err, IfOk, OnOk, OnErr};
+ghost use Rattle.std.specs.Prelude.{◌≡◌, ◌⊎◌, ◌+◌, ◌≤◌, ◌<◌, ◌^◌, length, Err, IfOk, OnOk, OnErr};
 ghost use Rattle.lgm_wire.specs.reading.Reading.{Gives};
 ghost use Rattle.lgm_store.specs.Rows.{empty};
 ghost use Rattle.lgm_graph.specs.Edges.{edges_of};
 ghost use Rattle.lgm_route.specs.Choice.{answer_of};
 ghost use Rattle.lgm_script.specs.Output.{told_by, Writes};
 ghost use Rattle.lgm_run.specs.inner.Maps.{grown};
-ghost use Rattle.lgm_run.specs.inner.Offered.{outcome_on, settled};
+ghost use Rattle.lgm_run.specs.inner.CheckedItem.{outcome_on, settled};
 ghost use Rattle.lgm_run.specs.inner.Questions.{asked_in, filters_behind, questions_text};
+ghost use Rattle.lgm_store.specs.History.{absorbed};
+ghost use Rattle.lgm_run.specs.inner.Behind.{Keeps};
 
-use crate::checking::Offered;
+use crate::checked_item::CheckedItem;
 use crate::context::Context;
-use crate::offering::offer;
 use crate::questions::answer_questions;
 use lgm_answers::Filters;
 use lgm_check::Refusal;
 use lgm_graph::{Known, MAX_CHANNELS, Network, Replica};
 use lgm_par::{Gate, Pool};
-use lgm_query::{Changes, Differences};
+use lgm_query::{MapDiff, TouchedKeys};
 use lgm_route::{Request, Route, RouteFault, answer_chunked};
 use lgm_script::{Output, SendFault, Sink, may_ask_routes};
 use lgm_store::{Op, Seed};
@@ -29,7 +29,7 @@ use std::marker::Model;
 use std::mem::swap;
 use std::thread::Threads;
 
-/// The network of all accepted items, and that of the committed ones, in whose view routes are searched. At a commit
+/// The network of all accepted items, and that of the committed ones, in whose view routes are found. At a commit
 /// they are swapped, and the one that is then behind applies what is due when it is needed. Contracts see the rows of
 /// both, and the known feature bits. Fields are dropped in order, the maps first: rows that are then left to operations
 /// alone are freed in the order in which they arrived, which is faster.
@@ -72,8 +72,15 @@ impl Maps {
         })
     }
 
+    /// Notes where the channel of a checked update is stored, so that it is offered faster.
+    pub fn locate(&self, item: &CheckedItem) {
+        if let CheckedItem::Message(message) = item {
+            self.growing.network.locate(message);
+        }
+    }
+
     /// Offers a checked item. A refusal or out of memory leaves all unchanged.
-    pub fn offer(&mut self, alloc: Global, item: Offered) -> Result<(), Refusal>
+    pub fn offer(&mut self, alloc: Global, item: CheckedItem) -> Result<(), Refusal>
         ensures outcome { Gives Refusal.NoMemory (λ done. done) result
             (settled (outcome_on self.old.rows item)) }
         ensures grown { OnOk result (self.new ≡ grown self.old (outcome_on self.old.rows item)) }
@@ -83,21 +90,21 @@ impl Maps {
         offer(alloc, &mut self.growing.network, &mut self.pending, item)
     }
 
-    /// The differences since the last commit. The cost is that of what was accepted since then.
-    pub fn differences(&self, alloc: Global) -> Result<Differences<'_>, AllocError>
+    /// The differences since the last commit, in time logarithmic in the maps for each item accepted since then.
+    pub fn map_diff(&self, alloc: Global) -> Result<MapDiff<'_>, AllocError>
         ensures { IfOk result
-            (λ differences. differences ≡ record { before = self.now.committed; after = self.now.rows }) }
+            (λ map_diff. map_diff ≡ record { before = self.now.committed; after = self.now.rows }) }
     {
-        let changes = Changes::of(alloc, &self.pending)?;
+        let changes = TouchedKeys::of(alloc, &self.pending)?;
         let grown = if self.pending.is_empty() {
             self.committed.map()
         } else {
             self.growing.network.map()
         };
-        Differences::between(alloc, self.committed.map(), grown, &changes)
+        MapDiff::between(alloc, self.committed.map(), grown, &changes)
     }
 
-    /// Makes all accepted items committed ones, at no cost.
+    /// Commits all accepted items, in constant time.
     pub fn commit(&mut self)
         ensures { self.new ≡ record self.old { committed = self.old.rows } }
     {
@@ -150,5 +157,44 @@ impl Maps {
                 .make_view(context.pool.alloc, &mut self.committed)?;
         }
         answer_questions(context, &self.committed, number, lines, filters, output)
+    }
+}
+
+/// Admits an item and applies its operation, which is returned. A refusal or out of memory leaves the map unchanged.
+#[tactic(auto, unfolding(crate::specs::inner::CheckedItem::outcome_on))]
+fn admit(alloc: Global, network: &mut Network, item: CheckedItem) -> Result<Op, Refusal>
+    ensures outcome { Gives Refusal.NoMemory (λ op. op) result (outcome_on network.old.rows item) }
+    ensures accepted { IfOk result (λ op. network.new.rows ≡ absorbed network.old.rows op) }
+    ensures known { network.new.known ≡ network.old.known }
+    ensures refused { OnErr result (network.new.rows ≡ network.old.rows) }
+{
+    match item {
+        CheckedItem::Message(message) => network.offer(alloc, message),
+        CheckedItem::Close(scid) => network.offer_close(scid),
+        CheckedItem::Refused(refusal) => Err(refusal),
+    }
+}
+
+/// Offers a checked item to a network. The operation of an accepted one is pending from then on. A refusal or out of
+/// memory leaves all unchanged.
+pub fn offer(
+    alloc: Global,
+    network: &mut Network,
+    pending: &mut VecDeque<Op>,
+    item: CheckedItem,
+) -> Result<(), Refusal>
+    ensures outcome { Gives Refusal.NoMemory (λ done. done) result
+        (settled (outcome_on network.old.rows item)) }
+    ensures kept { OnOk result (Keeps (outcome_on network.old.rows item) network.old.rows network.new.rows
+        pending.old.items pending.new.items) }
+    ensures known { network.new.known ≡ network.old.known }
+    ensures same { OnErr result (network.new.rows ≡ network.old.rows) }
+    ensures none { OnErr result (pending.new.items ≡ pending.old.items) }
+{
+    pending.reserve(1)?;
+    let op = admit(alloc, network, item)?;
+    match pending.push_back(op) {
+        Ok(()) => Ok(()),
+        Err(_) => unreachable!(),
     }
 }

@@ -4,8 +4,8 @@ ghost use Rattle.std.specs.Prelude.{◌≡◌, ◌+◌, ◌<◌, ◌^◌, ℕ, L
 ghost use Rattle.std.specs.Prelude.{IfOk, OnOk, All, length};
 ghost use Rattle.std.specs.List.{AllZip};
 ghost use Rattle.lgm_script.specs.Output.{told_by, Writes};
-ghost use Rattle.lgm_script.specs.Request.{request_of};
-ghost use Rattle.lgm_script.specs.declared.request.Request.TheVariants.{Route as AsksRoute};
+ghost use Rattle.lgm_script.specs.Command.{command_of};
+ghost use Rattle.lgm_script.specs.declared.command.Command.TheVariants.{Route as AsksRoute};
 ghost use Rattle.lgm_answers.specs.Answer.{answer_text, route_text};
 ghost use Rattle.lgm_answers.specs.Routing.{route_answer};
 ghost use Rattle.lgm_answers.specs.declared.filters.PeerFilter.{PeerFilter};
@@ -19,7 +19,7 @@ use lgm_gossip::ChainHash;
 use lgm_graph::Network;
 use lgm_par::Gate;
 use lgm_route::answer;
-use lgm_script::{Output, Payment, Request, SendFault, Sink, parse};
+use lgm_script::{Command, Output, RouteParameters, SendFault, Sink, parse};
 use std::alloc::{AllocError, Global};
 use std::thread::Threads;
 
@@ -27,7 +27,7 @@ use std::thread::Threads;
 fn answer_route(
     alloc: Global,
     committed: &Network,
-    payment: &Payment,
+    payment: &RouteParameters,
 ) -> Result<Answer<'static>, AllocError>
     requires { IsReady committed.now.graph (AsksRoute payment.now) }
     ensures text { IfOk result (λ answer. (n : ℕ) → answer_text n answer
@@ -49,15 +49,15 @@ fn decide<'a>(
     committed: &'a Network,
     line: &[u8],
 ) -> Result<Answer<'a>, AllocError>
-    requires { IsReady committed.now.graph (request_of line.now) }
-    ensures { IfOk result (IsAnswerTo chain.now committed.now.known committed.now.rows (request_of line.now)) }
+    requires { IsReady committed.now.graph (command_of line.now) }
+    ensures { IfOk result (IsAnswerTo chain.now committed.now.known committed.now.rows (command_of line.now)) }
 {
     match parse(alloc, line)? {
-        Request::Query(bytes) => answer_query(alloc, chain, committed.map(), bytes.as_slice()),
-        Request::Filter(peer, bytes) => {
+        Command::Query(bytes) => answer_query(alloc, chain, committed.map(), bytes.as_slice()),
+        Command::Filter(peer, bytes) => {
             answer_filter(alloc, chain, committed.map(), peer, bytes.as_slice())
         }
-        Request::Route(payment) => answer_route(alloc, committed, &payment),
+        Command::Route(payment) => answer_route(alloc, committed, &payment),
         _ => Ok(Answer::Bad),
     }
 }
@@ -68,7 +68,7 @@ fn decide_all<'a, Rt: Threads + Sync, G: Gate>(
     committed: &'a Network,
     lines: &[&[u8]],
 ) -> Result<Vec<Result<Answer<'a>, AllocError>>, AllocError>
-    requires ready { All (λ line. IsReady committed.now.graph (request_of line.now)) lines.now }
+    requires ready { All (λ line. IsReady committed.now.graph (command_of line.now)) lines.now }
     ensures { IfOk result (λ all. AllZip (λ request answer. IfOk answer
         (IsAnswerTo context.now.chain committed.now.known committed.now.rows request))
         (asked_in lines.now) all.items) }
@@ -81,7 +81,7 @@ fn decide_all<'a, Rt: Threads + Sync, G: Gate>(
 }
 
 /// Writes an answer in its turn, and sets its filter, if it has one.
-fn tell<W: Sink>(
+fn write_answer<W: Sink>(
     alloc: Global,
     number: u64,
     answer: &Answer<'_>,
@@ -107,7 +107,7 @@ pub fn answer_questions<Rt: Threads + Sync, G: Gate, W: Sink>(
     filters: &mut Filters,
     output: &mut Output<'_, W>,
 ) -> Result<(), SendFault>
-    requires ready { All (λ line. IsReady committed.now.graph (request_of line.now)) lines.now }
+    requires ready { All (λ line. IsReady committed.now.graph (command_of line.now)) lines.now }
     requires number { first + length lines.now < 2 ^ 64 }
     ensures filters { OnOk result
         (filters.new ≡ filters_behind context.now.chain filters.old (asked_in lines.now)) }
@@ -121,7 +121,7 @@ pub fn answer_questions<Rt: Threads + Sync, G: Gate, W: Sink>(
         let Ok(answer) = answer else {
             return Err(SendFault::NoMemory);
         };
-        tell(context.pool.alloc, number, answer, filters, output)?;
+        write_answer(context.pool.alloc, number, answer, filters, output)?;
         number += 1;
     }
     Ok(())

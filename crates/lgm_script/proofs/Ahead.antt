@@ -6,11 +6,11 @@ use Rattle.std.proofs.lemmas.List.{length-take, length-append, take-append-drop,
 use Rattle.std.proofs.Math.Seq.{take-append-add, take-append_seam}
 use Rattle.lgm_script.specs.Lines.{ahead}
 
--- the front of a buffer that was written anew
+-- the front of a buffer that was overwritten
 take-rewritten : (n len : ℕ) (front rest : List ℕ) → n ≤ length front → length front ≤ len → take n (take len (front ++ rest)) ≡ take n front
 take-rewritten n len front rest few fits = take-take n len (front ++ rest) (omega arith) ∙ take-append-le n front rest few
 
--- bytes behind the others, with what was read into the buffer behind a place
+-- bytes after the others, with what was read into the buffer from an index on
 pub read_behind : (front sub whole rest : List ℕ) (start end n len : ℕ) → front ≡ take end whole → start ≤ end
     → end ≤ length whole → n ≤ length sub → length front + length sub ≤ len
     → drop start (take (end + n) (take len ((front ++ sub) ++ rest))) ≡ drop start (take end whole) ++ take n sub
@@ -22,7 +22,7 @@ read_behind front sub whole rest start end n len is order within few fits =
     (omega (arith, length-append front sub)) ∙ both) ∙ drop-append-le start front (take n sub)
     (omega arith) ∙ ap (λ (s : List ℕ). drop start s ++ take n sub) is
 
--- what was read stands ahead of what is left
+-- what was read comes before what is left
 pub ahead_behind : (old new : Option (List ℕ)) (front sub : List ℕ) (n : ℕ) → new ≡ option_map (drop n) old
     → IfSome old (λ left. (n ≤ length left) × (take n sub ≡ take n left))
     → ahead (front ++ take n sub) new ≡ ahead front old
@@ -32,7 +32,7 @@ ahead_behind (Some left) new front sub n moved same =
     ∙ ap (λ (s : List ℕ). Some s) (append_assoc front (take n sub) (drop n left) ∙ ap (λ (s : List ℕ). front
     ++ s) (ap (λ (s : List ℕ). s ++ drop n left) same.1 ∙ take-append-drop n left))
 
--- the front stays
+-- the front is unchanged
 pub front_stays : (old new sub : List ℕ) (n : ℕ) → new ≡ old ++ take n sub → take (length old) new ≡ old
 front_stays old new sub n is = ap (take (length old)) is ∙ take-append_seam old (take n sub)
 

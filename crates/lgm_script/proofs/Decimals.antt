@@ -21,13 +21,13 @@ own = numerals_by_value _ tells_digits
 is_itself : (text : List ℕ) → pointwise eqb text text ≡ true
 is_itself text = true_from_ne_false (pointwise eqb text text) (λ e. other_text text text (sym e) refl)
 
--- the text of a number spells it
+-- the text of a number encodes it
 pub number_spelled : (n : ℕ) (digits : List ℕ) → n < 2 ^ 64 → decimal n ≡ digits → number_of digits ≡ Some n
 number_spelled n digits small is =
     let value : digits_value 10 digits ≡ n = ap (digits_value 10) (sym is) ∙ digits_value-decimal own n small in
     rw (value, lt-ltb n (2 ^ 64) small, is, is_itself digits) refl
 
--- what is no number's text spells none
+-- what is no number's text encodes none
 pub number_none : (digits : List ℕ) → ((n : ℕ) → n < 2 ^ 64 → decimal n ≡ digits → ⊥) → number_of digits ≡ None
 number_none digits none = elim (cases_Bool (ltb (digits_value 10 digits) (2 ^ 64))) [
   | inl e ↦ rw (
@@ -61,7 +61,7 @@ and_false : (b : Bool) → (b && false) ≡ false
 and_false true = refl
 and_false false = refl
 
--- a digit that can't be taken
+-- a digit that can't be added
 pub value_at-none : (n d : ℕ) (ds : List ℕ) → further n d ≡ None → value_at n (d ∷ ds) ≡ None
 value_at-none n d ds none = by (is_digit d) (ltb (with_digit n d) (2 ^ 64)) refl refl
   where
@@ -88,7 +88,7 @@ value_at-end n i digits past small = rw (drop_all i digits past, lt-ltb n (2 ^ 6
 digits_read : IsNumeralModel (λ ds. list_all is_digit ds ≡ true) (with_digits 0)
 digits_read = numerals_by_fold _ (search rules) with_digits (search rules)
 
--- digits that are not empty, and have no leading zero, are read as the number that they spell
+-- digits that are not empty, and have no leading zero, are read as the number that they encode
 pub value_is : (digits : List ℕ) → 0 < length digits → (get_or digits 0 0 ≡ 48 → length digits ≡ 1) → value_at 0 digits ≡ number_of digits
 value_is digits some alone = by (list_all is_digit digits) (ltb (with_digits 0 digits) (2 ^ 64)) refl refl
   where

@@ -8,13 +8,13 @@ use Rattle.std.proofs.lemmas.List.Splits.{slice_split_none, slice_split_first, s
 use Rattle.memchr.specs.Find.{IsFirstByte, IsLastByte, is_byte}
 use Rattle.lgm_script.specs.Field.{fields_of}
 
--- where no separator stands, the text is one field
+-- a text without a separator is one field
 pub one_field : (c : ℕ) (text : List ℕ) → IsFirstByte (is_byte c) text None → fields_of c text ≡ text ∷ []
 one_field c text nowhere =
     slice_split_none (λ byte. eqb byte c) text
     (λ j d less. ap (λ (b : ℕ). eqb b c) (get_or_default text j d 0 less) ∙ false_from_ne_true (eqb (get_or text j 0) c) (nowhere j (omega arith) less))
 
--- the field in front of the first separator, and those behind it
+-- the field before the first separator, and those after it
 pub first_field : (c : ℕ) (text : List ℕ) (k : ℕ) → IsFirstByte (is_byte c) text (Some k)
     → fields_of c text ≡ take k text ∷ fields_of c (drop (k + 1) text)
 first_field c text k first =
@@ -37,13 +37,13 @@ some_field c (byte ∷ bytes) none = elim (cases_Bool (eqb byte c)) [
     onto [] e = cc
     onto (part ∷ parts) e = cc
 
--- a byte in front of the first of several fields, with another behind them
+-- a byte before the first of several fields, with another one after them
 onto_front : (byte : ℕ) (parts : List (List ℕ)) (last : List ℕ) → (parts ≡ [] → ⊥)
     → onto_first byte (parts ++ last ∷ []) ≡ onto_first byte parts ++ last ∷ []
 onto_front byte [] last some = absurd (some refl)
 onto_front byte (part ∷ parts) last some = refl
 
--- the fields in front of a separator, and the one behind it
+-- the fields before a separator, and the one after it
 fields_and_last : (c : ℕ) (front last : List ℕ) → fields_of c last ≡ last ∷ [] → fields_of c (front ++ c ∷ last) ≡ fields_of c front ++ last ∷ []
 fields_and_last c [] last one = slice_split-cons_yes (λ byte. eqb byte c) c last (eq-eqb c c refl) ∙ ap (λ (parts : List (List ℕ)). [] ∷ parts) one
 fields_and_last c (byte ∷ front) last one = elim (cases_Bool (eqb byte c)) [
@@ -57,7 +57,7 @@ fields_and_last c (byte ∷ front) last one = elim (cases_Bool (eqb byte c)) [
       ∙ ap (λ (parts : List (List ℕ)). parts ++ last ∷ []) (sym (slice_split-cons_no (λ b. eqb b c) byte front e))
 ]
 
--- the fields in front of the last separator, and the one behind it
+-- the fields before the last separator, and the one after it
 pub last_field : (c : ℕ) (text : List ℕ) (k : ℕ) → IsLastByte (is_byte c) text (Some k)
     → fields_of c text ≡ fields_of c (take k text) ++ drop (k + 1) text ∷ []
 last_field c text k last =

@@ -1,4 +1,4 @@
--- Lines one behind the other.
+-- Lines one after the other.
 use Rattle.std.proofs.Common.{◌≡◌, ℕ, zero, suc, get_or, ◌<◌, ◌+◌, ◌-◌, ◌≤◌, List, [], ◌∷◌, ◌++◌}
 use Rattle.std.proofs.Common.{length, take, drop, min, Option, sym, ap, subst, ◌∙◌, arith}
 use Rattle.std.specs.List.{AllByRecursion}
@@ -14,7 +14,7 @@ first_line_alone bytes line rest left n within is rest_is first =
     let len : length line ≡ n = ap length is ∙ length-take-le n bytes within in
     (is ∙ ap (λ k. take k bytes) (sym len), subst (IsFirstLine bytes left) (sym len) first, rest_is ∙ ap (λ k. drop (k + 1) bytes) (sym len))
 
--- one more behind them
+-- one more after them
 pub first_lines-push : (bytes : List ℕ) (left : Option (List ℕ)) (lines : List (List ℕ))
     (line rest behind : List ℕ) → AreFirstLines bytes left lines rest
     → line ≡ take (length line) rest → IsFirstLine rest left (length line)
@@ -28,25 +28,25 @@ pub each-push : {X : Type 0} (P : X → Type 0) (xs : List X) (x : X) → AllByR
 each-push P [] x all one = (one, tt)
 each-push P (y ∷ ys) x all one = (all.0, each-push P ys x all.1 one)
 
--- what is left behind the first bytes starts where its length says
+-- what is left after the first bytes starts where its length says
 pub cut_off : (n : ℕ) (bytes rest : List ℕ) → rest ≡ drop n bytes → rest ≡ drop (length bytes - length rest) bytes
 cut_off n bytes rest is =
     let at : length bytes - length rest ≡ min n (length bytes) = omega (arith, ap length is, length-drop n bytes) in
     is ∙ sym (drop_min n bytes) ∙ ap (λ k. drop k bytes) (sym at)
 
--- and so does what is left behind the first of those
+-- and so does what is left after the first of those
 pub cut_again : (n : ℕ) (bytes rest behind : List ℕ) → rest ≡ drop (length bytes - length rest) bytes
     → behind ≡ drop n rest → behind ≡ drop (length bytes - length behind) bytes
 cut_again n bytes rest behind is behind_is =
     cut_off (length bytes - length rest + n) bytes behind (behind_is ∙ ap (drop n) is ∙ drop-drop n (length bytes - length rest) bytes)
 
--- what holds of each holds at a place
+-- what holds of each holds at an index
 pub each_at : {X : Type 0} (P : X → Type 0) (xs : List X) (k : ℕ) (d : X) → AllByRecursion P xs → k < length xs → P (get_or xs k d)
 each_at P [] k d all lt = absurd (omega arith)
 each_at P (x ∷ xs) zero d all lt = all.0
 each_at P (x ∷ xs) (suc k) d all lt = each_at P xs k d all.1 (omega arith)
 
--- the element at a place, and those behind it
+-- the element at an index, and those after it
 pub record StandsAt {X : Type 0} (xs : List X) (k : ℕ) (d x : X) (others : List X) : Type 0 where
   pub within : k < length xs
   pub here : get_or xs k d ≡ x

@@ -1,4 +1,4 @@
--- What lines of a kind ask.
+-- What lines of a kind request.
 use Rattle.std.proofs.Common.{◌≡◌, arith, ℕ, Bool, true, false, cond, ◌||◌, List, [], ◌∷◌, length, take, drop, Option, Some, None, refl, inl, inr}
 use Rattle.std.specs.Prelude.{codes, nat_eq, nat_lt, ◌<◌, IfSome, ◌==◌, unwrap_or}
 use Rattle.std.specs.List.{starts_with, list_any, AllByRecursion}
@@ -6,16 +6,16 @@ use Rattle.std.specs.Option.{option_map}
 use Rattle.std.specs.Cmp.Lexicographic.{pointwise}
 use Rattle.std.proofs.lemmas.Bool.{cases_Bool, ltb-true}
 use Rattle.std.proofs.lemmas.Bool.Decides.{nat_tests}
-use Rattle.lgm_script.specs.declared.grouping.Kind.{Kind}
-use Rattle.lgm_script.specs.declared.grouping.Kind.TheVariants.{Item as ItemKind, Question, Other}
+use Rattle.lgm_script.specs.declared.group.Kind.{Kind}
+use Rattle.lgm_script.specs.declared.group.Kind.TheVariants.{Item as ItemKind, Question, Other}
 use Rattle.lgm_script.specs.declared.item.Item.{Item}
-use Rattle.lgm_script.specs.declared.payment.Payment.{Payment}
-use Rattle.lgm_script.specs.declared.request.Request.{Request}
-use Rattle.lgm_script.specs.declared.request.Request.TheVariants as requests
+use Rattle.lgm_script.specs.declared.route_parameters.RouteParameters.{RouteParameters}
+use Rattle.lgm_script.specs.declared.command.Command.{Command}
+use Rattle.lgm_script.specs.declared.command.Command.TheVariants as requests
 use Rattle.lgm_script.specs.Field.{◌>>=◌, fields_of, number_of, number_below}
 use Rattle.lgm_script.specs.Item.{bytes_of, gossip_of, close_of}
-use Rattle.lgm_script.specs.Payment.{payment_of}
-use Rattle.lgm_script.specs.Request.{filter_of, request_of, HasLawfulPeer}
+use Rattle.lgm_script.specs.RouteParameters.{payment_of}
+use Rattle.lgm_script.specs.Command.{filter_of, command_of, HasLawfulPeer}
 use Rattle.lgm_script.specs.inner.Kinds.{has_route_word, kind_of}
 use Rattle.lgm_script.specs.Groups.{IsOfKind, IsNoRoute}
 
@@ -32,11 +32,11 @@ quiet_is_other : (line : List ℕ) → is_quiet line ≡ true → kind_of line �
 quiet_is_other [] quiet = refl
 quiet_is_other (b ∷ bytes) quiet = rw (is_sign b bytes quiet) refl
 
--- what a line of the kind can ask, with a lawful peer, and no route unless it has that word
-abbrev Asks : Kind → Bool → Request → Type 0
+-- what a line of the kind can request, with a lawful peer, and no route unless it has that word
+abbrev Asks : Kind → Bool → Command → Type 0
 Asks kind route request = IsOfKind kind request × ((route ≡ false → IsNoRoute request) × HasLawfulPeer request)
 
--- a number that is taken is below its limit
+-- a number that is parsed is below its limit
 below : (limit : ℕ) (number : Option ℕ) → IfSome (number >>= λ n. cond (nat_lt n limit) (Some n) None) (λ n. n < limit)
 below limit None = tt
 below limit (Some n) = elim (cases_Bool (nat_lt n limit)) [ inl is ↦ rw is (ltb-true n limit is) | inr is ↦ rw is tt ]
@@ -62,13 +62,13 @@ filter_or_bad route (peer ∷ hex ∷ []) = by (number_below 1000 peer) (bytes_o
     by (Some number) (Some bytes) small = (tt, ((λ _. tt), small))
 filter_or_bad route (peer ∷ hex ∷ more ∷ fields) = (tt, ((λ _. tt), tt))
 
-route_or_bad : (payment : Option Payment) → Asks Question true (unwrap_or (option_map (λ p. requests.Route p) payment) requests.Bad)
+route_or_bad : (payment : Option RouteParameters) → Asks Question true (unwrap_or (option_map (λ p. requests.Route p) payment) requests.Bad)
 route_or_bad None = (tt, ((λ _. tt), tt))
 route_or_bad (Some payment) = (tt, ((λ is. absurd cc), tt))
 
 -- each form is of the kind of its first word
 form_asks : (m close q filter route commit : Bool) (gossip closed : Option Item) (bytes : Option (List ℕ))
-    (fields : List (List ℕ)) (payment : Option Payment)
+    (fields : List (List ℕ)) (payment : Option RouteParameters)
     → Asks (cond (m || close) ItemKind (cond (q || filter || route) Question Other)) route
     (unwrap_or (cond m (option_map (λ i. requests.Offer i) gossip) (cond close
     (option_map (λ i. requests.Offer i) closed) (cond q (option_map (λ b. requests.Query b) bytes)
@@ -82,7 +82,7 @@ form_asks false false false false true commit gossip closed bytes fields payment
 form_asks false false false false false true gossip closed bytes fields payment = (tt, ((λ _. tt), tt))
 form_asks false false false false false false gossip closed bytes fields payment = (tt, ((λ _. tt), tt))
 
-line_asks : (line : List ℕ) → Asks (kind_of line) (has_route_word line) (request_of line)
+line_asks : (line : List ℕ) → Asks (kind_of line) (has_route_word line) (command_of line)
 line_asks line = elim (cases_Bool (is_quiet line)) [
   | inl is ↦ rw (quiet_is_other line is, is) (tt, ((λ _. tt), tt))
   | inr is ↦ rw is
@@ -93,17 +93,17 @@ line_asks line = elim (cases_Bool (is_quiet line)) [
       (close_of (fields_of 32 (drop 6 line))) (bytes_of (drop 2 line)) (fields_of 32 (drop 7 line)) (payment_of (fields_of 32 (drop 6 line))))
 ]
 
--- what a line asks is of its kind
-pub request_is_of_kind : (line : List ℕ) → IsOfKind (kind_of line) (request_of line)
+-- what a line requests is of its kind
+pub request_is_of_kind : (line : List ℕ) → IsOfKind (kind_of line) (command_of line)
 request_is_of_kind line = let asks = line_asks line in asks.0
 
 -- peers are lawful
-pub request_is_lawful : (line : List ℕ) → HasLawfulPeer (request_of line)
+pub request_is_lawful : (line : List ℕ) → HasLawfulPeer (command_of line)
 request_is_lawful line = let asks = line_asks line in asks.1.1
 
--- where no line has the word, none asks for a route
+-- if no line has the word, none requests a route
 pub no_routes : {T : Type 0} (text : T → List ℕ) (lines : List T) → list_any (λ line. has_route_word
-    (text line)) lines ≡ false → AllByRecursion (λ line. IsNoRoute (request_of (text line))) lines
+    (text line)) lines ≡ false → AllByRecursion (λ line. IsNoRoute (command_of (text line))) lines
 no_routes text [] none = tt
 no_routes text (line ∷ lines) none = elim (cases_Bool (has_route_word (text line))) [
   | inl is ↦ absurd (let bad = rw is at none in cc)

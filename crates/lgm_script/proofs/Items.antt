@@ -13,13 +13,13 @@ use Rattle.hex.specs.declared.error.FromHexError.{FromHexError}
 use Rattle.lgm_check.specs.declared.evidence.Evidence.{Evidence}
 use Rattle.lgm_script.specs.declared.item.Item.{Item}
 use Rattle.lgm_script.specs.declared.item.Item.TheVariants.{Gossip}
-use Rattle.lgm_script.specs.declared.payment.Payment.{Payment}
-use Rattle.lgm_script.specs.declared.request.Request.{Request}
-use Rattle.lgm_script.specs.declared.request.Request.TheVariants as requests
+use Rattle.lgm_script.specs.declared.route_parameters.RouteParameters.{RouteParameters}
+use Rattle.lgm_script.specs.declared.command.Command.{Command}
+use Rattle.lgm_script.specs.declared.command.Command.TheVariants as requests
 use Rattle.lgm_script.specs.Field.{◌>>=◌, fields_of, number_below}
 use Rattle.lgm_script.specs.Item.{bytes_of, evidence_of, gossip_of, close_of}
-use Rattle.lgm_script.specs.Payment.{payment_of}
-use Rattle.lgm_script.specs.Request.{filter_of, request_of}
+use Rattle.lgm_script.specs.RouteParameters.{payment_of}
+use Rattle.lgm_script.specs.Command.{filter_of, command_of}
 use Rattle.lgm_script.proofs.FieldsLaws.{some_field}
 use Rattle.lgm_script.proofs.FirstWords.{is_quiet, is_sign}
 
@@ -56,7 +56,7 @@ no_bytes (byte ∷ text) refused = elim (cases_Bool (eqb (length (byte ∷ text)
   | inr is ↦ rw (is, refused.is) refl
 ]
 
--- digits with a space among them spell no bytes
+-- digits with a space among them encode no bytes
 space_spells_none : (front back : List ℕ) → bytes_of (front ++ 32 ∷ back) ≡ None
 space_spells_none front back = no_bytes (front ++ 32 ∷ back) (space_refused 0 front back)
 
@@ -73,14 +73,14 @@ pub no_message : (bytes : Taken) → message bytes None ≡ None
 no_message None = refl
 no_message (Some b) = refl
 
--- where there are more, there is none either
+-- if there are more, there is none either
 too_many : (hex more : List ℕ) (others : List (List ℕ)) (signer output : List ℕ)
     → gossip_of ((hex ∷ more ∷ others ++ signer ∷ []) ++ output ∷ []) ≡ None
 too_many hex more [] signer output = no_message (bytes_of hex)
 too_many hex more (other ∷ []) signer output = no_message (bytes_of hex)
 too_many hex more (other ∷ further ∷ others) signer output = no_message (bytes_of hex)
 
--- the message that a text spells, cut twice from its end
+-- the message that a text encodes, cut twice from its end
 pub cut_twice : (text front digits signer output : List ℕ) → fields_of 32 text
     ≡ fields_of 32 front ++ output ∷ [] → fields_of 32 front ≡ fields_of 32 digits ++ signer ∷ []
     → gossip_of (fields_of 32 text) ≡ gossip_of (digits ∷ signer ∷ output ∷ [])
@@ -101,14 +101,14 @@ cut_twice text front digits signer output cut again =
 -- ---- a line's first word
 
 -- the item of a request that offers one
-abbrev item_in : Request → Option Item
+abbrev item_in : Command → Option Item
 item_in (requests.Offer item) = Some item
 item_in _ = None
 
-offers : (request : Request) (item : Item) → (item_in request ≡ Some item) ↔ (request ≡ requests.Offer item)
+offers : (request : Command) (item : Item) → (item_in request ≡ Some item) ↔ (request ≡ requests.Offer item)
 offers request item = (to request, λ is. ap item_in is)
   where
-    to : (r : Request) → item_in r ≡ Some item → r ≡ requests.Offer item
+    to : (r : Command) → item_in r ≡ Some item → r ≡ requests.Offer item
     to (requests.Offer other) is = cc
     to requests.Quiet is = absurd cc
     to requests.Bad is = absurd cc
@@ -136,11 +136,11 @@ filtered (peer ∷ hex ∷ []) = by (number_below 1000 peer) (bytes_of hex)
     by (Some number) (Some bytes) = refl
 filtered (peer ∷ hex ∷ more ∷ fields) = refl
 
-routed : (payment : Option Payment) → item_in (unwrap_or (option_map (λ p. requests.Route p) payment) requests.Bad) ≡ None
+routed : (payment : Option RouteParameters) → item_in (unwrap_or (option_map (λ p. requests.Route p) payment) requests.Bad) ≡ None
 routed None = refl
 routed (Some payment) = refl
 
-form_offers : (m close q filter route commit : Bool) (gossip closed : Option Item) (bytes : Taken) (fields : List (List ℕ)) (payment : Option Payment)
+form_offers : (m close q filter route commit : Bool) (gossip closed : Option Item) (bytes : Taken) (fields : List (List ℕ)) (payment : Option RouteParameters)
     → item_in (unwrap_or (cond m (option_map (λ i. requests.Offer i) gossip)
     (cond close (option_map (λ i. requests.Offer i) closed) (cond q (option_map (λ b. requests.Query b) bytes)
     (cond filter (filter_of fields) (cond route (option_map (λ p. requests.Route p) payment)
@@ -164,8 +164,8 @@ quiet_offers_none : (line : List ℕ) → is_quiet line ≡ true → item_by_wor
 quiet_offers_none [] quiet = refl
 quiet_offers_none (b ∷ bytes) quiet = rw (is_sign b bytes quiet) refl
 
--- what a line offers, its first word tells
-item_is_by_word : (line : List ℕ) → item_in (request_of line) ≡ item_by_word line
+-- the first word of a line decides whether it offers an item
+item_is_by_word : (line : List ℕ) → item_in (command_of line) ≡ item_by_word line
 item_is_by_word line = elim (cases_Bool (is_quiet line)) [
   | inl is ↦ rw is (sym (quiet_offers_none line is))
   | inr is ↦ rw is
@@ -176,6 +176,6 @@ item_is_by_word line = elim (cases_Bool (is_quiet line)) [
       (close_of (fields_of 32 (drop 6 line))) (bytes_of (drop 2 line)) (fields_of 32 (drop 7 line)) (payment_of (fields_of 32 (drop 6 line))))
 ]
 
-pub offers_what_its_word_tells : (line : List ℕ) (item : Item) → (item_by_word line ≡ Some item) ↔ (request_of line ≡ requests.Offer item)
+pub offers_what_its_word_tells : (line : List ℕ) (item : Item) → (item_by_word line ≡ Some item) ↔ (command_of line ≡ requests.Offer item)
 offers_what_its_word_tells line item =
-    (λ is. (offers (request_of line) item).0 (item_is_by_word line ∙ is), λ is. sym (item_is_by_word line) ∙ (offers (request_of line) item).1 is)
+    (λ is. (offers (command_of line) item).0 (item_is_by_word line ∙ is), λ is. sym (item_is_by_word line) ∙ (offers (command_of line) item).1 is)

@@ -1,4 +1,4 @@
--- How the first line stands in the bytes.
+-- Where the first line is in the bytes.
 use Rattle.std.proofs.Common.{◌≡◌, ℕ, ◌+◌, ◌<◌, ◌≤◌, List, [], ◌∷◌, ◌++◌, length, take, drop, take-add, get_or}
 use Rattle.std.proofs.Common.{Option, Some, None, refl, sym, ap, subst, ◌∙◌, append_assoc, inl, inr, arith}
 use Rattle.std.specs.Prelude.{◌≢◌, ◌⊎◌, filter}
@@ -28,7 +28,7 @@ lines_of-last (b ∷ c ∷ bs) one some =
       lines_of-last (c ∷ bs) (All-tail EndsNoLine b (c ∷ bs) one) (omega arith),
     ) refl
 
--- the first line goes on at least so far
+-- the first line extends at least this far
 record BeginsWith (bytes line : List ℕ) : Type 0 where
   pub first : List ℕ
   pub others : List (List ℕ)
@@ -60,7 +60,7 @@ longer most (b ∷ line) rest one long =
 
 -- ---- what a search for a line feed finds
 
--- a line behind bytes that were searched
+-- a line that ends after bytes that were searched
 pub found_line : (bytes : List ℕ) (searched place : ℕ) (left : Option (List ℕ)) → searched ≤ length bytes
     → HasNoLineFeed (take searched bytes) → IsFirstByte (is_byte 10) (drop searched bytes) (Some place)
     → IsFirstLine bytes left (searched + place)
@@ -114,9 +114,9 @@ first_is_longer most len bytes (Some left) line long =
     let within = line.within in
     rw whole (longer most (take len bytes) (drop len bytes ++ left) line.one (omega (arith, length-take len bytes)))
 
--- ---- the bytes of the first line, and those behind it
+-- ---- the bytes of the first line, and those after it
 
--- what taking the first line leaves of the bytes
+-- the bytes after the first line is dropped
 pub record NextLine (bytes left : List ℕ) (len : ℕ) : Type 0 where
   pub parts : bytes ≡ take (len + 1) bytes ++ drop (len + 1) bytes
   pub lines : lines_of (bytes ++ left) ≡ take len bytes ∷ lines_of (drop (len + 1) bytes ++ left)

@@ -1,4 +1,4 @@
--- Text that is told in several goes.
+-- Text that is written in several writes.
 use Rattle.std.proofs.Common.{◌≡◌, ℕ, ◌<◌, Result, Ok, Err, List, [], ◌++◌, length, take, drop}
 use Rattle.std.proofs.Common.{refl, sym, ap, subst, ◌∙◌, append_assoc, arith}
 use Rattle.std.proofs.lemmas.List.{append-nil, take-append-drop}
@@ -9,43 +9,43 @@ use Rattle.lgm_script.specs.Device.{Written, Appends, AppendsSome}
 use Rattle.lgm_script.specs.Output.{OutputState, Tells, TellsPart, Writes, TellsSome}
 use Rattle.lgm_script.proofs.Appending.{appends_nothing, appends_both}
 
--- nothing was told
+-- nothing was written
 pub tells_nothing : (told : OutputState) → Tells told told []
 tells_nothing told = record {
   writer = refl;
   written = [];
   taken = appends_nothing told.sink.taken;
-  whole = sym (append-nil told.gathered);
+  whole = sym (append-nil told.buffered);
   well = refl;
 }
 
--- a text behind another one
+-- a text after another one
 pub tells_both : (old mid new : OutputState) (a b : List ℕ) → Tells old mid a → Tells mid new b → Tells old new (a ++ b)
 tells_both old mid new a b first then = record {
   writer = then.writer ∙ first.writer;
   written = first.written ++ then.written;
   taken = appends_both old.sink.taken mid.sink.taken new.sink.taken first.written then.written first.taken then.taken;
   whole =
-      append_assoc first.written then.written new.gathered
+      append_assoc first.written then.written new.buffered
       ∙ ap (λ (s : List ℕ). first.written ++ s) then.whole
-      ∙ sym (append_assoc first.written mid.gathered b)
+      ∙ sym (append_assoc first.written mid.buffered b)
       ∙ ap (λ (s : List ℕ). s ++ b) first.whole
-      ∙ append_assoc old.gathered a b;
+      ∙ append_assoc old.buffered a b;
   well = then.well ∙ first.well;
 }
 
--- what was written, what waits and what was lost of a text behind another one
-whole_behind : (old mid new : OutputState) (a b one two lost : List ℕ) → one ++ mid.gathered ≡ old.gathered ++ a
-    → (two ++ new.gathered) ++ lost ≡ mid.gathered ++ b → ((one ++ two) ++ new.gathered) ++ lost ≡ old.gathered ++ (a ++ b)
+-- what was written, what is buffered and what was lost of a text after another one
+whole_behind : (old mid new : OutputState) (a b one two lost : List ℕ) → one ++ mid.buffered ≡ old.buffered ++ a
+    → (two ++ new.buffered) ++ lost ≡ mid.buffered ++ b → ((one ++ two) ++ new.buffered) ++ lost ≡ old.buffered ++ (a ++ b)
 whole_behind old mid new a b one two lost first then =
-    append_assoc (one ++ two) new.gathered lost
-    ∙ append_assoc one two (new.gathered ++ lost)
-    ∙ ap (λ (s : List ℕ). one ++ s) (sym (append_assoc two new.gathered lost) ∙ then)
-    ∙ sym (append_assoc one mid.gathered b)
+    append_assoc (one ++ two) new.buffered lost
+    ∙ append_assoc one two (new.buffered ++ lost)
+    ∙ ap (λ (s : List ℕ). one ++ s) (sym (append_assoc two new.buffered lost) ∙ then)
+    ∙ sym (append_assoc one mid.buffered b)
     ∙ ap (λ (s : List ℕ). s ++ b) first
-    ∙ append_assoc old.gathered a b
+    ∙ append_assoc old.buffered a b
 
--- a part of a text behind another one
+-- a prefix of a text after another one
 pub tells_part_behind : (old mid new : OutputState) (a b : List ℕ) (fault : SendFault) → Tells old mid a
     → TellsPart mid new b fault → TellsPart old new (a ++ b) fault
 tells_part_behind old mid new a b fault first then = record {
@@ -59,7 +59,7 @@ tells_part_behind old mid new a b fault first then = record {
   empty = then.empty;
 }
 
--- a part of a text is a part of a longer one
+-- a prefix of a text is a prefix of a longer one
 pub tells_part_more : (old new : OutputState) (a b : List ℕ) (fault : SendFault) → TellsPart old new a fault → TellsPart old new (a ++ b) fault
 tells_part_more old new a b fault part = record {
   writer = part.writer;
@@ -67,15 +67,15 @@ tells_part_more old new a b fault part = record {
   lost = part.lost ++ b;
   taken = part.taken;
   whole =
-      sym (append_assoc (part.written ++ new.gathered) part.lost b)
+      sym (append_assoc (part.written ++ new.buffered) part.lost b)
       ∙ ap (λ (s : List ℕ). s ++ b) part.whole
-      ∙ append_assoc old.gathered a b;
+      ∙ append_assoc old.buffered a b;
   cause = part.cause;
   well = part.well;
   empty = part.empty;
 }
 
--- where memory was refused, nothing was told
+-- if memory ran out, nothing was written
 pub tells_none : (told : OutputState) (text : List ℕ) → TellsPart told told text NoMemory
 tells_none told text = record {
   writer = refl;
@@ -88,19 +88,19 @@ tells_none told text = record {
   empty = λ e. absurd cc;
 }
 
--- where memory was refused and nothing was gathered, nothing was told
-pub tells_same : (writer : ℕ) (sink : Written) (gathered gathered' text : List ℕ) → gathered' ≡ gathered
-    → TellsPart (record { writer = writer; sink = sink; gathered = gathered })
-    (record { writer = writer; sink = sink; gathered = gathered' }) text NoMemory
-tells_same writer sink gathered gathered' text is =
-    rw is (tells_none (record { writer = writer; sink = sink; gathered = gathered }) text)
+-- if memory ran out and nothing was buffered, nothing was written
+pub tells_same : (writer : ℕ) (sink : Written) (buffered buffered' text : List ℕ) → buffered' ≡ buffered
+    → TellsPart (record { writer = writer; sink = sink; buffered = buffered })
+    (record { writer = writer; sink = sink; buffered = buffered' }) text NoMemory
+tells_same writer sink buffered buffered' text is =
+    rw is (tells_none (record { writer = writer; sink = sink; buffered = buffered }) text)
 
--- some of what was gathered was taken before the sink failed, and the rest is dropped
-pub tells_some : (writer : ℕ) (old new : Written) (gathered bytes gathered' : List ℕ)
-    → bytes ≡ gathered → AppendsSome old.taken new.taken bytes → gathered' ≡ [] → old.failures < new.failures
-    → TellsPart (record { writer = writer; sink = old; gathered = gathered })
-    (record { writer = writer; sink = new; gathered = gathered' }) [] Write
-tells_some writer old new gathered bytes gathered' same some dropped rise = record {
+-- a prefix of what was buffered was accepted before the sink failed, and the rest is dropped
+pub tells_some : (writer : ℕ) (old new : Written) (buffered bytes buffered' : List ℕ)
+    → bytes ≡ buffered → AppendsSome old.taken new.taken bytes → buffered' ≡ [] → old.failures < new.failures
+    → TellsPart (record { writer = writer; sink = old; buffered = buffered })
+    (record { writer = writer; sink = new; buffered = buffered' }) [] Write
+tells_some writer old new buffered bytes buffered' same some dropped rise = record {
   writer = refl;
   written = take some.0 bytes;
   lost = drop some.0 bytes;
@@ -108,25 +108,25 @@ tells_some writer old new gathered bytes gathered' same some dropped rise = reco
   whole =
       ap (λ (s : List ℕ). (take some.0 bytes ++ s) ++ drop some.0 bytes) dropped
       ∙ ap (λ (s : List ℕ). s ++ drop some.0 bytes) (append-nil (take some.0 bytes))
-      ∙ take-append-drop some.0 bytes ∙ same ∙ sym (append-nil gathered);
+      ∙ take-append-drop some.0 bytes ∙ same ∙ sym (append-nil buffered);
   cause = λ e. rise;
   well = λ e. absurd cc;
   empty = λ e. dropped;
 }
 
--- ---- a text that is told line by line
+-- ---- a text that is written line by line
 
--- a first part of the whole text was told, and this is the rest
+-- a prefix of the whole text was written, and this is the rest
 pub record Onward (old mid : OutputState) (whole rest : List ℕ) : Type 0 where
   pub done : List ℕ
   pub told : Tells old mid done
   pub parts : whole ≡ done ++ rest
 
--- nothing was told yet
+-- nothing was written yet
 pub onward_first : (told : OutputState) (whole rest : List ℕ) → whole ≡ rest → Onward told told whole rest
 onward_first told whole rest same = record { done = []; told = tells_nothing told; parts = same }
 
--- one line more
+-- one more line
 pub onward_more : (old mid new : OutputState) (whole rest line others : List ℕ) → Onward old mid whole rest
     → rest ≡ line ++ others → Tells mid new line → Onward old new whole others
 onward_more old mid new whole rest line others on is told = record {
@@ -135,7 +135,7 @@ onward_more old mid new whole rest line others on is told = record {
   parts = on.parts ∙ ap (λ (s : List ℕ). on.done ++ s) is ∙ sym (append_assoc on.done line others);
 }
 
--- a part of one line more, and then a fault
+-- a prefix of one more line, and then a fault
 pub onward_stops : (old mid new : OutputState) (whole rest line others : List ℕ) (fault : SendFault) → Onward old mid
     whole rest → rest ≡ line ++ others → TellsPart mid new line fault → TellsPart old new whole fault
 onward_stops old mid new whole rest line others fault on is part =
@@ -148,7 +148,7 @@ pub onward_ends : (old mid : OutputState) (whole rest : List ℕ) → Onward old
 onward_ends old mid whole rest on none =
     subst (Tells old mid) (sym (append-nil on.done) ∙ ap (λ (s : List ℕ). on.done ++ s) (sym none) ∙ sym on.parts) on.told
 
--- what a call writes behind a text
+-- what a call writes after a text
 pub written_behind : (result : Result (Unit {0}) SendFault) (old mid new : OutputState) (a b : List ℕ) → Tells old mid a
     → Writes mid new b result → Writes old new (a ++ b) result
 written_behind (Ok t) old mid new a b first then = tells_both old mid new a b first then
@@ -160,7 +160,7 @@ pub writer_stays : (result : Result (Unit {0}) SendFault) (old new : OutputState
 writer_stays (Ok t) old new text told = told.writer
 writer_stays (Err fault) old new text part = part.writer
 
--- ---- a first part, whatever came then
+-- ---- a prefix, whatever came then
 
 pub some_of_part : (old new : OutputState) (text : List ℕ) (fault : SendFault) → TellsPart old new text fault → TellsSome old new text
 some_of_part old new text fault part = record { written = part.written; lost = part.lost; taken = part.taken; whole = part.whole }
@@ -170,12 +170,12 @@ some_of_all old new text told = record {
   written = told.written;
   lost = [];
   taken = told.taken;
-  whole = append-nil (told.written ++ new.gathered) ∙ told.whole;
+  whole = append-nil (told.written ++ new.buffered) ∙ told.whole;
 }
 
--- where all that is gathered is written at the end, the sink has taken the text
-pub taken_all : (old mid new : OutputState) (text : List ℕ) → old.gathered ≡ [] → Tells old mid text
-    → Tells mid new [] → new.gathered ≡ [] → Appends old.sink.taken new.sink.taken text
+-- if all that is buffered is written at the end, the sink has accepted the text
+pub taken_all : (old mid new : OutputState) (text : List ℕ) → old.buffered ≡ [] → Tells old mid text
+    → Tells mid new [] → new.buffered ≡ [] → Appends old.sink.taken new.sink.taken text
 taken_all old mid new text empty told flushed clear =
     let both = tells_both old mid new text [] told flushed in
     let is : both.written ≡ text =
@@ -183,16 +183,16 @@ taken_all old mid new text empty told flushed clear =
     ∙ ap (λ (s : List ℕ). s ++ (text ++ [])) empty ∙ append-nil text in
     subst (Appends old.sink.taken new.sink.taken) is both.taken
 
--- or a first part of it
-pub taken_some : (old new : OutputState) (text : List ℕ) → old.gathered ≡ [] → TellsSome old new text → AppendsSome old.sink.taken new.sink.taken text
+-- or a prefix of it
+pub taken_some : (old new : OutputState) (text : List ℕ) → old.buffered ≡ [] → TellsSome old new text → AppendsSome old.sink.taken new.sink.taken text
 taken_some old new text empty some =
     let front : take (length some.written) text ≡ some.written =
     ap (λ (s : List ℕ). take (length some.written) s) (ap (λ (s : List ℕ). s ++ text) (sym empty)
-    ∙ sym some.whole ∙ append_assoc some.written new.gathered some.lost)
-    ∙ take-append_seam some.written (new.gathered ++ some.lost) in
+    ∙ sym some.whole ∙ append_assoc some.written new.buffered some.lost)
+    ∙ take-append_seam some.written (new.buffered ++ some.lost) in
     (length some.written, subst (Appends old.sink.taken new.sink.taken) (sym front) some.taken)
 
--- a first part, and then a flush
+-- a prefix, and then a flush
 pub some_flushed : (old mid new : OutputState) (text : List ℕ) → TellsSome old mid text → Tells mid new [] → TellsSome old new text
 some_flushed old mid new text some flushed = record {
   written = some.written ++ flushed.written;
@@ -200,11 +200,11 @@ some_flushed old mid new text some flushed = record {
   taken = appends_both old.sink.taken mid.sink.taken new.sink.taken some.written flushed.written some.taken flushed.taken;
   whole =
       ap (λ (s : List ℕ). s ++ some.lost)
-      (append_assoc some.written flushed.written new.gathered ∙ ap (λ (s : List ℕ). some.written ++ s) (flushed.whole ∙ append-nil mid.gathered))
+      (append_assoc some.written flushed.written new.buffered ∙ ap (λ (s : List ℕ). some.written ++ s) (flushed.whole ∙ append-nil mid.buffered))
       ∙ some.whole;
 }
 
--- a first part, and then a flush that fails
+-- a prefix, and then a flush that fails
 pub some_flushed_part : (old mid new : OutputState) (text : List ℕ) (fault : SendFault) → TellsSome old mid text
     → TellsPart mid new [] fault → TellsSome old new text
 some_flushed_part old mid new text fault some flushed = record {
@@ -212,16 +212,16 @@ some_flushed_part old mid new text fault some flushed = record {
   lost = flushed.lost ++ some.lost;
   taken = appends_both old.sink.taken mid.sink.taken new.sink.taken some.written flushed.written some.taken flushed.taken;
   whole =
-      sym (append_assoc ((some.written ++ flushed.written) ++ new.gathered) flushed.lost some.lost)
+      sym (append_assoc ((some.written ++ flushed.written) ++ new.buffered) flushed.lost some.lost)
       ∙ ap (λ (s : List ℕ). s ++ some.lost)
-      (append_assoc (some.written ++ flushed.written) new.gathered flushed.lost
-      ∙ append_assoc some.written flushed.written (new.gathered ++ flushed.lost)
-      ∙ ap (λ (s : List ℕ). some.written ++ s) (sym (append_assoc flushed.written new.gathered flushed.lost)
-      ∙ flushed.whole ∙ append-nil mid.gathered))
+      (append_assoc (some.written ++ flushed.written) new.buffered flushed.lost
+      ∙ append_assoc some.written flushed.written (new.buffered ++ flushed.lost)
+      ∙ ap (λ (s : List ℕ). some.written ++ s) (sym (append_assoc flushed.written new.buffered flushed.lost)
+      ∙ flushed.whole ∙ append-nil mid.buffered))
       ∙ some.whole;
 }
 
--- a first part behind a text
+-- a prefix after a text
 pub some_behind : (old mid new : OutputState) (a b : List ℕ) → Tells old mid a → TellsSome mid new b → TellsSome old new (a ++ b)
 some_behind old mid new a b first then = record {
   written = first.written ++ then.written;

@@ -1,4 +1,4 @@
--- Writing a slice in several goes.
+-- Writing a slice in several writes.
 use Rattle.std.proofs.Common.{◌≡◌, ℕ, ◌+◌, ◌-◌, ◌<◌, ◌≤◌, List, [], ◌∷◌, ◌++◌, length, take}
 use Rattle.std.proofs.Common.{drop, take-add, Option, Result, Ok, refl, sym, ap, ◌∙◌, arith}
 use Rattle.std.proofs.lemmas.List.{drop-drop, length-drop, length-take, take_rest, take_all}
@@ -11,7 +11,7 @@ use Rattle.lgm_script.specs.Device.{write_failures, Appends, AppendsSome}
 abbrev pub took : ℕ → Result ℕ Failed
 took n = Ok n
 
--- the bytes before the rest were taken
+-- the bytes before the rest were accepted
 pub record Sent (old new : Option (List ℕ)) (bytes rest : List ℕ) : Type 0 where
   pub count : ℕ
   pub rest_is : rest ≡ drop count bytes
@@ -21,7 +21,7 @@ pub record Sent (old new : Option (List ℕ)) (bytes rest : List ℕ) : Type 0 w
 pub sent_first : (old : Option (List ℕ)) (bytes : List ℕ) → Sent old old bytes bytes
 sent_first old bytes = record { count = 0; rest_is = refl; taken = appends_nothing old }
 
--- a write took more
+-- a write accepted more
 pub sent_more : (old mid new : Option (List ℕ)) (bytes rest : List ℕ) (n : ℕ) → Sent old mid bytes rest
     → Appends mid new (take n rest) → Sent old new bytes (drop n rest)
 sent_more old mid new bytes rest n sent writes = record {
@@ -35,7 +35,7 @@ sent_more old mid new bytes rest n sent writes = record {
       ∙ ap (λ (s : List ℕ). option_map (λ taken. taken ++ s) old) text;
 }
 
--- what was taken is the front
+-- what was accepted is a prefix
 pub sent_some : (old mid new : Option (List ℕ)) (bytes rest : List ℕ) → Sent old mid bytes rest → new ≡ mid → AppendsSome old new bytes
 sent_some old mid new bytes rest sent same = (sent.count, same ∙ sent.taken)
 
@@ -44,7 +44,7 @@ sent_all old new bytes rest sent ended =
     let past : length bytes ≤ sent.count = omega (arith, ap length sent.rest_is, length-drop sent.count bytes) in
     sent.taken ∙ ap (λ (s : List ℕ). option_map (λ taken. taken ++ s) old) (take_all sent.count bytes past)
 
--- the same, in the words of a slice's range
+-- the same, as a range of a slice
 pub sent_range : (old mid new : Option (List ℕ)) (bytes rest : List ℕ) (n : ℕ) → Sent old mid bytes rest
     → Appends mid new (take n rest) → Sent old new bytes (take (length rest - n) (drop n rest))
 sent_range old mid new bytes rest n sent writes = rw take_rest (sent_more old mid new bytes rest n sent writes)

@@ -1,11 +1,11 @@
 -- Lines that are answered together.
 use Rattle.std.specs.Prelude.{◌≡◌, ℕ, ◌+◌, ◌<◌, List, [], ◌∷◌, length, take, drop, Option}
 use Rattle.std.specs.List.{AllByRecursion}
-use Rattle.lgm_script.specs.declared.grouping.Kind.{Kind}
-use Rattle.lgm_script.specs.declared.grouping.Kind.TheVariants.{Item, Question, Other}
-use Rattle.lgm_script.specs.declared.request.Request.{Request}
-use Rattle.lgm_script.specs.declared.request.Request.TheVariants as requests
-use Rattle.lgm_script.specs.Request.{request_of}
+use Rattle.lgm_script.specs.declared.group.Kind.{Kind}
+use Rattle.lgm_script.specs.declared.group.Kind.TheVariants.{Item, Question, Other}
+use Rattle.lgm_script.specs.declared.command.Command.{Command}
+use Rattle.lgm_script.specs.declared.command.Command.TheVariants as requests
+use Rattle.lgm_script.specs.Command.{command_of}
 use Rattle.lgm_script.specs.Lines.{IsFirstLine}
 
 -- these lines are complete at the start of what was read ahead, and these bytes follow them
@@ -16,7 +16,7 @@ AreFirstLines buffered left (line ∷ lines) rest =
     × AreFirstLines (drop (length line + 1) buffered) left lines rest
 
 -- what a line of that kind can request; whatever its first word is, it may be malformed
-abbrev pub IsOfKind : Kind → Request → Type 0
+abbrev pub IsOfKind : Kind → Command → Type 0
 IsOfKind kind requests.Bad = Unit {0}
 IsOfKind Item (requests.Offer item) = Unit {0}
 IsOfKind Question (requests.Query bytes) = Unit {0}
@@ -29,10 +29,10 @@ IsOfKind kind _ = ⊥
 -- one or more lines that request what lines of a kind can request, or one line of another kind
 pub record AreAlike (kind : Kind) (lines : List (List ℕ)) : Type 0 where
   pub some : 0 < length lines
-  pub each : AllByRecursion (λ line. IsOfKind kind (request_of line)) lines
+  pub each : AllByRecursion (λ line. IsOfKind kind (command_of line)) lines
   pub alone : kind ≡ Other → length lines ≡ 1
 
 -- not a request for a route
-abbrev pub IsNoRoute : Request → Type 0
+abbrev pub IsNoRoute : Command → Type 0
 IsNoRoute (requests.Route payment) = ⊥
 IsNoRoute _ = Unit {0}

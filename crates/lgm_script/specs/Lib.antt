@@ -3,8 +3,8 @@ pub mod Lines
 pub mod Groups
 pub mod Field
 pub mod Item
-pub mod Payment
-pub mod Request
+pub mod RouteParameters
+pub mod Command
 pub mod Text
 pub mod Output
 pub mod inner

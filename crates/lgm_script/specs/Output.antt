@@ -10,26 +10,26 @@ use Rattle.lgm_script.specs.Device.{Written, Appends}
 pub record OutputState : Type 0 where
   pub writer : ℕ
   pub sink : Written
-  pub gathered : List ℕ
+  pub buffered : List ℕ
 
 -- an output as such a record
 abbrev pub told_by : {W : Type 0} → (W → Written) → Output W → OutputState
 told_by seen output = record {
   writer = output.writer.ghost_name;
   sink = seen output.writer.now;
-  gathered = output.gathered.now.items;
+  buffered = output.buffered.now.items;
 }
 
 -- all that was written: what was accepted, and then what is buffered
 abbrev pub all_told : OutputState → Option (List ℕ)
-all_told told = option_map (λ bytes. bytes ++ told.gathered) told.sink.taken
+all_told told = option_map (λ bytes. bytes ++ told.buffered) told.sink.taken
 
 -- a text was written: the same sink accepted a prefix of what there was, and the rest is buffered
 pub record Tells (old new : OutputState) (text : List ℕ) : Type 0 where
   pub writer : new.writer ≡ old.writer
   pub written : List ℕ
   pub taken : Appends old.sink.taken new.sink.taken written
-  pub whole : written ++ new.gathered ≡ old.gathered ++ text
+  pub whole : written ++ new.buffered ≡ old.buffered ++ text
   pub well : new.sink.failures ≡ old.sink.failures
 
 -- a prefix of it was written, and `lost` wasn't. If the sink failed, the buffer is empty
@@ -38,10 +38,10 @@ pub record TellsPart (old new : OutputState) (text : List ℕ) (fault : SendFaul
   pub written : List ℕ
   pub lost : List ℕ
   pub taken : Appends old.sink.taken new.sink.taken written
-  pub whole : (written ++ new.gathered) ++ lost ≡ old.gathered ++ text
+  pub whole : (written ++ new.buffered) ++ lost ≡ old.buffered ++ text
   pub cause : fault ≡ Write → old.sink.failures < new.sink.failures
   pub well : fault ≡ NoMemory → new.sink.failures ≡ old.sink.failures
-  pub empty : fault ≡ Write → new.gathered ≡ []
+  pub empty : fault ≡ Write → new.buffered ≡ []
 
 -- what a call says of a text that it writes: all of it was written, or at a fault a prefix
 abbrev pub Writes : OutputState → OutputState → List ℕ → Result (Unit {0}) SendFault → Type 0
@@ -52,4 +52,4 @@ pub record TellsSome (old new : OutputState) (text : List ℕ) : Type 0 where
   pub written : List ℕ
   pub lost : List ℕ
   pub taken : Appends old.sink.taken new.sink.taken written
-  pub whole : (written ++ new.gathered) ++ lost ≡ old.gathered ++ text
+  pub whole : (written ++ new.buffered) ++ lost ≡ old.buffered ++ text

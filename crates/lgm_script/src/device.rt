@@ -11,7 +11,7 @@ use thiserror::Error;
 #[error("a device failed")]
 pub struct Failed;
 
-/// A source of bytes. It counts its failures: a device that may fail keeps them as `Failures`, one that can't has 0.
+/// A source of bytes. It counts its failures: a device that may fail stores them as `Failures`, one that can't has 0.
 pub trait Source {
     /// The remaining bytes, if the device specifies them, and the number of failures so far.
     ghost seen: { Self → Input };

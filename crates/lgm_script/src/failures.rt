@@ -5,7 +5,7 @@ ghost use Rattle.std.specs.Borrow.{ftrue};
 
 use std::marker::Model;
 
-/// How often a device has failed, for contracts alone. It takes no memory, and its methods do nothing at run time.
+/// How often a device has failed, for contracts alone. It has no size, and its methods do nothing at run time.
 #[derive(Drop)]
 pub struct Failures {
     /// The count.

@@ -2,9 +2,9 @@
 
 ghost use Rattle.std.specs.Prelude.{◌≡◌, ◌∷◌, ◌↔◌, [], Some, IfOk};
 ghost use Rattle.lgm_script.specs.Field.{fields_of};
-ghost use Rattle.lgm_script.specs.Request.{request_of};
+ghost use Rattle.lgm_script.specs.Command.{command_of};
 ghost use Rattle.lgm_script.specs.declared.item.Item.{Item};
-ghost use Rattle.lgm_script.specs.declared.request.Request.TheVariants.{Offer};
+ghost use Rattle.lgm_script.specs.declared.command.Command.TheVariants.{Offer};
 ghost use Rattle.lgm_script.specs.Item.{bytes_of, sig_of, funding_of, evidence_of};
 ghost use Rattle.lgm_script.specs.Item.{gossip_of, scid_of, close_of};
 
@@ -124,15 +124,15 @@ pub fn close(mut fields: Fields<'_>) -> Option<Item>
     Some(Item::Close(scid(Fields::new(b'x', name))?))
 }
 
-/// The item that a line offers, which is that of its request (see [`parse`](crate::parse)); none if the request is
+/// The item that a line offers, which is that of its command (see [`parse`](crate::parse)); none if the command is
 /// another one.
 ///
-/// The bytes of a message are decoded into `room`, whose contents are dropped. The only allocation is where its capacity
+/// The bytes of a message are decoded into `room`, whose contents are dropped. It allocates only if the capacity
 /// doesn't suffice, and the only error is out of memory for it.
 #[tactic(auto, using(crate::proofs::Items::offers_what_its_word_tells))]
 pub fn parse_item(room: Vec<u8>, line: &[u8]) -> Result<Option<Item>, AllocError>
     ensures { IfOk result
-        (λ offered. (item : Item) → (offered ≡ Some item) ↔ (request_of line.now ≡ Offer item)) }
+        (λ offered. (item : Item) → (offered ≡ Some item) ↔ (command_of line.now ≡ Offer item)) }
 {
     if let Some(text) = line.strip_prefix(b"m ") {
         return gossip(room, text);

@@ -1,34 +1,34 @@
 //! What scripts are made of: devices, lines, the grammar and output, from a [`Source`] to a [`Sink`].
 //!
-//! A [`LineReader`] holds what was read ahead of a source; an [`Output`] buffers text for a sink, each [`Line`] whole.
-//! [`next_line`] finds the next line, and [`next_group`] the lines that are answered together. [`parse`] turns a line
-//! into a request, and [`parse_item`] into an item. A device's [`Failures`] are counted for contracts alone.
+//! A [`LineReader`] buffers what was read ahead of a source; an [`Output`] buffers text for a sink, each [`Line`]
+//! whole. [`next_line`] finds the next line, and [`next_group`] the lines that are answered together. [`parse`] turns a
+//! line into a [`Command`], and [`parse_item`] into an item. A device's [`Failures`] are counted for contracts alone.
 #![tactic(auto)]
 
+mod command;
 mod device;
 mod failures;
 mod field;
 mod fields;
-mod grouping;
+mod group;
 mod item;
 mod line_reader;
 mod memory;
 mod output;
-mod payment;
-mod reading;
-mod request;
+mod read;
+mod route_parameters;
 mod std_streams;
 mod text;
 
+pub use command::{Command, parse};
 pub use device::{Failed, Sink, Source, write_all};
 pub use failures::Failures;
-pub use grouping::{Group, Kind, may_ask_routes, next_group};
+pub use group::{Group, Kind, may_ask_routes, next_group};
 pub use item::{Item, parse_item};
 pub use line_reader::{LineReader, MAX_LINE};
 pub use memory::{MemorySink, MemorySource};
 pub use output::{BLOCK, Output, SendFault};
-pub use payment::Payment;
-pub use reading::{LineFault, more_begins, next_line};
-pub use request::{Request, parse};
+pub use read::{LineFault, more_begins, next_line};
+pub use route_parameters::RouteParameters;
 pub use std_streams::{FromRead, ToWrite};
 pub use text::{Lead, Line};

@@ -21,7 +21,7 @@ const ROOM: usize = 1_048_576;
 /// What was read ahead of a source. All memory is allocated when it is made.
 ///
 /// Contracts see the list of these bytes. It belongs to one source: they come before the bytes that the source has
-/// left. Lines are found and lent in place.
+/// left. Lines are found in place, and borrowed.
 #[derive(Drop)]
 pub struct LineReader {
     buffer: Vec<u8>,
@@ -75,7 +75,7 @@ impl LineReader {
         output: &Output<'_, W>,
     ) -> Result<bool, Failed>
         requires room { length self.old ≤ MAX_LINE }
-        requires answered { output.now.gathered.now.items ≡ [] }
+        requires answered { output.now.buffered.now.items ≡ [] }
         ensures kept { ahead self.new (R.seen source.new).left ≡ ahead self.old (R.seen source.old).left }
         ensures front { OnOk result (take (length self.old) self.new ≡ self.old) }
         ensures more { result ≡ Ok true → length self.old < length self.new }

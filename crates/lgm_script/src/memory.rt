@@ -41,7 +41,7 @@ impl Source for MemorySource<'_> {
     }
 }
 
-/// A sink that keeps what it accepts in memory. It fails only if memory runs out.
+/// A sink that stores what it accepts in memory. It fails only if memory runs out.
 #[derive(Drop)]
 pub struct MemorySink {
     taken: Vec<u8>,

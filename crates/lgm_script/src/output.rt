@@ -34,24 +34,24 @@ impl From<AllocError> for SendFault {
 
 /// Text for a sink: it is buffered, and written once it fills a block.
 ///
-/// Contracts see which sink it is, what that accepted, what is buffered behind it, and how often the sink failed. Each
-/// call writes its whole text to that sink, or at a fault a prefix of it. At `NoMemory` each line is buffered completely
-/// or not at all, and the sink hasn't failed. At `Write` a prefix of what was buffered may have been accepted, and the
-/// buffer is empty, so nothing is written twice.
+/// Contracts see which sink it is, what that accepted, what is buffered after that, and how often the sink failed. Each
+/// call writes its whole text to that sink, or at a fault a prefix of it. At `NoMemory` each line is buffered
+/// completely or not at all, and the sink hasn't failed. At `Write` a prefix of what was buffered may have been
+/// accepted, and the buffer is empty, so nothing is written twice.
 #[derive(Drop)]
 pub struct Output<'a, W> {
     writer: &'a mut W,
-    gathered: &'a mut Vec<u8>,
+    buffered: &'a mut Vec<u8>,
 }
 
 impl<'a, W: Sink> Output<'a, W> {
     /// An output to a sink, which buffers text after what the block already contains.
-    pub fn new(gathered: &'a mut Vec<u8>, writer: &'a mut W) -> Output<'a, W>
+    pub fn new(buffered: &'a mut Vec<u8>, writer: &'a mut W) -> Output<'a, W>
         ensures writer { result.writer.ghost_name ≡ writer.entry.ghost_name }
         ensures same { result.writer.now ≡ writer.entry.now }
-        ensures gathered { result.gathered.now.items ≡ gathered.entry.now.items }
+        ensures buffered { result.buffered.now.items ≡ buffered.entry.now.items }
     {
-        Output { writer, gathered }
+        Output { writer, buffered }
     }
 
     /// Writes what is buffered. After `Failed` a prefix of it may have been accepted.
@@ -59,10 +59,10 @@ impl<'a, W: Sink> Output<'a, W> {
         ensures written { MatchResult result
             (λ _. Tells (told_by W.seen self.old) (told_by W.seen self.new) [])
             (λ _. TellsPart (told_by W.seen self.old) (told_by W.seen self.new) [] SendFault.Write) }
-        ensures empty { self.new.gathered.now.items ≡ [] }
+        ensures empty { self.new.buffered.now.items ≡ [] }
     {
-        let written = write_all(self.writer, self.gathered.as_slice());
-        self.gathered.clear();
+        let written = write_all(self.writer, self.buffered.as_slice());
+        self.buffered.clear();
         match written {
             Ok(()) => Ok(()),
             Err(failed) => Err(failed),
@@ -72,9 +72,9 @@ impl<'a, W: Sink> Output<'a, W> {
     /// Writes what is buffered, if it fills a block.
     fn flush_block(&mut self) -> Result<(), SendFault>
         ensures written { Writes (told_by W.seen self.old) (told_by W.seen self.new) [] result }
-        ensures short { OnOk result (length self.new.gathered.now.items < BLOCK) }
+        ensures short { OnOk result (length self.new.buffered.now.items < BLOCK) }
     {
-        if self.gathered.len() < BLOCK {
+        if self.buffered.len() < BLOCK {
             return Ok(());
         }
         match self.flush() {
@@ -83,25 +83,25 @@ impl<'a, W: Sink> Output<'a, W> {
         }
     }
 
-    /// Writes a line, behind the number of the line that it answers.
+    /// Writes a line, after the number of the line that it answers.
     ///
-    /// It is compiled into its caller, so where the line is given as a variant, only that variant's text is.
+    /// It is compiled into its caller, so if the line is given as a variant, only that variant's text is.
     #[inline(always)]
     pub fn send(&mut self, number: u64, line: &Line<'_>) -> Result<(), SendFault>
         ensures { Writes (told_by W.seen self.old) (told_by W.seen self.new)
             (line_text number line.now) result }
     {
-        append_line(self.gathered, number, line)?;
+        append_line(self.buffered, number, line)?;
         self.flush_block()
     }
 
-    /// Writes a message, in hexadecimal digits behind its lead.
+    /// Writes a message, in hexadecimal digits after its lead.
     #[inline(always)]
     pub fn send_message(&mut self, lead: &Lead, message: &[u8]) -> Result<(), SendFault>
         ensures { Writes (told_by W.seen self.old) (told_by W.seen self.new)
             (message_behind lead.now message.now) result }
     {
-        append_message(self.gathered, lead, message)?;
+        append_message(self.buffered, lead, message)?;
         self.flush_block()
     }
 }

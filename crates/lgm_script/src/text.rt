@@ -9,7 +9,7 @@ use lgm_gossip::Scid;
 use std::alloc::{AllocError, Global};
 use std::marker::Model;
 
-/// A line of an answer that is no message, without the number of the line that it answers, which stands before it.
+/// A line of an answer that is no message, without the number of the line that it answers, which precedes it.
 #[derive(Clone, Copy, Debug)]
 pub enum Line<'a> {
     /// A word: `N WORD`.
@@ -29,8 +29,8 @@ pub enum Line<'a> {
     Hop(Scid, &'a [u8]),
 }
 
-/// What precedes each message of an answer: `N `, or for a peer `N to PEER `. It is made once for all of them. Contracts
-/// see the text.
+/// What precedes each message of an answer: `N `, or for a peer `N to PEER `. It is made once for all of them.
+/// Contracts see the text.
 #[derive(Drop)]
 pub struct Lead {
     text: Vec<u8>,
@@ -95,7 +95,7 @@ fn push_scid(text: &mut Vec<u8>, scid: Scid) -> Result<(), AllocError>
     Ok(())
 }
 
-/// Appends a message behind its lead, in hexadecimal digits. If memory runs out a prefix of that may be appended.
+/// Appends a message after its lead, in hexadecimal digits. If memory runs out a prefix of that may be appended.
 #[inline(always)]
 fn push_message(text: &mut Vec<u8>, lead: &Lead, message: &[u8]) -> Result<(), AllocError>
     ensures ok { OnOk result (text.new.items ≡ text.old.items ++ message_behind lead.now message.now) }
@@ -151,7 +151,7 @@ fn push_line(text: &mut Vec<u8>, number: u64, line: &Line<'_>) -> Result<(), All
     }
 }
 
-/// Drops what was appended behind the first `length` bytes, if it couldn't be appended completely.
+/// Drops what was appended after the first `length` bytes, if it couldn't be appended completely.
 fn keep_if_whole(
     text: &mut Vec<u8>,
     length: usize,
@@ -182,7 +182,7 @@ pub(crate) fn append_line(
     keep_if_whole(text, length, pushed)
 }
 
-/// Appends a message behind its lead, in hexadecimal digits. If memory runs out the text is unchanged.
+/// Appends a message after its lead, in hexadecimal digits. If memory runs out the text is unchanged.
 #[inline(always)]
 pub(crate) fn append_message(
     text: &mut Vec<u8>,

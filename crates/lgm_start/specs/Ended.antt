@@ -6,8 +6,8 @@ use Rattle.lgm_live.specs.RunsLive.{RunsLive}
 use Rattle.lgm_start.specs.declared.options.Options.{Options}
 use Rattle.lgm_start.specs.declared.options.Mode.TheVariants as modes
 use Rattle.lgm_start.specs.declared.options.Mode.{Mode}
-use Rattle.lgm_start.specs.declared.answering.Ended.{Ended}
-use Rattle.lgm_start.specs.declared.answering.Ended.TheVariants as ends
+use Rattle.lgm_start.specs.declared.answer.Ended.{Ended}
+use Rattle.lgm_start.specs.declared.answer.Ended.TheVariants as ends
 
 -- the script was answered by the command, over the chain, the known bits and as many workers as the options say
 abbrev pub AnswersAs : Mode → Options → Input → Input → Written → Written → Ended → Type 0

@@ -1,9 +1,9 @@
 //! The program `lgm` over any words, devices and runtime: its command line, its commands, and its exit statuses.
 #![tactic(auto)]
 
-mod answering;
+mod answer;
 mod options;
-mod starting;
+mod program;
 
 pub use options::{BadWords, read_words};
-pub use starting::{fault_line, refuse, start, start_keeping};
+pub use program::{fault_line, refuse, start, start_keeping};

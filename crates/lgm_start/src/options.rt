@@ -71,7 +71,7 @@ pub struct Options {
 pub enum BadWords {
     /// An argument isn't UTF-8.
     NotText,
-    /// `clap` refused the arguments, or was asked for help or the version.
+    /// `clap` refused the arguments, or help or the version was requested.
     Words(Error),
     /// The chain isn't 64 hexadecimal digits.
     Chain,

@@ -1,4 +1,4 @@
-// What the words decide: the chain, the known bits and the number of workers; and how a run that failed is told.
+// What the words decide: the chain, the known bits and the number of workers; and the line of a run that failed.
 
 use crate::tests::{CHAIN, Given, started, started_in};
 use lgm_answers::RunFault;
@@ -45,7 +45,7 @@ fn announcement(
     )
 }
 
-/// A line with an update by a channel's first node: its difference of expiries, and what it charges.
+/// A line with an update by a channel's first node: its `cltv_expiry_delta`, and its fees.
 fn update(
     alloc: Global,
     chain: &str,
@@ -65,7 +65,7 @@ fn node(alloc: Global, node: &str, timestamp: &str, features: &str) -> Result<St
     format!(in alloc; "m 0101{SIGNATURE}0001{features}{timestamp}{node}{rest} {node} -\n")
 }
 
-/// Two channels, one after the other, and what the first nodes charge for them.
+/// Two channels, one after the other, and the fees of their first nodes.
 fn channels(alloc: Global, chain: &str) -> Result<String, AllocError> {
     let mut lines = announcement(alloc, chain, FIRST, (A, B))?;
     let second = announcement(alloc, chain, SECOND, (B, C))?;
@@ -77,7 +77,7 @@ fn channels(alloc: Global, chain: &str) -> Result<String, AllocError> {
     Ok(lines)
 }
 
-/// Commits, and asks for a route from A to C.
+/// Commits, and requests a route from A to C.
 fn push_payment(alloc: Global, script: &mut String) -> Result<(), AllocError> {
     let secret = "1111111111111111111111111111111111111111111111111111111111111111";
     let lines = format!(in alloc; "commit\nroute {A} {C} 4999999 700009 {secret}\n")?;
@@ -136,7 +136,7 @@ fn the_chain_of_live_is_the_one_that_is_named(rt: HostRuntime) -> Result<(), Fai
     Ok(())
 }
 
-/// What is written under these known bits for the two channels, the line of a node behind them, and the payment.
+/// What is written under these known bits for the two channels, the line of a node after them, and the payment.
 fn written_with<Rt: Threads + Wait + Sync + RandomSource>(
     rt: &Rt,
     alloc: Global,
@@ -195,7 +195,7 @@ fn features_are_known_as_the_words_say(rt: HostRuntime) -> Result<(), Fail> {
     Ok(())
 }
 
-// The node's later announcement wants nothing that isn't known.
+// The node's later announcement requires nothing unknown.
 #[test]
 fn a_node_is_taken_again(rt: HostRuntime) -> Result<(), Fail> {
     let alloc = rt.alloc();
@@ -273,7 +273,7 @@ fn words_are_utf_8(rt: HostRuntime) -> Result<(), Fail> {
         let (status, writer, errors) = started_in(&rt, rt.alloc(), given, &Open, b"commit\n", 7);
         assert_eq!(rt; status, 2);
         assert!(rt; writer.taken().is_empty());
-        assert_eq!(rt; errors.taken(), b"lgm: a word isn't UTF-8\n".as_slice());
+        assert_eq!(rt; errors.taken(), b"lgm: argument isn't UTF-8\n".as_slice());
     }
     Ok(())
 }

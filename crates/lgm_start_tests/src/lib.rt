@@ -2,6 +2,8 @@
 #![tactic(auto)]
 
 #[cfg(test)]
+mod broken_devices;
+#[cfg(test)]
 mod deciding;
 #[cfg(test)]
 mod tests;

@@ -1,5 +1,6 @@
+use crate::broken_devices::{BrokenSource, FullSink};
 use lgm_par::Gate;
-use lgm_script::{Failed, Failures, MemorySink, MemorySource, Sink, Source};
+use lgm_script::{Failures, MemorySink, MemorySource, Sink, Source};
 use lgm_start::{read_words, refuse, start, start_keeping};
 use std::alloc::Global;
 use std::env::{Env, FillError};
@@ -12,7 +13,7 @@ use std::thread::Threads;
 
 pub const CHAIN: &str = "c1c1c1c1c1c1c1c1c1c1c1c1c1c1c1c1c1c1c1c1c1c1c1c1c1c1c1c1c1c1c1c1";
 
-/// The words of a command line, behind which one of any bytes may stand.
+/// The words of a command line, followed by one of any bytes.
 #[derive(Drop)]
 pub struct Given<'a> {
     pub words: &'a [&'a str],
@@ -51,8 +52,8 @@ impl Env for Given<'_> {
     }
 }
 
-/// The status, and what went to the writer and to `errors`, as `main` does it. The reader gives at most so many bytes
-/// at once.
+/// The status, and what was written to the writer and to `errors`, as `main` does it. The reader returns at most this
+/// many bytes at once.
 pub fn started_in<Rt: Threads + Wait + Sync + RandomSource, G: Gate>(
     rt: &Rt,
     alloc: Global,
@@ -99,7 +100,7 @@ fn start_with<Rt: Threads + Wait + Sync + RandomSource, R: Source, W: Sink, S: S
     }
 }
 
-/// The status, and what went to the writer and to `errors`, with a script that is read seven bytes at a time.
+/// The status, and what was written to the writer and to `errors`, with a script that is read seven bytes at a time.
 pub fn started<Rt: Threads + Wait + Sync + RandomSource>(
     rt: &Rt,
     alloc: Global,
@@ -236,7 +237,7 @@ fn the_chain_comes_before_the_known_bits(rt: HostRuntime) -> Result<(), Fail> {
     Ok(())
 }
 
-/// A comment of 140,000 bytes behind these lines is within the limit, and one more byte isn't.
+/// A comment of 140,000 bytes after these lines is within the limit, and one more byte isn't.
 fn assert_limit<Rt: Abort + Threads + Wait + Sync + RandomSource>(
     rt: &Rt,
     alloc: Global,
@@ -273,61 +274,6 @@ fn a_fault_has_its_line(rt: HostRuntime) -> Result<(), Fail> {
 fn a_fault_of_live_has_its_line(rt: HostRuntime) -> Result<(), Fail> {
     let answers = b"1 commit 0\n2 not-live\n".as_slice();
     assert_limit(&rt, rt.alloc(), "live", b"commit\nq 00\n", answers, b"")
-}
-
-/// A source that gives a text once, and then fails.
-#[derive(Drop)]
-struct BrokenSource<'a> {
-    text: MemorySource<'a>,
-    is_broken: bool,
-    failures: Failures,
-}
-
-impl Source for BrokenSource<'_> {
-    ghost use Rattle.std.specs.Prelude.{None};
-
-    ghost seen = { λ s. record { left = None; failures = s.failures.count } };
-
-    fn read(&mut self, buffer: &mut [u8]) -> Result<usize, Failed> {
-        if !self.is_broken {
-            self.is_broken = true;
-            if let Ok(n) = self.text.read(buffer) {
-                return Ok(n);
-            }
-        }
-        self.failures = self.failures.and_one();
-        Err(Failed)
-    }
-}
-
-/// A sink that takes nothing, and how many writes it was given.
-#[derive(Drop)]
-struct FullSink {
-    writes: u64,
-    failures: Failures,
-}
-
-impl FullSink {
-    fn new() -> FullSink {
-        FullSink {
-            writes: 0,
-            failures: Failures::none(),
-        }
-    }
-}
-
-impl Sink for FullSink {
-    ghost use Rattle.std.specs.Prelude.{None};
-
-    ghost seen = { λ s. record { taken = None; failures = s.failures.count } };
-
-    fn write(&mut self, bytes: &[u8]) -> Result<usize, Failed> {
-        if !bytes.is_empty() {
-            self.writes = self.writes.saturating_add(1);
-            self.failures = self.failures.and_one();
-        }
-        Ok(0)
-    }
 }
 
 /// Asserts what `lgm run` writes between these devices, and to `errors`, when one of them fails.

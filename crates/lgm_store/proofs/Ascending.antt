@@ -18,7 +18,7 @@ use Rattle.lgm_store.specs.declared.op.Op.{Op}
 use Rattle.lgm_store.specs.declared.op.Op.TheVariants as ops
 use Rattle.lgm_store.specs.Keys.{IsKeyed, point_cmp, direction_cmp, point_of, direction_of, id_of}
 use Rattle.lgm_store.specs.Rows.{Rows, IsAscending, empty, put, by_id, by_direction, by_node, by_point, channel_of, ends_channel, ends_banned}
-use Rattle.lgm_store.specs.History.{absorbed, fold_from, fold, with_banned, without_held}
+use Rattle.lgm_store.specs.History.{absorbed, fold_from, fold, with_banned, without_stored}
 use Rattle.lgm_store.specs.inner.Sound.{IsSound}
 use Rattle.lgm_store.proofs.ListLaws.{All-filter}
 use Rattle.lgm_store.proofs.Lists.{direction_total, node_total}
@@ -116,7 +116,7 @@ by_direction_total = on_total direction_of direction_total
 by_node_total : IsTotalOrder by_node
 by_node_total = on_total point_of node_total
 
--- points more
+-- inserting points
 pub ascend-with_banned : (points : List Point) (ban : BanRow) → IsStrictlySortedBy by_point points
     → IsStrictlySortedBy by_point (with_banned points ban)
 ascend-with_banned points ban ascend =
@@ -162,7 +162,7 @@ IsAscending-absorbed rows (ops.Node row) ascend = by (ends_channel rows.channels
     by false = ascend
 IsAscending-absorbed rows (ops.Close id) ascend = by (is_some (channel_of rows.channels id))
   where
-    by : (b : Bool) → IsAscending (if b then without_held rows id else rows)
+    by : (b : Bool) → IsAscending (if b then without_stored rows id else rows)
     by true = record {
       channels = ascend-filter by_id _ rows.channels ascend.channels;
       updates = ascend-filter by_direction _ rows.updates ascend.updates;

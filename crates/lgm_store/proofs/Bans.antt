@@ -1,15 +1,13 @@
--- Bans: closing the channels that end at banned points, one after the other.
+-- Bans: closing the channels of banned nodes, one after the other.
+-- the rows with channels closed, in order
 use Rattle.std.proofs.Common.{◌≡◌, ℕ, Bool, true, false, not, ◌&&◌, ◌||◌, cond, List, [], ◌∷◌, ◌++◌, ◌+◌}
 use Rattle.std.proofs.Common.{◌<◌, length, take, get_or, map, Some, refl, sym, ap, subst, ◌∙◌, eqb, arith}
 use Rattle.std.specs.Prelude.{is_some, if◌then◌else◌}
 use Rattle.std.specs.List.{AllByRecursion, filter, list_any}
 use Rattle.std.specs.List.Sorted.{IsStrictlySortedBy}
-use Rattle.std.specs.Map.{keys_of, values_of}
-use Rattle.std.specs.BTreeMap.{insert_entry}
-use Rattle.std.specs.BTreeSet.{insert_key}
 use Rattle.std.specs.declared.cmp.Ordering.{Ordering}
 use Rattle.std.specs.declared.cmp.Ordering.TheVariants.{Less, Equal, Greater}
-use Rattle.std.specs.Ordering.{is_lt, is_gt, nat_cmp, match_ordering}
+use Rattle.std.specs.Ordering.{is_lt, is_gt, nat_cmp}
 use Rattle.std.proofs.lemmas.List.Folds.{list_any-append}
 use Rattle.std.proofs.lemmas.Bool.Decides.{nat_tests}
 use Rattle.std.proofs.lemmas.Grind.{take_at_read}
@@ -18,22 +16,20 @@ use Rattle.lgm_wire.specs.declared.point.Point.{Point}
 use Rattle.lgm_check.specs.declared.row.ChannelRow.{ChannelRow}
 use Rattle.lgm_check.specs.declared.row.UpdateRow.{UpdateRow}
 use Rattle.lgm_check.specs.declared.row.NodeRow.{NodeRow}
-use Rattle.lgm_store.specs.Keys.{IsKeyed, point_cmp, id_of}
+use Rattle.lgm_store.specs.Keys.{id_of}
 use Rattle.lgm_store.specs.Rows.{Rows, put, by_point, by_id, is_point, channel_of, ends_at, ends_channel, is_banned, ends_banned}
-use Rattle.lgm_store.specs.History.{without_channel, channels_without, updates_without, ended_nodes, without_held}
+use Rattle.lgm_store.specs.History.{without_channel, channels_without, updates_without, ended_nodes, without_stored}
 use Rattle.lgm_store.specs.History.{banned_channels, banning, with_banned, with_ban}
 use Rattle.lgm_store.specs.Reading.{ids_at}
 use Rattle.lgm_store.specs.inner.Sound.{AreEnded, AreAllowed}
 use Rattle.lgm_check.specs.declared.row.BanRow.{BanRow}
-use Rattle.lgm_store.specs.Laws.{IsLawful, AreHeld}
+use Rattle.lgm_store.specs.Laws.{IsLawful, AreStored}
 use Rattle.lgm_store.specs.Laws as Lawful
 use Rattle.lgm_store.specs.declared.op.Op.TheVariants as ops
 use Rattle.lgm_store.proofs.ListLaws.{All-filter, filter-filter, filter-same, filter-alike, filter-true}
-use Rattle.lgm_store.proofs.Lists.{node_total, same_node}
-use Rattle.lgm_store.proofs.Ordered.{values-insert}
-use Rattle.lgm_store.proofs.Lawful.{AreHeld-absorbed, AreEnded-absorbed}
+use Rattle.lgm_store.proofs.Lists.{same_node}
+use Rattle.lgm_store.proofs.Lawful.{AreStored-absorbed, AreEnded-absorbed}
 
--- the rows with channels closed, in order
 abbrev pub closed_all : Rows → List ℕ → Rows
 closed_all rows [] = rows
 closed_all rows (id ∷ ids) = closed_all (without_channel rows id) ids
@@ -60,7 +56,7 @@ other a b less = let is : nat_cmp (id_of a) (id_of b) ≡ Less = less in grind (
 pub id_again : (id : ℕ) → eqb id id ≡ true
 id_again id = grind (arith, nat_tests)
 
--- nodes that are dropped at once, or in two steps
+-- nodes that are removed at once, or in two steps
 any-filter : (p q : ChannelRow → Bool) (rows : List ChannelRow) → list_any q (filter p rows) ≡ true → list_any q rows ≡ true
 any-filter p q [] any = any
 any-filter p q (x ∷ xs) any = by (any-filter p q xs) (p x) any
@@ -113,7 +109,7 @@ dropping rows gone = record {
   banned = rows.banned;
 }
 
--- a channel that isn't held takes nothing away
+-- closing a channel that isn't there changes nothing
 channels_stay : (rows : List ChannelRow) (id : ℕ) → is_some (channel_of rows id) ≡ false → channels_without rows id ≡ rows
 channels_stay [] id none = refl
 channels_stay (x ∷ xs) id none = by (channels_stay xs id) (eqb (id_of x) id) refl none
@@ -126,8 +122,8 @@ channels_stay (x ∷ xs) id none = by (channels_stay xs id) (eqb (id_of x) id) r
 
 updates_stay : (channels : List ChannelRow) (id : ℕ) (updates : List UpdateRow) → is_some (channel_of channels id) ≡ false
     → AllByRecursion (λ row. is_some (channel_of channels row.message.short_channel_id) ≡ true) updates → updates_without updates id ≡ updates
-updates_stay channels id [] none held = refl
-updates_stay channels id (x ∷ xs) none held = by (updates_stay channels id xs none held.1) (eqb x.message.short_channel_id id) refl
+updates_stay channels id [] none stored = refl
+updates_stay channels id (x ∷ xs) none stored = by (updates_stay channels id xs none stored.1) (eqb x.message.short_channel_id id) refl
   where
     same_id : (a b : ℕ) → eqb a b ≡ true → a ≡ b
     same_id a b e = grind (arith, nat_tests)
@@ -136,21 +132,21 @@ updates_stay channels id (x ∷ xs) none held = by (updates_stay channels id xs 
         → cond (not (eqb x.message.short_channel_id id)) (x ∷ updates_without xs id) (updates_without xs id) ≡ x ∷ xs
     by others true is =
         let never : true ≡ false =
-        sym held.0
+        sym stored.0
         ∙ ap (λ i. is_some (channel_of channels i)) (same_id x.message.short_channel_id id is) ∙ none in
         absurd cc
     by others false is = rw (is, others) refl
 
-without_channel-is : (rows : Rows) (id : ℕ) → AreHeld rows → Lawful.AreEnded rows → without_channel rows id ≡ without_held rows id
-without_channel-is rows id held ended = by (is_some (channel_of rows.channels id)) refl
+without_channel-is : (rows : Rows) (id : ℕ) → AreStored rows → Lawful.AreEnded rows → without_channel rows id ≡ without_stored rows id
+without_channel-is rows id stored ended = by (is_some (channel_of rows.channels id)) refl
   where
-    by : (b : Bool) → is_some (channel_of rows.channels id) ≡ b → (if b then without_held rows id else rows) ≡ without_held rows id
+    by : (b : Bool) → is_some (channel_of rows.channels id) ≡ b → (if b then without_stored rows id else rows) ≡ without_stored rows id
     by true is = refl
     by false is =
         let channels = channels_stay rows.channels id is in
-        rw (channels, updates_stay rows.channels id rows.updates is held, all_ended rows.channels rows.nodes ended) refl
+        rw (channels, updates_stay rows.channels id rows.updates is stored, all_ended rows.channels rows.nodes ended) refl
 
-dropping-step : (rows : Rows) (id : ℕ) (gone : ℕ → Bool) → dropping (without_held rows id) gone ≡ dropping rows (λ i. eqb i id || gone i)
+dropping-step : (rows : Rows) (id : ℕ) (gone : ℕ → Bool) → dropping (without_stored rows id) gone ≡ dropping rows (λ i. eqb i id || gone i)
 dropping-step rows id gone =
     let both : (i : ℕ) → (not (eqb i id) && not (gone i)) ≡ not (eqb i id || gone i) = λ i. neither (eqb i id) (gone i) in
     let channels : filter (λ row. not (gone (id_of row))) (channels_without rows.channels id)
@@ -163,19 +159,19 @@ dropping-step rows id gone =
     let nodes =
     nodes-step (λ row. not (gone (id_of row))) (channels_without rows.channels id) rows.nodes
     ∙ ap (λ channels. ended_nodes channels rows.nodes) channels in
-    rows_same (dropping (without_held rows id) gone) (dropping rows (λ i. eqb i id || gone i)) channels updates nodes refl
+    rows_same (dropping (without_stored rows id) gone) (dropping rows (λ i. eqb i id || gone i)) channels updates nodes refl
   where
     neither : (a b : Bool) → (not a && not b) ≡ not (a || b)
     neither a b = grind arith
 
-pub closed_all-drops : (ids : List ℕ) (rows : Rows) → AreHeld rows → Lawful.AreEnded rows → closed_all rows ids ≡ dropping rows (has ids)
-closed_all-drops [] rows held ended = rows_same rows (dropping rows (λ i. false)) (sym (filter-true rows.channels)) (sym (filter-true rows.updates))
+pub closed_all-drops : (ids : List ℕ) (rows : Rows) → AreStored rows → Lawful.AreEnded rows → closed_all rows ids ≡ dropping rows (has ids)
+closed_all-drops [] rows stored ended = rows_same rows (dropping rows (λ i. false)) (sym (filter-true rows.channels)) (sym (filter-true rows.updates))
     (sym (ap (λ channels. ended_nodes channels rows.nodes) (filter-true rows.channels) ∙ all_ended rows.channels rows.nodes ended)) refl
-closed_all-drops (id ∷ ids) rows held ended =
-    closed_all-drops ids (without_channel rows id) (AreHeld-absorbed rows (ops.Close id) held) (AreEnded-absorbed rows (ops.Close id) ended)
-    ∙ ap (λ r. dropping r (has ids)) (without_channel-is rows id held ended) ∙ dropping-step rows id (has ids)
+closed_all-drops (id ∷ ids) rows stored ended =
+    closed_all-drops ids (without_channel rows id) (AreStored-absorbed rows (ops.Close id) stored) (AreEnded-absorbed rows (ops.Close id) ended)
+    ∙ ap (λ r. dropping r (has ids)) (without_channel-is rows id stored ended) ∙ dropping-step rows id (has ids)
 
--- ---- the channels that end at banned points are those of their ids
+-- ---- the channels of banned points are those with their ids
 
 has-channel : (id : ℕ) (rows : List ChannelRow) → has (map id_of rows) id ≡ is_some (channel_of rows id)
 has-channel id [] = refl
@@ -233,7 +229,7 @@ dropping-bans rows banned is ascend =
 
 -- ---- the ids at points that are banned one after the other
 
--- these are the ids of the channels that end at banned points
+-- these are the ids of the channels of banned points
 abbrev pub Gathers : List ChannelRow → List Point → List ℕ → Type 0
 Gathers rows points ids = (id : ℕ) → has ids id ≡ has (map id_of (banned_channels points rows)) id
 
@@ -244,7 +240,7 @@ gathers-none rows points allowed id = ap (λ gone. has (map id_of gone) id) (sym
     none [] all = refl
     none (x ∷ xs) all = rw (all.0) (none xs all.1)
 
--- a point that is put is there, and others are as they were
+-- an inserted point is there, and the others are unchanged
 pub is_banned-put : (points : List Point) (p x : Point) → is_banned (put by_point points p) x ≡ (is_point x p || is_banned points x)
 is_banned-put points p x =
     list_any-append (is_point x) (filter (λ other. is_lt (by_point other p)) points) (p
@@ -328,21 +324,21 @@ gathers-more rows points ids p gathers id =
         by others false false e is = others
 
 -- closing them all, where the points are set aside meanwhile, bans the points
-pub closed_all-gathered : (rows : Rows) (ids : List ℕ) (banned : List Point) → Gathers rows.channels banned
-    ids → AreHeld rows → Lawful.AreEnded rows → IsStrictlySortedBy by_id rows.channels
+pub closed_all-buffered : (rows : Rows) (ids : List ℕ) (banned : List Point) → Gathers rows.channels banned
+    ids → AreStored rows → Lawful.AreEnded rows → IsStrictlySortedBy by_id rows.channels
     → record (closed_all (record rows { banned = [] }) ids) { banned = banned } ≡ banning rows banned
-closed_all-gathered rows ids banned gathers held ended ascend =
+closed_all-buffered rows ids banned gathers stored ended ascend =
     let gone = map id_of (banned_channels banned rows.channels) in
     let aside : Rows = record rows { banned = [] } in
     let put_back : Rows = record rows { banned = banned } in
-    ap (λ (r : Rows). let back : Rows = record r { banned = banned } in back) (closed_all-drops ids aside held ended)
+    ap (λ (r : Rows). let back : Rows = record r { banned = banned } in back) (closed_all-drops ids aside stored ended)
     ∙ rows_same (dropping put_back (has ids)) (dropping put_back (has gone))
     (filter-same _ _ (λ row. ap not (gathers (id_of row))) rows.channels)
     (filter-same _ _ (λ row. ap not (gathers row.message.short_channel_id)) rows.updates)
     (ap (λ channels. ended_nodes channels rows.nodes) (filter-same _ _ (λ row. ap not (gathers (id_of row))) rows.channels)) refl
     ∙ dropping-bans put_back banned refl ascend
 
--- no channel ends at one of no points
+-- without points there are no channels of them
 pub allowed-none : (rows : List ChannelRow) → AreAllowed [] rows
 allowed-none [] = tt
 allowed-none (x ∷ xs) = (refl, allowed-none xs)
@@ -358,44 +354,5 @@ banned-all rows start end aside points ids ban lawful aside_is start_is ids_are 
     gathers-more rows.channels _ _ ban.new2
     (gathers-more rows.channels _ _ ban.new1 (gathers-more rows.channels _ _ ban.held2 (gathers-more
     rows.channels _ [] ban.held1 (gathers-none rows.channels rows.banned lawful.allowed)))) in
-    rw (points_are, end_is, start_is, aside_is, ids_are) (closed_all-gathered rows _
-    (with_banned rows.banned ban) gathers lawful.held lawful.ended lawful.ascend.channels)
-
--- ---- the set of banned points
-
--- a point is put where an ordered set keeps it
-pub keys-insert : (points : List Point) (p : Point) → IsStrictlySortedBy by_point points → insert_key by_point points p ≡ put by_point points p
-keys-insert points p sorted =
-    by points ∙ values-insert point_cmp (λ (q : Point). q) node_total p (twice points) (keyed points)
-    (rw (keys points) sorted) ∙ ap (λ ps. put by_point ps p) (values points)
-  where
-    twice : List Point → List (Point × Point)
-    twice [] = []
-    twice (x ∷ xs) = (x, x) ∷ twice xs
-
-    keys : (xs : List Point) → keys_of (twice xs) ≡ xs
-    keys [] = refl
-    keys (x ∷ xs) = rw (keys xs) refl
-
-    values : (xs : List Point) → values_of (twice xs) ≡ xs
-    values [] = refl
-    values (x ∷ xs) = rw (values xs) refl
-
-    keyed : (xs : List Point) → IsKeyed (λ (q : Point). q) (twice xs)
-    keyed [] = tt
-    keyed (x ∷ xs) = (refl, keyed xs)
-
-    by : (xs : List Point) → insert_key by_point xs p ≡ values_of (insert_entry point_cmp (twice xs) p p)
-    by [] = refl
-    by (x ∷ xs) = at (by xs) (by_point p x) refl
-      where
-        at : insert_key by_point xs p ≡ values_of (insert_entry point_cmp (twice xs) p p) → (o : Ordering) → by_point p x ≡ o
-            → match_ordering o (p ∷ x ∷ xs) (x ∷ xs) (x ∷ insert_key by_point xs p)
-            ≡ values_of (match_ordering o ((p, p) ∷ (x, x) ∷ twice xs) ((x, p) ∷ twice xs) ((x, x) ∷ insert_entry point_cmp (twice xs) p p))
-        at others Less is = rw (values xs) refl
-        at others Equal is = rw (values xs, ← same_node p x is) refl
-        at others Greater is = rw others refl
-
-pub any-same : {X : Type 0} (p q : X → Bool) → ((x : X) → p x ≡ q x) → (xs : List X) → list_any p xs ≡ list_any q xs
-any-same p q same [] = refl
-any-same p q same (x ∷ xs) = rw (same x, any-same p q same xs) refl
+    rw (points_are, end_is, start_is, aside_is, ids_are) (closed_all-buffered rows _
+    (with_banned rows.banned ban) gathers lawful.stored lawful.ended lawful.ascend.channels)

@@ -1,4 +1,4 @@
--- What is decided by what admission looks at is what admission is.
+-- Decisions from ids, nodes and timestamps are those of admission.
 use Rattle.std.proofs.Common.{◌≡◌, Bool, true, false, List, Option, Some, None, Ok, Err, refl}
 use Rattle.std.specs.Prelude.{nat_lt, is_some}
 use Rattle.lgm_wire.specs.declared.point.Point.{Point}
@@ -11,13 +11,13 @@ use Rattle.lgm_store.specs.Rows.{is_point, is_second, ends_banned}
 use Rattle.lgm_store.specs.Admission.{have_same_nodes, ban_of, channel_admission, update_admission, node_admission, node_by}
 use Rattle.lgm_store.specs.inner.Decided.{channel_op, update_op, node_op, channel_verdict, update_verdict, node_verdict}
 
-pub channel-decided : (banned : List Point) (held : Option ChannelRow) (row : ChannelRow)
-    → channel_op row (channel_verdict banned held row.message.node_id_1 row.message.node_id_2) ≡ channel_admission banned held row
-channel-decided banned held row = by held (ends_banned banned row) refl
+pub channel-decided : (banned : List Point) (stored : Option ChannelRow) (row : ChannelRow)
+    → channel_op row (channel_verdict banned stored row.message.node_id_1 row.message.node_id_2) ≡ channel_admission banned stored row
+channel-decided banned stored row = by stored (ends_banned banned row) refl
   where
-    by : (held : Option ChannelRow) (b : Bool) → ends_banned banned row ≡ b → channel_op row (channel_verdict
-        banned held row.message.node_id_1 row.message.node_id_2) ≡ channel_admission banned held row
-    by held true is = rw is refl
+    by : (stored : Option ChannelRow) (b : Bool) → ends_banned banned row ≡ b → channel_op row (channel_verdict
+        banned stored row.message.node_id_1 row.message.node_id_2) ≡ channel_admission banned stored row
+    by stored true is = rw is refl
     by None false is = rw is refl
     by (Some old) false is = same (have_same_nodes old row) refl
       where
@@ -27,13 +27,13 @@ channel-decided banned held row = by held (ends_banned banned row) refl
         same false same_is = rw (is, same_is) refl
 
 -- a channel that is added is new, and has no banned node
-pub added : (banned : List Point) (held : Option ChannelRow) (row : ChannelRow) → Ok (ops.Channel row) ≡ channel_admission banned held row
-    → (is_some held ≡ false) × (ends_banned banned row ≡ false)
-added banned held row is = by held (ends_banned banned row) refl is
+pub added : (banned : List Point) (stored : Option ChannelRow) (row : ChannelRow) → Ok (ops.Channel row) ≡ channel_admission banned stored row
+    → (is_some stored ≡ false) × (ends_banned banned row ≡ false)
+added banned stored row is = by stored (ends_banned banned row) refl is
   where
-    by : (held : Option ChannelRow) (b : Bool) → ends_banned banned row ≡ b → Ok (ops.Channel row)
-        ≡ channel_admission banned held row → (is_some held ≡ false) × (ends_banned banned row ≡ false)
-    by held true banned_is is = let never : Ok (ops.Channel row) ≡ Err refusals.Banned = rw banned_is at is in absurd cc
+    by : (stored : Option ChannelRow) (b : Bool) → ends_banned banned row ≡ b → Ok (ops.Channel row)
+        ≡ channel_admission banned stored row → (is_some stored ≡ false) × (ends_banned banned row ≡ false)
+    by stored true banned_is is = let never : Ok (ops.Channel row) ≡ Err refusals.Banned = rw banned_is at is in absurd cc
     by None false banned_is is = (refl, banned_is)
     by (Some old) false banned_is is = same (have_same_nodes old row) refl
       where
@@ -41,13 +41,13 @@ added banned held row is = by held (ends_banned banned row) refl is
         same true same_is = let never : Ok (ops.Channel row) ≡ Err refusals.Known = rw (banned_is, same_is) at is in absurd cc
         same false same_is = let never : Ok (ops.Channel row) ≡ Ok (ops.Ban (ban_of old row)) = rw (banned_is, same_is) at is in absurd cc
 
-pub update-decided : (channel : ChannelRow) (held : Option UpdateRow) (row : UpdateRow) (signer : Point)
-    → update_op row (update_verdict channel held (is_second row) row.message.timestamp signer) ≡ update_admission (Some channel) held row signer
-update-decided channel held row signer = by held (is_point signer (node_by channel row)) refl
+pub update-decided : (channel : ChannelRow) (stored : Option UpdateRow) (row : UpdateRow) (signer : Point)
+    → update_op row (update_verdict channel stored (is_second row) row.message.timestamp signer) ≡ update_admission (Some channel) stored row signer
+update-decided channel stored row signer = by stored (is_point signer (node_by channel row)) refl
   where
-    by : (held : Option UpdateRow) (b : Bool) → is_point signer (node_by channel row) ≡ b
-        → update_op row (update_verdict channel held (is_second row) row.message.timestamp signer) ≡ update_admission (Some channel) held row signer
-    by held false is = rw is refl
+    by : (stored : Option UpdateRow) (b : Bool) → is_point signer (node_by channel row) ≡ b
+        → update_op row (update_verdict channel stored (is_second row) row.message.timestamp signer) ≡ update_admission (Some channel) stored row signer
+    by stored false is = rw is refl
     by None true is = rw is refl
     by (Some old) true is = newer (nat_lt old.message.timestamp row.message.timestamp) refl
       where
@@ -57,10 +57,10 @@ update-decided channel held row signer = by held (is_point signer (node_by chann
         newer true newer_is = rw (is, newer_is) refl
         newer false newer_is = rw (is, newer_is) refl
 
-pub node-decided : (banned ends : Bool) (held : Option NodeRow) (row : NodeRow)
-    → node_op row (node_verdict banned ends held row.message.timestamp) ≡ node_admission banned ends held row
-node-decided true ends held row = refl
-node-decided false false held row = refl
+pub node-decided : (banned ends : Bool) (stored : Option NodeRow) (row : NodeRow)
+    → node_op row (node_verdict banned ends stored row.message.timestamp) ≡ node_admission banned ends stored row
+node-decided true ends stored row = refl
+node-decided false false stored row = refl
 node-decided false true None row = refl
 node-decided false true (Some old) row = newer (nat_lt old.message.timestamp row.message.timestamp) refl
   where

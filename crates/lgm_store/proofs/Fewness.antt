@@ -1,4 +1,4 @@
--- How many channels rows have.
+-- The number of channels of rows.
 use Rattle.std.proofs.Common.{ℕ, ◌+◌, ◌≤◌, Bool, true, false, cond, List, [], ◌∷◌, length, arith}
 use Rattle.std.specs.Prelude.{filter, is_some, not, ◌==◌, ◌||◌}
 use Rattle.std.specs.declared.cmp.Ordering.{Ordering}
@@ -8,7 +8,7 @@ use Rattle.std.proofs.lemmas.List.{length-append}
 use Rattle.lgm_store.specs.declared.op.Op.{Op}
 use Rattle.lgm_store.specs.declared.op.Op.TheVariants as ops
 use Rattle.lgm_store.specs.Rows.{Rows, put, by_id, by_direction, by_node, channel_of, ends_channel, ends_banned}
-use Rattle.lgm_store.specs.History.{absorbed, fold_from, with_banned, without_held}
+use Rattle.lgm_store.specs.History.{absorbed, fold_from, with_banned, without_stored}
 
 kept_few : {X : Type 0} (p : X → Bool) (xs : List X) → length (filter p xs) ≤ length xs
 kept_few p [] = omega arith
@@ -18,7 +18,7 @@ kept_few p (x ∷ xs) = by (p x) (kept_few p xs)
     by true few = omega (arith, few)
     by false few = omega (arith, few)
 
--- those before and those behind
+-- those before and those after
 sides_few : {X : Type 0} (order : X → Ordering) (xs : List X)
     → length (filter (λ x. is_lt (order x)) xs) + length (filter (λ x. is_gt (order x)) xs) ≤ length xs
 sides_few order [] = omega arith
@@ -57,7 +57,7 @@ absorbed_few rows (ops.Node row) =
     }) rows (length rows.channels + 1) (omega arith) (omega arith)
 absorbed_few rows (ops.Close id) =
     either_few (is_some (channel_of rows.channels id))
-    (without_held rows id) rows (length rows.channels + 1)
+    (without_stored rows id) rows (length rows.channels + 1)
     (omega (arith, kept_few (λ row. not (row.message.short_channel_id == id)) rows.channels)) (omega arith)
 absorbed_few rows (ops.Ban ban) = omega (arith, kept_few (λ row. not (ends_banned (with_banned rows.banned ban) row)) rows.channels)
 

@@ -1,4 +1,4 @@
--- A row that is put changes what is found by its own key alone.
+-- Inserting a row changes only what is found by its key.
 use Rattle.std.proofs.Common.{◌≡◌, ℕ, Bool, true, false, List, ◌∷◌, refl, sym, ap, ◌∙◌, arith}
 use Rattle.std.specs.Prelude.{◌==◌}
 use Rattle.std.specs.List.{filter, find}
@@ -17,18 +17,18 @@ use Rattle.lgm_store.proofs.ListLaws.{All-each, find-first, find-second, find-ke
 use Rattle.lgm_store.proofs.Points.{same_point, is_at-point}
 
 module _ {X : Type 0} (p : X → Bool) where
-  -- a row that is put in its place is not found by a test that it doesn't pass
+  -- an inserted row isn't found by a test that it doesn't pass
   find-put : (order : X → X → Ordering) (xs : List X) (row : X) (o : Ordering) → (o ≡ Equal → ⊥)
       → p row ≡ false → ((x : X) → p x ≡ true → order x row ≡ o) → find p (put order xs row) ≡ find p xs
-  find-put order xs row Less other fails side =
+  find-put order xs row Less other fails direction =
       find-first p (filter (λ x. is_lt (order x row)) xs) (row ∷ filter (λ x. is_gt (order x row)) xs)
-      (rw (fails, find-gone p (λ x. is_gt (order x row)) xs (All-each _ xs (λ x is. ap is_gt (side x is)))) refl)
-      ∙ find-kept p (λ x. is_lt (order x row)) xs (All-each _ xs (λ x is. ap is_lt (side x is)))
-  find-put order xs row Equal other fails side = absurd (other refl)
-  find-put order xs row Greater other fails side =
+      (rw (fails, find-gone p (λ x. is_gt (order x row)) xs (All-each _ xs (λ x is. ap is_gt (direction x is)))) refl)
+      ∙ find-kept p (λ x. is_lt (order x row)) xs (All-each _ xs (λ x is. ap is_lt (direction x is)))
+  find-put order xs row Equal other fails direction = absurd (other refl)
+  find-put order xs row Greater other fails direction =
       find-second p (filter (λ x. is_lt (order x row)) xs) (row ∷ filter (λ x. is_gt (order x row)) xs)
-      (find-gone p (λ x. is_lt (order x row)) xs (All-each _ xs (λ x is. ap is_lt (side x is))))
-      ∙ rw fails (find-kept p (λ x. is_gt (order x row)) xs (All-each _ xs (λ x is. ap is_gt (side x is))))
+      (find-gone p (λ x. is_lt (order x row)) xs (All-each _ xs (λ x is. ap is_lt (direction x is))))
+      ∙ rw fails (find-kept p (λ x. is_gt (order x row)) xs (All-each _ xs (λ x is. ap is_gt (direction x is))))
 
 apart : (a b : ℕ) → (a == b) ≡ false → nat_cmp b a ≡ Equal → ⊥
 apart a b differ e = grind (arith, nat_tests)

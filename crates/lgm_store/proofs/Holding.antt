@@ -12,34 +12,34 @@ use Rattle.std.proofs.lemmas.Cmp.{nat_cmp_total}
 use Rattle.std.proofs.lemmas.Bool.Decides.{nat_tests}
 use Rattle.lgm_check.specs.declared.row.ChannelRow.{ChannelRow}
 use Rattle.lgm_check.specs.declared.row.UpdateRow.{UpdateRow}
-use Rattle.lgm_store.specs.declared.held.Held.{Held}
+use Rattle.lgm_store.specs.declared.channel_info.ChannelInfo.{ChannelInfo}
 use Rattle.lgm_store.specs.Keys.{IsKeyed, direction_cmp, direction_of}
-use Rattle.lgm_store.specs.inner.HeldEntries.{alone, with_update_in, channel_entries, update_entry, update_entries}
-use Rattle.lgm_store.specs.Held.{update_in}
+use Rattle.lgm_store.specs.inner.ChannelEntries.{alone, with_update_in, channel_entries, update_entry, update_entries}
+use Rattle.lgm_store.specs.ChannelInfo.{update_in}
 use Rattle.lgm_store.specs.History.{updates_without}
 use Rattle.lgm_store.proofs.Lists.{id_test, same_id}
 use Rattle.lgm_store.proofs.Walking.{first_value}
 
 -- ---- channels
 
-pub keys-channels : (es : List (ℕ × Held)) → keys_of (channel_entries es) ≡ keys_of es
+pub keys-channels : (es : List (ℕ × ChannelInfo)) → keys_of (channel_entries es) ≡ keys_of es
 keys-channels [] = refl
 keys-channels (e ∷ es) = rw (keys-channels es) refl
 
-pub ascend-held : (es : List (ℕ × Held)) → IsStrictlySortedBy nat_cmp (keys_of (channel_entries es)) → IsStrictlySortedBy nat_cmp (keys_of es)
-ascend-held es sorted = rw (keys-channels es) at sorted
+pub ascend-stored : (es : List (ℕ × ChannelInfo)) → IsStrictlySortedBy nat_cmp (keys_of (channel_entries es)) → IsStrictlySortedBy nat_cmp (keys_of es)
+ascend-stored es sorted = rw (keys-channels es) at sorted
 
-pub lookup-channels : (test : ℕ → Bool) (es : List (ℕ × Held)) → lookup test (channel_entries es) ≡ option_map (λ held. held.channel) (lookup test es)
+pub lookup-channels : (test : ℕ → Bool) (es : List (ℕ × ChannelInfo)) → lookup test (channel_entries es) ≡ option_map (λ stored. stored.channel) (lookup test es)
 lookup-channels test [] = refl
 lookup-channels test (e ∷ es) = by (lookup-channels test es) (test e.0)
   where
-    by : lookup test (channel_entries es) ≡ option_map (λ held. held.channel) (lookup test es)
+    by : lookup test (channel_entries es) ≡ option_map (λ stored. stored.channel) (lookup test es)
         → (b : Bool) → cond b (Some e.1.channel) (lookup test (channel_entries es))
-        ≡ option_map (λ held. held.channel) (cond b (Some e.1) (lookup test es))
+        ≡ option_map (λ stored. stored.channel) (cond b (Some e.1) (lookup test es))
     by others true = refl
     by others false = others
 
-pub filter-channels : (p : ℕ → Bool) (es : List (ℕ × Held)) → channel_entries (filter (λ e. p e.0) es) ≡ filter (λ e. p e.0) (channel_entries es)
+pub filter-channels : (p : ℕ → Bool) (es : List (ℕ × ChannelInfo)) → channel_entries (filter (λ e. p e.0) es) ≡ filter (λ e. p e.0) (channel_entries es)
 filter-channels p [] = refl
 filter-channels p (e ∷ es) = by (filter-channels p es) (p e.0)
   where
@@ -51,28 +51,28 @@ filter-channels p (e ∷ es) = by (filter-channels p es) (p e.0)
     by others false = others
 
 -- the channel of the first entry
-pub first-filtered : (p : ℕ → Bool) (es : List (ℕ × Held))
-    → option_map (λ held. held.channel) (first_value (filter (λ e. p e.0) es)) ≡ first_value (filter (λ e. p e.0) (channel_entries es))
+pub first-filtered : (p : ℕ → Bool) (es : List (ℕ × ChannelInfo))
+    → option_map (λ stored. stored.channel) (first_value (filter (λ e. p e.0) es)) ≡ first_value (filter (λ e. p e.0) (channel_entries es))
 first-filtered p es = first (filter (λ e. p e.0) es) ∙ ap first_value (filter-channels p es)
   where
-    first : (xs : List (ℕ × Held)) → option_map (λ held. held.channel) (first_value xs) ≡ first_value (channel_entries xs)
+    first : (xs : List (ℕ × ChannelInfo)) → option_map (λ stored. stored.channel) (first_value xs) ≡ first_value (channel_entries xs)
     first [] = refl
     first (x ∷ xs) = refl
 
-pub insert-channels : (id : ℕ) (held : Held) (es : List (ℕ × Held)) → channel_entries
-    (insert_entry nat_cmp es id held) ≡ insert_entry nat_cmp (channel_entries es) id held.channel
-insert-channels id held [] = refl
-insert-channels id held (e ∷ es) = by (insert-channels id held es) (nat_cmp id e.0)
+pub insert-channels : (id : ℕ) (stored : ChannelInfo) (es : List (ℕ × ChannelInfo)) → channel_entries
+    (insert_entry nat_cmp es id stored) ≡ insert_entry nat_cmp (channel_entries es) id stored.channel
+insert-channels id stored [] = refl
+insert-channels id stored (e ∷ es) = by (insert-channels id stored es) (nat_cmp id e.0)
   where
-    by : channel_entries (insert_entry nat_cmp es id held) ≡ insert_entry nat_cmp (channel_entries es) id held.channel
-        → (o : Ordering) → channel_entries (match_ordering o ((id, held) ∷ e ∷ es) ((e.0, held) ∷ es) (e ∷ insert_entry nat_cmp es id held))
-        ≡ match_ordering o ((id, held.channel) ∷ (e.0, e.1.channel) ∷ channel_entries es) ((e.0, held.channel)
-        ∷ channel_entries es) ((e.0, e.1.channel) ∷ insert_entry nat_cmp (channel_entries es) id held.channel)
+    by : channel_entries (insert_entry nat_cmp es id stored) ≡ insert_entry nat_cmp (channel_entries es) id stored.channel
+        → (o : Ordering) → channel_entries (match_ordering o ((id, stored) ∷ e ∷ es) ((e.0, stored) ∷ es) (e ∷ insert_entry nat_cmp es id stored))
+        ≡ match_ordering o ((id, stored.channel) ∷ (e.0, e.1.channel) ∷ channel_entries es) ((e.0, stored.channel)
+        ∷ channel_entries es) ((e.0, e.1.channel) ∷ insert_entry nat_cmp (channel_entries es) id stored.channel)
     by others Less = refl
     by others Equal = refl
     by others Greater = rw others refl
 
-pub remove-channels : (test : ℕ → Bool) (es : List (ℕ × Held)) → channel_entries (remove_entry test es) ≡ remove_entry test (channel_entries es)
+pub remove-channels : (test : ℕ → Bool) (es : List (ℕ × ChannelInfo)) → channel_entries (remove_entry test es) ≡ remove_entry test (channel_entries es)
 remove-channels test [] = refl
 remove-channels test (e ∷ es) = by (remove-channels test es) (test e.0)
   where
@@ -82,8 +82,8 @@ remove-channels test (e ∷ es) = by (remove-channels test es) (test e.0)
     by others true = refl
     by others false = rw others refl
 
--- another update leaves the channels
--- nothing goes where no key passes
+-- replacing an update leaves the channels unchanged
+-- nothing is removed if no key passes
 pub remove-none : {X : Type 0} (test : ℕ → Bool) (es : List (ℕ × X)) → lookup test es ≡ None → remove_entry test es ≡ es
 remove-none {X} test [] none = refl
 remove-none {X} test (e ∷ es) none = by (remove-none test es) (test e.0) refl none
@@ -93,7 +93,7 @@ remove-none {X} test (e ∷ es) none = by (remove-none test es) (test e.0) refl 
     by others true is none = let never : Some e.1 ≡ None = rw is at none in absurd cc
     by others false is none = rw (is, others (rw is at none)) refl
 
-pub set-channels : (test : ℕ → Bool) (es : List (ℕ × Held)) (old new : Held) → lookup test es ≡ Some old → new.channel ≡ old.channel
+pub set-channels : (test : ℕ → Bool) (es : List (ℕ × ChannelInfo)) (old new : ChannelInfo) → lookup test es ≡ Some old → new.channel ≡ old.channel
     → channel_entries (set_value test es new) ≡ channel_entries es
 set-channels test [] old new found same = refl
 set-channels test (e ∷ es) old new found same = by (set-channels test es old new) (test e.0) refl found
@@ -107,32 +107,32 @@ set-channels test (e ∷ es) old new found same = by (set-channels test es old n
         rw (is, same, own) refl
     by others false is found = rw (is, others (rw is at found) same) refl
 
-pub channel-with : (second : Bool) (old : Held) (row : UpdateRow) → (with_update_in second old row).channel ≡ old.channel
+pub channel-with : (second : Bool) (old : ChannelInfo) (row : UpdateRow) → (with_update_in second old row).channel ≡ old.channel
 channel-with true old row = refl
 channel-with false old row = refl
 
 -- ---- keys above one
 
 -- nothing is found below all keys
-lookup-above : (id : ℕ) (es : List (ℕ × Held)) → AllByRecursion (λ k. nat_cmp id k ≡ Less) (keys_of es) → lookup (is_at (nat_cmp id)) es ≡ None
+lookup-above : (id : ℕ) (es : List (ℕ × ChannelInfo)) → AllByRecursion (λ k. nat_cmp id k ≡ Less) (keys_of es) → lookup (is_at (nat_cmp id)) es ≡ None
 lookup-above id [] above = refl
 lookup-above id (e ∷ es) above = rw above.0 (lookup-above id es above.1)
 
-remove-above : (id : ℕ) (es : List (ℕ × Held)) → AllByRecursion (λ k. nat_cmp id k ≡ Less) (keys_of es) → remove_entry (is_at (nat_cmp id)) es ≡ es
+remove-above : (id : ℕ) (es : List (ℕ × ChannelInfo)) → AllByRecursion (λ k. nat_cmp id k ≡ Less) (keys_of es) → remove_entry (is_at (nat_cmp id)) es ≡ es
 remove-above id [] above = refl
 remove-above id (e ∷ es) above = rw (above.0, remove-above id es above.1) refl
 
 -- from one key to another
-above-from : (id other : ℕ) (es : List (ℕ × Held)) → ((k : ℕ) → nat_cmp other k ≡ Less → nat_cmp id k ≡ Less)
+above-from : (id other : ℕ) (es : List (ℕ × ChannelInfo)) → ((k : ℕ) → nat_cmp other k ≡ Less → nat_cmp id k ≡ Less)
     → AllByRecursion (λ k. nat_cmp other k ≡ Less) (keys_of es) → AllByRecursion (λ k. nat_cmp id k ≡ Less) (keys_of es)
 above-from id other [] lower above = tt
 above-from id other (e ∷ es) lower above = (lower e.0 above.0, above-from id other es lower above.1)
 
-above-equal : (id other : ℕ) (es : List (ℕ × Held)) → nat_cmp id other ≡ Equal
+above-equal : (id other : ℕ) (es : List (ℕ × ChannelInfo)) → nat_cmp id other ≡ Equal
     → AllByRecursion (λ k. nat_cmp other k ≡ Less) (keys_of es) → AllByRecursion (λ k. nat_cmp id k ≡ Less) (keys_of es)
 above-equal id other es is = above-from id other es (λ k less. nat_cmp_total.congr id other k is ∙ less)
 
-above-less : (id other : ℕ) (es : List (ℕ × Held)) → nat_cmp id other ≡ Less
+above-less : (id other : ℕ) (es : List (ℕ × ChannelInfo)) → nat_cmp id other ≡ Less
     → AllByRecursion (λ k. nat_cmp other k ≡ Less) (keys_of es) → AllByRecursion (λ k. nat_cmp id k ≡ Less) (keys_of es)
 above-less id other es is = above-from id other es (λ k less. nat_cmp_total.trans id other k is less)
 
@@ -195,7 +195,7 @@ keyed-one : (k : ℕ) (b : Bool) (o : Option UpdateRow) (us new : Updates) → I
 keyed-one k b None us new keyed keyed' = keyed'
 keyed-one k b (Some row) us new keyed keyed' = (keyed.0, keyed')
 
--- it goes with its channel, and stays beside others
+-- it is removed with its channel, and stays with others
 without-own : (id k : ℕ) (b : Bool) (o : Option UpdateRow) (us : Updates) → IsKeyed direction_of (update_entry k b o ++ us) → eqb k id ≡ true
     → updates_without (values_of (update_entry k b o ++ us)) id ≡ updates_without (values_of us) id
 without-own id k b None us keyed own = refl
@@ -216,14 +216,14 @@ without-other id k b (Some row) us new keyed other rest =
 self : (k : ℕ) → nat_cmp k k ≡ Equal
 self k = grind (arith, nat_tests)
 
-above-updates : (id : ℕ) (second : Bool) (es : List (ℕ × Held)) → AllByRecursion (λ k. nat_cmp id k ≡ Less) (keys_of es)
+above-updates : (id : ℕ) (second : Bool) (es : List (ℕ × ChannelInfo)) → AllByRecursion (λ k. nat_cmp id k ≡ Less) (keys_of es)
     → AllByRecursion (λ j. direction_cmp (id, second) j ≡ Less) (keys_of (update_entries es))
 above-updates id second [] above = tt
 above-updates id second (e ∷ es) above =
     let less : (b : Bool) → direction_cmp (id, second) (e.0, b) ≡ Less = λ b. rw above.0 refl in
     All-one _ e.0 false e.1.first _ (less false) (All-one _ e.0 true e.1.second _ (less true) (above-updates id second es above.1))
 
-pub ascend-updates : (es : List (ℕ × Held)) → IsStrictlySortedBy nat_cmp (keys_of es) → IsStrictlySortedBy direction_cmp (keys_of (update_entries es))
+pub ascend-updates : (es : List (ℕ × ChannelInfo)) → IsStrictlySortedBy nat_cmp (keys_of es) → IsStrictlySortedBy direction_cmp (keys_of (update_entries es))
 unfolding IsStrictlySortedBy
 ascend-updates [] sorted = tt
 ascend-updates (e ∷ es) sorted =
@@ -231,18 +231,18 @@ ascend-updates (e ∷ es) sorted =
     ascend-one e.0 false e.1.first _ (All-one _ e.0 true e.1.second _ less (above-updates e.0 false es sorted.0))
     (ascend-one e.0 true e.1.second _ (above-updates e.0 true es sorted.0) (ascend-updates es sorted.1))
 
-lookup-own : (id k : ℕ) (held : Held) (us : Updates) → nat_cmp id k ≡ Equal → (second : Bool) → lookup (is_at (direction_cmp (id, second))) us ≡ None
-    → lookup (is_at (direction_cmp (id, second))) (update_entry k false held.first ++ (update_entry k true held.second ++ us)) ≡ update_in second held
-lookup-own id k held us is true none =
+lookup-own : (id k : ℕ) (stored : ChannelInfo) (us : Updates) → nat_cmp id k ≡ Equal → (second : Bool) → lookup (is_at (direction_cmp (id, second))) us ≡ None
+    → lookup (is_at (direction_cmp (id, second))) (update_entry k false stored.first ++ (update_entry k true stored.second ++ us)) ≡ update_in second stored
+lookup-own id k stored us is true none =
     let past : is_at (direction_cmp (id, true)) (k, false) ≡ false = rw is refl in
     let here : is_at (direction_cmp (id, true)) (k, true) ≡ true = rw is refl in
-    lookup-past _ k false held.first _ past ∙ lookup-one _ k true held.second us none ∙ rw here refl
-lookup-own id k held us is false none =
+    lookup-past _ k false stored.first _ past ∙ lookup-one _ k true stored.second us none ∙ rw here refl
+lookup-own id k stored us is false none =
     let past : is_at (direction_cmp (id, false)) (k, true) ≡ false = rw is refl in
     let here : is_at (direction_cmp (id, false)) (k, false) ≡ true = rw is refl in
-    lookup-one _ k false held.first _ (lookup-past _ k true held.second us past ∙ none) ∙ rw here refl
+    lookup-one _ k false stored.first _ (lookup-past _ k true stored.second us past ∙ none) ∙ rw here refl
 
-pub lookup-updates : (id : ℕ) (second : Bool) (es : List (ℕ × Held)) → IsStrictlySortedBy nat_cmp (keys_of es)
+pub lookup-updates : (id : ℕ) (second : Bool) (es : List (ℕ × ChannelInfo)) → IsStrictlySortedBy nat_cmp (keys_of es)
     → lookup (is_at (direction_cmp (id, second))) (update_entries es) ≡ option_and_then (update_in second) (lookup (is_at (nat_cmp id)) es)
 unfolding IsStrictlySortedBy
 lookup-updates id second [] sorted = refl
@@ -263,22 +263,22 @@ lookup-updates id second (e ∷ es) sorted = by (lookup-updates id second es sor
         let no : (b : Bool) → is_at (direction_cmp (id, second)) (e.0, b) ≡ false = λ b. rw is refl in
         lookup-past _ e.0 false e.1.first _ (no false) ∙ lookup-past _ e.0 true e.1.second _ (no true) ∙ rw is others
 
--- another update of a direction
-set-here : (k : ℕ) (held : Held) (us : Updates) (row : UpdateRow)
+-- replacing an update of a direction
+set-here : (k : ℕ) (stored : ChannelInfo) (us : Updates) (row : UpdateRow)
     → ((b : Bool) → AllByRecursion (λ j. direction_cmp (k, b) j ≡ Less) (keys_of us)) → (second : Bool)
-    → update_entry k false (with_update_in second held row).first ++ (update_entry k true (with_update_in second held row).second ++ us)
-    ≡ insert_entry direction_cmp (update_entry k false held.first ++ (update_entry k true held.second ++ us)) (k, second) row
-set-here k held us row above true =
+    → update_entry k false (with_update_in second stored row).first ++ (update_entry k true (with_update_in second stored row).second ++ us)
+    ≡ insert_entry direction_cmp (update_entry k false stored.first ++ (update_entry k true stored.second ++ us)) (k, second) row
+set-here k stored us row above true =
     let past : direction_cmp (k, true) (k, false) ≡ Greater = rw (self k) refl in
     let own : direction_cmp (k, true) (k, true) ≡ Equal = rw (self k) refl in
-    sym (insert-past k false held.first _ (k, true) row past ∙ ap (λ (xs : Updates).
-    update_entry k false held.first ++ xs) (insert-here k true held.second us row own (above true)))
-set-here k held us row above false =
+    sym (insert-past k false stored.first _ (k, true) row past ∙ ap (λ (xs : Updates).
+    update_entry k false stored.first ++ xs) (insert-here k true stored.second us row own (above true)))
+set-here k stored us row above false =
     let less : direction_cmp (k, false) (k, true) ≡ Less = rw (self k) refl in
     let own : direction_cmp (k, false) (k, false) ≡ Equal = rw (self k) refl in
-    sym (insert-here k false held.first _ row own (All-one _ k true held.second us less (above false)))
+    sym (insert-here k false stored.first _ row own (All-one _ k true stored.second us less (above false)))
 
-pub set-updates : (id : ℕ) (second : Bool) (row : UpdateRow) (es : List (ℕ × Held)) (old : Held)
+pub set-updates : (id : ℕ) (second : Bool) (row : UpdateRow) (es : List (ℕ × ChannelInfo)) (old : ChannelInfo)
     → IsStrictlySortedBy nat_cmp (keys_of es) → lookup (is_at (nat_cmp id)) es ≡ Some old
     → update_entries (set_value (is_at (nat_cmp id)) es (with_update_in second old row))
     ≡ insert_entry direction_cmp (update_entries es) (id, second) row
@@ -307,8 +307,8 @@ set-updates id second row (e ∷ es) old sorted found = by (set-updates id secon
         rw (is, others found') (sym (insert-past e.0 false e.1.first _ (id, second) row (past false)
         ∙ ap (λ (xs : Updates). update_entry e.0 false e.1.first ++ xs) (insert-past e.0 true e.1.second _ (id, second) row (past true))))
 
--- a channel without updates leaves them
-pub insert-updates : (id : ℕ) (row : ChannelRow) (es : List (ℕ × Held)) → lookup (is_at (nat_cmp id)) es
+-- adding a channel without updates leaves the updates unchanged
+pub insert-updates : (id : ℕ) (row : ChannelRow) (es : List (ℕ × ChannelInfo)) → lookup (is_at (nat_cmp id)) es
     ≡ None → update_entries (insert_entry nat_cmp es id (alone row)) ≡ update_entries es
 insert-updates id row [] none = refl
 insert-updates id row (e ∷ es) none = by (insert-updates id row es) (nat_cmp id e.0) refl none
@@ -322,8 +322,8 @@ insert-updates id row (e ∷ es) none = by (insert-updates id row es) (nat_cmp i
     by others Equal is none = let never : Some e.1 ≡ None = rw is at none in absurd cc
     by others Greater is none = rw (is, others (rw is at none)) refl
 
--- the updates of a channel go with it
-pub values-without : (id : ℕ) (es : List (ℕ × Held)) → IsStrictlySortedBy nat_cmp (keys_of es) → IsKeyed direction_of (update_entries es)
+-- the updates of a channel are removed with it
+pub values-without : (id : ℕ) (es : List (ℕ × ChannelInfo)) → IsStrictlySortedBy nat_cmp (keys_of es) → IsKeyed direction_of (update_entries es)
     → values_of (update_entries (remove_entry (is_at (nat_cmp id)) es)) ≡ updates_without (values_of (update_entries es)) id
 unfolding IsStrictlySortedBy
 values-without id [] sorted keyed = refl
@@ -343,13 +343,13 @@ values-without id (e ∷ es) sorted keyed =
         rw is (without-other id e.0 false e.1.first _ _ keyed other (without-other id e.0 true e.1.second _ _ rest other others))
     by others Equal is =
         let own : eqb e.0 id ≡ true = sym (id_test e.0 id) ∙ rw is refl in
-        rw is (ap (λ (xs : List (ℕ × Held)). values_of (update_entries xs)) (sym (remove-above id es (above-equal id e.0 es is sorted.0))) ∙ others
+        rw is (ap (λ (xs : List (ℕ × ChannelInfo)). values_of (update_entries xs)) (sym (remove-above id es (above-equal id e.0 es is sorted.0))) ∙ others
         ∙ sym (without-own id e.0 false e.1.first _ keyed own ∙ without-own id e.0 true e.1.second _ rest own))
     by others Greater is =
         let other : eqb e.0 id ≡ false = sym (id_test e.0 id) ∙ rw is refl in
         rw is (without-other id e.0 false e.1.first _ _ keyed other (without-other id e.0 true e.1.second _ _ rest other others))
 
-pub keyed-without : (test : ℕ → Bool) (es : List (ℕ × Held)) → IsKeyed direction_of (update_entries es)
+pub keyed-without : (test : ℕ → Bool) (es : List (ℕ × ChannelInfo)) → IsKeyed direction_of (update_entries es)
     → IsKeyed direction_of (update_entries (remove_entry test es))
 keyed-without test [] keyed = tt
 keyed-without test (e ∷ es) keyed = by (keyed-without test es (keyed-rest e.0 true e.1.second _ (keyed-rest e.0 false e.1.first _ keyed))) (test e.0)

@@ -1,4 +1,4 @@
--- What holds of the rows that histories leave.
+-- The laws of the rows that histories leave.
 use Rattle.std.proofs.Common.{◌≡◌, ℕ, Bool, true, false, not, ◌||◌, cond, List, [], ◌∷◌, Some, refl, sym, ap, ◌∙◌, eqb, arith}
 use Rattle.std.specs.Prelude.{is_some, if◌then◌else◌}
 use Rattle.std.specs.List.{AllByRecursion, filter, find, list_any}
@@ -16,15 +16,15 @@ use Rattle.lgm_check.specs.declared.row.BanRow.{BanRow}
 use Rattle.lgm_store.specs.declared.op.Op.{Op}
 use Rattle.lgm_store.specs.declared.op.Op.TheVariants as ops
 use Rattle.lgm_store.specs.Rows.{Rows, empty, put, by_id, by_direction, by_node, channel_of, ends_at, ends_channel, ends_banned}
-use Rattle.lgm_store.specs.History.{absorbed, fold_from, fold, with_banned, channels_without, without_held}
+use Rattle.lgm_store.specs.History.{absorbed, fold_from, fold, with_banned, channels_without, without_stored}
 use Rattle.lgm_store.specs.History.{allowed_channels, banned_channels}
-use Rattle.lgm_store.specs.Laws.{IsLawful, AreHeld, AreEnded, AreAllowed}
+use Rattle.lgm_store.specs.Laws.{IsLawful, AreStored, AreEnded, AreAllowed}
 use Rattle.lgm_store.specs.Keys.{id_of}
 use Rattle.lgm_store.proofs.ListLaws.{All-filtered, All-put, All-to}
 use Rattle.lgm_store.proofs.Ascending.{fold-ascends}
-use Rattle.lgm_store.proofs.Soundness.{AreEnded-ended_nodes}
+use Rattle.lgm_store.proofs.Removals.{AreEnded-ended_nodes}
 
--- a test that found a row finds one still, where a row is put
+-- a test that finds a row still finds one after a row is inserted
 any-put : {R : Type 0} (p : R → Bool) (order : R → R → Ordering) (row : R) (rows : List R)
     → AllByRecursion (λ x. order x row ≡ Equal → p x ≡ true → p row ≡ true) rows
     → list_any p rows ≡ true → list_any p (put order rows row) ≡ true
@@ -58,7 +58,7 @@ any-put {R} p order row rows alike any =
         at others Greater is true here any = rw (is, here) (last (list_any p (filter (λ x. is_lt (order x row)) xs)) (p row))
         at others Greater is false here any = rw (is, here) (others (rw here at any))
 
--- ---- what is held
+-- ---- looking rows up
 
 is_some-find : {R : Type 0} (p : R → Bool) (rows : List R) → is_some (find p rows) ≡ list_any p rows
 is_some-find {R} p [] = refl
@@ -68,14 +68,14 @@ is_some-find {R} p (x ∷ xs) = by (is_some-find p xs) (p x)
     by others true = refl
     by others false = others
 
--- whether a channel is of an id
+-- whether a channel has an id
 abbrev is_of : ℕ → ChannelRow → Bool
 is_of id row = eqb row.message.short_channel_id id
 
-held_any : (rows : List ChannelRow) (id : ℕ) → is_some (channel_of rows id) ≡ list_any (is_of id) rows
-held_any rows id = is_some-find (is_of id) rows
+stored_any : (rows : List ChannelRow) (id : ℕ) → is_some (channel_of rows id) ≡ list_any (is_of id) rows
+stored_any rows id = is_some-find (is_of id) rows
 
--- a row that isn't held has no like
+-- an id that isn't found has no row
 no_like : (rows : List ChannelRow) (row : ChannelRow) → is_some (channel_of rows (id_of row)) ≡ false
     → AllByRecursion (λ x. by_id x row ≡ Equal → ⊥) rows
 no_like [] row none = tt
@@ -92,24 +92,24 @@ no_like (x ∷ xs) row none = by (no_like xs row) (eqb (id_of x) (id_of row)) re
         let rest : is_some (channel_of xs (id_of row)) ≡ false = rw is at none in
         ((λ e. let never : true ≡ false = sym (like (id_of x) (id_of row) e) ∙ is in absurd cc), others rest)
 
--- a channel more holds what was held
+-- after adding a channel, the channels before are still there
 any-channel : (p : ChannelRow → Bool) (rows : List ChannelRow) (row : ChannelRow) → is_some
     (channel_of rows (id_of row)) ≡ false → list_any p rows ≡ true → list_any p (put by_id rows row) ≡ true
 any-channel p rows row none any =
     any-put p by_id row rows (All-to (λ x. by_id x row ≡ Equal → ⊥) _ rows
     (λ x never e here. absurd (never e)) (no_like rows row none)) any
 
-held-more : (rows : List ChannelRow) (row : ChannelRow) (id : ℕ) → is_some (channel_of rows (id_of row))
+stored-more : (rows : List ChannelRow) (row : ChannelRow) (id : ℕ) → is_some (channel_of rows (id_of row))
     ≡ false → is_some (channel_of rows id) ≡ true → is_some (channel_of (put by_id rows row) id) ≡ true
-held-more rows row id none held = held_any (put by_id rows row) id ∙ any-channel (is_of id) rows row none (sym (held_any rows id) ∙ held)
+stored-more rows row id none stored = stored_any (put by_id rows row) id ∙ any-channel (is_of id) rows row none (sym (stored_any rows id) ∙ stored)
 
--- another channel less
-held-without : (rows : List ChannelRow) (gone id : ℕ) → not (eqb id gone) ≡ true
+-- removing another channel
+stored-without : (rows : List ChannelRow) (gone id : ℕ) → not (eqb id gone) ≡ true
     → is_some (channel_of rows id) ≡ true → is_some (channel_of (channels_without rows gone) id) ≡ true
-held-without rows gone id apart held =
-    held_any (channels_without rows gone) id
+stored-without rows gone id apart stored =
+    stored_any (channels_without rows gone) id
     ∙ any-filter_same (is_of id) (λ row. not (eqb (id_of row) gone)) true (λ row is. ap (λ k. not (eqb k gone)) (same (id_of row) id is) ∙ apart) rows
-    ∙ sym (held_any rows id) ∙ held
+    ∙ sym (stored_any rows id) ∙ stored
   where
     same : (a b : ℕ) → eqb a b ≡ true → a ≡ b
     same a b e = grind (arith, nat_tests)
@@ -133,24 +133,24 @@ not_so : (b : Bool) → not b ≡ true → b ≡ false
 not_so true e = absurd cc
 not_so false e = refl
 
-held-allowed : (banned : List Point) (rows : List ChannelRow) (id : ℕ)
+stored-allowed : (banned : List Point) (rows : List ChannelRow) (id : ℕ)
     → not (is_some (channel_of (banned_channels banned rows) id)) ≡ true → is_some (channel_of rows id) ≡ true
     → is_some (channel_of (allowed_channels banned rows) id) ≡ true
-held-allowed banned rows id gone held =
-    held_any (allowed_channels banned rows) id
-    ∙ any-parts (is_of id) (ends_banned banned) rows (sym (held_any rows id) ∙ held) (sym (held_any
+stored-allowed banned rows id gone stored =
+    stored_any (allowed_channels banned rows) id
+    ∙ any-parts (is_of id) (ends_banned banned) rows (sym (stored_any rows id) ∙ stored) (sym (stored_any
     (banned_channels banned rows) id) ∙ not_so (is_some (channel_of (banned_channels banned rows) id)) gone)
 
--- ---- each operation keeps what holds
+-- ---- each operation preserves the laws
 
--- it holds after each change that an operation may make
+-- they hold after each change that an operation may make
 record Stays (P : Rows → Type 0) (rows : Rows) : Type 0 where
   channel : (row : ChannelRow) → is_some (channel_of rows.channels (id_of row)) ≡ false → ends_banned rows.banned row ≡ false
       → P (record rows { channels = put by_id rows.channels row })
   update : (row : UpdateRow) → is_some (channel_of rows.channels row.message.short_channel_id) ≡ true
       → P (record rows { updates = put by_direction rows.updates row })
   node : (row : NodeRow) → ends_channel rows.channels row.message.node_id ≡ true → P (record rows { nodes = put by_node rows.nodes row })
-  close : (id : ℕ) → P (without_held rows id)
+  close : (id : ℕ) → P (without_stored rows id)
   ban : (ban : BanRow) → P (absorbed rows (ops.Ban ban))
 
 absorbed-keeps : (P : Rows → Type 0) (rows : Rows) (op : Op) → P rows → Stays P rows → P (absorbed rows op)
@@ -176,25 +176,25 @@ absorbed-keeps P rows (ops.Node row) same stays = by (ends_channel rows.channels
     by false is = same
 absorbed-keeps P rows (ops.Close id) same stays = by (is_some (channel_of rows.channels id))
   where
-    by : (b : Bool) → P (if b then without_held rows id else rows)
+    by : (b : Bool) → P (if b then without_stored rows id else rows)
     by true = stays.close id
     by false = same
 absorbed-keeps P rows (ops.Ban ban) same stays = stays.ban ban
 
-pub AreHeld-absorbed : (rows : Rows) (op : Op) → AreHeld rows → AreHeld (absorbed rows op)
-AreHeld-absorbed rows op held = absorbed-keeps AreHeld rows op held (record {
+pub AreStored-absorbed : (rows : Rows) (op : Op) → AreStored rows → AreStored (absorbed rows op)
+AreStored-absorbed rows op stored = absorbed-keeps AreStored rows op stored (record {
   channel = λ row is allowed.
       All-to (λ u. is_some (channel_of rows.channels u.message.short_channel_id) ≡ true) _ rows.updates
-      (λ u h. held-more rows.channels row u.message.short_channel_id is h) held;
+      (λ u h. stored-more rows.channels row u.message.short_channel_id is h) stored;
   update = λ row is.
-      All-put (λ u. is_some (channel_of rows.channels u.message.short_channel_id) ≡ true) by_direction rows.updates row is held;
-  node = λ row is. held;
+      All-put (λ u. is_some (channel_of rows.channels u.message.short_channel_id) ≡ true) by_direction rows.updates row is stored;
+  node = λ row is. stored;
   close = λ id.
       All-filtered (λ u. is_some (channel_of rows.channels u.message.short_channel_id) ≡ true) _ _
-      rows.updates (λ u apart h. held-without rows.channels id u.message.short_channel_id apart h) held;
+      rows.updates (λ u apart h. stored-without rows.channels id u.message.short_channel_id apart h) stored;
   ban = λ ban.
       All-filtered (λ u. is_some (channel_of rows.channels u.message.short_channel_id) ≡ true) _ _ rows.updates
-      (λ u gone h. held-allowed (with_banned rows.banned ban) rows.channels u.message.short_channel_id gone h) held;
+      (λ u gone h. stored-allowed (with_banned rows.banned ban) rows.channels u.message.short_channel_id gone h) stored;
 })
 
 pub AreEnded-absorbed : (rows : Rows) (op : Op) → AreEnded rows → AreEnded (absorbed rows op)
@@ -229,7 +229,7 @@ fold_from-keeps P keeps rows (op ∷ others) here = fold_from-keeps P keeps (abs
 pub fold-lawful : (history : List Op) → IsLawful (fold history)
 fold-lawful history = record {
   ascend = fold-ascends history;
-  held = fold_from-keeps AreHeld AreHeld-absorbed empty history tt;
+  stored = fold_from-keeps AreStored AreStored-absorbed empty history tt;
   ended = fold_from-keeps AreEnded AreEnded-absorbed empty history tt;
   allowed = fold_from-keeps AreAllowed AreAllowed-absorbed empty history tt;
 }

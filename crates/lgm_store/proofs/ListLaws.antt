@@ -1,4 +1,4 @@
--- What holds of each element of a list, and what tests keep and find.
+-- Lists: facts about each element, filters and searches.
 use Rattle.std.proofs.Common.{◌≡◌, ◌<◌, length, get_or, drop, arith, Bool, true, false, ◌&&◌, ◌||◌, cond, List, [], ◌∷◌, ◌++◌, Some, None, refl, sym, ap, ◌∙◌, true≢false}
 use Rattle.std.specs.List.{AllByRecursion, filter, find, list_any}
 use Rattle.std.specs.declared.cmp.Ordering.{Ordering}
@@ -112,7 +112,7 @@ any-kept p q (x ∷ xs) all = by (any-kept p q xs all.1) (q x) refl (p x) refl
     by others false e true f = absurd (true≢false (sym (all.0 f) ∙ e))
     by others false e false f = rw (e, f) others
 
--- what would be found goes
+-- what would be found is removed
 pub find-gone : {X : Type 0} (p q : X → Bool) (xs : List X) → AllByRecursion (λ x. p x ≡ true → q x ≡ false) xs → find p (filter q xs) ≡ None
 find-gone p q [] all = refl
 find-gone p q (x ∷ xs) all = by (find-gone p q xs all.1) (q x) refl (p x) refl

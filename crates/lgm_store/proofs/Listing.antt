@@ -1,4 +1,4 @@
--- Lists of channels' ids, kept for each point.
+-- The lists of channel ids of each point.
 use Rattle.std.proofs.Common.{◌≡◌, ℕ, Bool, true, false, cond, ◌||◌, List, [], ◌∷◌, Some, None, unwrap_or, refl, sym, ap, ◌∙◌, arith}
 use Rattle.std.specs.Prelude.{if◌then◌else◌}
 use Rattle.std.specs.List.{list_any}
@@ -13,11 +13,11 @@ use Rattle.std.proofs.lemmas.Bool.Decides.{nat_tests}
 use Rattle.lgm_wire.specs.declared.point.Point.{Point}
 use Rattle.lgm_store.specs.Rows.{is_point}
 use Rattle.lgm_store.proofs.Points.{same_point, is_point-self}
-use Rattle.lgm_store.specs.inner.Ends.{with_id, without_id, entry_of, list_at, kept, IsSame, Sets, Lists, Lacks, changed}
+use Rattle.lgm_store.specs.inner.ChannelsByNode.{with_id, without_id, entry_of, list_at, kept, IsSame, Sets, Lists, Lacks, changed}
 
--- ---- keys that are put in and taken out
+-- ---- inserting and removing keys
 
--- a key that wasn't there goes again
+-- removing a key that was inserted
 pub remove_key-insert : {K : Type 0} (cmp : K → K → Ordering) (k : K) → is_at (cmp k) k ≡ true → (ks : List K) → list_any (is_at (cmp k)) ks ≡ false
     → remove_key (is_at (cmp k)) (insert_key cmp ks k) ≡ ks
 remove_key-insert {K} cmp k own [] lacks = rw own refl
@@ -39,7 +39,7 @@ is_at-id id = grind (arith, nat_tests)
 pub without-with : (ids : List ℕ) (id : ℕ) → list_any (is_at (nat_cmp id)) ids ≡ false → without_id (with_id ids id) id ≡ ids
 without-with ids id lacks = remove_key-insert nat_cmp id (is_at-id id) ids lacks
 
--- a list with an id more is kept
+-- a list with one more id has an entry
 pub kept-with : (ids : List ℕ) (id : ℕ) → kept (with_id ids id) ≡ Some (with_id ids id)
 kept-with [] id = refl
 kept-with (x ∷ xs) id = by (nat_cmp id x)
@@ -52,12 +52,12 @@ kept-with (x ∷ xs) id = by (nat_cmp id x)
 
 -- ---- lists at points
 
--- a kept list, read
+-- reading an entry as a list
 pub unwrap_or-kept : (ids : List ℕ) → unwrap_or (kept ids) [] ≡ ids
 unwrap_or-kept [] = refl
 unwrap_or-kept (id ∷ ids) = refl
 
--- the list that an index has for a point
+-- the list of a point in an index
 pub list_at-lists : (entries : List (Point × List ℕ)) (ids : Point → List ℕ) (p : Point) → Lists entries ids → list_at entries p ≡ ids p
 list_at-lists entries ids p lists = rw (lists p) (unwrap_or-kept (ids p))
 
@@ -102,7 +102,7 @@ Lists-change change old mid new first second ids apart sets sets' lists =
     at_other q is true first_is = rw (is, first_is) refl
     at_other q is false first_is = rw (is, first_is) refl
 
--- an id that a list lacked comes in at a point, and goes again
+-- inserting an id that a list lacked, and removing it again
 pub Lists-undo : (id : ℕ) (old mid mid' new : List (Point × List ℕ)) (p : Point) (ids : Point → List ℕ)
     → Sets old mid p (with_id (list_at old p) id) → IsSame mid mid'
     → Sets mid' new p (without_id (list_at mid' p) id) → Lacks ids id → Lists old ids → Lists new ids
@@ -117,7 +117,7 @@ Lists-undo id old mid mid' new p ids sets same sets' lacks lists q = by (is_poin
         sets' q ∙ rw is (ap kept back ∙ ap (λ (x : Point). kept (ids x)) (same_point p q is))
     by false is = sets' q ∙ rw is (same q ∙ sets q ∙ rw is (lists q))
 
--- ---- what calls of a map of lists tell
+-- ---- the index after each call
 
 -- a point that isn't there has no list
 pub Sets-none : (id : ℕ) (old : List (Point × List ℕ)) (p : Point) → entry_of old p ≡ None → Sets old old p (without_id (list_at old p) id)
@@ -127,12 +127,12 @@ Sets-none id old p none q = by (is_point p q) refl
     by true is = rw (is, none) (ap (entry_of old) (sym (same_point p q is)) ∙ none)
     by false is = rw is refl
 
--- a list that isn't empty, put at a point
+-- storing a list that isn't empty at a point
 pub Sets-put : (old inside new : List (Point × List ℕ)) (p : Point) (list other : List ℕ) → inside ≡ old → list ≡ other → kept list ≡ Some list
     → ((q : Point) → entry_of new q ≡ cond (is_point p q) (Some list) (entry_of inside q)) → Sets old new p other
 Sets-put old inside new p list other view_is is there puts q = rw (← is, there, ← view_is) (puts q)
 
--- a point taken out, whose list was empty
+-- removing a point whose list is empty
 pub Sets-out : (old inside mid new : List (Point × List ℕ)) (p : Point) (list other : List ℕ) → inside ≡ old → other ≡ []
     → ((q : Point) → entry_of mid q ≡ cond (is_point p q) (Some list) (entry_of inside q))
     → ((q : Point) → entry_of new q ≡ cond (is_point p q) None (entry_of mid q)) → Sets old new p other
@@ -142,7 +142,7 @@ Sets-out old inside mid new p list other view_is none written out q = by (is_poi
     by true is = out q ∙ rw (is, none) refl
     by false is = out q ∙ rw (is, written q, is) (ap (λ es. entry_of es q) view_is)
 
--- a list that is put where it was
+-- replacing a list by itself
 pub IsSame-put : (old inside new : List (Point × List ℕ)) (p : Point) (list : List ℕ) → inside ≡ old → Some list ≡ entry_of inside p
     → ((q : Point) → entry_of new q ≡ cond (is_point p q) (Some list) (entry_of inside q)) → IsSame old new
 IsSame-put old inside new p list view_is was puts q = by (is_point p q) refl

@@ -1,4 +1,4 @@
--- The three lists of rows, as ordered maps keep them.
+-- The three lists of rows, as ordered maps store them.
 use Rattle.std.proofs.Common.{◌≡◌, ℕ, Bool, true, false, not, ◌&&◌, eqb, List, refl, ap, ◌∙◌, arith}
 use Rattle.std.specs.Bool.{beq}
 use Rattle.std.specs.Cmp.{IsTotalOrder, bool_cmp_total}

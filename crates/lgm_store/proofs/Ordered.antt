@@ -1,4 +1,4 @@
--- Ordered maps and the rows that they hold: looking a row up, and putting one in its place.
+-- Ordered maps and their rows: looking a row up, and inserting one.
 use Rattle.std.proofs.Common.{◌≡◌, Bool, true, false, not, cond, List, [], ◌∷◌, refl, sym, ap, ◌∙◌}
 use Rattle.std.specs.List.{AllByRecursion, filter, find}
 use Rattle.std.specs.Map.{lookup, remove_entry, keys_of, values_of}
@@ -40,7 +40,7 @@ module _ {K R : Type 0} (cmp : K → K → Ordering) (key : R → K) where
         greater = rw (here, others.greater) refl;
       }
 
-  -- a row is put where an ordered map keeps it
+  -- a row is inserted where an ordered map stores it
   pub values-insert : IsTotalOrder cmp → (row : R) (entries : List (K × R)) → IsKeyed key entries
       → IsStrictlySortedBy cmp (keys_of entries)
       → values_of (insert_entry cmp entries (key row) row) ≡ put by_key (values_of entries) row
@@ -71,7 +71,7 @@ module _ {K R : Type 0} (cmp : K → K → Ordering) (key : R → K) where
           let t = turned Greater is in
           rw (t, others) refl
 
-  -- the map is keyed still
+  -- the map is still keyed
   pub IsKeyed-insert : (row : R) (entries : List (K × R)) → ((a b : K) → cmp a b ≡ Equal → a ≡ b)
       → IsKeyed key entries → IsKeyed key (insert_entry cmp entries (key row) row)
   IsKeyed-insert row [] same keyed = (refl, tt)
@@ -84,7 +84,7 @@ module _ {K R : Type 0} (cmp : K → K → Ordering) (key : R → K) where
       by others Equal is = (sym (same (key row) e.0 is), keyed.1)
       by others Greater is = (keyed.0, others)
 
-  -- rows above a key all stay where it is taken out
+  -- rows above a key all stay if it is removed
   stay : (k : K) (entries : List (K × R)) → IsKeyed key entries → AllByRecursion (λ other. cmp k other ≡ Less) (keys_of entries)
       → filter (λ row. not (is_eq (cmp k (key row)))) (values_of entries) ≡ values_of entries
   stay k [] keyed above = refl
@@ -92,7 +92,7 @@ module _ {K R : Type 0} (cmp : K → K → Ordering) (key : R → K) where
       let here : cmp k (key e.1) ≡ Less = ap (cmp k) (sym keyed.0) ∙ above.0 in
       rw (here, stay k es keyed.1 above.1) refl
 
-  -- a key is taken out: its row goes
+  -- removing a key removes its row
   pub values-remove : IsTotalOrder cmp → (k : K) (entries : List (K × R)) → IsKeyed key entries → IsStrictlySortedBy cmp (keys_of entries)
       → values_of (remove_entry (is_at (cmp k)) entries) ≡ filter (λ row. not (is_eq (cmp k (key row)))) (values_of entries)
   unfolding IsStrictlySortedBy
@@ -115,7 +115,7 @@ module _ {K R : Type 0} (cmp : K → K → Ordering) (key : R → K) where
       by others Equal is = rw (is, here Equal is, stay k es keyed.1 (above is es sorted.0)) refl
       by others Greater is = rw (is, here Greater is, others) refl
 
-  -- the map is keyed still
+  -- the map is still keyed
   pub IsKeyed-remove : (test : K → Bool) (entries : List (K × R)) → IsKeyed key entries → IsKeyed key (remove_entry test entries)
   IsKeyed-remove test [] keyed = tt
   IsKeyed-remove test (e ∷ es) keyed = by (IsKeyed-remove test es keyed.1) (test e.0)

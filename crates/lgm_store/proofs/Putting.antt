@@ -1,4 +1,4 @@
--- An update that is put, in the maps that keep rows.
+-- Replacing an update in the maps that store rows.
 use Rattle.std.proofs.Common.{◌≡◌, ℕ, false, List, Option, Some, None, refl, ap, ◌∙◌}
 use Rattle.std.specs.Prelude.{is_some}
 use Rattle.std.specs.Option.{option_map}
@@ -11,69 +11,69 @@ use Rattle.lgm_gossip.specs.Message.{Wire}
 use Rattle.lgm_gossip.specs.declared.message.Message.TheVariants as wired
 use Rattle.lgm_check.specs.declared.row.UpdateRow.{UpdateRow}
 use Rattle.lgm_check.specs.declared.row.NodeRow.{NodeRow}
-use Rattle.lgm_store.specs.declared.held.Held.{Held}
-use Rattle.lgm_store.specs.inner.HeldEntries.{with_update_in, channel_entries, update_entries}
-use Rattle.lgm_store.specs.inner.Slots.{with_update_for, with_update_at}
+use Rattle.lgm_store.specs.declared.channel_info.ChannelInfo.{ChannelInfo}
+use Rattle.lgm_store.specs.inner.ChannelEntries.{with_update_in, channel_entries, update_entries}
+use Rattle.lgm_store.specs.inner.ChannelTable.{with_update_for, with_update_at}
 use Rattle.lgm_store.specs.Rows.{Rows, put, by_direction, channel_of, is_second}
 use Rattle.lgm_store.specs.History.{with_update}
 use Rattle.lgm_store.specs.inner.Sound.{IsKept}
 use Rattle.lgm_store.proofs.Lists.{values-update}
-use Rattle.lgm_store.proofs.Holding.{ascend-held, channel-with, set-channels, set-updates}
-use Rattle.lgm_store.proofs.HeldRows.{channel_at}
+use Rattle.lgm_store.proofs.Holding.{ascend-stored, channel-with, set-channels, set-updates}
+use Rattle.lgm_store.proofs.ChannelWithUpdates.{channel_at}
 use Rattle.lgm_store.proofs.Soundness.{IsSound-put}
 use Rattle.lgm_store.proofs.Changes.{with_update-new, with_update-none}
 use Rattle.lgm_store.proofs.Kept.{rows_of}
 use Rattle.lgm_store.proofs.Spelling.{AllSpelled-update}
 
-module _ (held : List (ℕ × Held)) (nodes : List (Point × NodeRow)) (ends : List (Point × List ℕ)) (banned : List Point) (row : UpdateRow)
-    (kept : IsKept (channel_entries held) (update_entries held) nodes ends banned) where
+module _ (stored : List (ℕ × ChannelInfo)) (nodes : List (Point × NodeRow)) (ends : List (Point × List ℕ)) (banned : List Point) (row : UpdateRow)
+    (kept : IsKept (channel_entries stored) (update_entries stored) nodes ends banned) where
   abbrev id : ℕ
   id = row.message.short_channel_id
 
-  abbrev written : Held → List (ℕ × Held)
-  written old = set_value (is_at (nat_cmp id)) held (with_update_in (is_second row) old row)
+  abbrev written : ChannelInfo → List (ℕ × ChannelInfo)
+  written old = set_value (is_at (nat_cmp id)) stored (with_update_in (is_second row) old row)
 
-  same_channels : (old : Held) → lookup (is_at (nat_cmp id)) held ≡ Some old → channel_entries (written old) ≡ channel_entries held
+  same_channels : (old : ChannelInfo) → lookup (is_at (nat_cmp id)) stored ≡ Some old → channel_entries (written old) ≡ channel_entries stored
   same_channels old found =
-      set-channels (is_at (nat_cmp id)) held old (with_update_in (is_second row) old row) found
+      set-channels (is_at (nat_cmp id)) stored old (with_update_in (is_second row) old row) found
       (channel-with (is_second row) old row)
 
   -- the updates with it in its place
-  put_in : (old : Held) → lookup (is_at (nat_cmp id)) held ≡ Some old
-      → values_of (update_entries (written old)) ≡ put by_direction (values_of (update_entries held)) row
+  put_in : (old : ChannelInfo) → lookup (is_at (nat_cmp id)) stored ≡ Some old
+      → values_of (update_entries (written old)) ≡ put by_direction (values_of (update_entries stored)) row
   put_in old found =
-      values-update (update_entries held) (update_entries (written old)) (id, is_second row) row refl
-      (set-updates id (is_second row) row held old (ascend-held held kept.rows.channels_ascend) found)
+      values-update (update_entries stored) (update_entries (written old)) (id, is_second row) row refl
+      (set-updates id (is_second row) row stored old (ascend-stored stored kept.rows.channels_ascend) found)
       kept.rows.updates_keyed kept.rows.updates_ascend
 
-  pub put-kept : Wire (wired.ChannelUpdate row.message) row.raw → IsKept (channel_entries (with_update_at held row)) (update_entries (with_update_at held row)) nodes ends banned
-  put-kept own = by (lookup (is_at (nat_cmp id)) held) refl
+  pub put-kept : Wire (wired.ChannelUpdate row.message) row.raw → IsKept (channel_entries (with_update_at stored row)) (update_entries (with_update_at stored row)) nodes ends banned
+  put-kept own = by (lookup (is_at (nat_cmp id)) stored) refl
     where
-      by : (o : Option Held) → lookup (is_at (nat_cmp id)) held ≡ o → IsKept (channel_entries
-          (with_update_for o held row)) (update_entries (with_update_for o held row)) nodes ends banned
+      by : (o : Option ChannelInfo) → lookup (is_at (nat_cmp id)) stored ≡ o → IsKept (channel_entries
+          (with_update_for o stored row)) (update_entries (with_update_for o stored row)) nodes ends banned
       by None found = kept
       by (Some old) found =
           let same = same_channels old found in
-          let ascend : IsStrictlySortedBy nat_cmp (keys_of (written old)) = ascend-held (written old) (rw same kept.rows.channels_ascend) in
+          let ascend : IsStrictlySortedBy nat_cmp (keys_of (written old)) = ascend-stored (written old) (rw same kept.rows.channels_ascend) in
           record {
             rows =
-                IsSound-put held (written old) nodes ends id (is_second row) row old refl found refl
-                (ascend-held held kept.rows.channels_ascend) ascend kept.rows;
+                IsSound-put stored (written old) nodes ends id (is_second row) row old refl found refl
+                (ascend-stored stored kept.rows.channels_ascend) ascend kept.rows;
             spelled =
-                AllSpelled-update (values_of (channel_entries held)) (values_of (channel_entries (written old)))
-                (values_of (update_entries held)) (values_of (update_entries (written old))) (values_of nodes) row own
+                AllSpelled-update (values_of (channel_entries stored)) (values_of (channel_entries (written old)))
+                (values_of (update_entries stored)) (values_of (update_entries (written old))) (values_of nodes) row own
                 (put_in old found) (ap values_of same) kept.spelled;
             banned_ascend = kept.banned_ascend;
             allowed = rw same kept.allowed;
           }
 
-  pub put-rows : (rows : Rows) → rows_of held nodes banned ≡ rows → rows_of (with_update_at held row) nodes banned ≡ with_update rows row
-  put-rows rows view_is = by (lookup (is_at (nat_cmp id)) held) refl
+  pub put-rows : (rows : Rows) → rows_of stored nodes banned ≡ rows → rows_of (with_update_at stored row) nodes banned ≡ with_update rows row
+  put-rows rows view_is = by (lookup (is_at (nat_cmp id)) stored) refl
     where
-      channel_is : channel_of rows.channels id ≡ option_map (λ h. h.channel) (lookup (is_at (nat_cmp id)) held)
-      channel_is = channel_at held rows.channels id kept.rows.channels_keyed (ap (λ rs. rs.channels) view_is)
+      channel_is : channel_of rows.channels id ≡ option_map (λ h. h.channel) (lookup (is_at (nat_cmp id)) stored)
+      channel_is = channel_at stored rows.channels id kept.rows.channels_keyed (ap (λ rs. rs.channels) view_is)
 
-      by : (o : Option Held) → lookup (is_at (nat_cmp id)) held ≡ o → rows_of (with_update_for o held row) nodes banned ≡ with_update rows row
+      by : (o : Option ChannelInfo) → lookup (is_at (nat_cmp id)) stored ≡ o → rows_of (with_update_for o stored row) nodes banned ≡ with_update rows row
       by None found =
           let none : is_some (channel_of rows.channels id) ≡ false =
           ap is_some channel_is ∙ ap (λ o. is_some (option_map (λ h. h.channel) o)) found in

@@ -1,4 +1,4 @@
--- Rows go on being spelled by their bytes.
+-- The bytes of rows still encode them after each operation.
 use Rattle.std.proofs.Common.{◌≡◌, Bool, List}
 use Rattle.std.specs.List.{filter}
 use Rattle.lgm_gossip.specs.Message.{Wire}
@@ -37,7 +37,7 @@ AllSpelled-node channels updates nodes new row own is old = rw is (record {
   nodes = All-put _ by_node nodes row own old.nodes;
 })
 
--- and so do those that are left
+-- and so do the remaining ones
 pub AllSpelled-left : (channels channels' : List ChannelRow) (updates updates' : List UpdateRow) (nodes nodes' : List NodeRow)
     → (p : ChannelRow → Bool) (q : UpdateRow → Bool) (r : NodeRow → Bool)
     → channels' ≡ filter p channels → updates' ≡ filter q updates → nodes' ≡ filter r nodes

@@ -17,61 +17,61 @@ use Rattle.lgm_store.specs.declared.op.Op.TheVariants as ops
 use Rattle.lgm_store.specs.Rows.{Rows, is_point, is_second, channel_of, update_of}
 use Rattle.lgm_store.specs.Rows.{node_of, ends_channel, is_banned, ends_banned}
 
--- two rows are between the same nodes
+-- two rows have the same nodes
 abbrev pub have_same_nodes : ChannelRow → ChannelRow → Bool
 have_same_nodes a b =
     is_point a.message.node_id_1 b.message.node_id_1 && is_point a.message.node_id_2 b.message.node_id_2
 
--- the nodes of two channels
+-- the ban of the nodes of two announcements
 abbrev pub ban_of : ChannelRow → ChannelRow → BanRow
-ban_of held row = record {
-  held1 = held.message.node_id_1;
-  held2 = held.message.node_id_2;
+ban_of stored row = record {
+  held1 = stored.message.node_id_1;
+  held2 = stored.message.node_id_2;
   new1 = row.message.node_id_1;
   new2 = row.message.node_id_2;
 }
 
--- an announcement of a channel that has no banned node, beside the held row of its id: it adds a channel if there is
--- none, is known if that is between the same nodes, and bans the nodes of both if not
+-- a channel announcement without a banned node, given the stored row of its id: it adds the channel if there is none,
+-- is known if the nodes are the same, and else bans the nodes of both
 abbrev pub announced : Option ChannelRow → ChannelRow → Result Op Refusal
 announced None row = Ok (ops.Channel row)
-announced (Some held) row =
-    if have_same_nodes held row then Err refusals.Known else Ok (ops.Ban (ban_of held row))
+announced (Some stored) row =
+    if have_same_nodes stored row then Err refusals.Known else Ok (ops.Ban (ban_of stored row))
 
--- an announcement of a channel, beside the banned points and the held row of its id
+-- a channel announcement, given the banned points and the stored row of its id
 abbrev pub channel_admission : List Point → Option ChannelRow → ChannelRow → Result Op Refusal
-channel_admission banned held row = do
+channel_admission banned stored row = do
   allowed ← require (not (ends_banned banned row)) refusals.Banned
-  announced held row
+  announced stored row
 
--- the node that an update is by
+-- the node that has to sign an update
 abbrev pub node_by : ChannelRow → UpdateRow → Point
 node_by channel row = if is_second row then channel.message.node_id_2 else channel.message.node_id_1
 
--- an update is newer than the held one
+-- an update is newer than the stored one
 abbrev pub update_is_newer : Option UpdateRow → UpdateRow → Bool
 update_is_newer None row = true
-update_is_newer (Some held) row = nat_lt held.message.timestamp row.message.timestamp
+update_is_newer (Some stored) row = nat_lt stored.message.timestamp row.message.timestamp
 
--- an update, beside the held rows of its channel and of its direction
+-- an update, given the stored rows of its channel and of its direction
 abbrev pub update_admission : Option ChannelRow → Option UpdateRow → UpdateRow → Point → Result Op Refusal
-update_admission None held row signer = Err refusals.UnknownChannel
-update_admission (Some channel) held row signer = do
+update_admission None stored row signer = Err refusals.UnknownChannel
+update_admission (Some channel) stored row signer = do
   signed ← require (is_point signer (node_by channel row)) refusals.Signature
-  newer ← require (update_is_newer held row) refusals.NotNewer
+  newer ← require (update_is_newer stored row) refusals.NotNewer
   Ok (ops.Update row)
 
--- a node's announcement is newer than the held one
+-- a node announcement is newer than the stored one
 abbrev pub node_is_newer : Option NodeRow → NodeRow → Bool
 node_is_newer None row = true
-node_is_newer (Some held) row = nat_lt held.message.timestamp row.message.timestamp
+node_is_newer (Some stored) row = nat_lt stored.message.timestamp row.message.timestamp
 
--- a node's announcement, beside whether the node is banned, whether a channel ends at it, and its held row
+-- a node announcement, given whether the node is banned, whether it has a channel, and its stored row
 abbrev pub node_admission : Bool → Bool → Option NodeRow → NodeRow → Result Op Refusal
-node_admission banned ends held row = do
+node_admission banned ends stored row = do
   allowed ← require (not banned) refusals.Banned
   known ← require ends refusals.UnknownNode
-  newer ← require (node_is_newer held row) refusals.NotNewer
+  newer ← require (node_is_newer stored row) refusals.NotNewer
   Ok (ops.Node row)
 
 -- the operation of an admitted message
@@ -85,12 +85,12 @@ admitted rows (messages.Node row) =
     node_admission (is_banned rows.banned row.message.node_id)
     (ends_channel rows.channels row.message.node_id) (node_of rows.nodes row.message.node_id) row
 
--- the operation of an admitted close: that of a channel that is held
+-- the operation of an admitted close: its channel is there
 abbrev pub admitted_close : Rows → ℕ → Result Op Refusal
 admitted_close rows id =
     require (is_some (channel_of rows.channels id)) refusals.UnknownChannel >>= λ _. Ok (ops.Close id)
 
--- what a call answers that is to give an operation: that, or want of memory; a refusal is always given
+-- what a call may return: the operation or out of memory if it is admitted; else the refusal, always
 abbrev pub Offers : Result Op Refusal → Result Op Refusal → Type 0
 Offers answer (Ok op) = (answer ≡ Ok op) ⊎ (answer ≡ Err refusals.NoMemory)
 Offers answer (Err refusal) = answer ≡ Err refusal

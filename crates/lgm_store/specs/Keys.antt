@@ -26,6 +26,6 @@ direction_cmp a b = ordering_then (nat_cmp a.0 b.0) (bool_cmp a.1 b.1)
 abbrev pub point_cmp : Point → Point → Ordering
 point_cmp a b = by_point a b
 
--- each row stands under its key
+-- each row is stored under its key
 abbrev pub IsKeyed : {K R : Type 0} → (R → K) → List (K × R) → Type 0
 IsKeyed key entries = AllByRecursion (λ entry. entry.0 ≡ key entry.1) entries

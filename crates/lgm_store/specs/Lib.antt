@@ -3,8 +3,8 @@ pub mod Keys
 pub mod Admission
 pub mod History
 pub mod Reading
-pub mod HeldRows
-pub mod Held
+pub mod ChannelWithUpdates
+pub mod ChannelInfo
 pub mod Laws
 pub mod Spelled
 pub mod inner

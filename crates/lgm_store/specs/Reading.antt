@@ -1,4 +1,4 @@
--- What a map's readers give of its rows, which ascend.
+-- What reading a map returns of its rows, which ascend by key.
 use Rattle.std.specs.Prelude.{ℕ, Bool, ◌/◌, ◌^◌, ◌&&◌, true, nat_le, nat_lt}
 use Rattle.std.specs.Prelude.{List, Option, Some, None, filter, find, map}
 use Rattle.std.specs.Cmp.Lexicographic.{slice_cmp}
@@ -18,7 +18,7 @@ abbrev pub next_node_of : List NodeRow → Option Point → Option NodeRow
 next_node_of rows None = find (λ row. true) rows
 next_node_of rows (Some node) = find (λ row. is_lt (slice_cmp nat_cmp node.0 row.message.node_id.0)) rows
 
--- the ids of the channels that end at the node; one whose two ends are the node stands once
+-- the ids of the node's channels; a channel both of whose nodes it is occurs once
 abbrev pub ids_at : List ChannelRow → Point → List ℕ
 ids_at rows node = map (λ row. row.message.short_channel_id) (filter (ends_at node) rows)
 

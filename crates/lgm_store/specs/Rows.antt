@@ -1,4 +1,4 @@
--- The rows of a map: four lists that ascend, with no key twice.
+-- The rows of a map: four ascending lists without duplicate keys.
 use Rattle.std.specs.Prelude.{ℕ, ◌%◌, Bool, ◌||◌, List, [], ◌∷◌, ◌++◌, Option}
 use Rattle.std.specs.Prelude.{◌==◌, ◌&&◌, nat_eq, filter, find}
 use Rattle.std.specs.Bool.{beq}
@@ -15,7 +15,7 @@ use Rattle.lgm_check.specs.declared.row.NodeRow.{NodeRow}
 pub record Rows : Type 0 where
   -- by id
   pub channels : List ChannelRow
-  -- by id, and then by direction: that from node 1 comes first
+  -- by id, and then by direction, that from node 1 first
   pub updates : List UpdateRow
   -- by node, byte by byte
   pub nodes : List NodeRow
@@ -50,37 +50,37 @@ by_node a b = slice_cmp nat_cmp a.message.node_id.0 b.message.node_id.0
 abbrev pub by_point : Point → Point → Ordering
 by_point a b = slice_cmp nat_cmp a.0 b.0
 
--- the lists ascend, with no key twice
+-- the lists ascend without duplicate keys
 pub record IsAscending (rows : Rows) : Type 0 where
   pub channels : IsStrictlySortedBy by_id rows.channels
   pub updates : IsStrictlySortedBy by_direction rows.updates
   pub nodes : IsStrictlySortedBy by_node rows.nodes
   pub banned : IsStrictlySortedBy by_point rows.banned
 
--- a row in its place: behind the rows of lesser keys, before those of greater ones, and instead of that of its own
+-- with a row in its place: after those with lesser keys, before those with greater ones, instead of one with its key
 abbrev pub put : {R : Type 0} → (R → R → Ordering) → List R → R → List R
 put order rows row =
     filter (λ other. is_lt (order other row)) rows ++ row ∷ filter (λ other. is_gt (order other row)) rows
 
--- ---- what is held
+-- ---- looking rows up
 
--- the row of an id
+-- the channel row with an id
 abbrev pub channel_of : List ChannelRow → ℕ → Option ChannelRow
 channel_of rows id = find (λ row. row.message.short_channel_id == id) rows
 
--- the row of an id and a direction
+-- the update row with an id and a direction
 abbrev pub update_of : List UpdateRow → ℕ → Bool → Option UpdateRow
 update_of rows id second = find (λ row. row.message.short_channel_id == id && beq (is_second row) second) rows
 
--- the row of a node
+-- the row of a node announcement
 abbrev pub node_of : List NodeRow → Point → Option NodeRow
 node_of rows node = find (λ row. is_point row.message.node_id node) rows
 
--- whether the channel ends at the node
+-- whether the node is one of the channel's
 abbrev pub ends_at : Point → ChannelRow → Bool
 ends_at node row = is_point row.message.node_id_1 node || is_point row.message.node_id_2 node
 
--- whether a channel ends at the node
+-- whether the node has a channel
 abbrev pub ends_channel : List ChannelRow → Point → Bool
 ends_channel rows node = list_any (ends_at node) rows
 
@@ -88,6 +88,6 @@ ends_channel rows node = list_any (ends_at node) rows
 abbrev pub is_banned : List Point → Point → Bool
 is_banned points node = list_any (is_point node) points
 
--- whether the channel ends at a banned node
+-- whether one of the channel's nodes is banned
 abbrev pub ends_banned : List Point → ChannelRow → Bool
 ends_banned points row = is_banned points row.message.node_id_1 || is_banned points row.message.node_id_2

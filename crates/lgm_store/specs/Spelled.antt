@@ -1,4 +1,4 @@
--- Rows whose bytes spell their messages.
+-- Rows whose bytes encode their messages.
 use Rattle.std.specs.Prelude.{List}
 use Rattle.std.specs.List.{AllByRecursion}
 use Rattle.lgm_gossip.specs.Message.{Wire}
@@ -10,7 +10,7 @@ use Rattle.lgm_check.specs.declared.row.Checked.{Checked}
 use Rattle.lgm_check.specs.declared.row.Checked.TheVariants as messages
 use Rattle.lgm_store.specs.Rows.{Rows}
 
--- the bytes of the message's row spell its fields
+-- the bytes of the row encode its message
 abbrev pub IsSpelled : Checked → Type 0
 IsSpelled (messages.Channel row) = Wire (wired.Announce row.message) row.raw
 IsSpelled (messages.Update row signer) = Wire (wired.ChannelUpdate row.message) row.raw

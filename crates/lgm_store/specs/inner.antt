@@ -1,10 +1,10 @@
 -- Definitions for contracts inside the crate.
 pub mod Decided
-pub mod Side
-pub mod Slots
-pub mod Ends
+pub mod Direction
+pub mod ChannelTable
+pub mod ChannelsByNode
 pub mod Sound
 pub mod Start
-pub mod Candidate
-pub mod HeldEntries
+pub mod CheckedMessage
+pub mod ChannelEntries
 pub mod ScidSet

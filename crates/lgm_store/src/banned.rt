@@ -12,7 +12,7 @@ use std::alloc::{AllocError, Global};
 use std::collections::BTreeSet;
 use std::marker::Model;
 
-/// The points of banned nodes, byte by byte.
+/// The points of banned nodes, in the order of their bytes.
 #[derive(Drop)]
 pub(crate) struct Banned {
     points: BTreeSet<Point>,
@@ -32,7 +32,7 @@ impl Model for Banned {
 }
 
 impl Banned {
-    /// No point. It takes no memory.
+    /// No banned nodes. Allocates nothing.
     pub(crate) fn new(alloc: Global) -> Banned
         ensures none { result ≡ [] }
         ensures ascend { IsStrictlySortedBy by_point result }
@@ -49,13 +49,13 @@ impl Banned {
     }
 
     /// Whether one of two nodes is banned.
-    pub(crate) fn ends(&self, first: &Point, second: &Point) -> bool
+    pub(crate) fn contains_either(&self, first: &Point, second: &Point) -> bool
         ensures { result ≡ (is_banned self.now first.now || is_banned self.now second.now) }
     {
         self.contains(first) || self.contains(second)
     }
 
-    /// Four points more. Want of memory leaves them as they were.
+    /// Adds the four points of a ban. Out of memory leaves the set unchanged.
     pub(crate) fn ban(&mut self, ban: &BanRow) -> Result<(), AllocError>
         ensures ok { OnOk result (self.new ≡ with_banned self.old ban.now) }
         ensures err { OnErr result (self.new ≡ self.old) }
@@ -78,7 +78,7 @@ impl Banned {
         inserted
     }
 
-    /// A copy. The only error is want of memory.
+    /// A copy. The only error is out of memory.
     pub(crate) fn copy(&self) -> Result<Banned, AllocError>
         ensures points { IfOk result (λ copy. copy ≡ self.now) }
         ensures ascend { IfOk result (λ copy. IsStrictlySortedBy by_point copy) }

@@ -3,38 +3,34 @@
 ghost use Rattle.std.specs.Prelude.{◌≡◌, IfOk};
 ghost use Rattle.lgm_store.specs.Rows.{empty};
 
-mod absorbing;
-mod admitting;
-mod banning;
-mod copying;
-mod offering;
-mod reading;
-mod replaying;
+mod absorb;
+mod admit;
+mod offer;
+mod read;
 
 use crate::banned::Banned;
-use crate::ends::Ends;
+use crate::channel_table::ChannelTable;
+use crate::channels_by_node::ChannelsByNode;
 use crate::seed::Seed;
 use crate::shared::Shared;
-use crate::slots::Slots;
-use lgm_check::KeptNode;
+use lgm_check::StoredNode;
 use lgm_gossip::Point;
 use std::alloc::{AllocError, Global};
 use std::collections::BTreeMap;
 use std::marker::Model;
 
-/// The public channels, directions and nodes, as far as they were announced, and the banned nodes. Contracts see its
-/// rows.
+/// The public channels, their updates and nodes, as announced, and the banned nodes. Contracts see the rows.
 ///
-/// Each call on one item costs a logarithm of the map, and a ban as much for each channel that ends at one of its four
-/// points.
+/// A call on one item takes time logarithmic in the size of the map; a ban takes that for each channel of its four
+/// nodes.
 #[derive(Drop)]
 pub struct Map {
     alloc: Global,
     /// Channels with their updates.
-    channels: Slots,
-    nodes: BTreeMap<Point, Shared<KeptNode>>,
-    /// The ids of the channels that end at each point.
-    ends: Ends,
+    channels: ChannelTable,
+    nodes: BTreeMap<Point, Shared<StoredNode>>,
+    /// The ids of the channels of each node.
+    ends: ChannelsByNode,
     banned: Banned,
 }
 
@@ -45,7 +41,7 @@ impl Model for Map {
 
     ghost use Rattle.std.specs.Map.{values_of};
     ghost use Rattle.std.specs.BTreeMap.{values};
-    ghost use Rattle.lgm_store.specs.inner.HeldEntries.{channel_entries, update_entries};
+    ghost use Rattle.lgm_store.specs.inner.ChannelEntries.{channel_entries, update_entries};
     ghost use Rattle.lgm_store.specs.inner.Sound.{IsKept};
 
     ghost view = { λ m. record {
@@ -60,29 +56,29 @@ impl Model for Map {
 }
 
 impl Map {
-    /// A map with no rows. It takes no memory yet.
+    /// An empty map. Allocates nothing yet.
     ///
-    /// Where points come from strangers, take [`Map::with_seed`].
+    /// If points come from strangers, use [`Map::with_seed`].
     pub fn new(alloc: Global) -> Result<Map, AllocError>
         ensures { IfOk result (λ map. map ≡ empty) }
     {
         Map::with_seed(alloc, Seed::new([0; 16]))
     }
 
-    /// A map with no rows, which finds points by hashes that begin with this seed. It takes no memory yet.
+    /// An empty map, which hashes points by this seed. Allocates nothing yet.
     pub fn with_seed(alloc: Global, seed: Seed) -> Result<Map, AllocError>
         ensures { IfOk result (λ map. map ≡ empty) }
     {
         Ok(Map {
             alloc,
-            channels: Slots::new(alloc),
+            channels: ChannelTable::new(alloc),
             nodes: BTreeMap::new(alloc),
-            ends: Ends::new(alloc, seed)?,
+            ends: ChannelsByNode::new(alloc, seed)?,
             banned: Banned::new(alloc),
         })
     }
 
-    /// The seed by which it hashes points.
+    /// The seed by which the map hashes points.
     pub fn seed(&self) -> Seed {
         self.ends.seed()
     }

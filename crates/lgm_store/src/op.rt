@@ -1,29 +1,29 @@
-//! What is done to a map.
+//! Operations on a map.
 
 ghost use Rattle.std.specs.Prelude.{◌≡◌, IfOk};
 
 use crate::shared::Shared;
-use lgm_check::{BanRow, KeptChannel, KeptNode, KeptUpdate};
+use lgm_check::{BanRow, StoredChannel, StoredNode, StoredUpdate};
 use lgm_gossip::Scid;
 use std::alloc::{AllocError, Global};
 
-/// What an accepted item does to a map. It shares its row with the maps that it is done to.
+/// What an accepted item does to a map. Its row is shared with the maps that it is applied to.
 #[derive(Debug, Drop)]
 pub enum Op {
-    /// A channel is added.
-    Channel(Shared<KeptChannel>),
-    /// A direction of a channel gets these terms.
-    Update(Shared<KeptUpdate>),
-    /// A node gets this announcement.
-    Node(Shared<KeptNode>),
-    /// A channel goes, with all that hangs on it.
+    /// Adds a channel.
+    Channel(Shared<StoredChannel>),
+    /// Sets the update of a direction of a channel.
+    Update(Shared<StoredUpdate>),
+    /// Sets the announcement of a node.
+    Node(Shared<StoredNode>),
+    /// Removes a channel, its updates, and node announcements left without a channel.
     Close(Scid),
-    /// The nodes of two announcements of one channel are banned, and their channels go.
+    /// Bans the nodes of two announcements of one channel, and removes all their channels as a close does.
     Ban(Shared<BanRow>),
 }
 
 impl Op {
-    /// A copy, which shares the row. It takes no memory; the only error is that the count of owners is full, at 2^63.
+    /// A copy, which shares the row. Allocates nothing; the only error is that the count of owners is full, at 2^63.
     pub fn copy(&self, _alloc: Global) -> Result<Op, AllocError>
         ensures { IfOk result (λ copy. copy ≡ self.now) }
     {

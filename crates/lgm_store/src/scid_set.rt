@@ -1,20 +1,20 @@
-//! The ids of some channels.
+//! Sets of channel ids.
 
 ghost use Rattle.std.specs.Prelude.{◌≡◌, ◌∷◌, ◌++◌, [], IfOk, OnOk, OnErr, length, ◌==◌};
-ghost use Rattle.lgm_store.specs.inner.Ends.{with_id, without_id};
+ghost use Rattle.lgm_store.specs.inner.ChannelsByNode.{with_id, without_id};
 
 use lgm_gossip::Scid;
 use std::alloc::{AllocError, Global};
 use std::collections::BTreeSet;
 use std::marker::Model;
 
-/// The ids of some channels, ascending. One alone, as most nodes have it, needs no allocation.
+/// A set of channel ids. Contracts see them ascending. A set of one, as for most nodes, needs no allocation.
 #[derive(Drop)]
 pub(crate) struct ScidSet {
     place: Place,
 }
 
-/// Where the ids are.
+/// Where the ids are stored.
 #[derive(Drop)]
 enum Place {
     /// A single id.
@@ -33,7 +33,7 @@ impl Model for ScidSet {
 }
 
 impl ScidSet {
-    /// One id. It allocates nothing.
+    /// A set of one id. Allocates nothing.
     pub(crate) fn of(scid: Scid) -> ScidSet
         ensures { result ≡ scid ∷ [] }
     {
@@ -51,7 +51,7 @@ impl ScidSet {
         }
     }
 
-    /// Out of memory leaves the ids as they were.
+    /// Adds an id. Out of memory leaves the set unchanged.
     pub(crate) fn insert(&mut self, alloc: Global, scid: Scid) -> Result<(), AllocError>
         ensures ok { OnOk result (self.new ≡ with_id self.old scid) }
         ensures err { OnErr result (self.new ≡ self.old) }
@@ -83,7 +83,7 @@ impl ScidSet {
         }
     }
 
-    /// Puts them behind others. The only error is out of memory.
+    /// Appends the ids to a vector. The only error is out of memory.
     pub(crate) fn gather(&self, scids: &mut Vec<Scid>) -> Result<(), AllocError>
         ensures { OnOk result (scids.new.items ≡ scids.old.items ++ self.now) }
     {
@@ -105,7 +105,7 @@ fn both(alloc: Global, first: Scid, second: Scid) -> Result<BTreeSet<Scid>, Allo
     Ok(set)
 }
 
-/// Puts the ids of a set behind others.
+/// Appends the ids of a set to a vector.
 fn gather(own: &BTreeSet<Scid>, scids: &mut Vec<Scid>) -> Result<(), AllocError>
     ensures { OnOk result (scids.new.items ≡ scids.old.items ++ own.now.keys) }
 {

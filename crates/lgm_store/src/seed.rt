@@ -3,13 +3,12 @@
 use std::hash::{BuildHasher, DefaultHasher, Hasher};
 use std::random::RandomSource;
 
-/// Sixteen bytes with which each point's hash begins. No answer depends on them.
+/// The seed of the hash of points: a hasher that has consumed sixteen bytes. No answer depends on it.
 ///
-/// Points come from strangers. Who knows the seed can make points whose hashes are alike, so that each search for one
-/// costs as many steps as there are of them; who doesn't, can't.
+/// Points come from strangers. Whoever knows the seed can craft colliding points and make lookups linear.
 #[derive(Clone, Copy)]
 pub struct Seed {
-    /// A hasher that has taken in the bytes.
+    /// A hasher that has consumed the bytes.
     seeded: DefaultHasher,
 }
 
@@ -21,7 +20,7 @@ impl Seed {
         Seed { seeded }
     }
 
-    /// A seed that nobody knows, of the system's random bytes. Where the system gives none, it is that of zeros.
+    /// A seed of the system's random bytes, which nobody knows; the seed of zeros if the system has none.
     pub fn random<R: RandomSource>(rt: &R) -> Seed {
         let mut bytes = [0; 16];
         match rt.fill_bytes(&mut bytes) {

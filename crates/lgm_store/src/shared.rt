@@ -1,4 +1,4 @@
-//! Values with several owners.
+//! Reference-counted values.
 
 ghost use Rattle.std.specs.Prelude.{◌≡◌, IfOk};
 ghost use Rattle.std.specs.Option.{option_copied};
@@ -7,9 +7,9 @@ use std::alloc::{AllocError, Global};
 use std::marker::Model;
 use std::sync::Arc;
 
-/// A value with several owners, none of which changes it. Contracts see the value.
+/// A reference-counted value, which never changes. Contracts see the value.
 ///
-/// The maps and histories that have a row share it, so that a further one costs no copy.
+/// Maps and histories with the same row share it, so no row is copied.
 #[derive(Debug, Drop)]
 pub struct Shared<T> {
     cell: Arc<T>,
@@ -24,7 +24,7 @@ impl<T> Model for Shared<T> {
 }
 
 impl<T: Drop> Shared<T> {
-    /// The value, with one owner so far. The only error is want of memory.
+    /// The value, with one owner so far. The only error is out of memory.
     pub fn new(alloc: Global, value: T) -> Result<Shared<T>, AllocError>
         ensures { IfOk result (λ shared. shared ≡ value) }
     {
@@ -60,7 +60,7 @@ impl<T: Drop> Clone for Shared<T> {
     }
 }
 
-/// The value that was found, if any was.
+/// The value of a shared one, if there is one.
 pub(crate) fn found<T>(shared: Option<&Shared<T>>) -> Option<&T>
     ensures { option_copied result ≡ option_copied shared.entry }
 {

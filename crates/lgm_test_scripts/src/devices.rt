@@ -44,7 +44,7 @@ impl Source for FailingSource<'_> {
     }
 }
 
-/// A sink that takes one byte at each write, but fails at its write of a number, from 1.
+/// A sink that accepts one byte at each write, but fails at its write of a number, from 1.
 #[derive(Drop)]
 pub struct FailingSink {
     pub taken: Vec<u8>,
@@ -54,7 +54,7 @@ pub struct FailingSink {
 }
 
 impl FailingSink {
-    /// A sink that adds what it takes to these bytes.
+    /// A sink that appends what it accepts to these bytes.
     pub fn new(taken: Vec<u8>, fails_at: usize) -> FailingSink {
         FailingSink {
             taken,

@@ -4,6 +4,7 @@
 //! |---|---|
 //! | `A`, `B`, `C` | nodes: the byte 02 and 32 bytes 0a, 0b or 0c |
 //! | `P0` to `P255` | nodes: 02, 31 zero bytes and the number |
+//! | `03:0b` | a node by its first byte and the one that follows it 32 times |
 //! | `K`, `U` | a bitcoin key; a point whose first byte is 04 |
 //! | `H`, `X`, `S` | the chain, another chain, and the secret of payments |
 //! | `ca(600000x1x0,A,B)` | a `channel_announcement` of a channel between two nodes |
@@ -11,47 +12,54 @@
 //! | `cu(600000x1x0,0,5)` | a `channel_update` with channel_flags and a timestamp |
 //! | `[0105 H 0009]` | the bytes of these words, one after the other |
 //!
-//! Behind its fields a message may have others by their names: `chain=X`, `features=01`, `cut=1` for the bytes that are
-//! missing at its end, and of an update `message_flags=03`, `delta=10`, `min=0`, `base=200`, `millionths=2000` and
-//! `max=1000`. Signatures are zeros, bitcoin keys are `K`, and terms are those of [`FREE`].
+//! After its fields a message may have others by their names: `chain=X`, `features=01`, `cut=1` for the bytes that are
+//! missing at its end, of a channel `key_2=U`, and of an update `message_flags=3`, `delta=10`, `min=0`, `base=200`,
+//! `millionths=2000` and `max=1000`. Signatures are zeros, bitcoin keys are `K`, and terms are those of [`FREE`].
 
-use crate::line::{FREE, SECRET, Terms, terms_of};
-use crate::messages::{
-    CHAIN, OTHER_CHAIN, announcement_with, node_announcement_with, point, update_with,
-};
+use crate::line::{CHAIN, OTHER_CHAIN, SECRET};
+use lgm_gossip::{Bytes, ChainHash, Point, Scid};
+use lgm_test_gossip::{Channel, FREE, Node, Terms, Update, point, repeated_point};
 use std::alloc::{AllocError, Global};
 
 /// Points by their first byte and the one that follows it 32 times.
-const POINTS: [(&str, &str, &str); 5] = [
-    ("A", "02", "0a"),
-    ("B", "02", "0b"),
-    ("C", "02", "0c"),
-    ("K", "02", "ee"),
-    ("U", "04", "0c"),
+const POINTS: [(&str, u8, u8); 5] = [
+    ("A", 2, 0x0a),
+    ("B", 2, 0x0b),
+    ("C", 2, 0x0c),
+    ("K", 2, 0xee),
+    ("U", 4, 0x0c),
 ];
 
 /// Other names, with their digits.
 const DIGITS: [(&str, &str); 3] = [("H", CHAIN), ("X", OTHER_CHAIN), ("S", SECRET)];
 
-/// The digits that a name stands for.
-fn named(alloc: Global, word: &str) -> Result<Option<String>, AllocError> {
+/// The point that a name stands for.
+fn point_of(word: &str) -> Option<Point> {
     for (name, first, byte) in POINTS {
         if word == name {
-            return Ok(Some(point(alloc, first, byte)?));
+            return Some(repeated_point(first, byte));
         }
+    }
+    if let Some(number) = word.strip_prefix("P") {
+        return Some(point(u16::from(number.parse::<u8>().ok()?)));
+    }
+    let (first, byte) = word.split_once(':')?;
+    let first = u8::from_str_radix(first, 16).ok()?;
+    let byte = u8::from_str_radix(byte, 16).ok()?;
+    Some(repeated_point(first, byte))
+}
+
+/// The digits that a name stands for.
+fn named(alloc: Global, word: &str) -> Result<Option<String>, AllocError> {
+    if let Some(point) = point_of(word) {
+        return Ok(Some(hex::encode(alloc, point.0)?));
     }
     for (name, digits) in DIGITS {
         if word == name {
             return Ok(Some(String::from_str(alloc, digits)?));
         }
     }
-    match word.strip_prefix("P") {
-        Some(number) => match number.parse::<u8>() {
-            Ok(number) => Ok(Some(format!(in alloc; "02{number:064x}")?)),
-            Err(_) => Ok(None),
-        },
-        None => Ok(None),
-    }
+    Ok(None)
 }
 
 /// The digits of a name, or the word itself.
@@ -75,13 +83,18 @@ fn short_number(text: Option<&str>) -> u32 {
     u32::try_from(number(text)).unwrap_or(0)
 }
 
-/// The digits of a channel's id.
-fn scid(alloc: Global, text: Option<&str>) -> Result<String, AllocError> {
+/// A number below 256, or 0 if it is none.
+fn byte(text: Option<&str>) -> u8 {
+    u8::try_from(number(text)).unwrap_or(0)
+}
+
+/// A channel's id.
+fn scid(text: Option<&str>) -> Scid {
     let mut numbers = text.unwrap_or("").split('x');
     let block = number(numbers.next());
     let index = number(numbers.next());
     let output = number(numbers.next());
-    format!(in alloc; "{block:06x}{index:06x}{output:04x}")
+    Scid::from_u64(block << 40 | index << 16 | output)
 }
 
 /// The value of a field that is given by its name.
@@ -96,40 +109,55 @@ fn given<'a>(inside: &'a str, name: &str) -> Option<&'a str> {
     None
 }
 
-/// Features behind their length.
-fn features(alloc: Global, inside: &str) -> Result<String, AllocError> {
-    let digits = given(inside, "features").unwrap_or("");
-    let length = digits.len() / 2;
-    format!(in alloc; "{length:04x}{digits}")
+/// The features of a message.
+fn features(alloc: Global, inside: &str) -> Result<Vec<u8>, AllocError> {
+    match hex::decode(alloc, given(inside, "features").unwrap_or("")) {
+        Ok(features) => Ok(features),
+        Err(_) => Err(AllocError),
+    }
 }
 
 /// The chain of a message.
-fn chain(alloc: Global, inside: &str) -> Result<String, AllocError> {
-    name_or(alloc, given(inside, "chain").unwrap_or("H"))
+fn chain(inside: &str) -> ChainHash {
+    if given(inside, "chain") == Some("X") {
+        lgm_test_gossip::OTHER_CHAIN
+    } else {
+        lgm_test_gossip::CHAIN
+    }
 }
 
-fn announced(alloc: Global, inside: &str) -> Result<String, AllocError> {
+fn announced(alloc: Global, inside: &str) -> Result<Option<Bytes>, AllocError> {
     let mut fields = inside.split(',');
-    let scid = scid(alloc, fields.next())?;
-    let first = name_or(alloc, fields.next().unwrap_or(""))?;
-    let second = name_or(alloc, fields.next().unwrap_or(""))?;
-    let key = name_or(alloc, "K")?;
-    let (features, chain) = (features(alloc, inside)?, chain(alloc, inside)?);
-    announcement_with(
-        alloc,
-        &features,
-        &chain,
-        &scid,
-        (&first, &second),
-        (&key, &key),
-    )
+    let scid = scid(fields.next());
+    let first = point_of(fields.next().unwrap_or(""));
+    let second = point_of(fields.next().unwrap_or(""));
+    let key_2 = point_of(given(inside, "key_2").unwrap_or("K"));
+    let (Some(first), Some(second), Some(key_2)) = (first, second, key_2) else {
+        return Ok(None);
+    };
+    let features = features(alloc, inside)?;
+    let usual = Channel::new(scid, (first, second));
+    let channel = Channel {
+        chain: chain(inside),
+        keys: (usual.keys.0, key_2),
+        features: features.as_slice(),
+        ..usual
+    };
+    Ok(Some(channel.bytes(alloc)?))
 }
 
-fn node_announced(alloc: Global, inside: &str) -> Result<String, AllocError> {
+fn node_announced(alloc: Global, inside: &str) -> Result<Option<Bytes>, AllocError> {
     let mut fields = inside.split(',');
-    let node = name_or(alloc, fields.next().unwrap_or(""))?;
+    let Some(node) = point_of(fields.next().unwrap_or("")) else {
+        return Ok(None);
+    };
     let timestamp = short_number(fields.next());
-    node_announcement_with(alloc, &features(alloc, inside)?, &node, timestamp)
+    let features = features(alloc, inside)?;
+    let announced = Node {
+        features: features.as_slice(),
+        ..Node::new(node, timestamp)
+    };
+    Ok(Some(announced.bytes(alloc)?))
 }
 
 /// Changes one of the terms, if the field is that.
@@ -160,31 +188,27 @@ fn terms(inside: &str) -> Terms {
     terms
 }
 
-fn updated(alloc: Global, inside: &str) -> Result<String, AllocError> {
+fn updated(alloc: Global, inside: &str) -> Result<Bytes, AllocError> {
     let mut fields = inside.split(',');
-    let scid = scid(alloc, fields.next())?;
-    let channel_flags = format!(in alloc; "{:02x}", number(fields.next()))?;
+    let scid = scid(fields.next());
+    let channel_flags = byte(fields.next());
     let timestamp = short_number(fields.next());
-    let message_flags = given(inside, "message_flags").unwrap_or("01");
-    let terms = terms_of(alloc, &terms(inside))?;
-    let chain = chain(alloc, inside)?;
-    update_with(
-        alloc,
-        &chain,
-        &scid,
-        (message_flags, &channel_flags),
-        timestamp,
-        &terms,
-    )
+    let update = Update {
+        chain: chain(inside),
+        message_flags: byte(Some(given(inside, "message_flags").unwrap_or("1"))),
+        terms: terms(inside),
+        ..Update::new(scid, channel_flags, timestamp)
+    };
+    update.bytes(alloc)
 }
 
-/// The digits of a whole message, if the word is one.
-fn whole_message(alloc: Global, kind: &str, inside: &str) -> Result<Option<String>, AllocError> {
+/// A whole message, if the word is one.
+fn whole_message(alloc: Global, kind: &str, inside: &str) -> Result<Option<Bytes>, AllocError> {
     if kind == "ca" {
-        return Ok(Some(announced(alloc, inside)?));
+        return announced(alloc, inside);
     }
     if kind == "na" {
-        return Ok(Some(node_announced(alloc, inside)?));
+        return node_announced(alloc, inside);
     }
     if kind == "cu" {
         return Ok(Some(updated(alloc, inside)?));
@@ -200,9 +224,10 @@ fn message(alloc: Global, word: &str) -> Result<Option<String>, AllocError> {
     let Some((inside, _)) = rest.split_once(')') else {
         return Ok(None);
     };
-    let Some(mut digits) = whole_message(alloc, kind, inside)? else {
+    let Some(bytes) = whole_message(alloc, kind, inside)? else {
         return Ok(None);
     };
+    let mut digits = hex::encode(alloc, bytes.as_slice())?;
     for _ in 0..number(given(inside, "cut")) {
         digits.pop();
         digits.pop();

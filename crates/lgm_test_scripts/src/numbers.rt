@@ -1,4 +1,4 @@
-//! Numbers made from a seed.
+//! Random numbers from a seed.
 
 ghost use Rattle.std.specs.Prelude.{◌<◌};
 

@@ -1,10 +1,10 @@
 //! Runs of scripts.
 
-use lgm_gossip::ChainHash;
 use lgm_graph::Known;
 use lgm_par::{Gate, MAX_WORKERS, Open};
 use lgm_script::{MemorySink, MemorySource, Sink, Source};
 use lgm_server::{Counts, RunFault, run};
+use lgm_test_gossip::CHAIN;
 use std::alloc::Global;
 use std::random::RandomSource;
 use std::test::Fail;
@@ -13,7 +13,7 @@ use std::thread::Threads;
 /// As many bytes at each read as are read ahead at most.
 const WHOLE: usize = 1_048_576;
 
-/// A run of a script that writes something else than another one, or than it should.
+/// A run of a script whose output differs from another one's, or from the expected one.
 #[derive(Debug, Drop)]
 pub struct Differing {
     /// How many bytes the source gives at each read.
@@ -37,14 +37,14 @@ pub fn run_by<Rt: Threads + Sync + RandomSource, G: Gate, R: Source, W: Sink>(
         alloc,
         reader,
         writer,
-        &ChainHash([0xc1; 32]),
+        &CHAIN,
         known,
         workers.clamp(1, MAX_WORKERS),
         gate,
     )
 }
 
-/// How the script ends, which is read in pieces of so many bytes, and the sink with what is written then.
+/// How the script ends, which is read in pieces of this many bytes, and the sink with what is written then.
 pub fn ended<Rt: Threads + Sync + RandomSource, G: Gate>(
     rt: &Rt,
     alloc: Global,
@@ -60,8 +60,8 @@ pub fn ended<Rt: Threads + Sync + RandomSource, G: Gate>(
     (ended, writer)
 }
 
-/// Runs the script, seven bytes and all bytes at a time, by 1, 3 and 64 workers, where these features of nodes are known.
-/// Gives the first run that writes something else than what is wanted.
+/// Runs the script, seven bytes and all bytes at a time, by 1, 3 and 64 workers, where these features of nodes are
+/// known. Returns the first run whose output isn't the expected one.
 pub fn find_differing<Rt: Threads + Sync + RandomSource>(
     rt: &Rt,
     alloc: Global,

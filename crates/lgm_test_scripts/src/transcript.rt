@@ -1,4 +1,4 @@
-//! The text that a script of lines gives.
+//! The text of a script of lines.
 
 use crate::line::{Line, SECRET};
 use std::alloc::{AllocError, Global};
@@ -42,7 +42,7 @@ impl Transcript {
     }
 }
 
-/// The text of some lines, where all items are accepted, and payments get these answers.
+/// The text of some lines, if all items are accepted, and payments get these answers.
 pub fn text_of(alloc: Global, lines: &[Line], answers: &[&str]) -> Result<String, AllocError> {
     let mut transcript = Transcript {
         alloc,

@@ -1,4 +1,4 @@
--- The clauses of read_bigsize, and the law that no spelling begins another, as facts about lists.
+-- The clauses of read_bigsize, and the law that no encoding is a prefix of another, as facts about lists.
 use Rattle.std.proofs.Common.{◌≡◌, ℕ, ◌+◌, ◌-◌, ◌<◌, ◌≤◌, ◌⊎◌, ◌↔◌, List, ◌++◌, length, take, drop}
 use Rattle.std.proofs.Common.{Result, Ok, Err, refl, sym, ap, subst, ◌∙◌, arith, inl, inr}
 use Rattle.std.specs.Prelude.{IfErr}
@@ -17,7 +17,7 @@ shorter bytes rest v fits e =
     let parts = (bigsize_spelled bytes v rest fits e).parts in
     omega (arith, ap length parts, length-append (bigsize_bytes v) rest)
 
--- a number and how many bytes it takes, exactly where so many bytes spell it
+-- a number and its length, if and only if that many bytes encode it
 bigsize_with_len-value : (bytes : List ℕ) → IsBytes bytes → (v n : ℕ)
     → (bigsize_with_len bytes ≡ Ok (v, n)) ↔ ((n ≤ length bytes) × IsBigSize v (take n bytes))
 bigsize_with_len-value bytes fits v n = (
@@ -47,7 +47,7 @@ bigsize_with_len-err bytes e h = rw h refl
 bigsize_with_len-ok : (bytes : List ℕ) (x : ℕ × List ℕ) → bigsize_at bytes ≡ Ok x → bigsize_with_len bytes ≡ Ok (x.0, length bytes - length x.1)
 bigsize_with_len-ok bytes x h = rw h refl
 
--- each fault exactly where it comes, and no other
+-- each fault exactly in its case, and no other
 bigsize_with_len-cut : (bytes : List ℕ) → IsBytes bytes → (bigsize_with_len bytes ≡ Err Cut) ↔ (length bytes < form_len bytes)
 bigsize_with_len-cut bytes fits =
     elim (outcome bytes fits) [
@@ -80,7 +80,7 @@ pub record Meets (bytes : List ℕ) (result : Result (ℕ × ℕ) WireFault) : T
   pub not_minimal : (result ≡ Err NotMinimal) ↔ ((form_len bytes ≤ length bytes) × (length (bigsize_bytes (form_value bytes)) < form_len bytes))
   pub faults : IfErr result (λ e. (e ≡ Cut) ⊎ (e ≡ NotMinimal))
 
--- what the reading function gives meets them all
+-- the result of the reading satisfies them all
 pub meets : (bytes : List ℕ) (result : Result (ℕ × ℕ) WireFault) → IsBytes bytes → result ≡ bigsize_with_len bytes → Meets bytes result
 meets bytes result fits exact =
     subst (λ (r : Result (ℕ × ℕ) WireFault). Meets bytes r) (sym exact) (record {
@@ -90,7 +90,7 @@ meets bytes result fits exact =
       faults = bigsize_with_len-faults bytes fits;
     })
 
--- no spelling begins another one
+-- no encoding is a prefix of another one
 pub same_front : (m n : ℕ) (a b x y : List ℕ) → IsBigSize m a → IsBigSize n b → a ++ x ≡ b ++ y → (m ≡ n) × (a ≡ b) × (x ≡ y)
 same_front m n a b x y p q e =
     let left = ap (λ (s : List ℕ). bigsize_at (s ++ x)) p.1 ∙ bigsize_at-bigsize_bytes m x p.0 in

@@ -1,4 +1,4 @@
--- BigSize: what is read is so spelled, what is so spelled is read, and which fault comes else.
+-- BigSize: bytes that are read encode the value, an encoding is read as its value, and which fault it is otherwise.
 use Rattle.std.proofs.Common.{◌≡◌, ℕ, suc, ◌^◌, ◌<◌, ◌≤◌, false, cond, ltb, List, [], ◌∷◌, ◌++◌}
 use Rattle.std.proofs.Common.{length, take, drop, Ok, Err, refl, sym, ap, ◌∙◌, arith, inl, inr}
 use Rattle.std.specs.Int.{Width, w16, w32, w64, byte_len, from_be_bytes, to_be_bytes}
@@ -10,16 +10,16 @@ use Rattle.lgm_wire.specs.BigSize.{bigsize_bytes, form_len, form_value}
 use Rattle.lgm_wire.specs.reading.BigSizeReading.{long_form_at, bigsize_at}
 use Rattle.lgm_wire.proofs.Bytes.{IsBytes, IsBytes-rest, IsBytes-take, IsBytes-drop, IsWide, wide16, wide32, wide64, front_is}
 
--- ---- behind the first byte of a long form
+-- ---- after the first byte of a long form
 
--- the bytes begin with a number of this width, of at least so much
+-- the bytes begin with a number of this width, of at least this value
 pub record LongFormSpelled (w : Width) (least limit : ℕ) (bytes : List ℕ) (v : ℕ) (rest : List ℕ) : Type 0 where
   pub parts : bytes ≡ to_be_bytes w v ++ rest
   pub least_is : least ≤ v
   pub limit_is : v < limit
   pub rest_fits : IsBytes rest
 
--- what is read is so spelled, and what is so spelled is read
+-- reading returns a value if and only if the bytes encode it
 pub long_form_spelled : (w : Width) (least limit : ℕ) (wide : IsWide w limit) (bytes : List ℕ) (v : ℕ)
     (rest : List ℕ) → IsBytes bytes → long_form_at w least bytes ≡ Ok (v, rest)
     → LongFormSpelled w least limit bytes v rest
@@ -71,7 +71,7 @@ pub long_form_at-ok : (w : Width) (least : ℕ) (bytes : List ℕ) → byte_len 
     → long_form_at w least bytes ≡ Ok (from_be_bytes w (take (byte_len w) bytes), drop (byte_len w) bytes)
 long_form_at-ok w least bytes le ge = rw (le-ltb (length bytes) (byte_len w) le, le-ltb _ least ge) refl
 
--- ---- the spelling, form by form
+-- ---- the encoding, form by form
 
 pub bigsize_bytes-one_byte : (v : ℕ) → v < 0xfd → bigsize_bytes v ≡ v ∷ []
 bigsize_bytes-one_byte v lt = rw (lt-ltb v 0xfd lt) refl
@@ -90,7 +90,7 @@ bigsize_bytes-nine_bytes v le =
     let b : 0x10000 ≤ v = omega arith in
     rw (le-ltb v 0xfd a, le-ltb v 0x10000 b, le-ltb v 0x100000000 le) refl
 
--- no spelling is empty
+-- no encoding is empty
 pub length-bigsize_bytes : (v : ℕ) → 0 < length (bigsize_bytes v)
 length-bigsize_bytes v =
     elim (cases_lt v 0xfd) [
@@ -104,7 +104,7 @@ length-bigsize_bytes v =
       ]
     ]
 
--- a form longer than one byte, behind its first byte
+-- a form longer than one byte, after its first byte
 pub record IsForm (first : ℕ) (w : Width) (least limit : ℕ) : Type 0 where
   pub wide : IsWide w limit
   pub at : (rest : List ℕ) → bigsize_at (first ∷ rest) ≡ long_form_at w least rest
@@ -178,9 +178,9 @@ form_of b lt =
       ]
     ]
 
--- ---- what is read is so spelled, and what is so spelled is read
+-- ---- reading returns a value if and only if the bytes encode it
 
--- the bytes begin with the spelling of a number
+-- the bytes begin with the encoding of a number
 pub record BigSizeSpelled (bytes : List ℕ) (v : ℕ) (rest : List ℕ) : Type 0 where
   pub parts : bytes ≡ bigsize_bytes v ++ rest
   pub fits : v < 2 ^ 64
@@ -195,7 +195,7 @@ bigsize_at-nil : bigsize_at [] ≡ Err Cut
 unfolding bigsize_at
 bigsize_at-nil = refl
 
--- what is read is so spelled
+-- bytes that are read encode the value
 pub bigsize_spelled : (bytes : List ℕ) (v : ℕ) (rest : List ℕ) → IsBytes bytes → bigsize_at bytes ≡ Ok (v, rest) → BigSizeSpelled bytes v rest
 bigsize_spelled [] v rest fits e = let bad = sym bigsize_at-nil ∙ e in absurd cc
 bigsize_spelled (b ∷ bs) v rest fits e =
@@ -218,7 +218,7 @@ bigsize_spelled (b ∷ bs) v rest fits e =
           }
     ]
 
--- what is so spelled is read
+-- an encoding is read as its value
 pub bigsize_at-bigsize_bytes : (v : ℕ) (rest : List ℕ) → v < 2 ^ 64 → bigsize_at (bigsize_bytes v ++ rest) ≡ Ok (v, rest)
 bigsize_at-bigsize_bytes v rest lt =
     elim (cases_lt v 0xfd) [
@@ -238,7 +238,7 @@ bigsize_at-bigsize_bytes v rest lt =
 
 -- ---- which fault it is
 
--- what reading gives, by the length of the form and the shortest spelling of its number
+-- the result of reading, by the length of the form and the shortest encoding of its number
 pub data Outcome : List ℕ → Type 0 where
   cut : {bytes : List ℕ} → length bytes < form_len bytes → bigsize_at bytes ≡ Err Cut → Outcome bytes
   small : {bytes : List ℕ} → form_len bytes ≤ length bytes → length (bigsize_bytes (form_value bytes))
@@ -246,7 +246,7 @@ pub data Outcome : List ℕ → Type 0 where
   found : {bytes : List ℕ} → form_len bytes ≤ length bytes → form_len bytes
       ≤ length (bigsize_bytes (form_value bytes)) → (x : ℕ × List ℕ) → bigsize_at bytes ≡ Ok x → Outcome bytes
 
--- and it gives one of the three
+-- and it is one of the three
 pub outcome : (bytes : List ℕ) → IsBytes bytes → Outcome bytes
 outcome [] fits = cut (omega arith) bigsize_at-nil
 outcome (b ∷ bs) fits =

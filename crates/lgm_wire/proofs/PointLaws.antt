@@ -7,7 +7,7 @@ use Rattle.std.specs.declared.cmp.Ordering.{Ordering}
 use Rattle.std.specs.declared.cmp.Ordering.TheVariants.{Less, Equal, Greater}
 use Rattle.std.specs.Ordering.{nat_cmp, ordering_then, MatchOrdering}
 
--- the number that the first k bytes spell behind n, the greatest first
+-- the number that the first k bytes encode after n, most significant first
 spelt : ℕ → ℕ → List ℕ → ℕ
 spelt zero n bytes = n
 spelt (suc k) n [] = n
@@ -16,7 +16,7 @@ spelt (suc k) n (b ∷ bytes) = spelt k (n * 256 + b) bytes
 abbrev pub AreBytes : List ℕ → Type 0
 AreBytes bytes = (i : ℕ) → get_or bytes i 0 < 256
 
--- what stands in front decides
+-- the bytes in front decide
 spelt_rises : (k n m : ℕ) (xs ys : List ℕ) → k ≤ length xs → k ≤ length ys → AreBytes xs → n < m → spelt k n xs < spelt k m ys
 unfolding spelt
 spelt_rises zero n m xs ys many more small lt = lt
@@ -26,7 +26,7 @@ spelt_rises (suc k) n m (x ∷ xs) (y ∷ ys) many more small lt =
     let byte : x < 256 = small 0 in
     spelt_rises k (n * 256 + x) (m * 256 + y) xs ys (omega (arith, many)) (omega (arith, more)) (λ i. small (suc i)) (omega (arith, byte, lt))
 
--- bytes are ordered as the numbers that the first of them spell, where these differ
+-- bytes are ordered as the numbers that the first of them encode, if these differ
 decides : (k n : ℕ) (xs ys : List ℕ) → k ≤ length xs → k ≤ length ys → AreBytes xs → AreBytes ys
     → (spelt k n xs ≡ spelt k n ys → ⊥) → nat_cmp (spelt k n xs) (spelt k n ys) ≡ slice_cmp nat_cmp xs ys
 unfolding spelt
@@ -65,7 +65,7 @@ eight_bytes (a ∷ b ∷ c ∷ d ∷ e ∷ f ∷ []) le = absurd (omega (arith, 
 eight_bytes (a ∷ b ∷ c ∷ d ∷ e ∷ f ∷ g ∷ []) le = absurd (omega (arith, le))
 eight_bytes (a ∷ b ∷ c ∷ d ∷ e ∷ f ∷ g ∷ h ∷ bytes) le = omega arith
 
--- bytes are ordered as the numbers that their first eight spell, where these differ
+-- bytes are ordered as the numbers that their first eight encode, if these differ
 pub front_decides : (xs ys : List ℕ) (x y : ℕ) → 8 ≤ length xs → 8 ≤ length ys → AreBytes xs → AreBytes ys
     → x ≡ from_be_bytes w64 (take 8 xs) → y ≡ from_be_bytes w64 (take 8 ys) → (x ≡ y → ⊥) → nat_cmp x y ≡ slice_cmp nat_cmp xs ys
 front_decides xs ys x y many more small also first second differ =

@@ -1,4 +1,4 @@
--- TLV streams: one record, what was read so far, and that reading gives a stream or its first fault.
+-- TLV streams: one record, what was read so far, and that reading returns a stream or its first fault.
 use Rattle.std.proofs.Common.{◌+◌, ◌≡◌, ℕ, zero, suc, ◌^◌, ◌<◌, ◌≤◌, false, cond, ltb, List, [], ◌∷◌, ◌++◌, length, take, drop, Option}
 use Rattle.std.proofs.Common.{Some, None, Result, Ok, Err, refl, sym, ap, subst, ◌∙◌, append_assoc, arith, inl, inr}
 use Rattle.std.specs.List.{flat_map, AllByRecursion}
@@ -38,7 +38,7 @@ not_above_of (Some last) kind above = grind (arith)
 regrouped : (kind len value rest : List ℕ) → (kind ++ len ++ value) ++ rest ≡ kind ++ (len ++ (value ++ rest))
 regrouped kind len value rest = append_assoc (kind ++ len) value rest ∙ append_assoc kind len (value ++ rest)
 
--- a type, a length and that many bytes spell a record
+-- a type, a length and that many bytes encode a record
 parts_spelled : (last : Option ℕ) (bytes : List ℕ) (kind len : ℕ) (after_kind after_len : List ℕ)
     → bytes ≡ bigsize_bytes kind ++ after_kind → after_kind ≡ bigsize_bytes len ++ after_len → kind < 2 ^ 64
     → len < 2 ^ 64 → IsAbove last kind → len ≤ length after_len → IsBytes after_len
@@ -60,14 +60,14 @@ parts_spelled last bytes kind len after_kind after_len first second kind_fits le
       rest_fits = IsBytes-drop len after_len fits;
     }
 
--- how the reading of a record goes on behind its length, and behind its type
+-- how the reading of a record continues after its length, and after its type
 abbrev behind_len : ℕ → ℕ × List ℕ → Result (TlvRecord × List ℕ) WireFault
 behind_len kind len = cond (ltb (length len.1) len.0) (Err Cut) (Ok (record { kind = kind; value = take len.0 len.1 }, drop len.0 len.1))
 
 abbrev behind_kind : Option ℕ → ℕ × List ℕ → Result (TlvRecord × List ℕ) WireFault
 behind_kind last kind = cond (is_not_above last kind.0) (Err Order) (bigsize_at kind.1 >>= behind_len kind.0)
 
--- what is read is so spelled
+-- bytes that are read encode the value
 pub record_spelled : (last : Option ℕ) (bytes : List ℕ) (r : TlvRecord) (rest : List ℕ) → IsBytes bytes
     → record_at last bytes ≡ Ok (r, rest) → RecordSpelled last bytes r rest
 unfolding record_at
@@ -90,7 +90,7 @@ record_spelled last bytes r rest fits e =
           ]
     ]
 
--- what is so spelled is read
+-- an encoding is read as its value
 pub record_at-record_bytes : (last : Option ℕ) (r : TlvRecord) (rest : List ℕ) → Fits r → IsAbove last r.kind
     → record_at last (record_bytes r ++ rest) ≡ Ok (r, rest)
 unfolding record_at
@@ -121,7 +121,7 @@ record_len r rest =
 
 -- ---- a stream, record by record
 
--- front was read, and rest is left
+-- the front was read, and the rest is left
 pub record IsRead (bytes : List ℕ) (front : List TlvRecord) (rest : List ℕ) (last : Option ℕ) : Type 0 where
   pub fits : AllByRecursion Fits front
   pub rises : RisesFrom None front
@@ -167,7 +167,7 @@ shrinks bytes front rest last r after small so_far e =
     let t = record_spelled last rest r after (IsBytes-back bytes (flat_map record_bytes front) rest so_far.parts small) e in
     omega (arith, ap length t.parts, record_len r after)
 
--- a reading that has come to the end has read the stream
+-- a reading that reaches the end has read the stream
 pub whole_stream : (bytes : List ℕ) (front : List TlvRecord) (rest : List ℕ) (last : Option ℕ)
     → IsRead bytes front rest last → length rest ≡ 0 → IsTlvStream front bytes
 whole_stream bytes front rest last so_far ended = record {
@@ -201,7 +201,7 @@ unfolding tlvs_at
 tlvs_more n last [] r rest some e = absurd (omega arith)
 tlvs_more n last (b ∷ bs) r rest some e = rw e refl
 
--- a record at fault
+-- a faulty record
 tlvs_fault : (n : ℕ) (last : Option ℕ) (bytes : List ℕ) (f : WireFault) → 0 < length bytes
     → record_at last bytes ≡ Err f → tlvs_at (suc n) last bytes ≡ Err f
 unfolding tlvs_at
@@ -213,7 +213,7 @@ tlvs_nil : (n : ℕ) (last : Option ℕ) → tlvs_at n last [] ≡ Ok []
 unfolding tlvs_at
 tlvs_nil n last = refl
 
--- whole records and nothing behind them
+-- complete records and nothing after them
 tlvs_whole : (n : ℕ) (last : Option ℕ) (l : List TlvRecord) → AllByRecursion Fits l → RisesFrom last l
     → length (flat_map record_bytes l) ≤ n → tlvs_at n last (flat_map record_bytes l) ≡ Ok l
 tlvs_whole n last [] fits rises le = tlvs_nil n last
@@ -228,7 +228,7 @@ tlvs_whole (suc n) last (r ∷ l) fits rises le =
     (omega (arith, len)) (record_at-record_bytes last r (flat_map record_bytes l) fits.0 rises.0)
     ∙ rw (tlvs_whole n (Some r.kind) l fits.1 rises.1 room) refl
 
--- whole records and one at fault behind them
+-- complete records and a faulty one after them
 tlvs_broken : (n : ℕ) (last : Option ℕ) (m : List TlvRecord) (rest : List ℕ) (f : WireFault)
     → AllByRecursion Fits m → RisesFrom last m → 0 < length rest → record_at (last_kind last m) rest ≡ Err f
     → length (flat_map record_bytes m ++ rest) ≤ n → tlvs_at n last (flat_map record_bytes m ++ rest) ≡ Err f
@@ -262,7 +262,7 @@ broken_read b f broken =
 
 -- ---- what is read as a stream is one
 
--- the records behind one of the last type
+-- the records after one of the last type
 pub record IsStream (last : Option ℕ) (bytes : List ℕ) (l : List TlvRecord) : Type 0 where
   pub fits : AllByRecursion Fits l
   pub rises : RisesFrom last l
@@ -298,7 +298,7 @@ stream_takes l bytes fits e =
 pub two_bytes : (r : TlvRecord) (rest : List ℕ) → 2 ≤ length (record_bytes r ++ rest)
 two_bytes r rest = omega (arith, record_len r rest)
 
--- so where one was read, there were two bytes at least
+-- so if one was read, there were at least two bytes
 pub has_two_bytes : (bytes : List ℕ) (front : List TlvRecord) (rest : List ℕ) (last : Option ℕ)
     (r : TlvRecord) (after : List ℕ) → IsBytes bytes → IsRead bytes front rest last
     → record_at last rest ≡ Ok (r, after) → 2 ≤ length bytes
@@ -308,7 +308,7 @@ has_two_bytes bytes front rest last r after small so_far e =
 
 -- ---- two readings of one stream
 
--- a reading that has come to the end is the only one
+-- a reading that reaches the end is the only one
 pub is_only : (front l : List TlvRecord) (bytes : List ℕ) → IsTlvStream front bytes → IsTlvStream l bytes → front ≡ l
 is_only front l bytes whole other = ok_is front l (sym (whole_read front bytes whole) ∙ whole_read l bytes other)
 

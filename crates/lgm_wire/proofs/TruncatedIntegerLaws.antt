@@ -1,4 +1,4 @@
--- Truncated integers: numbers in base 256, with and without zeros in front.
+-- Truncated integers: numbers in base 256, with and without leading zeros.
 use Rattle.std.proofs.Common.{◌≡◌, ℕ, suc, ◌+◌, ◌*◌, ◌^◌, ◌<◌, ◌≤◌, true, eqb, List, [], ◌∷◌, ◌++◌}
 use Rattle.std.proofs.Common.{length, drop, refl, sym, ap, subst, ◌∙◌, arith, add-one, inl, inr}
 use Rattle.std.specs.Prelude.{All}
@@ -14,7 +14,7 @@ use Rattle.lgm_wire.specs.TruncatedInteger.{number_of, StartsWithZero, IsTruncat
 
 -- ---- reading digit by digit
 
--- a power more
+-- one more power
 pow_more : (i : ℕ) → 256 ^ (i + 1) ≡ 256 ^ i * 256
 pow_more i = rw add-one (pow-suc 256 i)
 
@@ -55,7 +55,7 @@ number_of-below (x ∷ xs) all =
     let size : 256 ^ suc (length xs) ≡ 256 ^ length xs * 256 = pow-suc 256 (length xs) in
     omega (arith, rest, product, size)
 
--- a number with no zero in front has no fewer digits than it needs
+-- a number without leading zeros has no fewer digits than it needs
 at_least : (x : ℕ) (xs : List ℕ) → ¬ StartsWithZero (x ∷ xs) → 256 ^ length xs ≤ number_of (x ∷ xs)
 at_least x xs minimal =
     let some : 0 < x = elim (cases_eq x 0) [ inl e ↦ absurd (minimal e) | inr n ↦ omega arith ] in
@@ -74,9 +74,9 @@ short_bytes v n (x ∷ xs) lt spells =
           absurd (omega (arith, spells.value, least, le))
     ]
 
--- ---- one spelling
+-- ---- one encoding
 
--- a first digit and the number behind it are told by their number
+-- a first digit and the number after it are determined by the whole number
 split_digits : (p x y u w : ℕ) → u < p → w < p → x * p + u ≡ y * p + w → (x ≡ y) × (u ≡ w)
 split_digits p x y u w ul wl e =
     elim (cases_lt x y) [
@@ -90,7 +90,7 @@ split_digits p x y u w ul wl e =
       ]
     ]
 
--- digits, as many of them, are told by their number
+-- digits, of one length, are determined by their number
 same_digits : (a b : List ℕ) → length a ≡ length b → AreDigits a → AreDigits b → number_of a ≡ number_of b → a ≡ b
 same_digits [] [] len p q e = refl
 same_digits [] (y ∷ ys) len p q e = absurd (omega arith)
@@ -106,7 +106,7 @@ same_digits (x ∷ xs) (y ∷ ys) len p q e =
     let first = parts.0 in
     cc
 
--- a number has one spelling
+-- a number has one encoding
 pub same_bytes : (v : ℕ) (a b : List ℕ) → IsTruncatedInteger v a → IsTruncatedInteger v b → a ≡ b
 same_bytes v a b p q =
     let pa : v < 256 ^ length a = omega (arith, p.value, number_of-below a p.digits) in
@@ -115,16 +115,16 @@ same_bytes v a b p q =
     let ge = short_bytes v (length a) b pa q in
     same_digits a b (omega arith) p.digits q.digits (sym p.value ∙ q.value)
 
--- ---- zeros in front
+-- ---- leading zeros
 
--- a first digit goes or stays
+-- a first digit is removed or stays
 without-zero : (x : ℕ) (xs : List ℕ) → x ≡ 0 → without_leading_zeros (x ∷ xs) ≡ without_leading_zeros xs
 without-zero x xs e = rw e refl
 
 without-digit : (x : ℕ) (xs : List ℕ) → ¬ (x ≡ 0) → without_leading_zeros (x ∷ xs) ≡ x ∷ xs
 without-digit x xs n = rw (ne_eqb x 0 n) refl
 
--- the bytes behind the zeros in front, as the code finds them
+-- the bytes after the leading zeros, as the code finds them
 pub drop-leading : (bytes : List ℕ) (count : ℕ) (spelled : List ℕ) → count ≡ length
     (take_while (λ b. eqb b 0) bytes) → bytes ≡ spelled → drop count bytes ≡ without_leading_zeros spelled
 drop-leading bytes count spelled count_is same = rw (count_is, ← same) (behind bytes)
@@ -143,7 +143,7 @@ drop-leading bytes count spelled count_is same = rw (count_is, ← same) (behind
               rw (taken, without-digit x xs n) refl
         ]
 
--- without its zeros in front a number is spelled as it should be
+-- without its leading zeros a number has its encoding
 without : (bytes : List ℕ) → AreDigits bytes → IsTruncatedInteger (number_of bytes) (without_leading_zeros bytes)
 without [] all = record { digits = all; minimal = λ h. h; value = refl }
 without (x ∷ xs) all =
@@ -172,7 +172,7 @@ digits-to_be_bytes v =
       ),
     )
 
--- which is the one that is written
+-- and that is the one that is written
 pub IsTruncatedInteger-truncated_bytes : (v : ℕ) → v < 2 ^ 64 → IsTruncatedInteger v (truncated_bytes v)
 IsTruncatedInteger-truncated_bytes v lt =
     subst (λ (n : ℕ). IsTruncatedInteger n (truncated_bytes v)) (number_of-to_be_bytes v lt) (without (to_be_bytes w64 v) (digits-to_be_bytes v))

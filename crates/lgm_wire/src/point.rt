@@ -74,8 +74,8 @@ impl Ord for Point {
     }
 }
 
-/// Only the last 16 bytes are hashed, in one call. They are half of the coordinate, so finding keys that share them takes
-/// as long as for any 16 bytes that a hash returns.
+/// Only the last 16 bytes are hashed, in one call. They are half of the coordinate, so finding keys that share them
+/// takes as long as for any 16 bytes that a hash returns.
 impl Hash for Point {
     ghost hash_input = { λ p. take 16 (drop 17 p.0) ∷ [] };
 

@@ -4,8 +4,8 @@ use Rattle.lgm_wire.specs.declared.chain_hash.ChainHash.{ChainHash}
 use Rattle.lgm_store.specs.declared.op.Op.{Op}
 use Rattle.lgm_store.specs.Rows.{Rows, empty}
 use Rattle.lgm_store.specs.History.{fold_from}
-use Rattle.lgm_c.specs.Held.{Held}
-use Rattle.lgm_c.specs.inner.Charts.{Counted}
+use Rattle.lgm_c.specs.MapState.{MapState}
+use Rattle.lgm_c.specs.inner.Networks.{Counted}
 
 -- the rows at a mark, and the current ones
 pub record Marked : Type 0 where
@@ -20,8 +20,8 @@ abbrev pub rows_at : Option Marked → Rows
 rows_at None = empty
 rows_at (Some mark) = mark.marked
 
-abbrev pub held_in : ChainHash → Counted → Option Marked → Held
-held_in chain current mark = record {
+abbrev pub state_in : ChainHash → Counted → Option Marked → MapState
+state_in chain current mark = record {
   chain = chain;
   known = current.known;
   rows = current.rows;

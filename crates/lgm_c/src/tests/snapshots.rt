@@ -1,20 +1,20 @@
-//! Snapshots beside the map that they are of, which goes on.
+//! Snapshots of a map that changes meanwhile.
 
 use super::{
     A, B, CHAIN, NUMBER, announcement, blank_channel, blank_hop, blank_node, joined, node, offered,
     opened, query, update,
 };
-use crate::asking::lgm_filter;
 use crate::lgm_snapshot::LgmSnapshot;
-use crate::looking::{LgmChannel, lgm_count};
+use crate::lookups::{LgmChannel, lgm_count};
 use crate::map::LgmMap;
-use crate::offering::{lgm_close_channel, lgm_free, lgm_open};
-use crate::publishing::{lgm_publish, lgm_release, lgm_share, lgm_version_of};
-use crate::reading::{
+use crate::offers::{lgm_close_channel, lgm_free, lgm_open};
+use crate::publications::{lgm_publish, lgm_release, lgm_share, lgm_version_of};
+use crate::queries::lgm_filter;
+use crate::routes::{LgmHop, LgmLengths, LgmPayment};
+use crate::snapshot_calls::{
     lgm_snapshot_channel, lgm_snapshot_count, lgm_snapshot_filter, lgm_snapshot_news,
     lgm_snapshot_node, lgm_snapshot_query, lgm_snapshot_route,
 };
-use crate::routing::{LgmHop, LgmLengths, LgmPayment};
 use std::alloc::Global;
 use std::process::Abort;
 use std::test::Fail;

@@ -7,9 +7,9 @@ use Rattle.lgm_gossip.specs.reading.InOrder.{◌>>=◌}
 use Rattle.lgm_gossip.specs.reading.EncodedIdsReading.{encoded_ids_at}
 use Rattle.lgm_gossip.specs.reading.OptionalReading.{optional_at}
 use Rattle.lgm_gossip.specs.reading.TimestampListReading.{timestamps_at}
-use Rattle.lgm_gossip.specs.RangeReply.{Reply}
+use Rattle.lgm_gossip.specs.RangeReply.{ReplyFields}
 
-unfoldable pub range_reply_at : List ℕ → Result Reply DecodeFault
+unfoldable pub range_reply_at : List ℕ → Result ReplyFields DecodeFault
 range_reply_at = do
   chain_hash ← fixed_at 32
   first_blocknum ← number_at w32

@@ -23,7 +23,7 @@ abbrev pub graph_in : Option (List ℕ) → Nodes → Graph
 graph_in known nodes = record {
   known = known;
   points = nodes.points.keys;
-  takes = nodes.takes.items;
+  accepts_payments = nodes.accepts_payments.items;
   into = map edges_in nodes.into.items;
   out = map edges_in nodes.out.items;
 }
@@ -31,7 +31,7 @@ graph_in known nodes = record {
 -- numbers have 32 bits, and some edges are in the lists of both of their nodes
 pub record IsSound (graph : Graph) : Type 0 where
   pub few : length graph.points < 2 ^ 32
-  pub long : length graph.takes ≡ length graph.points
+  pub long : length graph.accepts_payments ≡ length graph.points
   pub edges : List PointEdge
   pub shows : Shows edges graph.points graph.into graph.out
 
@@ -42,7 +42,7 @@ HasRoom list = vec_len list.edges < vec_capacity list.edges
 -- this many more nodes fit the capacity
 pub record HasPlaces (more : ℕ) (nodes : Nodes) : Type 0 where
   pub points : more ≤ spare nodes.points
-  pub takes : vec_len nodes.takes + more ≤ vec_capacity nodes.takes
+  pub accepts_payments : vec_len nodes.accepts_payments + more ≤ vec_capacity nodes.accepts_payments
   pub into : vec_len nodes.into + more ≤ vec_capacity nodes.into
   pub out : vec_len nodes.out + more ≤ vec_capacity nodes.out
 
@@ -53,7 +53,7 @@ ShowsIn edges nodes =
 
 -- whether each of the nodes takes payments
 abbrev pub AreFlags : (Point → Bool) → Nodes → Type 0
-AreFlags takes nodes = nodes.takes.items ≡ map takes nodes.points.keys
+AreFlags accepts_payments nodes = nodes.accepts_payments.items ≡ map accepts_payments nodes.points.keys
 
 -- each takes payments if its features are allowed
 abbrev pub AreLookedAt : Option (List ℕ) → List NodeRow → Nodes → Type 0

@@ -7,8 +7,8 @@ use Rattle.lgm_wire.specs.declared.point.Point.{Point}
 use Rattle.lgm_check.specs.declared.row.ChannelRow.{ChannelRow}
 use Rattle.lgm_check.specs.declared.row.UpdateRow.{UpdateRow}
 use Rattle.lgm_check.specs.declared.row.NodeRow.{NodeRow}
-use Rattle.lgm_store.specs.declared.held.Held.{Held}
-use Rattle.lgm_store.specs.Held.{held_at}
+use Rattle.lgm_store.specs.declared.channel_info.ChannelInfo.{ChannelInfo}
+use Rattle.lgm_store.specs.ChannelInfo.{stored_at}
 use Rattle.lgm_store.specs.Rows.{Rows, update_of}
 use Rattle.lgm_graph.specs.declared.edge.Edge.{Edge}
 use Rattle.lgm_graph.specs.declared.nodes.Nodes.{Nodes}
@@ -28,7 +28,7 @@ pub record HasNumbered (known : Option (List ℕ)) (rows : List NodeRow) (point 
   pub few : length new.points.keys ≤ length old.points.keys + 1
   pub kept : KeepsNumbers old.points.keys new.points.keys
   pub numbered : IsNumbered new.points.keys point
-  pub takes : AreLookedAt known rows old → AreLookedAt known rows new
+  pub accepts_payments : AreLookedAt known rows old → AreLookedAt known rows new
   pub shows : (point_edges : List PointEdge) → ShowsIn point_edges old → ShowsIn point_edges new
 
 -- the edge of a direction of a channel
@@ -49,14 +49,14 @@ pub record AreEdgesOf (point_edges : List PointEdge) (points : List Point) (edge
 
 -- the state of the traversal with these channels still to come: the nodes of those before are numbered, and their
 -- edges listed. No node has edges yet
-pub record HasWalked (rows : Rows) (left : List Held) (edges : List Edge) (graph : Graph) : Type 0 where
+pub record HasWalked (rows : Rows) (left : List ChannelInfo) (edges : List Edge) (graph : Graph) : Type 0 where
   pub done : List ChannelRow
   pub rest : List ChannelRow
   pub parts : rows.channels ≡ done ++ rest
-  pub left_is : left ≡ map (held_at rows) rest
+  pub left_is : left ≡ map (stored_at rows) rest
   pub few : length graph.points ≤ 2 * length done
   pub ends : AllByRecursion (λ channel. IsNumbered graph.points channel.message.node_id_1
       × IsNumbered graph.points channel.message.node_id_2) done
-  pub takes : graph.takes ≡ map (takes_payments graph.known rows.nodes) graph.points
+  pub accepts_payments : graph.accepts_payments ≡ map (takes_payments graph.known rows.nodes) graph.points
   pub bare : Shows [] graph.points graph.into graph.out
   pub edges_are : AreEdgesOf (flat_map (edges_of_channel rows.updates) done) graph.points edges

@@ -1,23 +1,23 @@
--- The same, line by line, as an agenda stores it.
+-- The commands of a script, line by line, as a `ParsedScript` stores them.
 use Rattle.std.specs.Prelude.{◌≡◌, ℕ, ◌+◌, ◌%◌, List, [], ◌∷◌, ◌++◌, length, map, slice_set, slice_index_or}
 use Rattle.lgm_route.specs.declared.request.Request.{Request as RouteRequest}
 use Rattle.lgm_script.specs.declared.item.Item.{Item}
-use Rattle.lgm_script.specs.declared.request.Request.{Request}
-use Rattle.lgm_script.specs.declared.request.Request.TheVariants as requests
+use Rattle.lgm_script.specs.declared.command.Command.{Command}
+use Rattle.lgm_script.specs.declared.command.Command.TheVariants as requests
 use Rattle.lgm_answers.specs.Routing.{asked_route}
-use Rattle.lgm_live.specs.declared.slot.Slot.{Slot}
-use Rattle.lgm_live.specs.declared.slot.Slot.TheVariants as slots
-use Rattle.lgm_live.specs.Agenda.{batches_of, lists_of}
+use Rattle.lgm_live.specs.declared.parsed_script.LineAnswer.{LineAnswer}
+use Rattle.lgm_live.specs.declared.parsed_script.LineAnswer.TheVariants as line_answers
+use Rattle.lgm_live.specs.ParsedScript.{batches_of, lists_of}
 
--- where the answer to a line is found
-abbrev pub slot_of : Request → Slot
-slot_of requests.Quiet = slots.Quiet
-slot_of requests.Bad = slots.Bad
-slot_of (requests.Offer item) = slots.Item
-slot_of requests.Commit = slots.Commit
-slot_of (requests.Query bytes) = slots.NotLive
-slot_of (requests.Filter peer bytes) = slots.NotLive
-slot_of (requests.Route payment) = slots.Payment payment.secret
+-- where the report has the answer to a line
+abbrev pub line_answer_of : Command → LineAnswer
+line_answer_of requests.Quiet = line_answers.Quiet
+line_answer_of requests.Bad = line_answers.Bad
+line_answer_of (requests.Offer item) = line_answers.Item
+line_answer_of requests.Commit = line_answers.Commit
+line_answer_of (requests.Query bytes) = line_answers.NotLive
+line_answer_of (requests.Filter peer bytes) = line_answers.NotLive
+line_answer_of (requests.Route payment) = line_answers.Payment payment.secret
 
 -- what lines have requested
 pub record Gathered : Type 0 where
@@ -29,18 +29,18 @@ pub record Gathered : Type 0 where
   pub lists : List (List RouteRequest)
   -- the number of payments
   pub payments : ℕ
-  -- where the answer to each line is found
-  pub slots : List Slot
+  -- where the report has the answer to each line
+  pub line_answers : List LineAnswer
 
 -- with one more payment for a worker
 abbrev pub given : List (List RouteRequest) → ℕ → RouteRequest → List (List RouteRequest)
 given lists worker request = slice_set lists worker (slice_index_or lists worker [] ++ request ∷ [])
 
-abbrev pub with_slot : Gathered → Slot → Gathered
-with_slot so_far slot = record so_far { slots = so_far.slots ++ slot ∷ [] }
+abbrev pub with_slot : Gathered → LineAnswer → Gathered
+with_slot so_far line_answer = record so_far { line_answers = so_far.line_answers ++ line_answer ∷ [] }
 
--- with the request of a line, but for its slot
-abbrev pub with_request : Gathered → Request → Gathered
+-- with the command of a line, but for where its answer is found
+abbrev pub with_request : Gathered → Command → Gathered
 with_request so_far (requests.Offer item) = record so_far { batch = so_far.batch ++ item ∷ [] }
 with_request so_far requests.Commit =
     record so_far { batches = so_far.batches ++ so_far.batch ∷ []; batch = [] }
@@ -51,12 +51,12 @@ with_request so_far (requests.Route payment) =
     }
 with_request so_far _ = so_far
 
--- with the request of a line
-abbrev pub with_line : Gathered → Request → Gathered
-with_line so_far request = with_slot (with_request so_far request) (slot_of request)
+-- with the command of a line
+abbrev pub with_line : Gathered → Command → Gathered
+with_line so_far request = with_slot (with_request so_far request) (line_answer_of request)
 
 -- all that lines request, for this many workers
-pub record IsAgenda (workers : ℕ) (asked : List Request) (agenda : Gathered) : Type 0 where
-  pub batches : agenda.batches ≡ batches_of asked
-  pub lists : agenda.lists ≡ lists_of workers asked
-  pub slots : agenda.slots ≡ map slot_of asked
+pub record IsParsed (workers : ℕ) (asked : List Command) (parsed : Gathered) : Type 0 where
+  pub batches : parsed.batches ≡ batches_of asked
+  pub lists : parsed.lists ≡ lists_of workers asked
+  pub line_answers : parsed.line_answers ≡ map line_answer_of asked

@@ -2,36 +2,36 @@
 use Rattle.std.specs.Prelude.{◌≡◌, ◌≢◌, ℕ, ◌<◌, ◌≤◌, List, [], ◌∷◌, length, Option, Result, Err, IfSome, IfOk}
 use Rattle.lgm_script.specs.Device.{Input}
 use Rattle.lgm_script.specs.Output.{OutputState}
-use Rattle.lgm_script.specs.declared.request.Request.{Request}
+use Rattle.lgm_script.specs.declared.command.Command.{Command}
 use Rattle.lgm_answers.specs.declared.run_fault.TheConstants.{MAX_LINES}
-use Rattle.lgm_answers.specs.Script.{requests_of}
+use Rattle.lgm_answers.specs.Script.{commands_of}
 use Rattle.lgm_answers.specs.declared.run_fault.RunFault.{RunFault}
 use Rattle.lgm_answers.specs.declared.run_fault.RunFault.TheVariants as faults
-use Rattle.lgm_live.specs.inner.Gathered.{Gathered, with_line, IsAgenda}
+use Rattle.lgm_live.specs.inner.Gathered.{Gathered, with_line, IsParsed}
 use Rattle.lgm_live.specs.Running.{IsWithin, HasMoreLines, HasLongLine}
 
--- with the requests of lines
-abbrev pub with_lines : Gathered → List Request → Gathered
+-- with the commands of lines
+abbrev pub with_lines : Gathered → List Command → Gathered
 with_lines so_far [] = so_far
 with_lines so_far (request ∷ asked) = with_lines (with_line so_far request) asked
 
--- the script is within the limits, and these are its requests
-pub record IsAsked (asked : List Request) (script : List ℕ) : Type 0 where
+-- the script is within the limits, and these are its commands
+pub record IsAsked (asked : List Command) (script : List ℕ) : Type 0 where
   pub limits : IsWithin script
-  pub all : asked ≡ requests_of script
+  pub all : asked ≡ commands_of script
 
--- all requests of a script were added
+-- all commands of a script were added
 pub record IsNoted (script : Option (List ℕ)) (old new : Gathered) : Type 0 where
-  pub asked : List Request
+  pub asked : List Command
   pub few : length asked ≤ MAX_LINES
   pub noted : new ≡ with_lines old asked
   pub whole : IfSome script (IsAsked asked)
 
--- all requests of a script, for this many workers, are on the agenda
-pub record IsRead (workers : ℕ) (script : Option (List ℕ)) (agenda : Gathered) : Type 0 where
-  pub asked : List Request
+-- the parsed script has all commands of a script, for this many workers
+pub record IsRead (workers : ℕ) (script : Option (List ℕ)) (parsed : Gathered) : Type 0 where
+  pub asked : List Command
   pub few : length asked ≤ MAX_LINES
-  pub is_agenda : IsAgenda workers asked agenda
+  pub is_parsed : IsParsed workers asked parsed
   pub whole : IfSome script (IsAsked asked)
 
 -- how reading a script ends: with what was read of it, or it exceeds a limit, or a device failed. Nothing was written
@@ -42,7 +42,7 @@ pub record HasRead {T : Type 0} (source source' : Input) (output output' : Outpu
   pub too_many : result ≡ Err faults.TooManyLines → IfSome source.left HasMoreLines
   pub too_long : result ≡ Err faults.LineTooLong → IfSome source.left HasLongLine
   pub silent : output'.sink.taken ≡ output.sink.taken
-  pub gathered : output'.gathered ≡ []
+  pub buffered : output'.buffered ≡ []
   pub read : result ≡ Err faults.Read → source.failures < source'.failures
   pub write : result ≡ Err faults.Write → output.sink.failures < output'.sink.failures
   pub well : result ≢ Err faults.Write → output'.sink.failures ≡ output.sink.failures

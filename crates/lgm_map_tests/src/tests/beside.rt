@@ -1,4 +1,4 @@
-//! Made items through the map and through the plain program.
+//! Random items, offered to the map and to the plain program.
 
 use super::comparing::compare;
 use super::item::{Item, take, word_of};
@@ -26,7 +26,7 @@ impl Both {
         })
     }
 
-    /// Offers an item to both, which give the same word.
+    /// Offers an item to both, which return the same word.
     fn offer(
         &mut self,
         rt: &impl Abort,
@@ -55,7 +55,7 @@ fn compare_others(rt: &impl Abort, alloc: Global, both: &Both) -> Result<(), All
     compare(rt, alloc, &replayed, &both.plain)
 }
 
-/// Items made from a seed, and their words.
+/// Random items from a seed, and their words.
 fn offer_made(
     rt: &impl Abort,
     alloc: Global,
@@ -72,7 +72,7 @@ fn offer_made(
     compare_others(rt, alloc, &both)
 }
 
-/// How many items got a word.
+/// The number of items with a word.
 fn count_of(words: &[&'static str], word: &str) -> usize {
     words.iter().filter(|other| **other == word).count()
 }

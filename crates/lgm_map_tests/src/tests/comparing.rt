@@ -2,9 +2,9 @@
 
 use super::item::point_of;
 use super::made::IDS;
-use super::plain::{Channel, Dated, Plain, ends, held};
+use super::plain::{Channel, Dated, Plain, ends, stored};
 use lgm_check::{ChannelRow, NodeRow, UpdateRow};
-use lgm_gossip::{Lent, Scid};
+use lgm_gossip::{BorrowedBytes, Scid};
 use lgm_store::Map;
 use std::alloc::{AllocError, Global};
 use std::process::Abort;
@@ -23,8 +23,8 @@ const RANGES: [(u64, u64); 10] = [
     (0, u64::MAX),
 ];
 
-/// Whether these are the bytes that a mark is at the end of a message and behind its last field.
-fn is_marked(raw: &Lent, rest: &Lent, mark: u16) -> bool {
+/// Whether a message ends in these bytes of a mark, after its last field.
+fn is_marked(raw: &BorrowedBytes, rest: &BorrowedBytes, mark: u16) -> bool {
     let bytes = mark.to_be_bytes();
     rest.as_slice() == bytes.as_slice() && raw.as_slice().ends_with(&bytes)
 }
@@ -58,7 +58,7 @@ fn is_node(row: Option<NodeRow>, node: u8, dated: Dated) -> bool {
         && is_marked(&row.raw, &row.message.rest, dated.mark)
 }
 
-/// The channels, walked in their order and looked up.
+/// The channels, iterated in order and looked up.
 fn compare_channels(rt: &impl Abort, map: &Map, plain: &Plain) {
     assert_eq!(rt; map.count(), plain.channels.len());
     let mut after = None;
@@ -77,7 +77,7 @@ fn compare_channels(rt: &impl Abort, map: &Map, plain: &Plain) {
     assert!(rt; map.next_channel(after).is_none());
 }
 
-/// The nodes, walked in their order and looked up.
+/// The nodes, iterated in order and looked up.
 fn compare_nodes(rt: &impl Abort, map: &Map, plain: &Plain) {
     let mut after = None;
     for (node, dated) in &plain.nodes {
@@ -100,17 +100,17 @@ fn compare_updates(rt: &impl Abort, map: &Map, plain: &Plain) {
     }
 }
 
-/// What is held of an id, and what isn't.
+/// What the map has of an id, and what it doesn't have.
 fn compare_id(rt: &impl Abort, map: &Map, plain: &Plain, id: u64) {
     let scid = Scid::from_u64(id);
-    let channel = held(plain.channels.as_slice(), id);
+    let channel = stored(plain.channels.as_slice(), id);
     assert_eq!(rt;
         map.channel(scid).is_some(),
         channel.is_some(),
         "channel {id:x}"
     );
     for second in [false, true] {
-        let update = held(plain.updates.as_slice(), (id, second));
+        let update = stored(plain.updates.as_slice(), (id, second));
         assert_eq!(rt;
             map.update(scid, second).is_some(),
             update.is_some(),
@@ -119,10 +119,10 @@ fn compare_id(rt: &impl Abort, map: &Map, plain: &Plain, id: u64) {
     }
 }
 
-/// What is held of a node, and what isn't.
+/// What the map has of a node, and what it doesn't have.
 fn compare_node(rt: &impl Abort, map: &Map, plain: &Plain, node: u8) {
     let point = point_of(node);
-    let announced = held(plain.nodes.as_slice(), node);
+    let announced = stored(plain.nodes.as_slice(), node);
     assert_eq!(rt;
         map.node(&point).is_some(),
         announced.is_some(),
@@ -154,7 +154,7 @@ fn compare_range(
     Ok(())
 }
 
-/// All that a map reads. The only error is want of memory.
+/// All that a map's calls read. The only error is out of memory.
 pub fn compare(rt: &impl Abort, alloc: Global, map: &Map, plain: &Plain) -> Result<(), AllocError> {
     compare_channels(rt, map, plain);
     compare_updates(rt, map, plain);

@@ -1,7 +1,7 @@
 //! Backlogs of a map, and news between two, by their calls.
 
 use super::item::take_offer;
-use lgm_query::{Filter, Reply, backlog, news};
+use lgm_query::{Filter, ReplyMessage, backlog, news};
 use lgm_script::parse_item;
 use lgm_store::Map;
 use lgm_test_scripts::spelled;
@@ -34,7 +34,7 @@ fn map_of(alloc: Global, lines: &str) -> Result<Map, Fail> {
 }
 
 /// A line for each message, of its digits.
-fn text_of(alloc: Global, messages: &[Reply<'_>]) -> Result<String, AllocError> {
+fn text_of(alloc: Global, messages: &[ReplyMessage<'_>]) -> Result<String, AllocError> {
     let mut text = String::new(alloc);
     for message in messages {
         for byte in message.as_slice() {

@@ -1,8 +1,9 @@
-//! A channel's history, and the maps that it leaves.
+//! The history of a channel, and the maps of its prefixes.
 
-use super::item::{by, channel, funded, take_message, update, word_of};
+use super::item::{by, funded, take_message, word_of};
 use lgm_gossip::{Point, Scid};
 use lgm_store::{Map, Op};
+use lgm_test_gossip::{Channel, FREE, Terms, Update, repeated_point};
 use std::alloc::{AllocError, Global};
 use std::process::Abort;
 use std::test::Fail;
@@ -12,13 +13,11 @@ const ID: u64 = 0x0927_c000_0001_0000;
 
 /// The node `02` and 32 times a byte.
 fn point(byte: u8) -> Point {
-    let mut bytes = [byte; 33];
-    bytes[0] = 2;
-    Point(bytes)
+    repeated_point(2, byte)
 }
 
 /// An update and its word: channel flags, timestamp, base fee in msat, and the node that signed it.
-type Update = (u8, u32, u32, Point, &'static str);
+type Offered = (u8, u32, u32, Point, &'static str);
 
 /// Offers an update, and adds what it does to the history.
 fn offer(
@@ -26,10 +25,14 @@ fn offer(
     alloc: Global,
     map: &mut Map,
     history: &mut Vec<Op>,
-    row: Update,
+    row: Offered,
 ) -> Result<(), AllocError> {
     let (flags, timestamp, base, signer, want) = row;
-    let message = update(alloc, ID, flags, timestamp, base, &[])?;
+    let update = Update {
+        terms: Terms { base, ..FREE },
+        ..Update::new(Scid::from_u64(ID), flags, timestamp)
+    };
+    let message = update.bytes(alloc)?;
     let answer = take_message(alloc, map, message.as_slice(), &by(signer));
     assert_eq!(rt; word_of(&answer), want, "timestamp {timestamp}");
     if let Ok(op) = answer {
@@ -41,7 +44,8 @@ fn offer(
 /// A map with the channel between `0a` and `0b`.
 fn announced(alloc: Global, history: &mut Vec<Op>) -> Result<Map, Fail> {
     let mut map = Map::new(alloc)?;
-    let message = channel(alloc, ID, (point(0x0a), point(0x0b)), &[])?;
+    let nodes = (point(0x0a), point(0x0b));
+    let message = Channel::new(Scid::from_u64(ID), nodes).bytes(alloc)?;
     let op = take_message(alloc, &mut map, message.as_slice(), &funded(100_000))?;
     history.push(op)?;
     Ok(map)
@@ -52,7 +56,7 @@ fn history(rt: &impl Abort, alloc: Global) -> Result<Vec<Op>, Fail> {
     let mut history = Vec::new(alloc);
     let mut map = announced(alloc, &mut history)?;
     let (a, b) = (point(0x0a), point(0x0b));
-    let updates: [Update; 6] = [
+    let updates: [Offered; 6] = [
         (0, 5, 0, a, "accepted"),
         (0, 5, 7, a, "not-newer"),
         (0, 4, 0, a, "not-newer"),

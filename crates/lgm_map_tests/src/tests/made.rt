@@ -1,11 +1,11 @@
-//! Items made from a seed, of few ids and nodes.
+//! Random items from a seed, with few ids and nodes.
 
 ghost use Rattle.std.specs.Prelude.{◌<◌};
 
 use super::item::Item;
 use lgm_test_scripts::Numbers;
 
-/// The ids of made items, ascending: in one block, in neighbouring ones, and up to the last id of all.
+/// The ids of random items, ascending: in one block, in neighbouring ones, and up to the last id of all.
 pub const IDS: [u64; 8] = [
     0x0000_0100_0000_0000,
     0x0000_0100_0000_0001,

@@ -1,10 +1,11 @@
-//! More channels than the least table of guesses has places for, some of which take the numbers of others.
+//! More channels than the smallest lookup cache has entries for, some of which reuse the slots of others.
 
 use super::item::{Item, offer_of, word_of};
 use lgm_check::Refusal;
-use lgm_gossip::{ChainHash, Scid};
+use lgm_gossip::Scid;
 use lgm_script::Item as Offer;
-use lgm_store::{Candidate, Map, Op};
+use lgm_store::{CheckedMessage, Map, Op};
+use lgm_test_gossip::CHAIN;
 use std::alloc::Global;
 use std::process::Abort;
 use std::test::Fail;
@@ -20,13 +21,12 @@ fn time_of(number: u16) -> u32 {
     u32::from(number) + 1
 }
 
-/// Offers an item to a map as a program does, a message as a candidate.
+/// Offers an item to a map as a program does, a message once it is checked.
 fn offer(alloc: Global, map: &mut Map, item: &Item, mark: u16) -> Result<Op, Refusal> {
     match offer_of(alloc, item, mark)? {
         Offer::Gossip(message, evidence) => {
-            let chain = ChainHash([0xc1; 32]);
-            let candidate = Candidate::precheck(alloc, &chain, message.as_slice(), &evidence)?;
-            map.offer_candidate(alloc, candidate)
+            let message = CheckedMessage::precheck(alloc, &CHAIN, message.as_slice(), &evidence)?;
+            map.offer_checked(alloc, message)
         }
         Offer::Close(scid) => {
             let op = map.admit_close(scid)?;
@@ -45,7 +45,7 @@ fn announce(rt: &impl Abort, alloc: Global, map: &mut Map, number: u16) {
     assert_eq!(rt; word_of(&answer), "accepted", "channel {number}");
 }
 
-/// Offers the update of a channel's first direction, and gives its word.
+/// Offers the update of a channel's first direction, and returns its word.
 fn update(alloc: Global, map: &mut Map, number: u16) -> &'static str {
     let update = Item::Update {
         id: id_of(number),
@@ -74,10 +74,11 @@ fn close(rt: &impl Abort, alloc: Global, map: &mut Map, number: u16) {
 
 /// The timestamp of the first direction, if there is the channel, and an update of it.
 fn timestamp_of(map: &Map, number: u16) -> Option<u32> {
-    map.held(Scid::from_u64(id_of(number)))?.update_time(false)
+    map.channel_info(Scid::from_u64(id_of(number)))?
+        .update_time(false)
 }
 
-/// A map of 1,500 channels, of which each third went, before 500 others came.
+/// A map of 1,500 channels, of which each third was closed before 500 others were added.
 fn map_of_many(rt: &impl Abort, alloc: Global) -> Result<Map, Fail> {
     let mut map = Map::new(alloc)?;
     for number in 0..1500u16 {
@@ -105,11 +106,15 @@ fn numbers_are_taken_back(rt: HostRuntime) -> Result<(), Fail> {
     let mut map = map_of_many(&rt, alloc)?;
     assert_eq!(rt; map.count(), 1500);
     for number in 0..2000u16 {
-        let is_held = number % 3 != 0 || number >= 1500;
-        let want = if is_held { Some(time_of(number)) } else { None };
+        let is_stored = number % 3 != 0 || number >= 1500;
+        let want = if is_stored {
+            Some(time_of(number))
+        } else {
+            None
+        };
         assert_eq!(rt; timestamp_of(&map, number), want, "channel {number}");
     }
-    // A channel that comes again has none of its updates.
+    // A channel that is announced again has none of its updates.
     announce(&rt, alloc, &mut map, 300);
     assert_eq!(rt; timestamp_of(&map, 300), None);
     assert_eq!(rt; update(alloc, &mut map, 300), "accepted");

@@ -1,4 +1,4 @@
-//! A plain program for the same task: lists of small keys, read from end to end.
+//! A plain program with the same contract: lists of small keys, searched from end to end.
 
 use super::item::Item;
 use std::alloc::{AllocError, Global};
@@ -17,7 +17,7 @@ pub struct Dated {
     pub mark: u16,
 }
 
-/// What is held, in lists that ascend by their keys.
+/// The rows, in lists that ascend by their keys.
 #[derive(Drop)]
 pub struct Plain {
     alloc: Global,
@@ -31,8 +31,8 @@ pub struct Plain {
     banned: Vec<u8>,
 }
 
-/// What is held for a key.
-pub fn held<K: PartialEq + Copy, V: Copy>(rows: &[(K, V)], key: K) -> Option<V> {
+/// The row of a key.
+pub fn stored<K: PartialEq + Copy, V: Copy>(rows: &[(K, V)], key: K) -> Option<V> {
     for row in rows {
         if row.0 == key {
             return Some(row.1);
@@ -41,7 +41,7 @@ pub fn held<K: PartialEq + Copy, V: Copy>(rows: &[(K, V)], key: K) -> Option<V> 
     None
 }
 
-/// The list with a key's value in its place, and without the value that the key had.
+/// The list with the value of a key replaced.
 fn put<K: Ord + Copy, V: Copy>(
     alloc: Global,
     rows: &[(K, V)],
@@ -63,17 +63,17 @@ fn put<K: Ord + Copy, V: Copy>(
     Ok(with)
 }
 
-/// Whether a channel ends at the node.
+/// Whether the node has a channel.
 pub fn ends(channels: &[(u64, Channel)], node: u8) -> bool {
     channels
         .iter()
         .any(|row| row.1.nodes.0 == node || row.1.nodes.1 == node)
 }
 
-/// Whether a date isn't above the held one, if there is one.
-fn is_old(held: Option<Dated>, dated: Dated) -> bool {
-    match held {
-        Some(held) => dated.timestamp <= held.timestamp,
+/// Whether a date isn't above the stored one, if there is one.
+fn is_old(stored: Option<Dated>, dated: Dated) -> bool {
+    match stored {
+        Some(stored) => dated.timestamp <= stored.timestamp,
         None => false,
     }
 }
@@ -89,7 +89,7 @@ impl Plain {
         }
     }
 
-    /// Takes an item, or refuses it, and gives the word for what became of it.
+    /// Accepts an item, or refuses it, and returns the word of its outcome.
     pub fn take(&mut self, item: &Item, mark: u16) -> Result<&'static str, AllocError> {
         match *item {
             Item::Channel { id, nodes } => self.channel(id, Channel { nodes, mark }),
@@ -114,9 +114,9 @@ impl Plain {
         if self.is_banned(first) || self.is_banned(second) {
             return Ok("banned");
         }
-        match held(self.channels.as_slice(), id) {
-            Some(held) if held.nodes == channel.nodes => Ok("known"),
-            Some(held) => self.ban([held.nodes.0, held.nodes.1, first, second]),
+        match stored(self.channels.as_slice(), id) {
+            Some(stored) if stored.nodes == channel.nodes => Ok("known"),
+            Some(stored) => self.ban([stored.nodes.0, stored.nodes.1, first, second]),
             None => {
                 self.channels = put(self.alloc, self.channels.as_slice(), id, channel)?;
                 Ok("accepted")
@@ -131,14 +131,14 @@ impl Plain {
         dated: Dated,
         signer: u8,
     ) -> Result<&'static str, AllocError> {
-        let Some(channel) = held(self.channels.as_slice(), id) else {
+        let Some(channel) = stored(self.channels.as_slice(), id) else {
             return Ok("unknown-channel");
         };
         let (first_node, second_node) = channel.nodes;
         if signer != (if second { second_node } else { first_node }) {
             return Ok("signature");
         }
-        if is_old(held(self.updates.as_slice(), (id, second)), dated) {
+        if is_old(stored(self.updates.as_slice(), (id, second)), dated) {
             return Ok("not-newer");
         }
         self.updates = put(self.alloc, self.updates.as_slice(), (id, second), dated)?;
@@ -152,7 +152,7 @@ impl Plain {
         if !ends(self.channels.as_slice(), node) {
             return Ok("unknown-node");
         }
-        if is_old(held(self.nodes.as_slice(), node), dated) {
+        if is_old(stored(self.nodes.as_slice(), node), dated) {
             return Ok("not-newer");
         }
         self.nodes = put(self.alloc, self.nodes.as_slice(), node, dated)?;
@@ -160,7 +160,7 @@ impl Plain {
     }
 
     fn close(&mut self, id: u64) -> &'static str {
-        if held(self.channels.as_slice(), id).is_none() {
+        if stored(self.channels.as_slice(), id).is_none() {
             return "unknown-channel";
         }
         self.channels.retain(|row| row.0 != id);
@@ -177,10 +177,11 @@ impl Plain {
         Ok("accepted")
     }
 
-    /// Forgets updates without their channel, and nodes without any.
+    /// Removes updates and node announcements left without a channel.
     fn forget(&mut self) {
         let channels = self.channels.as_slice();
-        self.updates.retain(|row| held(channels, row.0.0).is_some());
+        self.updates
+            .retain(|row| stored(channels, row.0.0).is_some());
         self.nodes.retain(|row| ends(channels, row.0));
     }
 }

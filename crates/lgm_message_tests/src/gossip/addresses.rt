@@ -20,7 +20,7 @@ fn text_of(alloc: Global, address: &Address) -> Result<String, Fail> {
     Ok(format!(in alloc; "{kind} {digits} {port};")?)
 }
 
-/// The addresses of these words, each with a semicolon behind.
+/// The addresses of these words, each followed by a semicolon.
 fn texts_of(alloc: Global, words: &str) -> Result<String, Fail> {
     let bytes = bytes_of(alloc, words)?;
     let list = addresses(alloc, bytes.as_slice())?;
@@ -31,7 +31,7 @@ fn texts_of(alloc: Global, words: &str) -> Result<String, Fail> {
     Ok(texts)
 }
 
-/// Each kind of descriptor, and what is read in front of one that isn't known.
+/// Each kind of descriptor, and what is read before an unknown one.
 #[test]
 fn descriptors(rt: HostRuntime) -> Result<(), Fail> {
     let table: [(&str, &str); 9] = [

@@ -1,4 +1,4 @@
-//! Messages that end too early, or that have bytes behind.
+//! Messages that end too early, or that have trailing bytes.
 
 use super::words::{assert_fault, assert_kept, assert_written, bytes_of};
 use lgm_gossip::{DecodeFault, decode};
@@ -32,7 +32,7 @@ fn assert_fronts(rt: &impl Abort, alloc: Global, words: &str, fields: usize) -> 
     Ok(())
 }
 
-/// The types whose fields may have bytes behind, with how many bytes the type and the fields have.
+/// The types whose fields may be followed by trailing bytes, with how many bytes the type and the fields have.
 const ANNOUNCEMENTS: [(&str, usize); 3] = [
     (
         "0100 00*256 0000 c1*32 0000010000000000 02 0a*32 02 0b*32 02 ee*32 02 ee*32",
@@ -61,7 +61,7 @@ const QUERIES: [(&str, usize); 5] = [
     ("0109 c1*32 00000005 00000001", 42),
 ];
 
-/// Each proper front of a message of each type.
+/// Each proper prefix of a message of each type.
 #[test]
 fn proper_fronts(rt: HostRuntime) -> Result<(), Fail> {
     for (words, fields) in ANNOUNCEMENTS {
@@ -73,7 +73,7 @@ fn proper_fronts(rt: HostRuntime) -> Result<(), Fail> {
     Ok(())
 }
 
-/// What stands behind the fields of an announcement or an update is kept.
+/// The bytes after the fields of an announcement or an update are preserved.
 #[test]
 fn bytes_behind_are_kept(rt: HostRuntime) -> Result<(), Fail> {
     for (fields, _) in ANNOUNCEMENTS {
@@ -83,8 +83,8 @@ fn bytes_behind_are_kept(rt: HostRuntime) -> Result<(), Fail> {
     Ok(())
 }
 
-/// What stands behind the fields of an end or a filter is dropped, also where it looks like a record. A byte
-/// behind a query or a reply is a record that is cut.
+/// The bytes after the fields of an end or a filter are dropped, even if they look like a record. A byte
+/// after a query or a reply is a record that is cut.
 #[test]
 fn bytes_behind_are_dropped_or_a_record(rt: HostRuntime) -> Result<(), Fail> {
     let cut = DecodeFault::Tlv(WireFault::Cut);

@@ -8,7 +8,7 @@ use lgm_gossip::DecodeFault::{
 use lgm_wire::WireFault;
 use std::test::Fail;
 
-/// The length comes before the type, and the type before what is behind it.
+/// The length comes before the type, and the type before what follows it.
 #[test]
 fn lengths_and_types(rt: HostRuntime) -> Result<(), Fail> {
     let table: [(&str, DecodeFault); 10] = [
@@ -60,7 +60,7 @@ fn streams(rt: HostRuntime) -> Result<(), Fail> {
     assert_faults(&rt, rt.alloc(), &table)
 }
 
-/// Of several records at fault the first one counts. An even type that isn't known is one.
+/// Of several faulty records the first one counts. An unknown even type is one.
 #[test]
 fn even_records(rt: HostRuntime) -> Result<(), Fail> {
     let table: [(&str, DecodeFault); 8] = [

@@ -2,9 +2,9 @@
 
 use super::words::{assert_kept, bytes_of};
 use lgm_gossip::{
-    Announce, ChainHash, ChannelUpdate, FilterMsg, IdsEnd, IdsQuery, Lent, Message, NodeAnnounce,
-    Point, QueryFlags, RangeQuery, RangeReply, Scid, Scids, Signature, TimestampList, Timestamps,
-    encode,
+    Announce, BorrowedBytes, ChainHash, ChannelUpdate, FilterMsg, IdsEnd, IdsQuery, Message,
+    NodeAnnounce, Point, QueryFlags, RangeQuery, RangeReply, Scid, Scids, Signature, TimestampList,
+    Timestamps, encode,
 };
 use std::alloc::Global;
 use std::process::Abort;
@@ -35,14 +35,14 @@ fn announcement(rt: HostRuntime) -> Result<(), Fail> {
         node_signature_2: Signature::new(&two),
         bitcoin_signature_1: Signature::new(&three),
         bitcoin_signature_2: Signature::new(&four),
-        features: Lent::new(b"\xaa\xbb"),
+        features: BorrowedBytes::new(b"\xaa\xbb"),
         chain_hash: CHAIN,
         short_channel_id: Scid::new(600_000, 2, 3),
         node_id_1: Point([0x0a; 33]),
         node_id_2: Point([0x0b; 33]),
         bitcoin_key_1: Point([0x0c; 33]),
         bitcoin_key_2: Point([0x0d; 33]),
-        rest: Lent::new(b"\xdd"),
+        rest: BorrowedBytes::new(b"\xdd"),
     });
     let words =
         "0100 01*64 02*64 03*64 04*64 0002 aabb c1*32 0927c00000020003 0a*33 0b*33 0c*33 0d*33 dd";
@@ -53,13 +53,13 @@ fn announcement(rt: HostRuntime) -> Result<(), Fail> {
 fn node_announcement(rt: HostRuntime) -> Result<(), Fail> {
     let message = Message::NodeAnnounce(NodeAnnounce {
         signature: Signature::new(&SIGNATURE),
-        features: Lent::new(b"\xaa\xbb\xcc"),
+        features: BorrowedBytes::new(b"\xaa\xbb\xcc"),
         timestamp: 0x0203_0405,
         node_id: Point([0x0a; 33]),
         rgb_color: [6, 7, 8],
         alias: [9; 32],
-        addresses: Lent::new(b"\x01\x7f\x00\x00\x01\x26\x07"),
-        rest: Lent::new(b"\xdd"),
+        addresses: BorrowedBytes::new(b"\x01\x7f\x00\x00\x01\x26\x07"),
+        rest: BorrowedBytes::new(b"\xdd"),
     });
     let words = "0101 01*64 0003 aabbcc 02030405 0a*33 060708 09*32 0007 017f0000012607 dd";
     assert_spelled(&rt, rt.alloc(), &message, words)
@@ -79,7 +79,7 @@ fn update(rt: HostRuntime) -> Result<(), Fail> {
         fee_base_msat: 0x0b,
         fee_proportional_millionths: 0x0c,
         htlc_maximum_msat: 0x0d,
-        rest: Lent::new(b"\xdd"),
+        rest: BorrowedBytes::new(b"\xdd"),
     });
     let words = "0102 01*64 c1*32 0927c00000020003 02030405 06 07 0809 \
                  000000000000000a 0000000b 0000000c 000000000000000d dd";

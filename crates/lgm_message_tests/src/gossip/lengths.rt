@@ -8,7 +8,7 @@ use std::alloc::Global;
 use std::process::Abort;
 use std::test::Fail;
 
-/// Whether what stands in front of a field, the field and the rest are no message, with this as their first
+/// Whether the bytes before a field, the field and the rest are no message, with this as their first
 /// fault.
 fn assert_fault_at(
     rt: &impl Abort,
@@ -21,7 +21,7 @@ fn assert_fault_at(
     assert_fault(rt, alloc, words.as_str(), want)
 }
 
-/// One less moves what is behind the field, so that a byte is left over. One more goes past the end.
+/// One less moves what follows the field, so that a byte is left over. One more extends past the end.
 #[test]
 fn lengths_of_an_announcement(rt: HostRuntime) -> Result<(), Fail> {
     for (front, less, more, rest) in [
@@ -51,7 +51,7 @@ fn lengths_of_an_announcement(rt: HostRuntime) -> Result<(), Fail> {
     Ok(())
 }
 
-/// The length of ids: one less leaves seven bytes, one more takes a byte of what is behind.
+/// The length of ids: one less leaves seven bytes, one more takes a byte of what follows.
 #[test]
 fn lengths_of_ids(rt: HostRuntime) -> Result<(), Fail> {
     for (front, record) in [
@@ -70,8 +70,8 @@ fn lengths_of_ids(rt: HostRuntime) -> Result<(), Fail> {
     Ok(())
 }
 
-/// The length of a record: one less leaves a byte that is no record, one more goes past the end. What the record has is
-/// looked at only where the stream is whole.
+/// The length of a record: one less leaves a byte that is no record, one more extends past the end. The contents of the
+/// record are read only if the stream is complete.
 #[test]
 fn lengths_of_records(rt: HostRuntime) -> Result<(), Fail> {
     for (front, lengths, value) in [
@@ -94,7 +94,7 @@ fn lengths_of_records(rt: HostRuntime) -> Result<(), Fail> {
     Ok(())
 }
 
-/// The length of a record and the ids beside it: both whole, but not for each other.
+/// The length of a record and the ids beside it: each complete, but they don't match.
 #[test]
 fn records_of_other_ids(rt: HostRuntime) -> Result<(), Fail> {
     for (front, record, want) in [

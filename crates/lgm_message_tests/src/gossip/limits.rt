@@ -1,9 +1,9 @@
-//! The greatest messages, and those that would be greater.
+//! The longest messages, and those that would be longer.
 
 use super::words::{assert_fault, assert_kept, bytes_of};
 use lgm_gossip::{
-    ChainHash, DecodeFault, EncodeFault, IdsQuery, Lent, Message, NodeAnnounce, Point, RangeReply,
-    Scid, Scids, Signature, decode, encode,
+    BorrowedBytes, ChainHash, DecodeFault, EncodeFault, IdsQuery, Message, NodeAnnounce, Point,
+    RangeReply, Scid, Scids, Signature, decode, encode,
 };
 use std::alloc::Global;
 use std::test::Fail;
@@ -56,13 +56,13 @@ fn node_len(
     let signature = [0; 64];
     let message = Message::NodeAnnounce(NodeAnnounce {
         signature: Signature::new(&signature),
-        features: Lent::new(features.as_slice()),
+        features: BorrowedBytes::new(features.as_slice()),
         timestamp: 5,
         node_id: Point([2; 33]),
         rgb_color: [0; 3],
         alias: [0; 32],
-        addresses: Lent::new(addresses.as_slice()),
-        rest: Lent::new(&[]),
+        addresses: BorrowedBytes::new(addresses.as_slice()),
+        rest: BorrowedBytes::new(&[]),
     });
     Ok(written_len(alloc, &message))
 }

@@ -1,12 +1,12 @@
-//! What records behind the fields are read as, and what is written of them.
+//! How records after the fields are read, and what is written of them.
 
 use super::words::{assert_written, bytes_of};
 use lgm_gossip::{ChainHash, Message, RangeQuery, decode};
 use std::alloc::Global;
 use std::test::Fail;
 
-/// Ids are written behind a byte 0, also where there were no bytes for them. Records of odd types that aren't known are
-/// skipped, checksums aren't kept, and neither is written.
+/// Ids are written after a byte 0, even if there were no bytes for them. Records of odd types that aren't known are
+/// skipped, checksums aren't stored, and neither is written.
 #[test]
 fn written_again(rt: HostRuntime) -> Result<(), Fail> {
     let table: [(&str, &str); 6] = [

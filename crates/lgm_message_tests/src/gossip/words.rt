@@ -17,7 +17,7 @@ fn put_word(out: &mut Vec<u8>, alloc: Global, word: &str) -> Result<(), Fail> {
     Ok(())
 }
 
-/// The bytes that the words stand for.
+/// The bytes that the words encode.
 pub fn bytes_of(alloc: Global, words: &str) -> Result<Vec<u8>, Fail> {
     let mut bytes = Vec::new(alloc);
     for word in words.split_whitespace() {

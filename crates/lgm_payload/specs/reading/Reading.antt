@@ -16,7 +16,7 @@ use Rattle.lgm_payload.specs.declared.fault.PayloadFault.TheVariants.{Length, Tl
 use Rattle.lgm_payload.specs.declared.fault.PayloadFault.TheVariants.{Missing, Extra, NoMemory}
 use Rattle.lgm_payload.specs.declared.hop_payload.HopPayload.{HopPayload}
 use Rattle.lgm_payload.specs.declared.hop_payload.Payment.{Payment}
-use Rattle.lgm_payload.specs.declared.reading.Known.{Known}
+use Rattle.lgm_payload.specs.declared.reader.FoundValues.{FoundValues}
 use Rattle.lgm_payload.specs.HopPayload.{value_of}
 
 -- a value, unless there is a fault
@@ -98,7 +98,7 @@ first_fault [] = None
 first_fault (r ∷ rs) = or_later (record_fault r) (first_fault rs)
 
 -- the values with one more record
-abbrev pub with_record : Known → TlvRecord → Known
+abbrev pub with_record : FoundValues → TlvRecord → FoundValues
 with_record known r = record {
   amount = if r.kind == 2 then Some (number_of r.value) else known.amount;
   expiry = if r.kind == 4 then Some (number_of r.value) else known.expiry;
@@ -108,12 +108,12 @@ with_record known r = record {
 }
 
 -- one more record was taken, or has a fault, or memory ran out
-abbrev pub IsTaken : Known → TlvRecord → Result (Unit {0}) PayloadFault → Known → Type 0
+abbrev pub IsTaken : FoundValues → TlvRecord → Result (Unit {0}) PayloadFault → FoundValues → Type 0
 IsTaken known r (Ok _) after = (record_fault r ≡ None) × (after ≡ with_record known r)
 IsTaken known r (Err fault) after = (fault ≡ NoMemory) ⊎ (record_fault r ≡ Some fault)
 
 -- the values in all records
-abbrev pub known_in : List TlvRecord → Known
+abbrev pub known_in : List TlvRecord → FoundValues
 known_in records = record {
   amount = option_map number_of (value_of 2 records);
   expiry = option_map number_of (value_of 4 records);
@@ -122,7 +122,7 @@ known_in records = record {
   metadata = value_of 16 records;
 }
 
-abbrev pub known_at : List TlvRecord → Result Known PayloadFault
+abbrev pub known_at : List TlvRecord → Result FoundValues PayloadFault
 known_at records = unless (first_fault records) (known_in records)
 
 -- there are an amount and an expiry, and not both a next channel and a payment
@@ -134,7 +134,7 @@ whole_of (Some amount) (Some expiry) next payment metadata =
 whole_of None expiry next payment metadata = Err Missing
 whole_of (Some amount) None next payment metadata = Err Missing
 
-abbrev pub whole : Known → Result HopPayload PayloadFault
+abbrev pub whole : FoundValues → Result HopPayload PayloadFault
 whole known = whole_of known.amount known.expiry known.next known.payment known.metadata
 
 unfoldable pub payload_at : List ℕ → Result HopPayload PayloadFault

@@ -1,4 +1,4 @@
--- The contents of a published edition.
+-- The contents of a snapshot.
 use Rattle.std.specs.Prelude.{ℕ, ◌≤◌, List, Option, Some, None, length}
 use Rattle.lgm_store.specs.Rows.{Rows}
 use Rattle.lgm_graph.specs.Graph.{Graph}
@@ -18,12 +18,12 @@ pub record Contents : Type 0 where
 abbrev pub sight : Option (List ℕ) → History → Sight
 sight known told = record { board = told.board; known = known; ops = told.ops }
 
--- the known bits of an edition that was observed
+-- the known bits of a snapshot that was observed
 abbrev pub known_in : Option Contents → Option (List ℕ)
 known_in (Some contents) = contents.known
 known_in None = None
 
--- there is a view, which numbers so many points at most
+-- there is a view, which numbers at most this many points
 abbrev pub NumbersAtMost : ℕ → Option Graph → Type 0
 NumbersAtMost most None = ⊥
 NumbersAtMost most (Some graph) = length graph.points ≤ most

@@ -6,31 +6,31 @@ use lib.ListN.{get_elem?}
 use Rattle.logbook.specs.Pages.{Named}
 use Rattle.lgm_store.specs.declared.op.Op.{Op}
 use Rattle.lgm_store.specs.History.{fold}
-use Rattle.lgm_publish.specs.declared.edition.TheConstants.{MAX_OPERATIONS}
-use Rattle.lgm_publish.specs.declared.edition.Entry.{Entry}
-use Rattle.lgm_publish.specs.declared.edition.Entry.TheVariants.{Absorb, Reach}
+use Rattle.lgm_publish.specs.declared.snapshot.TheConstants.{MAX_OPERATIONS}
+use Rattle.lgm_publish.specs.declared.snapshot.LogEntry.{LogEntry}
+use Rattle.lgm_publish.specs.declared.snapshot.LogEntry.TheVariants.{Absorb, Reached}
 use Rattle.lgm_publish.specs.Handles.{History, history}
 use Rattle.lgm_publish.specs.inner.Book.{head_of}
 use Rattle.lgm_publish.specs.inner.Contents.{Contents}
 
 -- the operations among the entries
-abbrev pub ops_of : List Entry → List Op
+abbrev pub ops_of : List LogEntry → List Op
 ops_of [] = []
 ops_of (Absorb op ∷ entries) = op ∷ ops_of entries
-ops_of (Reach told ∷ entries) = ops_of entries
+ops_of (Reached told ∷ entries) = ops_of entries
 
--- the list that an edition has reached after these entries
-abbrev pub reached : History → List Entry → History
+-- the list that a snapshot has reached after these entries
+abbrev pub reached : History → List LogEntry → History
 reached told [] = told
 reached told (Absorb op ∷ entries) = reached told entries
-reached told (Reach other ∷ entries) = reached other entries
+reached told (Reached other ∷ entries) = reached other entries
 
 -- the published list with the operations among the entries
-abbrev pub whole : History → List Entry → History
+abbrev pub whole : History → List LogEntry → History
 whole told entries = history told.board (told.ops ++ ops_of entries)
 
 -- the entries reach exactly that list
-abbrev pub IsComplete : History → List Entry → Type 0
+abbrev pub IsComplete : History → List LogEntry → Type 0
 IsComplete told entries = reached told entries ≡ whole told entries
 
 -- the rows are the fold of the list, whose length is the number of operations applied
@@ -41,11 +41,11 @@ IsFold contents = (contents.rows ≡ fold contents.told.ops) × (contents.absorb
 abbrev pub GoesOn : History → History → Type 0
 GoesOn told other = (other.board ≡ told.board) × IsPrefix told.ops other.ops
 
--- an edition of the same board, with the same known bits, whose list extends that of the first
+-- a snapshot of the same board, with the same known bits, whose list extends that of the first
 abbrev pub Follows : Contents → Contents → Type 0
 Follows first next = (next.known ≡ first.known) × GoesOn first.told next.told
 
--- what is published is a fold, and follows each edition that a thread observed
+-- what is published is a fold, and follows each snapshot that a thread observed
 abbrev pub Holds : Contents → List (Option Contents) → Type 0
 Holds shown views =
     IsFold shown
@@ -61,7 +61,7 @@ abbrev pub taken : Option Contents → Option Contents → Option Contents
 taken own told = told
 
 -- the effect of a publication on the published list and on the pending entries
-abbrev pub Publishes : {A B : Type 0} → Result A B → History → History → List Entry → List Entry → Type 0
+abbrev pub Publishes : {A B : Type 0} → Result A B → History → History → List LogEntry → List LogEntry → Type 0
 Publishes done old new pending left =
     MatchResult done (λ _. (new ≡ whole old pending) × (left ≡ [])) (λ _. (new ≡ old) × (left ≡ pending))
 

@@ -1,9 +1,9 @@
--- Lower bounds on the fees from the payer to each node, and the pass that computes them.
+-- Lower bounds on the fees from the payer to each node, and the forward search that computes them.
 use Rattle.std.specs.Prelude.{◌≡◌, ◌⊎◌, ℕ, ◌+◌, ◌^◌, ◌-◌, ◌<◌, ◌≤◌, min, List, length}
 use Rattle.std.specs.Prelude.{map, Contains, Bool, true, slice_index_or, false}
 use Rattle.lgm_graph.specs.Fee.{fee_of}
 use Rattle.lgm_graph.specs.declared.edge.Edge.{Edge}
-use Rattle.lgm_route.specs.declared.numbered_request.NumberedRequest.{NumberedRequest}
+use Rattle.lgm_route.specs.declared.request.NumberedRequest.{NumberedRequest}
 use Rattle.lgm_route.specs.inner.Searching.{number_at}
 
 -- lower bounds on what is charged from the payer to each node: over an edge they grow by at most its fee

@@ -5,10 +5,10 @@ use Rattle.std.specs.Ordering.{nat_cmp}
 use Rattle.std.specs.Cmp.Lexicographic.{slice_cmp}
 use Rattle.lgm_graph.specs.Fee.{fee_of}
 use Rattle.lgm_graph.specs.declared.edge.Edge.{Edge}
-use Rattle.lgm_route.specs.declared.numbered_request.NumberedRequest.{NumberedRequest}
+use Rattle.lgm_route.specs.declared.request.NumberedRequest.{NumberedRequest}
 
 -- what has to reach the first node of these edges so that the amount reaches their end, with the fee of each node on
--- the way. Edge i carries what is owed at the edges after it: the last one the amount itself
+-- the way. Each edge carries what has to reach the edges after it: the last one the amount itself
 abbrev pub owed : ℕ → List Edge → ℕ
 owed amount [] = amount
 owed amount (edge ∷ rest) = let passed = owed amount rest in passed + fee_of passed edge.base edge.millionths

@@ -5,7 +5,7 @@ use Rattle.std.specs.Ordering.{nat_cmp, is_gt}
 use Rattle.std.specs.Cmp.Lexicographic.{slice_cmp}
 use Rattle.lgm_graph.specs.Graph.{Graph, edges, edges_into}
 use Rattle.lgm_graph.specs.declared.edge.Edge.{Edge}
-use Rattle.lgm_route.specs.declared.numbered_request.NumberedRequest.{NumberedRequest}
+use Rattle.lgm_route.specs.declared.request.NumberedRequest.{NumberedRequest}
 use Rattle.lgm_route.specs.declared.label.Label.{Label}
 use Rattle.lgm_route.specs.inner.Numbered.{owed, sent, ids, IsRest, IsUsable}
 
@@ -19,8 +19,8 @@ rest_key request rest = owed request.amount rest ∷ length rest ∷ ids rest
 abbrev pub walk_key : NumberedRequest → List Edge → List ℕ
 walk_key request walk = sent request.amount walk ∷ length walk ∷ ids walk
 
--- a rest that dominates another: it has no more edges, and isn't after it
-pub record Serves (request : NumberedRequest) (rest other : List Edge) : Type 0 where
+-- one rest dominates another: it has no more edges, and doesn't come after it by amount, number of edges and ids
+pub record Dominates (request : NumberedRequest) (rest other : List Edge) : Type 0 where
   pub fewer : length rest ≤ length other
   pub before : NotAfter (rest_key request rest) (rest_key request other)
 
@@ -43,7 +43,7 @@ abbrev pub edge_at : List Edge → ℕ → Edge
 edge_at edges i = slice_index_or edges i no_edge
 
 abbrev pub no_label : Label
-no_label = record { owed = 0; next = 0; at = 0; node = 0; count = 0 }
+no_label = record { amount = 0; parent = 0; at = 0; node = 0; hops = 0 }
 
 abbrev pub label_at : List Label → ℕ → Label
 label_at labels i = slice_index_or labels i no_label
@@ -53,55 +53,55 @@ number_at numbers i = slice_index_or numbers i 0
 
 -- the first edge of a label: the one at its index among those into the node of the label after it
 abbrev pub first_of : Graph → List Label → Label → Edge
-first_of graph labels label = edge_at (edges_into graph (label_at labels label.next).node) label.at
+first_of graph labels label = edge_at (edges_into graph (label_at labels label.parent).node) label.at
 
 -- a label has a first edge
 pub record Begins (graph : Graph) (labels : List Label) (label : Label) : Type 0 where
-  pub next : label.next < length labels
-  pub at : label.at < length (edges_into graph (label_at labels label.next).node)
+  pub parent : label.parent < length labels
+  pub at : label.at < length (edges_into graph (label_at labels label.parent).node)
 
 -- the edges of a label: its first one, and those of the label after it
 abbrev pub Spells : Graph → List Label → Label → List Edge → Type 0
 Spells graph labels label [] = Unit {0}
 Spells graph labels label (edge ∷ rest) =
     (first_of graph labels label ≡ edge) × Begins graph labels label
-    × Spells graph labels (label_at labels label.next) rest
+    × Spells graph labels (label_at labels label.parent) rest
 
 -- the rest that a label represents
 pub record IsLabel (graph : Graph) (request : NumberedRequest) (labels : List Label) (label : Label)
     (rest : List Edge) : Type 0 where
   pub spells : Spells graph labels label rest
-  pub long : length rest ≡ label.count
+  pub long : length rest ≡ label.hops
   pub joins : IsRest (edges graph) request label.node rest
-  pub owes : owed request.amount rest ≡ label.owed
+  pub owes : owed request.amount rest ≡ label.amount
 
--- the walk that a label represents, which owes what is sent
+-- the walk that a label represents, whose amount is what is sent
 pub record IsWalk (graph : Graph) (request : NumberedRequest) (labels : List Label) (label : Label)
     (walk : List Edge) : Type 0 where
   pub spells : Spells graph labels label walk
-  pub long : length walk ≡ label.count
-  pub some : 1 ≤ label.count
-  pub few : label.count ≤ 20
+  pub long : length walk ≡ label.hops
+  pub some : 1 ≤ label.hops
+  pub few : label.hops ≤ 20
   pub joins : IsRest (edges graph) request request.payer walk
-  pub sends : sent request.amount walk ≡ label.owed
+  pub sends : sent request.amount walk ≡ label.amount
 
--- a label represents as many edges as it counts
+-- a label represents as many edges as its number of hops
 abbrev pub IsSpelled : Graph → List Label → Label → Type 0
 IsSpelled graph labels label =
-    (rest : List Edge) × Spells graph labels label rest × (length rest ≡ label.count)
+    (rest : List Edge) × Spells graph labels label rest × (length rest ≡ label.hops)
 
 -- the ids of one label's edges precede or equal those of another's
 abbrev pub IdsFirst : Graph → List Label → Label → Label → Type 0
 IdsFirst graph labels label other =
     (rest also : List Edge) → Spells graph labels label rest → Spells graph labels other also →
-    length rest ≡ label.count → length also ≡ other.count → NotAfter (ids rest) (ids also)
+    length rest ≡ label.hops → length also ≡ other.hops → NotAfter (ids rest) (ids also)
 
 -- the one label's rest dominates the other's
-abbrev pub DoesServe : Graph → List Label → Label → Label → Type 0
-DoesServe graph labels label other =
+abbrev pub DoesDominate : Graph → List Label → Label → Label → Type 0
+DoesDominate graph labels label other =
     (request : NumberedRequest) (rest also : List Edge) →
     IsLabel graph request labels label rest → IsLabel graph request labels other also
-    → Serves request rest also
+    → Dominates request rest also
 
 abbrev pub SomeRest : Graph → NumberedRequest → List Label → Label → Type 0
 SomeRest graph request labels label = (rest : List Edge) × IsLabel graph request labels label rest
@@ -115,13 +115,13 @@ cost msat edges = msat * 32 + edges
 
 -- the cost that a better walk is below
 abbrev pub bound_of : ℕ → Option Label → ℕ
-bound_of start None = cost start 0
-bound_of start (Some found) = cost found.owed found.count
+bound_of upper_bound None = cost upper_bound 0
+bound_of upper_bound (Some found) = cost found.amount found.hops
 
--- the walk is no better than the best so far, or sends no less than the start of the search
+-- the walk is no better than the best so far, or sends no less than the upper bound of the search
 abbrev pub IsNoBetter : Graph → NumberedRequest → List Label → ℕ → Option Label → List Edge → Type 0
-IsNoBetter graph request labels start None walk = start ≤ sent request.amount walk
-IsNoBetter graph request labels start (Some found) walk =
+IsNoBetter graph request labels upper_bound None walk = upper_bound ≤ sent request.amount walk
+IsNoBetter graph request labels upper_bound (Some found) walk =
     (best : List Edge) × IsWalk graph request labels found best
     × NotAfter (walk_key request best) (walk_key request walk)
 
@@ -133,7 +133,7 @@ pub record Has (graph : Graph) (request : NumberedRequest) (labels : List Label)
   pub at : (label_at labels place).node ≡ node
   pub other : List Edge
   pub is : IsLabel graph request labels (label_at labels place) other
-  pub serves : Serves request other rest
+  pub dominates : Dominates request other rest
 
 -- no walk over this rest is better than the best so far: it is pruned
 abbrev pub IsHopeless : NumberedRequest → List ℕ → ℕ → ℕ → List Edge → Type 0
@@ -141,64 +141,64 @@ IsHopeless request low bound node rest =
     bound ≤ cost (owed request.amount rest + number_at low node) (length rest)
 
 abbrev pub Reaches : Graph → NumberedRequest → List ℕ → ℕ → List Label → Option Label → ℕ → List Edge → Type 0
-Reaches graph request low start labels found node rest =
-    Has graph request labels node rest ⊎ IsHopeless request low (bound_of start found) node rest
+Reaches graph request low upper_bound labels found node rest =
+    Has graph request labels node rest ⊎ IsHopeless request low (bound_of upper_bound found) node rest
 
 -- the rest was relaxed over this edge: to a walk, or else to a longer rest
-pub record IsPassed (graph : Graph) (request : NumberedRequest) (low : List ℕ) (start : ℕ)
+pub record IsRelaxed (graph : Graph) (request : NumberedRequest) (low : List ℕ) (upper_bound : ℕ)
     (labels : List Label) (found : Option Label) (edge : Edge) (rest : List Edge) : Type 0 where
-  pub whole : edge.from ≡ request.payer → IsNoBetter graph request labels start found (edge ∷ rest)
-  pub longer : length rest < 19 → Reaches graph request low start labels found edge.from (edge ∷ rest)
+  pub whole : edge.from ≡ request.payer → IsNoBetter graph request labels upper_bound found (edge ∷ rest)
+  pub longer : length rest < 19 → Reaches graph request low upper_bound labels found edge.from (edge ∷ rest)
 
 -- over every edge into the node that can carry it
 abbrev pub IsLeft : Graph → NumberedRequest → List ℕ → ℕ → List Label → Option Label → ℕ → List Edge → Type 0
-IsLeft graph request low start labels found node rest =
+IsLeft graph request low upper_bound labels found node rest =
     (edge : Edge) → Contains (edges graph) edge → edge.to ≡ node → edge.min ≤ request.amount
     → owed request.amount rest ≤ edge.max →
-    IsPassed graph request low start labels found edge rest
+    IsRelaxed graph request low upper_bound labels found edge rest
 
 -- a label is pruned, or its rest or one that dominates it was relaxed
-pub record IsSettled (graph : Graph) (request : NumberedRequest) (low : List ℕ) (start : ℕ)
+pub record IsSettled (graph : Graph) (request : NumberedRequest) (low : List ℕ) (upper_bound : ℕ)
     (labels : List Label) (found : Option Label) (label : Label) : Type 0 where
   pub rest : List Edge
   pub is : IsLabel graph request labels label rest
-  pub done : IsHopeless request low (bound_of start found) label.node rest ⊎
-      ((other : List Edge) × Serves request other rest
-      × IsLeft graph request low start labels found label.node other)
+  pub done : IsHopeless request low (bound_of upper_bound found) label.node rest ⊎
+      ((other : List Edge) × Dominates request other rest
+      × IsLeft graph request low upper_bound labels found label.node other)
 
 -- the labels represent rests, the first of them the one without edges
 pub record AreLabels (graph : Graph) (request : NumberedRequest) (labels : List Label) : Type 0 where
   pub some : 1 ≤ length labels
-  pub first : ((label_at labels 0).node ≡ request.payee) × ((label_at labels 0).count ≡ 0)
+  pub first : ((label_at labels 0).node ≡ request.payee) × ((label_at labels 0).hops ≡ 0)
   pub sound : (i : ℕ) → i < length labels
       → (rest : List Edge) × IsLabel graph request labels (label_at labels i) rest
-  pub few : (i : ℕ) → i < length labels → (label_at labels i).count ≤ 19
+  pub few : (i : ℕ) → i < length labels → (label_at labels i).hops ≤ 19
 
--- the best walk so far is one, and sends less than the start of the search
+-- the best walk so far is a usable walk, and sends less than the upper bound of the search
 abbrev pub IsFound : Graph → NumberedRequest → List Label → ℕ → Option Label → Type 0
-IsFound graph request labels start None = Unit {0}
-IsFound graph request labels start (Some found) =
-    ((walk : List Edge) × IsWalk graph request labels found walk) × (found.owed < start)
+IsFound graph request labels upper_bound None = Unit {0}
+IsFound graph request labels upper_bound (Some found) =
+    ((walk : List Edge) × IsWalk graph request labels found walk) × (found.amount < upper_bound)
 
 -- labels were added, and the best walk so far is no worse
-pub record Grows (graph : Graph) (request : NumberedRequest) (start : ℕ) (labels : List Label)
+pub record Grows (graph : Graph) (request : NumberedRequest) (upper_bound : ℕ) (labels : List Label)
     (found : Option Label) (after : List Label) (now : Option Label) : Type 0 where
   pub more : List Label
   pub is : after ≡ labels ++ more
-  pub lower : bound_of start now ≤ bound_of start found
-  pub first : (walk : List Edge) → IsNoBetter graph request labels start found walk
-      → IsNoBetter graph request after start now walk
+  pub lower : bound_of upper_bound now ≤ bound_of upper_bound found
+  pub first : (walk : List Edge) → IsNoBetter graph request labels upper_bound found walk
+      → IsNoBetter graph request after upper_bound now walk
 
 -- the better of the best walk so far and the new one
-pub record IsBetter (graph : Graph) (request : NumberedRequest) (labels : List Label) (start : ℕ)
+pub record IsBetter (graph : Graph) (request : NumberedRequest) (labels : List Label) (upper_bound : ℕ)
     (found : Option Label) (new : Label) (now : Option Label) : Type 0 where
-  pub found_is : IsFound graph request labels start now
-  pub lower : bound_of start now ≤ bound_of start found
-  pub below : bound_of start now ≤ cost new.owed new.count
-  pub keeps : (walk : List Edge) → IsNoBetter graph request labels start found walk
-      → IsNoBetter graph request labels start now walk
+  pub found_is : IsFound graph request labels upper_bound now
+  pub lower : bound_of upper_bound now ≤ bound_of upper_bound found
+  pub below : bound_of upper_bound now ≤ cost new.amount new.hops
+  pub keeps : (walk : List Edge) → IsNoBetter graph request labels upper_bound found walk
+      → IsNoBetter graph request labels upper_bound now walk
   pub takes : (walk : List Edge) → IsWalk graph request labels new walk
-      → IsNoBetter graph request labels start now walk
+      → IsNoBetter graph request labels upper_bound now walk
 
 -- there is a label that dominates the new one
 pub record IsOffered (graph : Graph) (request : NumberedRequest) (labels : List Label) (new : Label)
@@ -209,19 +209,19 @@ pub record IsOffered (graph : Graph) (request : NumberedRequest) (labels : List 
   pub has : (rest : List Edge) → IsLabel graph request labels new rest → Has graph request after new.node rest
 
 -- the label was relaxed over the edge, if that can carry it
-abbrev pub PassesOn : Graph → NumberedRequest → List ℕ → ℕ → List Label → ℕ → List Label → Option Label
+abbrev pub RelaxesOn : Graph → NumberedRequest → List ℕ → ℕ → List Label → ℕ → List Label → Option Label
     → Edge → Type 0
-PassesOn graph request low start labels i after now edge =
+RelaxesOn graph request low upper_bound labels i after now edge =
     (rest : List Edge) → IsLabel graph request labels (label_at labels i) rest →
     edge.to ≡ (label_at labels i).node → edge.min ≤ request.amount → owed request.amount rest ≤ edge.max →
-    IsPassed graph request low start after now edge rest
+    IsRelaxed graph request low upper_bound after now edge rest
 
 -- the label was relaxed
-abbrev pub LeadsOn : Graph → NumberedRequest → List ℕ → ℕ → List Label → ℕ → List Label
+abbrev pub RelaxesAll : Graph → NumberedRequest → List ℕ → ℕ → List Label → ℕ → List Label
     → Option Label → Type 0
-LeadsOn graph request low start labels i after now =
+RelaxesAll graph request low upper_bound labels i after now =
     (rest : List Edge) → IsLabel graph request labels (label_at labels i) rest
-    → IsLeft graph request low start after now (label_at labels i).node rest
+    → IsLeft graph request low upper_bound after now (label_at labels i).node rest
 
 -- the index is marked, and no other that wasn't
 pub record IsMarked (done : List Bool) (i : ℕ) (after : List Bool) : Type 0 where
@@ -229,33 +229,33 @@ pub record IsMarked (done : List Bool) (i : ℕ) (after : List Bool) : Type 0 wh
   pub others : (j : ℕ) → slice_index_or after j false ≡ true → (j ≡ i) ⊎ (slice_index_or done j false ≡ true)
   pub still : (j : ℕ) → slice_index_or done j false ≡ true → slice_index_or after j false ≡ true
 
--- each label represents as many edges as it counts
+-- each label represents as many edges as its number of hops
 abbrev pub AreSpelled : Graph → List Label → Type 0
 AreSpelled graph labels = (i : ℕ) → i < length labels → IsSpelled graph labels (label_at labels i)
 
 -- the label there is one of the same node, and dominates this one
-pub record IsServer (graph : Graph) (labels : List Label) (label : Label) (place : ℕ) : Type 0 where
+pub record IsDominator (graph : Graph) (labels : List Label) (label : Label) (place : ℕ) : Type 0 where
   pub within : place < length labels
   pub node : (label_at labels place).node ≡ label.node
-  pub serves : DoesServe graph labels (label_at labels place) label
+  pub dominates : DoesDominate graph labels (label_at labels place) label
 
 -- the label there dominates the one here
-abbrev pub StandsIn : Graph → List Label → ℕ → ℕ → Type 0
-StandsIn graph labels i place = IsServer graph labels (label_at labels i) place
+abbrev pub IsDominatorOf : Graph → List Label → ℕ → ℕ → Type 0
+IsDominatorOf graph labels i place = IsDominator graph labels (label_at labels i) place
 
 -- if some walk is usable, one sends less than this
-abbrev pub IsStart : List Edge → NumberedRequest → ℕ → Type 0
-IsStart edges request start =
+abbrev pub IsUpperBound : List Edge → NumberedRequest → ℕ → Type 0
+IsUpperBound edges request upper_bound =
     (walk : List Edge) → IsUsable edges request walk
-    → (other : List Edge) × IsUsable edges request other × (sent request.amount other < start)
+    → (other : List Edge) × IsUsable edges request other × (sent request.amount other < upper_bound)
 
 -- every marked label is settled
 abbrev pub AreSettled : Graph → NumberedRequest → List ℕ → ℕ → List Label → Option Label → List Bool → Type 0
-AreSettled graph request low start labels found done =
+AreSettled graph request low upper_bound labels found done =
     (i : ℕ) → slice_index_or done i false ≡ true
-    → (i < length labels) × IsSettled graph request low start labels found (label_at labels i)
+    → (i < length labels) × IsSettled graph request low upper_bound labels found (label_at labels i)
 
--- what is owed at the edges after each edge fits 64 bits
+-- the amounts that the edges carry fit 64 bits
 abbrev pub AreCarried : ℕ → List Edge → Type 0
 AreCarried amount [] = Unit {0}
 AreCarried amount (edge ∷ rest) = (owed amount rest < 2 ^ 64) × AreCarried amount rest

@@ -2,20 +2,20 @@
 use Rattle.std.specs.Prelude.{◌≡◌, ℕ, ◌^◌, ◌≤◌, List, length, Option, Bool, true, false, slice_index_or}
 use Rattle.lgm_graph.specs.Graph.{Graph, edges, AreListed}
 use Rattle.lgm_graph.specs.declared.edge.Edge.{Edge}
-use Rattle.lgm_route.specs.declared.numbered_request.NumberedRequest.{NumberedRequest}
+use Rattle.lgm_route.specs.declared.request.NumberedRequest.{NumberedRequest}
 use Rattle.lgm_route.specs.declared.label.Label.{Label}
 use Rattle.lgm_route.specs.inner.Numbered.{IsUsable}
 use Rattle.lgm_route.specs.inner.Bounding.{AreLow}
 use Rattle.lgm_route.specs.inner.Searching.{label_at, bound_of, IsSettled, AreLabels, IsFound, Grows}
-use Rattle.lgm_route.specs.inner.Searching.{PassesOn, LeadsOn, AreSettled, IsNoBetter, IsStart}
-use Rattle.lgm_route.specs.inner.Leading.{IsInto, IsLead, AreLeads}
+use Rattle.lgm_route.specs.inner.Searching.{RelaxesOn, RelaxesAll, AreSettled, IsNoBetter, IsUpperBound}
+use Rattle.lgm_route.specs.inner.Relaxations.{IsInto, IsRelaxation, AreRelaxations}
 
--- the edges, the request, lower bounds on the fees from the payer to each node, and more than some usable walk sends
+-- the edges, the request, lower bounds on the fees from the payer to each node, and an upper bound on the best walk
 pub record Ground : Type 0 where
   pub graph : Graph
   pub request : NumberedRequest
   pub low : List ℕ
-  pub start : ℕ
+  pub upper_bound : ℕ
 
 -- the labels, the best walk so far, and which labels are settled
 pub record State : Type 0 where
@@ -25,8 +25,8 @@ pub record State : Type 0 where
   pub done : List Bool
 
 abbrev pub state_of : Graph → NumberedRequest → List ℕ → ℕ → List Label → Option Label → List Bool → State
-state_of graph request low start labels best done = record {
-  ground = record { graph = graph; request = request; low = low; start = start };
+state_of graph request low upper_bound labels best done = record {
+  ground = record { graph = graph; request = request; low = low; upper_bound = upper_bound };
   labels = labels;
   best = best;
   done = done;
@@ -36,31 +36,31 @@ pub record IsGround (ground : Ground) : Type 0 where
   pub listed : AreListed ground.graph
   pub long : length ground.low ≡ length ground.graph.points
   pub low : AreLow (edges ground.graph) ground.request ground.low
-  pub small : ground.start ≤ 2 ^ 64
+  pub small : ground.upper_bound ≤ 2 ^ 64
 
 -- labels represent rests, the best walk is one, and marked labels are settled
 pub record IsSearch (state : State) : Type 0 where
   pub ground : IsGround state.ground
   pub labelled : AreLabels state.ground.graph state.ground.request state.labels
-  pub found : IsFound state.ground.graph state.ground.request state.labels state.ground.start state.best
-  pub settled : AreSettled state.ground.graph state.ground.request state.ground.low state.ground.start
+  pub found : IsFound state.ground.graph state.ground.request state.labels state.ground.upper_bound state.best
+  pub settled : AreSettled state.ground.graph state.ground.request state.ground.low state.ground.upper_bound
       state.labels state.best state.done
 
 -- the same search later: labels were added, the best walk is no worse, and what was marked still is
 pub record Extends (before after : State) : Type 0 where
   pub ground : after.ground ≡ before.ground
-  pub grows : Grows before.ground.graph before.ground.request before.ground.start before.labels before.best
+  pub grows : Grows before.ground.graph before.ground.request before.ground.upper_bound before.labels before.best
       after.labels after.best
   pub still : (i : ℕ) → slice_index_or before.done i false ≡ true → slice_index_or after.done i false ≡ true
 
 -- the bound that a better walk is below
 abbrev pub bound_in : State → ℕ
-bound_in state = bound_of state.ground.start state.best
+bound_in state = bound_of state.ground.upper_bound state.best
 
 -- the label at the index is settled
 abbrev pub IsSettledAt : State → ℕ → Type 0
 IsSettledAt state i =
-    IsSettled state.ground.graph state.ground.request state.ground.low state.ground.start state.labels
+    IsSettled state.ground.graph state.ground.request state.ground.low state.ground.upper_bound state.labels
     state.best (label_at state.labels i)
 
 -- and marked as settled
@@ -72,35 +72,35 @@ abbrev pub IsIntoAt : State → ℕ → ℕ → Edge → Type 0
 IsIntoAt state i at edge = IsInto state.ground.graph state.labels i at edge
 
 -- the relaxation of the label at the index over the edge, if it is needed
-abbrev pub IsLeadAt : State → ℕ → Edge → Option Label → Type 0
-IsLeadAt state i edge lead =
-    IsLead state.ground.graph state.ground.request state.ground.low (bound_in state) state.labels i edge lead
+abbrev pub IsRelaxationAt : State → ℕ → Edge → Option Label → Type 0
+IsRelaxationAt state i edge relaxation =
+    IsRelaxation state.ground.graph state.ground.request state.ground.low (bound_in state) state.labels i edge relaxation
 
 -- all its relaxations
-abbrev pub AreLeadsAt : State → ℕ → List Label → Type 0
-AreLeadsAt state i leads =
-    AreLeads state.ground.graph state.ground.request state.ground.low (bound_in state) state.labels i leads
+abbrev pub AreRelaxationsAt : State → ℕ → List Label → Type 0
+AreRelaxationsAt state i relaxations =
+    AreRelaxations state.ground.graph state.ground.request state.ground.low (bound_in state) state.labels i relaxations
 
 -- the label was relaxed over the edge, if that can carry it
-abbrev pub IsPassedOn : State → ℕ → Edge → State → Type 0
-IsPassedOn before i edge after =
-    PassesOn before.ground.graph before.ground.request before.ground.low before.ground.start before.labels i
+abbrev pub IsRelaxedOn : State → ℕ → Edge → State → Type 0
+IsRelaxedOn before i edge after =
+    RelaxesOn before.ground.graph before.ground.request before.ground.low before.ground.upper_bound before.labels i
     after.labels after.best edge
 
 -- no usable walk is better than the best
 abbrev pub IsFinished : State → Type 0
 IsFinished state =
     (walk : List Edge) → IsUsable (edges state.ground.graph) state.ground.request walk →
-    IsNoBetter state.ground.graph state.ground.request state.labels state.ground.start state.best walk
+    IsNoBetter state.ground.graph state.ground.request state.labels state.ground.upper_bound state.best walk
 
 -- the label was relaxed over all edges into its node
 abbrev pub IsLeftAt : State → ℕ → State → Type 0
 IsLeftAt before i after =
-    LeadsOn before.ground.graph before.ground.request before.ground.low before.ground.start before.labels i
+    RelaxesAll before.ground.graph before.ground.request before.ground.low before.ground.upper_bound before.labels i
     after.labels after.best
 
 -- a new search over the graph for the request
 pub record IsBegun (graph : Graph) (request : NumberedRequest) (state : State) : Type 0 where
   pub graph_is : state.ground.graph ≡ graph
   pub request_is : state.ground.request ≡ request
-  pub start : IsStart (edges state.ground.graph) state.ground.request state.ground.start
+  pub upper_bound : IsUpperBound (edges state.ground.graph) state.ground.request state.ground.upper_bound

@@ -1,4 +1,4 @@
-//! Routes of made networks beside those of the plain program.
+//! Routes in synthetic networks, compared with those of the plain program.
 
 use super::made::{network, pay, payment};
 use super::paid::assert_paid;
@@ -11,7 +11,7 @@ use std::random::RandomSource;
 use std::test::Fail;
 use std::thread::Threads;
 
-/// Adds a payment to the lines, and its answer by the plain program. Gives how many channels its route has, or 0.
+/// Adds a payment to the lines, and its answer by the plain program. Returns the number of channels of its route, or 0.
 fn push_payment(
     alloc: Global,
     numbers: &mut Numbers,
@@ -35,7 +35,7 @@ fn texts(alloc: Global, answers: &[String]) -> Result<Vec<&str>, AllocError> {
     Ok(texts)
 }
 
-/// Three payments over a made network, each in a group of its own, which all workers search for. They get the
+/// Three payments over a synthetic network, each in a group of its own, which all workers search for. They get the
 /// answers of the plain program, whatever the number of workers.
 fn compare_alone<Rt: Abort + Threads + Sync + RandomSource>(
     rt: &Rt,
@@ -53,7 +53,7 @@ fn compare_alone<Rt: Abort + Threads + Sync + RandomSource>(
     assert_paid(rt, alloc, lines.as_slice(), answers.as_slice())
 }
 
-/// Six payments over a made network. The lengths of their routes are added.
+/// Six payments over a synthetic network. The lengths of their routes are added.
 fn compare<Rt: Abort + Threads + Sync + RandomSource>(
     rt: &Rt,
     alloc: Global,

@@ -1,4 +1,4 @@
-//! What channels can carry.
+//! The limits of what channels can carry.
 
 use super::paid::{FIRST, assert_over, assert_paid};
 use lgm_test_scripts::Line::{Channel, Commit, Disabled, Open, Pay, Update};
@@ -18,7 +18,7 @@ fn up_to(max: u64) -> Terms {
 }
 
 /// A payment of 1,000 msat over two channels, of which the second charges 200 msat. The maximum is compared
-/// with what goes over the channel, which is 1,200 msat at the first one, and the minimum with what the
+/// with the amount on the channel, which is 1,200 msat at the first one, and the minimum with what the
 /// payee gets, at each.
 #[test]
 fn minimums_and_maximums(rt: HostRuntime) -> Result<(), Fail> {
@@ -42,14 +42,15 @@ fn minimums_and_maximums(rt: HostRuntime) -> Result<(), Fail> {
 /// A channel of 100,000 satoshi, by its features and its maximum. Odd features don't matter.
 #[test]
 fn capacity_and_features(rt: HostRuntime) -> Result<(), Fail> {
-    for (features, max, answer) in [
-        ("0000", 100_000_000, FIRST),
-        ("0000", 100_000_001, "no-route"),
-        ("000101", 100_000_000, "no-route"),
-        ("000102", 100_000_000, FIRST),
-        ("00020155", 100_000_000, "no-route"),
-        ("0002aaaa", 100_000_000, FIRST),
-    ] {
+    let table: [(&'static [u8], u64, &str); 6] = [
+        (&[], 100_000_000, FIRST),
+        (&[], 100_000_001, "no-route"),
+        (&[0x01], 100_000_000, "no-route"),
+        (&[0x02], 100_000_000, FIRST),
+        (&[0x01, 0x55], 100_000_000, "no-route"),
+        (&[0xaa, 0xaa], 100_000_000, FIRST),
+    ];
+    for (features, max, answer) in table {
         let lines = [
             Channel(1, 0, 1, 100_000, features),
             Update(1, 0, 1, 1, up_to(max)),
@@ -61,7 +62,7 @@ fn capacity_and_features(rt: HostRuntime) -> Result<(), Fail> {
     Ok(())
 }
 
-/// A disabled direction carries nothing, till a newer update enables it. The other one isn't touched.
+/// A disabled direction carries nothing, until a newer update enables it. The other one isn't affected.
 #[test]
 fn disabled_directions(rt: HostRuntime) -> Result<(), Fail> {
     let lines = [

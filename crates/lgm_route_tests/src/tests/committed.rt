@@ -49,7 +49,7 @@ fn closes(rt: HostRuntime) -> Result<(), Fail> {
     assert_paid(&rt, rt.alloc(), &lines, &answers)
 }
 
-/// A contradiction bans the nodes 1, 2 and 3, and their channels go. The others stay.
+/// A contradiction bans the nodes 1, 2 and 3, and their channels are removed. The others stay.
 #[test]
 fn bans(rt: HostRuntime) -> Result<(), Fail> {
     let lines = [
@@ -58,7 +58,7 @@ fn bans(rt: HostRuntime) -> Result<(), Fail> {
         Open(3, 0, 4, FREE),
         Commit,
         Pay(0, 2, 1000, 700_000),
-        Channel(2, 1, 3, 100_000, "0000"),
+        Channel(2, 1, 3, 100_000, &[]),
         Pay(0, 2, 1000, 700_000),
         Commit,
         Pay(0, 2, 1000, 700_000),
@@ -81,12 +81,12 @@ fn bans(rt: HostRuntime) -> Result<(), Fail> {
     assert_paid(&rt, rt.alloc(), &lines, &answers)
 }
 
-/// The first channel with a further update, which asks for this maximum.
+/// The first channel with one more update, which has this maximum.
 fn updated(timestamp: u32, max: u64) -> Line {
     Update(1, 0, 1, timestamp, Terms { max, ..FREE })
 }
 
-/// More items between two commits than there are channels, after routes were asked for.
+/// More items between two commits than there are channels, after routes were requested.
 #[test]
 fn more_items_than_channels(rt: HostRuntime) -> Result<(), Fail> {
     let lines = [

@@ -29,7 +29,7 @@ fn three_channels(rt: HostRuntime) -> Result<(), Fail> {
     assert_over(&rt, rt.alloc(), &row, (100_000, 600_000), answer)
 }
 
-/// Of two channels between the same nodes the one that charges less. 999 millionths of 1,000 msat are nothing.
+/// Of two channels between the same nodes the one that charges less. 999 ppm of 1,000 msat are nothing.
 #[test]
 fn parallel_channels(rt: HostRuntime) -> Result<(), Fail> {
     let one = Terms {
@@ -100,18 +100,18 @@ const GREATEST: Terms = Terms {
 
 const ALL: u64 = 2_100_000_000_000_000;
 
-/// The greatest amount can't go over two channels with the greatest fee, but over one.
+/// The greatest amount can't be sent over two channels with the greatest fee, but over one.
 #[test]
 fn greatest_fee(rt: HostRuntime) -> Result<(), Fail> {
     let lines = [
-        Channel(1, 0, 1, ALL, "0000"),
+        Channel(1, 0, 1, ALL, &[]),
         Update(1, 0, 1, 1, GREATEST),
-        Channel(2, 1, 2, ALL, "0000"),
+        Channel(2, 1, 2, ALL, &[]),
         Update(2, 1, 2, 1, GREATEST),
         Commit,
         Pay(0, 2, 2_100_000_000_000_000_000, 700_000),
         Pay(0, 2, 1, 700_000),
-        Channel(5, 0, 2, ALL, "0000"),
+        Channel(5, 0, 2, ALL, &[]),
         Update(5, 0, 2, 1, GREATEST),
         Commit,
         Pay(0, 2, 2_100_000_000_000_000_000, 700_000),

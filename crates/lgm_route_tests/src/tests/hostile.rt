@@ -1,4 +1,4 @@
-//! Networks that are made so that a search has much to keep: a payment over them takes little time all the same.
+//! Hostile networks, in which a search has to store many labels: a payment over them takes little time all the same.
 
 use lgm_test_scripts::Line::{self, Commit, Open, Pay};
 use lgm_test_scripts::{FREE, Terms, script_of, written};
@@ -8,12 +8,12 @@ use std::random::RandomSource;
 use std::test::Fail;
 use std::thread::Threads;
 
-/// What a channel charges that leads this many nodes on, with a number of its own.
+/// The terms of a channel that skips this many nodes, with a number of its own.
 #[derive(Clone, Copy, Debug)]
 enum Charges {
     /// 1,000 msat times the square of the step, and a little more.
     Convex,
-    /// The same in millionths.
+    /// The same for the proportional fee.
     Millionths,
     /// 1,000 msat.
     Equal,
@@ -43,7 +43,7 @@ struct Road {
     terms: Terms,
 }
 
-/// Roads along a row of nodes, from 1 on to a last one, of up to twenty nodes each, so many side by side.
+/// Roads along a row of nodes, from 1 on to a last one, of up to twenty nodes each, this many in parallel.
 fn row(alloc: Global, last: u8, beside: u32, charges: Charges) -> Result<Vec<Road>, AllocError> {
     let mut roads = Vec::new(alloc);
     let mut number: u32 = 0;
@@ -84,14 +84,14 @@ fn lines_of(alloc: Global, last: u8, roads: &[Road]) -> Result<Vec<Line>, AllocE
     Ok(lines)
 }
 
-/// What a node asks to pass an amount on.
+/// The fee of a node for forwarding an amount.
 fn raised(terms: &Terms, owed: u64) -> u64 {
     let share = owed.saturating_mul(u64::from(terms.millionths)) / 1_000_000;
     owed.saturating_add(u64::from(terms.base))
         .saturating_add(share)
 }
 
-/// What each node needs to have over one road more, by what the nodes need so far.
+/// The amount that each node needs over one more road, from the amounts so far.
 fn one_more(
     alloc: Global,
     roads: &[Road],
@@ -116,8 +116,8 @@ fn one_more(
     Ok(after)
 }
 
-/// What the payer sends at least, and over how many channels, by a table of what each node needs over each number of
-/// channels.
+/// The least that the payer sends, and over how many channels, by a table of the amount that each node needs for each
+/// number of channels.
 fn least(alloc: Global, last: u8, roads: &[Road]) -> Result<Option<(u64, u32)>, AllocError> {
     let mut needs = vec![in alloc; None; 256]?;
     if let Some(place) = needs.get_mut(usize::from(last)) {
@@ -139,7 +139,7 @@ fn least(alloc: Global, last: u8, roads: &[Road]) -> Result<Option<(u64, u32)>, 
     Ok(best)
 }
 
-/// How often a text stands in another one.
+/// How often a text occurs in another one.
 fn count_of(text: &[u8], part: &[u8]) -> usize {
     text.windows(part.len().max(1))
         .filter(|window| *window == part)
@@ -172,7 +172,7 @@ fn assert_least<Rt: Abort + Threads + Sync + RandomSource>(
     Ok(())
 }
 
-/// A row of 80 nodes. Without a bound on what a search keeps of each node, one of 40 takes seconds, and each further
+/// A row of 80 nodes. Without a bound on the labels of each node, one of 40 takes seconds, and each further
 /// ten take ten times as long.
 #[test]
 fn convex_charges(rt: HostRuntime) -> Result<(), Fail> {

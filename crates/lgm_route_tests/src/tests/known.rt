@@ -1,4 +1,4 @@
-//! Nodes with features that aren't known get no payments.
+//! Nodes that require unknown features get no payments.
 
 use super::paid::{assert_paid, assert_paid_where};
 use lgm_graph::Known;
@@ -39,14 +39,14 @@ fn assert_after<Rt: Abort + Threads + Sync + RandomSource>(
 /// Without a word all are known.
 #[test]
 fn all(rt: HostRuntime) -> Result<(), Fail> {
-    assert_paid(&rt, rt.alloc(), &paid_after(Node(1, 5, "000155")), &[FOUND])
+    assert_paid(&rt, rt.alloc(), &paid_after(Node(1, 5, &[0x55])), &[FOUND])
 }
 
 /// Bits are numbered from the end, and those in front of the known ones aren't known.
 #[test]
 fn bits_of_the_middle_node(rt: HostRuntime) -> Result<(), Fail> {
-    let one = Node(1, 5, "000101");
-    let far = Node(1, 5, "00020100");
+    let one = Node(1, 5, &[0x01]);
+    let far = Node(1, 5, &[0x01, 0x00]);
     assert_after(&rt, rt.alloc(), &[0x01], one, FOUND)?;
     assert_after(&rt, rt.alloc(), &[0x00, 0x01], one, FOUND)?;
     assert_after(&rt, rt.alloc(), &[0x00], one, "no-route")?;
@@ -55,18 +55,18 @@ fn bits_of_the_middle_node(rt: HostRuntime) -> Result<(), Fail> {
     assert_after(&rt, rt.alloc(), &[0x01], far, "no-route")
 }
 
-/// The payee is looked at, and the payer isn't. Odd features, none, and no announcement stop nothing.
+/// The payee's features are checked, and the payer's aren't. Odd features, none, and no announcement prevent nothing.
 #[test]
 fn which_nodes(rt: HostRuntime) -> Result<(), Fail> {
     let none = [0x00];
-    assert_after(&rt, rt.alloc(), &none, Node(2, 5, "000101"), "no-route")?;
-    assert_after(&rt, rt.alloc(), &none, Node(0, 5, "000101"), FOUND)?;
-    assert_after(&rt, rt.alloc(), &none, Node(1, 5, "0001aa"), FOUND)?;
-    assert_after(&rt, rt.alloc(), &none, Node(1, 5, "0000"), FOUND)?;
+    assert_after(&rt, rt.alloc(), &none, Node(2, 5, &[0x01]), "no-route")?;
+    assert_after(&rt, rt.alloc(), &none, Node(0, 5, &[0x01]), FOUND)?;
+    assert_after(&rt, rt.alloc(), &none, Node(1, 5, &[0xaa]), FOUND)?;
+    assert_after(&rt, rt.alloc(), &none, Node(1, 5, &[]), FOUND)?;
     assert_after(&rt, rt.alloc(), &none, Line::Note, FOUND)
 }
 
-/// A newer announcement brings the routes back, and takes them again. With its last channel it goes.
+/// A newer announcement brings the routes back, and takes them again. It is removed with the node's last channel.
 #[test]
 fn later_announcements(rt: HostRuntime) -> Result<(), Fail> {
     let known = Known::bits(rt.alloc(), &[0x00])?;
@@ -78,14 +78,14 @@ fn later_announcements(rt: HostRuntime) -> Result<(), Fail> {
         &[
             Open(1, 0, 1, FREE),
             Open(2, 1, 2, second),
-            Node(1, 5, "000101"),
+            Node(1, 5, &[0x01]),
             Commit,
             pay,
-            Node(1, 6, "000102"),
+            Node(1, 6, &[0x02]),
             pay,
             Commit,
             pay,
-            Node(1, 7, "000101"),
+            Node(1, 7, &[0x01]),
             Commit,
             pay,
             Close(1),

@@ -45,7 +45,7 @@ fn alone(alloc: Global) -> Result<Vec<Line>, AllocError> {
     Ok(lines)
 }
 
-/// 20 channels are a route, 21 aren't. Payments that are alone in their group are searched for by all
+/// 20 channels are a route, 21 aren't. Payments that are alone in their group are searched by all
 /// workers.
 #[test]
 fn twenty_channels(rt: HostRuntime) -> Result<(), Fail> {

@@ -1,6 +1,6 @@
-//! Networks made from a seed.
+//! Random networks from a seed.
 
-use super::plain::Payment;
+use super::plain::PlainPayment;
 use lgm_test_scripts::{Line, Numbers, Terms};
 use std::alloc::{AllocError, Global};
 
@@ -48,7 +48,7 @@ fn push_channel(
     nodes: u8,
 ) -> Result<(), AllocError> {
     let (first, second) = pair(numbers, nodes);
-    lines.push(Line::Channel(block, first, second, 100_000, "0000"))?;
+    lines.push(Line::Channel(block, first, second, 100_000, &[]))?;
     let which = numbers.below(4);
     if which != 0 {
         lines.push(Line::Update(block, first, second, 1, terms(numbers)))?;
@@ -71,7 +71,7 @@ pub fn network(alloc: Global, numbers: &mut Numbers) -> Result<Vec<Line>, AllocE
 }
 
 /// A payment of about 1,000 msat between two of the first five nodes.
-pub fn payment(numbers: &mut Numbers) -> Payment {
+pub fn payment(numbers: &mut Numbers) -> PlainPayment {
     let (first, second) = any_pair(numbers, 5);
     let turned = numbers.below(2) == 1;
     let (payer, payee) = if turned {
@@ -79,7 +79,7 @@ pub fn payment(numbers: &mut Numbers) -> Payment {
     } else {
         (first, second)
     };
-    Payment {
+    PlainPayment {
         payer,
         payee,
         amount: numbers
@@ -90,8 +90,8 @@ pub fn payment(numbers: &mut Numbers) -> Payment {
 }
 
 /// The payment of a line.
-pub fn pay(payment: &Payment) -> Line {
-    let Payment {
+pub fn pay(payment: &PlainPayment) -> Line {
+    let PlainPayment {
         payer,
         payee,
         amount,

@@ -45,7 +45,7 @@ pub fn assert_paid<Rt: Abort + Threads + Sync + RandomSource>(
     assert_paid_where(rt, alloc, &Known::all(), lines, answers)
 }
 
-/// Once these lines are committed, payments get the answers beside them.
+/// Once these lines are committed, payments get these answers.
 pub fn assert_payments<Rt: Abort + Threads + Sync + RandomSource>(
     rt: &Rt,
     alloc: Global,
@@ -63,7 +63,7 @@ pub fn assert_payments<Rt: Abort + Threads + Sync + RandomSource>(
 }
 
 /// Channels in a row, and a commit: 1x0x0 from node 0 to node 1, 2x0x0 from there to node 2, and so on, each
-/// with what its first node asks for.
+/// with the terms of its first node.
 pub fn row(alloc: Global, terms: &[Terms]) -> Result<Vec<Line>, AllocError> {
     let mut lines = Vec::new(alloc);
     let mut node = 0u8;

@@ -1,4 +1,4 @@
-//! A plain program for routes: it makes all walks, and keeps the best one.
+//! A plain program for routes: it enumerates all walks, and takes the best one.
 
 use lgm_test_scripts::{Line, Terms};
 use std::alloc::{AllocError, Global};
@@ -14,14 +14,14 @@ pub struct Road {
 
 /// A payment.
 #[derive(Clone, Copy, Debug)]
-pub struct Payment {
+pub struct PlainPayment {
     pub payer: u8,
     pub payee: u8,
     pub amount: u64,
     pub expiry: u32,
 }
 
-/// A road of a walk, with what goes over it, and when that expires.
+/// A road of a walk, with the amount that it carries, and when that expires.
 #[derive(Clone, Copy, Debug)]
 pub struct Step {
     pub block: u32,
@@ -45,7 +45,7 @@ pub fn roads_of(alloc: Global, lines: &[Line]) -> Result<Vec<Road>, AllocError> 
     Ok(roads)
 }
 
-/// Whether a road goes on from a walk that began at the payer, to a node where it hasn't been.
+/// Whether a road extends a walk that began at the payer, to a node where it hasn't been.
 fn goes_on(payer: u8, walk: &[Road], road: &Road) -> bool {
     let at = match walk.last() {
         Some(last) => last.to,
@@ -54,7 +54,7 @@ fn goes_on(payer: u8, walk: &[Road], road: &Road) -> bool {
     road.from == at && road.to != payer && !walk.iter().any(|before| before.to == road.to)
 }
 
-/// A walk with one road more.
+/// A walk with one more road.
 fn longer(alloc: Global, walk: &[Road], road: Road) -> Result<Vec<Road>, AllocError> {
     let mut longer = Vec::from_slice(alloc, walk)?;
     longer.push(road)?;
@@ -79,16 +79,16 @@ fn all_longer(
     Ok(all)
 }
 
-/// What a node asks for an amount that it sends over a road.
+/// The fee of a node for forwarding an amount over a road.
 fn charge(terms: &Terms, amount: u64) -> u128 {
     let share = u128::from(amount).saturating_mul(u128::from(terms.millionths)) / 1_000_000;
     share.saturating_add(u128::from(terms.base))
 }
 
-/// What goes over each road of a walk, from the last one on, if all can carry it.
+/// The amount on each road of a walk, from the last one on, if all can carry it.
 fn steps_back(
     alloc: Global,
-    payment: &Payment,
+    payment: &PlainPayment,
     walk: &[Road],
 ) -> Result<Option<Vec<Step>>, AllocError> {
     let mut steps = Vec::new(alloc);
@@ -112,8 +112,8 @@ fn steps_back(
     Ok(Some(steps))
 }
 
-/// Whether steps are better than others, both from the last road on: what the payer sends decides, then their number, and
-/// then the ids from the payer on.
+/// Whether steps are better than others, both from the last road on: what the payer sends decides, then their number,
+/// and then the ids from the payer on.
 fn are_better(steps: &[Step], others: &[Step]) -> bool {
     if let (Some(first), Some(other)) = (steps.last(), others.last())
         && first.amount != other.amount
@@ -134,7 +134,7 @@ fn are_better(steps: &[Step], others: &[Step]) -> bool {
 /// The better one of the best steps so far and those of a walk, if it ends at the payee.
 fn better(
     alloc: Global,
-    payment: &Payment,
+    payment: &PlainPayment,
     walk: &[Road],
     best: Option<Vec<Step>>,
 ) -> Result<Option<Vec<Step>>, AllocError> {
@@ -154,7 +154,7 @@ fn better(
 pub fn best_steps(
     alloc: Global,
     roads: &[Road],
-    payment: &Payment,
+    payment: &PlainPayment,
 ) -> Result<Option<Vec<Step>>, AllocError> {
     let mut walks = Vec::new(alloc);
     walks.push(Vec::new(alloc))?;

@@ -1,4 +1,4 @@
-//! Routes where memory is refused.
+//! Routes when memory is refused.
 
 use super::paid::{BOTH, THIRD};
 use lgm_graph::Known;
@@ -16,7 +16,7 @@ const LINES: [Line; 16] = [
     Open(1, 0, 1, FREE),
     Open(2, 1, 2, FREE),
     Open(3, 0, 2, FREE),
-    Node(1, 5, "000101"),
+    Node(1, 5, &[0x01]),
     Commit,
     PAYMENT,
     Close(3),
@@ -24,7 +24,7 @@ const LINES: [Line; 16] = [
     Commit,
     PAYMENT,
     Update(2, 2, 1, 1, FREE),
-    Channel(2, 3, 4, 100_000, "0000"),
+    Channel(2, 3, 4, 100_000, &[]),
     Commit,
     PAYMENT,
     Pay(0, 1, 1000, 700_000),
@@ -33,7 +33,7 @@ const LINES: [Line; 16] = [
 
 const ANSWERS: [&str; 5] = [THIRD, THIRD, BOTH, "no-route", "no-route"];
 
-/// To be run with each allocation refused in turn. The writer fails where it is refused memory itself.
+/// To be run with each allocation refused in turn. The writer fails if memory is refused to it.
 #[test]
 fn refused_memory(rt: HostRuntime) -> Result<(), Fail> {
     let script = script_of(rt.alloc(), &LINES)?;

@@ -16,7 +16,7 @@ fn counted(alloc: Global, number: u64) -> Result<String, AllocError> {
     format!(in alloc; "{count:02x}{digits}")
 }
 
-/// The payload for the node behind a road, where there is a next one.
+/// The payload for the node at the end of a road, if there is a next one.
 fn forwarded(alloc: Global, next: &Step) -> Result<String, AllocError> {
     let (amount, expiry) = (
         counted(alloc, next.amount)?,

@@ -4,13 +4,13 @@ use Rattle.lgm_script.specs.declared.output.SendFault.TheVariants as sending
 use Rattle.lgm_script.specs.Output.{OutputState, Tells, TellsPart}
 use Rattle.lgm_answers.specs.declared.run_fault.RunFault.{RunFault}
 use Rattle.lgm_answers.specs.declared.run_fault.RunFault.TheVariants.{Write}
-use Rattle.lgm_run.specs.declared.running.Counts.{Counts}
+use Rattle.lgm_run.specs.declared.script_run.Counts.{Counts}
 
 -- all that was buffered was written
 pub record IsFlushed (old new : OutputState) (answered result : Result Counts RunFault) : Type 0 where
   pub same : result ≡ answered
   pub told : Tells old new []
-  pub clear : new.gathered ≡ []
+  pub clear : new.buffered ≡ []
 
 -- the sink failed while it was written
 pub record FailsThen (old new : OutputState) (result : Result Counts RunFault) : Type 0 where

@@ -4,7 +4,7 @@ use Rattle.lgm_store.specs.declared.op.Op.{Op}
 use Rattle.lgm_store.specs.Rows.{Rows}
 use Rattle.lgm_check.specs.declared.refusal.Refusal.{Refusal}
 use Rattle.lgm_store.specs.History.{absorbed, fold_from}
-use Rattle.lgm_graph.specs.Network.{Charted}
+use Rattle.lgm_graph.specs.Network.{NetworkState}
 use Rattle.lgm_graph.specs.declared.replica.Replica.{Replica}
 
 -- the rows of all accepted items, those of the committed ones, and the known feature bits
@@ -14,7 +14,7 @@ pub record Growth : Type 0 where
   pub committed : Rows
 
 -- what is due makes of the one network what pending operations make of the other, and only one of them is behind
-pub record AreKept (growing : Replica) (committed : Charted) (pending : List Op) : Type 0 where
+pub record AreKept (growing : Replica) (committed : NetworkState) (pending : List Op) : Type 0 where
   pub known : growing.network.known ≡ committed.known
   pub behind : fold_from growing.network.rows growing.due.items ≡ fold_from committed.rows pending
   pub one : (growing.due.items ≡ []) ⊎ (pending ≡ [])

@@ -5,12 +5,12 @@ use Rattle.lgm_wire.specs.declared.chain_hash.ChainHash.{ChainHash}
 use Rattle.lgm_script.specs.declared.line_reader.TheConstants.{MAX_LINE}
 use Rattle.lgm_script.specs.Lines.{IsFirstLine}
 use Rattle.lgm_script.specs.Groups.{AreFirstLines}
-use Rattle.lgm_script.specs.Request.{request_of}
+use Rattle.lgm_script.specs.Command.{command_of}
 use Rattle.lgm_script.specs.Device.{Input}
 use Rattle.lgm_script.specs.Output.{OutputState, Tells, TellsSome}
 use Rattle.lgm_answers.specs.declared.run_fault.RunFault.{RunFault}
 use Rattle.lgm_answers.specs.declared.run_fault.RunFault.TheVariants as faults
-use Rattle.lgm_run.specs.declared.running.Counts.{Counts}
+use Rattle.lgm_run.specs.declared.script_run.Counts.{Counts}
 use Rattle.lgm_run.specs.Running.{NeedsNoBoard, IsAnswered, IsTooMany, IsTooLong, IsCutShort}
 use Rattle.lgm_answers.specs.Script.{State}
 use Rattle.lgm_run.specs.inner.Steps.{state_from, text_from}
@@ -29,8 +29,8 @@ pub record HaveAnswers (chain : ChainHash) (number : ℕ) (state state' : State)
   pub lines : List (List ℕ)
   pub next : AreNext buffered first len lines
   pub count_is : count ≡ length lines
-  pub state_is : state' ≡ state_from chain state (map request_of lines)
-  pub text : told (text_from chain number state (map request_of lines))
+  pub state_is : state' ≡ state_from chain state (map command_of lines)
+  pub text : told (text_from chain number state (map command_of lines))
 
 -- a prefix of the text of next lines was written, at most this many
 pub record HaveBegun (chain : ChainHash) (number most : ℕ) (state : State) (buffered : List ℕ) (first : ℕ)
@@ -39,7 +39,7 @@ pub record HaveBegun (chain : ChainHash) (number most : ℕ) (state : State) (bu
   pub len : ℕ
   pub next : AreNext buffered first len lines
   pub limit : length lines ≤ most
-  pub text : told_part (text_from chain number state (map request_of lines))
+  pub text : told_part (text_from chain number state (map command_of lines))
 
 -- how answering the lines of a script ends: all are answered, or it exceeds a limit, or a device failed. Some of the
 -- text may still be buffered

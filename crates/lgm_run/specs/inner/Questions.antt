@@ -4,9 +4,9 @@ use Rattle.std.specs.Borrow.{Bor}
 use Rattle.lgm_wire.specs.declared.chain_hash.ChainHash.{ChainHash}
 use Rattle.lgm_store.specs.Rows.{Rows}
 use Rattle.lgm_graph.specs.Graph.{Graph}
-use Rattle.lgm_script.specs.declared.request.Request.{Request}
-use Rattle.lgm_script.specs.declared.request.Request.TheVariants as requests
-use Rattle.lgm_script.specs.Request.{request_of}
+use Rattle.lgm_script.specs.declared.command.Command.{Command}
+use Rattle.lgm_script.specs.declared.command.Command.TheVariants as requests
+use Rattle.lgm_script.specs.Command.{command_of}
 use Rattle.lgm_script.specs.Groups.{IsNoRoute}
 use Rattle.lgm_script.specs.Text.{word_line}
 use Rattle.lgm_answers.specs.declared.answer.Answer.{Answer}
@@ -19,7 +19,7 @@ use Rattle.lgm_answers.specs.Routing.{route_answer}
 use Rattle.lgm_run.specs.inner.Turns.{behind_all, texts_of}
 
 -- the text for a question, from the committed rows alone
-abbrev pub question_text : ChainHash → Option (List ℕ) → Rows → ℕ → Request → List ℕ
+abbrev pub question_text : ChainHash → Option (List ℕ) → Rows → ℕ → Command → List ℕ
 question_text chain known committed number (requests.Query bytes) =
     query_text number (query_answer chain committed bytes)
 question_text chain known committed number (requests.Filter peer bytes) =
@@ -29,31 +29,31 @@ question_text chain known committed number (requests.Route payment) =
 question_text chain known committed number _ = word_line number (codes "bad")
 
 -- the filters after a question
-abbrev pub filters_after : ChainHash → List PeerFilter → Request → List PeerFilter
+abbrev pub filters_after : ChainHash → List PeerFilter → Command → List PeerFilter
 filters_after chain filters (requests.Filter peer bytes) = filters_with filters peer (filter_read chain bytes)
 filters_after chain filters _ = filters
 
 -- the answer to a question: its text, and the filters after it
-pub record IsAnswerTo (chain : ChainHash) (known : Option (List ℕ)) (committed : Rows) (request : Request)
+pub record IsAnswerTo (chain : ChainHash) (known : Option (List ℕ)) (committed : Rows) (request : Command)
     (answer : Answer) : Type 0 where
   pub text : (n : ℕ) → answer_text n answer ≡ question_text chain known committed n request
   pub filters : (filters : List PeerFilter) → filters_by filters answer ≡ filters_after chain filters request
 
 -- the filters after several
-abbrev pub filters_behind : ChainHash → List PeerFilter → List Request → List PeerFilter
+abbrev pub filters_behind : ChainHash → List PeerFilter → List Command → List PeerFilter
 filters_behind chain = behind_all (filters_after chain)
 
 -- their text, for the lines from this number on
-abbrev pub questions_text : ChainHash → Option (List ℕ) → Rows → ℕ → List PeerFilter → List Request → List ℕ
+abbrev pub questions_text : ChainHash → Option (List ℕ) → Rows → ℕ → List PeerFilter → List Command → List ℕ
 questions_text chain known committed =
     texts_of (filters_after chain)
     (λ number filters request. question_text chain known committed number request)
 
 -- what lines request
-abbrev pub asked_in : List (Bor (List ℕ)) → List Request
-asked_in lines = map (λ line. request_of line.now) lines
+abbrev pub asked_in : List (Bor (List ℕ)) → List Command
+asked_in lines = map (λ line. command_of line.now) lines
 
 -- there is a view, or no route is requested
-abbrev pub IsReady : Option Graph → Request → Type 0
+abbrev pub IsReady : Option Graph → Command → Type 0
 IsReady None request = IsNoRoute request
 IsReady (Some graph) request = Unit {0}

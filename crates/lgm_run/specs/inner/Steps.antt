@@ -6,8 +6,8 @@ use Rattle.lgm_store.specs.declared.op.Op.{Op}
 use Rattle.lgm_store.specs.Rows.{empty}
 use Rattle.lgm_store.specs.History.{absorbed}
 use Rattle.lgm_query.specs.declared.filter.Filter.{Filter}
-use Rattle.lgm_script.specs.declared.request.Request.{Request}
-use Rattle.lgm_script.specs.declared.request.Request.TheVariants as requests
+use Rattle.lgm_script.specs.declared.command.Command.{Command}
+use Rattle.lgm_script.specs.declared.command.Command.TheVariants as requests
 use Rattle.lgm_query.specs.declared.request.RequestFault.{RequestFault}
 use Rattle.lgm_script.specs.Text.{word_line}
 use Rattle.lgm_answers.specs.Answer.{commit_text}
@@ -34,7 +34,7 @@ state_committed state = record state { committed = state.rows }
 abbrev pub with_filter : State → ℕ → Result Filter RequestFault → State
 with_filter state peer filter = record state { filters = filters_with state.filters peer filter }
 
-abbrev pub state_after : ChainHash → State → Request → State
+abbrev pub state_after : ChainHash → State → Command → State
 state_after chain state requests.Commit = state_committed state
 state_after chain state (requests.Offer item) = state_behind state (outcome_of chain state.rows item)
 state_after chain state (requests.Filter peer bytes) = with_filter state peer (filter_read chain bytes)
@@ -42,11 +42,11 @@ state_after chain state _ = state
 
 -- ---- a request that is neither an item nor a question
 
-abbrev pub state_alone : State → Request → State
+abbrev pub state_alone : State → Command → State
 state_alone state requests.Commit = state_committed state
 state_alone state _ = state
 
-abbrev pub text_alone : ℕ → State → Request → List ℕ
+abbrev pub text_alone : ℕ → State → Command → List ℕ
 text_alone number state requests.Quiet = []
 text_alone number state requests.Commit =
     commit_text number state.accepted state.committed state.rows state.filters
@@ -54,9 +54,9 @@ text_alone number state _ = word_line number (codes "bad")
 
 -- ---- several requests
 
-abbrev pub state_from : ChainHash → State → List Request → State
+abbrev pub state_from : ChainHash → State → List Command → State
 state_from chain = behind_all (state_after chain)
 
 -- their text, for the lines from this number on
-abbrev pub text_from : ChainHash → ℕ → State → List Request → List ℕ
+abbrev pub text_from : ChainHash → ℕ → State → List Command → List ℕ
 text_from chain = texts_of (state_after chain) (text_for chain)

@@ -1,8 +1,8 @@
 -- The kind of a line, by its first word.
 use Rattle.std.specs.Prelude.{ℕ, Bool, ◌||◌, List, take, codes, nat_eq, if◌then◌else◌}
 use Rattle.std.specs.Cmp.Lexicographic.{pointwise}
-use Rattle.lgm_script.specs.declared.grouping.Kind.{Kind}
-use Rattle.lgm_script.specs.declared.grouping.Kind.TheVariants.{Item, Question, Other}
+use Rattle.lgm_script.specs.declared.group.Kind.{Kind}
+use Rattle.lgm_script.specs.declared.group.Kind.TheVariants.{Item, Question, Other}
 
 -- a line that may request a route
 abbrev pub has_route_word : List ℕ → Bool

@@ -1,15 +1,14 @@
 //! Channel announcements: each refusal, their order, and the grammar of their lines.
 
 use super::answers::assert_answers;
-use super::messages::{SCID, announced};
-use lgm_test_scripts::{CHAIN, OTHER_CHAIN, announcement, point};
+use lgm_test_scripts::spelled;
 use std::test::Fail;
 
 #[test]
-fn held_channels(rt: HostRuntime) -> Result<(), Fail> {
+fn stored_channels(rt: HostRuntime) -> Result<(), Fail> {
     let alloc = rt.alloc();
-    let first = announced(alloc, SCID)?;
-    let second = announced(alloc, "0927c00000020000")?;
+    let first = spelled(alloc, "ca(600000x1x0,A,B)")?;
+    let second = spelled(alloc, "ca(600000x2x0,A,B)")?;
     let script = format!(in alloc;
         "m {first} all 100000\nm {first}00 all 100000\n# a note\n\nm {second}0102 all 0\ncommit"
     )?;
@@ -20,14 +19,13 @@ fn held_channels(rt: HostRuntime) -> Result<(), Fail> {
 #[test]
 fn refusals_in_order(rt: HostRuntime) -> Result<(), Fail> {
     let alloc = rt.alloc();
-    let (a, b) = (point(alloc, "02", "0a")?, point(alloc, "03", "0b")?);
-    let (bad, key) = (point(alloc, "04", "0c")?, point(alloc, "02", "ee")?);
-    let other = announcement(alloc, OTHER_CHAIN, SCID, (&bad, &a), (&key, &key))?;
-    let bad_node = announcement(alloc, CHAIN, SCID, (&bad, &a), (&key, &key))?;
-    let bad_key = announcement(alloc, CHAIN, SCID, (&b, &a), (&key, &bad))?;
-    let turned = announcement(alloc, CHAIN, SCID, (&b, &a), (&key, &key))?;
-    let equal = announcement(alloc, CHAIN, SCID, (&a, &a), (&key, &key))?;
-    let right = announcement(alloc, CHAIN, SCID, (&a, &b), (&key, &key))?;
+    let a = spelled(alloc, "A")?;
+    let other = spelled(alloc, "ca(600000x1x0,U,A,chain=X)")?;
+    let bad_node = spelled(alloc, "ca(600000x1x0,U,A)")?;
+    let bad_key = spelled(alloc, "ca(600000x1x0,03:0b,A,key_2=U)")?;
+    let turned = spelled(alloc, "ca(600000x1x0,03:0b,A)")?;
+    let equal = spelled(alloc, "ca(600000x1x0,A,A)")?;
+    let right = spelled(alloc, "ca(600000x1x0,A,03:0b)")?;
     let script = format!(in alloc;
         "m {other} nobody spent\nm {bad_node} nobody spent\n\
         m {bad_key} nobody spent\nm {turned} nobody spent\nm {equal} all 1\nm {right} not-all spent\n\
@@ -44,7 +42,7 @@ fn refusals_in_order(rt: HostRuntime) -> Result<(), Fail> {
 #[test]
 fn bytes_that_are_no_message(rt: HostRuntime) -> Result<(), Fail> {
     let alloc = rt.alloc();
-    let mut cut = announced(alloc, SCID)?;
+    let mut cut = spelled(alloc, "ca(600000x1x0,A,B)")?;
     cut.pop();
     cut.pop();
     let script = format!(in alloc;
@@ -57,7 +55,7 @@ fn bytes_that_are_no_message(rt: HostRuntime) -> Result<(), Fail> {
 #[test]
 fn grammar(rt: HostRuntime) -> Result<(), Fail> {
     let alloc = rt.alloc();
-    let signer = point(alloc, "99", "0a")?;
+    let signer = spelled(alloc, "99:0a")?;
     let table: [(&str, &str); 24] = [
         ("hello", "bad"),
         ("m", "bad"),

@@ -1,21 +1,18 @@
-//! Announcements of nodes, and closes, which take them along.
+//! Announcements of nodes, and closes, which remove them.
 
 use super::answers::assert_answers;
-use super::messages::{FIRST, announced, two_channels, two_nodes};
-use lgm_test_scripts::{CHAIN, node_announcement, point, update};
+use super::messages::{two_channels, two_nodes};
+use lgm_test_scripts::spelled;
 use std::test::Fail;
 
 #[test]
 fn nodes(rt: HostRuntime) -> Result<(), Fail> {
     let alloc = rt.alloc();
     let (a, b) = two_nodes(alloc)?;
-    let bad = point(alloc, "05", "0b")?;
-    let channel = announced(alloc, FIRST)?;
-    let (five, six) = (
-        node_announcement(alloc, &b, 5)?,
-        node_announcement(alloc, &b, 6)?,
-    );
-    let unlawful = node_announcement(alloc, &bad, 5)?;
+    let bad = spelled(alloc, "05:0b")?;
+    let channel = spelled(alloc, "ca(1x0x0,A,B)")?;
+    let (five, six) = (spelled(alloc, "na(B,5)")?, spelled(alloc, "na(B,6)")?);
+    let unlawful = spelled(alloc, "na(05:0b,5)")?;
     let script = format!(in alloc;
         "m {five} {b} -\nm {channel} all 1\nm {unlawful} {bad} -\n\
         m {five} {a} -\nm {five} nobody -\nm {five} {b} -\nm {five}01 {b} -\nm {six} {b} -\n\
@@ -31,9 +28,9 @@ fn closes(rt: HostRuntime) -> Result<(), Fail> {
     let alloc = rt.alloc();
     let (a, b) = two_nodes(alloc)?;
     let (channel, other) = two_channels(alloc)?;
-    let five = node_announcement(alloc, &b, 5)?;
-    let newer = update(alloc, CHAIN, FIRST, ("01", "00"), 9)?;
-    let older = update(alloc, CHAIN, FIRST, ("01", "00"), 8)?;
+    let five = spelled(alloc, "na(B,5)")?;
+    let newer = spelled(alloc, "cu(1x0x0,0,9)")?;
+    let older = spelled(alloc, "cu(1x0x0,0,8)")?;
     let script = format!(in alloc;
         "m {channel} all 1\nm {other} all 1\nm {newer} {a} -\nm {five} {b} -\n\
         close 1x0x0\nclose 1x0x0\nm {five} {b} -\nm {older} {a} -\nm {channel} all 1\nm {older} {a} -\n\

@@ -1,14 +1,14 @@
-//! What commits cost: what was accepted since the last one, whatever the size of the map.
+//! The cost of commits: that of what was accepted since the last one, whatever the size of the map.
 
 use lgm_test_scripts::{Line, script_of, text_of, written};
 use std::alloc::{AllocError, Global};
 use std::test::Fail;
 
-/// So many channels, and the closes of some of them, each with a commit behind it.
+/// This many channels, and the closes of some of them, each followed by a commit.
 fn closed_one_by_one(alloc: Global, channels: u32, closes: u32) -> Result<Vec<Line>, AllocError> {
     let mut lines = Vec::new(alloc);
     for block in 0..channels {
-        lines.push(Line::Channel(block, 0, 1, 100_000, "0000"))?;
+        lines.push(Line::Channel(block, 0, 1, 100_000, &[]))?;
     }
     for block in 0..closes {
         lines.push(Line::Close(block))?;

@@ -1,8 +1,8 @@
 //! Filter lines, and what commits send for them.
 
 use super::answers::assert_answers;
-use super::messages::{FIRST, SECOND, announced, two_channels, two_nodes};
-use lgm_test_scripts::{CHAIN, OTHER_CHAIN, node_announcement, update};
+use super::messages::{two_channels, two_nodes};
+use lgm_test_scripts::{CHAIN, OTHER_CHAIN, spelled};
 use std::alloc::{AllocError, Global};
 use std::test::Fail;
 
@@ -16,8 +16,8 @@ fn filter(alloc: Global, first: &str, range: &str) -> Result<String, AllocError>
 fn the_same_bytes_again(rt: HostRuntime) -> Result<(), Fail> {
     let alloc = rt.alloc();
     let (a, b) = two_nodes(alloc)?;
-    let channel = announced(alloc, FIRST)?;
-    let five = update(alloc, CHAIN, FIRST, ("01", "00"), 5)?;
+    let channel = spelled(alloc, "ca(1x0x0,A,B)")?;
+    let five = spelled(alloc, "cu(1x0x0,0,5)")?;
     let all = filter(alloc, "00000000", "ffffffff")?;
     let script = format!(in alloc;
         "filter 2 {all}\nm {channel} all 1\nm {five} {a} -\ncommit\nclose 1x0x0\nm {channel} all 1\n\
@@ -36,8 +36,8 @@ fn the_same_bytes_again(rt: HostRuntime) -> Result<(), Fail> {
 fn several_peers(rt: HostRuntime) -> Result<(), Fail> {
     let alloc = rt.alloc();
     let (a, b) = two_nodes(alloc)?;
-    let channel = announced(alloc, FIRST)?;
-    let node = node_announcement(alloc, &b, 5)?;
+    let channel = spelled(alloc, "ca(1x0x0,A,B)")?;
+    let node = spelled(alloc, "na(B,5)")?;
     let (all, none) = (
         filter(alloc, "00000000", "ffffffff")?,
         filter(alloc, "00000005", "00000000")?,
@@ -63,13 +63,10 @@ fn backlog_in_order(rt: HostRuntime) -> Result<(), Fail> {
     let alloc = rt.alloc();
     let (a, b) = two_nodes(alloc)?;
     let (first, second) = two_channels(alloc)?;
-    let by_a = update(alloc, CHAIN, SECOND, ("01", "00"), 9)?;
-    let by_b = update(alloc, CHAIN, SECOND, ("01", "01"), 5)?;
-    let other = update(alloc, CHAIN, FIRST, ("01", "01"), 5)?;
-    let (node_a, node_b) = (
-        node_announcement(alloc, &a, 5)?,
-        node_announcement(alloc, &b, 5)?,
-    );
+    let by_a = spelled(alloc, "cu(2x0x0,0,9)")?;
+    let by_b = spelled(alloc, "cu(2x0x0,1,5)")?;
+    let other = spelled(alloc, "cu(1x0x0,1,5)")?;
+    let (node_a, node_b) = (spelled(alloc, "na(A,5)")?, spelled(alloc, "na(B,5)")?);
     let (all, five) = (
         filter(alloc, "00000000", "0000000a")?,
         filter(alloc, "00000005", "00000001")?,
@@ -95,8 +92,8 @@ fn backlog_in_order(rt: HostRuntime) -> Result<(), Fail> {
 fn words_for_other_messages(rt: HostRuntime) -> Result<(), Fail> {
     let alloc = rt.alloc();
     let (_, b) = two_nodes(alloc)?;
-    let channel = announced(alloc, FIRST)?;
-    let node = node_announcement(alloc, &b, 5)?;
+    let channel = spelled(alloc, "ca(1x0x0,A,B)")?;
+    let node = spelled(alloc, "na(B,5)")?;
     let all = filter(alloc, "00000000", "ffffffff")?;
     let script = format!(in alloc;
         "filter 3 {all}\nfilter 3 0109{OTHER_CHAIN}0000000000000000\nfilter 3 0106{OTHER_CHAIN}01\n\

@@ -1,11 +1,11 @@
 //! Scripts and lines as long as they may be, and longer.
 
-use super::messages::{SCID, announced};
+use super::messages::SCID;
 use lgm_graph::Known;
 use lgm_par::Open;
 use lgm_script::MemorySink;
 use lgm_server::{Counts, RunFault};
-use lgm_test_scripts::CHAIN;
+use lgm_test_scripts::{CHAIN, spelled};
 use std::alloc::{AllocError, Global};
 use std::random::RandomSource;
 use std::test::Fail;
@@ -20,7 +20,7 @@ fn ended<Rt: Threads + Sync + RandomSource>(
     lgm_test_scripts::ended(rt, alloc, &Known::all(), script, 100_000, 4, &Open)
 }
 
-/// So many empty lines.
+/// This many empty lines.
 fn empty_lines(alloc: Global, count: usize) -> Result<Vec<u8>, AllocError> {
     vec![in alloc; b'\n'; count]
 }
@@ -57,7 +57,7 @@ fn longest_line(rt: HostRuntime) -> Result<(), Fail> {
     Ok(())
 }
 
-/// An announcement with so many digits 0 behind its fields, between what stands in front and behind.
+/// An announcement with this many digits 0 after its fields, between the texts before and after it.
 fn longer(
     alloc: Global,
     front: &str,
@@ -73,11 +73,11 @@ fn longer(
     Ok(text)
 }
 
-/// A message has at most 65,535 bytes. The longest is taken, and sent whole.
+/// A message has at most 65,535 bytes. The longest is accepted, and sent whole.
 #[test]
 fn longest_message(rt: HostRuntime) -> Result<(), Fail> {
     let alloc = rt.alloc();
-    let message = announced(alloc, SCID)?;
+    let message = spelled(alloc, "ca(600000x1x0,A,B)")?;
     let lines = format!(in alloc; " all 100000\ncommit\nq 0105{CHAIN}000900{SCID}\n")?;
     let script = longer(alloc, "m ", &message, 2 * 65_103, &lines)?;
     let (counts, writer) = ended(&rt, alloc, script.as_slice());

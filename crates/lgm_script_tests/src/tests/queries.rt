@@ -1,8 +1,8 @@
 //! Queries of channels by ids and of ranges of blocks, in scripts.
 
 use super::answers::assert_answers;
-use super::messages::{FIRST, SCID, SECOND, announced, between, two_nodes};
-use lgm_test_scripts::{CHAIN, OTHER_CHAIN, node_announcement, point, update, written};
+use super::messages::SCID;
+use lgm_test_scripts::{CHAIN, OTHER_CHAIN, spelled, written};
 use std::alloc::Global;
 use std::process::Abort;
 use std::random::RandomSource;
@@ -11,8 +11,8 @@ use std::thread::Threads;
 
 /// The channels 1x0x0 from A to B and 2x0x0 from B to C.
 fn channels(alloc: Global) -> Result<(String, String), Fail> {
-    let first = announced(alloc, FIRST)?;
-    let second = between(alloc, SECOND, "0b", "0c")?;
+    let first = spelled(alloc, "ca(1x0x0,A,B)")?;
+    let second = spelled(alloc, "ca(2x0x0,B,C)")?;
     Ok((first, second))
 }
 
@@ -20,15 +20,14 @@ fn channels(alloc: Global) -> Result<(String, String), Fail> {
 const FOUR_IDS: &str = "002100\
     0000010000000000000009000000000000000200000000000000010000000000";
 
-// Without flags all is sent, and the announcement of B once. The second query's flags choose the first announcement, all
-// of a channel that isn't held, node 1 of the second channel, and node 2 of the first one, which is the same. The third
-// query's choose the node at the last place alone.
+// Without flags all is sent, and the announcement of B once. The second query's flags choose the first announcement,
+// all of a channel that isn't in the map, node 1 of the second channel, and node 2 of the first, which is the same. The
+// third query's choose the node at the last place alone.
 #[test]
 fn messages_by_ids(rt: HostRuntime) -> Result<(), Fail> {
     let alloc = rt.alloc();
     let (first, second) = channels(alloc)?;
-    let b = point(alloc, "02", "0b")?;
-    let node = node_announcement(alloc, &b, 5)?;
+    let (b, node) = (spelled(alloc, "B")?, spelled(alloc, "na(B,5)")?);
     let script = format!(in alloc;
         "m {first} all 1\nm {second} all 1\nm {node} {b} -\ncommit\nq 0105{CHAIN}{FOUR_IDS}\n\
         q 0105{CHAIN}{FOUR_IDS}01050001000810\nq 0105{CHAIN}{FOUR_IDS}01050001010111\n"
@@ -43,19 +42,13 @@ fn messages_by_ids(rt: HostRuntime) -> Result<(), Fail> {
 
 /// The lines 1 to 3 of a script, with a channel 600000x1x0 and its updates by node 1, at 5, and by node 2, at 6.
 fn updated_channel(alloc: Global) -> Result<String, Fail> {
-    let (a, b) = two_nodes(alloc)?;
-    let channel = announced(alloc, SCID)?;
-    let first = update(alloc, CHAIN, SCID, ("01", "00"), 5)?;
-    let second = update(alloc, CHAIN, SCID, ("01", "01"), 6)?;
-    Ok(format!(in alloc; "m {channel} all 1\nm {first} {a} -\nm {second} {b} -\n")?)
+    let lines = "m ca(600000x1x0,A,B) all 1\nm cu(600000x1x0,0,5) A -\nm cu(600000x1x0,1,6) B -\n";
+    Ok(spelled(alloc, lines)?)
 }
 
 /// The lines 4 and 5 of a script, with the announcements of its nodes.
 fn announced_nodes(alloc: Global) -> Result<String, Fail> {
-    let (a, b) = two_nodes(alloc)?;
-    let node_1 = node_announcement(alloc, &a, 7)?;
-    let node_2 = node_announcement(alloc, &b, 8)?;
-    Ok(format!(in alloc; "m {node_1} {a} -\nm {node_2} {b} -\n")?)
+    Ok(spelled(alloc, "m na(A,7) A -\nm na(B,8) B -\n")?)
 }
 
 /// Five lines that are accepted, and a commit.
@@ -72,13 +65,13 @@ fn told(alloc: Global, number: u32, items: &str) -> Result<String, Fail> {
     Ok(text)
 }
 
-// A place for each bit from 0 to 5, and one for bit 63 with bit 1: the five messages in the order of the bits, and then
+// An id for each bit from 0 to 5, and one for bit 63 with bit 1: the five messages in the order of the bits, and then
 // the update by node 1 again.
 #[test]
 fn each_flag(rt: HostRuntime) -> Result<(), Fail> {
     let alloc = rt.alloc();
     let (channel, nodes) = (updated_channel(alloc)?, announced_nodes(alloc)?);
-    let update = update(alloc, CHAIN, SCID, ("01", "00"), 5)?;
+    let update = spelled(alloc, "cu(600000x1x0,0,5)")?;
     let script = format!(in alloc;
         "{channel}{nodes}commit\nq 0105{CHAIN}003900{SCID}{SCID}{SCID}{SCID}{SCID}{SCID}{SCID}\
         011000010204081020ff8000000000000002\n"
@@ -121,7 +114,7 @@ fn assert_replies<Rt: Abort + Threads + Sync + RandomSource>(
     assert_answers(rt, alloc, script.as_bytes(), want.as_str())
 }
 
-// The block 600000 is the only or the last one of the range, or stands right behind or before it.
+// The block 600000 is the only or the last one of the range, or is right after or before it.
 #[test]
 fn ends_of_a_range(rt: HostRuntime) -> Result<(), Fail> {
     let queries = format!(in rt.alloc();
@@ -136,8 +129,8 @@ fn ends_of_a_range(rt: HostRuntime) -> Result<(), Fail> {
     assert_replies(&rt, rt.alloc(), queries.as_str(), answers.as_str())
 }
 
-// Bit 0 asks for timestamps, bit 1 for checksums, which are never sent; other bits ask for nothing. The timestamp of node
-// 1 comes first. Of another chain there are none.
+// Bit 0 asks for timestamps, bit 1 for checksums, which are never sent; other bits ask for nothing. The timestamp of
+// node 1 comes first. Of another chain there are none.
 #[test]
 fn timestamps(rt: HostRuntime) -> Result<(), Fail> {
     let alloc = rt.alloc();
@@ -157,23 +150,22 @@ fn timestamps(rt: HostRuntime) -> Result<(), Fail> {
     assert_replies(&rt, alloc, queries.as_str(), answers.as_str())
 }
 
-/// A script of so many channels between two nodes, 600000x0x0, 600000x1x0 and so on, and 600005x0x0, and a query of the
-/// 20 blocks from 599990 on.
+/// A script of this many channels between two nodes, 600000x0x0, 600000x1x0 and so on, and 600005x0x0, and a query of
+/// the 20 blocks from 599990 on.
 fn many_channels(alloc: Global, count: u32) -> Result<String, Fail> {
     let mut script = String::new(alloc);
     for index in 0..count {
-        let scid = format!(in alloc; "0927c0{index:06x}0000")?;
-        let channel = announced(alloc, &scid)?;
-        script.push_str(format!(in alloc; "m {channel} all 1\n")?.as_str())?;
+        let line = format!(in alloc; "m ca(600000x{index}x0,A,B) all 1\n")?;
+        script.push_str(spelled(alloc, &line)?.as_str())?;
     }
-    let last = announced(alloc, "0927c50000000000")?;
+    let last = spelled(alloc, "ca(600005x0x0,A,B)")?;
     let query = format!(in alloc; "m {last} all 1\ncommit\nq 0107{CHAIN}000927b600000014\n")?;
     script.push_str(query.as_str())?;
     Ok(script)
 }
 
-/// The fronts of the replies to the query of such a script, without chain and ids, a line each: the first block, the
-/// number of blocks, whether the reply is the last one, and the length of its ids.
+/// The first fields of the replies to the query of such a script, without chain and ids, a line each: the first block,
+/// the number of blocks, whether the reply is the last one, and the length of its ids.
 fn fronts<Rt: Threads + Sync + RandomSource>(
     rt: &Rt,
     alloc: Global,

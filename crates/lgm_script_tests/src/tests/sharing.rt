@@ -1,4 +1,4 @@
-//! A payment that stands alone, shared by workers.
+//! A payment that is alone in its group, shared by workers.
 
 use super::workers::{answered, counter};
 use lgm_test_scripts::spelled;
@@ -29,8 +29,8 @@ const TEXT: &str = "1 accepted\n\
     10 hop 1x0x0 [13 020203e8 04030aae60 0608 0000030000000000]\n\
     10 hop 3x0x0 [2d 020203e8 04030aae60 0822 S 03e8]\n";
 
-/// The items are shared by two workers, and so are the two nodes in front of the payee: both times the first piece is
-/// held until the second has begun. The payee itself is a piece alone.
+/// The items are shared by two workers, and so are the two nodes before the payee: both times the first piece is
+/// delayed until the second has begun. The payee itself is a piece alone.
 #[test]
 fn lone_payment(rt: HostRuntime) -> Result<(), Fail> {
     let alloc = rt.alloc();

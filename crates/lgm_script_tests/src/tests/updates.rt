@@ -1,24 +1,21 @@
 //! Updates of channels: who may sign them, which are newer, and which are private.
 
 use super::answers::assert_answers;
-use super::messages::{SCID, announced, two_nodes};
-use lgm_test_scripts::{CHAIN, OTHER_CHAIN, point, update};
-use std::alloc::{AllocError, Global};
+use super::messages::two_nodes;
+use lgm_test_scripts::spelled;
 use std::test::Fail;
-
-fn from_node_1(alloc: Global, timestamp: u32) -> Result<String, AllocError> {
-    update(alloc, CHAIN, SCID, ("01", "00"), timestamp)
-}
 
 #[test]
 fn timestamps_and_signers(rt: HostRuntime) -> Result<(), Fail> {
     let alloc = rt.alloc();
     let (a, b) = two_nodes(alloc)?;
-    let channel = announced(alloc, SCID)?;
-    let (four, five) = (from_node_1(alloc, 4)?, from_node_1(alloc, 5)?);
-    let (six, seven) = (from_node_1(alloc, 6)?, from_node_1(alloc, 7)?);
-    let disabled = update(alloc, CHAIN, SCID, ("01", "02"), 5)?;
-    let second = update(alloc, CHAIN, SCID, ("00", "01"), 1)?;
+    let channel = spelled(alloc, "ca(600000x1x0,A,B)")?;
+    let four = spelled(alloc, "cu(600000x1x0,0,4)")?;
+    let five = spelled(alloc, "cu(600000x1x0,0,5)")?;
+    let six = spelled(alloc, "cu(600000x1x0,0,6)")?;
+    let seven = spelled(alloc, "cu(600000x1x0,0,7)")?;
+    let disabled = spelled(alloc, "cu(600000x1x0,2,5)")?;
+    let second = spelled(alloc, "cu(600000x1x0,1,1,message_flags=0)")?;
     let script = format!(in alloc;
         "m {five} {a} -\nm {channel} all 100000\nm {five} {a} -\n\
         m {disabled} {a} -\nm {four} {a} -\nm {six} {a} -\nm {seven} {b} -\nm {five} {b} -\n\
@@ -32,10 +29,10 @@ fn timestamps_and_signers(rt: HostRuntime) -> Result<(), Fail> {
 #[test]
 fn refusals_in_order(rt: HostRuntime) -> Result<(), Fail> {
     let alloc = rt.alloc();
-    let other = update(alloc, OTHER_CHAIN, SCID, ("03", "00"), 1)?;
-    let private = update(alloc, CHAIN, SCID, ("03", "00"), 1)?;
-    let public = update(alloc, CHAIN, SCID, ("01", "00"), 1)?;
-    let a = point(alloc, "02", "0a")?;
+    let other = spelled(alloc, "cu(600000x1x0,0,1,message_flags=3,chain=X)")?;
+    let private = spelled(alloc, "cu(600000x1x0,0,1,message_flags=3)")?;
+    let public = spelled(alloc, "cu(600000x1x0,0,1)")?;
+    let a = spelled(alloc, "A")?;
     let script = format!(in alloc;
         "m {other} nobody -\nm {private} nobody -\nm {public} nobody -\n\
         m {public} {a} -\nm {public}ff {a} spent\n"

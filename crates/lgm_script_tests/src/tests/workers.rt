@@ -1,6 +1,5 @@
 //! Work that is shared by workers.
 
-use super::messages::announced;
 use lgm_graph::Known;
 use lgm_par::Gate;
 use lgm_test_scripts::{CHAIN, ended, spelled};
@@ -12,11 +11,11 @@ use std::test::Fail;
 use std::thread;
 use std::thread::Threads;
 
-/// The most turns that a piece is held.
+/// The maximum number of turns that a piece waits.
 const LIMIT: u64 = 100_000_000;
 
-/// Counts how often each of the first eight pieces passed, and holds a first piece while more than so many of them passed
-/// without a second one.
+/// Counts how often each of the first eight pieces passed, and delays a first piece while more than a number of them
+/// passed without a second one.
 #[derive(Drop)]
 pub struct Counting {
     passes: AtomicU64,
@@ -30,7 +29,7 @@ impl Counting {
         (self.passes.load(Ordering::SeqCst) >> (8 * (piece % 8))) % 256
     }
 
-    /// Whether no piece was held to the limit.
+    /// Whether no piece waited to the limit.
     pub fn went_on(&self) -> bool {
         self.turns.load(Ordering::SeqCst) < LIMIT
     }
@@ -56,7 +55,7 @@ impl Gate for Counting {
     }
 }
 
-/// A gate where nothing passed, which lets so many first pieces pass alone.
+/// A gate that nothing has passed, which lets this many first pieces pass alone.
 pub fn counter(alone: u8) -> Counting {
     Counting {
         passes: AtomicU64::new(0),
@@ -83,8 +82,8 @@ pub fn answered<Rt: Threads + Sync + RandomSource>(
 fn announcements(alloc: Global, scids: &[&str]) -> Result<String, AllocError> {
     let mut script = String::new(alloc);
     for scid in scids {
-        let message = announced(alloc, scid)?;
-        script.push_str(format!(in alloc; "m {message} all 100000\n")?.as_str())?;
+        let line = format!(in alloc; "m ca({scid},A,B) all 100000\n")?;
+        script.push_str(spelled(alloc, &line)?.as_str())?;
     }
     Ok(script)
 }
@@ -93,7 +92,7 @@ fn announcements(alloc: Global, scids: &[&str]) -> Result<String, AllocError> {
 #[test]
 fn as_many_pieces_as_lines(rt: HostRuntime) -> Result<(), Fail> {
     let alloc = rt.alloc();
-    let (first, second) = ("0927c00000010000", "0927c00000020000");
+    let (first, second) = ("600000x1x0", "600000x2x0");
     let script = announcements(alloc, &[first, first, second])?;
     let gate = counter(255);
     let text = answered(&rt, alloc, script.as_bytes(), 64, &gate)?;
@@ -105,7 +104,7 @@ fn as_many_pieces_as_lines(rt: HostRuntime) -> Result<(), Fail> {
     Ok(())
 }
 
-/// Of two lines the first is held until the second has begun, each by a worker of its own.
+/// Of two lines the first is delayed until the second has begun, each by a worker of its own.
 fn assert_side_by_side<Rt: Abort + Threads + Sync + RandomSource>(
     rt: &Rt,
     alloc: Global,
@@ -123,7 +122,7 @@ fn assert_side_by_side<Rt: Abort + Threads + Sync + RandomSource>(
 #[test]
 fn items_side_by_side(rt: HostRuntime) -> Result<(), Fail> {
     let alloc = rt.alloc();
-    let script = announcements(alloc, &["0927c00000010000", "0927c00000020000"])?;
+    let script = announcements(alloc, &["600000x1x0", "600000x2x0"])?;
     assert_side_by_side(&rt, alloc, script.as_bytes(), b"1 accepted\n2 accepted\n")
 }
 

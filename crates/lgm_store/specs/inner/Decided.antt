@@ -1,4 +1,4 @@
--- What was decided of a message, as its operation.
+-- Admission, decided from ids, nodes and timestamps.
 use Rattle.std.specs.Prelude.{ℕ, Bool, ◌||◌, ◌&&◌, nat_lt, List, Option, Some}
 use Rattle.std.specs.Prelude.{None, Result, Ok, Err, if◌then◌else◌}
 use Rattle.lgm_wire.specs.declared.point.Point.{Point}
@@ -12,7 +12,7 @@ use Rattle.lgm_store.specs.Rows.{is_point, is_banned}
 use Rattle.lgm_store.specs.declared.op.Op.{Op}
 use Rattle.lgm_store.specs.declared.op.Op.TheVariants as ops
 
--- a ban, or else the channel is added
+-- the operation that is decided: a ban, or else the channel is added
 abbrev pub channel_op : ChannelRow → Result (Option BanRow) Refusal → Result Op Refusal
 channel_op row (Ok (Some ban)) = Ok (ops.Ban ban)
 channel_op row (Ok None) = Ok (ops.Channel row)
@@ -26,39 +26,39 @@ abbrev pub node_op : NodeRow → Result (Unit {0}) Refusal → Result Op Refusal
 node_op row (Ok _) = Ok (ops.Node row)
 node_op row (Err refusal) = Err refusal
 
--- ---- what is decided by what admission looks at
+-- ---- decisions from what admission reads
 
--- an announcement of a channel between two nodes, beside the held row of its id: it adds a channel, or asks for a ban
+-- a channel announcement with these nodes, given the stored row of its id: adds the channel, or bans
 abbrev pub beside_channel : Option ChannelRow → Point → Point → Result (Option BanRow) Refusal
 beside_channel None first second = Ok None
-beside_channel (Some held) first second =
-    if is_point held.message.node_id_1 first && is_point held.message.node_id_2 second then Err refusals.Known
+beside_channel (Some stored) first second =
+    if is_point stored.message.node_id_1 first && is_point stored.message.node_id_2 second then Err refusals.Known
     else Ok (Some
-    (record { held1 = held.message.node_id_1; held2 = held.message.node_id_2; new1 = first; new2 = second }))
+    (record { held1 = stored.message.node_id_1; held2 = stored.message.node_id_2; new1 = first; new2 = second }))
 
--- and beside the banned points
+-- the same, given the banned points too
 abbrev pub channel_verdict : List Point → Option ChannelRow → Point → Point → Result (Option BanRow) Refusal
-channel_verdict banned held first second =
+channel_verdict banned stored first second =
     if is_banned banned first || is_banned banned second then Err refusals.Banned
-    else beside_channel held first second
+    else beside_channel stored first second
 
--- a timestamp, beside that of a held update
+-- a timestamp, given that of the stored update
 abbrev pub beside_update : Option UpdateRow → ℕ → Result (Unit {0}) Refusal
 beside_update None time = Ok tt
-beside_update (Some held) time = if nat_lt held.message.timestamp time then Ok tt else Err refusals.NotNewer
+beside_update (Some stored) time = if nat_lt stored.message.timestamp time then Ok tt else Err refusals.NotNewer
 
--- an update of a direction, beside its channel's row and the held one of its direction
+-- an update of a direction, given its channel's row and the stored update of that direction
 abbrev pub update_verdict : ChannelRow → Option UpdateRow → Bool → ℕ → Point → Result (Unit {0}) Refusal
-update_verdict channel held second time signer =
+update_verdict channel stored second time signer =
     if is_point signer (if second then channel.message.node_id_2 else channel.message.node_id_1)
-    then beside_update held time else Err refusals.Signature
+    then beside_update stored time else Err refusals.Signature
 
--- a timestamp, beside that of a held announcement of the node
+-- a timestamp, given that of the stored node announcement
 abbrev pub beside_node : Option NodeRow → ℕ → Result (Unit {0}) Refusal
 beside_node None time = Ok tt
-beside_node (Some held) time = if nat_lt held.message.timestamp time then Ok tt else Err refusals.NotNewer
+beside_node (Some stored) time = if nat_lt stored.message.timestamp time then Ok tt else Err refusals.NotNewer
 
--- a node's announcement, beside whether the node is banned, whether a channel ends at it, and its held row
+-- a node announcement, given whether the node is banned, whether it has a channel, and its stored row
 abbrev pub node_verdict : Bool → Bool → Option NodeRow → ℕ → Result (Unit {0}) Refusal
-node_verdict banned ends held time =
-    if banned then Err refusals.Banned else if ends then beside_node held time else Err refusals.UnknownNode
+node_verdict banned ends stored time =
+    if banned then Err refusals.Banned else if ends then beside_node stored time else Err refusals.UnknownNode

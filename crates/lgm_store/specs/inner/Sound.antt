@@ -1,4 +1,4 @@
--- What holds of the ordered maps that keep rows.
+-- The invariant of the ordered maps that store rows.
 use Rattle.std.specs.Prelude.{◌≡◌, ℕ, Bool, true, false, List}
 use Rattle.std.specs.List.{AllByRecursion}
 use Rattle.std.specs.List.Sorted.{IsStrictlySortedBy}
@@ -12,13 +12,13 @@ use Rattle.lgm_store.specs.Rows.{ends_channel, ends_banned}
 use Rattle.lgm_store.specs.Keys.{IsKeyed, id_of, direction_of, point_of, direction_cmp, point_cmp}
 use Rattle.lgm_store.specs.Reading.{ids_at}
 use Rattle.lgm_store.specs.Spelled.{AllSpelled}
-use Rattle.lgm_store.specs.inner.Ends.{Lists}
+use Rattle.lgm_store.specs.inner.ChannelsByNode.{Lists}
 
--- at each node a channel ends
+-- each node has a channel
 abbrev pub AreEnded : List ChannelRow → List NodeRow → Type 0
 AreEnded channels nodes = AllByRecursion (λ row. ends_channel channels row.message.node_id ≡ true) nodes
 
--- the maps by id, by id and direction and by point, and the ids of the channels that end at each point
+-- rows are stored under their keys: by id, by id and direction, by point; and the index has each node's channels
 pub record IsSound (channels : List (ℕ × ChannelRow)) (updates : List ((ℕ × Bool) × UpdateRow))
     (nodes : List (Point × NodeRow)) (ends : List (Point × List ℕ)) : Type 0 where
   pub channels_keyed : IsKeyed id_of channels
@@ -30,11 +30,11 @@ pub record IsSound (channels : List (ℕ × ChannelRow)) (updates : List ((ℕ �
   pub nodes_ended : AreEnded (values_of channels) (values_of nodes)
   pub listed : Lists ends (ids_at (values_of channels))
 
--- no channel ends at a banned node
+-- no channel has a banned node
 abbrev pub AreAllowed : List Point → List ChannelRow → Type 0
 AreAllowed banned channels = AllByRecursion (λ row. ends_banned banned row ≡ false) channels
 
--- and the bytes of each row spell it, and the banned points ascend, at none of which a channel ends
+-- and the bytes of each row encode it, the banned points ascend, and no channel has a banned node
 pub record IsKept (channels : List (ℕ × ChannelRow)) (updates : List ((ℕ × Bool) × UpdateRow))
     (nodes : List (Point × NodeRow)) (ends : List (Point × List ℕ)) (banned : List Point) : Type 0 where
   pub rows : IsSound channels updates nodes ends

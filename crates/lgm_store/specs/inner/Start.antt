@@ -1,14 +1,14 @@
--- Where ranges of keys start and end.
+-- The bounds of ranges of keys.
 use Rattle.std.specs.Prelude.{◌≡◌, ℕ, ◌*◌, ◌^◌, Option, Some, None}
 use Rattle.std.specs.declared.ops.Bound.{Bound}
 use Rattle.std.specs.declared.ops.Bound.TheVariants.{Included, Excluded, Unbounded}
 
--- above a key, or at the first of all
+-- above a key, or from the first key
 abbrev pub start_after : {K : Type 0} → Option K → Bound K
 start_after None = Unbounded
 start_after (Some key) = Excluded key
 
--- an end before a block
+-- a bound that excludes the ids of this block and later ones
 abbrev pub IsEndBefore : ℕ → Bound ℕ → Type 0
 IsEndBefore block (Included end) = ⊥
 IsEndBefore block (Excluded end) = end ≡ block * 2 ^ 40

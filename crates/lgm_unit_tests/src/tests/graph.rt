@@ -1,4 +1,4 @@
-//! `lgm_graph`: edges as operations change them, and what a view tells of them.
+//! `lgm_graph`: edges as operations change them, and views of them.
 
 use super::made::{FREE, Terms, ban, channel, node, point, update};
 use lgm_gossip::{Point, Scid};
@@ -100,7 +100,7 @@ fn an_edge_joins_its_points(rt: HostRuntime) -> Result<(), Fail> {
     let view = network.view().ok_or("no view")?;
     assert!(rt; ends_of(view, 0) == Some((point(3), point(2), true)));
     assert!(rt; ends_of(view, 1).is_none());
-    assert_eq!(rt; view.node_number(&point(3)), Some(1));
+    assert_eq!(rt; view.node_index(&point(3)), Some(1));
     assert!(rt; view.point(1) == Some(&point(3)));
     assert_eq!(rt; view.edges_into(0).len(), 1);
     assert_eq!(rt; view.edges_leaving(1).len(), 1);
@@ -113,7 +113,7 @@ fn an_edge_joins_its_points(rt: HostRuntime) -> Result<(), Fail> {
 enum Step {
     /// A channel between two nodes.
     Channel(u32, (u16, u16)),
-    /// An update of a direction, with the greatest amount that it forwards, in msat.
+    /// An update of a direction, with its maximum in msat.
     Update(u32, u8, u64),
     /// The announcement of a node.
     Node(u16),
@@ -121,7 +121,7 @@ enum Step {
     Ban([u16; 4]),
 }
 
-/// The greatest amount of an update that asks for nothing, in msat.
+/// The maximum of an update that has no other terms, in msat.
 const MOST: u64 = FREE.max;
 
 /// One direction, and then one with a lower maximum.
@@ -131,7 +131,7 @@ const LOWERED: [Step; 3] = [
     Step::Update(600_000, 0, 49_999),
 ];
 
-/// A channel both ways, one behind it, and two beside them.
+/// A channel with both directions, one after it, and two parallel ones.
 const BESIDE: [Step; 9] = [
     Step::Channel(600_000, (10, 11)),
     Step::Update(600_000, 0, MOST),
@@ -282,7 +282,8 @@ fn the_kept_view_and_a_view_of_the_committed_map_have_the_same_edges(
     Ok(())
 }
 
-/// Absorbs an operation, a second time where it was refused memory. Whether the refusal left the channels and the edges.
+/// Absorbs an operation, a second time if memory was refused. Whether the refusal left the channels and the edges
+/// unchanged.
 fn absorb_or_again(network: &mut Network, op: &Op) -> Result<bool, AllocError> {
     let channels = network.map().count();
     let edges = edge_count(network);

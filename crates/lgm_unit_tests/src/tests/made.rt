@@ -1,59 +1,13 @@
 //! Operations of few numbers.
 
-ghost use Rattle.std.specs.Prelude.{IfOk};
-ghost use Rattle.lgm_gossip.specs.Message.{Wire};
-
-use lgm_check::{BanRow, ChannelRow, KeptChannel, KeptNode, KeptUpdate, NodeRow, UpdateRow};
-use lgm_gossip::{
-    Announce, Bytes, ChainHash, ChannelUpdate, Lent, Message, NodeAnnounce, Point, Scid, Signature,
-    encode,
-};
+use lgm_check::{BanRow, ChannelRow, NodeRow, StoredChannel, StoredNode, StoredUpdate, UpdateRow};
+use lgm_gossip::{BorrowedBytes, Message, Scid};
 use lgm_store::{Op, Shared};
+use lgm_test_gossip::{Channel, Node, Update, written};
+pub use lgm_test_gossip::{FREE, Terms, point};
 use std::alloc::{AllocError, Global};
 
-/// What a direction asks for: base fee in msat, millionths, delta in blocks, minimum and maximum in msat.
-#[derive(Clone, Copy)]
-pub struct Terms {
-    pub base: u32,
-    pub millionths: u32,
-    pub delta: u16,
-    pub min: u64,
-    pub max: u64,
-}
-
-/// No fee, and any usual amount.
-pub const FREE: Terms = Terms {
-    base: 0,
-    millionths: 0,
-    delta: 40,
-    min: 1,
-    max: 50_000_000,
-};
-
-/// The node of a number.
-pub fn point(number: u16) -> Point {
-    let mut bytes = [0; 33];
-    bytes[0] = 2;
-    let [high, low] = number.to_be_bytes();
-    bytes[31] = high;
-    bytes[32] = low;
-    Point(bytes)
-}
-
-/// A signature.
-const ZEROS: [u8; 64] = [0; 64];
-
-/// The bytes of a message, which isn't too long.
-fn written(alloc: Global, message: &Message) -> Result<Bytes, AllocError>
-    ensures { IfOk result (λ bytes. Wire message.now bytes) }
-{
-    match encode(alloc, message) {
-        Ok(bytes) => Ok(bytes),
-        Err(_) => Err(AllocError),
-    }
-}
-
-/// The announcement of a channel between two nodes, of so many satoshi, with these features.
+/// The announcement of a channel between two nodes, of this capacity in satoshi, with these features.
 pub fn channel(
     alloc: Global,
     scid: Scid,
@@ -61,67 +15,44 @@ pub fn channel(
     sat: u64,
     features: &[u8],
 ) -> Result<Op, AllocError> {
-    let message = Announce {
-        node_signature_1: Signature::new(&ZEROS),
-        node_signature_2: Signature::new(&ZEROS),
-        bitcoin_signature_1: Signature::new(&ZEROS),
-        bitcoin_signature_2: Signature::new(&ZEROS),
-        features: Lent::new(features),
-        chain_hash: ChainHash([0; 32]),
-        short_channel_id: scid,
-        node_id_1: point(nodes.0),
-        node_id_2: point(nodes.1),
-        bitcoin_key_1: point(0),
-        bitcoin_key_2: point(0),
-        rest: Lent::new(&[]),
+    let channel = Channel {
+        features,
+        ..Channel::new(scid, (point(nodes.0), point(nodes.1)))
     };
-    let bytes = written(alloc, &Message::Announce(message.again()))?;
-    let raw = Lent::new(bytes.as_slice());
-    let kept = KeptChannel::of(alloc, &ChannelRow { message, sat, raw })?;
+    let message = channel.message();
+    let bytes = written(alloc, &Message::Announce(message.reborrow()))?;
+    let raw = BorrowedBytes::new(bytes.as_slice());
+    let kept = StoredChannel::of(alloc, &ChannelRow { message, sat, raw })?;
     Ok(Op::Channel(Shared::new(alloc, kept)?))
 }
 
 /// An update with these channel flags and terms.
 pub fn update(alloc: Global, scid: Scid, flags: u8, terms: &Terms) -> Result<Op, AllocError> {
-    let message = ChannelUpdate {
-        signature: Signature::new(&ZEROS),
-        chain_hash: ChainHash([0; 32]),
-        short_channel_id: scid,
-        timestamp: 1,
-        message_flags: 1,
-        channel_flags: flags,
-        cltv_expiry_delta: terms.delta,
-        htlc_minimum_msat: terms.min,
-        fee_base_msat: terms.base,
-        fee_proportional_millionths: terms.millionths,
-        htlc_maximum_msat: terms.max,
-        rest: Lent::new(&[]),
+    let update = Update {
+        terms: *terms,
+        ..Update::new(scid, flags, 1)
     };
-    let bytes = written(alloc, &Message::ChannelUpdate(message.again()))?;
-    let raw = Lent::new(bytes.as_slice());
-    let kept = KeptUpdate::of(alloc, &UpdateRow { message, raw })?;
+    let message = update.message();
+    let bytes = written(alloc, &Message::ChannelUpdate(message.reborrow()))?;
+    let raw = BorrowedBytes::new(bytes.as_slice());
+    let kept = StoredUpdate::of(alloc, &UpdateRow { message, raw })?;
     Ok(Op::Update(Shared::new(alloc, kept)?))
 }
 
 /// The announcement of a node with these features.
 pub fn node(alloc: Global, number: u16, features: &[u8]) -> Result<Op, AllocError> {
-    let message = NodeAnnounce {
-        signature: Signature::new(&ZEROS),
-        features: Lent::new(features),
-        timestamp: 1,
-        node_id: point(number),
-        rgb_color: [0; 3],
-        alias: [0; 32],
-        addresses: Lent::new(&[]),
-        rest: Lent::new(&[]),
+    let node = Node {
+        features,
+        ..Node::new(point(number), 1)
     };
-    let bytes = written(alloc, &Message::NodeAnnounce(message.again()))?;
-    let raw = Lent::new(bytes.as_slice());
-    let kept = KeptNode::of(alloc, &NodeRow { message, raw })?;
+    let message = node.message();
+    let bytes = written(alloc, &Message::NodeAnnounce(message.reborrow()))?;
+    let raw = BorrowedBytes::new(bytes.as_slice());
+    let kept = StoredNode::of(alloc, &NodeRow { message, raw })?;
     Ok(Op::Node(Shared::new(alloc, kept)?))
 }
 
-/// A ban of four nodes: those of the channel that a map holds, and those of the conflicting one.
+/// A ban of four nodes: those of the channel in the map, and those of the conflicting announcement.
 pub fn ban(alloc: Global, nodes: [u16; 4]) -> Result<Op, AllocError> {
     let [held1, held2, new1, new2] = nodes;
     let row = BanRow {

@@ -1,14 +1,14 @@
-//! `lgm_par`: answers in their order, and pieces that run side by side.
+//! `lgm_par`: answers in order, and pieces that run in parallel.
 
 use lgm_par::{Gate, Open, map_chunks};
 use std::alloc::Global;
 use std::sync::atomic::{AtomicU64, Ordering};
 use std::thread;
 
-/// The most turns that a piece is held.
+/// The maximum number of turns that a piece waits.
 const LIMIT: u64 = 100_000_000;
 
-/// Counts what passes, and holds each piece below a number until so many have begun to pass.
+/// Counts what passes, and delays each piece below a number until that many have begun to pass.
 #[derive(Drop)]
 struct Holding {
     below: usize,
@@ -39,7 +39,7 @@ impl Gate for Holding {
     }
 }
 
-/// A gate that holds the pieces below a number until so many have begun.
+/// A gate that delays the pieces below a number until that many have begun.
 fn held_below(below: usize, wanted: u64) -> Holding {
     Holding {
         below,
@@ -111,7 +111,7 @@ fn all_pieces_at_once(rt: HostRuntime) {
     );
 }
 
-/// Lets the pieces of ten items go one after the other, the last piece first.
+/// Lets the pieces of ten items start one after the other, the last piece first.
 #[derive(Drop)]
 struct Backwards {
     /// How many items are done before each piece.

@@ -1,4 +1,4 @@
-//! `lgm_payload`: payloads there and back, and their faults.
+//! `lgm_payload`: payloads, built and read back, and their faults.
 
 use lgm_gossip::{Bytes, Point, Scid};
 use lgm_payload::{PayloadFault, Payment, build, read};
@@ -10,7 +10,7 @@ use std::test::Fail;
 /// A payment secret.
 const SECRET: [u8; 32] = [0x11; 32];
 
-/// The payload of a node that passes 4,999,999 msat on over 600000x1x0.
+/// The payload of a node that forwards 4,999,999 msat over 600000x1x0.
 const FORWARD: [u8; 21] =
     *b"\x14\x02\x03\x4c\x4b\x3f\x04\x03\x0a\xae\x69\x06\x08\x09\x27\xc0\x00\x00\x01\x00\x00";
 

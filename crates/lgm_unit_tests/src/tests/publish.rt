@@ -2,6 +2,7 @@
 
 mod boards;
 mod refused;
+mod shown;
 mod worlds;
 
 use super::made::{self, FREE};

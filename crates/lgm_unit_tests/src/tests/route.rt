@@ -1,4 +1,4 @@
-//! `lgm_route`: routes over made maps, whose amounts and ids were worked out by hand.
+//! `lgm_route`: routes over small maps, whose amounts and ids were worked out by hand.
 
 use super::made::{FREE, Terms, channel, point, update};
 use lgm_gossip::Scid;
@@ -75,7 +75,7 @@ fn told(alloc: Global, route: &Route) -> Result<Vec<u64>, AllocError> {
     Ok(told)
 }
 
-/// That the answer is a route which tells this.
+/// That the answer is this route.
 fn assert_route(
     rt: &impl Abort,
     alloc: Global,
@@ -92,7 +92,7 @@ fn assert_route(
     Ok(())
 }
 
-/// The second channel charges 200 msat and 2,000 millionths of 4,999,999 msat: 10,199 msat.
+/// The second channel charges 200 msat and 2,000 ppm of 4,999,999 msat: 10,199 msat.
 #[test]
 fn fee_of_the_second_channel(rt: HostRuntime) -> Result<(), Fail> {
     let alloc = rt.alloc();
@@ -131,10 +131,10 @@ fn twenty_channels(rt: HostRuntime) -> Result<(), Fail> {
     Ok(())
 }
 
-/// The most turns that a chunk is held.
+/// The maximum number of turns that a chunk waits.
 const LIMIT: u64 = 100_000_000;
 
-/// Lets the first pass through, and then holds chunk 0 until chunk 1 has passed.
+/// Lets the first chunks through, and then delays chunk 0 until chunk 1 has passed.
 #[derive(Drop)]
 struct Pairs {
     passes: AtomicU64,
@@ -220,9 +220,9 @@ fn two_pieces_at_once(rt: HostRuntime) -> Result<(), Fail> {
 /// How many nodes with one channel, to the payee, are enough for two workers late in a search.
 const MANY: u16 = 3_200;
 
-/// Nodes 1 and 2 each charge as much as they pass on: the only route sends 40,000 msat, of which the payee gets 10,000.
-/// The other nodes each charge less, so they are relaxed before it is known that they lead nowhere: the last ones by two
-/// workers at once.
+/// Nodes 1 and 2 each charge as much as they forward: the only route sends 40,000 msat, of which the payee gets 10,000.
+/// The other nodes each charge less, so they are relaxed before they turn out to be dead ends: the last ones by
+/// two workers at once.
 #[test]
 fn two_pieces_of_a_layer(rt: HostRuntime) -> Result<(), Fail> {
     let alloc = rt.alloc();
@@ -277,7 +277,7 @@ fn refusals(rt: HostRuntime) -> Result<(), Fail> {
     Ok(())
 }
 
-/// A route of two channels, and what it tells of its payer.
+/// A route of two channels, and what its payer sends.
 #[test]
 fn two_hops(rt: HostRuntime) -> Result<(), Fail> {
     let hops = [

@@ -4,14 +4,15 @@ ghost use Rattle.std.specs.Prelude.{◌≤◌, IfOk};
 
 use lgm_gossip::{Point, Scid};
 use lgm_script::{
-    BLOCK, Failed, Failures, FromRead, Lead, Line, LineFault, LineReader, MAX_LINE, MemorySink,
-    MemorySource, Output, Payment, Request, Sink, Source, ToWrite, next_group, next_line, parse,
+    BLOCK, Command, Failed, Failures, FromRead, Lead, Line, LineFault, LineReader, MAX_LINE,
+    MemorySink, MemorySource, Output, RouteParameters, Sink, Source, ToWrite, next_group,
+    next_line, parse,
 };
 use std::alloc::Global;
 use std::io::{self, ErrorKind, Read, Write};
 use std::test::Fail;
 
-/// A sink that never fails, and keeps nothing.
+/// A sink that never fails, and stores nothing.
 #[derive(Drop)]
 struct Forgetful {}
 
@@ -25,7 +26,7 @@ impl Sink for Forgetful {
     }
 }
 
-/// A source that fails once so many reads were done.
+/// A source that fails after this many reads.
 #[derive(Drop)]
 struct FailingSource<'a> {
     source: MemorySource<'a>,
@@ -90,8 +91,8 @@ impl Write for ShakyStream {
 fn joined(alloc: Global, text: &[u8], most: usize) -> Result<Vec<u8>, Fail> {
     let mut source = MemorySource::new(text, most);
     let mut sink = Forgetful {};
-    let mut gathered = Vec::new(alloc);
-    let mut output = Output::new(&mut gathered, &mut sink);
+    let mut buffered = Vec::new(alloc);
+    let mut output = Output::new(&mut buffered, &mut sink);
     let mut reader = LineReader::new(alloc)?;
     let mut joined = Vec::new(alloc);
     for _ in 0..10 {
@@ -123,8 +124,8 @@ fn lines_in_pieces(rt: HostRuntime) -> Result<(), Fail> {
 fn first_length(alloc: Global, text: &[u8]) -> Result<Result<Option<usize>, LineFault>, Fail> {
     let mut source = MemorySource::new(text, 4_096);
     let mut sink = Forgetful {};
-    let mut gathered = Vec::new(alloc);
-    let mut output = Output::new(&mut gathered, &mut sink);
+    let mut buffered = Vec::new(alloc);
+    let mut output = Output::new(&mut buffered, &mut sink);
     let mut reader = LineReader::new(alloc)?;
     Ok(next_line(&mut reader, &mut source, &mut output))
 }
@@ -146,7 +147,7 @@ fn longest_lines(rt: HostRuntime) -> Result<(), Fail> {
     Ok(())
 }
 
-/// How many lines come of a source that fails once so many reads were done, and why no more do.
+/// The number of lines of a source that fails after this many reads, and why there are no more.
 fn lines_before(alloc: Global, reads: usize) -> Result<(u8, Option<LineFault>), Fail> {
     let mut source = FailingSource {
         source: MemorySource::new(b"one\ntwo\nthree", 4),
@@ -154,8 +155,8 @@ fn lines_before(alloc: Global, reads: usize) -> Result<(u8, Option<LineFault>), 
         failures: Failures::none(),
     };
     let mut sink = Forgetful {};
-    let mut gathered = Vec::new(alloc);
-    let mut output = Output::new(&mut gathered, &mut sink);
+    let mut buffered = Vec::new(alloc);
+    let mut output = Output::new(&mut buffered, &mut sink);
     let mut reader = LineReader::new(alloc)?;
     for lines in 0..4u8 {
         match next_line(&mut reader, &mut source, &mut output) {
@@ -190,10 +191,10 @@ const PAYEE: &str = "ff0b0b0b0b0b0b0b0b0b0b0b0b0b0b0b0b0b0b0b0b0b0b0b0b0b0b0b0b0
 
 const SECRET: &str = "1111111111111111111111111111111111111111111111111111111111111111";
 
-/// Whether a line asks for the route of a payment.
-fn asks_for(request: &Request, payment: &Payment) -> bool {
+/// Whether a line requests the route of a payment.
+fn asks_for(request: &Command, payment: &RouteParameters) -> bool {
     match request {
-        Request::Route(found) => found == payment,
+        Command::Route(found) => found == payment,
         _ => false,
     }
 }
@@ -211,7 +212,7 @@ fn payments(rt: HostRuntime) -> Result<(), Fail> {
         ("18446744073709551615", u64::MAX, "4294967295", u32::MAX),
     ] {
         let line = format!(in alloc; "route {PAYER} {PAYEE} {msat} {blocks} {SECRET}")?;
-        let payment = Payment {
+        let payment = RouteParameters {
             payer: Point(payer),
             payee: Point(payee),
             amount,
@@ -257,7 +258,7 @@ fn no_payments(rt: HostRuntime) -> Result<(), Fail> {
     ] {
         let line = spelled(alloc, fields)?;
         let request = parse(alloc, line.as_bytes())?;
-        assert!(rt; matches!(&request, Request::Bad), "{line}");
+        assert!(rt; matches!(&request, Command::Bad), "{line}");
     }
     Ok(())
 }
@@ -274,8 +275,8 @@ fn spelled(alloc: Global, fields: &str) -> Result<String, Fail> {
 fn text_in_blocks(rt: HostRuntime) -> Result<(), Fail> {
     let alloc = rt.alloc();
     let mut sink = MemorySink::new(alloc);
-    let mut gathered = Vec::new(alloc);
-    let mut output = Output::new(&mut gathered, &mut sink);
+    let mut buffered = Vec::new(alloc);
+    let mut output = Output::new(&mut buffered, &mut sink);
     output.send(10_000_000, &Line::Word("accepted"))?;
     output.send(7, &Line::Commit(1))?;
     output.send_message(&Lead::new(alloc, 8, Some(999))?, b"\x01\xff")?;
@@ -295,19 +296,19 @@ fn text_in_blocks(rt: HostRuntime) -> Result<(), Fail> {
     Ok(())
 }
 
-/// How many bytes are written of a message of so many bytes before a flush.
+/// How many bytes of a message of this length are written before a flush.
 fn written_of(alloc: Global, length: usize) -> Result<usize, Fail> {
     let message = vec![in alloc; 0; length]?;
     let mut sink = MemorySink::new(alloc);
-    let mut gathered = Vec::new(alloc);
-    let mut output = Output::new(&mut gathered, &mut sink);
+    let mut buffered = Vec::new(alloc);
+    let mut output = Output::new(&mut buffered, &mut sink);
     output.send_message(&Lead::new(alloc, 1, None)?, message.as_slice())?;
     Ok(sink.taken().len())
 }
 
 #[test]
 fn full_blocks(rt: HostRuntime) -> Result<(), Fail> {
-    // Beside two digits a byte there are three bytes: the number, a space and a line feed.
+    // Besides two digits per byte there are three bytes: the number, a space and a line feed.
     for (length, written) in [(BLOCK / 2 - 2, 0), (BLOCK / 2 - 1, BLOCK + 1)] {
         assert_eq!(rt;
             written_of(rt.alloc(), length)?,

@@ -27,7 +27,7 @@ impl Spelled {
         })
     }
 
-    /// How the script ends where a read and a write fail, each by its number, and what is written then.
+    /// How the script ends if a read and a write fail, each by its number, and what is written then.
     fn ended<Rt: Threads + Sync + RandomSource>(
         &self,
         rt: &Rt,
@@ -41,7 +41,7 @@ impl Spelled {
         Ok((ended.err(), writer.taken))
     }
 
-    /// Whether this is a beginning of the text.
+    /// Whether this is a prefix of the text.
     fn begins(&self, written: &[u8]) -> bool {
         self.text.as_bytes().starts_with(written)
     }

@@ -3,7 +3,7 @@
 use super::examples::{Example, assert_all};
 use std::test::Fail;
 
-/// A message of 65,535 bytes at most, whole, cut, and with bytes behind it.
+/// A message of 65,535 bytes at most, whole, cut, and with trailing bytes.
 const BYTES: Example = Example {
     name: "bytes behind a message, and bytes that are missing",
     script: "m ca(600000x1x0,A,B) all 100000\n\

@@ -299,7 +299,7 @@ fn edges_and_refusals(rt: HostRuntime) -> Result<(), Fail> {
     assert_all(&rt, rt.alloc(), &[CARRIED, REFUSED])
 }
 
-/// B wants a feature, and later one that needn't be known.
+/// B requires a feature, and later has one that needn't be known.
 const FEATURES: &str = "m ca(600000x0x0,A,B) all 100000\n\
     m ca(600000x1x0,B,C) all 100000\n\
     m cu(600000x0x0,0,1,delta=10) A -\n\

@@ -108,7 +108,7 @@ fn ids(alloc: Global) -> Result<String, AllocError> {
     Ok(text)
 }
 
-/// The text of such a script: two replies, with what stands in front of and behind the ids of the first.
+/// The text of such a script: two replies, with the fields before and after the ids of the first.
 fn two_replies(
     alloc: Global,
     front: &str,

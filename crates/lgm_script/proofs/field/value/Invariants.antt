@@ -2,7 +2,7 @@ use Rattle.std.proofs.Common.{◌≡◌, ◌<◌, ◌^◌, drop}
 use Rattle.lgm_script.specs.inner.Digits.{value_at}
 use Rattle.lgm_script.proofs.field.value.Given as goal
 
--- the digits that are left go on with the number so far
+-- the remaining digits continue the number so far
 abbrev pub invariant-loop-byte : goal.invariant-loop-byte
 invariant-loop-byte l = record {
   goes_on : value_at 0 l.digits ≡ value_at l.value (drop l.byte-index l.digits);

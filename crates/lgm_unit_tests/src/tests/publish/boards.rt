@@ -2,12 +2,13 @@
 
 ghost use Rattle.std.specs.Prelude.{◌≡◌};
 
+use super::shown::{Contents, Shown, holds, look, shows};
 use super::{channel, scid, update};
 use crate::tests::graph::is_as_made;
 use crate::tests::made::node;
 use lgm_graph::Known;
-use lgm_publish::{Eye, Guard, Pen, board};
-use lgm_store::{Map, Op};
+use lgm_publish::{Eye, Pen, board};
+use lgm_store::Op;
 use std::alloc::Global;
 use std::process::Abort;
 use std::random::RandomSource;
@@ -15,56 +16,6 @@ use std::sync::Wait;
 use std::test::Fail;
 use std::thread;
 use std::thread::Threads;
-
-/// What a map has of the channel.
-#[derive(Clone, Copy, Debug, PartialEq, Eq)]
-struct Held {
-    /// How much the channel holds, in sat, or 0 where there is no channel.
-    sat: u64,
-    /// Whether it has the update of each direction.
-    updates: (bool, bool),
-}
-
-fn holds(map: &Map) -> Held {
-    let sat = match map.channel(scid()) {
-        Some(row) => row.sat,
-        None => 0,
-    };
-    Held {
-        sat,
-        updates: (
-            map.update(scid(), false).is_some(),
-            map.update(scid(), true).is_some(),
-        ),
-    }
-}
-
-/// What a guard shows.
-#[derive(Clone, Copy, Debug, PartialEq, Eq)]
-struct Shown {
-    version: u64,
-    map: Held,
-    edges: usize,
-}
-
-fn shows(guard: &Guard) -> Shown {
-    Shown {
-        version: guard.version(),
-        map: holds(guard.map()),
-        edges: guard.view().edge_count(),
-    }
-}
-
-/// What a guard of the eye shows, if there is one.
-fn look(eye: Eye) -> (Eye, Option<Shown>) {
-    match eye.enter() {
-        Ok(guard) => {
-            let shown = shows(&guard);
-            (guard.leave(), Some(shown))
-        }
-        Err(eye) => (eye, None),
-    }
-}
 
 /// Appends two operations and publishes them.
 fn publish_two<R: Wait>(rt: &R, pen: &mut Pen, first: Op, second: Op) -> bool
@@ -85,7 +36,7 @@ fn publish_one<R: Wait>(rt: &R, pen: &mut Pen, op: Op) -> bool
     appended && published
 }
 
-/// A pen and its only eye, which is told what is published so far.
+/// A pen and its only eye, which learns what is published so far.
 fn pen_and_eye<R: Wait + RandomSource + Abort>(
     rt: &R,
     alloc: Global,
@@ -114,7 +65,7 @@ struct Story {
     done: (bool, u64),
 }
 
-/// Two operations are published and then one, and then the channel goes.
+/// Two operations are published and then one, and then the channel is closed.
 fn watch<R: Wait>(rt: &R, mut pen: Pen, eye: Eye, (first, second, third): (Op, Op, Op)) -> Story {
     let (eye, before) = look(eye);
     let two = publish_two(rt, &mut pen, first, second);
@@ -139,7 +90,7 @@ fn watch<R: Wait>(rt: &R, mut pen: Pen, eye: Eye, (first, second, third): (Op, O
 
 /// A map without the channel.
 const fn without(version: u64) -> Shown {
-    let map = Held {
+    let map = Contents {
         sat: 0,
         updates: (false, false),
     };
@@ -157,7 +108,7 @@ fn an_eye_is_shown_what_was_published(rt: HostRuntime) -> Result<(), Fail> {
     let (pen, eye) = pen_and_eye(&rt, alloc, &Known::all())?;
     let both_ways = Shown {
         version: 3,
-        map: Held {
+        map: Contents {
             sat: 100_000,
             updates: (true, true),
         },
@@ -189,7 +140,7 @@ fn edges_of<R: Wait>(rt: &R, mut pen: Pen, eye: Eye, ops: (Op, Op, Op)) -> Optio
     }
 }
 
-/// The channel's second node has a feature that not everyone knows.
+/// The channel's second node requires a feature that not everyone knows.
 #[test]
 fn views_are_under_the_known_features(rt: HostRuntime) -> Result<(), Fail> {
     let alloc = rt.alloc();
@@ -201,7 +152,7 @@ fn views_are_under_the_known_features(rt: HostRuntime) -> Result<(), Fail> {
     Ok(())
 }
 
-/// A pen and two eyes, neither of which is told anything.
+/// A pen and two eyes, neither of which learns anything.
 fn pen_and_two_eyes<R: Wait + RandomSource + Abort>(
     rt: &R,
     alloc: Global,
@@ -212,31 +163,31 @@ fn pen_and_two_eyes<R: Wait + RandomSource + Abort>(
     Ok((pen, first, second))
 }
 
-/// What two eyes are shown, of which one is told what is published.
+/// What two eyes are shown, one of which learns what is published.
 #[derive(Clone, Copy, Debug, PartialEq, Eq)]
 struct Told {
     told: Option<Shown>,
     other: Option<u64>,
     /// What a copy has of the map that the first eye is shown while a close is appended alone.
-    copied: Option<Held>,
+    copied: Option<Contents>,
     published: u64,
 }
 
 /// What a copy has of the map that a guard of the eye shows.
-fn copied(alloc: Global, eye: Eye) -> Option<Held> {
+fn copied(alloc: Global, eye: Eye) -> Option<Contents> {
     let guard = match eye.enter() {
         Ok(guard) => guard,
         Err(_eye) => return None,
     };
-    let held = match guard.map().copy(alloc) {
+    let stored = match guard.map().copy(alloc) {
         Ok(map) => Some(holds(&map)),
         Err(_) => None,
     };
     guard.leave();
-    held
+    stored
 }
 
-/// Two operations are published, and then one; one eye is told of it.
+/// Two operations are published, and then one; one eye learns of it.
 fn watch_two<R: Wait + RandomSource + Abort>(
     rt: &R,
     alloc: Global,
@@ -262,13 +213,13 @@ fn watch_two<R: Wait + RandomSource + Abort>(
     })
 }
 
-// The eye that wasn't told is shown one of the versions.
+// The eye that didn't learn is shown one of the versions.
 #[test]
 fn an_eye_that_was_told_and_one_that_was_not(rt: HostRuntime) -> Result<(), Fail> {
     let alloc = rt.alloc();
     let ops = (channel(alloc)?, update(alloc, 0)?, update(alloc, 1)?);
     let story = watch_two(&rt, alloc, ops)?;
-    let whole = Held {
+    let whole = Contents {
         sat: 100_000,
         updates: (true, true),
     };
@@ -323,7 +274,7 @@ fn a_guard_has_the_edges_of_a_view_of_its_map(rt: HostRuntime) -> Result<(), Fai
     Ok(())
 }
 
-/// What a guard of the first eye shows before and after a look through the second one, and whether that one was let in.
+/// What a guard of the first eye shows before and after a look through the second one, and whether that one entered.
 fn look_twice(first: Eye, second: Eye) -> Option<(Shown, Shown, bool)> {
     let guard = match first.enter() {
         Ok(guard) => guard,
@@ -364,7 +315,7 @@ fn watch_beside<R: Wait + Threads>(
     (shown, published)
 }
 
-// A guard shows what it was entered on, whatever is published meanwhile. The other eye isn't held up.
+// A guard shows what it was entered on, whatever is published meanwhile. The other eye isn't delayed.
 #[test]
 fn a_guard_is_held_over_a_publication(rt: HostRuntime) -> Result<(), Fail> {
     let alloc = rt.alloc();
@@ -378,20 +329,20 @@ fn a_guard_is_held_over_a_publication(rt: HostRuntime) -> Result<(), Fail> {
     Ok(())
 }
 
-/// The version of a guard that is held over one publication, and that of the next one.
+/// The version of a guard that is kept over one publication, and that of the next one.
 fn hold_over_one<R: Wait>(rt: &R, pen: &mut Pen, eye: Eye, op: Op) -> Option<(u64, u64)> {
     let guard = match eye.enter() {
         Ok(guard) => guard,
         Err(_eye) => return None,
     };
     publish_one(rt, pen, op);
-    let held = guard.version();
+    let stored = guard.version();
     let (_eye, shown) = look(guard.leave());
-    shown.map(|shown| (held, shown.version))
+    shown.map(|shown| (stored, shown.version))
 }
 
-/// A publication waits for no guard of the edition right before it, so one thread can hold the guard and publish. If it
-/// published twice, this wouldn't end.
+/// A publication waits for no guard of the snapshot right before it, so one thread can keep the guard and publish. If
+/// it published twice, this wouldn't end.
 #[test]
 fn one_publication_waits_for_no_guard(rt: HostRuntime) -> Result<(), Fail> {
     let op = channel(rt.alloc())?;
@@ -402,7 +353,7 @@ fn one_publication_waits_for_no_guard(rt: HostRuntime) -> Result<(), Fail> {
     Ok(())
 }
 
-/// Publishes each operation by itself, and tells what the eye is shown then.
+/// Publishes each operation by itself, and returns what the eye is shown then.
 fn publish_each<R: Wait>(rt: &R, mut pen: Pen, eye: Eye, ops: Vec<Op>) -> Option<Shown> {
     for op in ops {
         publish_one(rt, &mut pen, op);
@@ -412,7 +363,7 @@ fn publish_each<R: Wait>(rt: &R, mut pen: Pen, eye: Eye, ops: Vec<Op>) -> Option
     shown
 }
 
-// The channel comes and goes a hundred times.
+// The channel is added and closed a hundred times.
 #[test]
 fn two_hundred_versions(rt: HostRuntime) -> Result<(), Fail> {
     let alloc = rt.alloc();

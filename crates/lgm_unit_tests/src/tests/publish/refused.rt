@@ -1,4 +1,4 @@
-//! What calls leave where memory is refused. To be run with each allocation refused in turn.
+//! What calls leave if memory is refused. To be run with each allocation refused in turn.
 
 use super::{channel, scid, update};
 use lgm_graph::Known;
@@ -7,7 +7,7 @@ use lgm_store::Op;
 use std::sync::Wait;
 use std::test::Fail;
 
-/// Appends an operation; one that comes back for want of memory is appended again.
+/// Appends an operation; one that is returned since memory ran out is appended again.
 fn append(pen: &mut Pen, op: Op) -> bool {
     match pen.append(op) {
         Ok(()) => true,
@@ -15,7 +15,7 @@ fn append(pen: &mut Pen, op: Op) -> bool {
     }
 }
 
-/// Publishes; where memory is refused nothing is published, and the next call publishes all.
+/// Publishes; if memory is refused nothing is published, and the next call publishes all.
 fn publish<R: Wait>(rt: &R, pen: &mut Pen) -> bool {
     let before = pen.published();
     pen.publish(rt).is_ok() || (pen.published() == before && pen.publish(rt).is_ok())

@@ -8,7 +8,8 @@ use lgm_publish::{Event, Reply, World, WorldFault};
 use lgm_route::{Request, RouteFault};
 use std::test::Fail;
 
-/// What the eye answers when node 10 is to pay node 11: the number of hops and the first one's channel, or why there is none.
+/// What the eye answers when node 10 is to pay node 11: the number of hops and the first one's channel, or why there is
+/// none.
 fn answer(world: &mut World) -> Result<Result<(usize, Scid), RouteFault>, WorldFault> {
     let request = Request {
         payer: point(10),

@@ -1,6 +1,6 @@
 use Rattle.std.proofs.Common.{◌≡◌, Ok, subst}
 use Rattle.lgm_c.specs.Offering.{offered_to}
-use Rattle.lgm_c.specs.inner.Charts.{Counted}
+use Rattle.lgm_c.specs.inner.Networks.{Counted}
 use Rattle.lgm_c.proofs.current.Current.offer.Goals as goal
 
 pub returns-clause-outcome : goal.returns-clause-outcome

@@ -20,7 +20,7 @@ use Rattle.std.specs.declared.option.Option.{Option}
 use Rattle.std.specs.declared.option.Option.TheVariants.{Some}
 use Rattle.std.proofs.raw_atomic.Walks.{proved_at, leaves}
 use Rattle.std.proofs.alloc.Calls.{Goes-blank, handle_tells}
-use Rattle.lgm_c.proofs.Values.{both, one, some_of, one_typed, ptr_typed, at_heap, Z, ptr_good, held_in}
+use Rattle.lgm_c.proofs.Values.{both, one, some_of, one_typed, ptr_typed, at_heap, Z, ptr_good, state_in}
 use Rattle.lgm_c.proofs.SnapshotValues.{R, Handle, handle_out}
 use Rattle.std.specs.contracts.impls.GlobalAllocator.TheImpl.{ghosts}
 use Rattle.std.specs.Box.Ownership.{box_owns}
@@ -51,7 +51,7 @@ into_loose_spec 𝓤 𝓛 𝓜 𝓡 wired =
     sets ! (of_opd ! (get_in ! (fld ! refl (stop !)) (sub ! 0 refl (whole !)))) refl (ptr_typed v.at) $
     sets ! (of_opd ! (get ! refl)) refl (ptr_typed v.at) $
     sets ! (agg ! (and_then ! (get ! refl) (and_then ! (get ! refl) (no_more !)))) refl (ptr_good v.at h fits) $
-    move ! (2 ∷ 0 ∷ []) $ use1 𝓛 (‵ (box_owns (ghosts.dealloc_token a) R v.at x)) (id⊢ 𝓤 _) $ held_in R ! v.at h a x $
+    move ! (2 ∷ 0 ∷ []) $ use1 𝓛 (‵ (box_owns (ghosts.dealloc_token a) R v.at x)) (id⊢ 𝓤 _) $ state_in R ! v.at h a x $
     use0 𝓛 (raw (fact 𝓤 (Some x ≡ v.value))) (fact_i 𝓤 (Some x ≡ v.value) (emp 𝓤) (sym e)) $ nothing ! $ nothing ! $ fjoin ! $ nothing ! $ fjoin ! $
     returns ! (look_at ! 0 refl) $ free_all ! refl $ keep ! (4 ∷ 0 ∷ 2 ∷ 1 ∷ []) $
     by ! (leaves 𝓛 ended hs c z (both (ptr_val v.at) h) (record { at = v.at; alloc = a; value = x }) (tt, (tt, tt)) (tt, (tt, tt)))))))))

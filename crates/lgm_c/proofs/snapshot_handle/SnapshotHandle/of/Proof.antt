@@ -1,4 +1,4 @@
--- `of` takes a loose box over.
+-- `of` takes over the box of a `RawBox`.
 use Rattle.std.proofs.Common.{◌≡◌, List, [], ◌∷◌, ◌++◌, refl}
 use mir.Val.{Val}
 use base.Logic.{SProp, emp}
@@ -18,7 +18,7 @@ use denote.Triple.Walked.{Stays, stay_dropped, walk_of}
 use Rattle.std.specs.declared.option.Option.TheVariants.{Some}
 use Rattle.std.proofs.raw_atomic.Walks.{proved_at, leaves}
 use Rattle.std.proofs.alloc.Calls.{Goes-blank}
-use Rattle.lgm_c.proofs.Values.{both, one, one_typed, ptr_typed, Held, ptr_good, held_out}
+use Rattle.lgm_c.proofs.Values.{both, one, one_typed, ptr_typed, OwnedBox, ptr_good, held_out}
 use Rattle.lgm_c.proofs.SnapshotValues.{R, handle_in}
 use Rattle.std.specs.declared.alloc.Global.{Global}
 use Rattle.std.specs.contracts.impls.GlobalAllocator.TheImpl.{ghosts}
@@ -31,8 +31,8 @@ use Rattle.lgm_c.proofs.snapshot_handle.SnapshotHandle.of.Code as code
 pub of_spec : {M : Type 1} → statement M
 of_spec 𝓤 𝓛 𝓜 𝓡 wired =
     let H = 𝓛.H in let 𝓣 = tables 𝓤 H 𝓜 𝓡 𝓡.env in let c = clauses 𝓛 𝓜.mem 𝓡.returns in let fn = code.function in
-    let hs : Stays ended.signature.params ended.kept = (stay_dropped (plain (λ _. Held R)) ended.kept.0, tt) in
-    proved_at 𝓛 ended hs c 𝓜 𝓡 (Goes-blank 𝓛 0 (plain (λ _. Held R)) ended.kept.0 (λ κs x f. tt), tt) #self fn
+    let hs : Stays ended.signature.params ended.kept = (stay_dropped (plain (λ _. OwnedBox R)) ended.kept.0, tt) in
+    proved_at 𝓛 ended hs c 𝓜 𝓡 (Goes-blank 𝓛 0 (plain (λ _. OwnedBox R)) ended.kept.0 (λ κs x f. tt), tt) #self fn
     (code.unfolded 𝓤 H 𝓜 𝓡 wired) (λ z are. let v = z.0.3.0 in
     let Post : Val → SProp 𝓤 = (walk_of 𝓛 ended hs c).post z in
     qed 𝓛 ((raw (alive 𝓛 ended.signature z.0.0 z.0.1) ⊛ ‵ (owns (types_at ended.signature.params z.0.0) z.0.3

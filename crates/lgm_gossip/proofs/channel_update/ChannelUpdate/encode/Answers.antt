@@ -1,5 +1,5 @@
 use Rattle.std.proofs.Common.{refl}
-use Rattle.lgm_gossip.specs.declared.part.Part.TheVariants.{Bytes}
+use Rattle.lgm_gossip.specs.declared.segment.Segment.TheVariants.{Bytes}
 use Rattle.lgm_gossip.proofs.EncodeLaws.{then_whole, then_8, then_16, then_32, then_64, says_rest, encodes}
 use Rattle.lgm_gossip.proofs.channel_update.ChannelUpdate.encode.Goals as goal
 
@@ -7,7 +7,7 @@ pub returns : goal.returns
 returns c =
     let m = c.args.self.now in
     encodes 258 c.join.result
-    (then_whole 64 c.part.result m.signature c.part.ensures
+    (then_whole 64 c.segment.result m.signature c.segment.ensures
     (then_whole 32 c.whole.result m.chain_hash.0 c.whole.ensures
     (then_64 c.to_u64.result m.short_channel_id c.to_u64.ensures
     (then_32 m.timestamp

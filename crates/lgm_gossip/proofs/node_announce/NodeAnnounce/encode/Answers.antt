@@ -1,4 +1,4 @@
-use Rattle.lgm_gossip.specs.declared.part.Part.TheVariants.{Bytes}
+use Rattle.lgm_gossip.specs.declared.segment.Segment.TheVariants.{Bytes}
 use Rattle.lgm_gossip.proofs.EncodeLaws.{then_whole, then_counted, then_32, says_rest, encodes}
 use Rattle.lgm_gossip.proofs.node_announce.NodeAnnounce.encode.Goals as goal
 
@@ -6,7 +6,7 @@ pub returns : goal.returns
 returns c =
     let m = c.args.self.now in
     encodes 257 c.join.result
-    (then_whole 64 c.part.result m.signature c.part.ensures
+    (then_whole 64 c.segment.result m.signature c.segment.ensures
     (then_counted c.in_ok-features_len.features_len (Bytes c.as_slice.result) m.features c.as_slice.ensures c.in_ok-features_len.ensures
     (then_32 m.timestamp
     (then_whole 33 c.whole.result m.node_id.0 c.whole.ensures

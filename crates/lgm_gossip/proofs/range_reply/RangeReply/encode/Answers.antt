@@ -1,5 +1,5 @@
 use Rattle.std.proofs.Common.{length, subst, ◌∙◌}
-use Rattle.lgm_gossip.specs.RangeReply.{Reply, fields}
+use Rattle.lgm_gossip.specs.RangeReply.{ReplyFields, fields}
 use Rattle.lgm_gossip.specs.TimestampList.{pairs_text}
 use Rattle.lgm_gossip.specs.Spelling.{Encodes}
 use Rattle.lgm_gossip.proofs.EncodeLaws.{then_whole, then_8, then_32, then_ids, says_none, says_same, says_pairs, encodes}
@@ -8,7 +8,7 @@ use Rattle.lgm_gossip.proofs.range_reply.RangeReply.encode.Goals as goal
 pub returns-in_default : goal.returns-in_default
 returns-in_default c =
     let m = c.self.inside in
-    subst (λ (q : Reply). Encodes 264 (fields q) c.join.result) c.self.view_is
+    subst (λ (q : ReplyFields). Encodes 264 (fields q) c.join.result) c.self.view_is
     (encodes 264 c.join.result
     (then_whole 32 c.whole.result m.chain_hash.0 c.whole.ensures
     (then_32 m.first_blocknum
@@ -21,7 +21,7 @@ returns-in_default c =
 pub returns : goal.returns
 returns c =
     let m = c.self.inside in
-    subst (λ (q : Reply). Encodes 264 (fields q) c.join-2.result) c.self.view_is
+    subst (λ (q : ReplyFields). Encodes 264 (fields q) c.join-2.result) c.self.view_is
     (encodes 264 c.join-2.result
     (then_whole 32 c.whole.result m.chain_hash.0 c.whole.ensures
     (then_32 m.first_blocknum

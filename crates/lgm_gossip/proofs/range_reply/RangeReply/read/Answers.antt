@@ -4,7 +4,7 @@ use Rattle.std.proofs.lemmas.Result.{err_from_is_err_and}
 use Rattle.lgm_gossip.specs.reading.EncodedIdsReading.{ids_of}
 use Rattle.lgm_gossip.specs.reading.RangeReplyReading.{range_reply_at}
 use Rattle.lgm_gossip.proofs.MemoryLaws.{blocks_len, number_len, enclosed_len, fails_with}
-use Rattle.lgm_gossip.specs.RangeReply.{Reply}
+use Rattle.lgm_gossip.specs.RangeReply.{ReplyFields}
 use Rattle.lgm_gossip.proofs.RangeReplyLaws.{range_reply_text, one_each, same_count}
 use Rattle.lgm_gossip.proofs.range_reply.RangeReply.read.Goals as goal
 
@@ -32,7 +32,7 @@ returns-in_err-timestamps c =
 pub invariant_of-result : goal.invariant_of-result
 unfolding range_reply_at
 invariant_of-result c =
-    let m : Reply = record {
+    let m : ReplyFields = record {
       chain_hash = record { 0 = c.in_ok-chain_hash.chain_hash };
       first_blocknum = c.in_ok-first_blocknum.first_blocknum;
       number_of_blocks = c.in_ok-number_of_blocks.number_of_blocks;

@@ -16,6 +16,6 @@ offers_less (Err refusal) first answer op offers is err = absurd cc
 
 pub returns-in_err-absorb-clause-admission : goal.returns-in_err-absorb-clause-admission
 returns-in_err-absorb-clause-admission c =
-    offers_less (admitted c.args.self.now.rows c.args.candidate) c.admit_candidate.result c.from_residual-in_err-absorb.result c.in_ok-op.op
-    (subst (λ (rows : Rows). Offers c.admit_candidate.result (admitted rows c.args.candidate))
-    (ap (λ network. network.rows) c.self.view_is) c.admit_candidate.ensures) c.in_ok-op.was c.from_residual-in_err-absorb.ensures.1
+    offers_less (admitted c.args.self.now.rows c.args.message) c.admit_checked.result c.from_residual-in_err-absorb.result c.in_ok-op.op
+    (subst (λ (rows : Rows). Offers c.admit_checked.result (admitted rows c.args.message))
+    (ap (λ network. network.rows) c.self.view_is) c.admit_checked.ensures) c.in_ok-op.was c.from_residual-in_err-absorb.ensures.1

@@ -5,5 +5,5 @@ use Rattle.lgm_graph.proofs.nodes.Edges.drop_banned.Goals as goal
 
 pub returns : goal.returns
 returns c =
-    filter_same _ (is_allowed c.args.points.now.keys c.args.held.now.banned) _ (λ x b f' k. search rules)
+    filter_same _ (is_allowed c.args.points.now.keys c.args.stored.now.banned) _ (λ x b f' k. search rules)
     c.args.self.now.edges.items c.retain.new.self.items c.retain.ensures.filtered

@@ -23,8 +23,8 @@ returns-in-Some-clause-out c = λ before lists.
     (map_change before (λ q ls. filter (is_allowed c.args.self.now.points.keys c.args.map.now.banned) ls)
     c.args.self.now.points.keys c.args.node.now [] c.len.ensures.unique there)
 
-pub returns-in-Some-clause-takes : goal.returns-in-Some-clause-takes
-returns-in-Some-clause-takes c = λ before flags.
+pub returns-in-Some-clause-accepts_payments : goal.returns-in-Some-clause-accepts_payments
+returns-in-Some-clause-accepts_payments c = λ before flags.
     let place = number_some c.args.self.now.points.keys c.args.node.now c.in-Some.number (sym c.get_index_of.ensures.index ∙ c.in-Some.is) in
     let there = rw (← place.0) at place.1 in
     rw (flags, ← place.0, c.takes_payments.ensures)
@@ -43,7 +43,7 @@ returns-in_default-clause-out c = λ before lists.
     ls) c.args.self.now.points.keys c.args.node.now
     (position_none c.args.self.now.points.keys c.args.node.now (sym c.get_index_of.ensures.index ∙ c.in_default.is))
 
-pub returns-in_default-clause-takes : goal.returns-in_default-clause-takes
-returns-in_default-clause-takes c = λ before flags.
+pub returns-in_default-clause-accepts_payments : goal.returns-in_default-clause-accepts_payments
+returns-in_default-clause-accepts_payments c = λ before flags.
     flags ∙ map_absent before (λ q b. takes_payments c.args.known.now c.args.map.now.nodes q) c.args.self.now.points.keys c.args.node.now
     (position_none c.args.self.now.points.keys c.args.node.now (sym c.get_index_of.ensures.index ∙ c.in_default.is))

@@ -9,7 +9,7 @@ returns-then-contains-clause-numbered c =
 
 pub returns-clause-numbered : goal.returns-clause-numbered
 returns-clause-numbered c =
-    has_numbered c.args.self.now c.args.self.now c.add.new.self c.args.point c.takes_payments-takes.result
+    has_numbered c.args.self.now c.args.self.now c.add.new.self c.args.point c.takes_payments-accepts_payments.result
     (sym c.contains.ensures ∙ c.if-contains.false) (λ k. refl)
-    c.add.ensures.points c.add.ensures.takes c.add.ensures.into c.add.ensures.out
-    c.args.known.now c.args.held.now.nodes c.takes_payments-takes.ensures
+    c.add.ensures.points c.add.ensures.accepts_payments c.add.ensures.into c.add.ensures.out
+    c.args.known.now c.args.stored.now.nodes c.takes_payments-accepts_payments.ensures

@@ -2,7 +2,7 @@ use Rattle.std.proofs.Common.{◌≡◌, length}
 use Rattle.lgm_store.specs.History.{fold_from}
 use Rattle.lgm_graph.proofs.replica.Replica.catch_up.Given as goal
 
--- what was done and what is due make what was due
+-- what was applied and what is due make what was due
 abbrev pub invariant-loop-op : goal.invariant-loop-op
 invariant-loop-op l = record {
   rows : fold_from l.self.network.rows l.self.due.items ≡ fold_from l.initial.self.network.rows l.initial.self.due.items;

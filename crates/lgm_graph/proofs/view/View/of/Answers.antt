@@ -9,33 +9,33 @@ use Rattle.lgm_graph.proofs.view.View.of.Goals as goal
 
 pub add_channel-requires-clause-own : goal.add_channel-requires-clause-own
 add_channel-requires-clause-own c =
-    walked_own c.args.map.now c.in-Some.held.now c.next.new.self c.loop-held.edges.items (graph_in c.args.known.now c.loop-held.nodes)
-    (subst (λ left. HasWalked c.args.map.now left c.loop-held.edges.items
-    (graph_in c.args.known.now c.loop-held.nodes)) c.in-Some.ensures.steps c.loop-held.invariant)
+    walked_own c.args.map.now c.in-Some.stored.now c.next.new.self c.loop-stored.edges.items (graph_in c.args.known.now c.loop-stored.nodes)
+    (subst (λ left. HasWalked c.args.map.now left c.loop-stored.edges.items
+    (graph_in c.args.known.now c.loop-stored.nodes)) c.in-Some.ensures.steps c.loop-stored.invariant)
 
-pub loop-held-preserved : goal.loop-held-preserved
-loop-held-preserved c =
-    walked_more c.args.known.now c.args.map.now c.in-Some.held.now c.next.new.self c.loop-held.nodes
-    c.add_channel.new.nodes c.loop-held.edges.items c.add_channel.new.edges.items
+pub loop-stored-preserved : goal.loop-stored-preserved
+loop-stored-preserved c =
+    walked_more c.args.known.now c.args.map.now c.in-Some.stored.now c.next.new.self c.loop-stored.nodes
+    c.add_channel.new.nodes c.loop-stored.edges.items c.add_channel.new.edges.items
     c.in_ok-add_channel.ensures.few c.in_ok-add_channel.ensures.kept c.in_ok-add_channel.ensures.first
-    c.in_ok-add_channel.ensures.second c.in_ok-add_channel.ensures.takes c.in_ok-add_channel.ensures.bare
+    c.in_ok-add_channel.ensures.second c.in_ok-add_channel.ensures.accepts_payments c.in_ok-add_channel.ensures.bare
     c.in_ok-add_channel.ensures.edges
-    (subst (λ left. HasWalked c.args.map.now left c.loop-held.edges.items
-    (graph_in c.args.known.now c.loop-held.nodes)) c.in-Some.ensures.steps c.loop-held.invariant)
+    (subst (λ left. HasWalked c.args.map.now left c.loop-stored.edges.items
+    (graph_in c.args.known.now c.loop-stored.nodes)) c.in-Some.ensures.steps c.loop-stored.invariant)
 
 pub invariant_of-result : goal.invariant_of-result
 invariant_of-result c =
-    let walked = c.loop-held.invariant in
+    let walked = c.loop-stored.invariant in
     let all = ap length walked.parts ∙ length-append walked.done walked.rest in
     let points = c.in_ok-put_edges.ensures.points in
     let beside : IsGraphOf c.args.map.now (graph_in c.args.known.now c.put_edges.new.nodes) =
-    walked_all c.args.known.now c.args.map.now c.loop-held.edges.items c.loop-held.nodes c.put_edges.new.nodes c.rows_are_lawful.ensures.ascend
-    (subst (λ left. HasWalked c.args.map.now left c.loop-held.edges.items (graph_in c.args.known.now
-    c.loop-held.nodes)) c.in-None.ensures.steps.0 walked) points c.in_ok-put_edges.ensures.takes
-    (λ edges are. c.in_ok-put_edges.ensures.shows edges (subst (AreEdgesOf edges c.loop-held.nodes.points.keys) (sym c.deref.ensures.value) are)) in
+    walked_all c.args.known.now c.args.map.now c.loop-stored.edges.items c.loop-stored.nodes c.put_edges.new.nodes c.rows_are_lawful.ensures.ascend
+    (subst (λ left. HasWalked c.args.map.now left c.loop-stored.edges.items (graph_in c.args.known.now
+    c.loop-stored.nodes)) c.in-None.ensures.steps.0 walked) points c.in_ok-put_edges.ensures.accepts_payments
+    (λ edges are. c.in_ok-put_edges.ensures.shows edges (subst (AreEdgesOf edges c.loop-stored.nodes.points.keys) (sym c.deref.ensures.value) are)) in
     record {
       few = omega (arith, c.requires, walked.few, all, ap length points);
-      long = ap length beside.takes ∙ length-map c.put_edges.new.nodes.points.keys (takes_payments c.args.known.now c.args.map.now.nodes);
+      long = ap length beside.accepts_payments ∙ length-map c.put_edges.new.nodes.points.keys (takes_payments c.args.known.now c.args.map.now.nodes);
       edges = carrying c.args.map.now;
       shows = beside.shows;
     }
@@ -43,8 +43,8 @@ invariant_of-result c =
 pub returns-clause-beside : goal.returns-clause-beside
 returns-clause-beside c =
     subst (λ k. IsGraphOf c.args.map.now (graph_in k c.put_edges.new.nodes)) (sym c.in_ok-known.ensures)
-    (walked_all c.args.known.now c.args.map.now c.loop-held.edges.items c.loop-held.nodes c.put_edges.new.nodes c.rows_are_lawful.ensures.ascend
-    (subst (λ left. HasWalked c.args.map.now left c.loop-held.edges.items
-    (graph_in c.args.known.now c.loop-held.nodes)) c.in-None.ensures.steps.0 c.loop-held.invariant)
-    c.in_ok-put_edges.ensures.points c.in_ok-put_edges.ensures.takes
-    (λ edges are. c.in_ok-put_edges.ensures.shows edges (subst (AreEdgesOf edges c.loop-held.nodes.points.keys) (sym c.deref.ensures.value) are)))
+    (walked_all c.args.known.now c.args.map.now c.loop-stored.edges.items c.loop-stored.nodes c.put_edges.new.nodes c.rows_are_lawful.ensures.ascend
+    (subst (λ left. HasWalked c.args.map.now left c.loop-stored.edges.items
+    (graph_in c.args.known.now c.loop-stored.nodes)) c.in-None.ensures.steps.0 c.loop-stored.invariant)
+    c.in_ok-put_edges.ensures.points c.in_ok-put_edges.ensures.accepts_payments
+    (λ edges are. c.in_ok-put_edges.ensures.shows edges (subst (AreEdgesOf edges c.loop-stored.nodes.points.keys) (sym c.deref.ensures.value) are)))

@@ -9,11 +9,11 @@ use Rattle.lgm_route.proofs.search.Search.best_walk.Goals as goal
 pub returns-in_ok-walk-in-Some : goal.returns-in_ok-walk-in-Some
 returns-in_ok-walk-in-Some c =
     let s : State =
-    state_of c.self.inside.view.now c.self.inside.request c.self.inside.low c.self.inside.start
+    state_of c.self.inside.view.now c.self.inside.request c.self.inside.low c.self.inside.upper_bound
     c.self.inside.labels.items c.self.inside.best c.self.inside.done.items in
     let walk = c.in_ok-walk-in-Some.walk.items in
     let spelled =
-    subst (λ ls. Spells s.ground.graph ls c.in-Some.best walk × (length walk ≡ c.in-Some.best.count))
+    subst (λ ls. Spells s.ground.graph ls c.in-Some.best walk × (length walk ≡ c.in-Some.best.hops))
     c.deref.ensures.value c.in_ok-walk-in-Some.ensures in
     subst (λ t. IsLeast (edges t.ground.graph) t.ground.request walk × (sent t.ground.request.amount walk < 2 ^ 64)) c.self.view_is
     (walk_least s c.in-Some.best walk c.in-Some.is c.self.invariant (subst IsFinished (sym c.self.view_is) c.requires.finished) spelled)

@@ -8,14 +8,14 @@ use Rattle.lgm_route.proofs.search.Search.improve.Goals.{After-self-1}
 
 abbrev now : (c : After-self-1) → State
 now c =
-    state_of c.self.inside.view.now c.self.inside.request c.self.inside.low c.self.inside.start
+    state_of c.self.inside.view.now c.self.inside.request c.self.inside.low c.self.inside.upper_bound
     c.self.inside.labels.items c.self.inside.best c.self.inside.done.items
 
-better : (c : After-self-1) → IsBetter (now c).ground.graph (now c).ground.request (now c).labels (now c).ground.start (now c).best c.args.new (Some c.args.new)
+better : (c : After-self-1) → IsBetter (now c).ground.graph (now c).ground.request (now c).labels (now c).ground.upper_bound (now c).best c.args.new (Some c.args.new)
 better c =
     let s = now c in
-    subst (λ ls. IsBetter s.ground.graph s.ground.request ls s.ground.start s.best c.args.new (Some c.args.new)) c.deref.ensures.value
-    (subst (λ b. IsBetter s.ground.graph s.ground.request c.deref.result.now s.ground.start s.best c.args.new
+    subst (λ ls. IsBetter s.ground.graph s.ground.request ls s.ground.upper_bound s.best c.args.new (Some c.args.new)) c.deref.ensures.value
+    (subst (λ b. IsBetter s.ground.graph s.ground.request c.deref.result.now s.ground.upper_bound s.best c.args.new
     (if b then Some c.args.new else s.best)) c.if-is_better.true c.is_better.ensures)
 
 pub invariant_of-self : goal.invariant_of-self

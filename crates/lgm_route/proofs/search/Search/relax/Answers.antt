@@ -2,7 +2,7 @@ use Rattle.std.proofs.Common.{◌≡◌, ◌<◌, ◌∙◌, ℕ, length, ap, su
 use Rattle.std.proofs.lemmas.List.{get_or_default}
 use Rattle.lgm_graph.specs.Graph.{edges_into}
 use Rattle.lgm_route.specs.inner.Searching.{label_at, edge_at, no_edge}
-use Rattle.lgm_route.specs.inner.State.{IsPassedOn}
+use Rattle.lgm_route.specs.inner.State.{IsRelaxedOn}
 use Rattle.lgm_route.proofs.Searches.{extends-trans, passed_more, left_all}
 use Rattle.lgm_route.proofs.search.Search.relax.Goals as goal
 
@@ -10,17 +10,17 @@ pub loop-at-preserved : goal.loop-at-preserved
 loop-at-preserved c =
     let first = c.args.self.now in
     let before = c.loop-at.self in
-    let after = c.pass.new.self in
+    let after = c.relax_edge.new.self in
     let run = c.edges_into-edges.result.now in
     let same : c.index-edges-at.result ≡ edge_at run c.loop-at.at =
     c.index-edges-at.is
     ∙ get_or_default run c.loop-at.at c.index-edges-at.result no_edge c.loop-at-test.true in
     record {
-      extends = extends-trans first before after c.loop-at.invariant.extends c.in_ok-pass.ensures.extends;
+      extends = extends-trans first before after c.loop-at.invariant.extends c.in_ok-relax_edge.ensures.extends;
       passed =
           passed_more first before after (edge_at run) c.args.i c.loop-at.at c.requires
-          c.loop-at.invariant.extends c.in_ok-pass.ensures.extends c.loop-at.invariant.passed
-          (subst (λ edge. IsPassedOn before c.args.i edge after) same c.in_ok-pass.ensures.passed);
+          c.loop-at.invariant.extends c.in_ok-relax_edge.ensures.extends c.loop-at.invariant.passed
+          (subst (λ edge. IsRelaxedOn before c.args.i edge after) same c.in_ok-relax_edge.ensures.passed);
     }
 
 pub returns-clause-left : goal.returns-clause-left
@@ -31,5 +31,5 @@ returns-clause-left c =
     let same : run ≡ edges_into first.ground.graph (label_at first.labels c.args.i).node =
     c.edges_into-edges.ensures ∙ ap (λ l. edges_into first.ground.graph l.node) c.label-label.ensures.label in
     left_all first last c.args.i c.label-label.ensures.search.ground
-    (subst (λ r. (j : ℕ) → j < length r → IsPassedOn first c.args.i (edge_at r j) last) same
+    (subst (λ r. (j : ℕ) → j < length r → IsRelaxedOn first c.args.i (edge_at r j) last) same
     (λ j to. c.loop-at.invariant.passed j (omega (arith, to, c.loop-at-test.false))))

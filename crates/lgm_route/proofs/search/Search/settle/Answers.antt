@@ -6,14 +6,14 @@ use Rattle.lgm_route.proofs.search.Search.settle.Goals as goal
 pub mark-requires-clause-settled : goal.mark-requires-clause-settled
 mark-requires-clause-settled c =
     let s = c.args.self.now in
-    let least = c.hope.ensures ∙ ap (λ l. cost (l.owed + number_at s.ground.low l.node) l.count) c.label-label.ensures.label in
-    settled_vain s c.args.i c.label-label.ensures.search c.requires (omega (arith, least, c.bound.ensures.exact, c.if-bound-hope.true))
+    let least = c.cost_lower_bound.ensures ∙ ap (λ l. cost (l.amount + number_at s.ground.low l.node) l.hops) c.label-label.ensures.label in
+    settled_vain s c.args.i c.label-label.ensures.search c.requires (omega (arith, least, c.bound.ensures.exact, c.if-bound-cost_lower_bound.true))
 
 pub mark-requires-2-clause-settled : goal.mark-requires-2-clause-settled
 mark-requires-2-clause-settled c =
-    settled_by c.args.self.now c.close.new.self c.args.i c.stand_in-place.result c.label-label.ensures.search
+    settled_by c.args.self.now c.close.new.self c.args.i c.dominator-place.result c.label-label.ensures.search
     c.is_done-2.ensures.search c.in_ok-close.ensures.extends c.requires
-    c.stand_in-place.ensures c.in_ok-close.ensures.here
+    c.dominator-place.ensures c.in_ok-close.ensures.here
 
 pub returns-clause-extends : goal.returns-clause-extends
 returns-clause-extends c =

@@ -1,6 +1,6 @@
 use Rattle.std.proofs.Common.{subst, sym, ◌+◌}
 use Rattle.lgm_run.specs.inner.Engine.{IsFew}
-use Rattle.lgm_run.specs.inner.Offered.{outcome_on}
+use Rattle.lgm_run.specs.inner.CheckedItem.{outcome_on}
 use Rattle.lgm_run.proofs.Fewness.{grown_few}
 use Rattle.lgm_run.proofs.engine.Engine.offer.Goals as goal
 

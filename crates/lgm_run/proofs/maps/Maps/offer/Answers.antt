@@ -1,4 +1,4 @@
-use Rattle.lgm_run.specs.inner.Offered.{outcome_on}
+use Rattle.lgm_run.specs.inner.CheckedItem.{outcome_on}
 use Rattle.lgm_run.proofs.MapLaws.{leveled_kept, due_leads, after_offer}
 use Rattle.lgm_run.proofs.maps.Maps.offer.Goals as goal
 

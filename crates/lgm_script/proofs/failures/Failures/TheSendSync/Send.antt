@@ -1,4 +1,4 @@
--- A count owns nothing, so it may go to another thread.
+-- A count owns nothing, so it may move to another thread.
 use denote.Param.Send.{IsSend, owning_send}
 use Rattle.lgm_script.specs.contracts.failures.Failures.{the_row, the_type}
 

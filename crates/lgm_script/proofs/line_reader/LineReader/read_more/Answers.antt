@@ -4,7 +4,7 @@ use Rattle.lgm_script.proofs.Ahead.{read_behind, ahead_behind, front_stays}
 use Rattle.lgm_script.proofs.line_reader.LineReader.read_more.Goals as goal
 use Rattle.lgm_script.proofs.line_reader.LineReader.read_more.Goals.{After-self-6-1}
 
--- what was ahead stays, and the bytes that were read stand behind it
+-- what was read ahead is unchanged, and the new bytes come after it
 behind : (g : _) (c : After-self-6-1 g) (rest : List ℕ)
     → drop c.make_room-start.result.0 (take (c.make_room-start.result.1 + c.in_ok-count.count)
     (take c.make_room-start.new.buffer.len ((c.split_at_mut-room.result.0.now ++ c.read.new.buffer) ++ rest)))

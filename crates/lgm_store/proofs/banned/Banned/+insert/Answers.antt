@@ -8,7 +8,7 @@ use Rattle.lgm_store.specs.Rows.{put, by_point}
 use Rattle.lgm_store.specs.History.{with_points}
 use Rattle.lgm_store.proofs.Points.{is_at-point, is_point-self}
 use Rattle.lgm_store.proofs.Listing.{remove_key-insert}
-use Rattle.lgm_store.proofs.Bans.{keys-insert}
+use Rattle.lgm_store.proofs.BannedPoints.{keys-insert}
 use Rattle.lgm_store.proofs.banned.Banned.+insert.Goals as goal
 
 not_true : (b : Bool) → true ≡ not b → b ≡ false

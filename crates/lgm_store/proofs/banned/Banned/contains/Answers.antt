@@ -3,7 +3,7 @@ use Rattle.std.specs.BTreeMap.{is_at}
 use Rattle.lgm_store.specs.Rows.{is_point, is_banned}
 use Rattle.lgm_store.specs.Keys.{point_cmp}
 use Rattle.lgm_store.proofs.Points.{is_at-point}
-use Rattle.lgm_store.proofs.Bans.{any-same}
+use Rattle.lgm_store.proofs.BannedPoints.{any-same}
 use Rattle.lgm_store.proofs.banned.Banned.contains.Goals as goal
 
 pub returns : goal.returns

@@ -8,6 +8,6 @@ pub returns : goal.returns
 returns c =
     let node = c.args.row.now.message.node_id in
     let rows = c.args.self.now in
-    let verdict = rw c.node.ensures at c.judge_node.ensures in
+    let verdict = rw c.node.ensures at c.check_node.ensures in
     ap (node_op c.args.row.now) verdict ∙ node-decided (is_banned rows.banned node)
     (ends_channel rows.channels node) (node_of rows.nodes node) c.args.row.now

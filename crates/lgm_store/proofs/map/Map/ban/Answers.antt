@@ -24,7 +24,7 @@ loop-scid-preserved c =
     c.close.ensures ∙ ap (λ rows. without_channel rows c.scid-item.result) c.loop-scid.invariant
     ∙ sym (closed_all-more _ c.deref-scid-items.result.now c.loop-scid.scid-index c.scid-item.result c.loop-scid-test.true c.scid-item.is)
 
--- the rows with the points back in their place
+-- the rows with the banned points restored
 done : (c : After-drop-scids-2) → rows_of c.self-2.inside.channels c.self-2.inside.nodes.entries
     c.replace-banned.result ≡ with_ban c.args.self.now c.args.ban.now
 done c =

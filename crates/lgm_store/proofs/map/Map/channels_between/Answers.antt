@@ -4,9 +4,9 @@ use Rattle.std.specs.declared.ops.Bound.TheVariants.{Included}
 use Rattle.std.specs.BTreeMap.Range.{range_contains}
 use Rattle.std.specs.Ordering.{nat_cmp}
 use Rattle.lgm_store.specs.Reading.{is_between}
-use Rattle.lgm_store.specs.inner.Slots.{id_in}
-use Rattle.lgm_store.proofs.Holding.{ascend-held}
-use Rattle.lgm_store.proofs.HeldRows.{values-held_at, filter-past, filter-keyed}
+use Rattle.lgm_store.specs.inner.ChannelTable.{id_in}
+use Rattle.lgm_store.proofs.Holding.{ascend-stored}
+use Rattle.lgm_store.proofs.ChannelWithUpdates.{values-stored_at, filter-past, filter-keyed}
 use Rattle.lgm_store.proofs.Walking.{forward, within, backward, never}
 use Rattle.lgm_store.proofs.map.Map.channels_between.Goals as goal
 use Rattle.lgm_store.proofs.map.Map.channels_between.Goals.{then-from-to, else-from-to}
@@ -29,11 +29,11 @@ returns c =
           c.start_of-start.ensures.earlier w.end_before-end.ensures between)
       | else-from-to w ↦ absurd (never id c.args.from c.args.to w.if-from-to.false between)
     ] in
-    c.new.ensures ∙ ap (filter (λ held. is_between (id_in held) c.args.from c.args.to)) c.range-channels.ensures
+    c.new.ensures ∙ ap (filter (λ stored. is_between (id_in stored) c.args.from c.args.to)) c.range-channels.ensures
     ∙ filter-keyed (λ id. is_between id c.args.from c.args.to)
     (range_contains nat_cmp (Included start) c.if-from-to.end) c.self.inside.channels sound.channels_keyed
     ∙ ap values_of (filter-past (λ e. range_contains nat_cmp (Included start) c.if-from-to.end e.0)
     (λ e. is_between e.0 c.args.from c.args.to) c.self.inside.channels (λ e. ranged e.0))
-    ∙ values-held_at c.self.inside.channels c.args.self.now sound.channels_keyed sound.updates_keyed
-    (ascend-held c.self.inside.channels sound.channels_ascend) (ap (λ rows. rows.channels) c.self.view_is) (ap (λ rows. rows.updates) c.self.view_is)
+    ∙ values-stored_at c.self.inside.channels c.args.self.now sound.channels_keyed sound.updates_keyed
+    (ascend-stored c.self.inside.channels sound.channels_ascend) (ap (λ rows. rows.channels) c.self.view_is) (ap (λ rows. rows.updates) c.self.view_is)
     (λ id. is_between id c.args.from c.args.to)

@@ -3,22 +3,22 @@ use Rattle.std.specs.Prelude.{is_some}
 use Rattle.std.specs.Map.{lookup, remove_entry, values_of}
 use Rattle.std.specs.BTreeMap.{is_at}
 use Rattle.std.specs.Ordering.{nat_cmp}
-use Rattle.lgm_store.specs.declared.held.Held.{Held}
-use Rattle.lgm_store.specs.inner.HeldEntries.{channel_entries}
+use Rattle.lgm_store.specs.declared.channel_info.ChannelInfo.{ChannelInfo}
+use Rattle.lgm_store.specs.inner.ChannelEntries.{channel_entries}
 use Rattle.lgm_store.specs.Rows.{channel_of, ends_banned}
 use Rattle.lgm_store.specs.History.{channels_without, updates_without, ended_nodes}
 use Rattle.lgm_store.proofs.ListLaws.{All-filtered}
-use Rattle.lgm_store.proofs.Holding.{ascend-held, remove-none}
-use Rattle.lgm_store.proofs.Soundness.{IsClosed, closed, IsSound-unchanged}
-use Rattle.lgm_store.proofs.Changes.{is_held, without_channel-held, without_channel-none}
+use Rattle.lgm_store.proofs.Holding.{ascend-stored, remove-none}
+use Rattle.lgm_store.proofs.Removals.{IsClosed, closed, IsSound-unchanged}
+use Rattle.lgm_store.proofs.Changes.{is_stored, without_channel-stored, without_channel-none}
 use Rattle.lgm_store.proofs.Spelling.{AllSpelled-left}
 use Rattle.lgm_store.proofs.map.Map.close.Goals as goal
-use Rattle.lgm_store.proofs.map.Map.close.Goals.{Joined-held-2}
+use Rattle.lgm_store.proofs.map.Map.close.Goals.{Joined-stored-2}
 
--- a channel that isn't held
-unchanged : (held new : List (ℕ × Held)) (id : ℕ) → new ≡ remove_entry (is_at (nat_cmp id)) held
-    → None ≡ lookup (is_at (nat_cmp id)) held → new ≡ held
-unchanged held new id left none = left ∙ remove-none (is_at (nat_cmp id)) held (sym none)
+-- a channel that isn't there
+unchanged : (stored new : List (ℕ × ChannelInfo)) (id : ℕ) → new ≡ remove_entry (is_at (nat_cmp id)) stored
+    → None ≡ lookup (is_at (nat_cmp id)) stored → new ≡ stored
+unchanged stored new id left none = left ∙ remove-none (is_at (nat_cmp id)) stored (sym none)
 
 pub invariant_of-self : goal.invariant_of-self
 invariant_of-self c =
@@ -38,23 +38,23 @@ invariant_of-self c =
 
 pub returns-in_default : goal.returns-in_default
 returns-in_default c =
-    let held =
-    is_held c.self.inside.channels c.args.self.now.channels c.args.scid c.self.invariant.rows.channels_keyed
+    let stored =
+    is_stored c.self.inside.channels c.args.self.now.channels c.args.scid c.self.invariant.rows.channels_keyed
     (ap (λ rows. rows.channels) c.self.view_is) in
     rw (unchanged c.self.inside.channels c.remove.new.self c.args.scid c.in_default.ensures.left
     c.in_default.ensures.value) (c.self.view_is ∙ without_channel-none c.args.self.now c.args.scid
-    (sym held ∙ ap is_some (sym c.in_default.ensures.value)))
+    (sym stored ∙ ap is_some (sym c.in_default.ensures.value)))
 
--- what is left without a channel that is held
-left : (c : Joined-held-2) → IsClosed c.self.inside.channels c.remove.new.self c.self.inside.nodes.entries
+-- the rows without a channel that is there
+left : (c : Joined-stored-2) → IsClosed c.self.inside.channels c.remove.new.self c.self.inside.nodes.entries
     c.drop_unless_ended-2.new.nodes.entries c.remove-2.new.self c.args.scid
 left c =
     closed c.self.inside.channels c.remove.new.self c.self.inside.nodes.entries
     c.drop_unless_ended.new.nodes.entries c.drop_unless_ended-2.new.nodes.entries
-    c.self.inside.ends c.remove-2.new.self c.args.scid c.in-Some.held c.node.result.now c.node-2.result.now
+    c.self.inside.ends c.remove-2.new.self c.args.scid c.in-Some.stored c.node.result.now c.node-2.result.now
     c.node.ensures c.node-2.ensures
     c.remove.ensures.left (sym c.in-Some.ensures.value)
-    (ascend-held c.self.inside.channels c.self.invariant.rows.channels_ascend) c.remove.ensures.ascend
+    (ascend-stored c.self.inside.channels c.self.invariant.rows.channels_ascend) c.remove.ensures.ascend
     c.remove-2.ensures c.drop_unless_ended.ensures.left c.drop_unless_ended-2.ensures.left
     c.drop_unless_ended-2.ensures.keyed c.drop_unless_ended-2.ensures.ascend c.self.invariant.rows
 
@@ -72,11 +72,11 @@ invariant_of-self-2 c =
 
 pub returns : goal.returns
 returns c =
-    let held : is_some (channel_of c.args.self.now.channels c.args.scid) ≡ true =
-    sym (is_held c.self.inside.channels c.args.self.now.channels c.args.scid
+    let stored : is_some (channel_of c.args.self.now.channels c.args.scid) ≡ true =
+    sym (is_stored c.self.inside.channels c.args.self.now.channels c.args.scid
     c.self.invariant.rows.channels_keyed (ap (λ rows. rows.channels) c.self.view_is))
     ∙ ap is_some (sym c.in-Some.ensures.value) in
-    without_channel-held c.args.self.now _ c.args.scid held
+    without_channel-stored c.args.self.now _ c.args.scid stored
     ((left c).channels_left ∙ ap (λ rows. channels_without rows.channels c.args.scid) c.self.view_is)
     ((left c).updates_left ∙ ap (λ rows. updates_without rows.updates c.args.scid) c.self.view_is)
     ((left c).nodes_left ∙ ap (λ channels. ended_nodes channels (values_of c.self.inside.nodes.entries)) (left c).channels_left

@@ -1,5 +1,5 @@
 use Rattle.std.proofs.Common.{ap}
-use Rattle.lgm_store.specs.inner.HeldEntries.{channel_entries, update_entries}
+use Rattle.lgm_store.specs.inner.ChannelEntries.{channel_entries, update_entries}
 use Rattle.lgm_store.proofs.Ascending.{IsAscending-sound}
 use Rattle.lgm_store.proofs.map.Map.count.Goals as goal
 

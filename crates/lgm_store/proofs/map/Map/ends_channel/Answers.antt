@@ -1,6 +1,6 @@
 use Rattle.std.proofs.Common.{◌∙◌, ap}
 use Rattle.std.specs.Map.{values_of}
-use Rattle.lgm_store.specs.inner.HeldEntries.{channel_entries}
+use Rattle.lgm_store.specs.inner.ChannelEntries.{channel_entries}
 use Rattle.lgm_store.specs.Rows.{ends_channel}
 use Rattle.lgm_store.proofs.Soundness.{ends-listed}
 use Rattle.lgm_store.proofs.map.Map.ends_channel.Goals as goal

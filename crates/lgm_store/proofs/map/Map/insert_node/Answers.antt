@@ -4,7 +4,7 @@ use Rattle.lgm_gossip.specs.Message.{Wire}
 use Rattle.lgm_gossip.specs.declared.message.Message.TheVariants as wired
 use Rattle.lgm_check.specs.declared.row.NodeRow.{NodeRow}
 use Rattle.lgm_store.specs.Rows.{put, by_node, ends_channel}
-use Rattle.lgm_store.specs.inner.HeldEntries.{channel_entries, update_entries}
+use Rattle.lgm_store.specs.inner.ChannelEntries.{channel_entries, update_entries}
 use Rattle.lgm_store.proofs.Lists.{values-node}
 use Rattle.lgm_store.proofs.Soundness.{IsSound-node}
 use Rattle.lgm_store.proofs.Changes.{with_node-new}

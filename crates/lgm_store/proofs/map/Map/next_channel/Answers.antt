@@ -6,9 +6,9 @@ use Rattle.std.specs.declared.ops.Bound.{Bound}
 use Rattle.std.specs.declared.ops.Bound.TheVariants.{Unbounded}
 use Rattle.std.specs.BTreeMap.Range.{range_contains, entries_between}
 use Rattle.lgm_check.specs.declared.row.ChannelRow.{ChannelRow}
-use Rattle.lgm_store.specs.declared.held.Held.{Held}
+use Rattle.lgm_store.specs.declared.channel_info.ChannelInfo.{ChannelInfo}
 use Rattle.lgm_store.specs.Keys.{IsKeyed, id_of}
-use Rattle.lgm_store.specs.inner.HeldEntries.{channel_entries}
+use Rattle.lgm_store.specs.inner.ChannelEntries.{channel_entries}
 use Rattle.lgm_store.specs.Reading.{next_channel_of}
 use Rattle.lgm_store.specs.inner.Start.{start_after}
 use Rattle.lgm_store.proofs.Holding.{first-filtered}
@@ -18,15 +18,15 @@ use Rattle.lgm_store.proofs.map.Map.next_channel.Goals as goal
 abbrev some_row : ChannelRow → Option ChannelRow
 some_row row = Some row
 
-abbrev first_channel : List Held → Option ChannelRow
+abbrev first_channel : List ChannelInfo → Option ChannelRow
 first_channel [] = None
-first_channel (held ∷ others) = Some held.channel
+first_channel (stored ∷ others) = Some stored.channel
 
-first_of : (es : List (ℕ × Held)) → first_channel (values_of es) ≡ option_map (λ held. held.channel) (first_value es)
+first_of : (es : List (ℕ × ChannelInfo)) → first_channel (values_of es) ≡ option_map (λ stored. stored.channel) (first_value es)
 first_of [] = refl
 first_of (e ∷ es) = refl
 
-next_is : (channels : List Held) (start : Bound ℕ) (entries : List (ℕ × Held)) (after : Option ℕ) (rows : List ChannelRow)
+next_is : (channels : List ChannelInfo) (start : Bound ℕ) (entries : List (ℕ × ChannelInfo)) (after : Option ℕ) (rows : List ChannelRow)
     → channels ≡ values_of (entries_between nat_cmp start Unbounded entries) → start ≡ start_after after
     → IsKeyed id_of (channel_entries entries) → values_of (channel_entries entries) ≡ rows
     → first_channel channels ≡ next_channel_of rows after
@@ -36,9 +36,9 @@ next_is channels start entries after rows is start_is keyed rows_are =
     ∙ first-filtered (range_contains nat_cmp (start_after after) Unbounded) entries
     ∙ sym (next_channel-between (channel_entries entries) after keyed) ∙ ap (λ rs. next_channel_of rs after) rows_are
 
-pub returns-in_err-held : goal.returns-in_err-held
-returns-in_err-held c =
-    c.from_residual.ensures ∙ ap first_channel (sym c.in_err-held.ensures.steps.0)
+pub returns-in_err-stored : goal.returns-in_err-stored
+returns-in_err-stored c =
+    c.from_residual.ensures ∙ ap first_channel (sym c.in_err-stored.ensures.steps.0)
     ∙ next_is c.range-channels.result c.start_after.result c.self.inside.channels c.args.after
     c.args.self.now.channels c.range-channels.ensures c.start_after.ensures
     c.self.invariant.rows.channels_keyed
@@ -46,7 +46,7 @@ returns-in_err-held c =
 
 pub returns : goal.returns
 returns c =
-    ap some_row c.row.ensures ∙ ap first_channel (sym c.in_ok-held.ensures.steps)
+    ap some_row c.row.ensures ∙ ap first_channel (sym c.in_ok-stored.ensures.steps)
     ∙ next_is c.range-channels.result c.start_after.result c.self.inside.channels c.args.after
     c.args.self.now.channels c.range-channels.ensures c.start_after.ensures
     c.self.invariant.rows.channels_keyed

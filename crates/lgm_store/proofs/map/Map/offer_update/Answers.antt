@@ -6,11 +6,11 @@ use Rattle.std.specs.Option.{option_map, option_and_then}
 use Rattle.std.specs.Map.{lookup}
 use Rattle.std.specs.BTreeMap.{is_at}
 use Rattle.std.specs.Ordering.{nat_cmp}
-use Rattle.lgm_store.specs.declared.held.Held.{Held}
-use Rattle.lgm_store.specs.Held.{update_in}
+use Rattle.lgm_store.specs.declared.channel_info.ChannelInfo.{ChannelInfo}
+use Rattle.lgm_store.specs.ChannelInfo.{update_in}
 use Rattle.lgm_store.specs.Rows.{channel_of, update_of, is_second}
-use Rattle.lgm_store.proofs.Holding.{ascend-held}
-use Rattle.lgm_store.proofs.HeldRows.{channel_at, update_at}
+use Rattle.lgm_store.proofs.Holding.{ascend-stored}
+use Rattle.lgm_store.proofs.ChannelWithUpdates.{channel_at, update_at}
 use Rattle.lgm_store.proofs.Kept.{rows_of}
 use Rattle.lgm_store.proofs.Putting.{put-kept, put-rows}
 use Rattle.lgm_store.proofs.map.Map.offer_update.Goals as goal
@@ -28,7 +28,7 @@ update_is : (c : Joined-offer_update) → update_of c.args.self.now.updates c.ar
 update_is c =
     update_at c.self.inside.channels c.args.self.now.updates c.args.row.message.short_channel_id
     (is_second c.args.row) c.self.invariant.rows.updates_keyed
-    (ascend-held c.self.inside.channels c.self.invariant.rows.channels_ascend) (ap (λ rows. rows.updates) c.self.view_is)
+    (ascend-stored c.self.inside.channels c.self.invariant.rows.channels_ascend) (ap (λ rows. rows.updates) c.self.view_is)
 
 pub invariant_of-self : goal.invariant_of-self
 invariant_of-self c = elim c.match-offer_update.branch [
@@ -46,7 +46,7 @@ returns-clause-admission c = elim c.match-offer_update.branch [
 
 pub returns-clause-accepted : goal.returns-clause-accepted
 returns-clause-accepted c = elim c.match-offer_update.branch [
-  | in-Ok w ↦ rw w.result-is (ap (λ (es : List (ℕ × Held)). rows_of es c.self.inside.nodes.entries c.self.inside.banned) w.in-Ok.ensures.accepted
+  | in-Ok w ↦ rw w.result-is (ap (λ (es : List (ℕ × ChannelInfo)). rows_of es c.self.inside.nodes.entries c.self.inside.banned) w.in-Ok.ensures.accepted
       ∙ put-rows c.self.inside.channels c.self.inside.nodes.entries c.self.inside.ends c.self.inside.banned
       c.args.row c.self.invariant c.args.self.now c.self.view_is)
   | in-Err w ↦ rw w.result-is tt

@@ -1,0 +1,150 @@
+//! Writing messages, one per line.
+
+ghost use Rattle.std.specs.Prelude.{ℕ, List, Ok, Some};
+ghost use Rattle.std.specs.Iterator.{IsFinite, AlwaysYields};
+ghost use Rattle.std.specs.List.{flat_map};
+ghost use Rattle.lgm_script.specs.Output.{told_by, Writes};
+ghost use Rattle.lgm_script.specs.Text.{message_behind, message_line};
+ghost use Rattle.lgm_answers.specs.Answer.{query_text, range_text, filter_text, news_text, commit_text};
+
+use crate::answer::RangeAsked;
+use crate::filters::{Filters, PeerFilter};
+use lgm_query::{Backlog, MapDiff, ReplyMessage, answer_range};
+use lgm_script::{Lead, Line, Output, SendFault, Sink};
+use lgm_store::Map;
+use std::alloc::Global;
+
+/// Writes messages after a lead, one after the other.
+fn send_replies<W: Sink>(
+    lead: &Lead,
+    messages: &[ReplyMessage<'_>],
+    output: &mut Output<'_, W>,
+) -> Result<(), SendFault>
+    ensures { Writes (told_by W.seen output.old) (told_by W.seen output.new)
+        (flat_map (message_behind lead.now) messages.now) result }
+{
+    for message in messages {
+        output.send_message(lead, message.as_slice())?;
+    }
+    Ok(())
+}
+
+/// Writes the messages of the reply to a query.
+pub(crate) fn send_messages<W: Sink>(
+    alloc: Global,
+    number: u64,
+    messages: &[ReplyMessage<'_>],
+    output: &mut Output<'_, W>,
+) -> Result<(), SendFault>
+    ensures { Writes (told_by W.seen output.old) (told_by W.seen output.new)
+        (query_text number (Ok messages.now)) result }
+{
+    let lead = Lead::new(alloc, number, None)?;
+    send_replies(&lead, messages, output)
+}
+
+/// Makes the replies to a query of a range, and writes them.
+pub(crate) fn send_range<W: Sink>(
+    alloc: Global,
+    number: u64,
+    asked: &RangeAsked<'_>,
+    output: &mut Output<'_, W>,
+) -> Result<(), SendFault>
+    ensures { Writes (told_by W.seen output.old) (told_by W.seen output.new)
+        (range_text number asked.now) result }
+{
+    let replies = answer_range(alloc, &asked.chain, asked.map, &asked.query)?;
+    send_messages(alloc, number, replies.as_slice(), output)
+}
+
+/// Writes the messages that an iterator yields after a lead, one after the other.
+fn send_each<'a, I: Iterator<Item = &'a [u8]> + Drop, W: Sink>(
+    lead: &Lead,
+    messages: I,
+    output: &mut Output<'_, W>,
+) -> Result<(), SendFault>
+    requires can { I.can_next messages }
+    requires ends { IsFinite (I.remaining messages) }
+    ensures { (all : List (List ℕ)) → AlwaysYields I.next_gives (λ message. message.now) messages all
+        → Writes (told_by W.seen output.old) (told_by W.seen output.new)
+        (flat_map (message_behind lead.now) all) result }
+{
+    for message in messages {
+        output.send_message(lead, message)?;
+    }
+    Ok(())
+}
+
+/// Writes messages for a peer, one after the other.
+fn send_to<'a, I: Iterator<Item = &'a [u8]> + Drop, W: Sink>(
+    alloc: Global,
+    number: u64,
+    peer: u16,
+    messages: I,
+    output: &mut Output<'_, W>,
+) -> Result<(), SendFault>
+    requires can { I.can_next messages }
+    requires ends { IsFinite (I.remaining messages) }
+    ensures { (all : List (List ℕ)) → AlwaysYields I.next_gives (λ message. message.now) messages all
+        → Writes (told_by W.seen output.old) (told_by W.seen output.new)
+        (flat_map (message_line number (Some peer)) all) result }
+{
+    let lead = Lead::new(alloc, number, Some(peer))?;
+    send_each(&lead, messages, output)
+}
+
+/// Writes that a peer has a filter, and then what passes it of a map.
+pub(crate) fn send_filtered<W: Sink>(
+    alloc: Global,
+    number: u64,
+    own: &PeerFilter,
+    map: &Map,
+    output: &mut Output<'_, W>,
+) -> Result<(), SendFault>
+    ensures { Writes (told_by W.seen output.old) (told_by W.seen output.new)
+        (filter_text number own.now.peer map.now (Ok own.now.filter)) result }
+{
+    output.send(number, &Line::Word("filter"))?;
+    send_to(
+        alloc,
+        number,
+        own.peer,
+        Backlog::of(map, &own.filter),
+        output,
+    )
+}
+
+/// Writes the news of each peer with a filter, by ascending peer.
+fn send_all_news<W: Sink>(
+    alloc: Global,
+    number: u64,
+    filters: &Filters,
+    map_diff: &MapDiff<'_>,
+    output: &mut Output<'_, W>,
+) -> Result<(), SendFault>
+    ensures { Writes (told_by W.seen output.old) (told_by W.seen output.new)
+        (flat_map (news_text number map_diff.now.before map_diff.now.after) filters.now)
+        result }
+{
+    for (_, own) in filters.as_map() {
+        send_to(alloc, number, own.peer, map_diff.news(&own.filter), output)?;
+    }
+    Ok(())
+}
+
+/// Writes the number of accepted items, and then the news of each peer.
+pub(crate) fn send_news<W: Sink>(
+    alloc: Global,
+    number: u64,
+    accepted: u64,
+    filters: &Filters,
+    map_diff: &MapDiff<'_>,
+    output: &mut Output<'_, W>,
+) -> Result<(), SendFault>
+    ensures { Writes (told_by W.seen output.old) (told_by W.seen output.new)
+        (commit_text number accepted map_diff.now.before map_diff.now.after filters.now)
+        result }
+{
+    output.send(number, &Line::Commit(accepted))?;
+    send_all_news(alloc, number, filters, map_diff, output)
+}

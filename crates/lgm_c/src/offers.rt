@@ -1,0 +1,112 @@
+//! Opening and freeing handles, and offering messages and closes.
+
+ghost use Rattle.std.specs.Prelude.{◌≡◌, None, IfOk};
+ghost use Rattle.lgm_c.specs.Offering.{Offers, Closes};
+ghost use Rattle.lgm_c.specs.Evidence.{evidence_of};
+ghost use Rattle.lgm_c.specs.MapState.{opened};
+ghost use Rattle.lgm_c.specs.Opening.{known_of, Opens};
+
+use crate::boxes::boxed;
+use crate::evidence::evidence;
+use crate::fault::{Fault, status};
+use crate::map::LgmMap;
+use crate::state::State;
+use lgm_gossip::{ChainHash, Scid};
+use lgm_graph::Known;
+use lgm_store::Seed;
+use std::alloc::{AllocError, Global};
+
+/// The feature bits of nodes that are known: all, or those that are set.
+fn known_bits(alloc: Global, all: bool, bits: &[u8]) -> Result<Known, AllocError>
+    ensures { IfOk result (λ known. known ≡ known_of all bits.now) }
+{
+    if all {
+        Ok(Known::all())
+    } else {
+        Known::bits(alloc, bits)
+    }
+}
+
+fn new_map(
+    alloc: Global,
+    chain: &[u8; 32],
+    all_known: bool,
+    known: &[u8],
+    seed: &[u8; 16],
+) -> Result<Box<State>, AllocError>
+    ensures { IfOk result (λ inner.
+        inner.value ≡ opened chain.now (known_of all_known known.now)) }
+{
+    let known = known_bits(alloc, all_known, known)?;
+    let inner = State::new(alloc, ChainHash(*chain), known, Seed::new(*seed))?;
+    boxed(alloc, inner)
+}
+
+/// Opens a handle, with a map without channels and nodes.
+#[unsafe(no_mangle)]
+pub extern "C" fn lgm_open(
+    alloc: Global,
+    map: &mut LgmMap,
+    chain: &[u8; 32],
+    all_known: bool,
+    known: &[u8],
+    seed: &[u8; 16],
+) -> u32
+    ensures { Opens (opened chain.now (known_of all_known known.now)) result
+        map.old.handle.value map.new.handle.value }
+{
+    if let Some(inner) = map.take(alloc) {
+        *map = LgmMap::open(inner);
+        return Fault::Open.number();
+    }
+    match new_map(alloc, chain, all_known, known, seed) {
+        Ok(inner) => {
+            *map = LgmMap::open(inner);
+            0
+        }
+        Err(_) => Fault::NoMemory.number(),
+    }
+}
+
+/// Offers a message to the map, with the verdicts on its signatures and on the funding output that it names.
+#[unsafe(no_mangle)]
+pub extern "C" fn lgm_offer(
+    alloc: Global,
+    map: &mut LgmMap,
+    message: &[u8],
+    sig: u32,
+    signer: &[u8; 33],
+    funding: u32,
+    sat: u64,
+) -> u32
+    ensures { Offers message.now (evidence_of sig signer.now funding sat) result
+        map.old.handle.value map.new.handle.value }
+{
+    let Some(mut inner) = map.take(alloc) else {
+        return Fault::Closed.number();
+    };
+    let outcome = inner.offer(alloc, message, evidence(sig, signer, funding, sat));
+    *map = LgmMap::open(inner);
+    status(&outcome)
+}
+
+/// Closes a channel, since its funding output is spent.
+#[unsafe(no_mangle)]
+pub extern "C" fn lgm_close_channel(alloc: Global, map: &mut LgmMap, scid: u64) -> u32
+    ensures { Closes scid result map.old.handle.value map.new.handle.value }
+{
+    let Some(mut inner) = map.take(alloc) else {
+        return Fault::Closed.number();
+    };
+    let outcome = inner.close(alloc, Scid::from_u64(scid));
+    *map = LgmMap::open(inner);
+    status(&outcome)
+}
+
+/// Frees the map of a handle, if it is open, and closes the handle.
+#[unsafe(no_mangle)]
+pub extern "C" fn lgm_free(alloc: Global, map: &mut LgmMap)
+    ensures { map.new.handle.value ≡ None }
+{
+    map.take(alloc);
+}

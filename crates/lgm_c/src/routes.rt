@@ -1,0 +1,195 @@
+//! Routes of payments.
+
+ghost use Rattle.std.specs.Prelude.{◌≡◌, List, Result, Ok, IfOk};
+ghost use Rattle.lgm_gossip.specs.Memory.{GivesIf};
+ghost use Rattle.lgm_c.specs.Routing.{request_of, route_asked, c_hop, c_hops, all_payloads};
+ghost use Rattle.lgm_c.specs.Routing.{WritesRoute, IsRouteWritten, IsSearched, buffers};
+ghost use Rattle.lgm_c.specs.declared.fault.Fault.{Fault as AFault};
+ghost use Rattle.lgm_route.specs.declared.route.Hop.{Hop as AHop};
+ghost use Rattle.lgm_c.specs.Status.{if_open, status_of};
+
+use crate::fault::{Fault, status};
+use crate::map::LgmMap;
+use crate::output::copy_in_front;
+use lgm_gossip::{Bytes, Point};
+use lgm_payload::build;
+use lgm_route::{Hop, Request, Route};
+use std::alloc::{AllocError, Global};
+
+/// A payment to be made.
+#[repr(C)]
+#[derive(Clone, Copy)]
+pub struct LgmPayment {
+    /// What the payee is to get, in msat.
+    pub amount_msat: u64,
+    /// The block height at which the HTLC to the payee expires.
+    pub expiry: u32,
+    /// The node that pays.
+    pub payer: [u8; 33],
+    /// The node that is paid.
+    pub payee: [u8; 33],
+    /// The payment secret, from the invoice.
+    pub secret: [u8; 32],
+}
+
+/// A hop of a route: one channel, with the HTLC that is offered over it (BOLT 7, "HTLC Fees").
+#[repr(C)]
+#[derive(Clone, Copy)]
+pub struct LgmHop {
+    /// The channel.
+    pub scid: u64,
+    /// The amount that it carries, in msat.
+    pub amount_msat: u64,
+    /// How many bytes the payload for the node at its end has.
+    pub payload_len: usize,
+    /// The block height at which the HTLC expires.
+    pub expiry: u32,
+    /// The node that offers it.
+    pub from: [u8; 33],
+    /// The node that it is offered to.
+    pub to: [u8; 33],
+}
+
+/// How long a route is.
+#[repr(C)]
+#[derive(Clone, Copy)]
+pub struct LgmLengths {
+    /// How many hops it has: 1 to 20.
+    pub hops: usize,
+    /// How many bytes their payloads have together.
+    pub payloads: usize,
+}
+
+/// The request of a payment.
+pub(crate) fn request_of(payment: &LgmPayment) -> Request
+    ensures { result ≡ request_of payment.now }
+{
+    Request {
+        payer: Point(payment.payer),
+        payee: Point(payment.payee),
+        amount: payment.amount_msat,
+        expiry: payment.expiry,
+    }
+}
+
+fn c_hop(hop: &Hop, payload: &[u8]) -> LgmHop
+    ensures { result ≡ c_hop hop.now payload.now }
+{
+    LgmHop {
+        scid: hop.scid.to_u64(),
+        amount_msat: hop.amount,
+        payload_len: payload.len(),
+        expiry: hop.expiry,
+        from: hop.from.0,
+        to: hop.to.0,
+    }
+}
+
+/// Hops as C structs, each with the length of its payload.
+fn c_hops(alloc: Global, hops: &[Hop], payloads: &[Bytes]) -> Result<Vec<LgmHop>, AllocError>
+    ensures { IfOk result (λ made. made.items ≡ c_hops hops.now payloads.now) }
+{
+    let count = hops.len().min(payloads.len());
+    let mut made = Vec::with_capacity(alloc, count)?;
+    for place in 0..count {
+        made.push(c_hop(&hops[place], payloads[place].as_slice()))?;
+    }
+    Ok(made)
+}
+
+/// Payloads, one after the other.
+fn joined(alloc: Global, payloads: &[Bytes]) -> Result<Vec<u8>, AllocError>
+    ensures { IfOk result (λ joined. joined.items ≡ all_payloads payloads.now) }
+{
+    let mut joined = Vec::new(alloc);
+    for payload in payloads {
+        joined.extend_from_slice(payload.as_slice())?;
+    }
+    Ok(joined)
+}
+
+/// Writes hops and payloads if the buffers have room for both, and their lengths in any case.
+fn write_hops(
+    found: &[LgmHop],
+    joined: &[u8],
+    hops: &mut [LgmHop],
+    payloads: &mut [u8],
+    lengths: &mut LgmLengths,
+) -> Result<(), Fault>
+    ensures { IsRouteWritten found.now joined.now (status_of result)
+        (buffers hops.old payloads.old lengths.old)
+        (buffers hops.new payloads.new lengths.new) }
+{
+    *lengths = LgmLengths {
+        hops: found.len(),
+        payloads: joined.len(),
+    };
+    if hops.len() < found.len() || payloads.len() < joined.len() {
+        return Err(Fault::Room);
+    }
+    copy_in_front(found, hops);
+    copy_in_front(joined, payloads);
+    Ok(())
+}
+
+/// Writes a route, with its payloads.
+fn write_route(
+    alloc: Global,
+    route: &Route,
+    secret: &[u8; 32],
+    hops: &mut [LgmHop],
+    payloads: &mut [u8],
+    lengths: &mut LgmLengths,
+) -> Result<(), Fault>
+    ensures { WritesRoute (Ok route.now) secret.now (status_of result)
+        (buffers hops.old payloads.old lengths.old)
+        (buffers hops.new payloads.new lengths.new) }
+{
+    let built = build(alloc, route, secret)?;
+    let found = c_hops(alloc, route.as_slice(), built.as_slice())?;
+    let joined = joined(alloc, built.as_slice())?;
+    write_hops(&found, &joined, hops, payloads, lengths)
+}
+
+/// Writes the route that was found, with its payloads, or returns the fault.
+pub(crate) fn write_found(
+    alloc: Global,
+    found: Result<Route, Fault>,
+    secret: &[u8; 32],
+    hops: &mut [LgmHop],
+    payloads: &mut [u8],
+    lengths: &mut LgmLengths,
+) -> Result<(), Fault>
+    ensures { (expected : Result (List AHop) AFault)
+        → GivesIf (IsSearched expected) Fault.NoMemory (λ route. route) found expected
+        → WritesRoute expected secret.now (status_of result)
+        (buffers hops.old payloads.old lengths.old)
+        (buffers hops.new payloads.new lengths.new) }
+{
+    write_route(alloc, &found?, secret, hops, payloads, lengths)
+}
+
+/// The route of a payment by which the payer sends the least: its hops, from the payer on, and their payloads one after
+/// the other (BOLT 7, "HTLC Fees"; BOLT 4, "Payload Format").
+#[unsafe(no_mangle)]
+pub extern "C" fn lgm_route(
+    alloc: Global,
+    map: &mut LgmMap,
+    payment: &LgmPayment,
+    hops: &mut [LgmHop],
+    payloads: &mut [u8],
+    lengths: &mut LgmLengths,
+) -> u32
+    ensures same { map.new.handle.value ≡ map.old.handle.value }
+    ensures route { WritesRoute (if_open map.old.handle.value (λ state. route_asked payment.now state.known state.rows))
+        payment.now.secret result
+        (buffers hops.old payloads.old lengths.old)
+        (buffers hops.new payloads.new lengths.new) }
+{
+    let Some(mut inner) = map.take(alloc) else {
+        return Fault::Closed.number();
+    };
+    let found = inner.route(alloc, &request_of(payment));
+    *map = LgmMap::open(inner);
+    status(&write_found(alloc, found, &payment.secret, hops, payloads, lengths))
+}

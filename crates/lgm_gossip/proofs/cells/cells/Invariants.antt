@@ -1,5 +1,0 @@
-use Rattle.std.proofs.Common.{◌≡◌, map, take}
-use Rattle.lgm_gossip.proofs.cells.cells.Given as goal
-
-abbrev pub invariant-loop-chunk : goal.invariant-loop-chunk
-invariant-loop-chunk g l = l.values.items ≡ map g.T.Cell.cell_of (take l.chunk-index l.chunks)

@@ -1,6 +1,0 @@
-use Rattle.std.proofs.Common.{◌*◌}
-use Rattle.lgm_hex.specs.inner.Digits.{AreValid, IsDecoded}
-use Rattle.lgm_hex.proofs.decoding.decode_blocks.Given as goal
-
-abbrev pub invariant-loop-i : goal.invariant-loop-i
-invariant-loop-i l = AreValid l.seen → IsDecoded l.digits l.out (16 * l.i)

@@ -1,0 +1,30 @@
+use Rattle.std.proofs.Common.{[], ◌∷◌, ◌++◌, ap, ◌∙◌}
+use Rattle.lgm_live.specs.inner.Gathered.{Gathered}
+use Rattle.lgm_live.specs.inner.Reading.{with_lines}
+use Rattle.lgm_live.proofs.Noting.{agenda_is}
+use Rattle.lgm_live.proofs.read_script.read_script.Goals as goal
+
+pub returns : goal.returns
+returns g c =
+    let read = c.in_ok-read_lines.ensures in
+    let noted = read.ok in
+    let all = noted.noted ∙ ap (λ (parsed : Gathered). with_lines parsed noted.asked) c.in_ok-parsed.ensures in
+    record {
+      writer = read.writer;
+      ok = record {
+        asked = noted.asked;
+        few = noted.few;
+        is_parsed =
+            agenda_is c.args.workers noted.asked c.end_batch.new.self
+            (c.in_ok-end_batch.ensures ∙ ap (λ (parsed : Gathered).
+            record parsed { batches = parsed.batches ++ parsed.batch ∷ []; batch = [] }) all);
+        whole = noted.whole;
+      };
+      too_many = λ is. absurd cc;
+      too_long = λ is. absurd cc;
+      silent = read.silent;
+      buffered = read.buffered;
+      read = λ is. absurd cc;
+      write = λ is. absurd cc;
+      well = λ _. read.well (λ e. absurd cc);
+    }

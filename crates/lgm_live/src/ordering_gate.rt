@@ -1,0 +1,77 @@
+//! The gate by which payments wait for the items before them.
+
+use lgm_par::Gate;
+use std::alloc::{AllocError, Global};
+use std::marker::Sync;
+use std::sync::atomic::{AtomicU64, Ordering};
+use std::sync::{Condvar, Mutex, Wait};
+
+/// A gate at which each payment waits until the batches before its line are published. Each payment and each
+/// publication passes the caller's gate first. A worker that waits has no guard.
+#[derive(Drop)]
+pub(crate) struct OrderingGate<'a, R: Wait, G: Gate> {
+    rt: &'a R,
+    gate: &'a G,
+    /// For each payment, in the script's order, the number of batches before it. Payments are dealt round-robin.
+    above: &'a [usize],
+    /// The number of payments that each worker has started.
+    begun: Vec<AtomicU64>,
+    /// The number of published batches.
+    published: Mutex<usize>,
+    /// Notifies those that wait for more.
+    more: Condvar,
+}
+
+impl<'a, R: Wait, G: Gate> OrderingGate<'a, R, G> {
+    /// A gate for this many workers, none of which has started a payment.
+    pub(crate) fn new(
+        rt: &'a R,
+        alloc: Global,
+        gate: &'a G,
+        workers: usize,
+        above: &'a [usize],
+    ) -> Result<OrderingGate<'a, R, G>, AllocError> {
+        let mut begun = Vec::new(alloc);
+        for _worker in 0..workers {
+            begun.push(AtomicU64::new(0))?;
+        }
+        Ok(OrderingGate {
+            rt,
+            gate,
+            above,
+            begun,
+            published: Mutex::new(0),
+            more: Condvar::new(),
+        })
+    }
+}
+
+/// The number of batches to be published before a worker's next payment, which counts as started; 0 if there is none.
+fn due(begun: &[AtomicU64], above: &[usize], worker: usize) -> usize {
+    let Some(count) = begun.get(worker) else {
+        return 0;
+    };
+    let turn = count.fetch_add(1, Ordering::SeqCst) as usize;
+    let place = turn.saturating_mul(begun.len()).saturating_add(worker);
+    match above.get(place) {
+        Some(batches) => *batches,
+        None => 0,
+    }
+}
+
+impl<'a, R: Wait + Sync, G: Gate> Gate for OrderingGate<'a, R, G> {
+    fn pass(&self, piece: usize) {
+        self.gate.pass(piece);
+        let due = due(self.begun.as_slice(), self.above, piece);
+        let published = self.published.lock(self.rt);
+        let _ready = self
+            .more
+            .wait_while(self.rt, published, |published| *published < due);
+    }
+
+    fn published(&self, batches: usize) {
+        self.gate.published(batches);
+        *self.published.lock(self.rt) = batches;
+        self.more.notify_all();
+    }
+}

@@ -1,0 +1,187 @@
+//! The writer's side.
+
+ghost use Rattle.std.specs.Prelude.{◌≡◌, ◌+◌, ◌<◌, ◌≤◌, List, [], ◌∷◌, ◌++◌, length, IfOk, OnOk, OnErr};
+ghost use Rattle.lgm_script.specs.declared.item.Item.{Item};
+ghost use Rattle.lgm_live.specs.Batches.{items_of};
+ghost use Rattle.lgm_live.specs.inner.WriterResult.{IsWritten, ArePublished};
+ghost use Rattle.lgm_wire.specs.reading.Reading.{Gives};
+ghost use Rattle.lgm_store.specs.History.{absorbed};
+ghost use Rattle.lgm_answers.specs.Outcomes.{outcome_of};
+
+use crate::batches::Batch;
+use crate::fault::LiveFault;
+use lgm_check::Refusal;
+use lgm_gossip::ChainHash;
+use lgm_par::{Gate, Pool};
+use lgm_publish::{AppendCause, MAX_OPERATIONS, Pen};
+use lgm_script::Item;
+use lgm_store::{CheckedMessage, Map, Op, Seed};
+use std::alloc::{AllocError, Global};
+use std::random::RandomSource;
+use std::sync::Wait;
+
+/// What the writer has done so far.
+#[derive(Drop)]
+pub(crate) struct WriterResult {
+    /// The map of all accepted items.
+    pub(crate) map: Map,
+    /// For each item, why it was refused, or none.
+    pub(crate) outcomes: Vec<Option<Refusal>>,
+    /// The operations of the accepted items.
+    pub(crate) ops: Vec<Op>,
+    /// The number of operations after each batch.
+    pub(crate) ends: Vec<u64>,
+}
+
+impl WriterResult {
+    /// Nothing yet. Points of the map will be hashed with the seed.
+    fn new(alloc: Global, seed: Seed) -> Result<WriterResult, AllocError>
+        ensures written { (chain : _) → IfOk result (IsWritten chain []) }
+        ensures ends { IfOk result (λ written. written.ends.items ≡ []) }
+        ensures none { IfOk result (λ written. written.ops.items ≡ []) }
+    {
+        Ok(WriterResult {
+            map: Map::with_seed(alloc, seed)?,
+            outcomes: Vec::new(alloc),
+            ops: Vec::new(alloc),
+            ends: Vec::new(alloc),
+        })
+    }
+
+    /// Appends the operation of an accepted item, and stores a copy.
+    fn keep(&mut self, alloc: Global, pen: &mut Pen, op: Op) -> Result<(), LiveFault>
+        requires few { length (pen.old.published ++ pen.old.pending) < MAX_OPERATIONS }
+        ensures map { self.new.map ≡ self.old.map }
+        ensures outcomes { self.new.outcomes ≡ self.old.outcomes }
+        ensures ends { self.new.ends ≡ self.old.ends }
+        ensures ops { OnOk result (self.new.ops.items ≡ self.old.ops.items ++ op ∷ []) }
+        ensures board { pen.new.board ≡ pen.old.board }
+        ensures published { pen.new.published ≡ pen.old.published }
+        ensures pending { OnOk result (pen.new.pending ≡ pen.old.pending ++ op ∷ []) }
+    {
+        self.ops.push(op.copy(alloc)?)?;
+        match pen.append(op) {
+            Ok(()) => Ok(()),
+            Err(fault) => match fault.cause {
+                AppendCause::NoMemory => Err(LiveFault::NoMemory),
+                AppendCause::Full => unreachable!(),
+            },
+        }
+    }
+
+    /// Offers one item to the map.
+    fn take_item(
+        &mut self,
+        alloc: Global,
+        chain: &ChainHash,
+        pen: &mut Pen,
+        item: &Item,
+    ) -> Result<(), LiveFault>
+        requires few { length self.old.ops.items < MAX_OPERATIONS }
+        requires appended { pen.old.published ++ pen.old.pending ≡ self.old.ops.items }
+        ensures written { (items : List Item) → IsWritten chain.now items self.old
+            → OnOk result (IsWritten chain.now (items ++ item.now ∷ []) self.new) }
+        ensures ends { self.new.ends ≡ self.old.ends }
+        ensures grows { OnOk result ((length self.old.ops.items ≤ length self.new.ops.items)
+            × (length self.new.ops.items ≤ length self.old.ops.items + 1)) }
+        ensures board { pen.new.board ≡ pen.old.board }
+        ensures published { pen.new.published ≡ pen.old.published }
+        ensures appended { OnOk result (pen.new.published ++ pen.new.pending ≡ self.new.ops.items) }
+    {
+        match admit(alloc, chain, &mut self.map, item) {
+            Ok(op) => {
+                self.keep(alloc, pen, op)?;
+                self.outcomes.push(None)?;
+            }
+            Err(Refusal::NoMemory) => return Err(LiveFault::NoMemory),
+            Err(refusal) => self.outcomes.push(Some(refusal))?,
+        }
+        Ok(())
+    }
+
+    /// Publishes what was appended, and stores the number of operations.
+    fn publish<R: Wait>(&mut self, rt: &R, pen: &mut Pen) -> Result<(), LiveFault>
+        requires appended { pen.old.published ++ pen.old.pending ≡ self.old.ops.items }
+        ensures map { self.new.map ≡ self.old.map }
+        ensures outcomes { self.new.outcomes ≡ self.old.outcomes }
+        ensures ops { self.new.ops ≡ self.old.ops }
+        ensures ends { OnOk result
+            (self.new.ends.items ≡ self.old.ends.items ++ length self.old.ops.items ∷ []) }
+        ensures board { pen.new.board ≡ pen.old.board }
+        ensures published { OnOk result (pen.new.published ≡ self.old.ops.items) }
+        ensures pending { OnOk result (pen.new.pending ≡ []) }
+    {
+        if pen.publish(rt).is_err() {
+            return Err(LiveFault::NoMemory);
+        }
+        self.ends.push(pen.published())?;
+        Ok(())
+    }
+
+    /// Offers a batch's items to the map, one after the other, and publishes what was accepted.
+    fn take_batch<R: Wait, G: Gate>(
+        &mut self,
+        pool: &Pool<'_, R, G>,
+        chain: &ChainHash,
+        pen: &mut Pen,
+        batch: &[Item],
+    ) -> Result<(), LiveFault>
+        requires few { length self.old.ops.items + length batch.now ≤ MAX_OPERATIONS }
+        requires pen { (pen.old.published ≡ self.old.ops.items) × (pen.old.pending ≡ []) }
+        ensures written { (items : List Item) → IsWritten chain.now items self.old
+            → OnOk result (IsWritten chain.now (items ++ batch.now) self.new) }
+        ensures ends { OnOk result
+            (self.new.ends.items ≡ self.old.ends.items ++ length self.new.ops.items ∷ []) }
+        ensures grows { OnOk result ((length self.old.ops.items ≤ length self.new.ops.items)
+            × (length self.new.ops.items ≤ length self.old.ops.items + length batch.now)) }
+        ensures board { pen.new.board ≡ pen.old.board }
+        ensures published { OnOk result ((pen.new.published ≡ self.new.ops.items) × (pen.new.pending ≡ [])) }
+    {
+        for item in batch {
+            self.take_item(pool.alloc, chain, pen, item)?;
+        }
+        pool.gate.pass(pool.workers);
+        self.publish(pool.rt, pen)
+    }
+}
+
+/// Offers each batch's items to a map, one after the other, and publishes what was accepted of each.
+pub(crate) fn publish_batches<R: Wait + RandomSource, G: Gate>(
+    pool: &Pool<'_, R, G>,
+    chain: &ChainHash,
+    pen: &mut Pen,
+    batches: &[Batch],
+) -> Result<WriterResult, LiveFault>
+    requires few { length (items_of batches.now) ≤ MAX_OPERATIONS }
+    requires pen { (pen.old.published ≡ []) × (pen.old.pending ≡ []) }
+    ensures board { pen.new.board ≡ pen.old.board }
+    ensures published { IfOk result (ArePublished chain.now batches.now pen.new.published) }
+{
+    let mut written = WriterResult::new(pool.alloc, Seed::random(pool.rt))?;
+    for batch in batches {
+        written.take_batch(pool, chain, pen, batch.as_slice())?;
+        pool.gate.published(written.ends.len());
+    }
+    Ok(written)
+}
+
+/// Admits an item and applies its operation, which is returned. A refusal or out of memory leaves the map unchanged.
+#[tactic(auto, unfolding(lgm_answers::specs::Outcomes::outcome_of))]
+pub(crate) fn admit(
+    alloc: Global,
+    chain: &ChainHash,
+    map: &mut Map,
+    item: &Item,
+) -> Result<Op, Refusal>
+    ensures outcome { Gives Refusal.NoMemory (λ op. op) result (outcome_of chain.now map.old item.now) }
+    ensures accepted { IfOk result (λ op. map.new ≡ absorbed map.old op) }
+    ensures refused { OnErr result (map.new ≡ map.old) }
+{
+    match item {
+        Item::Gossip(bytes, evidence) => {
+            let message = CheckedMessage::precheck(alloc, chain, bytes.as_slice(), evidence)?;
+            map.offer_checked(alloc, message)
+        }
+        Item::Close(scid) => map.offer_close(*scid),
+    }
+}

@@ -1,5 +1,0 @@
-use Rattle.lgm_payload.proofs.OnionLaws.{built_spelled}
-use Rattle.lgm_payload.proofs.building.built_is_read.Goals as goal
-
-pub returns : goal.returns
-returns c = built_spelled

@@ -1,0 +1,15 @@
+use Rattle.std.proofs.lemmas.Result.{err_from_is_err_and}
+use Rattle.lgm_payload.proofs.Records.{told_more}
+use Rattle.lgm_payload.proofs.PayloadLaws.{told_fails}
+use Rattle.lgm_payload.proofs.reader.told.Goals as goal
+
+pub loop-tlv-preserved : goal.loop-tlv-preserved
+loop-tlv-preserved c =
+    told_more c.args.records.now c.loop-tlv.tlv-index _ c.loop-tlv.known c.take.new.known c.loop-tlv-test.true
+    c.loop-tlv.invariant c.in_ok-take.ensures.0 c.in_ok-take.ensures.1
+
+pub returns-in_err-take : goal.returns-in_err-take
+returns-in_err-take c =
+    let p = err_from_is_err_and c.from_residual.result c.from_residual.ensures.1 in
+    rw (p.1, p.2) (told_fails c.args.records.now c.loop-tlv.tlv-index _ c.loop-tlv.known
+    c.in_err-take.field-0.0 c.loop-tlv-test.true c.loop-tlv.invariant c.in_err-take.ensures)

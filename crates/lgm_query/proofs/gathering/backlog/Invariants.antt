@@ -1,7 +1,0 @@
-use Rattle.std.proofs.Common.{◌≡◌, ◌++◌}
-use Rattle.lgm_query.specs.Backlog.{backlog}
-use Rattle.lgm_query.proofs.gathering.backlog.Given as goal
-
--- what was gathered and what is still to come make the whole
-abbrev pub invariant-loop-message : goal.invariant-loop-message
-invariant-loop-message l = l.messages.items ++ l.message-iterator ≡ backlog l.map l.filter

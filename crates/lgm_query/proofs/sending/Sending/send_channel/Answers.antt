@@ -1,8 +1,0 @@
-use Rattle.lgm_query.proofs.Sendings.{OnOk-channel}
-use Rattle.lgm_query.proofs.sending.Sending.send_channel.Goals as goal
-
-pub returns : goal.returns
-returns c =
-    rw c.if-not-wanted.false
-    (OnOk-channel c.push.result c.args.held.now.channel c.raw.result.now c.args.self.now c.push.new.self
-    c.raw.ensures c.push.ensures.messages c.push.ensures.nodes)

@@ -1,0 +1,117 @@
+//! The differences between two maps.
+
+ghost use Rattle.std.specs.Prelude.{◌≡◌, IfOk};
+ghost use Rattle.std.specs.List.{flat_map};
+ghost use Rattle.lgm_query.specs.declared.filter.Filter.{Filter};
+ghost use Rattle.lgm_query.specs.Backlog.{news};
+ghost use Rattle.lgm_query.specs.KeyNews.{news_of_channel, news_of_node};
+ghost use Rattle.lgm_query.specs.ComesOf.{ComesOf};
+ghost use Rattle.lgm_query.specs.MapDiff.{TwoMaps};
+ghost use Rattle.lgm_query.specs.inner.Pairs.{news_of_channel_pair, news_of_node_pair, news_of_pairs};
+
+use crate::filter::Filter;
+use crate::news_iter::News;
+use crate::pairs::{ChannelPair, NodePair};
+use crate::touched_keys::TouchedKeys;
+use lgm_gossip::{Point, Scid};
+use lgm_store::Map;
+use std::alloc::{AllocError, Global};
+use std::collections::BTreeSet;
+use std::marker::Model;
+
+/// The differences between an earlier map and a later one: the rows of both for each channel and node that operations
+/// touched. Contracts see the rows of the two maps.
+///
+/// Computed once, by comparing the messages of the two maps; then the news of each peer depend on timestamps alone.
+#[derive(Drop)]
+pub struct MapDiff<'a> {
+    before: &'a Map,
+    after: &'a Map,
+    channels: Vec<ChannelPair<'a>>,
+    nodes: Vec<NodePair<'a>>,
+}
+
+impl<'a> Model for MapDiff<'a> {
+    ghost Value = { TwoMaps };
+
+    ghost view = { λ d. record { before = d.before.now; after = d.after.now } };
+
+    ghost invariant = { λ d. (f : Filter)
+        → news_of_pairs f d.channels.items d.nodes.items ≡ news d.before.now d.after.now f };
+}
+
+impl<'a> MapDiff<'a> {
+    /// The differences from an earlier map to one made from it by operations that touched these keys.
+    ///
+    /// Time is logarithmic in the maps for each touched key, whose messages are read. The only error is out of memory.
+    pub fn between(
+        alloc: Global,
+        before: &'a Map,
+        after: &'a Map,
+        changes: &TouchedKeys,
+    ) -> Result<MapDiff<'a>, AllocError>
+        requires { ComesOf before.now after.now changes.now }
+        ensures { IfOk result
+            (λ map_diff. map_diff ≡ record { before = before.now; after = after.now }) }
+    {
+        before.rows_are_lawful();
+        after.rows_are_lawful();
+        before.bytes_encode_rows();
+        after.bytes_encode_rows();
+        Ok(MapDiff {
+            before,
+            after,
+            channels: channel_pairs(alloc, before, after, &changes.channels)?,
+            nodes: node_pairs(alloc, before, after, &changes.nodes)?,
+        })
+    }
+
+    /// Iterates over the [`news`](crate::news_iter) from the earlier map to the later one. Nothing is allocated, and only
+    /// the timestamps of what was touched are looked at, or nothing if the filter's range is empty.
+    pub fn news<'b>(&'b self, filter: &Filter) -> News<'b, 'a>
+        ensures { result ≡ news self.now.before self.now.after filter.now }
+    {
+        News::of(filter, self.channels.as_slice(), self.nodes.as_slice())
+    }
+}
+
+/// The rows of both maps for the channels that the later map has.
+#[tactic(auto, using(crate::proofs::PairLaws::one_more_pair))]
+fn channel_pairs<'a>(
+    alloc: Global,
+    before: &'a Map,
+    after: &'a Map,
+    scids: &BTreeSet<Scid>,
+) -> Result<Vec<ChannelPair<'a>>, AllocError>
+    ensures { IfOk result (λ pairs. (f : Filter)
+        → flat_map (news_of_channel_pair f) pairs.items
+        ≡ flat_map (news_of_channel f before.now after.now) scids.now.keys) }
+{
+    let mut pairs = Vec::new(alloc);
+    for scid in scids {
+        if let Some(pair) = ChannelPair::at(before, after, *scid) {
+            pairs.push(pair)?;
+        }
+    }
+    Ok(pairs)
+}
+
+/// The rows of both maps for the nodes that the later map has.
+fn node_pairs<'a>(
+    alloc: Global,
+    before: &'a Map,
+    after: &'a Map,
+    nodes: &BTreeSet<Point>,
+) -> Result<Vec<NodePair<'a>>, AllocError>
+    ensures { IfOk result (λ pairs. (f : Filter)
+        → flat_map (news_of_node_pair f) pairs.items
+        ≡ flat_map (news_of_node f before.now after.now) nodes.now.keys) }
+{
+    let mut pairs = Vec::new(alloc);
+    for node in nodes {
+        if let Some(pair) = NodePair::at(before, after, node) {
+            pairs.push(pair)?;
+        }
+    }
+    Ok(pairs)
+}

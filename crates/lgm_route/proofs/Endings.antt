@@ -1,0 +1,60 @@
+-- The start and the end of a search.
+use Rattle.std.proofs.Common.{◌≡◌, ℕ, ◌^◌, ◌<◌, ◌≤◌, List, [], ◌∷◌, length}
+use Rattle.std.proofs.Common.{Some, sym, ◌∙◌, ap, subst, arith}
+use Rattle.std.specs.List.{Contains}
+use Rattle.std.proofs.lemmas.List.{get_or_default}
+use Rattle.lgm_graph.specs.Graph.{Graph, edges, edges_leaving, AreListed}
+use Rattle.lgm_graph.specs.declared.edge.Edge.{Edge}
+use Rattle.lgm_route.specs.declared.request.NumberedRequest.{NumberedRequest}
+use Rattle.lgm_route.specs.declared.label.Label.{Label}
+use Rattle.lgm_route.specs.inner.Numbered.{sent, IsUsable, IsLeast, Precedes}
+use Rattle.lgm_route.specs.inner.Searching.{NotAfter, walk_key, no_edge, edge_at, Spells}
+use Rattle.lgm_route.specs.inner.Searching.{IsWalk, IsNoBetter}
+use Rattle.lgm_route.specs.inner.Searching.{IsFound}
+use Rattle.lgm_route.specs.inner.Searching.{IsUpperBound}
+use Rattle.lgm_route.proofs.Orders.{NotAfter-excludes}
+use Rattle.lgm_route.proofs.Labels.{Spells-unique}
+
+-- the payer's edges carry no more than the upper bound
+pub start_of : (graph : Graph) (most : ℕ) (request : NumberedRequest) → AreListed graph →
+    ((j : ℕ) → j < length (edges_leaving graph request.payer)
+    → (edge_at (edges_leaving graph request.payer) j).max < most) → IsUpperBound (edges graph) request most
+start_of graph most request listed above [] usable = absurd (omega (arith, usable.some))
+start_of graph most request listed above (edge ∷ rest) usable =
+    let step = usable.joins.0 in
+    let run = edges_leaving graph request.payer in
+    let place : Contains run edge = subst (λ n. Contains (edges_leaving graph n) edge) step.leaves (listed.each edge step.there).leaves in
+    let same : edge_at run place.0 ≡ edge = subst (λ e. e ≡ edge) (get_or_default run place.0 edge no_edge place.1) place.2 in
+    let max = above place.0 place.1 in
+    (edge ∷ rest, usable, omega (arith, step.below_max, max, ap (λ e. e.max) same))
+
+-- the best walk so far, once none is better, is the best
+pub least_of : (graph : Graph) (request : NumberedRequest) (labels : List Label) (upper_bound : ℕ) (found : Label) (walk : List Edge) →
+    ((other : List Edge) → IsUsable (edges graph) request other → IsNoBetter graph request labels upper_bound
+    (Some found) other) → IsFound graph request labels upper_bound (Some found) →
+    Spells graph labels found walk → length walk ≡ found.hops → IsLeast (edges graph) request walk
+least_of graph request labels upper_bound found walk best is spells long =
+    subst (λ w. IsLeast (edges graph) request w) (same (is.0).0 (is.0).1)
+    (record {
+      usable =
+          record {
+            some = omega (arith, (is.0).1.some, (is.0).1.long);
+            few = omega (arith, (is.0).1.few, (is.0).1.long);
+            joins = (is.0).1.joins;
+          };
+      first = λ other usable before. by other (best other usable) before;
+    })
+  where
+    same : (w : List Edge) → IsWalk graph request labels found w → w ≡ walk
+    same w k = Spells-unique graph labels found w walk k.spells spells (k.long ∙ sym long)
+
+    by : (other : List Edge) → IsNoBetter graph request labels upper_bound (Some found) other → Precedes request other (is.0).0 → ⊥
+    by other h before =
+        NotAfter-excludes (walk_key request (is.0).0) (walk_key request other)
+        (subst (λ w. NotAfter (walk_key request w) (walk_key request other)) (same h.0 h.1 ∙ sym (same (is.0).0 (is.0).1)) h.2) before
+
+pub sent_small : (graph : Graph) (request : NumberedRequest) (labels : List Label) (upper_bound : ℕ) (found : Label) (walk : List Edge) → upper_bound ≤ 2 ^ 64 →
+    IsFound graph request labels upper_bound (Some found) → Spells graph labels found walk → length walk ≡ found.hops → sent request.amount walk < 2 ^ 64
+sent_small graph request labels upper_bound found walk low is spells long =
+    let same = Spells-unique graph labels found (is.0).0 walk (is.0).1.spells spells ((is.0).1.long ∙ sym long) in
+    omega (arith, is.1, (is.0).1.sends, ap (λ w. sent request.amount w) same)

@@ -1,6 +1,0 @@
-use Rattle.std.proofs.Common.{◌-◌}
-use Rattle.lgm_route.proofs.Chains.{AreBeside}
-use Rattle.lgm_route.proofs.comparing.ids_first.Given as goal
-
-abbrev pub invariant-loop-step : goal.invariant-loop-step
-invariant-loop-step l = AreBeside l.view l.labels l.label l.other l.here l.there (l.label.count - l.step)

@@ -1,6 +1,0 @@
-use Rattle.std.proofs.Common.{rules}
-use Rattle.lgm_par.proofs.Zipping.{zip_weaker_ok}
-use Rattle.lgm_route.proofs.frontier.all_leads.Goals as goal
-
-pub returns : goal.returns
-returns g c = zip_weaker_ok _ _ (λ x y h. search rules) c.args.frontier.now c.map.result c.map.ensures

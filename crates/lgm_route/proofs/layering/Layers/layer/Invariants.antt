@@ -1,6 +1,0 @@
-use Rattle.std.proofs.Common.{◌<◌, length}
-use Rattle.std.specs.List.{All}
-use Rattle.lgm_route.proofs.layering.Layers.layer.Given as goal
-
-abbrev pub invariant-loop-step : goal.invariant-loop-step
-invariant-loop-step l = All (λ i. i < length l.search.labels) l.frontier.items

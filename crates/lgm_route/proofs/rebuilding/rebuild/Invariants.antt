@@ -1,6 +1,0 @@
-use Rattle.std.proofs.Common.{◌-◌}
-use Rattle.lgm_route.proofs.Chains.{IsOnTheWay}
-use Rattle.lgm_route.proofs.rebuilding.rebuild.Given as goal
-
-abbrev pub invariant-loop-step : goal.invariant-loop-step
-invariant-loop-step l = IsOnTheWay l.view l.labels l.found l.here (l.found.count - l.step) l.walk.items

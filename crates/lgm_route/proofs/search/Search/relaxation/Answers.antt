@@ -1,0 +1,26 @@
+use Rattle.std.proofs.Common.{◌+◌, ◌∙◌, refl, sym, ap, arith}
+use Rattle.lgm_route.proofs.Steps.{led}
+use Rattle.lgm_route.proofs.search.Search.relaxation.Goals as goal
+
+pub returns-then-edge-request : goal.returns-then-edge-request
+returns-then-edge-request c =
+    let s = c.args.self.now in
+    let label = c.args.label.now in
+    let request = c.request-request.ensures in
+    let amount = ap (λ r. r.amount) request in
+    led s.ground.graph s.ground.request s.labels c.args.i c.args.at label.amount label c.args.edge.now
+    c.len-len.ensures.search.ground.listed c.requires.into c.requires.label
+    (omega (arith, amount, c.if-request-edge.false)) (omega (arith, c.if-edge-label.false))
+    (λ from. refl) (λ other. absurd (other (c.if-edge-request.true ∙ ap (λ r. r.payer) request)))
+
+pub returns : goal.returns
+returns c =
+    let s = c.args.self.now in
+    let label = c.args.label.now in
+    let request = c.request-request.ensures in
+    let amount = ap (λ r. r.amount) request in
+    led s.ground.graph s.ground.request s.labels c.args.i c.args.at _ label c.args.edge.now
+    c.len-len.ensures.search.ground.listed c.requires.into c.requires.label
+    (omega (arith, amount, c.if-request-edge.false)) (omega (arith, c.if-edge-label.false))
+    (λ from. absurd (c.if-edge-request.false (from ∙ ap (λ r. r.payer) (sym request))))
+    (λ other. (omega (arith, c.if-label-ge-MOST_EDGES.false), ap (λ f. label.amount + f) c.fee.ensures.value))

@@ -1,0 +1,72 @@
+-- Relaxation of labels over edges: computed by workers, applied by one thread.
+use Rattle.std.specs.Prelude.{◌≡◌, ◌≢◌, ◌⊎◌, ℕ, ◌+◌, ◌*◌, ◌<◌, ◌≤◌, List, []}
+use Rattle.std.specs.Prelude.{◌∷◌, length, Contains, Option, Some, None}
+use Rattle.lgm_graph.specs.Fee.{fee_of}
+use Rattle.lgm_graph.specs.Graph.{Graph, edges, edges_into}
+use Rattle.lgm_graph.specs.declared.edge.Edge.{Edge}
+use Rattle.lgm_route.specs.declared.request.NumberedRequest.{NumberedRequest}
+use Rattle.lgm_route.specs.declared.label.Label.{Label}
+use Rattle.lgm_route.specs.inner.Searching.{cost, number_at, label_at, edge_at, first_of, Begins, RelaxesOn}
+
+-- the edge is the one at the index among those into the label's node
+pub record IsInto (graph : Graph) (labels : List Label) (i at : ℕ) (edge : Edge) : Type 0 where
+  pub within : i < length labels
+  pub inside : at < length (edges_into graph (label_at labels i).node)
+  pub is : edge_at (edges_into graph (label_at labels i).node) at ≡ edge
+
+-- if the edge can carry it, the label needn't be relaxed over it: the edge isn't the payer's, and a longer rest would
+-- be too long, or is pruned
+abbrev pub IsNeedless : NumberedRequest → List ℕ → ℕ → Label → Edge → Type 0
+IsNeedless request low bound label edge =
+    edge.min ≤ request.amount → label.amount ≤ edge.max →
+    (edge.from ≢ request.payer) ×
+    (label.hops < 19 → bound ≤ cost (label.amount + fee_of label.amount edge.base edge.millionths
+    + number_at low edge.from) (label.hops + 1))
+
+-- the label at the index, relaxed over the edge: a walk if that is the payer's, else a longer rest
+pub record IsRelaxationOf (graph : Graph) (request : NumberedRequest) (labels : List Label) (i : ℕ) (edge : Edge)
+    (new : Label) : Type 0 where
+  pub within : i < length labels
+  pub there : Contains (edges graph) edge
+  pub to : edge.to ≡ (label_at labels i).node
+  pub above_min : edge.min ≤ request.amount
+  pub below_max : (label_at labels i).amount ≤ edge.max
+  pub begins : Begins graph labels new
+  pub over : first_of graph labels new ≡ edge
+  pub parent : new.parent ≡ i
+  pub node : new.node ≡ edge.from
+  pub hops : new.hops ≡ (label_at labels i).hops + 1
+  pub whole : edge.from ≡ request.payer → new.amount ≡ (label_at labels i).amount
+  pub longer : edge.from ≢ request.payer →
+      (new.hops ≤ 19)
+      × (new.amount ≡ (label_at labels i).amount + fee_of (label_at labels i).amount edge.base edge.millionths)
+
+-- the relaxation of the label at the index over the edge, if it is needed
+abbrev pub IsRelaxation : Graph → NumberedRequest → List ℕ → ℕ → List Label → ℕ → Edge → Option Label → Type 0
+IsRelaxation graph request low bound labels i edge None = IsNeedless request low bound (label_at labels i) edge
+IsRelaxation graph request low bound labels i edge (Some new) = IsRelaxationOf graph request labels i edge new
+
+-- a label or none, as a list
+abbrev pub in_list : Option Label → List Label
+in_list None = []
+in_list (Some label) = label ∷ []
+
+-- the relaxation that this label is was applied
+abbrev pub IsTaken : Graph → NumberedRequest → ℕ → List Label → Label → List Label → Option Label → Type 0
+IsTaken graph request upper_bound labels new after now =
+    (low : List ℕ) → RelaxesOn graph request low upper_bound labels new.parent after now (first_of graph labels new)
+
+-- one of the labels is a relaxation over the edge
+abbrev pub IsAmong : Graph → List Label → List Label → Edge → Type 0
+IsAmong graph labels relaxations edge =
+    (k : ℕ) × (k < length relaxations) × (first_of graph labels (label_at relaxations k) ≡ edge)
+
+-- all relaxations of the label at the index: over each edge into its node for which that is needed
+pub record AreRelaxations (graph : Graph) (request : NumberedRequest) (low : List ℕ) (bound : ℕ)
+    (labels : List Label) (i : ℕ) (relaxations : List Label) : Type 0 where
+  pub led : (k : ℕ) → k < length relaxations
+      → IsRelaxationOf graph request labels i (first_of graph labels (label_at relaxations k)) (label_at relaxations k)
+  pub each : (j : ℕ) → j < length (edges_into graph (label_at labels i).node) →
+      IsNeedless request low bound (label_at labels i)
+      (edge_at (edges_into graph (label_at labels i).node) j) ⊎
+      IsAmong graph labels relaxations (edge_at (edges_into graph (label_at labels i).node) j)

@@ -1,0 +1,161 @@
+//! The undominated labels of each node.
+
+ghost use Rattle.std.specs.Prelude.{IfSome, ◌≡◌, ◌≤◌, ℕ, IfOk, OnErr, false, slice_index_or};
+ghost use Rattle.lgm_route.specs.inner.Searching.{IsSpelled, AreSpelled, IsDominator, AreLabels, SomeRest, IsOffered};
+ghost use Rattle.lgm_route.specs.inner.Searching.{IsMarked};
+
+use crate::label::{Label, dominates};
+use crate::request::NumberedRequest;
+use lgm_graph::View;
+use std::alloc::{AllocError, Global};
+
+/// The maximum number of labels in a front: no two have the same number of edges.
+const MOST: usize = 20;
+
+/// For each node the Pareto front of its labels: the indices of the undominated ones, the latest first. An index that
+/// is no label of the node ends the list. No contract depends on the fronts: whoever takes an index checks that its
+/// label dominates.
+#[derive(Drop)]
+pub(crate) struct ParetoFronts {
+    /// The first index for each node; initially that of the label at the payee.
+    first: Vec<u32>,
+    /// The index after each index.
+    following: Vec<u32>,
+}
+
+/// An index as fronts store it. Labels beyond the maximum are in no front.
+fn kept(place: usize) -> u32 {
+    if place < u32::MAX as usize {
+        place as u32
+    } else {
+        u32::MAX
+    }
+}
+
+impl ParetoFronts {
+    /// The fronts of this many nodes, with one label, at the payee.
+    pub(crate) fn new(alloc: Global, nodes: usize) -> Result<ParetoFronts, AllocError> {
+        let first = vec![in alloc; 0; nodes]?;
+        let following = vec![in alloc; u32::MAX; 1]?;
+        Ok(ParetoFronts { first, following })
+    }
+
+    /// The first index of a node.
+    fn first_of(&self, node: usize) -> usize {
+        if node < self.first.len() {
+            self.first[node] as usize
+        } else {
+            usize::MAX
+        }
+    }
+
+    /// The index after an index.
+    fn behind(&self, place: usize) -> usize {
+        if place < self.following.len() {
+            self.following[place] as usize
+        } else {
+            usize::MAX
+        }
+    }
+
+    /// Sets the index after an index.
+    fn link(&mut self, place: usize, behind: usize) {
+        if place < self.following.len() {
+            self.following[place] = kept(behind);
+        }
+    }
+
+    /// The index of a label of the same node that dominates this one, if the front has one.
+    pub(crate) fn find_dominator(
+        &self,
+        view: &View,
+        labels: &[Label],
+        label: &Label,
+    ) -> Option<usize>
+        requires spelled { AreSpelled view.now labels.now }
+        requires label { IsSpelled view.now labels.now label.now }
+        ensures { IfSome result (λ place. IsDominator view.now labels.now label.now place) }
+    {
+        let mut place = self.first_of(label.node as usize);
+        for _step in 0..MOST {
+            if labels.len() <= place || labels[place].node != label.node {
+                return None;
+            }
+            if dominates(view, labels, &labels[place], label) {
+                return Some(place);
+            }
+            place = self.behind(place);
+        }
+        None
+    }
+
+    /// Adds the label that is created next to its node's front, and removes those that it dominates.
+    pub(crate) fn add(
+        &mut self,
+        view: &View,
+        labels: &[Label],
+        new: &Label,
+    ) -> Result<(), AllocError>
+        requires spelled { AreSpelled view.now labels.now }
+        requires new { IsSpelled view.now labels.now new.now }
+    {
+        let here = labels.len();
+        self.following.push(u32::MAX)?;
+        let node = new.node as usize;
+        let mut place = self.first_of(node);
+        if node < self.first.len() {
+            self.first[node] = kept(here);
+        }
+        let mut last = here;
+        for _step in 0..MOST {
+            if labels.len() <= place || labels[place].node != new.node {
+                break;
+            }
+            if !dominates(view, labels, new, &labels[place]) {
+                self.link(last, place);
+                last = place;
+            }
+            place = self.behind(place);
+        }
+        self.link(last, place);
+        Ok(())
+    }
+}
+
+/// Adds a label, unless it is dominated.
+pub(crate) fn offer(
+    view: &View,
+    request: &NumberedRequest,
+    labels: &mut Vec<Label>,
+    fronts: &mut ParetoFronts,
+    new: Label,
+) -> Result<(), AllocError>
+    requires labelled { AreLabels view.now request.now labels.old.items }
+    requires new { SomeRest view.now request.now labels.old.items new }
+    requires few { new.hops ≤ 19 }
+    ensures offered { IfOk result
+        (λ _. IsOffered view.now request.now labels.old.items new labels.new.items) }
+    ensures stays { OnErr result (labels.new.items ≡ labels.old.items) }
+{
+    match fronts.find_dominator(view, labels, &new) {
+        Some(_place) => Ok(()),
+        None => {
+            fronts.add(view, labels, &new)?;
+            labels.push(new)?;
+            Ok(())
+        }
+    }
+}
+
+/// Marks an index.
+pub(crate) fn mark(done: &mut Vec<bool>, i: usize) -> Result<(), AllocError>
+    ensures marked { IfOk result (λ _. IsMarked done.old.items i done.new.items) }
+    ensures stays { OnErr result
+        ((j : ℕ) → slice_index_or done.new.items j false ≡ slice_index_or done.old.items j false) }
+{
+    while done.len() <= i {
+        done.push(false)?;
+    }
+    done[i] = true;
+    Ok(())
+}

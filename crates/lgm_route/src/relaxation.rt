@@ -1,0 +1,169 @@
+//! Relaxation of labels over edges.
+
+ghost use Rattle.std.specs.Prelude.{◌≡◌, ◌<◌, length, IfOk, IfSome};
+ghost use Rattle.lgm_route.specs.inner.Searching.{label_at, first_of};
+ghost use Rattle.lgm_route.specs.inner.Relaxations.{IsRelaxationOf};
+ghost use Rattle.lgm_route.specs.inner.State.{Extends, IsIntoAt, IsRelaxationAt, IsRelaxedOn, IsLeftAt};
+
+use crate::label::{Label, cost};
+use crate::search::Search;
+use lgm_graph::{Edge, fee};
+use std::alloc::AllocError;
+
+/// The maximum number of edges of a rest that is extended to a longer one.
+const MOST_EDGES: u32 = 19;
+
+impl<'a> Search<'a> {
+    /// The relaxation of a label over one edge into its node: a whole walk if the edge is the payer's, else a longer
+    /// rest. None if the edge can't carry it, or if a longer rest would be too long or is pruned.
+    #[inline(always)]
+    pub(crate) fn relaxation(
+        &self,
+        i: usize,
+        label: &Label,
+        at: usize,
+        edge: &Edge,
+    ) -> Option<Label>
+        requires label { label.now ≡ label_at self.now.labels i }
+        requires into { IsIntoAt self.now i at edge.now }
+        ensures { IsRelaxationAt self.now i edge.now result }
+    {
+        let request = self.request();
+        // The contract of `len` says that the label represents a rest, and the edge is one of the graph.
+        let _len = self.len();
+        if request.amount < edge.min || edge.max < label.amount {
+            return None;
+        }
+        if edge.from == request.payer {
+            return Some(Label {
+                amount: label.amount,
+                parent: i,
+                at,
+                node: edge.from,
+                hops: label.hops + 1,
+            });
+        }
+        if label.hops >= MOST_EDGES {
+            return None;
+        }
+        let amount = label.amount as u128 + fee(label.amount, edge.base, edge.millionths);
+        let least = cost(
+            amount + self.lower_bound(edge.from) as u128,
+            label.hops as u128 + 1,
+        );
+        if self.bound() <= least || amount >= 1 << 64 {
+            return None;
+        }
+        Some(Label {
+            amount: amount as u64,
+            parent: i,
+            at,
+            node: edge.from,
+            hops: label.hops + 1,
+        })
+    }
+
+    /// Applies a relaxation: a walk, or a rest as a new label.
+    #[inline(always)]
+    pub(crate) fn insert(&mut self, new: Label) -> Result<(), AllocError>
+        requires { IsRelaxationOf self.old.ground.graph self.old.ground.request self.old.labels new.parent
+            (first_of self.old.ground.graph self.old.labels new) new }
+        ensures extends { IfOk result (λ _. Extends self.old self.new) }
+        ensures passed { IfOk result (λ _.
+            IsRelaxedOn self.old new.parent (first_of self.old.ground.graph self.old.labels new) self.new) }
+    {
+        // The contract of `len` says that labels represent rests.
+        let _len = self.len();
+        if new.node == self.request().payer {
+            self.improve(new);
+            return Ok(());
+        }
+        self.offer(new)?;
+        Ok(())
+    }
+
+    /// Relaxes a label over one edge into its node.
+    #[inline(always)]
+    pub(crate) fn relax_edge(
+        &mut self,
+        i: usize,
+        label: &Label,
+        at: usize,
+        edge: &Edge,
+    ) -> Result<(), AllocError>
+        requires label { label.now ≡ label_at self.old.labels i }
+        requires into { IsIntoAt self.old i at edge.now }
+        ensures extends { IfOk result (λ _. Extends self.old self.new) }
+        ensures passed { IfOk result (λ _. IsRelaxedOn self.old i edge.now self.new) }
+    {
+        match self.relaxation(i, label, at, edge) {
+            None => Ok(()),
+            Some(new) => {
+                self.insert(new)?;
+                Ok(())
+            }
+        }
+    }
+
+    /// Relaxes a label over all edges into its node.
+    pub(crate) fn relax(&mut self, i: usize) -> Result<(), AllocError>
+        requires { i < length self.old.labels }
+        ensures extends { IfOk result (λ _. Extends self.old self.new) }
+        ensures left { IfOk result (λ _. IsLeftAt self.old i self.new) }
+    {
+        let label = self.label(i);
+        let edges = self.edges_into(label.node);
+        for at in 0..edges.len() {
+            self.relax_edge(i, &label, at, &edges[at])?;
+        }
+        Ok(())
+    }
+
+    /// Extends a label's rest along the cheapest way from the payer, as far as it is known, so that some walk is found
+    /// early.
+    pub(crate) fn dive(&mut self, i: usize) -> Result<(), AllocError>
+        requires { i < length self.old.labels }
+        ensures { IfOk result (λ _. Extends self.old self.new) }
+    {
+        let mut here = i;
+        for _step in 0..MOST_EDGES {
+            let last = self.len();
+            let label = self.label(here);
+            let edges = self.edges_into(label.node);
+            let Some(at) = self.next_edge(label.node, edges) else {
+                break;
+            };
+            self.relax_edge(here, &label, at, &edges[at])?;
+            if self.len() <= last {
+                break;
+            }
+            here = last;
+        }
+        Ok(())
+    }
+
+    /// The index of the edge that leads to a node on the way from the payer, among those into the node.
+    fn next_edge(&self, node: u32, edges: &[Edge]) -> Option<usize>
+        ensures { IfSome result (λ at. at < length edges.now) }
+    {
+        let over = self.channel_to(node)?;
+        let mut low = 0;
+        let mut high = edges.len();
+        for _step in 0..64 {
+            if high <= low {
+                break;
+            }
+            let middle = low + (high - low) / 2;
+            if edges[middle].scid < over {
+                low = middle + 1;
+            } else {
+                high = middle;
+            }
+        }
+        if low < edges.len() && edges[low].scid == over {
+            Some(low)
+        } else {
+            None
+        }
+    }
+}

@@ -1,0 +1,176 @@
+//! Answering lines in groups.
+
+ghost use Rattle.std.specs.Prelude.{◌≡◌, ◌≤◌, ◌+◌, ◌<◌, ◌^◌, [], ◌∷◌, length, map, IfOk, IfSome, OnOk};
+ghost use Rattle.std.specs.List.{AllByRecursion};
+ghost use Rattle.lgm_script.specs.Groups.{IsOfKind, AreAlike};
+ghost use Rattle.lgm_script.specs.Output.{told_by, Writes};
+ghost use Rattle.lgm_script.specs.Command.{command_of};
+ghost use Rattle.lgm_script.specs.declared.command.Command.TheVariants.{Route as AsksRoute};
+ghost use Rattle.lgm_run.specs.inner.CheckedItem.{state_by, offered_word, offered_text};
+ghost use Rattle.lgm_run.specs.inner.Questions.{asked_in};
+ghost use Rattle.lgm_run.specs.inner.Steps.{state_alone, text_alone, state_from, text_from};
+
+use crate::checked_item::{CheckedItem, check_lines};
+use crate::context::Context;
+use crate::engine::Engine;
+use lgm_answers::{Answer, MAX_LINES, outcome_word};
+use lgm_check::Refusal;
+use lgm_par::Gate;
+use lgm_script::{
+    Command, Group, Kind, Line, Output, RouteParameters, SendFault, Sink, may_ask_routes, parse,
+};
+use std::alloc::{AllocError, Global};
+use std::thread::Threads;
+
+/// Offers the checked item of a line in its turn, if there is one, and returns the word of its outcome.
+fn offer(
+    alloc: Global,
+    item: Option<CheckedItem>,
+    engine: &mut Engine,
+) -> Result<&'static str, AllocError>
+    requires few { engine.old.accepted + 1 < 2 ^ 64 }
+    ensures state { OnOk result (engine.new ≡ state_by engine.old item) }
+    ensures word { IfOk result (λ word. word.now ≡ offered_word engine.old.rows item) }
+{
+    let Some(item) = item else {
+        return Ok("bad");
+    };
+    match engine.offer(alloc, item) {
+        Ok(()) => Ok(outcome_word(None)),
+        Err(Refusal::NoMemory) => Err(AllocError),
+        Err(refusal) => Ok(outcome_word(Some(refusal))),
+    }
+}
+
+/// Answers the line of an item, which was checked: offers the item, and writes its outcome.
+#[inline(always)]
+fn answer_item<W: Sink>(
+    alloc: Global,
+    number: u64,
+    item: Option<CheckedItem>,
+    engine: &mut Engine,
+    output: &mut Output<'_, W>,
+) -> Result<(), SendFault>
+    requires few { engine.old.accepted + 1 < 2 ^ 64 }
+    ensures state { OnOk result (engine.new ≡ state_by engine.old item) }
+    ensures written { Writes (told_by W.seen output.old) (told_by W.seen output.new)
+        (offered_text number engine.old.rows item) result }
+{
+    let word = offer(alloc, item, engine)?;
+    output.send(number, &Line::Word(word))
+}
+
+/// Looks up where the channels of checked updates are stored. One after the other they would wait for the memory each
+/// time; looked up before the first of them is offered, they wait together.
+fn locate_all(engine: &Engine, items: &[Result<Option<CheckedItem>, AllocError>]) {
+    for item in items {
+        if let Ok(Some(item)) = item {
+            engine.locate(item);
+        }
+    }
+}
+
+/// Answers lines of items, the first of which has this number: they are checked in parallel, and offered in order.
+fn answer_items<Rt: Threads + Sync, G: Gate, W: Sink>(
+    context: &Context<'_, Rt, G>,
+    first: u64,
+    lines: &[&[u8]],
+    engine: &mut Engine,
+    output: &mut Output<'_, W>,
+) -> Result<(), SendFault>
+    requires items { AllByRecursion (IsOfKind Kind.Item) (asked_in lines.now) }
+    requires number { first + length lines.now < 2 ^ 64 }
+    requires few { engine.old.accepted + length lines.now ≤ MAX_LINES }
+    ensures state { OnOk result (engine.new ≡ state_from context.now.chain engine.old (asked_in lines.now)) }
+    ensures written { Writes (told_by W.seen output.old) (told_by W.seen output.new)
+        (text_from context.now.chain first engine.old (asked_in lines.now)) result }
+{
+    let all = check_lines(context, lines)?;
+    locate_all(engine, &all);
+    let mut number = first;
+    for item in all {
+        answer_item(context.pool.alloc, number, item?, engine, output)?;
+        number += 1;
+    }
+    Ok(())
+}
+
+/// The payment of a group of one line, if that requests a route.
+fn lone_payment(alloc: Global, lines: &[&[u8]]) -> Result<Option<RouteParameters>, AllocError>
+    ensures { IfOk result (λ payment. IfSome payment (λ own. asked_in lines.now ≡ AsksRoute own ∷ [])) }
+{
+    if lines.len() != 1 || !may_ask_routes(lines) {
+        return Ok(None);
+    }
+    match parse(alloc, lines[0])? {
+        Command::Route(payment) => Ok(Some(payment)),
+        _ => Ok(None),
+    }
+}
+
+/// Answers lines that request something of the committed map, the first of which has this number.
+fn answer_questions<Rt: Threads + Sync, G: Gate, W: Sink>(
+    context: &Context<'_, Rt, G>,
+    first: u64,
+    lines: &[&[u8]],
+    engine: &mut Engine,
+    output: &mut Output<'_, W>,
+) -> Result<(), SendFault>
+    requires questions { AllByRecursion (IsOfKind Kind.Question) (asked_in lines.now) }
+    requires number { first + length lines.now < 2 ^ 64 }
+    requires few { engine.old.accepted ≤ MAX_LINES }
+    ensures state { OnOk result (engine.new ≡ state_from context.now.chain engine.old (asked_in lines.now)) }
+    ensures written { Writes (told_by W.seen output.old) (told_by W.seen output.new)
+        (text_from context.now.chain first engine.old (asked_in lines.now)) result }
+{
+    if let Some(payment) = lone_payment(context.pool.alloc, lines)? {
+        let answer = engine.answer_route(&context.pool, &payment)?;
+        return answer.send(context.pool.alloc, first, output);
+    }
+    engine.answer_questions(context, first, lines, output)
+}
+
+/// Answers a line that is alone in its group: a commit, an empty line, a comment, or a malformed line.
+fn answer_alone<W: Sink>(
+    alloc: Global,
+    number: u64,
+    line: &[u8],
+    engine: &mut Engine,
+    output: &mut Output<'_, W>,
+) -> Result<(), SendFault>
+    requires { IsOfKind Kind.Other (command_of line.now) }
+    ensures state { OnOk result (engine.new ≡ state_alone engine.old (command_of line.now)) }
+    ensures written { Writes (told_by W.seen output.old) (told_by W.seen output.new)
+        (text_alone number engine.old (command_of line.now)) result }
+{
+    match parse(alloc, line)? {
+        Command::Quiet => Ok(()),
+        Command::Commit => engine.commit(alloc, number, output),
+        _ => Answer::Bad.send(alloc, number, output),
+    }
+}
+
+/// Answers the lines of a group, the first of which has this number. Afterwards their accepted items are in the map,
+/// their filters are set, and what was accepted is committed if they request that.
+pub fn answer<Rt: Threads + Sync, G: Gate, W: Sink>(
+    context: &Context<'_, Rt, G>,
+    first: u64,
+    group: &Group<'_>,
+    engine: &mut Engine,
+    output: &mut Output<'_, W>,
+) -> Result<(), SendFault>
+    requires alike { AreAlike group.now.kind (map (λ line. line.now) group.now.lines.items) }
+    requires number { first + length group.now.lines.items < 2 ^ 64 }
+    requires few { engine.old.accepted + length group.now.lines.items ≤ MAX_LINES }
+    ensures state { OnOk result
+        (engine.new ≡ state_from context.now.chain engine.old (asked_in group.now.lines.items)) }
+    ensures written { Writes (told_by W.seen output.old) (told_by W.seen output.new)
+        (text_from context.now.chain first engine.old (asked_in group.now.lines.items)) result }
+{
+    let lines = group.lines.as_slice();
+    match group.kind {
+        Kind::Item => answer_items(context, first, lines, engine, output),
+        Kind::Question => answer_questions(context, first, lines, engine, output),
+        Kind::Other => answer_alone(context.pool.alloc, first, lines[0], engine, output),
+    }
+}

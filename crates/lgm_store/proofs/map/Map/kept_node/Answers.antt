@@ -1,9 +1,0 @@
-use Rattle.std.proofs.Common.{◌∙◌, ap}
-use Rattle.lgm_store.specs.Rows.{node_of}
-use Rattle.lgm_store.proofs.Lists.{lookup-node}
-use Rattle.lgm_store.proofs.map.Map.kept_node.Goals as goal
-
-pub returns : goal.returns
-returns c =
-    c.found.ensures ∙ c.get.ensures.value ∙ lookup-node c.self.inside.nodes.entries c.args.node.now c.self.invariant.rows.nodes_keyed
-    ∙ ap (λ rows. node_of rows.nodes c.args.node.now) c.self.view_is

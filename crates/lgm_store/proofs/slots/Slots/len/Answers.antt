@@ -1,8 +1,0 @@
-use Rattle.std.proofs.Common.{length, sym, ap, ◌∙◌}
-use Rattle.lgm_store.proofs.Slotted.{length-slots}
-use Rattle.lgm_store.proofs.slots.Slots.len.Goals as goal
-
-pub returns : goal.returns
-returns c =
-    c.len.ensures.len ∙ sym (length-slots c.self.inside.slots.slots c.self.inside.numbers.entries
-    c.self.invariant.own) ∙ ap length c.self.view_is

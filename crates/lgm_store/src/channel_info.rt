@@ -1,0 +1,253 @@
+//! A channel with its updates.
+
+ghost use Rattle.std.specs.Prelude.{◌≡◌, Some, None, IfOk, OnOk, OnErr, if◌then◌else◌};
+ghost use Rattle.std.specs.Option.{option_copied, option_map};
+ghost use Rattle.lgm_store.specs.inner.ChannelEntries.{alone, with_update_in};
+ghost use Rattle.lgm_store.specs.ChannelInfo.{update_in};
+ghost use Rattle.lgm_store.specs.inner.Direction.{IsDirectionOf};
+ghost use Rattle.lgm_store.specs.Rows.{is_second};
+ghost use Rattle.lgm_store.specs.Admission.{update_admission, Offers};
+ghost use Rattle.lgm_store.specs.inner.Decided.{update_op, update_verdict};
+
+use crate::shared::Shared;
+use lgm_check::{ChannelRow, Refusal, StoredChannel, StoredUpdate, UpdateRow};
+use lgm_gossip::{Point, Scid};
+use std::alloc::AllocError;
+use std::marker::Model;
+
+/// A channel with the update of each direction that has one. Contracts see the rows.
+///
+/// What iteration and admission read is stored inline, outside the rows: the channel id, and for each direction its
+/// node and its update's timestamp.
+#[derive(Drop)]
+pub struct ChannelInfo {
+    scid: Scid,
+    row: Shared<StoredChannel>,
+    /// The direction from node 1.
+    first: Direction,
+    /// The direction from node 2.
+    second: Direction,
+}
+
+/// A direction of a channel.
+#[derive(Drop)]
+struct Direction {
+    /// The node that signs its updates.
+    node: Point,
+    /// The timestamp of its update, in seconds since 1970, or 0 without one.
+    time: u32,
+    /// Its update, if it has one.
+    row: Option<Shared<StoredUpdate>>,
+}
+
+impl Model for ChannelInfo {
+    ghost use Rattle.std.specs.Prelude.{◌≡◌};
+    ghost use Rattle.lgm_store.specs.ChannelWithUpdates.{ChannelWithUpdates};
+
+    ghost Value = { ChannelWithUpdates };
+
+    ghost view = { λ h. record { channel = h.row; first = h.first.row; second = h.second.row } };
+
+    ghost use Rattle.lgm_store.specs.inner.Direction.{IsDirectionOf};
+
+    ghost invariant = { λ h. record {
+      scid_is : h.scid ≡ h.row.message.short_channel_id;
+      first_is : IsDirectionOf h.row.message.node_id_1 h.first;
+      second_is : IsDirectionOf h.row.message.node_id_2 h.second;
+    } };
+}
+
+impl Direction {
+    /// A direction without an update.
+    fn new(node: Point) -> Direction
+        ensures direction { IsDirectionOf node result }
+        ensures row { result.row ≡ None }
+    {
+        Direction {
+            node,
+            time: 0,
+            row: None,
+        }
+    }
+}
+
+impl ChannelInfo {
+    /// A channel without updates.
+    pub(crate) fn new(row: Shared<StoredChannel>) -> ChannelInfo
+        ensures { result ≡ alone row }
+    {
+        ChannelInfo {
+            scid: row.get().scid(),
+            first: Direction::new(row.get().node(false)),
+            second: Direction::new(row.get().node(true)),
+            row,
+        }
+    }
+
+    /// The channel's row.
+    pub fn row(&self) -> ChannelRow<'_>
+        ensures { result ≡ self.now.channel }
+    {
+        self.row.get().row()
+    }
+
+    /// The bytes of the channel's announcement, as received.
+    pub fn raw(&self) -> &[u8]
+        ensures { result.now ≡ self.now.channel.raw }
+    {
+        self.row.get().raw()
+    }
+
+    /// The channel id, read without following the row.
+    pub fn scid(&self) -> Scid
+        ensures { result ≡ self.now.channel.message.short_channel_id }
+    {
+        self.scid
+    }
+
+    /// Node 2 if `second`, else node 1; read without following the row.
+    pub fn node(&self, second: bool) -> &Point
+        ensures { result.now
+            ≡ (if second then self.now.channel.message.node_id_2 else self.now.channel.message.node_id_1) }
+    {
+        &self.direction(second).node
+    }
+
+    /// The row of the update from node 2 if `second`, else from node 1; none if that direction has no update.
+    pub fn update(&self, second: bool) -> Option<UpdateRow<'_>>
+        ensures { result ≡ update_in second self.now }
+    {
+        match &self.direction(second).row {
+            Some(row) => Some(row.get().row()),
+            None => None,
+        }
+    }
+
+    /// The bytes of that update, as received.
+    pub fn update_raw(&self, second: bool) -> Option<&[u8]>
+        ensures { option_copied result ≡ option_map (λ row. row.raw) (update_in second self.now) }
+    {
+        match &self.direction(second).row {
+            Some(row) => Some(row.get().raw()),
+            None => None,
+        }
+    }
+
+    /// The timestamp of that update, in seconds since 1970, read without following the update's row.
+    pub fn update_time(&self, second: bool) -> Option<u32>
+        ensures { result ≡ option_map (λ row. row.message.timestamp) (update_in second self.now) }
+    {
+        let direction = self.direction(second);
+        match &direction.row {
+            Some(_) => Some(direction.time),
+            None => None,
+        }
+    }
+
+    fn direction(&self, second: bool) -> &Direction
+        ensures direction { IsDirectionOf (if second then self.now.channel.message.node_id_2
+            else self.now.channel.message.node_id_1) result.now }
+        ensures row { result.now.row ≡ update_in second self.now }
+    {
+        if second { &self.second } else { &self.first }
+    }
+
+    /// Whether an update with this signer is admitted, or else why not: 10 `signature`, 15 `not-newer`.
+    pub(crate) fn admit_update(&self, row: &UpdateRow, signer: &Point) -> Result<(), Refusal>
+        ensures { update_op row.now result ≡ update_admission (Some self.now.channel)
+            (update_in (is_second row.now) self.now) row.now signer.now }
+    {
+        self.check_update(row.is_second(), row.message.timestamp, signer)
+    }
+
+    /// The same for an update whose row is stored already.
+    pub(crate) fn admit_stored_update(
+        &self,
+        row: &StoredUpdate,
+        signer: &Point,
+    ) -> Result<(), Refusal>
+        ensures { update_op row.now result ≡ update_admission (Some self.now.channel)
+            (update_in (is_second row.now) self.now) row.now signer.now }
+    {
+        self.check_update(row.is_second(), row.timestamp(), signer)
+    }
+
+    fn check_update(&self, second: bool, time: u32, signer: &Point) -> Result<(), Refusal>
+        ensures { result
+            ≡ update_verdict self.now.channel (update_in second self.now) second time signer.now }
+    {
+        if *signer != *self.node(second) {
+            return Err(Refusal::Signature);
+        }
+        match self.update_time(second) {
+            Some(stored) if stored >= time => Err(Refusal::NotNewer),
+            _ => Ok(()),
+        }
+    }
+
+    /// Stores an update if it is admitted, sharing its row. A refusal leaves the channel unchanged.
+    pub(crate) fn offer_update(
+        &mut self,
+        row: &Shared<StoredUpdate>,
+        signer: &Point,
+    ) -> Result<(), Refusal>
+        ensures admission { Offers (update_op row.now result) (update_admission (Some self.old.channel)
+            (update_in (is_second row.now) self.old) row.now signer.now) }
+        ensures accepted { OnOk result (self.new ≡ with_update_in (is_second row.now) self.old row.now) }
+        ensures refused { OnErr result (self.new ≡ self.old) }
+        ensures channel { self.new.channel ≡ self.old.channel }
+    {
+        self.admit_stored_update(row.get(), signer)?;
+        self.put_update(row.get().is_second(), row.share()?);
+        Ok(())
+    }
+
+    /// Replaces the update from node 2 if `second`, else that from node 1.
+    pub(crate) fn put_update(&mut self, second: bool, row: Shared<StoredUpdate>)
+        ensures { self.new ≡ with_update_in second self.old row }
+    {
+        let time = row.get().timestamp();
+        if second {
+            self.second.time = time;
+            self.second.row = Some(row);
+        } else {
+            self.first.time = time;
+            self.first.row = Some(row);
+        }
+    }
+}
+
+impl Clone for Direction {
+    ghost is_clone = { λ direction copy. copy ≡ direction };
+
+    fn clone(&self) -> Result<Direction, AllocError> {
+        Ok(Direction {
+            node: self.node,
+            time: self.time,
+            row: copied(&self.row)?,
+        })
+    }
+}
+
+impl Clone for ChannelInfo {
+    ghost is_clone = { λ stored copy. copy ≡ stored };
+
+    fn clone(&self) -> Result<ChannelInfo, AllocError> {
+        Ok(ChannelInfo {
+            scid: self.scid,
+            row: self.row.share()?,
+            first: self.first.clone()?,
+            second: self.second.clone()?,
+        })
+    }
+}
+
+/// A shared copy of an update, if there is one.
+fn copied(row: &Option<Shared<StoredUpdate>>) -> Result<Option<Shared<StoredUpdate>>, AllocError>
+    ensures { IfOk result (λ copy. copy ≡ row.now) }
+{
+    match row {
+        Some(row) => Ok(Some(row.share()?)),
+        None => Ok(None),
+    }
+}

@@ -1,0 +1,201 @@
+//! Channels in slots, by id.
+
+ghost use Rattle.std.specs.Prelude.{◌≡◌, [], length, OnOk, OnErr};
+ghost use Rattle.std.specs.Option.{option_copied, option_map, option_and_then};
+ghost use Rattle.std.specs.List.Sorted.{IsStrictlySortedBy};
+ghost use Rattle.std.specs.Map.{lookup, remove_entry, keys_of, values_of};
+ghost use Rattle.std.specs.BTreeMap.{is_at, insert_entry};
+ghost use Rattle.std.specs.BTreeMap.Range.{entries_between, IsLeBy, IsLtBy};
+ghost use Rattle.std.specs.Range.Bound.{IsForward};
+ghost use Rattle.std.specs.Ordering.{nat_cmp};
+ghost use Rattle.lgm_store.specs.ChannelInfo.{update_in};
+ghost use Rattle.lgm_store.specs.Rows.{is_second};
+ghost use Rattle.lgm_store.specs.Admission.{update_admission, Offers};
+ghost use Rattle.lgm_store.specs.inner.Decided.{update_op};
+ghost use Rattle.lgm_store.specs.inner.ChannelTable.{id_in, IsNumbered, with_update_at};
+
+use crate::channel_info::ChannelInfo;
+use crate::iter::Channels;
+use crate::lookup_cache::LookupCache;
+use crate::shared::Shared;
+use lgm_check::{Refusal, StoredUpdate};
+use lgm_gossip::{Point, Scid};
+use slab::Slab;
+use std::alloc::{AllocError, Global};
+use std::collections::BTreeMap;
+use std::marker::Model;
+use std::ops::Bound;
+
+/// Channels with their updates, by id. Contracts see each id with its channel, ascending.
+///
+/// Channels are stored in slots, with a B-tree from id to slot number, and a lookup cache in front: so a search of the
+/// tree reads ids and slot numbers alone, and mostly there is no search. The slot of a removed channel is reused.
+#[derive(Drop)]
+pub(crate) struct ChannelTable {
+    numbers: BTreeMap<Scid, usize>,
+    slots: Slab<ChannelInfo>,
+    /// In front of the tree. No contract depends on it.
+    cache: LookupCache,
+}
+
+impl Model for ChannelTable {
+    ghost use Rattle.std.specs.Prelude.{ℕ, List};
+    ghost use Rattle.lgm_store.specs.declared.channel_info.ChannelInfo.{ChannelInfo};
+    ghost use Rattle.lgm_store.specs.inner.ChannelTable.{entries_in, IsNumbered};
+
+    ghost Value = { List (ℕ × ChannelInfo) };
+
+    ghost view = { λ s. entries_in s.slots.slots s.numbers.entries };
+
+    ghost invariant = { λ s. IsNumbered s.slots.slots s.numbers.entries };
+}
+
+impl ChannelTable {
+    /// A table without channels. Allocates nothing.
+    pub(crate) fn new(alloc: Global) -> ChannelTable
+        ensures { result ≡ [] }
+    {
+        ChannelTable {
+            numbers: BTreeMap::new(alloc),
+            slots: Slab::new(alloc),
+            cache: LookupCache::new(alloc),
+        }
+    }
+
+    /// The number of channels.
+    pub(crate) fn len(&self) -> usize
+        ensures { result ≡ length self.now }
+    {
+        self.numbers.len()
+    }
+
+    pub(crate) fn get(&self, scid: Scid) -> Option<&ChannelInfo>
+        ensures { option_copied result ≡ lookup (is_at (nat_cmp scid)) self.now }
+    {
+        let number = number_of(&self.numbers, &self.slots, self.cache.cached(scid), scid)?;
+        Some(&self.slots[number])
+    }
+
+    /// The number that the cache has for a channel, if its slot is that of the channel and this point is its node. No
+    /// contract depends on it.
+    pub(crate) fn locate(&self, scid: Scid, second: bool, node: &Point) -> Option<usize> {
+        let number = self.cache.cached(scid)?;
+        let stored = self.slots.get(number)?;
+        if stored.scid() == scid && stored.node(second) == node {
+            Some(number)
+        } else {
+            None
+        }
+    }
+
+    /// The number that a channel may have: the one that was located, or else the cached one.
+    fn guess(&self, located: Option<usize>, scid: Scid) -> Option<usize> {
+        match located {
+            Some(number) => Some(number),
+            None => self.cache.cached(scid),
+        }
+    }
+
+    /// The channels whose ids are in a range, ascending.
+    pub(crate) fn range(&self, start: Bound<Scid>, end: Bound<Scid>) -> Channels<'_>
+        requires { IsForward (IsLeBy nat_cmp) (IsLtBy nat_cmp) start end }
+        ensures { result ≡ values_of (entries_between nat_cmp start end self.now) }
+    {
+        Channels::new(self.numbers.range((start, end)), &self.slots)
+    }
+
+    /// Adds a channel whose id isn't in the table. Out of memory leaves the table unchanged.
+    pub(crate) fn insert(&mut self, stored: ChannelInfo) -> Result<(), AllocError>
+        requires { lookup (is_at (nat_cmp (id_in stored))) self.old ≡ None }
+        ensures ok { OnOk result (self.new ≡ insert_entry nat_cmp self.old (id_in stored) stored) }
+        ensures err { OnErr result (self.new ≡ self.old) }
+        ensures ascend { OnOk result (IsStrictlySortedBy nat_cmp (keys_of self.new)) }
+    {
+        self.slots.reserve(1)?;
+        let (scid, number) = (stored.scid(), self.slots.vacant_key());
+        self.numbers.insert(scid, number)?;
+        self.slots.insert_reserved(stored);
+        self.cache.reserve(self.numbers.len());
+        self.cache.note(scid, number);
+        Ok(())
+    }
+
+    /// Removes a channel and returns it, if it is in the table.
+    pub(crate) fn remove(&mut self, scid: Scid) -> Option<ChannelInfo>
+        ensures value { result ≡ lookup (is_at (nat_cmp scid)) self.old }
+        ensures left { self.new ≡ remove_entry (is_at (nat_cmp scid)) self.old }
+        ensures ascend { IsStrictlySortedBy nat_cmp (keys_of self.new) }
+    {
+        let number = self.numbers.remove(&scid)?;
+        Some(self.slots.remove(number))
+    }
+
+    /// Replaces the update of a direction, if its channel is in the table.
+    pub(crate) fn put_update(&mut self, row: Shared<StoredUpdate>)
+        ensures { self.new ≡ with_update_at self.old row }
+    {
+        let (scid, second) = (row.get().scid(), row.get().is_second());
+        let Some(number) = number_of(&self.numbers, &self.slots, self.cache.cached(scid), scid)
+        else {
+            return;
+        };
+        self.cache.note(scid, number);
+        let stored = &mut self.slots[number];
+        stored.put_update(second, row);
+    }
+
+    /// Stores an update if it is admitted, sharing its row; its channel is looked for where it was located first. A
+    /// refusal leaves the table unchanged.
+    pub(crate) fn offer_update(
+        &mut self,
+        row: &Shared<StoredUpdate>,
+        signer: &Point,
+        located: Option<usize>,
+    ) -> Result<(), Refusal>
+        ensures admission { let stored = lookup (is_at (nat_cmp row.now.message.short_channel_id)) self.old in
+            Offers (update_op row.now result) (update_admission (option_map (λ h. h.channel) stored)
+            (option_and_then (update_in (is_second row.now)) stored) row.now signer.now) }
+        ensures accepted { OnOk result (self.new ≡ with_update_at self.old row.now) }
+        ensures refused { OnErr result (self.new ≡ self.old) }
+    {
+        let scid = row.get().scid();
+        let guess = self.guess(located, scid);
+        let Some(number) = number_of(&self.numbers, &self.slots, guess, scid) else {
+            return Err(Refusal::UnknownChannel);
+        };
+        self.cache.note(scid, number);
+        let stored = &mut self.slots[number];
+        stored.offer_update(row, signer)
+    }
+}
+
+impl Clone for ChannelTable {
+    ghost is_clone = { λ slots copy. copy ≡ slots };
+
+    fn clone(&self) -> Result<ChannelTable, AllocError> {
+        Ok(ChannelTable {
+            numbers: self.numbers.clone()?,
+            slots: self.slots.clone()?,
+            cache: self.cache.clone()?,
+        })
+    }
+}
+
+/// The slot number of a channel, if it is in the table: the cached one if that slot has the channel, else the tree's.
+fn number_of(
+    numbers: &BTreeMap<Scid, usize>,
+    slots: &Slab<ChannelInfo>,
+    guess: Option<usize>,
+    scid: Scid,
+) -> Option<usize>
+    requires { IsNumbered slots.now.slots numbers.now.entries }
+    ensures { result ≡ lookup (is_at (nat_cmp scid)) numbers.now.entries }
+{
+    if let Some(number) = guess {
+        match slots.get(number) {
+            Some(stored) if stored.scid() == scid => return Some(number),
+            _ => {}
+        }
+    }
+    numbers.get(&scid).copied()
+}

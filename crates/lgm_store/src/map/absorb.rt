@@ -1,0 +1,213 @@
+//! Applying operations to a map.
+
+ghost use Rattle.std.specs.Prelude.{◌≡◌, true, false, OnOk, OnErr, filter, is_some, IfOk, ◌++◌};
+ghost use Rattle.std.specs.BTreeMap.{values, IsOrdered};
+ghost use Rattle.lgm_store.specs.Rows.{channel_of, ends_channel, ends_banned};
+ghost use Rattle.lgm_store.specs.Keys.{IsKeyed, point_cmp, point_of};
+ghost use Rattle.lgm_store.specs.inner.ChannelsByNode.{stays_beside};
+ghost use Rattle.lgm_store.specs.History.{with_channel, with_update, with_node, without_channel, absorbed, fold};
+ghost use Rattle.lgm_store.specs.History.{with_ban};
+ghost use Rattle.lgm_store.specs.Reading.{ids_at};
+
+use super::Map;
+use crate::banned::Banned;
+use crate::channel_info::ChannelInfo;
+use crate::channels_by_node::ChannelsByNode;
+use crate::op::Op;
+use crate::shared::Shared;
+use lgm_check::{BanRow, StoredChannel, StoredNode, StoredUpdate};
+use lgm_gossip::{Point, Scid};
+use std::alloc::{AllocError, Global};
+use std::collections::BTreeMap;
+use std::mem;
+
+impl Map {
+    /// Applies an operation, sharing its row.
+    ///
+    /// A channel is added unless it is in the map or one of its nodes is banned. An update is stored if its channel is
+    /// in the map, and a node announcement if its node has a channel, each in place of the one before. A close removes
+    /// a channel with its updates, and then the announcement of each node that has no channel left; it does nothing if
+    /// the channel isn't in the map. A ban bans its four points, and removes all their channels as closes would; it
+    /// takes logarithmic time for each of these channels. Out of memory leaves the map unchanged.
+    pub fn absorb(&mut self, op: &Op) -> Result<(), AllocError>
+        ensures ok { OnOk result (self.new ≡ absorbed self.old op.now) }
+        ensures err { OnErr result (self.new ≡ self.old) }
+    {
+        match op {
+            Op::Channel(row) => self.add_channel(row.share()?),
+            Op::Update(row) => {
+                self.put_update(row.share()?);
+                Ok(())
+            }
+            Op::Node(row) => self.put_node(row.share()?),
+            Op::Close(id) => {
+                self.close(*id);
+                Ok(())
+            }
+            Op::Ban(ban) => self.ban(ban.get()),
+        }
+    }
+
+    fn add_channel(&mut self, row: Shared<StoredChannel>) -> Result<(), AllocError>
+        ensures ok { OnOk result (self.new ≡ with_channel self.old row) }
+        ensures err { OnErr result (self.new ≡ self.old) }
+    {
+        let channel = row.get();
+        if self
+            .banned
+            .contains_either(&channel.node(false), &channel.node(true))
+        {
+            return Ok(());
+        }
+        if self.channel_info(channel.scid()).is_some() {
+            return Ok(());
+        }
+        self.insert_channel(row)
+    }
+
+    /// Adds a channel that isn't in the map and has no banned node.
+    pub(crate) fn insert_channel(&mut self, row: Shared<StoredChannel>) -> Result<(), AllocError>
+        requires new { is_some (channel_of self.old.channels row.message.short_channel_id) ≡ false }
+        requires allowed { ends_banned self.old.banned row ≡ false }
+        ensures ok { OnOk result (self.new ≡ with_channel self.old row) }
+        ensures err { OnErr result (self.new ≡ self.old) }
+    {
+        row.get().bytes_encode_row();
+        let stored = ChannelInfo::new(row);
+        let (scid, first, second) = (stored.scid(), *stored.node(false), *stored.node(true));
+        self.ends.add(first, second, scid)?;
+        match self.channels.insert(stored) {
+            Ok(()) => Ok(()),
+            Err(refused) => {
+                self.ends.remove(&first, &second, scid);
+                Err(refused)
+            }
+        }
+    }
+
+    fn put_update(&mut self, row: Shared<StoredUpdate>)
+        ensures { self.new ≡ with_update self.old row }
+    {
+        row.get().bytes_encode_row();
+        self.channels.put_update(row);
+    }
+
+    pub(crate) fn put_node(&mut self, row: Shared<StoredNode>) -> Result<(), AllocError>
+        ensures ok { OnOk result (self.new ≡ with_node self.old row) }
+        ensures err { OnErr result (self.new ≡ self.old) }
+    {
+        let node = row.get().node();
+        if !self.ends_channel(&node) {
+            return Ok(());
+        }
+        self.insert_node(node, row)
+    }
+
+    /// Stores the announcement of a node that has a channel.
+    pub(crate) fn insert_node(
+        &mut self,
+        node: Point,
+        row: Shared<StoredNode>,
+    ) -> Result<(), AllocError>
+        requires own { node ≡ row.message.node_id }
+        requires ended { ends_channel self.old.channels row.message.node_id ≡ true }
+        ensures ok { OnOk result (self.new ≡ with_node self.old row) }
+        ensures err { OnErr result (self.new ≡ self.old) }
+    {
+        row.get().bytes_encode_row();
+        self.nodes.insert(node, row)?;
+        Ok(())
+    }
+
+    pub(crate) fn close(&mut self, scid: Scid)
+        ensures { self.new ≡ without_channel self.old scid }
+    {
+        let Some(stored) = self.channels.remove(scid) else {
+            return;
+        };
+        let (first, second) = (*stored.node(false), *stored.node(true));
+        self.ends.remove(&first, &second, scid);
+        drop_unless_ended(&mut self.nodes, &self.ends, &first);
+        drop_unless_ended(&mut self.nodes, &self.ends, &second);
+    }
+}
+
+/// Removes the announcement of a node that has no channel left.
+fn drop_unless_ended(
+    nodes: &mut BTreeMap<Point, Shared<StoredNode>>,
+    ends: &ChannelsByNode,
+    node: &Point,
+)
+    requires keyed { IsKeyed point_of nodes.old.entries }
+    requires ascend { IsOrdered point_cmp nodes.old }
+    ensures keyed { IsKeyed point_of nodes.new.entries }
+    ensures ascend { IsOrdered point_cmp nodes.new }
+    ensures left { values nodes.new ≡ filter (stays_beside ends.now node.now) (values nodes.old) }
+{
+    if !ends.contains(node) {
+        nodes.remove(node);
+    }
+}
+
+impl Map {
+    /// A copy with the same rows, which are shared. The only error is out of memory.
+    pub fn copy(&self, alloc: Global) -> Result<Map, AllocError>
+        ensures { IfOk result (λ copy. copy ≡ self.now) }
+    {
+        Ok(Map {
+            alloc,
+            channels: self.channels.clone()?,
+            nodes: self.nodes.clone()?,
+            ends: self.ends.copy()?,
+            banned: self.banned.copy()?,
+        })
+    }
+}
+
+impl Map {
+    /// The map that a history leaves: its operations, applied one by one to an empty map. The only error is out of
+    /// memory.
+    ///
+    /// If points come from strangers, create the map by [`Map::with_seed`] and let it absorb the operations.
+    pub fn replay(alloc: Global, history: &[Op]) -> Result<Map, AllocError>
+        ensures { IfOk result (λ map. map ≡ fold history.now) }
+    {
+        let mut map = Map::new(alloc)?;
+        for op in history {
+            map.absorb(op)?;
+        }
+        Ok(map)
+    }
+}
+
+impl Map {
+    /// Bans the nodes of two channels. Out of memory leaves the map unchanged.
+    pub(crate) fn ban(&mut self, ban: &BanRow) -> Result<(), AllocError>
+        ensures ok { OnOk result (self.new ≡ with_ban self.old ban.now) }
+        ensures err { OnErr result (self.new ≡ self.old) }
+    {
+        let scids = self.ids_of(ban)?;
+        self.banned.ban(ban)?;
+        // By the invariant no channel of a map has a banned node, so the set is empty while such channels are removed.
+        let banned = mem::replace(&mut self.banned, Banned::new(self.alloc));
+        for scid in &scids {
+            self.close(*scid);
+        }
+        self.banned = banned;
+        Ok(())
+    }
+
+    /// The ids of the channels of the four points, point by point; an id may occur several times.
+    fn ids_of(&self, ban: &BanRow) -> Result<Vec<Scid>, AllocError>
+        ensures { IfOk result (λ scids. scids.items
+            ≡ ((ids_at self.now.channels ban.now.held1 ++ ids_at self.now.channels ban.now.held2)
+            ++ ids_at self.now.channels ban.now.new1) ++ ids_at self.now.channels ban.now.new2) }
+    {
+        let mut scids = Vec::new(self.alloc);
+        self.ends.gather(&ban.held1, &mut scids)?;
+        self.ends.gather(&ban.held2, &mut scids)?;
+        self.ends.gather(&ban.new1, &mut scids)?;
+        self.ends.gather(&ban.new2, &mut scids)?;
+        Ok(scids)
+    }
+}

@@ -1,0 +1,185 @@
+//! Whether an item is admitted.
+
+ghost use Rattle.std.specs.Prelude.{◌≡◌};
+ghost use Rattle.lgm_store.specs.Rows.{channel_of, update_of, node_of, ends_channel, is_banned, is_second};
+ghost use Rattle.lgm_store.specs.Admission.{channel_admission, update_admission, node_admission};
+ghost use Rattle.lgm_store.specs.Admission.{admitted, admitted_close, Offers};
+ghost use Rattle.lgm_store.specs.inner.Decided.{channel_op, update_op, node_op};
+ghost use Rattle.lgm_store.specs.inner.Decided.{channel_verdict, node_verdict};
+ghost use Rattle.lgm_store.specs.Spelled.{IsSpelled};
+
+use super::Map;
+use crate::checked_message::{CheckedMessage, Kind};
+use crate::op::Op;
+use crate::shared::Shared;
+use lgm_check::{
+    BanRow, ChannelRow, Checked, NodeRow, Refusal, StoredChannel, StoredNode, StoredUpdate,
+    UpdateRow,
+};
+use lgm_gossip::{Point, Scid};
+use std::alloc::Global;
+
+impl Map {
+    /// The operation of a message that is admitted, or why it isn't, by the first reason of these.
+    ///
+    /// A `channel_announcement`: 16 `banned` if one of its nodes is, 12 `known` if the channel is in the map with the
+    /// same nodes. If it is there with other nodes, the operation is a ban of the nodes of both. A `node_announcement`:
+    /// 16 `banned` if the node is, 14 `unknown-node` if the node has no channel in the map, 15 `not-newer` if its
+    /// timestamp isn't above the stored one. A `channel_update`: 11 `unknown-channel`, 10 `signature` if it wasn't
+    /// signed by the node of its direction, 15 `not-newer` as above (BOLT 7).
+    ///
+    /// The bytes of the message's row have to encode it, as those of a row from [`precheck`](lgm_check::precheck) do:
+    /// the operation stores the bytes alone. Memory is allocated only for the operation: a refusal is returned even if
+    /// memory is short.
+    pub fn admit(&self, alloc: Global, checked: &Checked) -> Result<Op, Refusal>
+        requires { IsSpelled checked.now }
+        ensures { Offers result (admitted self.now checked.now) }
+    {
+        match checked {
+            Checked::Channel(row) => match self.admit_channel(row)? {
+                Some(ban) => Ok(Op::Ban(Shared::new(alloc, ban)?)),
+                None => Ok(Op::Channel(Shared::new(alloc, StoredChannel::of(alloc, row)?)?)),
+            },
+            Checked::Update(row, signer) => {
+                self.admit_update(row, signer)?;
+                Ok(Op::Update(Shared::new(alloc, StoredUpdate::of(alloc, row)?)?))
+            }
+            Checked::Node(row) => {
+                self.admit_node(row)?;
+                Ok(Op::Node(Shared::new(alloc, StoredNode::of(alloc, row)?)?))
+            }
+        }
+    }
+
+    /// The operation of a checked message, as [`Map::admit`] returns it. Memory is allocated only for a ban.
+    pub fn admit_checked(&self, alloc: Global, message: CheckedMessage) -> Result<Op, Refusal>
+        ensures { Offers result (admitted self.now message) }
+    {
+        let CheckedMessage { kind, .. } = message;
+        match kind {
+            Kind::Channel(row) => match self.admit_stored_channel(row.get())? {
+                Some(ban) => Ok(Op::Ban(Shared::new(alloc, ban)?)),
+                None => Ok(Op::Channel(row)),
+            },
+            Kind::Update(row, signer) => {
+                self.admit_stored_update(row.get(), &signer)?;
+                Ok(Op::Update(row))
+            }
+            Kind::Node(row) => {
+                self.admit_stored_node(row.get())?;
+                Ok(Op::Node(row))
+            }
+        }
+    }
+
+    /// The operation that closes a channel, or 11 `unknown-channel` if it isn't in the map. Allocates nothing.
+    pub fn admit_close(&self, scid: Scid) -> Result<Op, Refusal>
+        ensures { result ≡ admitted_close self.now scid }
+    {
+        match self.channel_info(scid) {
+            None => Err(Refusal::UnknownChannel),
+            Some(_) => Ok(Op::Close(scid)),
+        }
+    }
+
+    /// The ban that a channel announcement calls for; none if it adds the channel.
+    fn admit_channel(&self, row: &ChannelRow) -> Result<Option<BanRow>, Refusal>
+        ensures { channel_op row.now result ≡ channel_admission self.now.banned
+            (channel_of self.now.channels row.now.message.short_channel_id) row.now }
+    {
+        self.check_channel(row.scid(), &row.node(false), &row.node(true))
+    }
+
+    /// The same for a message that is stored already.
+    pub(crate) fn admit_stored_channel(
+        &self,
+        row: &StoredChannel,
+    ) -> Result<Option<BanRow>, Refusal>
+        ensures { channel_op row.now result ≡ channel_admission self.now.banned
+            (channel_of self.now.channels row.now.message.short_channel_id) row.now }
+    {
+        self.check_channel(row.scid(), &row.node(false), &row.node(true))
+    }
+
+    fn check_channel(
+        &self,
+        scid: Scid,
+        first: &Point,
+        second: &Point,
+    ) -> Result<Option<BanRow>, Refusal>
+        ensures { result
+            ≡ channel_verdict self.now.banned (channel_of self.now.channels scid) first.now second.now }
+    {
+        if self.banned.contains_either(first, second) {
+            return Err(Refusal::Banned);
+        }
+        match self.channel_info(scid) {
+            None => Ok(None),
+            Some(stored) if stored.node(false) == first && stored.node(true) == second => {
+                Err(Refusal::Known)
+            }
+            Some(stored) => Ok(Some(BanRow {
+                held1: *stored.node(false),
+                held2: *stored.node(true),
+                new1: *first,
+                new2: *second,
+            })),
+        }
+    }
+
+    fn admit_update(&self, row: &UpdateRow, signer: &Point) -> Result<(), Refusal>
+        ensures { let id = row.now.message.short_channel_id in
+            update_op row.now result ≡ update_admission (channel_of self.now.channels id)
+            (update_of self.now.updates id (is_second row.now)) row.now signer.now }
+    {
+        match self.channel_info(row.scid()) {
+            Some(stored) => stored.admit_update(row, signer),
+            None => Err(Refusal::UnknownChannel),
+        }
+    }
+
+    /// The same for a message that is stored already.
+    fn admit_stored_update(&self, row: &StoredUpdate, signer: &Point) -> Result<(), Refusal>
+        ensures { let id = row.now.message.short_channel_id in
+            update_op row.now result ≡ update_admission (channel_of self.now.channels id)
+            (update_of self.now.updates id (is_second row.now)) row.now signer.now }
+    {
+        match self.channel_info(row.scid()) {
+            Some(stored) => stored.admit_stored_update(row, signer),
+            None => Err(Refusal::UnknownChannel),
+        }
+    }
+
+    fn admit_node(&self, row: &NodeRow) -> Result<(), Refusal>
+        ensures { let node = row.now.message.node_id in
+            node_op row.now result ≡ node_admission (is_banned self.now.banned node)
+            (ends_channel self.now.channels node) (node_of self.now.nodes node) row.now }
+    {
+        self.check_node(&row.node(), row.message.timestamp)
+    }
+
+    /// The same for a message that is stored already.
+    pub(crate) fn admit_stored_node(&self, row: &StoredNode) -> Result<(), Refusal>
+        ensures { let node = row.now.message.node_id in
+            node_op row.now result ≡ node_admission (is_banned self.now.banned node)
+            (ends_channel self.now.channels node) (node_of self.now.nodes node) row.now }
+    {
+        self.check_node(&row.node(), row.timestamp())
+    }
+
+    fn check_node(&self, node: &Point, time: u32) -> Result<(), Refusal>
+        ensures { result ≡ node_verdict (is_banned self.now.banned node.now)
+            (ends_channel self.now.channels node.now) (node_of self.now.nodes node.now) time }
+    {
+        if self.banned(node) {
+            return Err(Refusal::Banned);
+        }
+        if !self.ends_channel(node) {
+            return Err(Refusal::UnknownNode);
+        }
+        match self.stored_node(node) {
+            Some(stored) if time <= stored.timestamp() => Err(Refusal::NotNewer),
+            _ => Ok(()),
+        }
+    }
+}

@@ -1,0 +1,107 @@
+//! Items that are admitted and applied at once.
+
+ghost use Rattle.std.specs.Prelude.{◌≡◌, IfOk, OnErr};
+ghost use Rattle.lgm_store.specs.Rows.{channel_of, update_of, node_of, ends_channel, is_banned, is_second};
+ghost use Rattle.lgm_store.specs.Admission.{channel_admission, update_admission};
+ghost use Rattle.lgm_store.specs.Admission.{node_admission, admitted, admitted_close, Offers};
+ghost use Rattle.lgm_store.specs.History.{absorbed};
+
+use super::Map;
+use crate::checked_message::{CheckedMessage, Kind};
+use crate::op::Op;
+use crate::shared::Shared;
+use lgm_check::{Refusal, StoredChannel, StoredNode, StoredUpdate};
+use lgm_gossip::{Point, Scid};
+use std::alloc::Global;
+
+impl Map {
+    /// Admits a checked message and applies its operation, which is returned. Memory is allocated only for the map's
+    /// index, and for a ban: the row itself is stored already.
+    ///
+    /// A refusal or out of memory leaves the map unchanged. A refused message is refused even if memory is short.
+    pub fn offer_checked(&mut self, alloc: Global, message: CheckedMessage) -> Result<Op, Refusal>
+        ensures admission { Offers result (admitted self.old message) }
+        ensures accepted { IfOk result (λ op. self.new ≡ absorbed self.old op) }
+        ensures refused { OnErr result (self.new ≡ self.old) }
+    {
+        let located = message.slot();
+        let CheckedMessage { kind, .. } = message;
+        match kind {
+            Kind::Channel(row) => self.offer_channel(alloc, row),
+            Kind::Update(row, signer) => self.offer_update(row, &signer, located),
+            Kind::Node(row) => self.offer_node(row),
+        }
+    }
+
+    /// Looks up where an update's channel is stored, and notes it in the message, which is then offered faster. No answer
+    /// depends on it. Updates that are located one after the other, before the first of them is offered, wait for the
+    /// memory together.
+    pub fn locate(&self, message: &CheckedMessage) {
+        let Kind::Update(row, signer) = &message.kind else {
+            return;
+        };
+        let (scid, second) = (row.get().scid(), row.get().is_second());
+        if let Some(slot) = self.channels.locate(scid, second, signer) {
+            message.note_slot(slot);
+        }
+    }
+
+    /// Closes a channel, and returns the operation. It allocates nothing.
+    ///
+    /// The only refusal is 11 `unknown-channel`, which leaves the map unchanged.
+    pub fn offer_close(&mut self, scid: Scid) -> Result<Op, Refusal>
+        ensures admission { result ≡ admitted_close self.old scid }
+        ensures accepted { IfOk result (λ op. self.new ≡ absorbed self.old op) }
+        ensures refused { OnErr result (self.new ≡ self.old) }
+    {
+        let close = self.admit_close(scid)?;
+        self.close(scid);
+        Ok(close)
+    }
+
+    fn offer_channel(&mut self, alloc: Global, row: Shared<StoredChannel>) -> Result<Op, Refusal>
+        ensures admission { Offers result (channel_admission self.old.banned
+            (channel_of self.old.channels row.message.short_channel_id) row) }
+        ensures accepted { IfOk result (λ op. self.new ≡ absorbed self.old op) }
+        ensures refused { OnErr result (self.new ≡ self.old) }
+    {
+        if let Some(ban) = self.admit_stored_channel(row.get())? {
+            let ban = Shared::new(alloc, ban)?;
+            self.ban(ban.get())?;
+            return Ok(Op::Ban(ban));
+        }
+        self.insert_channel(row.share()?)?;
+        Ok(Op::Channel(row))
+    }
+
+    fn offer_update(
+        &mut self,
+        row: Shared<StoredUpdate>,
+        signer: &Point,
+        located: Option<usize>,
+    ) -> Result<Op, Refusal>
+        ensures admission { let id = row.message.short_channel_id in
+            Offers result (update_admission (channel_of self.old.channels id)
+            (update_of self.old.updates id (is_second row)) row signer.now) }
+        ensures accepted { IfOk result (λ op. self.new ≡ absorbed self.old op) }
+        ensures refused { OnErr result (self.new ≡ self.old) }
+    {
+        row.get().bytes_encode_row();
+        match self.channels.offer_update(&row, signer, located) {
+            Ok(()) => Ok(Op::Update(row)),
+            Err(refusal) => Err(refusal),
+        }
+    }
+
+    fn offer_node(&mut self, row: Shared<StoredNode>) -> Result<Op, Refusal>
+        ensures admission { let node = row.message.node_id in
+            Offers result (node_admission (is_banned self.old.banned node)
+            (ends_channel self.old.channels node) (node_of self.old.nodes node) row) }
+        ensures accepted { IfOk result (λ op. self.new ≡ absorbed self.old op) }
+        ensures refused { OnErr result (self.new ≡ self.old) }
+    {
+        self.admit_stored_node(row.get())?;
+        self.insert_node(row.get().node(), row.share()?)?;
+        Ok(Op::Node(row))
+    }
+}

@@ -1,0 +1,19 @@
+//! Gossip for tests: messages made from their main fields, with zero signatures.
+//!
+//! [`Channel`], [`Update`] and [`Node`] have the fields that tests set. `new` takes those without a usual value;
+//! `message` gives the message as a type, and `bytes` its encoding.
+#![tactic(auto)]
+
+mod channel;
+mod node;
+mod points;
+mod terms;
+mod update;
+mod writing;
+
+pub use channel::Channel;
+pub use node::Node;
+pub use points::{point, repeated_point};
+pub use terms::{FREE, Terms};
+pub use update::Update;
+pub use writing::{CHAIN, OTHER_CHAIN, written};
