@@ -60,7 +60,7 @@ impl View {
     }
 
     /// The node index of a point, if it has one; each node of a channel in the map has. Allocates nothing.
-    pub fn node_index(&self, point: &Point) -> Option<u32>
+    pub fn node_number(&self, point: &Point) -> Option<u32>
         ensures { result ≡ position (is_point point.now) self.now.points }
     {
         let number = self.nodes.points.get_index_of(point)?;

@@ -72,10 +72,10 @@ fn numbering_of(view: &View, request: &Request) -> Option<NumberedRequest>
 {
     // The contract of `nodes` says that the nodes of edges are numbered.
     let _nodes = view.nodes();
-    let Some(payer) = view.node_index(&request.payer) else {
+    let Some(payer) = view.node_number(&request.payer) else {
         return None;
     };
-    let Some(payee) = view.node_index(&request.payee) else {
+    let Some(payee) = view.node_number(&request.payee) else {
         return None;
     };
     Some(NumberedRequest {

@@ -100,7 +100,7 @@ fn an_edge_joins_its_points(rt: HostRuntime) -> Result<(), Fail> {
     let view = network.view().ok_or("no view")?;
     assert!(rt; ends_of(view, 0) == Some((point(3), point(2), true)));
     assert!(rt; ends_of(view, 1).is_none());
-    assert_eq!(rt; view.node_index(&point(3)), Some(1));
+    assert_eq!(rt; view.node_number(&point(3)), Some(1));
     assert!(rt; view.point(1) == Some(&point(3)));
     assert_eq!(rt; view.edges_into(0).len(), 1);
     assert_eq!(rt; view.edges_leaving(1).len(), 1);
