@@ -26,11 +26,17 @@ from pathlib import Path
 
 TOP = Path(__file__).resolve().parent
 PROGRAM = "lgm"
-TIMES = {PROGRAM: "20 to 45 minutes", "lgm_c": "25 to 50 minutes"}
+TIMES = {PROGRAM: "20 to 25 minutes", "lgm_c": "20 to 25 minutes"}
 SOURCES = ("src", "specs", "proofs")
 MOST_AT_ONCE = 4
 MEMORY_OF_ONE = 6 << 30  # bytes, for a check that shares its work among several processors
 MEMORY_OF_JOB = 2 << 30  # bytes, for what one processor does of it
+# What proofs of libraries took on four processors, of two at a time. Only the order and who gives way depend on it.
+SECONDS = {"lgm_hex": 20, "lgm_wire": 31, "lgm_par": 27, "lgm_gossip": 98, "lgm_check": 58, "lgm_script": 146, "lgm_store": 111,
+           "lgm_query": 127, "lgm_graph": 120, "lgm_route": 137, "lgm_payload": 58, "lgm_answers": 57, "lgm_publish": 98,
+           "lgm_run": 272, "lgm_live": 193, "lgm_start": 110}
+NEARLY = 0.9  # of the longest chain of libraries that wait for each other
+BYTES_A_SECOND = 1_500
 NO_CHAIN = "00" * 32
 ANY_CPU = "default"  # what rt builds for unless it is told otherwise
 NEWER_CPU = "x86-64-v3"
@@ -117,10 +123,11 @@ def say(text):
     print(f"lgm: {text}", file=sys.stderr, flush=True)
 
 
-def rt(crate, folder, jobs, command, *words):
-    """Runs a command of `rt` in a crate's folder."""
-    done = subprocess.run(["rt", command, "--jobs", str(jobs), *words], cwd=folder, stdin=subprocess.DEVNULL, stdout=subprocess.PIPE,
-                          stderr=subprocess.STDOUT, check=False)
+def rt(crate, folder, jobs, command, *words, gives_way=False):
+    """Runs a command of `rt` in a crate's folder, which may give way to others."""
+    front = ("nice", "-n", "19") if gives_way and shutil.which("nice") else ()
+    done = subprocess.run([*front, "rt", command, "--jobs", str(jobs), *words], cwd=folder, stdin=subprocess.DEVNULL,
+                          stdout=subprocess.PIPE, stderr=subprocess.STDOUT, check=False)
     if done.returncode:
         raise Failed(crate, done.stdout.decode(errors="replace"))
 
@@ -130,12 +137,12 @@ def words_for(cpu):
     return () if cpu == ANY_CPU else ("--cpu", cpu)
 
 
-def prove(crate, jobs, cpu=ANY_CPU):
+def prove(crate, jobs):
     """Proves and builds a library in its folder."""
-    rt(crate, TOP / "crates" / crate, jobs, "lib", *words_for(cpu))
+    rt(crate, TOP / "crates" / crate, jobs, "lib")
 
 
-def prove_apart(used, crate, jobs):
+def prove_apart(used, crate, jobs, gives_way):
     """Proves and builds a library in a copy of it and of those below, and brings back what that leaves."""
     own = TOP / "crates" / crate
     with tempfile.TemporaryDirectory(prefix="lgm-") as name:
@@ -155,19 +162,39 @@ def prove_apart(used, crate, jobs):
         if (own / "out").is_dir():
             shutil.move(own / "out", out)
         try:
-            rt(crate, out.parent, jobs, "lib")
+            rt(crate, out.parent, jobs, "lib", gives_way=gives_way)
         finally:
             if out.is_dir():
                 shutil.move(out, own / "out")
 
 
-def prove_all(used, crates, at_once, jobs):
-    """Proves and builds libraries, each behind those below it, and first those with most work above them."""
-    size = {it: sum(file.stat().st_size for file in files_of(it)) for it in crates}
-    work = {it: 0 for it in crates}
+def seconds_for(crate):
+    """How long a library's proof is likely to take: what it once took, or else by the size of its files."""
+    return SECONDS.get(crate) or sum(file.stat().st_size for file in files_of(crate)) / BYTES_A_SECOND
+
+
+def seconds_behind(used, crates):
+    """How long a library and those that wait for it are likely to take, one behind the other."""
+    behind = {it: 0 for it in crates}
     for it in reversed(crates):
-        work[it] = size[it] + max((work[above] for above in crates if it in used[above]), default=0)
-    left, done, running, started = sorted(crates, key=lambda it: -work[it]), set(), {}, {}
+        behind[it] = seconds_for(it) + max((behind[above] for above in crates if it in used[above]), default=0)
+    return behind
+
+
+def urgent(used, crates, behind):
+    """The libraries that are part of a chain nearly as long as the longest one: the others give way to them."""
+    before = {}
+    for it in crates:
+        before[it] = max((before[lower] + seconds_for(lower) for lower in used[it] if lower in before), default=0)
+    most = max(behind.values(), default=0)
+    return {it for it in crates if before[it] + behind[it] > NEARLY * most}
+
+
+def prove_all(used, crates, at_once, jobs):
+    """Proves and builds libraries, each behind those below it, and first those for which others wait the longest."""
+    behind = seconds_behind(used, crates)
+    first = urgent(used, crates, behind)
+    left, done, running, started = sorted(crates, key=lambda it: -behind[it]), set(), {}, {}
     with ThreadPoolExecutor(at_once) as pool:
         while left or running:
             ready = [it for it in left if all(lower in done for lower in used[it] if lower in crates)]
@@ -175,7 +202,7 @@ def prove_all(used, crates, at_once, jobs):
                 left.remove(it)
                 started[it] = time.monotonic()
                 say(f"{it} ..")
-                call = (prove_apart, used, it, jobs) if at_once > 1 else (prove, it, jobs)
+                call = (prove_apart, used, it, jobs, it not in first) if at_once > 1 else (prove, it, jobs)
                 running[pool.submit(*call)] = it
             for ended in wait(running, return_when=FIRST_COMPLETED).done:
                 it = running.pop(ended)
@@ -192,7 +219,7 @@ def build_library(crate, count, jobs, cpu):
     """Proves and builds a library that others link with."""
     clock = time.monotonic()
     say(f"{crate}, for {cpu} processors .." if cpu != ANY_CPU else f"{crate} ..")
-    prove(crate, jobs, cpu)
+    rt(crate, TOP / "crates" / crate, jobs, "lib", *words_for(cpu))
     say(f"{crate}: {time.monotonic() - clock:.0f} s, {count} of {count}")
 
 

@@ -18,7 +18,6 @@ from measure import PROGRAM
 from workloads import LIVE_ROUTES_A_ROUND, ROUNDS, ROUTES
 
 SCRIPTS = ("sync", "routes", "updates", "live")
-TIMES = 10  # each payment is asked for so often, so that payments outweigh the network
 
 
 def words():
@@ -36,13 +35,6 @@ def words():
     return options
 
 
-def make_script(options, script, workload):
-    """The workload's script, with each payment requested this often."""
-    running.make_script(script, options.channels, workload, options.seed)
-    lines = script.read_bytes().splitlines(keepends=True)
-    script.write_bytes(b"".join(line * TIMES if line.startswith(b"route ") else line for line in lines))
-
-
 def seconds(options, script, workers):
     """The minimum wall-clock time of `lgm live`, whose answers are checked first."""
     program = running.command(options.program.resolve(), "live", workers)
@@ -53,8 +45,8 @@ def seconds(options, script, workers):
 def measure(options, scripts, workers):
     """Payments a second on a map that doesn't change and beside the writer; seconds of a publication."""
     taken = {name: seconds(options, script, workers) for name, script in scripts.items()}
-    still = TIMES * ROUTES / (taken["routes"] - taken["sync"])
-    beside = TIMES * ROUNDS * LIVE_ROUTES_A_ROUND / (taken["live"] - taken["sync"])
+    still = running.TIMES * ROUTES / (taken["routes"] - taken["sync"])
+    beside = running.TIMES * ROUNDS * LIVE_ROUTES_A_ROUND / (taken["live"] - taken["sync"])
     return still, beside, (taken["updates"] - taken["sync"]) / ROUNDS
 
 
@@ -65,7 +57,8 @@ def main():
     with tempfile.TemporaryDirectory(prefix="lgm-bench-") as folder:
         scripts = {name: Path(folder, name) for name in SCRIPTS}
         for name, script in scripts.items():
-            make_script(options, script, name)
+            running.make_script(script, options.channels, name, options.seed)
+            running.repeat_payments(script)
         for workers in options.workers:
             still, beside, publication = measure(options, scripts, workers)
             print(f"{workers:<9}{still:>11.0f}{beside:>11.0f}{publication * 1000:>12.1f}", flush=True)

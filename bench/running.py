@@ -14,6 +14,7 @@ HERE = Path(__file__).resolve().parent
 PEAK_UNIT = 1 if sys.platform == "darwin" else 1024  # bytes; the unit of ru_maxrss
 ANSWERS = (b"accepted", b"commit", b"filter", b"to", b"at", b"route", b"hop", b"no-route")
 FIRST_BYTE = b"01"  # of each message of a reply
+TIMES = 10  # that each payment is requested where readers are measured, so that payments outweigh the network
 
 os.environ.setdefault("GLIBC_TUNABLES", "glibc.malloc.hugetlb=1")  # large pages, as ./lgm has it
 
@@ -36,6 +37,12 @@ def make_script(file, channels, workload, seed):
         subprocess.run(
             [sys.executable, HERE / "make_script.py", "--channels", str(channels),
              "--workload", workload, "--seed", str(seed)], stdout=script, check=True)
+
+
+def repeat_payments(script):
+    """Requests each payment of a script `TIMES` times, one behind the other."""
+    lines = script.read_bytes().splitlines(keepends=True)
+    script.write_bytes(b"".join(line * TIMES if line.startswith(b"route ") else line for line in lines))
 
 
 def command(program, workload, workers):

@@ -5,8 +5,8 @@
 
 For each number of reader threads: how many routes a second they find, each in a snapshot of its own, of a map that
 doesn't change, and beside a writer that publishes 1,000 updates at a time, with a pause of 50 ms after each; and the
-time of such a publication, median and maximum: the first one is a copy. The library is built by examples/build-c if it
-isn't there.
+time of such a publication, median and maximum: the first one is a copy. The payments are those of bench/readers.py, each
+requested as often, so the two compare. The library is built by examples/build-c if it isn't there.
 """
 
 import argparse
@@ -25,8 +25,6 @@ TOP = running.HERE.parent
 EXAMPLES = TOP / "examples"
 BATCH = 1_000
 PAUSE = 50  # milliseconds, after each publication
-PAYMENTS = 50  # a reader ends behind the last of them
-TIMES = 40  # that each of them is asked for on a map that stands still
 
 
 def words():
@@ -42,16 +40,12 @@ def words():
 
 
 def make_scripts(options, folder):
-    """The network with payments, and the same with updates after its commit."""
-    live = folder / "live"
-    running.make_script(live, options.channels, "live", options.seed)
-    lines = live.read_bytes().splitlines(keepends=True)
-    payments = [line for line in lines if line.startswith(b"route ")][:PAYMENTS]
-    items = [line for line in lines if not line.startswith(b"route ")]
-    still = folder / "still"
-    still.write_bytes(b"".join([*items[:items.index(b"commit\n")], *payments]))
-    live.write_bytes(b"".join([*items, *payments]))
-    return still, live
+    """The network with payments, and the network with updates after its commit and payments."""
+    scripts = folder / "routes", folder / "live"
+    for script in scripts:
+        running.make_script(script, options.channels, script.name, options.seed)
+        running.repeat_payments(script)
+    return scripts
 
 
 def measure(options, program, script, readers, times):
@@ -79,7 +73,7 @@ def main():
                         EXAMPLES / "c" / "serve.c", options.library / "liblgm.a", "-o", program], check=True)
         still, live = make_scripts(options, folder)
         for readers in options.readers:
-            alone, _, _ = measure(options, program, still, readers, TIMES)
+            alone, _, _ = measure(options, program, still, readers, 1)
             beside, each, most = measure(options, program, live, readers, 0)
             print(f"{readers:<9}{alone:>11}{beside:>11}{each:>12}{most:>10}", flush=True)
 

@@ -1,10 +1,8 @@
 //! The program `lgm`: a Lightning gossip map and route server that answers a script.
 #![tactic(auto)]
 
-use lgm_par::Open;
 use lgm_script::{FromRead, ToWrite};
-use lgm_start::{read_words, refuse, start_keeping};
-use std::mem::forget;
+use lgm_start::{read_words, refuse, start};
 use std::process::ExitCode;
 
 fn main(rt: HostRuntime) -> ExitCode {
@@ -13,16 +11,13 @@ fn main(rt: HostRuntime) -> ExitCode {
         Ok(words) => words,
         Err(bad) => return ExitCode::from(refuse(rt.alloc(), &mut errors, &bad)),
     };
-    let (status, remains) = start_keeping(
+    let status = start(
         &rt,
         rt.alloc(),
         words.as_slice(),
-        &Open,
         &mut FromRead::new(rt.stdin()),
         &mut ToWrite::new(rt.stdout()),
         &mut errors,
     );
-    // The process ends: the system reclaims the memory.
-    forget(remains);
     ExitCode::from(status)
 }

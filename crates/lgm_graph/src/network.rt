@@ -11,7 +11,7 @@ use crate::known::Known;
 use crate::view::{MAX_CHANNELS, View};
 use lgm_check::Refusal;
 use lgm_gossip::Scid;
-use lgm_store::{CheckedMessage, Map, Op, Seed};
+use lgm_store::{CheckedMessage, Hint, Map, Op, Seed};
 use std::alloc::{AllocError, Global};
 use std::marker::Model;
 
@@ -135,9 +135,14 @@ impl Network {
         Ok(())
     }
 
-    /// Notes where an update's channel is stored, as [`Map::locate`] does.
-    pub fn locate(&self, message: &CheckedMessage) {
-        self.map.locate(message);
+    /// Where an update's channel may be stored, as [`Map::locate`] has it.
+    pub fn locate(&self, message: &CheckedMessage) -> Hint {
+        self.map.locate(message)
+    }
+
+    /// Reads what is stored there, as [`Map::prefetch`] does.
+    pub fn prefetch(&self, message: &CheckedMessage, hint: Hint) -> Hint {
+        self.map.prefetch(message, hint)
     }
 
     /// Admits a checked message, and applies its operation, which is returned. Without a view, one lookup suffices for
@@ -150,8 +155,23 @@ impl Network {
         ensures known { self.new.known ≡ self.old.known }
         ensures refused { OnErr result (self.new ≡ self.old) }
     {
+        self.offer_at(alloc, message, Hint::none())
+    }
+
+    /// Like [`Network::offer`], but looks for an update's channel at a hint first, which is faster if it is right.
+    pub fn offer_at(
+        &mut self,
+        alloc: Global,
+        message: CheckedMessage,
+        hint: Hint,
+    ) -> Result<Op, Refusal>
+        ensures admission { Offers result (admitted self.old.rows message) }
+        ensures accepted { IfOk result (λ op. self.new.rows ≡ absorbed self.old.rows op) }
+        ensures known { self.new.known ≡ self.old.known }
+        ensures refused { OnErr result (self.new ≡ self.old) }
+    {
         if self.view.is_none() {
-            return self.map.offer_checked(alloc, message);
+            return self.map.offer_at(alloc, message, hint);
         }
         let op = self.map.admit_checked(alloc, message)?;
         self.absorb(&op)?;

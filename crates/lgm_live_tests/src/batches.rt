@@ -7,9 +7,9 @@ use lgm_gossip::{ChainHash, Point};
 use lgm_graph::Known;
 use lgm_par::{Gate, Open};
 use lgm_route::{Request, Route, RouteFault};
-use lgm_script::{Item, parse_item};
+use lgm_script::Item;
 use lgm_server::{Batches, LiveAnswer, LiveReport, RequestLists, live};
-use lgm_test_scripts::{Line, script_of};
+use lgm_test_scripts::{Line, item_of, script_of};
 use std::alloc::{AllocError, Global};
 use std::marker::Sync;
 use std::process::Abort;
@@ -35,7 +35,7 @@ fn items_of(alloc: Global, lines: &[Line]) -> Result<Vec<Item>, Fail> {
     let script = script_of(alloc, lines)?;
     let mut items = Vec::new(alloc);
     for line in script.lines() {
-        items.push(parse_item(Vec::new(alloc), line.as_bytes())?.ok_or("no item")?)?;
+        items.push(item_of(alloc, line)?.ok_or("no item")?)?;
     }
     Ok(items)
 }

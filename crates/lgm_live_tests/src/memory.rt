@@ -3,9 +3,9 @@
 use crate::batches::{lists, report_of};
 use lgm_graph::Known;
 use lgm_par::Open;
-use lgm_script::{Failed, MemorySource, Sink, parse_item};
+use lgm_script::{Failed, MemorySource, Sink};
 use lgm_server::Batches;
-use lgm_test_scripts::{CHAIN, Line, run_by};
+use lgm_test_scripts::{CHAIN, Line, item_of, run_by};
 use std::alloc::Global;
 use std::fs;
 use std::rt::Files;
@@ -93,7 +93,7 @@ fn an_ended_board_keeps_nothing(rt: HostRuntime) -> Result<(), Fail> {
     let mut items = Vec::new(alloc);
     for block in 0..20u32 {
         let line = long_channel(alloc, block)?;
-        items.push(parse_item(Vec::new(alloc), line.trim().as_bytes())?.ok_or("no item")?)?;
+        items.push(item_of(alloc, line.trim())?.ok_or("no item")?)?;
     }
     let mut batches = Batches::new(alloc);
     batches.push(items)?;

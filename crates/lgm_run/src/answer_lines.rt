@@ -19,6 +19,7 @@ use lgm_par::Gate;
 use lgm_script::{
     Command, Group, Kind, Line, Output, RouteParameters, SendFault, Sink, may_ask_routes, parse,
 };
+use lgm_store::Hint;
 use std::alloc::{AllocError, Global};
 use std::thread::Threads;
 
@@ -26,6 +27,7 @@ use std::thread::Threads;
 fn offer(
     alloc: Global,
     item: Option<CheckedItem>,
+    hint: Hint,
     engine: &mut Engine,
 ) -> Result<&'static str, AllocError>
     requires few { engine.old.accepted + 1 < 2 ^ 64 }
@@ -35,7 +37,7 @@ fn offer(
     let Some(item) = item else {
         return Ok("bad");
     };
-    match engine.offer(alloc, item) {
+    match engine.offer(alloc, item, hint) {
         Ok(()) => Ok(outcome_word(None)),
         Err(Refusal::NoMemory) => Err(AllocError),
         Err(refusal) => Ok(outcome_word(Some(refusal))),
@@ -48,6 +50,7 @@ fn answer_item<W: Sink>(
     alloc: Global,
     number: u64,
     item: Option<CheckedItem>,
+    hint: Hint,
     engine: &mut Engine,
     output: &mut Output<'_, W>,
 ) -> Result<(), SendFault>
@@ -56,17 +59,37 @@ fn answer_item<W: Sink>(
     ensures written { Writes (told_by W.seen output.old) (told_by W.seen output.new)
         (offered_text number engine.old.rows item) result }
 {
-    let word = offer(alloc, item, engine)?;
+    let word = offer(alloc, item, hint, engine)?;
     output.send(number, &Line::Word(word))
 }
 
-/// Looks up where the channels of checked updates are stored. One after the other they would wait for the memory each
-/// time; looked up before the first of them is offered, they wait together.
-fn locate_all(engine: &Engine, items: &[Result<Option<CheckedItem>, AllocError>]) {
+/// Looks up where the channels of checked updates may be stored, and then reads them there, before the first item is
+/// offered. Each of these looks at the memory takes long, and none depends on the one before, so they wait together.
+fn locate_all(
+    alloc: Global,
+    engine: &Engine,
+    items: &[Result<Option<CheckedItem>, AllocError>],
+) -> Result<Vec<Hint>, AllocError> {
+    let mut hints = Vec::with_capacity(alloc, items.len())?;
     for item in items {
+        hints.push(match item {
+            Ok(Some(item)) => engine.locate(item),
+            _ => Hint::none(),
+        })?;
+    }
+    for (hint, item) in hints.iter_mut().zip(items) {
         if let Ok(Some(item)) = item {
-            engine.locate(item);
+            *hint = engine.prefetch(item, *hint);
         }
+    }
+    Ok(hints)
+}
+
+/// The hint of an item, by its place.
+fn hint_of(hints: &[Hint], place: u64) -> Hint {
+    match hints.get(place as usize) {
+        Some(hint) => *hint,
+        None => Hint::none(),
     }
 }
 
@@ -86,10 +109,11 @@ fn answer_items<Rt: Threads + Sync, G: Gate, W: Sink>(
         (text_from context.now.chain first engine.old (asked_in lines.now)) result }
 {
     let all = check_lines(context, lines)?;
-    locate_all(engine, &all);
+    let hints = locate_all(context.pool.alloc, engine, &all)?;
     let mut number = first;
     for item in all {
-        answer_item(context.pool.alloc, number, item?, engine, output)?;
+        let hint = hint_of(&hints, number.wrapping_sub(first));
+        answer_item(context.pool.alloc, number, item?, hint, engine, output)?;
         number += 1;
     }
     Ok(())

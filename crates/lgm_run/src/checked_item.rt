@@ -1,8 +1,10 @@
 //! Checking items in parallel.
 
-ghost use Rattle.std.specs.Prelude.{◌≡◌, ◌≤◌, IfOk};
+ghost use Rattle.std.specs.Prelude.{◌≡◌, ◌≤◌, ◌/◌, length, IfOk};
+ghost use Rattle.std.specs.Option.{option_map};
 ghost use Rattle.std.specs.List.{AllZip};
 ghost use Rattle.lgm_check.specs.Precheck.{checked_of};
+ghost use Rattle.lgm_script.specs.Item.{bytes_of, item_of};
 ghost use Rattle.lgm_script.specs.Command.{command_of};
 ghost use Rattle.lgm_run.specs.inner.CheckedItem.{offered_by, offered_of, offered_in};
 ghost use Rattle.lgm_run.specs.inner.Questions.{asked_in};
@@ -11,7 +13,7 @@ use crate::context::Context;
 use lgm_check::{Evidence, Refusal};
 use lgm_gossip::{ChainHash, Scid};
 use lgm_par::Gate;
-use lgm_script::{Item, parse_item};
+use lgm_script::{ItemForm, decode_digits, item_form};
 use lgm_store::CheckedMessage;
 use std::alloc::{AllocError, Global};
 use std::thread::Threads;
@@ -44,18 +46,67 @@ fn check(
     }
 }
 
-/// Checks an item.
-fn check_item(alloc: Global, chain: &ChainHash, item: Item) -> Result<CheckedItem, AllocError>
-    ensures { IfOk result (λ offered. offered ≡ offered_of chain.now item) }
+/// Decodes the digits of a message into half as many bytes, and checks it, if they are digits.
+#[inline(always)]
+fn check_digits(
+    alloc: Global,
+    chain: &ChainHash,
+    digits: &[u8],
+    evidence: &Evidence,
+    room: &mut [u8],
+) -> Result<Option<CheckedItem>, AllocError>
+    requires { length room.old ≡ length digits.now / 2 }
+    ensures { IfOk result
+        (λ offered. offered ≡ option_map (λ bytes. offered_by (checked_of chain.now bytes evidence.now))
+        (bytes_of digits.now)) }
 {
-    match item {
-        Item::Gossip(bytes, evidence) => check(alloc, chain, bytes.as_slice(), &evidence),
-        Item::Close(scid) => Ok(CheckedItem::Close(scid)),
+    if decode_digits(digits, room) {
+        Ok(Some(check(alloc, chain, room, evidence)?))
+    } else {
+        Ok(None)
     }
 }
 
-/// Parses a line and checks the item that it offers, if any. A message is decoded into a vector that needn't grow: two
-/// digits make a byte.
+/// The length, in bytes, up to which a message is decoded on the stack.
+const SHORT: usize = 512;
+
+/// Decodes the digits of a message, and checks it, if they are digits. Only a long message is decoded into an
+/// allocation.
+fn check_message(
+    alloc: Global,
+    chain: &ChainHash,
+    digits: &[u8],
+    evidence: &Evidence,
+) -> Result<Option<CheckedItem>, AllocError>
+    ensures { IfOk result
+        (λ offered. offered ≡ option_map (λ bytes. offered_by (checked_of chain.now bytes evidence.now))
+        (bytes_of digits.now)) }
+{
+    let len = digits.len() / 2;
+    if len <= SHORT {
+        let mut room = [0; SHORT];
+        return check_digits(alloc, chain, digits, evidence, &mut room[..len]);
+    }
+    let mut room = Vec::new(alloc);
+    room.resize(len, 0)?;
+    check_digits(alloc, chain, digits, evidence, room.as_mut_slice())
+}
+
+/// Checks the item of a form, if its digits are digits.
+fn check_form(
+    alloc: Global,
+    chain: &ChainHash,
+    form: &ItemForm<'_>,
+) -> Result<Option<CheckedItem>, AllocError>
+    ensures { IfOk result (λ offered. offered ≡ option_map (offered_of chain.now) (item_of form.now)) }
+{
+    match form {
+        ItemForm::Message(digits, evidence) => check_message(alloc, chain, digits, evidence),
+        ItemForm::Close(scid) => Ok(Some(CheckedItem::Close(*scid))),
+    }
+}
+
+/// Parses a line, and checks the item that it offers, if any.
 fn check_line(
     alloc: Global,
     chain: &ChainHash,
@@ -63,8 +114,8 @@ fn check_line(
 ) -> Result<Option<CheckedItem>, AllocError>
     ensures { IfOk result (λ offered. offered ≡ offered_in chain.now (command_of line.now)) }
 {
-    match parse_item(Vec::with_capacity(alloc, line.len() / 2)?, line)? {
-        Some(item) => Ok(Some(check_item(alloc, chain, item)?)),
+    match &item_form(line) {
+        Some(form) => check_form(alloc, chain, form),
         None => Ok(None),
     }
 }

@@ -17,7 +17,7 @@ use lgm_check::Refusal;
 use lgm_graph::{Known, MAX_CHANNELS};
 use lgm_par::{Gate, Pool};
 use lgm_script::{Output, RouteParameters, SendFault, Sink};
-use lgm_store::Seed;
+use lgm_store::{Hint, Seed};
 use std::alloc::{AllocError, Global};
 use std::marker::Model;
 use std::thread::Threads;
@@ -67,20 +67,25 @@ impl Engine {
         self.accepted
     }
 
-    /// Notes where the channel of a checked update is stored, so that it is offered faster.
-    pub fn locate(&self, item: &CheckedItem) {
-        self.maps.locate(item);
+    /// Where the channel of a checked update may be stored. No answer depends on it.
+    pub fn locate(&self, item: &CheckedItem) -> Hint {
+        self.maps.locate(item)
     }
 
-    /// Offers a checked item. A refusal or out of memory leaves all unchanged.
-    pub fn offer(&mut self, alloc: Global, item: CheckedItem) -> Result<(), Refusal>
+    /// Reads what is stored there, so that the item is offered faster.
+    pub fn prefetch(&self, item: &CheckedItem, hint: Hint) -> Hint {
+        self.maps.prefetch(item, hint)
+    }
+
+    /// Offers a checked item, whose channel may be where the hint says. A refusal or out of memory leaves all unchanged.
+    pub fn offer(&mut self, alloc: Global, item: CheckedItem, hint: Hint) -> Result<(), Refusal>
         requires { self.old.accepted + 1 < 2 ^ 64 }
         ensures outcome { Gives Refusal.NoMemory (λ done. done) result
             (settled (outcome_on self.old.rows item)) }
         ensures state { OnOk result (self.new ≡ state_behind self.old (outcome_on self.old.rows item)) }
         ensures same { OnErr result (self.new ≡ self.old) }
     {
-        self.maps.offer(alloc, item)?;
+        self.maps.offer(alloc, item, hint)?;
         self.accepted += 1;
         Ok(())
     }

@@ -22,7 +22,7 @@ use lgm_par::{Gate, Pool};
 use lgm_query::{MapDiff, TouchedKeys};
 use lgm_route::{Request, Route, RouteFault, answer_chunked};
 use lgm_script::{Output, SendFault, Sink, may_ask_routes};
-use lgm_store::{Op, Seed};
+use lgm_store::{Hint, Op, Seed};
 use std::alloc::{AllocError, Global};
 use std::collections::VecDeque;
 use std::marker::Model;
@@ -72,22 +72,37 @@ impl Maps {
         })
     }
 
-    /// Notes where the channel of a checked update is stored, so that it is offered faster.
-    pub fn locate(&self, item: &CheckedItem) {
-        if let CheckedItem::Message(message) = item {
-            self.growing.network.locate(message);
+    /// Where the channel of a checked update may be stored. No answer depends on it.
+    pub fn locate(&self, item: &CheckedItem) -> Hint {
+        match item {
+            CheckedItem::Message(message) => self.growing.network.locate(message),
+            _ => Hint::none(),
         }
     }
 
-    /// Offers a checked item. A refusal or out of memory leaves all unchanged.
-    pub fn offer(&mut self, alloc: Global, item: CheckedItem) -> Result<(), Refusal>
+    /// Reads what is stored there, so that the item is offered faster.
+    pub fn prefetch(&self, item: &CheckedItem, hint: Hint) -> Hint {
+        match item {
+            CheckedItem::Message(message) => self.growing.network.prefetch(message, hint),
+            _ => hint,
+        }
+    }
+
+    /// Offers a checked item, whose channel may be where the hint says. A refusal or out of memory leaves all unchanged.
+    pub fn offer(&mut self, alloc: Global, item: CheckedItem, hint: Hint) -> Result<(), Refusal>
         ensures outcome { Gives Refusal.NoMemory (λ done. done) result
             (settled (outcome_on self.old.rows item)) }
         ensures grown { OnOk result (self.new ≡ grown self.old (outcome_on self.old.rows item)) }
         ensures same { OnErr result (self.new ≡ self.old) }
     {
         self.growing.level(alloc, &mut self.committed)?;
-        offer(alloc, &mut self.growing.network, &mut self.pending, item)
+        offer(
+            alloc,
+            &mut self.growing.network,
+            &mut self.pending,
+            item,
+            hint,
+        )
     }
 
     /// The differences since the last commit, in time logarithmic in the maps for each item accepted since then.
@@ -162,14 +177,14 @@ impl Maps {
 
 /// Admits an item and applies its operation, which is returned. A refusal or out of memory leaves the map unchanged.
 #[tactic(auto, unfolding(crate::specs::inner::CheckedItem::outcome_on))]
-fn admit(alloc: Global, network: &mut Network, item: CheckedItem) -> Result<Op, Refusal>
+fn admit(alloc: Global, network: &mut Network, item: CheckedItem, hint: Hint) -> Result<Op, Refusal>
     ensures outcome { Gives Refusal.NoMemory (λ op. op) result (outcome_on network.old.rows item) }
     ensures accepted { IfOk result (λ op. network.new.rows ≡ absorbed network.old.rows op) }
     ensures known { network.new.known ≡ network.old.known }
     ensures refused { OnErr result (network.new.rows ≡ network.old.rows) }
 {
     match item {
-        CheckedItem::Message(message) => network.offer(alloc, message),
+        CheckedItem::Message(message) => network.offer_at(alloc, message, hint),
         CheckedItem::Close(scid) => network.offer_close(scid),
         CheckedItem::Refused(refusal) => Err(refusal),
     }
@@ -182,6 +197,7 @@ pub fn offer(
     network: &mut Network,
     pending: &mut VecDeque<Op>,
     item: CheckedItem,
+    hint: Hint,
 ) -> Result<(), Refusal>
     ensures outcome { Gives Refusal.NoMemory (λ done. done) result
         (settled (outcome_on network.old.rows item)) }
@@ -192,7 +208,7 @@ pub fn offer(
     ensures none { OnErr result (pending.new.items ≡ pending.old.items) }
 {
     pending.reserve(1)?;
-    let op = admit(alloc, network, item)?;
+    let op = admit(alloc, network, item, hint)?;
     match pending.push_back(op) {
         Ok(()) => Ok(()),
         Err(_) => unreachable!(),

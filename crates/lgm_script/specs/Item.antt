@@ -12,6 +12,8 @@ use Rattle.lgm_check.specs.declared.evidence.Funding.{Funding}
 use Rattle.lgm_check.specs.declared.evidence.Funding.TheVariants as fundings
 use Rattle.lgm_script.specs.declared.item.Item.{Item}
 use Rattle.lgm_script.specs.declared.item.Item.TheVariants.{Gossip, Close}
+use Rattle.lgm_script.specs.declared.item.ItemForm.{ItemForm}
+use Rattle.lgm_script.specs.declared.item.ItemForm.TheVariants as forms
 use Rattle.lgm_script.specs.Field.{◌>>=◌, fields_of, number_of, number_below, point_of}
 
 -- an even number of hexadecimal digits, at least two
@@ -66,3 +68,15 @@ close_of (scid ∷ []) = do
   id ← scid_of (fields_of 120 scid)
   Some (Close id)
 close_of _ = None
+
+-- the item of a form, if its digits are an even number of hexadecimal digits, at least two
+abbrev pub item_of : ItemForm → Option Item
+item_of (forms.Message digits evidence) = do
+  bytes ← bytes_of digits.now
+  Some (Gossip bytes evidence)
+item_of (forms.Close id) = Some (Close id)
+
+-- the item that is spelled, if one is
+abbrev pub item_spelled : Option ItemForm → Option Item
+item_spelled None = None
+item_spelled (Some form) = item_of form

@@ -1,11 +1,14 @@
 //! Commands: what a line requests.
 
 ghost use Rattle.std.specs.Prelude.{◌≡◌, IfOk, IfSome};
+ghost use Rattle.std.specs.Option.{option_map};
+ghost use Rattle.lgm_script.specs.Item.{item_spelled};
 ghost use Rattle.lgm_script.specs.Command.{filter_of, form_of, command_of, HasLawfulPeer};
+ghost use Rattle.lgm_script.specs.declared.command.Command.TheVariants.{Offer};
 
 use crate::field::number_below;
 use crate::fields::Fields;
-use crate::item::{Item, bytes, close, gossip};
+use crate::item::{Item, ItemForm, bytes, close, decoded, message};
 use crate::route_parameters::{RouteParameters, payment_in};
 use lgm_gossip::Bytes;
 use std::alloc::{AllocError, Global};
@@ -40,8 +43,20 @@ fn filter(alloc: Global, mut fields: Fields<'_>) -> Result<Option<Command>, Allo
     let Some(peer) = number_below(1_000, peer) else {
         return Ok(None);
     };
-    match bytes(Vec::new(alloc), digits)? {
+    match bytes(alloc, digits)? {
         Some(bytes) => Ok(Some(Command::Filter(peer as u16, bytes))),
+        None => Ok(None),
+    }
+}
+
+/// The offer of an item, if a line spells one.
+fn offer(alloc: Global, form: &Option<ItemForm<'_>>) -> Result<Option<Command>, AllocError>
+    ensures value { IfOk result
+        (λ request. request ≡ option_map (λ item. Offer item) (item_spelled form.now)) }
+    ensures peer { IfOk result (λ request. IfSome request HasLawfulPeer) }
+{
+    match form {
+        Some(form) => Ok(decoded(alloc, form)?.map(Command::Offer)),
         None => Ok(None),
     }
 }
@@ -52,13 +67,13 @@ fn form(alloc: Global, line: &[u8]) -> Result<Option<Command>, AllocError>
     ensures peer { IfOk result (λ request. IfSome request HasLawfulPeer) }
 {
     if let Some(text) = line.strip_prefix(b"m ") {
-        return Ok(gossip(Vec::new(alloc), text)?.map(Command::Offer));
+        return offer(alloc, &message(text));
     }
     if let Some(text) = line.strip_prefix(b"close ") {
-        return Ok(close(Fields::new(b' ', text)).map(Command::Offer));
+        return offer(alloc, &close(Fields::new(b' ', text)));
     }
     if let Some(text) = line.strip_prefix(b"q ") {
-        return Ok(bytes(Vec::new(alloc), text)?.map(Command::Query));
+        return Ok(bytes(alloc, text)?.map(Command::Query));
     }
     if let Some(text) = line.strip_prefix(b"filter ") {
         return filter(alloc, Fields::new(b' ', text));

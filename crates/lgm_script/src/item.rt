@@ -1,19 +1,19 @@
 //! Items: what a line offers to the map.
 
-ghost use Rattle.std.specs.Prelude.{◌≡◌, ◌∷◌, ◌↔◌, [], Some, IfOk};
+ghost use Rattle.std.specs.Prelude.{◌≡◌, ◌∷◌, ◌/◌, ◌↔◌, [], Some, None, length, IfOk, if◌then◌else◌};
 ghost use Rattle.lgm_script.specs.Field.{fields_of};
 ghost use Rattle.lgm_script.specs.Command.{command_of};
 ghost use Rattle.lgm_script.specs.declared.item.Item.{Item};
 ghost use Rattle.lgm_script.specs.declared.command.Command.TheVariants.{Offer};
 ghost use Rattle.lgm_script.specs.Item.{bytes_of, sig_of, funding_of, evidence_of};
-ghost use Rattle.lgm_script.specs.Item.{gossip_of, scid_of, close_of};
+ghost use Rattle.lgm_script.specs.Item.{gossip_of, scid_of, close_of, item_of, item_spelled};
 
 use crate::field::{number, number_below, point};
 use crate::fields::{Fields, cut_last};
 use hex::FromHexError;
 use lgm_check::{Evidence, Funding, Sig};
 use lgm_gossip::{Bytes, Scid};
-use std::alloc::AllocError;
+use std::alloc::{AllocError, Global};
 
 /// What is offered to the map, with the caller's verdicts on it.
 #[derive(Debug, Drop)]
@@ -24,16 +24,35 @@ pub enum Item {
     Close(Scid),
 }
 
-/// Decodes hexadecimal digits, at least two, into a vector whose contents are dropped.
+/// An item as a line spells it: the digits of a message aren't decoded yet.
+#[derive(Debug, Drop)]
+pub enum ItemForm<'a> {
+    /// The digits of a gossip message, which may be no digits at all, and the verdicts on it.
+    Message(&'a [u8], Evidence),
+    /// The close of a channel whose funding output is spent.
+    Close(Scid),
+}
+
+/// Decodes hexadecimal digits, at least two, into half as many bytes. If it returns false they aren't that, and what was
+/// written is unspecified.
 #[inline(always)]
-pub fn bytes(mut room: Vec<u8>, digits: &[u8]) -> Result<Option<Bytes>, AllocError>
+pub fn decode_digits(digits: &[u8], out: &mut [u8]) -> bool
+    requires { length out.old ≡ length digits.now / 2 }
+    ensures { bytes_of digits.now ≡ (if result then Some out.new else None) }
+{
+    !digits.is_empty() && lgm_hex::decode_to_slice(digits, out).is_ok()
+}
+
+/// Decodes hexadecimal digits, at least two.
+pub fn bytes(alloc: Global, digits: &[u8]) -> Result<Option<Bytes>, AllocError>
     ensures { IfOk result (λ bytes. bytes ≡ bytes_of digits.now) }
 {
     if digits.is_empty() {
         return Ok(None);
     }
-    match lgm_hex::decode_into(&mut room, digits) {
-        Ok(()) => Ok(Some(Bytes::from_vec(room))),
+    let mut decoded = Vec::new(alloc);
+    match lgm_hex::decode_into(&mut decoded, digits) {
+        Ok(()) => Ok(Some(Bytes::from_vec(decoded))),
         Err(FromHexError::OutOfMemory) => Err(AllocError),
         Err(_) => Ok(None),
     }
@@ -81,24 +100,22 @@ fn evidence(signer: &[u8], output: &[u8]) -> Option<Evidence>
     })
 }
 
-/// An offered message: `HEX SIG FUNDING`. Since there are many digits, the text is split from its end.
+/// The digits of an offered message, and the verdicts on it: `HEX SIG FUNDING`. Since there are many digits, the text is
+/// split from its end.
 #[inline(always)]
-pub fn gossip(room: Vec<u8>, text: &[u8]) -> Result<Option<Item>, AllocError>
-    ensures { IfOk result (λ item. item ≡ gossip_of (fields_of 32 text.now)) }
+pub fn message(text: &[u8]) -> Option<ItemForm<'_>>
+    ensures { gossip_of (fields_of 32 text.now) ≡ item_spelled result }
 {
     let Some((front, output)) = cut_last(b' ', text) else {
-        return Ok(None);
+        return None;
     };
     let Some((digits, signer)) = cut_last(b' ', front) else {
-        return Ok(None);
+        return None;
     };
     let Some(evidence) = evidence(signer, output) else {
-        return Ok(None);
+        return None;
     };
-    match bytes(room, digits)? {
-        Some(bytes) => Ok(Some(Item::Gossip(bytes, evidence))),
-        None => Ok(None),
-    }
+    Some(ItemForm::Message(digits, evidence))
 }
 
 /// A channel id, from its block, index and output.
@@ -116,29 +133,37 @@ fn scid(mut fields: Fields<'_>) -> Option<Scid>
 }
 
 /// A close: `SCID`, which is `BLOCKxINDEXxOUTPUT`.
-pub fn close(mut fields: Fields<'_>) -> Option<Item>
-    ensures { result ≡ close_of fields.entry }
+pub fn close<'a>(mut fields: Fields<'a>) -> Option<ItemForm<'a>>
+    ensures { close_of fields.entry ≡ item_spelled result }
 {
     let name = fields.next()?;
     fields.end()?;
-    Some(Item::Close(scid(Fields::new(b'x', name))?))
+    Some(ItemForm::Close(scid(Fields::new(b'x', name))?))
 }
 
-/// The item that a line offers, which is that of its command (see [`parse`](crate::parse)); none if the command is
-/// another one.
-///
-/// The bytes of a message are decoded into `room`, whose contents are dropped. It allocates only if the capacity
-/// doesn't suffice, and the only error is out of memory for it.
+/// The item that a line offers, as it is spelled there; none if the command is another one.
 #[tactic(auto, using(crate::proofs::Items::offers_what_its_word_tells))]
-pub fn parse_item(room: Vec<u8>, line: &[u8]) -> Result<Option<Item>, AllocError>
-    ensures { IfOk result
-        (λ offered. (item : Item) → (offered ≡ Some item) ↔ (command_of line.now ≡ Offer item)) }
+pub fn item_form(line: &[u8]) -> Option<ItemForm<'_>>
+    ensures { (item : Item) → (item_spelled result ≡ Some item) ↔ (command_of line.now ≡ Offer item) }
 {
     if let Some(text) = line.strip_prefix(b"m ") {
-        return gossip(room, text);
+        return message(text);
     }
     if let Some(text) = line.strip_prefix(b"close ") {
-        return Ok(close(Fields::new(b' ', text)));
+        return close(Fields::new(b' ', text));
     }
-    Ok(None)
+    None
+}
+
+/// The item of a form, if its digits are digits.
+pub fn decoded(alloc: Global, form: &ItemForm<'_>) -> Result<Option<Item>, AllocError>
+    ensures { IfOk result (λ item. item ≡ item_of form.now) }
+{
+    match form {
+        ItemForm::Message(digits, evidence) => match bytes(alloc, digits)? {
+            Some(bytes) => Ok(Some(Item::Gossip(bytes, *evidence))),
+            None => Ok(None),
+        },
+        ItemForm::Close(scid) => Ok(Some(Item::Close(*scid))),
+    }
 }

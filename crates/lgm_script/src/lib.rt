@@ -2,7 +2,8 @@
 //!
 //! A [`LineReader`] buffers what was read ahead of a source; an [`Output`] buffers text for a sink, each [`Line`]
 //! whole. [`next_line`] finds the next line, and [`next_group`] the lines that are answered together. [`parse`] turns a
-//! line into a [`Command`], and [`parse_item`] into an item. A device's [`Failures`] are counted for contracts alone.
+//! line into a [`Command`], and [`item_form`] finds the item that it offers, before its digits are decoded. A device's
+//! [`Failures`] are counted for contracts alone.
 #![tactic(auto)]
 
 mod command;
@@ -24,7 +25,7 @@ pub use command::{Command, parse};
 pub use device::{Failed, Sink, Source, write_all};
 pub use failures::Failures;
 pub use group::{Group, Kind, may_ask_routes, next_group};
-pub use item::{Item, parse_item};
+pub use item::{Item, ItemForm, decode_digits, item_form};
 pub use line_reader::{LineReader, MAX_LINE};
 pub use memory::{MemorySink, MemorySource};
 pub use output::{BLOCK, Output, SendFault};

@@ -6,4 +6,4 @@ mod options;
 mod program;
 
 pub use options::{BadWords, read_words};
-pub use program::{fault_line, refuse, start, start_keeping};
+pub use program::{fault_line, refuse, start, start_with_gate};

@@ -20,7 +20,7 @@ use std::io::ErrorKind;
 const MAX_KNOWN: usize = 256;
 
 /// The program's version, and the kit that it is proved with.
-const VERSION: &str = "1.0 (rattle-kit-13b)";
+const VERSION: &str = "1.0 (rattle-kit-13f)";
 
 /// The end of the help of `lgm run`: for the chain of the examples, and for mainnet.
 const RUN_EXAMPLES: &str = "\

@@ -13,6 +13,7 @@ use lgm_run::FinalState;
 use lgm_script::{Sink, Source, write_all};
 use std::alloc::Global;
 use std::marker::Sync;
+use std::mem::forget;
 use std::random::RandomSource;
 use std::sync::Wait;
 use std::thread::Threads;
@@ -91,6 +92,9 @@ pub fn refuse<S: Sink>(alloc: Global, errors: &mut S, bad: &BadWords) -> u8 {
 /// Status 0: the script was answered. Status 2: the words are wrong, or request help or the version, and `clap`'s text
 /// is on `errors`; or the chain isn't 64 hexadecimal digits, or the known feature bits aren't 2 to 512, an even number.
 /// Status 1: the run failed, and [`fault_line`] is on `errors`. A failure to write to `errors` changes nothing.
+///
+/// It is called once, before the process ends: maps and reports are left to the system, since freeing them row by row
+/// takes a sixth of the time.
 pub fn start<Rt: Threads + Wait + Sync + RandomSource, R: Source, W: Sink, S: Sink>(
     rt: &Rt,
     alloc: Global,
@@ -99,13 +103,11 @@ pub fn start<Rt: Threads + Wait + Sync + RandomSource, R: Source, W: Sink, S: Si
     writer: &mut W,
     errors: &mut S,
 ) -> u8 {
-    let (status, _) = start_keeping(rt, alloc, words, &Open, reader, writer, errors);
-    status
+    start_with_gate(rt, alloc, words, &Open, reader, writer, errors)
 }
 
-/// Like [`start`], but all work passes the gate, and the maps of `lgm run` are returned with the status: freeing them
-/// takes a sixth of the time, and a program that ends may forget them.
-pub fn start_keeping<
+/// Like [`start`], but all work passes the gate.
+pub fn start_with_gate<
     Rt: Threads + Wait + Sync + RandomSource,
     G: Gate,
     R: Source,
@@ -119,12 +121,15 @@ pub fn start_keeping<
     reader: &mut R,
     writer: &mut W,
     errors: &mut S,
-) -> (u8, FinalState) {
-    let mut remains = FinalState::none();
+) -> u8 {
     let options = match parse(alloc, words) {
         Ok(options) => options,
-        Err(bad) => return (refuse(alloc, errors, &bad), remains),
+        Err(bad) => return refuse(alloc, errors, &bad),
     };
+    let mut remains = FinalState::none();
     let ended = answer(rt, alloc, &options, gate, reader, writer, &mut remains);
-    (finish(errors, &ended), remains)
+    forget(remains);
+    let status = finish(errors, &ended);
+    forget(ended);
+    status
 }

@@ -1,7 +1,7 @@
 use crate::broken_devices::{BrokenSource, FullSink};
 use lgm_par::Gate;
 use lgm_script::{Failures, MemorySink, MemorySource, Sink, Source};
-use lgm_start::{read_words, refuse, start, start_keeping};
+use lgm_start::{read_words, refuse, start, start_with_gate};
 use std::alloc::Global;
 use std::env::{Env, FillError};
 use std::marker::Sync;
@@ -68,7 +68,7 @@ pub fn started_in<Rt: Threads + Wait + Sync + RandomSource, G: Gate>(
     let status = match read_words(&(given, alloc)) {
         Ok(words) => {
             let words = words.as_slice();
-            start_keeping(
+            start_with_gate(
                 rt,
                 alloc,
                 words,
@@ -77,7 +77,6 @@ pub fn started_in<Rt: Threads + Wait + Sync + RandomSource, G: Gate>(
                 &mut writer,
                 &mut errors,
             )
-            .0
         }
         Err(bad) => refuse(alloc, &mut errors, &bad),
     };
@@ -160,7 +159,7 @@ fn words_are_checked_first(rt: HostRuntime) -> Result<(), Fail> {
 fn the_version_names_the_kit(rt: HostRuntime) -> Result<(), Fail> {
     let (status, writer, errors) = started(&rt, rt.alloc(), &["lgm", "--version"], b"");
     assert_eq!(rt; status, 2);
-    assert_eq!(rt; errors.taken(), b"lgm 1.0 (rattle-kit-13b)\n".as_slice());
+    assert_eq!(rt; errors.taken(), b"lgm 1.0 (rattle-kit-13f)\n".as_slice());
     assert!(rt; writer.taken().is_empty());
     Ok(())
 }

@@ -12,8 +12,6 @@ use Rattle.std.specs.Ordering.{match_ordering}
 use Rattle.lgm_wire.specs.declared.point.Point.{Point}
 use Rattle.lgm_store.specs.Keys.{IsKeyed, point_cmp}
 use Rattle.lgm_store.specs.Rows.{put, by_point}
-use Rattle.lgm_store.specs.Laws as Lawful
-use Rattle.lgm_store.specs.declared.op.Op.TheVariants as ops
 use Rattle.lgm_store.proofs.Lists.{node_total, same_node}
 use Rattle.lgm_store.proofs.Ordered.{values-insert}
 

@@ -1,14 +1,12 @@
 -- Decisions from ids, nodes and timestamps are those of admission.
-use Rattle.std.proofs.Common.{◌≡◌, Bool, true, false, List, Option, Some, None, Ok, Err, refl}
-use Rattle.std.specs.Prelude.{nat_lt, is_some}
+use Rattle.std.proofs.Common.{◌≡◌, Bool, true, false, List, Option, Some, None, refl}
+use Rattle.std.specs.Prelude.{nat_lt}
 use Rattle.lgm_wire.specs.declared.point.Point.{Point}
 use Rattle.lgm_check.specs.declared.row.ChannelRow.{ChannelRow}
 use Rattle.lgm_check.specs.declared.row.UpdateRow.{UpdateRow}
 use Rattle.lgm_check.specs.declared.row.NodeRow.{NodeRow}
-use Rattle.lgm_check.specs.declared.refusal.Refusal.TheVariants as refusals
-use Rattle.lgm_store.specs.declared.op.Op.TheVariants as ops
 use Rattle.lgm_store.specs.Rows.{is_point, is_second, ends_banned}
-use Rattle.lgm_store.specs.Admission.{have_same_nodes, ban_of, channel_admission, update_admission, node_admission, node_by}
+use Rattle.lgm_store.specs.Admission.{have_same_nodes, channel_admission, update_admission, node_admission, node_by}
 use Rattle.lgm_store.specs.inner.Decided.{channel_op, update_op, node_op, channel_verdict, update_verdict, node_verdict}
 
 pub channel-decided : (banned : List Point) (stored : Option ChannelRow) (row : ChannelRow)
@@ -25,21 +23,6 @@ channel-decided banned stored row = by stored (ends_banned banned row) refl
             row.message.node_id_1 row.message.node_id_2) ≡ channel_admission banned (Some old) row
         same true same_is = rw (is, same_is) refl
         same false same_is = rw (is, same_is) refl
-
--- a channel that is added is new, and has no banned node
-pub added : (banned : List Point) (stored : Option ChannelRow) (row : ChannelRow) → Ok (ops.Channel row) ≡ channel_admission banned stored row
-    → (is_some stored ≡ false) × (ends_banned banned row ≡ false)
-added banned stored row is = by stored (ends_banned banned row) refl is
-  where
-    by : (stored : Option ChannelRow) (b : Bool) → ends_banned banned row ≡ b → Ok (ops.Channel row)
-        ≡ channel_admission banned stored row → (is_some stored ≡ false) × (ends_banned banned row ≡ false)
-    by stored true banned_is is = let never : Ok (ops.Channel row) ≡ Err refusals.Banned = rw banned_is at is in absurd cc
-    by None false banned_is is = (refl, banned_is)
-    by (Some old) false banned_is is = same (have_same_nodes old row) refl
-      where
-        same : (b : Bool) → have_same_nodes old row ≡ b → (is_some (Some old) ≡ false) × (ends_banned banned row ≡ false)
-        same true same_is = let never : Ok (ops.Channel row) ≡ Err refusals.Known = rw (banned_is, same_is) at is in absurd cc
-        same false same_is = let never : Ok (ops.Channel row) ≡ Ok (ops.Ban (ban_of old row)) = rw (banned_is, same_is) at is in absurd cc
 
 pub update-decided : (channel : ChannelRow) (stored : Option UpdateRow) (row : UpdateRow) (signer : Point)
     → update_op row (update_verdict channel stored (is_second row) row.message.timestamp signer) ≡ update_admission (Some channel) stored row signer

@@ -18,6 +18,7 @@ use Rattle.lgm_store.specs.inner.ChannelEntries.{alone, with_update_in, channel_
 use Rattle.lgm_store.specs.ChannelInfo.{update_in}
 use Rattle.lgm_store.specs.History.{updates_without}
 use Rattle.lgm_store.proofs.Lists.{id_test, same_id}
+use Rattle.lgm_store.proofs.Listing.{is_at-id}
 use Rattle.lgm_store.proofs.Walking.{first_value}
 
 -- ---- channels
@@ -93,6 +94,20 @@ remove-none {X} test (e ∷ es) none = by (remove-none test es) (test e.0) refl 
     by others true is none = let never : Some e.1 ≡ None = rw is at none in absurd cc
     by others false is none = rw (is, others (rw is at none)) refl
 
+-- what is inserted under a new key, and removed again
+pub remove-inserted : {X : Type 0} (id : ℕ) (one : X) (es : List (ℕ × X)) → lookup (is_at (nat_cmp id)) es ≡ None
+    → remove_entry (is_at (nat_cmp id)) (insert_entry nat_cmp es id one) ≡ es
+remove-inserted {X} id one [] none = rw (is_at-id id) refl
+remove-inserted {X} id one (e ∷ es) none = by (remove-inserted id one es) (nat_cmp id e.0) refl none
+  where
+    by : (lookup (is_at (nat_cmp id)) es ≡ None → remove_entry (is_at (nat_cmp id)) (insert_entry nat_cmp es id one) ≡ es)
+        → (o : Ordering) → nat_cmp id e.0 ≡ o → cond (is_eq (nat_cmp id e.0)) (Some e.1) (lookup (is_at (nat_cmp id)) es) ≡ None
+        → remove_entry (is_at (nat_cmp id)) (match_ordering (nat_cmp id e.0) ((id, one) ∷ e ∷ es) ((e.0, one) ∷ es)
+        (e ∷ insert_entry nat_cmp es id one)) ≡ e ∷ es
+    by rest Less is none = rw is (rw (is_at-id id) refl)
+    by rest Equal is none = let never : Some e.1 ≡ None = rw is at none in absurd cc
+    by rest Greater is none = rw is (rw is (ap (λ (xs : List (ℕ × X)). e ∷ xs) (rest (rw is at none))))
+
 pub set-channels : (test : ℕ → Bool) (es : List (ℕ × ChannelInfo)) (old new : ChannelInfo) → lookup test es ≡ Some old → new.channel ≡ old.channel
     → channel_entries (set_value test es new) ≡ channel_entries es
 set-channels test [] old new found same = refl
@@ -114,7 +129,7 @@ channel-with false old row = refl
 -- ---- keys above one
 
 -- nothing is found below all keys
-lookup-above : (id : ℕ) (es : List (ℕ × ChannelInfo)) → AllByRecursion (λ k. nat_cmp id k ≡ Less) (keys_of es) → lookup (is_at (nat_cmp id)) es ≡ None
+pub lookup-above : {X : Type 0} (id : ℕ) (es : List (ℕ × X)) → AllByRecursion (λ k. nat_cmp id k ≡ Less) (keys_of es) → lookup (is_at (nat_cmp id)) es ≡ None
 lookup-above id [] above = refl
 lookup-above id (e ∷ es) above = rw above.0 (lookup-above id es above.1)
 
@@ -123,7 +138,7 @@ remove-above id [] above = refl
 remove-above id (e ∷ es) above = rw (above.0, remove-above id es above.1) refl
 
 -- from one key to another
-above-from : (id other : ℕ) (es : List (ℕ × ChannelInfo)) → ((k : ℕ) → nat_cmp other k ≡ Less → nat_cmp id k ≡ Less)
+above-from : {X : Type 0} (id other : ℕ) (es : List (ℕ × X)) → ((k : ℕ) → nat_cmp other k ≡ Less → nat_cmp id k ≡ Less)
     → AllByRecursion (λ k. nat_cmp other k ≡ Less) (keys_of es) → AllByRecursion (λ k. nat_cmp id k ≡ Less) (keys_of es)
 above-from id other [] lower above = tt
 above-from id other (e ∷ es) lower above = (lower e.0 above.0, above-from id other es lower above.1)
@@ -132,7 +147,7 @@ above-equal : (id other : ℕ) (es : List (ℕ × ChannelInfo)) → nat_cmp id o
     → AllByRecursion (λ k. nat_cmp other k ≡ Less) (keys_of es) → AllByRecursion (λ k. nat_cmp id k ≡ Less) (keys_of es)
 above-equal id other es is = above-from id other es (λ k less. nat_cmp_total.congr id other k is ∙ less)
 
-above-less : (id other : ℕ) (es : List (ℕ × ChannelInfo)) → nat_cmp id other ≡ Less
+pub above-less : {X : Type 0} (id other : ℕ) (es : List (ℕ × X)) → nat_cmp id other ≡ Less
     → AllByRecursion (λ k. nat_cmp other k ≡ Less) (keys_of es) → AllByRecursion (λ k. nat_cmp id k ≡ Less) (keys_of es)
 above-less id other es is = above-from id other es (λ k less. nat_cmp_total.trans id other k is less)
 

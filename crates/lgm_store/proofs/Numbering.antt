@@ -6,7 +6,9 @@ use Rattle.std.specs.Option.{option_map, option_and_then}
 use Rattle.std.specs.List.Sorted.{IsStrictlySortedBy}
 use Rattle.std.specs.Map.{lookup, remove_entry, set_value, keys_of}
 use Rattle.std.specs.BTreeMap.{is_at, insert_entry}
-use Rattle.std.specs.Ordering.{nat_cmp}
+use Rattle.std.specs.declared.cmp.Ordering.{Ordering}
+use Rattle.std.specs.declared.cmp.Ordering.TheVariants.{Less, Equal, Greater}
+use Rattle.std.specs.Ordering.{is_eq, nat_cmp, match_ordering}
 use Rattle.std.proofs.lemmas.Bool.{cases_eq}
 use Rattle.std.proofs.lemmas.Bool.Decides.{nat_tests}
 use Rattle.lgm_check.specs.declared.row.UpdateRow.{UpdateRow}
@@ -16,6 +18,7 @@ use Rattle.lgm_store.specs.Rows.{is_second}
 use Rattle.slab.specs.Slab.{Slab, with_value, Updates}
 use Rattle.slab.proofs.SlabLemmas.{Updates-with_value}
 use Rattle.lgm_store.specs.inner.ChannelTable.{id_in, slot_at, entries_in, HaveOwn, IsNumbered, with_update_for, with_update_at}
+use Rattle.lgm_store.proofs.Holding.{lookup-above, above-less}
 use Rattle.lgm_store.proofs.Slotted.{in_slot, inserted-own, removed-own, lookup-slots, found-own, keys-slots, set}
 
 -- ---- the invariant
@@ -114,6 +117,33 @@ module _ (s : Slab ChannelInfo) (numbers : List (ℕ × ℕ)) (number : ℕ) (st
       → entries_in after numbers ≡ set_value (is_at (nat_cmp id)) (entries_in s.slots numbers) written
   entries-put id found = set s.slots after number updates.others id written numbers found updates.changed sound.own sound.ascend
 
+-- a number that is put back in place of another one
+put-back-in : (id number own : ℕ) (es : List (ℕ × ℕ)) → IsStrictlySortedBy nat_cmp (keys_of es) → lookup (is_at (nat_cmp id)) es ≡ Some own
+    → insert_entry nat_cmp (insert_entry nat_cmp es id number) id own ≡ es
+unfolding IsStrictlySortedBy
+put-back-in id number own [] sorted found = absurd cc
+put-back-in id number own (e ∷ es) sorted found = by (put-back-in id number own es sorted.1) (nat_cmp id e.0) refl found
+  where
+    by : (lookup (is_at (nat_cmp id)) es ≡ Some own → insert_entry nat_cmp (insert_entry nat_cmp es id number) id own ≡ es)
+        → (o : Ordering) → nat_cmp id e.0 ≡ o → cond (is_eq (nat_cmp id e.0)) (Some e.1) (lookup (is_at (nat_cmp id)) es) ≡ Some own
+        → insert_entry nat_cmp (match_ordering (nat_cmp id e.0) ((id, number) ∷ e ∷ es) ((e.0, number) ∷ es)
+        (e ∷ insert_entry nat_cmp es id number)) id own ≡ e ∷ es
+    by rest Less is found =
+        let here : lookup (is_at (nat_cmp id)) es ≡ Some own = rw is at found in
+        let never : None ≡ Some own = sym (lookup-above id es (above-less id e.0 es is sorted.0)) ∙ here in
+        absurd cc
+    by rest Equal is found =
+        let its : Some e.1 ≡ Some own = rw is at found in
+        let own_is : e.1 ≡ own = cc in
+        rw (is, is, ← own_is) refl
+    by rest Greater is found = rw is (rw is (ap (λ (xs : List (ℕ × ℕ)). e ∷ xs) (rest (rw is at found))))
+
+pub put-back : (es changed back : List (ℕ × ℕ)) (id number own : ℕ) → changed ≡ insert_entry nat_cmp es id number
+    → back ≡ insert_entry nat_cmp changed id own → IsStrictlySortedBy nat_cmp (keys_of es)
+    → lookup (is_at (nat_cmp id)) es ≡ Some own → back ≡ es
+put-back es changed back id number own changed_is back_is sorted found =
+    back_is ∙ ap (λ (xs : List (ℕ × ℕ)). insert_entry nat_cmp xs id own) changed_is ∙ put-back-in id number own es sorted found
+
 -- the channel of an id
 pub found-stored : (slots : List (Option ChannelInfo)) (numbers : List (ℕ × ℕ)) (entries : List (ℕ × ChannelInfo))
     (id number : ℕ) (stored : ChannelInfo) → HaveOwn slots numbers
@@ -127,20 +157,6 @@ pub found-none : (slots : List (Option ChannelInfo)) (numbers : List (ℕ × ℕ
     → entries_in slots numbers ≡ entries → lookup (is_at (nat_cmp id)) numbers ≡ None → lookup (is_at (nat_cmp id)) entries ≡ None
 found-none slots numbers entries id own view_is none =
     ap (lookup (is_at (nat_cmp id))) (sym view_is) ∙ lookup-slots slots (is_at (nat_cmp id)) numbers own ∙ ap (option_and_then (slot_at slots)) none
-
--- and the other way round
-pub none-found : (slots : List (Option ChannelInfo)) (numbers : List (ℕ × ℕ)) (entries : List (ℕ × ChannelInfo)) (id : ℕ) → HaveOwn slots numbers
-    → entries_in slots numbers ≡ entries → lookup (is_at (nat_cmp id)) entries ≡ None → lookup (is_at (nat_cmp id)) numbers ≡ None
-none-found slots numbers entries id own view_is none = by (lookup (is_at (nat_cmp id)) numbers) refl
-  where
-    by : (o : Option ℕ) → lookup (is_at (nat_cmp id)) numbers ≡ o → o ≡ None
-    by None is = refl
-    by (Some number) is =
-        let here = found-own slots id number numbers own is in
-        let never : None ≡ Some id =
-        ap (option_map id_in) (sym none ∙ ap (lookup (is_at (nat_cmp id))) (sym view_is) ∙ lookup-slots slots
-        (is_at (nat_cmp id)) numbers own ∙ ap (option_and_then (slot_at slots)) is) ∙ here in
-        absurd cc
 
 pub has-slot : (slots : List (Option ChannelInfo)) (numbers : List (ℕ × ℕ)) (id number : ℕ) → HaveOwn slots numbers
     → lookup (is_at (nat_cmp id)) numbers ≡ Some number

@@ -1,6 +1,6 @@
 -- The invariant of the maps that store rows, after each operation.
 use Rattle.std.proofs.Common.{◌≡◌, ℕ, Bool, true, false, ◌||◌, cond, List, [], ◌∷◌, map, Some, None, refl, sym, ap, ◌∙◌}
-use Rattle.std.specs.Prelude.{is_some, if◌then◌else◌}
+use Rattle.std.specs.Prelude.{is_some}
 use Rattle.std.specs.Option.{option_map}
 use Rattle.std.specs.List.{AllByRecursion, filter, list_any}
 use Rattle.std.specs.List.Sorted.{IsStrictlySortedBy}
@@ -17,12 +17,12 @@ use Rattle.lgm_check.specs.declared.row.NodeRow.{NodeRow}
 use Rattle.lgm_store.specs.declared.channel_info.ChannelInfo.{ChannelInfo}
 use Rattle.lgm_store.specs.Keys.{IsKeyed, point_cmp, direction_cmp, point_of, direction_of, id_of}
 use Rattle.lgm_store.specs.inner.ChannelEntries.{alone, with_update_in, channel_entries, update_entries}
-use Rattle.lgm_store.specs.Rows.{is_point, ends_at, ends_channel}
+use Rattle.lgm_store.specs.Rows.{ends_at, ends_channel}
 use Rattle.lgm_store.specs.Reading.{ids_at}
-use Rattle.lgm_store.specs.inner.ChannelsByNode.{entry_of, kept, with_id, without_id, changed, Lists, Lacks}
+use Rattle.lgm_store.specs.inner.ChannelsByNode.{entry_of, kept, with_id, changed, Lists, Lacks}
 use Rattle.lgm_store.specs.inner.Sound.{IsSound, AreEnded}
 use Rattle.lgm_store.proofs.ListLaws.{All-append, All-filter}
-use Rattle.lgm_store.proofs.Listing.{kept-with, without-with}
+use Rattle.lgm_store.proofs.Listing.{kept-with}
 use Rattle.lgm_store.proofs.Lists.{IsKeyed-channel, IsKeyed-update, IsKeyed-node, values-node}
 use Rattle.lgm_store.proofs.Holding.{keys-channels, lookup-channels, insert-channels, set-channels, channel-with}
 use Rattle.lgm_store.proofs.Holding.{ascend-updates, set-updates, insert-updates}
@@ -206,38 +206,6 @@ lacks id (e ∷ es) keyed none node = by (λ none. lacks id es keyed.1 none node
     by rest true is b none = let never : Some e.1 ≡ None = rw is at none in absurd cc
     by rest false is true none = rw (← keyed.0, is) (rest (rw is at none))
     by rest false is false none = rest (rw is at none)
-
--- the lists, if the channel isn't added after all
-pub IsSound-undone : (stored new : List (ℕ × ChannelInfo)) (nodes : List (Point × NodeRow)) (ends mid ends' : List (Point × List ℕ))
-    → (id : ℕ) (first second : Point) → new ≡ stored → lookup (is_at (nat_cmp id)) stored ≡ None
-    → ((ids : Point → List ℕ) → Lists ends ids → Lists mid (changed (λ list. with_id list id) ids first second))
-    → ((ids : Point → List ℕ) → Lists mid ids → Lists ends' (changed (λ list. without_id list id) ids first second))
-    → IsSound (channel_entries stored) (update_entries stored) nodes ends → IsSound (channel_entries new) (update_entries new) nodes ends'
-IsSound-undone stored new nodes ends mid ends' id first second is none adds removes sound =
-    let ids : Point → List ℕ = ids_at (values_of (channel_entries stored)) in
-    let lacking =
-    lacks id (channel_entries stored) sound.channels_keyed
-    (lookup-channels (is_at (nat_cmp id)) stored ∙ ap (option_map (λ h. h.channel)) none) in
-    rw is (record {
-      channels_keyed = sound.channels_keyed;
-      updates_keyed = sound.updates_keyed;
-      nodes_keyed = sound.nodes_keyed;
-      channels_ascend = sound.channels_ascend;
-      updates_ascend = sound.updates_ascend;
-      nodes_ascend = sound.nodes_ascend;
-      nodes_ended = sound.nodes_ended;
-      listed = λ node.
-          removes (changed (λ list. with_id list id) ids first second) (adds ids sound.listed) node
-          ∙ ap kept (back node (is_point first node || is_point second node) (lacking node));
-    })
-  where
-    back : (node : Point) (b : Bool) → list_any (is_at (nat_cmp id)) (ids_at (values_of (channel_entries stored)) node) ≡ false
-        → (if b then without_id (if b then with_id (ids_at (values_of (channel_entries stored)) node) id
-        else ids_at (values_of (channel_entries stored)) node) id
-        else if b then with_id (ids_at (values_of (channel_entries stored)) node) id
-        else ids_at (values_of (channel_entries stored)) node) ≡ ids_at (values_of (channel_entries stored)) node
-    back node true lacking = without-with (ids_at (values_of (channel_entries stored)) node) id lacking
-    back node false lacking = refl
 
 -- the lists of another index
 pub IsSound-listed : (channels : List (ℕ × ChannelRow)) (updates : List ((ℕ × Bool) × UpdateRow))

@@ -152,6 +152,20 @@ impl ChannelInfo {
         if second { &self.second } else { &self.first }
     }
 
+    /// Whether an update of this channel may be admitted, by what is first and what is last in memory of what admission
+    /// compares. No contract depends on it.
+    pub(crate) fn may_admit(&self, row: &StoredUpdate, signer: &Point) -> bool {
+        let direction = if row.is_second() {
+            &self.second
+        } else {
+            &self.first
+        };
+        let is_own = self.scid == row.scid();
+        let is_alike = direction.node.0[0] == signer.0[0];
+        let is_newer = direction.row.is_none() | (direction.time < row.timestamp());
+        is_own & is_alike & is_newer
+    }
+
     /// Whether an update with this signer is admitted, or else why not: 10 `signature`, 15 `not-newer`.
     pub(crate) fn admit_update(&self, row: &UpdateRow, signer: &Point) -> Result<(), Refusal>
         ensures { update_op row.now result ≡ update_admission (Some self.now.channel)

@@ -1,6 +1,6 @@
 //! Channels in slots, by id.
 
-ghost use Rattle.std.specs.Prelude.{◌≡◌, [], length, OnOk, OnErr};
+ghost use Rattle.std.specs.Prelude.{◌≡◌, ◌≢◌, [], true, false, is_some, length, OnOk, OnErr};
 ghost use Rattle.std.specs.Option.{option_copied, option_map, option_and_then};
 ghost use Rattle.std.specs.List.Sorted.{IsStrictlySortedBy};
 ghost use Rattle.std.specs.Map.{lookup, remove_entry, keys_of, values_of};
@@ -15,6 +15,7 @@ ghost use Rattle.lgm_store.specs.inner.Decided.{update_op};
 ghost use Rattle.lgm_store.specs.inner.ChannelTable.{id_in, IsNumbered, with_update_at};
 
 use crate::channel_info::ChannelInfo;
+use crate::hint::Hint;
 use crate::iter::Channels;
 use crate::lookup_cache::LookupCache;
 use crate::shared::Shared;
@@ -76,23 +77,25 @@ impl ChannelTable {
         Some(&self.slots[number])
     }
 
-    /// The number that the cache has for a channel, if its slot is that of the channel and this point is its node. No
-    /// contract depends on it.
-    pub(crate) fn locate(&self, scid: Scid, second: bool, node: &Point) -> Option<usize> {
-        let number = self.cache.cached(scid)?;
-        let stored = self.slots.get(number)?;
-        if stored.scid() == scid && stored.node(second) == node {
-            Some(number)
-        } else {
-            None
+    /// The number that the cache has for a channel.
+    pub(crate) fn locate(&self, scid: Scid) -> Hint {
+        Hint::new(self.cache.cached(scid))
+    }
+
+    /// The hint, if the channel in its slot may admit an update.
+    pub(crate) fn prefetch(&self, hint: Hint, row: &StoredUpdate, signer: &Point) -> Hint {
+        match self.slots.get(hint.number()) {
+            Some(stored) if stored.may_admit(row, signer) => hint,
+            _ => Hint::none(),
         }
     }
 
-    /// The number that a channel may have: the one that was located, or else the cached one.
-    fn guess(&self, located: Option<usize>, scid: Scid) -> Option<usize> {
-        match located {
-            Some(number) => Some(number),
-            None => self.cache.cached(scid),
+    /// The number that a channel may have: the one of the hint, or else the cached one.
+    fn guess(&self, hint: Hint, scid: Scid) -> Option<usize> {
+        if hint.is_none() {
+            self.cache.cached(scid)
+        } else {
+            Some(hint.number())
         }
     }
 
@@ -104,20 +107,25 @@ impl ChannelTable {
         Channels::new(self.numbers.range((start, end)), &self.slots)
     }
 
-    /// Adds a channel whose id isn't in the table. Out of memory leaves the table unchanged.
-    pub(crate) fn insert(&mut self, stored: ChannelInfo) -> Result<(), AllocError>
-        requires { lookup (is_at (nat_cmp (id_in stored))) self.old ≡ None }
-        ensures ok { OnOk result (self.new ≡ insert_entry nat_cmp self.old (id_in stored) stored) }
-        ensures err { OnErr result (self.new ≡ self.old) }
-        ensures ascend { OnOk result (IsStrictlySortedBy nat_cmp (keys_of self.new)) }
+    /// Adds a channel, and returns true, unless its id is in the table. One search of the tree decides that and adds it.
+    /// Out of memory leaves the table unchanged.
+    pub(crate) fn insert(&mut self, stored: ChannelInfo) -> Result<bool, AllocError>
+        ensures new { result ≡ Ok true → lookup (is_at (nat_cmp (id_in stored))) self.old ≡ None }
+        ensures added { result ≡ Ok true → self.new ≡ insert_entry nat_cmp self.old (id_in stored) stored }
+        ensures ascend { result ≡ Ok true → IsStrictlySortedBy nat_cmp (keys_of self.new) }
+        ensures present { result ≡ Ok false → is_some (lookup (is_at (nat_cmp (id_in stored))) self.old) ≡ true }
+        ensures same { result ≢ Ok true → self.new ≡ self.old }
     {
         self.slots.reserve(1)?;
         let (scid, number) = (stored.scid(), self.slots.vacant_key());
-        self.numbers.insert(scid, number)?;
+        if let Some(own) = self.numbers.insert(scid, number)? {
+            put_back(&mut self.numbers, scid, own);
+            return Ok(false);
+        }
         self.slots.insert_reserved(stored);
         self.cache.reserve(self.numbers.len());
         self.cache.note(scid, number);
-        Ok(())
+        Ok(true)
     }
 
     /// Removes a channel and returns it, if it is in the table.
@@ -128,6 +136,13 @@ impl ChannelTable {
     {
         let number = self.numbers.remove(&scid)?;
         Some(self.slots.remove(number))
+    }
+
+    /// Removes a channel, if it is in the table.
+    pub(crate) fn discard(&mut self, scid: Scid)
+        ensures { self.new ≡ remove_entry (is_at (nat_cmp scid)) self.old }
+    {
+        self.remove(scid);
     }
 
     /// Replaces the update of a direction, if its channel is in the table.
@@ -144,13 +159,13 @@ impl ChannelTable {
         stored.put_update(second, row);
     }
 
-    /// Stores an update if it is admitted, sharing its row; its channel is looked for where it was located first. A
-    /// refusal leaves the table unchanged.
+    /// Stores an update if it is admitted, sharing its row; its channel is looked for at the hint first. A refusal leaves
+    /// the table unchanged.
     pub(crate) fn offer_update(
         &mut self,
         row: &Shared<StoredUpdate>,
         signer: &Point,
-        located: Option<usize>,
+        hint: Hint,
     ) -> Result<(), Refusal>
         ensures admission { let stored = lookup (is_at (nat_cmp row.now.message.short_channel_id)) self.old in
             Offers (update_op row.now result) (update_admission (option_map (λ h. h.channel) stored)
@@ -159,14 +174,24 @@ impl ChannelTable {
         ensures refused { OnErr result (self.new ≡ self.old) }
     {
         let scid = row.get().scid();
-        let guess = self.guess(located, scid);
+        let guess = self.guess(hint, scid);
         let Some(number) = number_of(&self.numbers, &self.slots, guess, scid) else {
             return Err(Refusal::UnknownChannel);
         };
-        self.cache.note(scid, number);
+        self.cache.correct(guess, scid, number);
         let stored = &mut self.slots[number];
         stored.offer_update(row, signer)
     }
+}
+
+/// Gives an id of the tree the slot number that it had. Nothing is allocated.
+fn put_back(numbers: &mut BTreeMap<Scid, usize>, scid: Scid, number: usize)
+    requires { is_some (lookup (is_at (nat_cmp scid)) numbers.old.entries) ≡ true }
+    ensures { numbers.new.entries ≡ insert_entry nat_cmp numbers.old.entries scid number }
+{
+    let Ok(_) = numbers.insert(scid, number) else {
+        unreachable!();
+    };
 }
 
 impl Clone for ChannelTable {

@@ -13,7 +13,6 @@ use lgm_check::{
 use lgm_gossip::{ChainHash, Point};
 use std::alloc::{AllocError, Global};
 use std::marker::Model;
-use std::sync::atomic::{AtomicU64, Ordering};
 
 /// A message that passed all checks without a map, ready to be offered to one. Contracts see what `precheck` returns.
 ///
@@ -22,12 +21,7 @@ use std::sync::atomic::{AtomicU64, Ordering};
 #[derive(Drop)]
 pub struct CheckedMessage {
     pub(crate) kind: Kind,
-    /// The slot that may have an update's channel, or [`NOWHERE`]. Whoever takes it compares the channel's id.
-    slot: AtomicU64,
 }
-
-/// No slot.
-const NOWHERE: u64 = u64::MAX;
 
 /// Which message it is, with its row.
 #[derive(Drop)]
@@ -67,23 +61,7 @@ impl CheckedMessage {
         let checked = precheck_kind(alloc, chain, bytes, evidence)?;
         Ok(CheckedMessage {
             kind: keep(alloc, bytes, checked)?,
-            slot: AtomicU64::new(NOWHERE),
         })
-    }
-
-    /// Notes the slot that may have an update's channel.
-    pub(crate) fn note_slot(&self, slot: usize) {
-        self.slot.store(slot as u64, Ordering::Relaxed);
-    }
-
-    /// The slot that may have an update's channel, if one was noted.
-    pub(crate) fn slot(&self) -> Option<usize> {
-        let slot = self.slot.load(Ordering::Relaxed);
-        if slot == NOWHERE {
-            None
-        } else {
-            Some(slot as usize)
-        }
     }
 }
 

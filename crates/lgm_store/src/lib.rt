@@ -14,6 +14,7 @@ mod channel_info;
 mod channel_table;
 mod channels_by_node;
 mod checked_message;
+mod hint;
 mod iter;
 mod laws;
 mod lookup_cache;
@@ -25,6 +26,7 @@ mod shared;
 
 pub use channel_info::ChannelInfo;
 pub use checked_message::CheckedMessage;
+pub use hint::Hint;
 pub use iter::{Channels, ChannelsBetween, Nodes};
 pub use laws::{histories_are_lawful, rows_ascend};
 pub use map::Map;

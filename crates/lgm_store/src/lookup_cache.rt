@@ -52,6 +52,13 @@ impl LookupCache {
         }
     }
 
+    /// Stores the slot number of a channel, unless the guess was right.
+    pub(crate) fn correct(&mut self, guess: Option<usize>, scid: Scid, number: usize) {
+        if guess != Some(number) {
+            self.note(scid, number);
+        }
+    }
+
     /// Enlarges the cache if it has fewer than two entries for each of this many channels. Out of memory leaves it as
     /// it is: there are more misses then.
     pub(crate) fn reserve(&mut self, channels: usize) {

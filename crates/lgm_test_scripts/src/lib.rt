@@ -11,7 +11,7 @@ mod transcript;
 
 pub use devices::{FailingSink, FailingSource};
 pub use lgm_test_gossip::{FREE, Terms};
-pub use line::{CHAIN, Line, OTHER_CHAIN, SECRET, script_of};
+pub use line::{CHAIN, Line, OTHER_CHAIN, SECRET, item_of, script_of};
 pub use notation::spelled;
 pub use numbers::Numbers;
 pub use runs::{Differing, ended, find_differing, run_by, written};

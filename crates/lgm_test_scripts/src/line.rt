@@ -1,6 +1,7 @@
 //! Lines of scripts, with nodes and channels by numbers.
 
 use lgm_gossip::{Bytes, Scid};
+use lgm_script::{Command, Item, parse};
 use lgm_test_gossip::{Channel, FREE, Node, Terms, Update, point};
 use std::alloc::{AllocError, Global};
 
@@ -147,4 +148,12 @@ pub fn script_of(alloc: Global, lines: &[Line]) -> Result<String, AllocError> {
         script.push_str(line.text(alloc)?.as_str())?;
     }
     Ok(script)
+}
+
+/// The item that a line offers, if it does.
+pub fn item_of(alloc: Global, line: &str) -> Result<Option<Item>, AllocError> {
+    match parse(alloc, line.as_bytes())? {
+        Command::Offer(item) => Ok(Some(item)),
+        _ => Ok(None),
+    }
 }

@@ -1,7 +1,7 @@
--- Points that are compared by their first eight bytes.
-use Rattle.std.proofs.Common.{◌≡◌, ℕ, zero, suc, ◌+◌, ◌*◌, ◌<◌, ◌≤◌, List, [], ◌∷◌, length, get_or, take, refl, sym, ap, subst, ◌∙◌, arith}
+-- Points that are compared by their first eight bytes, or by all but the last and the last.
+use Rattle.std.proofs.Common.{◌≡◌, ℕ, zero, suc, Bool, true, false, ◌&&◌, nat_eq, ◌+◌, ◌*◌, ◌<◌, ◌≤◌, List, [], ◌∷◌, length, get_or, take, refl, sym, ap, subst, ◌∙◌, arith}
 use Rattle.std.specs.Cmp.{ranks, nat_cmp_is}
-use Rattle.std.specs.Cmp.Lexicographic.{slice_cmp}
+use Rattle.std.specs.Cmp.Lexicographic.{slice_cmp, pointwise}
 use Rattle.std.specs.Int.{w64, from_be_bytes}
 use Rattle.std.specs.declared.cmp.Ordering.{Ordering}
 use Rattle.std.specs.declared.cmp.Ordering.TheVariants.{Less, Equal, Greater}
@@ -72,3 +72,25 @@ front_decides xs ys x y many more small also first second differ =
     let here = first ∙ eight_bytes xs many in
     let there = second ∙ eight_bytes ys more in
     rw (here, there) (decides 8 0 xs ys many more small also (λ e. differ (here ∙ e ∙ sym there)))
+
+-- ---- the first bytes and the last one
+
+-- lists of one length are the same where all elements but the last are, and the last
+pub first_and_last : (n : ℕ) (xs ys : List ℕ) → length xs ≡ suc n → length ys ≡ suc n
+    → (pointwise nat_eq (take n xs) (take n ys) && nat_eq (get_or xs n 0) (get_or ys n 0)) ≡ pointwise nat_eq xs ys
+first_and_last n [] ys len len' = absurd (omega (arith, len))
+first_and_last n (x ∷ xs) [] len len' = absurd (omega (arith, len'))
+first_and_last zero (x ∷ []) (y ∷ []) len len' = alone (nat_eq x y)
+  where
+    alone : (b : Bool) → b ≡ (b && true)
+    alone true = refl
+    alone false = refl
+first_and_last zero (x ∷ []) (y ∷ y' ∷ ys) len len' = absurd (omega (arith, len'))
+first_and_last zero (x ∷ x' ∷ xs) (y ∷ ys) len len' = absurd (omega (arith, len))
+first_and_last (suc n) (x ∷ xs) (y ∷ ys) len len' =
+    by (first_and_last n xs ys (omega (arith, len)) (omega (arith, len'))) (nat_eq x y)
+  where
+    by : (pointwise nat_eq (take n xs) (take n ys) && nat_eq (get_or xs n 0) (get_or ys n 0)) ≡ pointwise nat_eq xs ys → (b : Bool)
+        → ((b && pointwise nat_eq (take n xs) (take n ys)) && nat_eq (get_or xs n 0) (get_or ys n 0)) ≡ (b && pointwise nat_eq xs ys)
+    by others true = others
+    by others false = refl

@@ -1,18 +1,19 @@
 //! Points: node ids and bitcoin keys.
 
-ghost use Rattle.std.specs.Prelude.{◌≡◌, [], ◌∷◌, take, drop, Some};
+ghost use Rattle.std.specs.Prelude.{◌≡◌, [], ◌∷◌, take, drop, nat_eq, Some};
 ghost use Rattle.std.specs.Cmp.{on_total, on_po};
-ghost use Rattle.std.specs.Cmp.Lexicographic.{bytes_decides, slice_cmp, nat_list_cmp_total, texts_ties, texts_po};
+ghost use Rattle.std.specs.Cmp.Rules.{comparing};
+ghost use Rattle.std.specs.Cmp.Lexicographic.{pointwise, bytes_decides, slice_cmp, nat_list_cmp_total, texts_ties, texts_po};
 ghost use Rattle.std.specs.Int.{w64, from_be_bytes};
-ghost use Rattle.std.specs.Ordering.{nat_cmp};
-ghost use Rattle.std.proofs.Common.{ap, refl};
+ghost use Rattle.std.specs.Ordering.{nat_cmp, on};
+ghost use Rattle.std.proofs.Common.{ap, refl, rules};
 ghost use Rattle.lgm_wire.specs.Point.{is_lawful};
 
 use std::cmp::Ordering;
 use std::hash::{Hash, Hasher};
 
 /// A compressed point: 33 bytes, ordered bytewise (BOLT 1, "Fundamental Types").
-#[derive(Clone, Copy, Debug, PartialEq, Eq)]
+#[derive(Clone, Copy, Debug)]
 pub struct Point(pub [u8; 33]);
 
 impl Point {
@@ -47,6 +48,33 @@ fn order(first: &[u8; 33], second: &[u8; 33]) -> Ordering
         return Ordering::Greater;
     }
     first.cmp(second)
+}
+
+/// Whether the bytes are the same. The first 32 are compared in one step, as they are copied, so a point that was just
+/// copied is compared without waiting for the copy to reach the memory.
+#[inline(always)]
+fn are_same(first: &[u8; 33], second: &[u8; 33]) -> bool
+    ensures { result ≡ pointwise nat_eq first.now second.now }
+{
+    let (Some(x), Some(y)) = (first.first_chunk::<32>(), second.first_chunk::<32>()) else {
+        unreachable!();
+    };
+    (*x == *y) & (first[32] == second[32])
+}
+
+impl PartialEq for Point {
+    ghost eq = { on (λ p. p.0) (pointwise nat_eq) };
+
+    ghost laws = { Prim.search (comparing, rules) };
+
+    #[inline(always)]
+    fn eq(&self, other: &Point) -> bool {
+        are_same(&self.0, &other.0)
+    }
+}
+
+impl Eq for Point {
+    ghost laws = { Prim.search rules };
 }
 
 impl PartialOrd for Point {

@@ -2,9 +2,8 @@
 
 use super::item::take_offer;
 use lgm_query::{Filter, ReplyMessage, backlog, news};
-use lgm_script::parse_item;
 use lgm_store::Map;
-use lgm_test_scripts::spelled;
+use lgm_test_scripts::{item_of, spelled};
 use std::alloc::{AllocError, Global};
 use std::process::Abort;
 use std::test::Fail;
@@ -19,7 +18,7 @@ const ALL: Filter = Filter {
 fn take_lines(alloc: Global, map: &mut Map, lines: &str) -> Result<(), Fail> {
     let text = spelled(alloc, lines)?;
     for line in text.as_str().lines() {
-        if let Some(item) = parse_item(Vec::new(alloc), line.as_bytes())? {
+        if let Some(item) = item_of(alloc, line)? {
             take_offer(alloc, map, &item)?;
         }
     }

@@ -1,6 +1,6 @@
 //! Applying operations to a map.
 
-ghost use Rattle.std.specs.Prelude.{◌≡◌, true, false, OnOk, OnErr, filter, is_some, IfOk, ◌++◌};
+ghost use Rattle.std.specs.Prelude.{◌≡◌, ◌≢◌, true, false, OnOk, OnErr, filter, is_some, IfOk, ◌++◌};
 ghost use Rattle.std.specs.BTreeMap.{values, IsOrdered};
 ghost use Rattle.lgm_store.specs.Rows.{channel_of, ends_channel, ends_banned};
 ghost use Rattle.lgm_store.specs.Keys.{IsKeyed, point_cmp, point_of};
@@ -34,7 +34,10 @@ impl Map {
         ensures err { OnErr result (self.new ≡ self.old) }
     {
         match op {
-            Op::Channel(row) => self.add_channel(row.share()?),
+            Op::Channel(row) => {
+                self.add_channel(row)?;
+                Ok(())
+            }
             Op::Update(row) => {
                 self.put_update(row.share()?);
                 Ok(())
@@ -48,38 +51,27 @@ impl Map {
         }
     }
 
-    fn add_channel(&mut self, row: Shared<StoredChannel>) -> Result<(), AllocError>
-        ensures ok { OnOk result (self.new ≡ with_channel self.old row) }
-        ensures err { OnErr result (self.new ≡ self.old) }
-    {
-        let channel = row.get();
-        if self
-            .banned
-            .contains_either(&channel.node(false), &channel.node(true))
-        {
-            return Ok(());
-        }
-        if self.channel_info(channel.scid()).is_some() {
-            return Ok(());
-        }
-        self.insert_channel(row)
-    }
-
-    /// Adds a channel that isn't in the map and has no banned node.
-    pub(crate) fn insert_channel(&mut self, row: Shared<StoredChannel>) -> Result<(), AllocError>
-        requires new { is_some (channel_of self.old.channels row.message.short_channel_id) ≡ false }
-        requires allowed { ends_banned self.old.banned row ≡ false }
-        ensures ok { OnOk result (self.new ≡ with_channel self.old row) }
-        ensures err { OnErr result (self.new ≡ self.old) }
+    /// Adds a channel, sharing its row, and returns true, unless it is in the map or one of its nodes is banned. Out of
+    /// memory leaves the map unchanged.
+    pub(crate) fn add_channel(&mut self, row: &Shared<StoredChannel>) -> Result<bool, AllocError>
+        ensures ok { OnOk result (self.new ≡ with_channel self.old row.now) }
+        ensures new { result ≡ Ok true → is_some (channel_of self.old.channels row.now.message.short_channel_id) ≡ false }
+        ensures allowed { result ≡ Ok true → ends_banned self.old.banned row.now ≡ false }
+        ensures same { result ≢ Ok true → self.new ≡ self.old }
     {
         row.get().bytes_encode_row();
-        let stored = ChannelInfo::new(row);
+        let stored = ChannelInfo::new(row.share()?);
         let (scid, first, second) = (stored.scid(), *stored.node(false), *stored.node(true));
-        self.ends.add(first, second, scid)?;
-        match self.channels.insert(stored) {
-            Ok(()) => Ok(()),
+        if self.banned.contains_either(&first, &second) {
+            return Ok(false);
+        }
+        if !self.channels.insert(stored)? {
+            return Ok(false);
+        }
+        match self.ends.add(first, second, scid) {
+            Ok(()) => Ok(true),
             Err(refused) => {
-                self.ends.remove(&first, &second, scid);
+                self.channels.discard(scid);
                 Err(refused)
             }
         }

@@ -55,7 +55,7 @@ impl Map {
     pub fn admit_checked(&self, alloc: Global, message: CheckedMessage) -> Result<Op, Refusal>
         ensures { Offers result (admitted self.now message) }
     {
-        let CheckedMessage { kind, .. } = message;
+        let CheckedMessage { kind } = message;
         match kind {
             Kind::Channel(row) => match self.admit_stored_channel(row.get())? {
                 Some(ban) => Ok(Op::Ban(Shared::new(alloc, ban)?)),

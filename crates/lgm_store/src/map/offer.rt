@@ -8,6 +8,7 @@ ghost use Rattle.lgm_store.specs.History.{absorbed};
 
 use super::Map;
 use crate::checked_message::{CheckedMessage, Kind};
+use crate::hint::Hint;
 use crate::op::Op;
 use crate::shared::Shared;
 use lgm_check::{Refusal, StoredChannel, StoredNode, StoredUpdate};
@@ -24,25 +25,45 @@ impl Map {
         ensures accepted { IfOk result (λ op. self.new ≡ absorbed self.old op) }
         ensures refused { OnErr result (self.new ≡ self.old) }
     {
-        let located = message.slot();
-        let CheckedMessage { kind, .. } = message;
+        self.offer_at(alloc, message, Hint::none())
+    }
+
+    /// Like [`Map::offer_checked`], but looks for an update's channel at a hint first, which is faster if it is right.
+    pub fn offer_at(
+        &mut self,
+        alloc: Global,
+        message: CheckedMessage,
+        hint: Hint,
+    ) -> Result<Op, Refusal>
+        ensures admission { Offers result (admitted self.old message) }
+        ensures accepted { IfOk result (λ op. self.new ≡ absorbed self.old op) }
+        ensures refused { OnErr result (self.new ≡ self.old) }
+    {
+        let CheckedMessage { kind } = message;
         match kind {
             Kind::Channel(row) => self.offer_channel(alloc, row),
-            Kind::Update(row, signer) => self.offer_update(row, &signer, located),
+            Kind::Update(row, signer) => self.offer_update(row, &signer, hint),
             Kind::Node(row) => self.offer_node(row),
         }
     }
 
-    /// Looks up where an update's channel is stored, and notes it in the message, which is then offered faster. No answer
-    /// depends on it. Updates that are located one after the other, before the first of them is offered, wait for the
-    /// memory together.
-    pub fn locate(&self, message: &CheckedMessage) {
-        let Kind::Update(row, signer) = &message.kind else {
-            return;
-        };
-        let (scid, second) = (row.get().scid(), row.get().is_second());
-        if let Some(slot) = self.channels.locate(scid, second, signer) {
-            message.note_slot(slot);
+    /// Where an update's channel may be stored.
+    ///
+    /// Messages that are looked up one after the other wait for the memory together. So a caller that offers many
+    /// locates all of them first, then calls [`Map::prefetch`] for each, and then offers them.
+    pub fn locate(&self, message: &CheckedMessage) -> Hint {
+        match &message.kind {
+            Kind::Update(row, _) => self.channels.locate(row.get().scid()),
+            _ => Hint::none(),
+        }
+    }
+
+    /// Reads what is stored where an update was located, so that the processor's cache has it. Returns the hint, unless
+    /// another channel is there, as far as it looks.
+    pub fn prefetch(&self, message: &CheckedMessage, hint: Hint) -> Hint {
+        match &message.kind {
+            Kind::Update(row, signer) => self.channels.prefetch(hint, row.get(), signer),
+            _ => hint,
         }
     }
 
@@ -65,20 +86,23 @@ impl Map {
         ensures accepted { IfOk result (λ op. self.new ≡ absorbed self.old op) }
         ensures refused { OnErr result (self.new ≡ self.old) }
     {
-        if let Some(ban) = self.admit_stored_channel(row.get())? {
-            let ban = Shared::new(alloc, ban)?;
-            self.ban(ban.get())?;
-            return Ok(Op::Ban(ban));
+        if let Ok(true) = self.add_channel(&row) {
+            return Ok(Op::Channel(row));
         }
-        self.insert_channel(row.share()?)?;
-        Ok(Op::Channel(row))
+        // It is refused, or calls for a ban, or memory is short.
+        let Some(ban) = self.admit_stored_channel(row.get())? else {
+            return Err(Refusal::NoMemory);
+        };
+        let ban = Shared::new(alloc, ban)?;
+        self.ban(ban.get())?;
+        Ok(Op::Ban(ban))
     }
 
     fn offer_update(
         &mut self,
         row: Shared<StoredUpdate>,
         signer: &Point,
-        located: Option<usize>,
+        hint: Hint,
     ) -> Result<Op, Refusal>
         ensures admission { let id = row.message.short_channel_id in
             Offers result (update_admission (channel_of self.old.channels id)
@@ -87,7 +111,7 @@ impl Map {
         ensures refused { OnErr result (self.new ≡ self.old) }
     {
         row.get().bytes_encode_row();
-        match self.channels.offer_update(&row, signer, located) {
+        match self.channels.offer_update(&row, signer, hint) {
             Ok(()) => Ok(Op::Update(row)),
             Err(refusal) => Err(refusal),
         }

@@ -2,18 +2,40 @@
 
 use lgm_check::{Evidence, Funding, Sig};
 use lgm_gossip::{Point, Scid};
-use lgm_script::{Item, parse_item};
+use lgm_script::{Command, Item, ItemForm, decode_digits, item_form, parse};
 use std::test::Fail;
 
 /// A point: 02, and then 32 times 0a.
 const SIGNER: &str = "020a0a0a0a0a0a0a0a0a0a0a0a0a0a0a0a0a0a0a0a0a0a0a0a0a0a0a0a0a0a0a0A";
 
 /// Whether a line offers the message of two bytes, 1 and 255, with these verdicts.
-fn offers(item: &Option<Item>, sig: Sig, funding: Funding) -> bool {
-    match item {
-        Some(Item::Gossip(bytes, evidence)) => {
+fn offers(command: &Command, sig: Sig, funding: Funding) -> bool {
+    match command {
+        Command::Offer(Item::Gossip(bytes, evidence)) => {
             bytes.as_slice() == [0x01, 0xff].as_slice() && *evidence == Evidence { sig, funding }
         }
+        _ => false,
+    }
+}
+
+/// Whether a line spells that message, by its form.
+fn spells(line: &[u8], sig: Sig, funding: Funding) -> bool {
+    let mut bytes = [0; 2];
+    match &item_form(line) {
+        Some(ItemForm::Message(digits, evidence)) => {
+            digits.len() == 4
+                && decode_digits(digits, &mut bytes)
+                && bytes == [0x01, 0xff]
+                && *evidence == Evidence { sig, funding }
+        }
+        _ => false,
+    }
+}
+
+/// Whether a line spells the close of a channel, by its form.
+fn closes(line: &[u8], named: Scid) -> bool {
+    match &item_form(line) {
+        Some(ItemForm::Close(scid)) => *scid == named,
         _ => false,
     }
 }
@@ -35,12 +57,17 @@ fn items(rt: HostRuntime) -> Result<(), Fail> {
     ] {
         let verdicts = fields.replace(alloc, "SIGNER", SIGNER)?;
         let line = format!(in alloc; "m 01fF {verdicts}")?;
-        let item = parse_item(Vec::new(alloc), line.as_bytes())?;
-        assert!(rt; offers(&item, sig, funding), "{line}");
+        assert!(rt;
+            offers(&parse(alloc, line.as_bytes())?, sig, funding),
+            "{line}"
+        );
+        assert!(rt; spells(line.as_bytes(), sig, funding), "{line}");
     }
-    let close = parse_item(Vec::new(alloc), b"close 539268x845x1")?;
-    let is_named = matches!(&close, Some(Item::Close(scid)) if *scid == Scid::new(539_268, 845, 1));
-    assert!(rt; is_named, "close");
+    let named = Scid::new(539_268, 845, 1);
+    let close = b"close 539268x845x1".as_slice();
+    let offered = parse(alloc, close)?;
+    assert!(rt; matches!(&offered, Command::Offer(Item::Close(scid)) if *scid == named));
+    assert!(rt; closes(close, named));
     Ok(())
 }
 
@@ -79,8 +106,8 @@ fn no_items(rt: HostRuntime) -> Result<(), Fail> {
         "close 1x2x3 ",
         "close 1 2 3",
     ] {
-        let item = parse_item(Vec::new(alloc), line.as_bytes())?;
-        assert!(rt; item.is_none(), "{line}");
+        let command = parse(alloc, line.as_bytes())?;
+        assert!(rt; !matches!(command, Command::Offer(_)), "{line}");
     }
     Ok(())
 }

@@ -6,7 +6,7 @@ use Rattle.lgm_check.specs.declared.refusal.Refusal.TheVariants.{NoMemory}
 use Rattle.lgm_store.specs.declared.op.Op.{Op}
 use Rattle.lgm_store.specs.Rows.{Rows}
 use Rattle.lgm_store.specs.Admission.{admitted, Offers}
-use Rattle.lgm_graph.proofs.network.Network.offer.Goals as goal
+use Rattle.lgm_graph.proofs.network.Network.offer_at.Goals as goal
 
 -- an operation was admitted, and then memory ran out
 offers_less : (admission first answer : Result Op Refusal) (op : Op) → Offers first admission → first ≡ Ok op

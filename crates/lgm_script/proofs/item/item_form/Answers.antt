@@ -1,5 +1,5 @@
 use Rattle.lgm_script.proofs.Items.{offers_what_its_word_tells}
-use Rattle.lgm_script.proofs.item.parse_item.Goals as goal
+use Rattle.lgm_script.proofs.item.item_form.Goals as goal
 
 -- a line with another first word offers nothing
 pub returns : goal.returns
