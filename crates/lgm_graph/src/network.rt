@@ -159,6 +159,7 @@ impl Network {
     }
 
     /// Like [`Network::offer`], but looks for an update's channel at a hint first, which is faster if it is right.
+    #[inline(always)]
     pub fn offer_at(
         &mut self,
         alloc: Global,

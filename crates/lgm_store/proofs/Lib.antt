@@ -20,6 +20,7 @@ pub mod Kept
 pub mod Slotted
 pub mod Numbering
 pub mod Putting
+pub mod Collecting
 pub mod Deciding
 pub mod Verdicts
 pub mod Spelling

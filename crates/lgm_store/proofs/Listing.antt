@@ -13,7 +13,12 @@ use Rattle.std.proofs.lemmas.Bool.Decides.{nat_tests}
 use Rattle.lgm_wire.specs.declared.point.Point.{Point}
 use Rattle.lgm_store.specs.Rows.{is_point}
 use Rattle.lgm_store.proofs.Points.{same_point, is_point-self}
-use Rattle.lgm_store.specs.inner.ChannelsByNode.{with_id, without_id, entry_of, list_at, kept, IsSame, Sets, Lists, Lacks, changed}
+use Rattle.std.specs.Prelude.{slice_get}
+use Rattle.std.specs.Cmp.{IsEquivalence}
+use Rattle.std.specs.Map.{lookup_key}
+use Rattle.indexmap.specs.IndexMap.{IndexMap, IsUnique, with_value_at}
+use Rattle.indexmap.proofs.CallerLemmas.{updates-with_value_at}
+use Rattle.lgm_store.specs.inner.ChannelsByNode.{with_id, without_id, entry_of, list_at, kept, IsSame, Sets, Lists, Lacks, changed, IsPlaceOf}
 
 -- ---- inserting and removing keys
 
@@ -150,3 +155,55 @@ IsSame-put old inside new p list view_is was puts q = by (is_point p q) refl
     by : (b : Bool) → is_point p q ≡ b → entry_of new q ≡ entry_of old q
     by true is = puts q ∙ rw is (was ∙ ap (entry_of inside) (same_point p q is) ∙ ap (λ es. entry_of es q) view_is)
     by false is = puts q ∙ rw is (ap (λ es. entry_of es q) view_is)
+
+-- ---- the place of a point
+
+point_equiv : IsEquivalence is_point
+point_equiv = record {
+  refl = λ p. nat_list_eq_equiv.refl p.0;
+  symm = λ p q. nat_list_eq_equiv.symm p.0 q.0;
+  congr = λ p q r. nat_list_eq_equiv.congr p.0 q.0 r.0;
+}
+
+-- where a key stands that is the point
+pub place-of : (entries : List (Point × List ℕ)) (p own : Point) (i : ℕ) (list : List ℕ) → slice_get entries i ≡ Some (own, list)
+    → entry_of entries own ≡ Some list → is_point own p ≡ true → IsPlaceOf entries p i
+place-of entries p own i list at entry same =
+    let is : own ≡ p = same_point own p same in
+    (list, at ∙ ap (λ (x : Point). Some (x, list)) is, ap (entry_of entries) (sym is) ∙ entry)
+
+-- a key that was found is the point
+found-key : (entries : List (Point × List ℕ)) (p own : Point) → Some own ≡ lookup_key (is_point p) entries → p ≡ own
+found-key [] p own found = absurd cc
+found-key (e ∷ es) p own found = by (found-key es p own) (is_point p e.0) refl found
+  where
+    by : (Some own ≡ lookup_key (is_point p) es → p ≡ own) → (b : Bool) → is_point p e.0 ≡ b
+        → Some own ≡ cond b (Some e.0) (lookup_key (is_point p) es) → p ≡ own
+    by rest true is found = let own_is : own ≡ e.0 = cc in same_point p e.0 is ∙ sym own_is
+    by rest false is found = rest found
+
+-- where a key stands that was found
+pub place-found : (entries : List (Point × List ℕ)) (p own : Point) (i : ℕ) (list : List ℕ) → slice_get entries i ≡ Some (own, list)
+    → Some own ≡ lookup_key (is_point p) entries → Some list ≡ entry_of entries p → IsPlaceOf entries p i
+place-found entries p own i list at found entry =
+    (list, at ∙ ap (λ (x : Point). Some (x, list)) (sym (found-key entries p own found)), sym entry)
+
+-- a list that is lent at the place of a point
+module _ {S : Type 0} (map : IndexMap Point (List ℕ) S) (p own : Point) (i : ℕ) (list : List ℕ)
+    (at : slice_get map.entries i ≡ Some (own, list)) (place : IsPlaceOf map.entries p i) where
+  same : ◌≡◌ {A = Point × List ℕ} (own, list) (p, place.0)
+  same = ap (λ o. unwrap_or o (own, list)) (sym at ∙ place.1)
+
+  -- it is the point's
+  pub entry-lent : entry_of map.entries p ≡ Some list
+  entry-lent = place.2 ∙ ap (λ (e : Point × List ℕ). Some e.1) (sym same)
+
+  pub list-lent : list ≡ list_at map.entries p
+  list-lent = ap (λ o. unwrap_or o []) (sym entry-lent)
+
+  -- the entries once it is written
+  pub entries-lent : (other : List ℕ) → IsUnique is_point map
+      → (q : Point) → entry_of (with_value_at map i other).entries q ≡ cond (is_point p q) (Some other) (entry_of map.entries q)
+  entries-lent other unique q =
+      (updates-with_value_at map i other point_equiv unique own list at).0 q
+      ∙ ap (λ (e : Point × List ℕ). cond (is_point e.0 q) (Some other) (entry_of map.entries q)) same

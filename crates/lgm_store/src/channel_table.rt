@@ -73,13 +73,18 @@ impl ChannelTable {
     pub(crate) fn get(&self, scid: Scid) -> Option<&ChannelInfo>
         ensures { option_copied result ≡ lookup (is_at (nat_cmp scid)) self.now }
     {
-        let number = number_of(&self.numbers, &self.slots, self.cache.cached(scid), scid)?;
+        let number = number_of(
+            &self.numbers,
+            &self.slots,
+            self.cache.cached(scid.to_u64()),
+            scid,
+        )?;
         Some(&self.slots[number])
     }
 
     /// The number that the cache has for a channel.
     pub(crate) fn locate(&self, scid: Scid) -> Hint {
-        Hint::new(self.cache.cached(scid))
+        Hint::new(self.cache.cached(scid.to_u64()))
     }
 
     /// The hint, if the channel in its slot may admit an update.
@@ -93,7 +98,7 @@ impl ChannelTable {
     /// The number that a channel may have: the one of the hint, or else the cached one.
     fn guess(&self, hint: Hint, scid: Scid) -> Option<usize> {
         if hint.is_none() {
-            self.cache.cached(scid)
+            self.cache.cached(scid.to_u64())
         } else {
             Some(hint.number())
         }
@@ -124,7 +129,7 @@ impl ChannelTable {
         }
         self.slots.insert_reserved(stored);
         self.cache.reserve(self.numbers.len());
-        self.cache.note(scid, number);
+        self.cache.note(scid.to_u64(), number);
         Ok(true)
     }
 
@@ -150,11 +155,15 @@ impl ChannelTable {
         ensures { self.new ≡ with_update_at self.old row }
     {
         let (scid, second) = (row.get().scid(), row.get().is_second());
-        let Some(number) = number_of(&self.numbers, &self.slots, self.cache.cached(scid), scid)
-        else {
+        let Some(number) = number_of(
+            &self.numbers,
+            &self.slots,
+            self.cache.cached(scid.to_u64()),
+            scid,
+        ) else {
             return;
         };
-        self.cache.note(scid, number);
+        self.cache.note(scid.to_u64(), number);
         let stored = &mut self.slots[number];
         stored.put_update(second, row);
     }
@@ -178,7 +187,7 @@ impl ChannelTable {
         let Some(number) = number_of(&self.numbers, &self.slots, guess, scid) else {
             return Err(Refusal::UnknownChannel);
         };
-        self.cache.correct(guess, scid, number);
+        self.cache.correct(guess, scid.to_u64(), number);
         let stored = &mut self.slots[number];
         stored.offer_update(row, signer)
     }

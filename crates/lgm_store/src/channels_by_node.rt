@@ -1,22 +1,28 @@
 //! The channels of each node.
 
-ghost use Rattle.std.specs.Prelude.{◌≡◌, ◌++◌, ℕ, [], List, is_some, IfOk, OnOk, OnErr};
+ghost use Rattle.std.specs.Prelude.{◌≡◌, ◌++◌, ℕ, [], List, None, is_some, IfOk, IfNone, IfSome, OnOk, OnErr};
 ghost use Rattle.lgm_wire.specs.declared.point.Point.{Point};
 ghost use Rattle.lgm_store.specs.inner.ChannelsByNode.{entry_of, list_at, with_id, without_id};
-ghost use Rattle.lgm_store.specs.inner.ChannelsByNode.{changed, Lacks, Sets, IsSame, Lists};
+ghost use Rattle.lgm_store.specs.inner.ChannelsByNode.{changed, Lacks, Sets, IsSame, Lists, IsPlaceOf};
 
+use crate::lookup_cache::LookupCache;
 use crate::scid_set::ScidSet;
 use crate::seed::Seed;
+use indexmap::IndexMap;
 use lgm_gossip::{Point, Scid};
 use std::alloc::{AllocError, Global};
-use std::collections::HashMap;
 use std::marker::Model;
 
 /// The ids of the channels of each node. A point has an entry if and only if a channel ends at it.
+///
+/// The hash table is keyed by a seed, since strangers choose the points. A lookup cache in front spares most lookups its
+/// hash.
 #[derive(Drop)]
 pub(crate) struct ChannelsByNode {
     alloc: Global,
-    lists: HashMap<Point, ScidSet, Seed>,
+    lists: IndexMap<Point, ScidSet, Seed>,
+    /// In front of the hash table. No contract depends on it.
+    cache: LookupCache,
 }
 
 impl Model for ChannelsByNode {
@@ -35,7 +41,8 @@ impl ChannelsByNode {
     {
         Ok(ChannelsByNode {
             alloc,
-            lists: HashMap::with_capacity_and_hasher(alloc, 0, seed)?,
+            lists: IndexMap::with_hasher(alloc, seed),
+            cache: LookupCache::new(alloc),
         })
     }
 
@@ -48,7 +55,19 @@ impl ChannelsByNode {
     pub(crate) fn contains(&self, point: &Point) -> bool
         ensures { result ≡ is_some (entry_of self.now point.now) }
     {
-        self.lists.contains_key(point)
+        place_of(&self.lists, self.cache.cached(key_of(point)), point).is_some()
+    }
+
+    /// Reads what adding a channel of a point will read, so that the processor's cache has it. Returns whether the channel
+    /// was added last, as far as it looks.
+    pub(crate) fn prefetch(&self, point: &Point, scid: Scid) -> bool {
+        let Some(place) = self.cache.cached(key_of(point)) else {
+            return false;
+        };
+        match self.lists.get_index(place) {
+            Some((own, list)) => (own.0[32] == point.0[32]) & (list.last() == Some(scid)),
+            None => false,
+        }
     }
 
     /// Appends the ids of a point's channels, ascending. The only error is out of memory.
@@ -56,7 +75,7 @@ impl ChannelsByNode {
         ensures { OnOk result (scids.new.items ≡ scids.old.items ++ list_at self.now point.now) }
     {
         if let Some(list) = self.lists.get(point) {
-            list.gather(scids)?;
+            list.gather(self.alloc, scids)?;
         }
         Ok(())
     }
@@ -97,6 +116,7 @@ impl ChannelsByNode {
         Ok(ChannelsByNode {
             alloc: self.alloc,
             lists: self.lists.clone()?,
+            cache: self.cache.clone()?,
         })
     }
 
@@ -104,21 +124,53 @@ impl ChannelsByNode {
         ensures ok { OnOk result (Sets self.old self.new point (with_id (list_at self.old point) scid)) }
         ensures err { OnErr result (IsSame self.old self.new) }
     {
-        if let Some(list) = self.lists.get_mut(&point) {
+        let guess = self.cache.cached(key_of(&point));
+        if let Some(place) = place_of(&self.lists, guess, &point) {
+            self.cache.correct(guess, key_of(&point), place);
+            let (_, list) = self.lists.pair_mut(place);
             return list.insert(self.alloc, scid);
         }
-        self.lists.insert(point, ScidSet::of(scid))?;
+        let (place, _) = self.lists.insert_full(point, ScidSet::of(scid))?;
+        self.cache.reserve(self.lists.len());
+        self.cache.note(key_of(&point), place);
         Ok(())
     }
 
     fn remove_one(&mut self, point: &Point, scid: Scid)
         ensures { Sets self.old self.new point.now (without_id (list_at self.old point.now) scid) }
     {
-        if let Some(list) = self.lists.get_mut(point) {
+        let guess = self.cache.cached(key_of(point));
+        if let Some(place) = place_of(&self.lists, guess, point) {
+            let (_, list) = self.lists.pair_mut(place);
             list.remove(self.alloc, scid);
             if list.is_empty() {
-                self.lists.remove(point);
+                self.lists.swap_remove(point);
             }
         }
     }
+}
+
+/// What a point is cached by: the first eight bytes of its x coordinate.
+fn key_of(point: &Point) -> u64 {
+    let [_, a, b, c, d, e, f, g, h, ..] = point.0;
+    u64::from_be_bytes([a, b, c, d, e, f, g, h])
+}
+
+/// The place of a point's list, if it has one: the guess if the point is there, else the hash table's.
+fn place_of(
+    lists: &IndexMap<Point, ScidSet, Seed>,
+    guess: Option<usize>,
+    point: &Point,
+) -> Option<usize>
+    ensures some { IfSome result (IsPlaceOf lists.now.entries point.now) }
+    ensures none { IfNone result (entry_of lists.now.entries point.now ≡ None) }
+{
+    if let Some(place) = guess {
+        match lists.get_index(place) {
+            Some((own, _)) if *own == *point => return Some(place),
+            _ => {}
+        }
+    }
+    let (place, _, _) = lists.get_full(point)?;
+    Some(place)
 }

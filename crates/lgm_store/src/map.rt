@@ -21,8 +21,8 @@ use std::marker::Model;
 
 /// The public channels, their updates and nodes, as announced, and the banned nodes. Contracts see the rows.
 ///
-/// A call on one item takes time logarithmic in the size of the map; a ban takes that for each channel of its four
-/// nodes.
+/// A call on one item takes time logarithmic in the size of the map; a close takes also a pass over the ids of the
+/// channels of its two nodes, and a ban takes what a close does for each channel of its four nodes.
 #[derive(Drop)]
 pub struct Map {
     alloc: Global,

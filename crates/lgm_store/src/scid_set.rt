@@ -1,14 +1,18 @@
 //! Sets of channel ids.
 
-ghost use Rattle.std.specs.Prelude.{◌≡◌, ◌∷◌, ◌++◌, [], IfOk, OnOk, OnErr, length, ◌==◌};
+ghost use Rattle.std.specs.Prelude.{◌≡◌, ◌∷◌, ◌++◌, [], IfOk, OnOk, OnErr, length, ◌==◌, filter};
 ghost use Rattle.lgm_store.specs.inner.ChannelsByNode.{with_id, without_id};
+ghost use Rattle.lgm_store.specs.inner.ScidSet.{collected, is_other};
 
 use lgm_gossip::Scid;
 use std::alloc::{AllocError, Global};
 use std::collections::BTreeSet;
 use std::marker::Model;
 
-/// A set of channel ids. Contracts see them ascending. A set of one, as for most nodes, needs no allocation.
+/// A set of channel ids. Contracts see them ascending.
+///
+/// They are stored as they arrive: adding one takes constant time, removing one takes a pass over all. They are sorted
+/// when they are read, which only a ban requires. A set of one, as for most nodes, needs no allocation.
 #[derive(Drop)]
 pub(crate) struct ScidSet {
     place: Place,
@@ -19,8 +23,8 @@ pub(crate) struct ScidSet {
 enum Place {
     /// A single id.
     One(Scid),
-    /// Any number of ids.
-    Many(BTreeSet<Scid>),
+    /// Any number of ids, in order of arrival; one that is added again stands there again.
+    Many(Vec<Scid>),
 }
 
 impl Model for ScidSet {
@@ -47,7 +51,7 @@ impl ScidSet {
     {
         match &self.place {
             Place::One(_) => false,
-            Place::Many(scids) => scids.is_empty(),
+            Place::Many(scids) => scids.as_slice().is_empty(),
         }
     }
 
@@ -61,9 +65,7 @@ impl ScidSet {
                 let both = both(alloc, *own, scid)?;
                 self.place = Place::Many(both);
             }
-            Place::Many(scids) => {
-                scids.insert(scid)?;
-            }
+            Place::Many(scids) => scids.push(scid)?,
         }
         Ok(())
     }
@@ -74,34 +76,62 @@ impl ScidSet {
         match &mut self.place {
             Place::One(own) => {
                 if scid.cmp(own).is_eq() {
-                    self.place = Place::Many(BTreeSet::new(alloc));
+                    self.place = Place::Many(Vec::new(alloc));
                 }
             }
-            Place::Many(scids) => {
-                scids.remove(&scid);
-            }
+            Place::Many(scids) => discard(scids, scid),
         }
     }
 
-    /// Appends the ids to a vector. The only error is out of memory.
-    pub(crate) fn gather(&self, scids: &mut Vec<Scid>) -> Result<(), AllocError>
+    /// The id that was added last, as far as the set knows.
+    pub(crate) fn last(&self) -> Option<Scid> {
+        match &self.place {
+            Place::One(own) => Some(*own),
+            Place::Many(scids) => scids.as_slice().last().copied(),
+        }
+    }
+
+    /// Appends the ids to a vector, ascending. The only error is out of memory.
+    pub(crate) fn gather(&self, alloc: Global, scids: &mut Vec<Scid>) -> Result<(), AllocError>
         ensures { OnOk result (scids.new.items ≡ scids.old.items ++ self.now) }
     {
         match &self.place {
             Place::One(own) => scids.push(*own)?,
-            Place::Many(own) => gather(own, scids)?,
+            Place::Many(own) => gather(&sorted(alloc, own.as_slice())?, scids)?,
         }
         Ok(())
     }
 }
 
-/// A set of two ids.
-fn both(alloc: Global, first: Scid, second: Scid) -> Result<BTreeSet<Scid>, AllocError>
-    ensures { IfOk result (λ set. set.keys ≡ with_id (first ∷ []) second) }
+/// Two ids, with room for two more.
+fn both(alloc: Global, first: Scid, second: Scid) -> Result<Vec<Scid>, AllocError>
+    ensures { IfOk result (λ both. both.items ≡ first ∷ second ∷ []) }
+{
+    let mut both = Vec::with_capacity(alloc, 4)?;
+    both.push(first)?;
+    both.push(second)?;
+    Ok(both)
+}
+
+/// Removes an id, wherever it stands.
+fn discard(scids: &mut Vec<Scid>, scid: Scid)
+    ensures { scids.new.items ≡ filter (is_other scid) scids.old.items }
+{
+    scids.retain(
+        |own: &Scid| -> bool
+            ensures { result ≡ is_other scid own.now }
+        { *own != scid },
+    );
+}
+
+/// The set of ids.
+fn sorted(alloc: Global, scids: &[Scid]) -> Result<BTreeSet<Scid>, AllocError>
+    ensures { IfOk result (λ set. set.keys ≡ collected [] scids.now) }
 {
     let mut set = BTreeSet::new(alloc);
-    set.insert(first)?;
-    set.insert(second)?;
+    for scid in scids {
+        set.insert(*scid)?;
+    }
     Ok(set)
 }
 

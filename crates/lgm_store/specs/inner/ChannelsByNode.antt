@@ -1,6 +1,6 @@
 -- The index from nodes to the ids of their channels.
 use Rattle.std.specs.Prelude.{◌≡◌, ℕ, Bool, false, not, ◌||◌, is_some, List, [], ◌∷◌}
-use Rattle.std.specs.Prelude.{Option, Some, None, unwrap_or, cond, if◌then◌else◌}
+use Rattle.std.specs.Prelude.{Option, Some, None, unwrap_or, cond, if◌then◌else◌, slice_get}
 use Rattle.std.specs.List.{list_any}
 use Rattle.std.specs.Ordering.{nat_cmp}
 use Rattle.std.specs.Map.{lookup}
@@ -31,6 +31,11 @@ entry_of entries point = lookup (is_point point) entries
 -- the list of a point, which is empty if there is no entry
 abbrev pub list_at : List (Point × List ℕ) → Point → List ℕ
 list_at entries point = unwrap_or (entry_of entries point) []
+
+-- the entry of a point stands at this place
+abbrev pub IsPlaceOf : List (Point × List ℕ) → Point → ℕ → Type 0
+IsPlaceOf entries point place =
+    (list : List ℕ) × (slice_get entries place ≡ Some (point, list)) × (entry_of entries point ≡ Some list)
 
 -- the entries are the same
 abbrev pub IsSame : List (Point × List ℕ) → List (Point × List ℕ) → Type 0

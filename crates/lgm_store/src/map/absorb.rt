@@ -1,6 +1,6 @@
 //! Applying operations to a map.
 
-ghost use Rattle.std.specs.Prelude.{◌≡◌, ◌≢◌, true, false, OnOk, OnErr, filter, is_some, IfOk, ◌++◌};
+ghost use Rattle.std.specs.Prelude.{◌≡◌, ◌≢◌, true, false, ◌||◌, OnOk, OnErr, filter, is_some, IfOk, ◌++◌};
 ghost use Rattle.std.specs.BTreeMap.{values, IsOrdered};
 ghost use Rattle.lgm_store.specs.Rows.{channel_of, ends_channel, ends_banned};
 ghost use Rattle.lgm_store.specs.Keys.{IsKeyed, point_cmp, point_of};
@@ -28,7 +28,7 @@ impl Map {
     /// in the map, and a node announcement if its node has a channel, each in place of the one before. A close removes
     /// a channel with its updates, and then the announcement of each node that has no channel left; it does nothing if
     /// the channel isn't in the map. A ban bans its four points, and removes all their channels as closes would; it
-    /// takes logarithmic time for each of these channels. Out of memory leaves the map unchanged.
+    /// takes as long as these. Out of memory leaves the map unchanged.
     pub fn absorb(&mut self, op: &Op) -> Result<(), AllocError>
         ensures ok { OnOk result (self.new ≡ absorbed self.old op.now) }
         ensures err { OnErr result (self.new ≡ self.old) }
@@ -57,6 +57,8 @@ impl Map {
         ensures ok { OnOk result (self.new ≡ with_channel self.old row.now) }
         ensures new { result ≡ Ok true → is_some (channel_of self.old.channels row.now.message.short_channel_id) ≡ false }
         ensures allowed { result ≡ Ok true → ends_banned self.old.banned row.now ≡ false }
+        ensures refused { result ≡ Ok false → (is_some (channel_of self.old.channels row.now.message.short_channel_id)
+            || ends_banned self.old.banned row.now) ≡ true }
         ensures same { result ≢ Ok true → self.new ≡ self.old }
     {
         row.get().bytes_encode_row();

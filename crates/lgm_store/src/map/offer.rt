@@ -29,6 +29,9 @@ impl Map {
     }
 
     /// Like [`Map::offer_checked`], but looks for an update's channel at a hint first, which is faster if it is right.
+    ///
+    /// It is compiled into its caller: a message that is handed over as a copy is read too soon after it was written.
+    #[inline(always)]
     pub fn offer_at(
         &mut self,
         alloc: Global,
@@ -58,13 +61,22 @@ impl Map {
         }
     }
 
-    /// Reads what is stored where an update was located, so that the processor's cache has it. Returns the hint, unless
-    /// another channel is there, as far as it looks.
+    /// Reads what offering a message will read, where an update was located or where the channels of an announcement's
+    /// nodes are listed, so that the processor's cache has it. Returns the hint, unless something else is there, as far
+    /// as it looks.
     pub fn prefetch(&self, message: &CheckedMessage, hint: Hint) -> Hint {
         match &message.kind {
             Kind::Update(row, signer) => self.channels.prefetch(hint, row.get(), signer),
-            _ => hint,
+            Kind::Channel(row) => self.prefetch_channel(row.get(), hint),
+            Kind::Node(_) => hint,
         }
+    }
+
+    /// The hint, unless the channel was listed last at one of its nodes.
+    fn prefetch_channel(&self, row: &StoredChannel, hint: Hint) -> Hint {
+        let first = self.ends.prefetch(&row.node(false), row.scid());
+        let second = self.ends.prefetch(&row.node(true), row.scid());
+        if first | second { Hint::none() } else { hint }
     }
 
     /// Closes a channel, and returns the operation. It allocates nothing.
@@ -86,18 +98,21 @@ impl Map {
         ensures accepted { IfOk result (λ op. self.new ≡ absorbed self.old op) }
         ensures refused { OnErr result (self.new ≡ self.old) }
     {
-        if let Ok(true) = self.add_channel(&row) {
+        let added = self.add_channel(&row);
+        if let Ok(true) = added {
             return Ok(Op::Channel(row));
         }
         // It is refused, or calls for a ban, or memory is short.
         let Some(ban) = self.admit_stored_channel(row.get())? else {
-            return Err(Refusal::NoMemory);
+            added?;
+            unreachable!();
         };
         let ban = Shared::new(alloc, ban)?;
         self.ban(ban.get())?;
         Ok(Op::Ban(ban))
     }
 
+    #[inline(always)]
     fn offer_update(
         &mut self,
         row: Shared<StoredUpdate>,

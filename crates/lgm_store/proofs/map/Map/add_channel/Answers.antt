@@ -1,4 +1,4 @@
-use Rattle.std.proofs.Common.{◌≡◌, ℕ, Bool, true, false, List, None, Ok, sym, ◌∙◌, ap, subst}
+use Rattle.std.proofs.Common.{◌≡◌, ℕ, Bool, true, false, List, None, Ok, refl, sym, ◌∙◌, ap, subst}
 use Rattle.std.specs.Prelude.{is_some}
 use Rattle.lgm_gossip.specs.Message.{Wire}
 use Rattle.lgm_gossip.specs.declared.message.Message.TheVariants as wired
@@ -7,12 +7,13 @@ use Rattle.std.specs.Map.{lookup, remove_entry, keys_of, values_of}
 use Rattle.std.specs.Option.{option_map}
 use Rattle.std.specs.BTreeMap.{is_at, insert_entry}
 use Rattle.std.specs.Ordering.{nat_cmp}
+use Rattle.std.proofs.lemmas.Bool.{or_right}
 use Rattle.lgm_check.specs.declared.row.ChannelRow.{ChannelRow}
 use Rattle.lgm_store.specs.declared.channel_info.ChannelInfo.{ChannelInfo}
 use Rattle.lgm_store.specs.inner.ChannelEntries.{alone, channel_entries, update_entries}
 use Rattle.lgm_store.specs.inner.ChannelTable.{id_in}
 use Rattle.lgm_store.specs.Keys.{IsKeyed, id_of}
-use Rattle.lgm_store.specs.Rows.{put, by_id, ends_banned}
+use Rattle.lgm_store.specs.Rows.{put, by_id, ends_banned, channel_of}
 use Rattle.lgm_store.proofs.ListLaws.{All-put}
 use Rattle.lgm_store.proofs.Lists.{values-channel}
 use Rattle.lgm_store.proofs.Holding.{lookup-channels, insert-channels, insert-updates, remove-inserted}
@@ -32,6 +33,29 @@ returns-then-contains_either-clause-ok c =
     (c.node-2.ensures ∙ ap (λ h. h.channel.message.node_id_2) stored) in
     with_channel-banned c.args.self.now c.args.row.now
     (ap (λ rows. ends_banned rows.banned c.args.row.now) (sym c.self.view_is) ∙ sym banned ∙ c.if-contains_either.true)
+
+pub returns-then-contains_either-clause-refused : goal.returns-then-contains_either-clause-refused
+returns-then-contains_either-clause-refused c = λ _.
+    let stored = c.new-stored.ensures ∙ ap alone c.in_ok-share.ensures in
+    let banned =
+    banned-by c.self.inside.banned c.args.row.now c.node.result.now c.node-2.result.now c.contains_either.result
+    c.contains_either.ensures (c.node.ensures ∙ ap (λ h. h.channel.message.node_id_1) stored)
+    (c.node-2.ensures ∙ ap (λ h. h.channel.message.node_id_2) stored) in
+    or_right (is_some (channel_of c.args.self.now.channels c.args.row.now.message.short_channel_id))
+    (ends_banned c.args.self.now.banned c.args.row.now)
+    (ap (λ rows. ends_banned rows.banned c.args.row.now) (sym c.self.view_is) ∙ sym banned ∙ c.if-contains_either.true)
+
+pub returns-then-not-branch-clause-refused : goal.returns-then-not-branch-clause-refused
+returns-then-not-branch-clause-refused c = λ _.
+    let stored = c.new-stored.ensures ∙ ap alone c.in_ok-share.ensures in
+    let present : c.in_ok-insert.field-0 ≡ false = c.if-not-branch.true in
+    let found = c.in_ok-insert.ensures.present (ap (λ (b : Bool). Ok b) present) in
+    let here : is_some (lookup (is_at (nat_cmp c.args.row.now.message.short_channel_id)) c.self.inside.channels) ≡ true =
+    rw stored at found in
+    let known =
+    sym (is_stored c.self.inside.channels c.args.self.now.channels c.args.row.now.message.short_channel_id
+    c.self.invariant.rows.channels_keyed (ap (λ rows. rows.channels) c.self.view_is)) ∙ here in
+    rw known refl
 
 pub returns-then-not-branch-clause-ok : goal.returns-then-not-branch-clause-ok
 returns-then-not-branch-clause-ok c =
