@@ -142,6 +142,14 @@ def prove(crate, jobs):
     rt(crate, TOP / "crates" / crate, jobs, "lib")
 
 
+def link(file, copy):
+    """Gives a file a second name, or copies it where that can't be had. Libraries have gigabytes, and are only read."""
+    try:
+        os.link(file, copy)
+    except OSError:
+        shutil.copy2(file, copy)
+
+
 def prove_apart(used, crate, jobs, gives_way):
     """Proves and builds a library in a copy of it and of those below, and brings back what that leaves."""
     own = TOP / "crates" / crate
@@ -157,7 +165,7 @@ def prove_apart(used, crate, jobs, gives_way):
                 if (folder / part).is_dir():
                     shutil.copytree(folder / part, top / "crates" / it / part)
             if it != crate:
-                shutil.copytree(folder / "out" / "rlib", top / "crates" / it / "out" / "rlib")
+                shutil.copytree(folder / "out" / "rlib", top / "crates" / it / "out" / "rlib", copy_function=link)
         out = top / "crates" / crate / "out"
         if (own / "out").is_dir():
             shutil.move(own / "out", out)

@@ -64,3 +64,18 @@ fn encodes(rt: HostRuntime) -> Result<(), Fail> {
     assert_eq!(rt; text.as_slice(), b"6 6b697769".as_slice());
     Ok(())
 }
+
+/// By 16, 32 and 48 bytes: one at a time, a block, and two blocks that overlap.
+#[test]
+fn encodes_in_blocks(rt: HostRuntime) -> Result<(), Fail> {
+    let alloc = rt.alloc();
+    let (mut bytes, mut digits) = (Vec::new(alloc), Vec::new(alloc));
+    for _part in 0..3 {
+        bytes.extend_from_slice(&BYTES)?;
+        digits.extend_from_slice(LOWER)?;
+        let mut text = Vec::new(alloc);
+        append(&mut text, bytes.as_slice())?;
+        assert_eq!(rt; text.as_slice(), digits.as_slice());
+    }
+    Ok(())
+}

@@ -3,4 +3,4 @@ use Rattle.lgm_hex.specs.inner.Digits.{IsEncoded}
 use Rattle.lgm_hex.proofs.encode.encode_into.Given as goal
 
 abbrev pub invariant-loop-i : goal.invariant-loop-i
-invariant-loop-i l = IsEncoded l.bytes l.out (16 * l.i)
+invariant-loop-i l = IsEncoded l.bytes l.out (32 * l.i)
