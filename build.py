@@ -35,7 +35,7 @@ MEMORY_OF_JOB = 2 << 30  # bytes, for what one processor does of it
 SECONDS = {"lgm_hex": 20, "lgm_wire": 31, "lgm_par": 27, "lgm_gossip": 98, "lgm_check": 58, "lgm_script": 146, "lgm_store": 111,
            "lgm_query": 127, "lgm_graph": 120, "lgm_route": 137, "lgm_payload": 58, "lgm_answers": 57, "lgm_publish": 98,
            "lgm_run": 272, "lgm_live": 193, "lgm_start": 110}
-NEARLY = 0.9  # of the longest chain of libraries that wait for each other
+NEARLY = 0.95  # of the longest chain of libraries that wait for each other
 BYTES_A_SECOND = 1_500
 NO_CHAIN = "00" * 32
 ANY_CPU = "default"  # what rt builds for unless it is told otherwise

@@ -1,7 +1,7 @@
 -- Hops beside their payloads.
 use Rattle.std.proofs.Common.{◌≡◌, ℕ, zero, suc, ◌+◌, ◌<◌, ◌≤◌, List, [], ◌∷◌, ◌++◌, length, drop, get_or, refl, add-one, arith}
 use Rattle.std.specs.Prelude.{min}
-use Rattle.lgm_route.specs.declared.route.Hop.{Hop}
+use Rattle.lgm_graph.specs.declared.route.Hop.{Hop}
 use Rattle.lgm_script.specs.Text.{hop_line}
 use Rattle.lgm_answers.specs.Answer.{hops_text}
 

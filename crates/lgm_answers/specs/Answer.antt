@@ -9,9 +9,9 @@ use Rattle.lgm_query.specs.declared.request.RequestFault.{RequestFault}
 use Rattle.lgm_query.specs.Requests.{request_word}
 use Rattle.lgm_query.specs.Backlog.{backlog, news}
 use Rattle.lgm_query.specs.RangeReply.{range_reply}
-use Rattle.lgm_route.specs.declared.route.Hop.{Hop}
+use Rattle.lgm_graph.specs.declared.route.Hop.{Hop}
 use Rattle.lgm_route.specs.declared.fault.RouteFault.{RouteFault}
-use Rattle.lgm_route.specs.Route.{sent, expiry}
+use Rattle.lgm_graph.specs.Route.{sent, expiry}
 use Rattle.lgm_route.specs.Words.{route_word}
 use Rattle.lgm_payload.specs.Building.{payloads_of}
 use Rattle.lgm_script.specs.Text.{word_line, commit_line, message_line, route_line, hop_line}

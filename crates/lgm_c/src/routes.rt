@@ -5,7 +5,7 @@ ghost use Rattle.lgm_gossip.specs.Memory.{GivesIf};
 ghost use Rattle.lgm_c.specs.Routing.{request_of, route_asked, c_hop, c_hops, all_payloads};
 ghost use Rattle.lgm_c.specs.Routing.{WritesRoute, IsRouteWritten, IsSearched, buffers};
 ghost use Rattle.lgm_c.specs.declared.fault.Fault.{Fault as AFault};
-ghost use Rattle.lgm_route.specs.declared.route.Hop.{Hop as AHop};
+ghost use Rattle.lgm_graph.specs.declared.route.Hop.{Hop as AHop};
 ghost use Rattle.lgm_c.specs.Status.{if_open, status_of};
 
 use crate::fault::{Fault, status};

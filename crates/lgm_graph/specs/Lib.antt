@@ -3,4 +3,5 @@ pub mod Known
 pub mod Edges
 pub mod Graph
 pub mod Network
+pub mod Route
 pub mod inner

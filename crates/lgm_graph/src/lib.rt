@@ -3,7 +3,7 @@
 //! A [`View`] numbers the nodes of a map, and has the edges into and out of each node as consecutive lists, as a search
 //! for routes reads them. It is built from a map, or maintained while operations change the map. A node that requires
 //! unknown features takes no payments. A [`Network`] is a map with its view as one value, and a [`Replica`] one that is
-//! behind another.
+//! behind another. A [`Route`] is a walk over edges with what each [`Hop`] forwards.
 #![tactic(auto)]
 
 mod edge;
@@ -14,6 +14,7 @@ mod lists;
 mod network;
 mod nodes;
 mod replica;
+mod route;
 mod view;
 
 pub use edge::Edge;
@@ -22,4 +23,5 @@ pub use known::Known;
 pub use laws::edges_are_directions;
 pub use network::Network;
 pub use replica::Replica;
+pub use route::{Hop, Route};
 pub use view::{MAX_CHANNELS, View};

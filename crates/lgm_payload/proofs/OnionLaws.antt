@@ -9,7 +9,7 @@ use Rattle.lgm_wire.specs.BigSize.{bigsize_bytes}
 use Rattle.lgm_wire.specs.TruncatedInteger.{truncated_bytes, without_leading_zeros}
 use Rattle.lgm_wire.specs.Tlv.{TlvRecord, record_bytes}
 use Rattle.lgm_wire.proofs.BigSizeLaws.{bigsize_bytes-one_byte}
-use Rattle.lgm_route.specs.declared.route.Hop.{Hop}
+use Rattle.lgm_graph.specs.declared.route.Hop.{Hop}
 use Rattle.lgm_payload.specs.declared.hop_payload.HopPayload.{HopPayload}
 use Rattle.lgm_payload.specs.declared.hop_payload.Payment.{Payment}
 use Rattle.lgm_payload.specs.HopPayload.{IsPayload, text_of, records_of, payload_bytes}

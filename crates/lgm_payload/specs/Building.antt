@@ -1,7 +1,7 @@
 -- The payloads of a route.
 use Rattle.std.specs.Prelude.{◌≡◌, ℕ, ◌+◌, ◌<◌, ◌^◌, List, [], ◌∷◌, length, map, Some, None}
 use Rattle.std.specs.List.{AllByRecursion, AllZip}
-use Rattle.lgm_route.specs.declared.route.Hop.{Hop}
+use Rattle.lgm_graph.specs.declared.route.Hop.{Hop}
 use Rattle.lgm_payload.specs.declared.hop_payload.HopPayload.{HopPayload}
 use Rattle.lgm_payload.specs.HopPayload.{payload_bytes, IsPayload}
 

@@ -6,7 +6,7 @@ ghost use Rattle.lgm_payload.specs.Building.{forward, arrival, payloads_of, onio
 use crate::hop_payload::{HopPayload, Payment};
 use crate::payloads::Payloads;
 use crate::writer::write;
-use lgm_route::{Hop, Route};
+use lgm_graph::{Hop, Route};
 use std::alloc::{AllocError, Global};
 
 /// The payload of the node before a hop: to forward the payment over it.

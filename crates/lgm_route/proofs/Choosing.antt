@@ -15,7 +15,7 @@ use Rattle.lgm_graph.specs.Edges.{PointEdge, AreDirections}
 use Rattle.lgm_graph.proofs.Members.{Among, Contains-Among, Among-Contains, Among-passes, Among-passed}
 use Rattle.lgm_graph.proofs.Members.{Among-mapped, Among-map, Among-flat, Among-flattened}
 use Rattle.lgm_route.specs.declared.request.Request.{Request}
-use Rattle.lgm_route.specs.declared.route.Hop.{Hop}
+use Rattle.lgm_graph.specs.declared.route.Hop.{Hop}
 use Rattle.lgm_route.specs.declared.fault.RouteFault.{RouteFault}
 use Rattle.lgm_route.specs.declared.fault.RouteFault.TheVariants.{AmountZero, AmountTooLarge, ExpiryTooLarge, SelfPayment}
 use Rattle.lgm_route.specs.Routes.{owed, walk_key, hops_of, IsRest, IsUsable, Precedes}

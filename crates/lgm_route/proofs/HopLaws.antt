@@ -8,7 +8,7 @@ use Rattle.lgm_graph.specs.Graph.{Graph, edges, AreListed}
 use Rattle.lgm_graph.specs.declared.edge.Edge.{Edge}
 use Rattle.lgm_route.specs.declared.request.Request.{Request}
 use Rattle.lgm_route.specs.declared.request.NumberedRequest.{NumberedRequest}
-use Rattle.lgm_route.specs.declared.route.Hop.{Hop}
+use Rattle.lgm_graph.specs.declared.route.Hop.{Hop}
 use Rattle.lgm_route.specs.Routes.{owed, due, hops_of}
 use Rattle.lgm_route.specs.inner.Numbered as walks
 use Rattle.lgm_route.specs.inner.Searching.{AreCarried}

@@ -3,7 +3,7 @@ use Rattle.std.specs.Prelude.{◌≡◌, List, Option, Some, None, Result, Ok, E
 use Rattle.lgm_store.specs.Rows.{is_point}
 use Rattle.lgm_graph.specs.Edges.{PointEdge}
 use Rattle.lgm_route.specs.declared.request.Request.{Request}
-use Rattle.lgm_route.specs.declared.route.Hop.{Hop}
+use Rattle.lgm_graph.specs.declared.route.Hop.{Hop}
 use Rattle.lgm_route.specs.declared.fault.RouteFault.{RouteFault}
 use Rattle.lgm_route.specs.declared.fault.RouteFault.TheVariants.{AmountZero, AmountTooLarge, ExpiryTooLarge}
 use Rattle.lgm_route.specs.declared.fault.RouteFault.TheVariants.{SelfPayment, NoRoute}

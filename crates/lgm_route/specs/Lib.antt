@@ -1,4 +1,3 @@
-pub mod Route
 pub mod Routes
 pub mod Answers
 pub mod Choice

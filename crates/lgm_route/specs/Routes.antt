@@ -8,7 +8,7 @@ use Rattle.lgm_wire.specs.declared.point.Point.{Point}
 use Rattle.lgm_graph.specs.Fee.{fee_of}
 use Rattle.lgm_graph.specs.Edges.{PointEdge, AreDirections}
 use Rattle.lgm_route.specs.declared.request.Request.{Request}
-use Rattle.lgm_route.specs.declared.route.Hop.{Hop}
+use Rattle.lgm_graph.specs.declared.route.Hop.{Hop}
 
 -- what has to reach the first node of these edges so that the amount reaches their end, with the fee of each node on
 -- the way: each edge carries what has to reach the edges after it

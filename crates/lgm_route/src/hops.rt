@@ -7,9 +7,8 @@ ghost use Rattle.lgm_route.specs.inner.Searching.{AreCarried, IsSpelled, Spells}
 
 use crate::label::{Label, first_of};
 use crate::request::Request;
-use crate::route::Hop;
 use lgm_gossip::Point;
-use lgm_graph::{Edge, View, fee};
+use lgm_graph::{Edge, Hop, View, fee};
 use std::alloc::{AllocError, Global};
 
 /// The point of a node's number.

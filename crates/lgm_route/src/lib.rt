@@ -19,12 +19,11 @@ mod pareto_fronts;
 mod queue;
 mod relaxation;
 mod request;
-mod route;
 mod search;
 
 pub use answers::{answer, answer_chunked};
 pub use best_route::{least, least_chunked, least_pooled};
 pub use fault::RouteFault;
 pub use laws::{answer_is_one, least_is_one};
+pub use lgm_graph::{Hop, Route};
 pub use request::Request;
-pub use route::{Hop, Route};

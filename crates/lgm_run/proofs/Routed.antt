@@ -1,7 +1,7 @@
 -- The answer to a payment.
 use Rattle.std.proofs.Common.{◌≡◌, ◌⊎◌, ℕ, List, Result, Ok, Err, inl, inr, subst}
 use Rattle.std.specs.Prelude.{◌≢◌, IfOk}
-use Rattle.lgm_route.specs.declared.route.Hop.{Hop}
+use Rattle.lgm_graph.specs.declared.route.Hop.{Hop}
 use Rattle.lgm_route.specs.declared.fault.RouteFault.{RouteFault}
 use Rattle.lgm_route.specs.declared.fault.RouteFault.TheVariants.{NoMemory}
 use Rattle.lgm_answers.specs.declared.answer.Answer.{Answer}

@@ -7,7 +7,7 @@ use Rattle.lgm_graph.specs.declared.edge.Edge.{Edge}
 use Rattle.lgm_graph.specs.Graph.{Graph, edge_between, no_point, point_edges}
 use Rattle.lgm_store.specs.Rows.{is_point}
 use Rattle.lgm_route.specs.declared.request.Request.{Request}
-use Rattle.lgm_route.specs.declared.route.Hop.{Hop}
+use Rattle.lgm_graph.specs.declared.route.Hop.{Hop}
 use Rattle.lgm_route.specs.declared.request.NumberedRequest.{NumberedRequest}
 use Rattle.lgm_route.specs.inner.Numbered.{sent, IsUsable, IsLeast}
 use Rattle.lgm_route.specs.Routes as routes

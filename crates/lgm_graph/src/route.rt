@@ -1,8 +1,8 @@
 //! Routes.
 
 ghost use Rattle.std.specs.Prelude.{◌≡◌, ◌≤◌, List, length, IfOk};
-ghost use Rattle.lgm_route.specs.Route.{sent, expiry};
-ghost use Rattle.lgm_route.specs.declared.route.Hop.{Hop};
+ghost use Rattle.lgm_graph.specs.Route.{sent, expiry};
+ghost use Rattle.lgm_graph.specs.declared.route.Hop.{Hop};
 
 use lgm_gossip::{Point, Scid};
 use std::alloc::{AllocError, Global};
@@ -51,7 +51,7 @@ impl Route {
     }
 
     /// The route of the hops of a vector, without a copy.
-    pub(crate) fn from_vec(hops: Vec<Hop>) -> Route
+    pub fn from_vec(hops: Vec<Hop>) -> Route
         requires some { 1 ≤ length hops.items }
         requires few { length hops.items ≤ 20 }
         ensures { result ≡ hops.items }
