@@ -124,14 +124,6 @@ Lists-undo id old mid mid' new p ids sets same sets' lacks lists q = by (is_poin
 
 -- ---- the index after each call
 
--- a point that isn't there has no list
-pub Sets-none : (id : ℕ) (old : List (Point × List ℕ)) (p : Point) → entry_of old p ≡ None → Sets old old p (without_id (list_at old p) id)
-Sets-none id old p none q = by (is_point p q) refl
-  where
-    by : (b : Bool) → is_point p q ≡ b → entry_of old q ≡ cond (is_point p q) (kept (without_id (list_at old p) id)) (entry_of old q)
-    by true is = rw (is, none) (ap (entry_of old) (sym (same_point p q is)) ∙ none)
-    by false is = rw is refl
-
 -- storing a list that isn't empty at a point
 pub Sets-put : (old inside new : List (Point × List ℕ)) (p : Point) (list other : List ℕ) → inside ≡ old → list ≡ other → kept list ≡ Some list
     → ((q : Point) → entry_of new q ≡ cond (is_point p q) (Some list) (entry_of inside q)) → Sets old new p other

@@ -21,54 +21,47 @@ use Rattle.lgm_store.proofs.Soundness.{IsSound-stored, IsSound-listed, lacks}
 use Rattle.lgm_store.proofs.Changes.{is_stored, with_channel-new, with_channel-stored, with_channel-banned, banned-by}
 use Rattle.lgm_store.proofs.Spelling.{AllSpelled-channel}
 use Rattle.lgm_store.proofs.map.Map.add_channel.Goals as goal
+use Rattle.lgm_store.proofs.map.Map.add_channel.Goals.{Joined-stored-2, Then-not-branch}
 
 -- ---- it isn't added
 
-pub returns-then-contains_either-clause-ok : goal.returns-then-contains_either-clause-ok
-returns-then-contains_either-clause-ok c =
+-- one of its nodes is banned
+is_banned : (c : Joined-stored-2) → ends_banned c.args.self.now.banned c.args.row.now ≡ true
+is_banned c =
     let stored = c.new-stored.ensures ∙ ap alone c.in_ok-share.ensures in
     let banned =
     banned-by c.self.inside.banned c.args.row.now c.node.result.now c.node-2.result.now c.contains_either.result
     c.contains_either.ensures (c.node.ensures ∙ ap (λ h. h.channel.message.node_id_1) stored)
     (c.node-2.ensures ∙ ap (λ h. h.channel.message.node_id_2) stored) in
-    with_channel-banned c.args.self.now c.args.row.now
-    (ap (λ rows. ends_banned rows.banned c.args.row.now) (sym c.self.view_is) ∙ sym banned ∙ c.if-contains_either.true)
+    ap (λ rows. ends_banned rows.banned c.args.row.now) (sym c.self.view_is) ∙ sym banned ∙ c.if-contains_either.true
+
+pub returns-then-contains_either-clause-ok : goal.returns-then-contains_either-clause-ok
+returns-then-contains_either-clause-ok c = with_channel-banned c.args.self.now c.args.row.now (is_banned c)
 
 pub returns-then-contains_either-clause-refused : goal.returns-then-contains_either-clause-refused
 returns-then-contains_either-clause-refused c = λ _.
-    let stored = c.new-stored.ensures ∙ ap alone c.in_ok-share.ensures in
-    let banned =
-    banned-by c.self.inside.banned c.args.row.now c.node.result.now c.node-2.result.now c.contains_either.result
-    c.contains_either.ensures (c.node.ensures ∙ ap (λ h. h.channel.message.node_id_1) stored)
-    (c.node-2.ensures ∙ ap (λ h. h.channel.message.node_id_2) stored) in
     or_right (is_some (channel_of c.args.self.now.channels c.args.row.now.message.short_channel_id))
-    (ends_banned c.args.self.now.banned c.args.row.now)
-    (ap (λ rows. ends_banned rows.banned c.args.row.now) (sym c.self.view_is) ∙ sym banned ∙ c.if-contains_either.true)
+    (ends_banned c.args.self.now.banned c.args.row.now) (is_banned c)
 
-pub returns-then-not-branch-clause-refused : goal.returns-then-not-branch-clause-refused
-returns-then-not-branch-clause-refused c = λ _.
+-- it is in the map
+is_known : (c : Then-not-branch) → is_some (channel_of c.args.self.now.channels c.args.row.now.message.short_channel_id) ≡ true
+is_known c =
     let stored = c.new-stored.ensures ∙ ap alone c.in_ok-share.ensures in
     let present : c.in_ok-insert.field-0 ≡ false = c.if-not-branch.true in
     let found = c.in_ok-insert.ensures.present (ap (λ (b : Bool). Ok b) present) in
     let here : is_some (lookup (is_at (nat_cmp c.args.row.now.message.short_channel_id)) c.self.inside.channels) ≡ true =
     rw stored at found in
-    let known =
     sym (is_stored c.self.inside.channels c.args.self.now.channels c.args.row.now.message.short_channel_id
-    c.self.invariant.rows.channels_keyed (ap (λ rows. rows.channels) c.self.view_is)) ∙ here in
-    rw known refl
+    c.self.invariant.rows.channels_keyed (ap (λ rows. rows.channels) c.self.view_is)) ∙ here
+
+pub returns-then-not-branch-clause-refused : goal.returns-then-not-branch-clause-refused
+returns-then-not-branch-clause-refused c = λ _. rw (is_known c) refl
 
 pub returns-then-not-branch-clause-ok : goal.returns-then-not-branch-clause-ok
 returns-then-not-branch-clause-ok c =
-    let stored = c.new-stored.ensures ∙ ap alone c.in_ok-share.ensures in
     let present : c.in_ok-insert.field-0 ≡ false = c.if-not-branch.true in
     let same : c.insert.new.self ≡ c.self.inside.channels = c.in_ok-insert.ensures.same (λ is. absurd cc) in
-    let found = c.in_ok-insert.ensures.present (ap (λ (b : Bool). Ok b) present) in
-    let here : is_some (lookup (is_at (nat_cmp c.args.row.now.message.short_channel_id)) c.self.inside.channels) ≡ true =
-    rw stored at found in
-    let known =
-    sym (is_stored c.self.inside.channels c.args.self.now.channels c.args.row.now.message.short_channel_id
-    c.self.invariant.rows.channels_keyed (ap (λ rows. rows.channels) c.self.view_is)) ∙ here in
-    rw same (c.self.view_is ∙ with_channel-stored c.args.self.now c.args.row.now known)
+    rw same (c.self.view_is ∙ with_channel-stored c.args.self.now c.args.row.now (is_known c))
 
 -- ---- it is new
 
