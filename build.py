@@ -113,9 +113,9 @@ def default_at_once():
 
 
 def jobs_of_one(at_once):
-    """Among how many processors each of several checks shares its work. Mostly one of them waits for the other, so each
-    may use all, as far as memory allows."""
-    return max(1, min(processors(), free_memory() // at_once // MEMORY_OF_JOB))
+    """Among how many processors each of several checks shares its work, as far as memory allows: its part of them, but
+    at least two, since a check waits for a part of its time. Each job loads the libraries anew, so more cost more."""
+    return max(1, min(processors(), max(2, processors() // at_once), free_memory() // at_once // MEMORY_OF_JOB))
 
 
 def say(text):
@@ -198,7 +198,7 @@ def urgent(used, crates, behind):
     return {it for it in crates if before[it] + behind[it] > NEARLY * most}
 
 
-def prove_all(used, crates, at_once, jobs):
+def prove_all(used, crates, at_once):
     """Proves and builds libraries, each behind those below it, and first those for which others wait the longest."""
     behind = seconds_behind(used, crates)
     first = urgent(used, crates, behind)
@@ -206,7 +206,9 @@ def prove_all(used, crates, at_once, jobs):
     with ThreadPoolExecutor(at_once) as pool:
         while left or running:
             ready = [it for it in left if all(lower in done for lower in used[it] if lower in crates)]
-            for it in ready[:at_once - len(running)]:
+            begins = ready[:at_once - len(running)]
+            jobs = jobs_of_one(max(1, len(running) + len(begins)))
+            for it in begins:
                 left.remove(it)
                 started[it] = time.monotonic()
                 say(f"{it} ..")
@@ -264,16 +266,15 @@ def main():
         if any(lower in stale for lower in used[it]) or not is_fresh(used, it):
             stale.append(it)
     at_once = min(max(1, arguments.at_once), max(1, len(stale)))
-    jobs = jobs_of_one(at_once)
     say(f"proving and building {len(stale) + 1} of {len(crates) + 1} crates, {at_once} at once; "
         f"all of them take {TIMES.get(target, 'some time')} on four processors")
     begun = time.monotonic()
     try:
-        prove_all(used, stale, at_once, jobs)
+        prove_all(used, stale, at_once)
         if arguments.library:
-            build_library(target, len(stale) + 1, jobs, arguments.cpu)
+            build_library(target, len(stale) + 1, jobs_of_one(1), arguments.cpu)
         else:
-            build_program(len(stale) + 1, jobs, arguments.cpu)
+            build_program(len(stale) + 1, jobs_of_one(1), arguments.cpu)
     except Failed as failed:
         crate, said = failed.args
         sys.stderr.write(said)

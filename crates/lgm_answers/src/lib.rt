@@ -8,6 +8,7 @@
 mod answer;
 mod filters;
 mod query;
+mod read_ahead;
 mod route;
 mod run_fault;
 mod send;

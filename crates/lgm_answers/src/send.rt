@@ -9,6 +9,7 @@ ghost use Rattle.lgm_answers.specs.Answer.{query_text, range_text, filter_text, 
 
 use crate::answer::RangeAsked;
 use crate::filters::{Filters, PeerFilter};
+use crate::read_ahead::ReadAhead;
 use lgm_query::{Backlog, MapDiff, ReplyMessage, answer_range};
 use lgm_script::{Lead, Line, Output, SendFault, Sink};
 use lgm_store::Map;
@@ -18,12 +19,14 @@ use std::alloc::Global;
 fn send_replies<W: Sink>(
     lead: &Lead,
     messages: &[ReplyMessage<'_>],
+    ahead: &mut ReadAhead,
     output: &mut Output<'_, W>,
 ) -> Result<(), SendFault>
     ensures { Writes (told_by W.seen output.old) (told_by W.seen output.new)
         (flat_map (message_behind lead.now) messages.now) result }
 {
     for message in messages {
+        ahead.step(messages);
         output.send_message(lead, message.as_slice())?;
     }
     Ok(())
@@ -40,7 +43,8 @@ pub(crate) fn send_messages<W: Sink>(
         (query_text number (Ok messages.now)) result }
 {
     let lead = Lead::new(alloc, number, None)?;
-    send_replies(&lead, messages, output)
+    let mut ahead = ReadAhead::new(alloc)?;
+    send_replies(&lead, messages, &mut ahead, output)
 }
 
 /// Makes the replies to a query of a range, and writes them.

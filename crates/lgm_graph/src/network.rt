@@ -135,16 +135,6 @@ impl Network {
         Ok(())
     }
 
-    /// Where an update's channel may be stored, as [`Map::locate`] has it.
-    pub fn locate(&self, message: &CheckedMessage) -> Hint {
-        self.map.locate(message)
-    }
-
-    /// Reads what is stored there, as [`Map::prefetch`] does.
-    pub fn prefetch(&self, message: &CheckedMessage, hint: Hint) -> Hint {
-        self.map.prefetch(message, hint)
-    }
-
     /// Admits a checked message, and applies its operation, which is returned. Without a view, one lookup suffices for
     /// both.
     ///

@@ -5,7 +5,7 @@ ghost use Rattle.lgm_store.specs.History.{fold_from};
 
 use crate::network::Network;
 use crate::view::MAX_CHANNELS;
-use lgm_store::Op;
+use lgm_store::{Map, Op};
 use std::alloc::{AllocError, Global};
 use std::collections::VecDeque;
 
@@ -23,6 +23,22 @@ fn forget_first(due: &mut VecDeque<Op>)
     ensures { due.new.items ≡ drop 1 due.old.items }
 {
     due.pop_front();
+}
+
+/// The number of operations whose channels are read ahead.
+const AHEAD: usize = 32;
+
+/// Reads the rows of the channels that the next operations update, once for each [`AHEAD`] of them. No answer depends
+/// on it.
+fn read_ahead(map: &Map, due: &VecDeque<Op>) {
+    if due.len() % AHEAD != 0 {
+        return;
+    }
+    for op in due.iter().take(AHEAD) {
+        if let Op::Update(row) = op {
+            map.prefetch_rows(row.get().scid());
+        }
+    }
 }
 
 impl Replica {
@@ -47,6 +63,7 @@ impl Replica {
         ensures some { OnErr result (self.new.due.items ≢ []) }
     {
         while let Some(op) = self.due.front() {
+            read_ahead(self.network.map(), &self.due);
             self.network.absorb(op)?;
             forget_first(&mut self.due);
         }
@@ -70,6 +87,7 @@ impl Replica {
     /// one its view. If more are due than that one has channels, it becomes a copy instead, and its view is dropped.
     /// The only error is out of memory: what wasn't applied is still due then. The rows of the other network are
     /// unchanged.
+    #[inline(always)]
     pub fn level(&mut self, alloc: Global, current: &mut Network) -> Result<(), AllocError>
         requires rows { (self.old.due.items ≡ [])
             ⊎ (fold_from self.old.network.rows self.old.due.items ≡ current.old.rows) }
@@ -85,6 +103,20 @@ impl Replica {
         if self.due.is_empty() {
             return Ok(());
         }
+        self.level_due(alloc, current)
+    }
+
+    /// The same if some are due.
+    fn level_due(&mut self, alloc: Global, current: &mut Network) -> Result<(), AllocError>
+        requires rows { fold_from self.old.network.rows self.old.due.items ≡ current.old.rows }
+        requires known { self.old.network.known ≡ current.old.known }
+        ensures rows { fold_from self.new.network.rows self.new.due.items
+            ≡ fold_from self.old.network.rows self.old.due.items }
+        ensures known { self.new.network.known ≡ self.old.network.known }
+        ensures done { OnOk result (self.new.due.items ≡ []) }
+        ensures same { current.new.rows ≡ current.old.rows }
+        ensures same_known { current.new.known ≡ current.old.known }
+    {
         if current.map().count() < self.due.len() {
             return self.renew(alloc, current);
         }

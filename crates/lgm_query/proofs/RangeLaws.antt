@@ -64,13 +64,6 @@ timestamps-walked rows from to (row ∷ channels) = by (is_between row.message.s
     by true is rest = rw (is, rest) refl
     by false is rest = rw is rest
 
-pub timestamps-all : (chain : ChainHash) (rows : Rows) (query : RangeQuery) (times : List Timestamps)
-    → asks_for_timestamps query ≡ true → pointwise nat_eq query.chain_hash.0 chain.0 ≡ true
-    → times ≡ map timestamps_in (map (stored_at rows) (channels_between_of rows.channels query.first_blocknum (range_end query)))
-    → times ≡ timestamps_beside rows query (ids_asked_for chain rows query)
-timestamps-all chain rows query times asks known is =
-    rw (asks, known) (is ∙ timestamps-walked rows query.first_blocknum (range_end query) rows.channels)
-
 -- the part of a reply, of what all ids have, is that of its ids
 pub timestamps-piece : (rows : Rows) (query : RangeQuery) (ids : List ℕ) (i : ℕ)
     → (if asks_for_timestamps query then Some (piece_at (timestamps_beside rows query ids) i) else None)

@@ -3,9 +3,9 @@
 ghost use Rattle.std.specs.Prelude.{◌≡◌, ◌*◌, ◌<◌, ◌≤◌, true, length, IfOk, if◌then◌else◌, ◌+◌, ◌-◌, ◌^◌};
 ghost use Rattle.lgm_store.specs.Rows.{Rows};
 ghost use Rattle.lgm_query.specs.RangeReply.{ids_asked_for, AreInRange, reply_count, piece_at, timestamps_in};
-ghost use Rattle.lgm_query.specs.RangeReply.{timestamps_beside, asks_for_timestamps, reply_bytes, range_reply};
+ghost use Rattle.lgm_query.specs.RangeReply.{timestamps_beside, all_timestamps_of, asks_for_timestamps, reply_bytes, range_reply};
 ghost use Rattle.lgm_query.specs.RangeReply.{range_end, is_last, ids_at, reply_end, reply_start};
-ghost use Rattle.lgm_store.specs.Reading.{block_of};
+ghost use Rattle.lgm_store.specs.Reading.{block_of, ids_between_of};
 ghost use Rattle.lgm_gossip.specs.Spelling.{spelling};
 
 use crate::reply::{Replies, ReplyMessage};
@@ -36,9 +36,8 @@ pub fn answer_range<'a>(
 ) -> Result<Replies<'a>, AllocError>
     ensures { IfOk result (λ replies. replies ≡ range_reply chain.now map.now query.now) }
 {
-    let ids = ids_asked_for(alloc, chain, map, query)?;
-    let times = timestamps_beside(alloc, chain, map, query)?;
-    let (ids, times) = (ids.as_slice(), times.as_slice());
+    let listing = listed(alloc, chain, map, query)?;
+    let (ids, times) = (listing.ids.as_slice(), listing.times.as_slice());
     let count = reply_count(ids);
     let mut replies = Vec::with_capacity(alloc, count)?;
     for place in 0..count {
@@ -47,19 +46,56 @@ pub fn answer_range<'a>(
     Ok(Replies::from_vec(replies))
 }
 
-/// The ids in the range, ascending; none of another chain.
-fn ids_asked_for(
+/// What the replies to a query list.
+#[derive(Drop)]
+struct Listing {
+    /// The ids in the range, ascending.
+    ids: Scids,
+    /// The timestamps beside them, if the query requests these.
+    times: Vec<Timestamps>,
+}
+
+/// What the replies to a query list, on a map of `chain`.
+fn listed(
     alloc: Global,
     chain: &ChainHash,
     map: &Map,
     query: &RangeQuery,
-) -> Result<Scids, AllocError>
-    ensures { IfOk result (λ ids. ids ≡ ids_asked_for chain.now map.now query.now) }
+) -> Result<Listing, AllocError>
+    ensures ids { IfOk result
+        (λ listing. listing.ids ≡ ids_asked_for chain.now map.now query.now) }
+    ensures times { IfOk result (λ listing. listing.times.items
+        ≡ timestamps_beside map.now query.now (ids_asked_for chain.now map.now query.now)) }
 {
     if query.chain_hash != *chain {
-        return Ok(Scids::from_vec(Vec::new(alloc)));
+        return Ok(Listing {
+            ids: Scids::from_vec(Vec::new(alloc)),
+            times: Vec::new(alloc),
+        });
     }
-    map.ids_between(alloc, u64::from(query.first_blocknum), range_end(query))
+    if asks_for_timestamps(query) {
+        return with_timestamps(alloc, map, query);
+    }
+    let ids = map.ids_between(alloc, u64::from(query.first_blocknum), range_end(query))?;
+    let times = Vec::new(alloc);
+    Ok(Listing { ids, times })
+}
+
+/// The ids in a query's range and the timestamps of their channels, in one traversal.
+fn with_timestamps(alloc: Global, map: &Map, query: &RangeQuery) -> Result<Listing, AllocError>
+    ensures ids { IfOk result (λ listing. listing.ids
+        ≡ ids_between_of map.now.channels query.now.first_blocknum (range_end query.now)) }
+    ensures times { IfOk result (λ listing. listing.times.items ≡ all_timestamps_of map.now
+        (ids_between_of map.now.channels query.now.first_blocknum (range_end query.now))) }
+{
+    let mut ids = Vec::new(alloc);
+    let mut times = Vec::new(alloc);
+    for stored in map.channels_between(u64::from(query.first_blocknum), range_end(query)) {
+        ids.push(stored.scid())?;
+        times.push(timestamps_of(stored))?;
+    }
+    let ids = Scids::from_vec(ids);
+    Ok(Listing { ids, times })
 }
 
 /// The reply at an index.
@@ -89,26 +125,6 @@ fn reply(
         timestamps: timestamps_at(alloc, query, times, place)?,
     };
     encoded(alloc, &Message::RangeReply(message))
-}
-
-/// The timestamps of all ids in the range, if the query requests them.
-fn timestamps_beside(
-    alloc: Global,
-    chain: &ChainHash,
-    map: &Map,
-    query: &RangeQuery,
-) -> Result<Vec<Timestamps>, AllocError>
-    ensures { IfOk result (λ times. times.items
-        ≡ timestamps_beside map.now query.now (ids_asked_for chain.now map.now query.now)) }
-{
-    let mut times = Vec::new(alloc);
-    if !asks_for_timestamps(query) || query.chain_hash != *chain {
-        return Ok(times);
-    }
-    for stored in map.channels_between(u64::from(query.first_blocknum), range_end(query)) {
-        times.push(timestamps_of(stored))?;
-    }
-    Ok(times)
 }
 
 /// The timestamps in the reply at an index, if the query requests them.

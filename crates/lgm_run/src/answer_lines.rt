@@ -13,6 +13,7 @@ ghost use Rattle.lgm_run.specs.inner.Steps.{state_alone, text_alone, state_from,
 use crate::checked_item::{CheckedItem, check_lines};
 use crate::context::Context;
 use crate::engine::Engine;
+use crate::lookahead::Lookahead;
 use lgm_answers::{Answer, MAX_LINES, outcome_word};
 use lgm_check::Refusal;
 use lgm_par::Gate;
@@ -63,36 +64,6 @@ fn answer_item<W: Sink>(
     output.send(number, &Line::Word(word))
 }
 
-/// Looks up where the channels of checked updates may be stored, and then reads them there, before the first item is
-/// offered. Each of these looks at the memory takes long, and none depends on the one before, so they wait together.
-fn locate_all(
-    alloc: Global,
-    engine: &Engine,
-    items: &[Result<Option<CheckedItem>, AllocError>],
-) -> Result<Vec<Hint>, AllocError> {
-    let mut hints = Vec::with_capacity(alloc, items.len())?;
-    for item in items {
-        hints.push(match item {
-            Ok(Some(item)) => engine.locate(item),
-            _ => Hint::none(),
-        })?;
-    }
-    for (hint, item) in hints.iter_mut().zip(items) {
-        if let Ok(Some(item)) = item {
-            *hint = engine.prefetch(item, *hint);
-        }
-    }
-    Ok(hints)
-}
-
-/// The hint of an item, by its place.
-fn hint_of(hints: &[Hint], place: u64) -> Hint {
-    match hints.get(place as usize) {
-        Some(hint) => *hint,
-        None => Hint::none(),
-    }
-}
-
 /// Answers lines of items, the first of which has this number: they are checked in parallel, and offered in order.
 fn answer_items<Rt: Threads + Sync, G: Gate, W: Sink>(
     context: &Context<'_, Rt, G>,
@@ -109,10 +80,10 @@ fn answer_items<Rt: Threads + Sync, G: Gate, W: Sink>(
         (text_from context.now.chain first engine.old (asked_in lines.now)) result }
 {
     let all = check_lines(context, lines)?;
-    let hints = locate_all(context.pool.alloc, engine, &all)?;
+    let mut ahead = Lookahead::of(context.pool.alloc, &all)?;
     let mut number = first;
     for item in all {
-        let hint = hint_of(&hints, number.wrapping_sub(first));
+        let hint = ahead.next(engine.growing());
         answer_item(context.pool.alloc, number, item?, hint, engine, output)?;
         number += 1;
     }

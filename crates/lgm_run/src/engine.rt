@@ -17,7 +17,7 @@ use lgm_check::Refusal;
 use lgm_graph::{Known, MAX_CHANNELS};
 use lgm_par::{Gate, Pool};
 use lgm_script::{Output, RouteParameters, SendFault, Sink};
-use lgm_store::{Hint, Seed};
+use lgm_store::{Hint, Map, Seed};
 use std::alloc::{AllocError, Global};
 use std::marker::Model;
 use std::thread::Threads;
@@ -67,14 +67,9 @@ impl Engine {
         self.accepted
     }
 
-    /// Where the channel of a checked update may be stored. No answer depends on it.
-    pub fn locate(&self, item: &CheckedItem) -> Hint {
-        self.maps.locate(item)
-    }
-
-    /// Reads what is stored there, so that the item is offered faster.
-    pub fn prefetch(&self, item: &CheckedItem, hint: Hint) -> Hint {
-        self.maps.prefetch(item, hint)
+    /// The map to which items are offered. It may still be behind.
+    pub fn growing(&self) -> &Map {
+        self.maps.growing()
     }
 
     /// Offers a checked item, whose channel may be where the hint says. A refusal or out of memory leaves all unchanged.

@@ -9,6 +9,7 @@ mod checked_item;
 mod context;
 mod engine;
 mod final_state;
+mod lookahead;
 mod maps;
 mod questions;
 mod script_run;

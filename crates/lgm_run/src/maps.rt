@@ -22,7 +22,7 @@ use lgm_par::{Gate, Pool};
 use lgm_query::{MapDiff, TouchedKeys};
 use lgm_route::{Request, Route, RouteFault, answer_chunked};
 use lgm_script::{Output, SendFault, Sink, may_ask_routes};
-use lgm_store::{Hint, Op, Seed};
+use lgm_store::{Hint, Map, Op, Seed};
 use std::alloc::{AllocError, Global};
 use std::collections::VecDeque;
 use std::marker::Model;
@@ -72,20 +72,9 @@ impl Maps {
         })
     }
 
-    /// Where the channel of a checked update may be stored. No answer depends on it.
-    pub fn locate(&self, item: &CheckedItem) -> Hint {
-        match item {
-            CheckedItem::Message(message) => self.growing.network.locate(message),
-            _ => Hint::none(),
-        }
-    }
-
-    /// Reads what is stored there, so that the item is offered faster.
-    pub fn prefetch(&self, item: &CheckedItem, hint: Hint) -> Hint {
-        match item {
-            CheckedItem::Message(message) => self.growing.network.prefetch(message, hint),
-            _ => hint,
-        }
+    /// The map to which items are offered. It may still be behind.
+    pub fn growing(&self) -> &Map {
+        self.growing.network.map()
     }
 
     /// Offers a checked item, whose channel may be where the hint says. A refusal or out of memory leaves all unchanged.

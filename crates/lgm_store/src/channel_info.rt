@@ -69,6 +69,13 @@ impl Direction {
             row: None,
         }
     }
+
+    /// Reads the beginning of the row, if there is one.
+    fn touch(&self) {
+        if let Some(row) = &self.row {
+            row.touch();
+        }
+    }
 }
 
 impl ChannelInfo {
@@ -144,6 +151,13 @@ impl ChannelInfo {
         }
     }
 
+    /// Reads the beginning of each row, so that the processor's cache has it.
+    pub(crate) fn touch(&self) {
+        self.row.touch();
+        self.first.touch();
+        self.second.touch();
+    }
+
     fn direction(&self, second: bool) -> &Direction
         ensures direction { IsDirectionOf (if second then self.now.channel.message.node_id_2
             else self.now.channel.message.node_id_1) result.now }
@@ -152,18 +166,12 @@ impl ChannelInfo {
         if second { &self.second } else { &self.first }
     }
 
-    /// Whether an update of this channel may be admitted, by what is first and what is last in memory of what admission
-    /// compares. No contract depends on it.
-    pub(crate) fn may_admit(&self, row: &StoredUpdate, signer: &Point) -> bool {
-        let direction = if row.is_second() {
-            &self.second
-        } else {
-            &self.first
-        };
-        let is_own = self.scid == row.scid();
-        let is_alike = direction.node.0[0] == signer.0[0];
-        let is_newer = direction.row.is_none() | (direction.time < row.timestamp());
-        is_own & is_alike & is_newer
+    /// Whether this is the channel with an id, by what is first and what is last in memory of what the admission of an
+    /// update compares. No contract depends on it.
+    pub(crate) fn is_likely(&self, scid: Scid, second: bool) -> bool {
+        let direction = if second { &self.second } else { &self.first };
+        let has_own_time = direction.row.is_some() | (direction.time == 0);
+        (self.scid == scid) & direction.node.lawful() & has_own_time
     }
 
     /// Whether an update with this signer is admitted, or else why not: 10 `signature`, 15 `not-newer`.

@@ -15,9 +15,9 @@ ghost use Rattle.lgm_store.specs.inner.Decided.{update_op};
 ghost use Rattle.lgm_store.specs.inner.ChannelTable.{id_in, IsNumbered, with_update_at};
 
 use crate::channel_info::ChannelInfo;
-use crate::hint::Hint;
 use crate::iter::Channels;
-use crate::lookup_cache::LookupCache;
+use crate::lookup::Hint;
+use crate::lookup_cache::{LookupCache, NOWHERE, unless};
 use crate::shared::Shared;
 use lgm_check::{Refusal, StoredUpdate};
 use lgm_gossip::{Point, Scid};
@@ -82,26 +82,33 @@ impl ChannelTable {
         Some(&self.slots[number])
     }
 
-    /// The number that the cache has for a channel.
-    pub(crate) fn locate(&self, scid: Scid) -> Hint {
-        Hint::new(self.cache.cached(scid.to_u64()))
+    /// The number that the cache has for a channel, or [`NOWHERE`].
+    #[inline(always)]
+    pub(crate) fn locate(&self, scid: Scid) -> usize {
+        self.cache.guess(scid.to_u64())
     }
 
-    /// The hint, if the channel in its slot may admit an update.
-    pub(crate) fn prefetch(&self, hint: Hint, row: &StoredUpdate, signer: &Point) -> Hint {
-        match self.slots.get(hint.number()) {
-            Some(stored) if stored.may_admit(row, signer) => hint,
-            _ => Hint::none(),
+    /// The number, unless its slot is hardly that of the channel. What the admission of an update reads is then in the
+    /// processor's cache.
+    #[inline(always)]
+    pub(crate) fn prefetch(&self, number: usize, scid: Scid, second: bool) -> usize {
+        match self.slots.get(number) {
+            Some(stored) => unless(!stored.is_likely(scid, second), number),
+            None => NOWHERE,
+        }
+    }
+
+    /// Reads the rows of a channel, if it is where the cache says, so that the processor's cache has them.
+    pub(crate) fn touch(&self, scid: Scid) {
+        match self.slots.get(self.locate(scid)) {
+            Some(stored) if stored.scid() == scid => stored.touch(),
+            _ => {}
         }
     }
 
     /// The number that a channel may have: the one of the hint, or else the cached one.
     fn guess(&self, hint: Hint, scid: Scid) -> Option<usize> {
-        if hint.is_none() {
-            self.cache.cached(scid.to_u64())
-        } else {
-            Some(hint.number())
-        }
+        hint.slot().or(self.cache.cached(scid.to_u64()))
     }
 
     /// The channels whose ids are in a range, ascending.

@@ -5,7 +5,8 @@ ghost use Rattle.lgm_wire.specs.declared.point.Point.{Point};
 ghost use Rattle.lgm_store.specs.inner.ChannelsByNode.{entry_of, list_at, with_id, without_id};
 ghost use Rattle.lgm_store.specs.inner.ChannelsByNode.{changed, Lacks, Sets, IsSame, Lists, IsPlaceOf};
 
-use crate::lookup_cache::LookupCache;
+use crate::lookup::NodeKey;
+use crate::lookup_cache::{LookupCache, NOWHERE, unless};
 use crate::scid_set::ScidSet;
 use crate::seed::Seed;
 use indexmap::IndexMap;
@@ -58,15 +59,29 @@ impl ChannelsByNode {
         place_of(&self.lists, self.cache.cached(key_of(point)), point).is_some()
     }
 
-    /// Reads what adding a channel of a point will read, so that the processor's cache has it. Returns whether the channel
-    /// was added last, as far as it looks.
-    pub(crate) fn prefetch(&self, point: &Point, scid: Scid) -> bool {
-        let Some(place) = self.cache.cached(key_of(point)) else {
-            return false;
-        };
+    /// The place that the cache has for a node's list, or [`NOWHERE`].
+    #[inline(always)]
+    pub(crate) fn locate(&self, key: NodeKey) -> usize {
+        self.cache.guess(key.front)
+    }
+
+    /// The place, unless it is hardly that of the node's list. The point and where its ids are is then in the processor's
+    /// cache.
+    #[inline(always)]
+    pub(crate) fn prefetch(&self, place: usize, key: NodeKey) -> usize {
         match self.lists.get_index(place) {
-            Some((own, list)) => (own.0[32] == point.0[32]) & (list.last() == Some(scid)),
-            None => false,
+            Some((own, list)) => unless(!key.is_of(own) & list.is_single(), place),
+            None => NOWHERE,
+        }
+    }
+
+    /// The place, unless the list there has a channel already, as far as it looks. What adding that reads is then in the
+    /// processor's cache.
+    #[inline(always)]
+    pub(crate) fn prefetch_ids(&self, place: usize, scid: Scid) -> usize {
+        match self.lists.get_index(place) {
+            Some((_, list)) => unless(list.last() == Some(scid), place),
+            None => NOWHERE,
         }
     }
 
@@ -152,8 +167,7 @@ impl ChannelsByNode {
 
 /// What a point is cached by: the first eight bytes of its x coordinate.
 fn key_of(point: &Point) -> u64 {
-    let [_, a, b, c, d, e, f, g, h, ..] = point.0;
-    u64::from_be_bytes([a, b, c, d, e, f, g, h])
+    NodeKey::of(point).front
 }
 
 /// The place of a point's list, if it has one: the guess if the point is there, else the hash table's.

@@ -7,6 +7,7 @@ ghost use Rattle.lgm_store.specs.Reading.{is_between};
 ghost use Rattle.lgm_store.specs.inner.ChannelTable.{entries_in, id_in, HaveOwn};
 
 use crate::channel_info::ChannelInfo;
+use crate::map::Map;
 use crate::shared::Shared;
 use lgm_check::StoredNode;
 use lgm_gossip::{Point, Scid};
@@ -56,6 +57,50 @@ impl<'a> Iterator for Channels<'a> {
     fn next(&mut self) -> Option<&'a ChannelInfo> {
         let (_, number) = self.numbers.next()?;
         Some(&self.slots[*number])
+    }
+}
+
+/// The number of channels whose rows are read together.
+const TOGETHER: usize = 16;
+
+/// An iteration over the channels of a map that runs ahead of another one, and reads their rows, so that the processor's
+/// cache has them when the other one is there. No contract depends on it.
+///
+/// Looks at the memory that don't depend on each other wait for it together. So the rows of some channels are read one
+/// after the other, and then nothing for as many steps.
+#[derive(Drop)]
+pub struct ReadAhead<'a> {
+    channels: Channels<'a>,
+    /// The number of channels that were read ahead.
+    left: usize,
+}
+
+impl<'a> ReadAhead<'a> {
+    /// Ahead of an iteration over all channels.
+    pub fn of(map: &'a Map) -> ReadAhead<'a> {
+        ReadAhead {
+            channels: map.channels(),
+            left: 0,
+        }
+    }
+
+    /// Goes one channel on.
+    pub fn step(&mut self) {
+        if self.left == 0 {
+            self.read();
+        }
+        self.left = self.left.wrapping_sub(1);
+    }
+
+    /// Reads the rows of the next channels.
+    fn read(&mut self) {
+        for _channel in 0..TOGETHER {
+            let Some(stored) = self.channels.next() else {
+                break;
+            };
+            stored.touch();
+        }
+        self.left = TOGETHER;
     }
 }
 

@@ -43,6 +43,16 @@ impl LookupCache {
         }
     }
 
+    /// What may be the number of a key, or [`NOWHERE`]. Nothing is decided by what is in memory, so the processor goes on
+    /// with the next lookup before that has come.
+    #[inline(always)]
+    pub(crate) fn guess(&self, key: u64) -> usize {
+        match self.places.get(self.place(key)) {
+            Some(cached) => unless(cached.tag != tag(key), cached.number as usize),
+            None => NOWHERE,
+        }
+    }
+
     /// Stores the number of a key, in place of the entry that was there.
     pub(crate) fn note(&mut self, key: u64, number: usize) {
         let place = self.place(key);
@@ -80,6 +90,16 @@ impl LookupCache {
         let spread = key.wrapping_mul(SPREAD) >> 32;
         spread as usize & self.places.len().wrapping_sub(1)
     }
+}
+
+/// The number of nothing.
+pub(crate) const NOWHERE: usize = usize::MAX;
+
+/// [`NOWHERE`] if the test holds, else the number, without a branch.
+#[inline(always)]
+pub(crate) fn unless(holds: bool, number: usize) -> usize {
+    let mask: usize = 0;
+    number | mask.wrapping_sub(usize::from(holds))
 }
 
 /// The exclusive or of the upper and the lower half of a key.

@@ -83,6 +83,11 @@ impl ScidSet {
         }
     }
 
+    /// Whether its id is stored in its place. No contract depends on it.
+    pub(crate) fn is_single(&self) -> bool {
+        matches!(self.place, Place::One(_))
+    }
+
     /// The id that was added last, as far as the set knows.
     pub(crate) fn last(&self) -> Option<Scid> {
         match &self.place {

@@ -44,6 +44,11 @@ impl<T> Shared<T> {
         })
     }
 
+    /// Reads the count of owners, so that the processor's cache has it, and the first bytes of the value beside it.
+    pub(crate) fn touch(&self) {
+        let _ = Arc::strong_count(&self.cell);
+    }
+
     /// The value, borrowed.
     pub fn get(&self) -> &T
         ensures { result.now ≡ self.now }

@@ -17,7 +17,7 @@ use crate::edge::{Edge, edge_on};
 use crate::known::Known;
 use crate::nodes::{Nodes, takes_payments};
 use lgm_gossip::Point;
-use lgm_store::{ChannelInfo, Map};
+use lgm_store::{ChannelInfo, Map, ReadAhead};
 use std::alloc::{AllocError, Global};
 
 impl View {
@@ -32,7 +32,9 @@ impl View {
         let mut nodes = Nodes::new(alloc, map.seed());
         let mut cache = LookupCache::new(alloc, map.count())?;
         let mut edges = Vec::with_capacity(alloc, map.count())?;
+        let mut ahead = ReadAhead::of(map);
         for stored in map.channels() {
+            ahead.step();
             add_channel(
                 alloc, &mut nodes, &mut cache, &mut edges, known, map, stored,
             )?;

@@ -8,7 +8,7 @@ ghost use Rattle.lgm_store.specs.History.{absorbed};
 
 use super::Map;
 use crate::checked_message::{CheckedMessage, Kind};
-use crate::hint::Hint;
+use crate::lookup::{Hint, Lookup};
 use crate::op::Op;
 use crate::shared::Shared;
 use lgm_check::{Refusal, StoredChannel, StoredNode, StoredUpdate};
@@ -50,33 +50,50 @@ impl Map {
         }
     }
 
-    /// Where an update's channel may be stored.
+    /// Where the channel and the nodes of a message may be stored: the first of three looks.
     ///
-    /// Messages that are looked up one after the other wait for the memory together. So a caller that offers many
-    /// locates all of them first, then calls [`Map::prefetch`] for each, and then offers them.
-    pub fn locate(&self, message: &CheckedMessage) -> Hint {
-        match &message.kind {
-            Kind::Update(row, _) => self.channels.locate(row.get().scid()),
-            _ => Hint::none(),
+    /// Looks at the memory that don't depend on each other wait for it together. So a caller that offers many messages
+    /// takes the first look for some of them, then the second for each, then the third, and then offers these.
+    #[inline(always)]
+    pub fn locate(&self, lookup: &Lookup) -> Hint {
+        let mut hint = Hint::none();
+        match *lookup {
+            Lookup::None => {}
+            Lookup::Update(scid, _) => hint.channel = self.channels.locate(scid),
+            Lookup::Channel(scid, first, second) => {
+                hint.channel = self.channels.locate(scid);
+                hint.first = self.ends.locate(first);
+                hint.second = self.ends.locate(second);
+            }
+            Lookup::Node(node) => hint.first = self.ends.locate(node),
+        }
+        hint
+    }
+
+    /// Reads what offering the message will read at these places: the second look. A place at which something else is
+    /// found is left out.
+    #[inline(always)]
+    pub fn prefetch(&self, lookup: &Lookup, hint: &mut Hint) {
+        match *lookup {
+            Lookup::None => {}
+            Lookup::Update(scid, second) => {
+                hint.channel = self.channels.prefetch(hint.channel, scid, second);
+            }
+            Lookup::Channel(_, first, second) => {
+                hint.first = self.ends.prefetch(hint.first, first);
+                hint.second = self.ends.prefetch(hint.second, second);
+            }
+            Lookup::Node(node) => hint.first = self.ends.prefetch(hint.first, node),
         }
     }
 
-    /// Reads what offering a message will read, where an update was located or where the channels of an announcement's
-    /// nodes are listed, so that the processor's cache has it. Returns the hint, unless something else is there, as far
-    /// as it looks.
-    pub fn prefetch(&self, message: &CheckedMessage, hint: Hint) -> Hint {
-        match &message.kind {
-            Kind::Update(row, signer) => self.channels.prefetch(hint, row.get(), signer),
-            Kind::Channel(row) => self.prefetch_channel(row.get(), hint),
-            Kind::Node(_) => hint,
+    /// Reads what follows of it: the third look.
+    #[inline(always)]
+    pub fn prefetch_ids(&self, lookup: &Lookup, hint: &mut Hint) {
+        if let Lookup::Channel(scid, _, _) = *lookup {
+            hint.first = self.ends.prefetch_ids(hint.first, scid);
+            hint.second = self.ends.prefetch_ids(hint.second, scid);
         }
-    }
-
-    /// The hint, unless the channel was listed last at one of its nodes.
-    fn prefetch_channel(&self, row: &StoredChannel, hint: Hint) -> Hint {
-        let first = self.ends.prefetch(&row.node(false), row.scid());
-        let second = self.ends.prefetch(&row.node(true), row.scid());
-        if first | second { Hint::none() } else { hint }
     }
 
     /// Closes a channel, and returns the operation. It allocates nothing.

@@ -47,6 +47,14 @@ impl Map {
         self.channels.get(scid)
     }
 
+    /// Reads the rows of a channel, so that the processor's cache has them.
+    ///
+    /// Looks at the memory that don't depend on each other wait for it together. So a caller that reads many channels
+    /// calls this for some of them before it reads the first.
+    pub fn prefetch_rows(&self, scid: Scid) {
+        self.channels.touch(scid);
+    }
+
     /// The row of a channel, if it is in the map.
     pub fn channel(&self, scid: Scid) -> Option<ChannelRow<'_>>
         ensures { result ≡ channel_of self.now.channels scid }

@@ -11,7 +11,7 @@ pub reply-requires-clause-between : goal.reply-requires-clause-between
 reply-requires-clause-between c =
     All-same (λ id. is_between id c.args.query.now.first_blocknum (range_end c.args.query.now) ≡ true)
     c.as_slice-ids.result.now (ids_asked_for c.args.chain.now c.args.map.now c.args.query.now)
-    (c.as_slice-ids.ensures ∙ c.in_ok-ids.ensures) (All-ids_asked_for c.args.chain.now c.args.map.now c.args.query.now)
+    (c.as_slice-ids.ensures ∙ c.in_ok-listing.ensures.ids) (All-ids_asked_for c.args.chain.now c.args.map.now c.args.query.now)
 
 pub loop-place-preserved : goal.loop-place-preserved
 loop-place-preserved c =
@@ -19,7 +19,7 @@ loop-place-preserved c =
     let more = map-range_with_len_more bytes 0 c.loop-place.place c.loop-place.place (zero-add c.loop-place.place) in
     let own : c.in_ok-reply.field-0 ≡ bytes c.loop-place.place =
     c.in_ok-reply.ensures c.args.map.now
-    (c.as_slice-times.ensures.value ∙ c.in_ok-times.ensures ∙ ap (timestamps_beside c.args.map.now
-    c.args.query.now) (sym (c.as_slice-ids.ensures ∙ c.in_ok-ids.ensures))) in
+    (c.as_slice-times.ensures.value ∙ c.in_ok-listing.ensures.times ∙ ap (timestamps_beside c.args.map.now
+    c.args.query.now) (sym (c.as_slice-ids.ensures ∙ c.in_ok-listing.ensures.ids))) in
     let before : c.loop-place.replies.items ≡ map bytes (range_with_len 0 c.loop-place.place) = c.loop-place.invariant in
     rw (before, c.owned.ensures, own) at c.in_ok-push.ensures.items ∙ sym more

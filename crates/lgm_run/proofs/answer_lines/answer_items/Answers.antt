@@ -18,9 +18,9 @@ returns-in_err-all-clause-written g c =
     let p = err_from_is_err_and c.from_residual.result c.from_residual.ensures.1 in
     rw (p.1, p.2) (tells_none _ _)
 
-pub returns-in_err-hints-clause-written : goal.returns-in_err-hints-clause-written
-returns-in_err-hints-clause-written g c =
-    let p = err_from_is_err_and c.from_residual-in_err-hints.result c.from_residual-in_err-hints.ensures.1 in
+pub returns-in_err-ahead-clause-written : goal.returns-in_err-ahead-clause-written
+returns-in_err-ahead-clause-written g c =
+    let p = err_from_is_err_and c.from_residual-in_err-ahead.result c.from_residual-in_err-ahead.ensures.1 in
     rw (p.1, p.2) (tells_none _ _)
 
 pub loop-item-init : goal.loop-item-init
