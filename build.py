@@ -26,7 +26,7 @@ from pathlib import Path
 
 TOP = Path(__file__).resolve().parent
 PROGRAM = "lgm"
-TIMES = {PROGRAM: "20 to 25 minutes", "lgm_c": "20 to 25 minutes"}
+TIMES = {PROGRAM: "20 to 30 minutes", "lgm_c": "20 to 30 minutes"}
 SOURCES = ("src", "specs", "proofs")
 MOST_AT_ONCE = 4
 MEMORY_OF_ONE = 6 << 30  # bytes, for a check that shares its work among several processors
@@ -112,10 +112,11 @@ def default_at_once():
     return max(1, min(MOST_AT_ONCE, processors() // 2, free_memory() // MEMORY_OF_ONE))
 
 
-def jobs_of_one(at_once):
-    """Among how many processors each of several checks shares its work, as far as memory allows: its part of them, but
-    at least two, since a check waits for a part of its time. Each job loads the libraries anew, so more cost more."""
-    return max(1, min(processors(), max(2, processors() // at_once), free_memory() // at_once // MEMORY_OF_JOB))
+def jobs_of_one(at_once, sharing):
+    """Among how many processors one of several checks shares its work, as far as memory allows, if so many of them share
+    the processors: its part of them, but at least two, since a check waits for a part of its time. Each job loads the
+    libraries anew, so more of them cost more."""
+    return max(1, min(processors(), max(2, processors() // sharing), free_memory() // at_once // MEMORY_OF_JOB))
 
 
 def say(text):
@@ -207,11 +208,13 @@ def prove_all(used, crates, at_once):
         while left or running:
             ready = [it for it in left if all(lower in done for lower in used[it] if lower in crates)]
             begins = ready[:at_once - len(running)]
-            jobs = jobs_of_one(max(1, len(running) + len(begins)))
+            # Those that give way leave the others all processors.
+            sharing = sum(it in first for it in (*running.values(), *begins))
             for it in begins:
                 left.remove(it)
                 started[it] = time.monotonic()
                 say(f"{it} ..")
+                jobs = jobs_of_one(at_once, sharing if it in first else processors())
                 call = (prove_apart, used, it, jobs, it not in first) if at_once > 1 else (prove, it, jobs)
                 running[pool.submit(*call)] = it
             for ended in wait(running, return_when=FIRST_COMPLETED).done:
@@ -272,9 +275,9 @@ def main():
     try:
         prove_all(used, stale, at_once)
         if arguments.library:
-            build_library(target, len(stale) + 1, jobs_of_one(1), arguments.cpu)
+            build_library(target, len(stale) + 1, jobs_of_one(1, 1), arguments.cpu)
         else:
-            build_program(len(stale) + 1, jobs_of_one(1), arguments.cpu)
+            build_program(len(stale) + 1, jobs_of_one(1, 1), arguments.cpu)
     except Failed as failed:
         crate, said = failed.args
         sys.stderr.write(said)

@@ -9,7 +9,7 @@
         [route] = lgm.ask([f"route {payer} {payee} {msat} {expiry} {secret}"])
 
 A service gives `program`, a copy of the program that was built. Without it `./lgm` is started, which builds first for
-20 to 25 minutes if the sources changed; it reports progress on stderr meanwhile.
+20 to 30 minutes if the sources changed; it reports progress on stderr meanwhile.
 
 A pipe holds some 64 KiB. A client that writes lines without reading answers blocks forever once both pipes are full,
 and so does `lgm`. So a thread of the client reads all the time, and lines are written in batches.
