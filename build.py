@@ -1,22 +1,26 @@
 #!/usr/bin/env python3
 """Proves and builds the program `lgm`: the libraries that it depends on, lowest first, and then the program.
 
-    python3 build.py [--at-once N] [--cpu NAME] [--library CRATE]
+    python3 build.py [--at-once N] [--cpu NAME] [--library CRATE] [--keep]
 
 With `--library` it builds a library and its dependencies instead: examples/build-c builds `lgm_c` so.
 
-Reports progress on stderr: which crate of how many, and how long each took; the output of `rt` is shown if it fails.
-Independent libraries are proved in parallel, as many as processors and memory allow, or N. A check locks
-the folders of its crate and of those below, so each of several has a copy of them in the system's temporary folder.
+Reports progress on stderr: which crate of how many, and how long each took; what a check printed is shown if it fails.
+Independent libraries are proved in parallel, as many as processors and memory allow, or N.
+
+A library that is proved is left with its statements alone, which those above it read faster than proofs. Whoever is
+going to change something wants the proofs kept: with `--keep`, or where `rt check` has kept some, `rt lib` builds each
+library, and a later check begins with what it left. Then the first build takes longer.
 
 The program is built for x86-64-v3 if this machine's processor supports that, and then ends with status 127 on one that
-doesn't; a library for x86-64-v2. NAME, or LGM_CPU in the environment, is another target that `rt` knows, or `default`:
-x86-64-v2.
+doesn't; a library for x86-64-v2. NAME, or LGM_CPU in the environment, is another target that the kit knows, or
+`default`: x86-64-v2.
 """
 
 import argparse
 import os
 import shutil
+import signal
 import subprocess
 import sys
 import tempfile
@@ -26,7 +30,7 @@ from pathlib import Path
 
 TOP = Path(__file__).resolve().parent
 PROGRAM = "lgm"
-TIMES = {PROGRAM: "20 to 30 minutes", "lgm_c": "20 to 30 minutes"}
+TIMES = {PROGRAM: "20 to 30 minutes", "lgm_c": "15 to 20 minutes"}
 SOURCES = ("src", "specs", "proofs")
 MOST_AT_ONCE = 4
 MEMORY_OF_ONE = 6 << 30  # bytes, for a check that shares its work among several processors
@@ -38,49 +42,47 @@ SECONDS = {"lgm_hex": 20, "lgm_wire": 31, "lgm_par": 27, "lgm_gossip": 98, "lgm_
 NEARLY = 0.95  # of the longest chain of libraries that wait for each other
 BYTES_A_SECOND = 1_500
 NO_CHAIN = "00" * 32
-ANY_CPU = "default"  # what rt builds for unless it is told otherwise
+ANY_CPU = "default"  # what is built for unless it is told otherwise
 NEWER_CPU = "x86-64-v3"
 NEWER_FLAGS = {"abm", "avx2", "bmi1", "bmi2", "f16c", "fma", "movbe"}  # what /proc/cpuinfo says of one
 
 
 class Failed(Exception):
-    """A crate isn't proved: its name, and the output of `rt`."""
+    """A crate isn't proved: its name, and what the check printed."""
 
 
 def read_crates(file):
-    """The crates of a file as crates.txt, each with the crates of the same file that it uses."""
+    """The crates of a file as crates.txt, each with the libraries that it uses: the file's own, and the kit's."""
     lines = (line.split("#")[0].split(":") for line in file.read_text().splitlines())
-    used = {parts[0].split()[0]: parts[1].split() for parts in lines if len(parts) == 2}
-    return {name: [it for it in uses if it in used] for name, uses in used.items()}
+    return {parts[0].split()[0]: parts[1].split() for parts in lines if len(parts) == 2}
+
+
+def own(used, name):
+    """The libraries of the same file that a crate uses."""
+    return [it for it in used[name] if it in used]
 
 
 def below(used, name):
-    """All dependencies of a crate, lowest first."""
+    """All of the file's libraries that a crate depends on, lowest first."""
     found = []
-    for it in used[name]:
+    for it in own(used, name):
         found += [lower for lower in (*below(used, it), it) if lower not in found]
     return found
 
 
+def folder_of(crate):
+    """The folder of a crate."""
+    return TOP / "crates" / crate
+
+
 def files_of(crate):
     """The sources, specs and proofs of a crate."""
-    return [file for part in SOURCES for file in (TOP / "crates" / crate / part).rglob("*") if file.is_file()]
+    return [file for part in SOURCES for file in (folder_of(crate) / part).rglob("*") if file.is_file()]
 
 
-def stamp_of(crate):
-    """The file that a library's build writes last."""
-    return TOP / "crates" / crate / "out" / "rlib" / "stamp"
-
-
-def is_fresh(used, crate):
-    """Whether a library was built behind the last change of its files, and of those below it. Where that is wrong, the
-    build of the program builds it anew."""
-    stamp = stamp_of(crate)
-    if not stamp.exists():
-        return False
-    others = [stamp_of(lower) for lower in used[crate]]
-    return all(it.exists() and it.stat().st_mtime <= stamp.stat().st_mtime
-               for it in (*files_of(crate), *others, TOP / "crates.txt"))
+def rlibs_of(crate):
+    """The folder that has what crates above a library read of it. `rt` empties it before it builds the library."""
+    return folder_of(crate) / "out" / "rlib"
 
 
 def processors():
@@ -124,23 +126,86 @@ def say(text):
     print(f"lgm: {text}", file=sys.stderr, flush=True)
 
 
-def rt(crate, folder, jobs, command, *words, gives_way=False):
-    """Runs a command of `rt` in a crate's folder, which may give way to others."""
-    front = ("nice", "-n", "19") if gives_way and shutil.which("nice") else ()
-    done = subprocess.run([*front, "rt", command, "--jobs", str(jobs), *words], cwd=folder, stdin=subprocess.DEVNULL,
-                          stdout=subprocess.PIPE, stderr=subprocess.STDOUT, check=False)
-    if done.returncode:
-        raise Failed(crate, done.stdout.decode(errors="replace"))
-
-
 def words_for(cpu):
-    """What `rt` is told of the processor to build for."""
+    """What a build is told of the processor to build for."""
     return () if cpu == ANY_CPU else ("--cpu", cpu)
 
 
-def prove(crate, jobs):
-    """Proves and builds a library in its folder."""
-    rt(crate, TOP / "crates" / crate, jobs, "lib")
+def call(crate, folder, *words):
+    """Runs a command in a crate's folder."""
+    done = subprocess.run(words, cwd=folder, stdin=subprocess.DEVNULL, stdout=subprocess.PIPE, stderr=subprocess.STDOUT, check=False)
+    if done.returncode:
+        failed = Failed(crate, done.stdout.decode(errors="replace"))
+        failed.status = done.returncode
+        raise failed
+
+
+def giving_way(gives_way):
+    """What stands before a command that gives way to others, if it does."""
+    return ("nice", "-n", "19") if gives_way and shutil.which("nice") else ()
+
+
+class Builder:
+    """Builds crates by `rattle`, each over the statements of the libraries below it, and keeps no proof."""
+
+    # The files of which one stands beside a library that was built.
+    stamps = ("statements", "stamp")
+
+    def __init__(self, used):
+        self.used = used
+        first_page = subprocess.run(("rt", "doc"), stdout=subprocess.PIPE, check=True, text=True).stdout
+        self.kit = Path(first_page.splitlines()[0]).parent
+
+    def words(self, crate, root):
+        """What `rattle` is told of a crate: its root file, the libraries that it uses, and the kit's logic."""
+        libraries = {it: (rlibs_of(it) if it in self.used else self.kit / "rlibs") / f"{it}.rlib" for it in self.used[crate]}
+        libraries["std"] = self.kit / "rlibs" / "std.rlib"
+        folders = (self.kit / "rlibs", *(rlibs_of(it) for it in below(self.used, crate)))
+        return ("--crate-name", crate, f"src/{root}", *(word for it, place in libraries.items() for word in ("--extern", f"{it}={place}")),
+                *(word for it in folders for word in ("-L", f"dependency={it}")),
+                "--antt-project", self.kit / "rattle" / "logic" / "antt-project.json", "--logic-built", self.kit / "logic_built")
+
+    def rattle(self, crate, jobs, *words, root="lib.rt", gives_way=False):
+        """Proves and builds a crate: by several jobs, or by one if the system ends these, most likely for memory."""
+        def build(jobs):
+            call(crate, folder_of(crate), *giving_way(gives_way), self.kit / "bin" / "rattle", "build", "--jobs", str(jobs),
+                 *self.words(crate, root), *words)
+
+        (folder_of(crate) / "out").mkdir(exist_ok=True)
+        try:
+            build(jobs)
+        except Failed as failed:
+            if failed.status != -signal.SIGKILL or jobs == 1:
+                raise
+            build(1)
+
+    def library(self, crate, jobs, gives_way):
+        """Proves and builds a library for the crates above it."""
+        folder, started = rlibs_of(crate), time.time()
+        shutil.rmtree(folder, ignore_errors=True)
+        folder.mkdir(parents=True)
+        self.rattle(crate, jobs, "--statements", "-o", folder / f"{crate}.rlib", gives_way=gives_way)
+        stamp = folder / self.stamps[0]
+        stamp.touch()
+        # As old as the start: a file that was edited meanwhile is newer.
+        os.utime(stamp, (started, started))
+
+    def linked(self, *words):
+        """What is said of the processor, and of the code that is linked."""
+        return (*words, "--toolchain", self.kit / "toolchain", "--backend", "llvm")
+
+    def archive(self, crate, jobs, cpu):
+        """Proves and builds a library that programs in other languages link with."""
+        self.rattle(crate, jobs, *self.linked(*words_for(cpu)), "--crate-type", "staticlib", "-o", f"out/lib{crate}.a")
+
+    def program(self, jobs, cpu):
+        """Proves and builds the program."""
+        part = f"out/{PROGRAM}.o"
+        self.rattle(PROGRAM, jobs, *self.linked(*words_for(cpu)), "-o", part, root="main.rt")
+        libraries = (self.kit / "c" / "libos_c.a", self.kit / "c" / "liblibc_c.a")
+        call(PROGRAM, folder_of(PROGRAM), self.kit / "bin" / "rattle-link", "--target", "x86_64-unknown-linux-gnu",
+             "--toolchain", self.kit / "toolchain", "-o", f"out/{PROGRAM}", part, *libraries)
+        call(PROGRAM, folder_of(PROGRAM), f"out/{PROGRAM}", "run", "--chain", NO_CHAIN)
 
 
 def link(file, copy):
@@ -151,30 +216,82 @@ def link(file, copy):
         shutil.copy2(file, copy)
 
 
-def prove_apart(used, crate, jobs, gives_way):
-    """Proves and builds a library in a copy of it and of those below, and brings back what that leaves."""
-    own = TOP / "crates" / crate
-    with tempfile.TemporaryDirectory(prefix="lgm-") as name:
-        top = Path(name)
-        names = [*below(used, crate), crate]
+class Keeper:
+    """Builds crates by `rt`, which keeps what it proved for later checks.
+
+    It locks the folders of a crate and of those below, so each of several has a copy of them in the system's temporary
+    folder.
+    """
+
+    stamps = ("stamp",)
+
+    def __init__(self, used, at_once):
+        self.used, self.at_once = used, at_once
+
+    def rt(self, crate, folder, jobs, command, *words, gives_way=False):
+        """Runs a command of `rt` in a crate's folder, or in a copy of that."""
+        call(crate, folder, *giving_way(gives_way), "rt", command, "--jobs", str(jobs), *words)
+
+    def library(self, crate, jobs, gives_way):
+        """Proves and builds a library for the crates above it."""
+        if self.at_once == 1:
+            self.rt(crate, folder_of(crate), jobs, "lib")
+            return
+        out = folder_of(crate) / "out"
+        with tempfile.TemporaryDirectory(prefix="lgm-") as name:
+            copy = self.copy(crate, Path(name))
+            if out.is_dir():
+                shutil.move(out, copy / "out")
+            try:
+                self.rt(crate, copy, jobs, "lib", gives_way=gives_way)
+            finally:
+                if (copy / "out").is_dir():
+                    shutil.move(copy / "out", out)
+
+    def copy(self, crate, top):
+        """Copies a crate, and the libraries below it with what was built of them. The copy's folder."""
+        names = [*below(self.used, crate), crate]
         lines = (TOP / "crates.txt").read_text().splitlines(keepends=True)
         (top / "crates.txt").write_text("".join(it for it in lines if it.split(":")[0].split()[:1] in [[n] for n in names]))
         shutil.copy2(TOP / "HANDLES", top)
         for it in names:
-            folder = TOP / "crates" / it
             for part in SOURCES:
-                if (folder / part).is_dir():
-                    shutil.copytree(folder / part, top / "crates" / it / part)
+                if (folder_of(it) / part).is_dir():
+                    shutil.copytree(folder_of(it) / part, top / "crates" / it / part)
             if it != crate:
-                shutil.copytree(folder / "out" / "rlib", top / "crates" / it / "out" / "rlib", copy_function=link)
-        out = top / "crates" / crate / "out"
-        if (own / "out").is_dir():
-            shutil.move(own / "out", out)
-        try:
-            rt(crate, out.parent, jobs, "lib", gives_way=gives_way)
-        finally:
-            if out.is_dir():
-                shutil.move(out, own / "out")
+                shutil.copytree(rlibs_of(it), top / "crates" / it / "out" / "rlib", copy_function=link)
+        return top / "crates" / crate
+
+    def archive(self, crate, jobs, cpu):
+        """Proves and builds a library that programs in other languages link with."""
+        self.rt(crate, folder_of(crate), jobs, "lib", *words_for(cpu))
+
+    def program(self, jobs, cpu):
+        """Proves, builds and runs the program, on an empty script, which writes nothing."""
+        self.rt(PROGRAM, folder_of(PROGRAM), jobs, "run", *words_for(cpu), "--", "run", "--chain", NO_CHAIN)
+
+
+def stamp_of(crate, builder):
+    """The file that a library's build writes last, if there is one."""
+    return next((file for name in builder.stamps if (file := rlibs_of(crate) / name).exists()), None)
+
+
+def is_fresh(used, crate, builder):
+    """Whether a library was built behind the last change of its files, and of those below it. Where that is wrong, the
+    build of what uses it fails, or builds it anew."""
+    stamps = [stamp_of(it, builder) for it in (crate, *own(used, crate))]
+    if not all(stamps):
+        return False
+    return all(it.stat().st_mtime <= stamps[0].stat().st_mtime for it in (*files_of(crate), *stamps[1:], TOP / "crates.txt"))
+
+
+def stale_of(used, crates, builder):
+    """Those of some libraries, lowest first, that aren't fresh, and those above them."""
+    stale = []
+    for it in crates:
+        if any(lower in stale for lower in own(used, it)) or not is_fresh(used, it, builder):
+            stale.append(it)
+    return stale
 
 
 def seconds_for(crate):
@@ -199,7 +316,7 @@ def urgent(used, crates, behind):
     return {it for it in crates if before[it] + behind[it] > NEARLY * most}
 
 
-def prove_all(used, crates, at_once):
+def build_all(used, crates, at_once, builder):
     """Proves and builds libraries, each behind those below it, and first those for which others wait the longest."""
     behind = seconds_behind(used, crates)
     first = urgent(used, crates, behind)
@@ -214,9 +331,9 @@ def prove_all(used, crates, at_once):
                 left.remove(it)
                 started[it] = time.monotonic()
                 say(f"{it} ..")
-                jobs = jobs_of_one(at_once, sharing if it in first else processors())
-                call = (prove_apart, used, it, jobs, it not in first) if at_once > 1 else (prove, it, jobs)
-                running[pool.submit(*call)] = it
+                gives_way = at_once > 1 and it not in first
+                jobs = jobs_of_one(at_once, processors() if gives_way else max(1, sharing))
+                running[pool.submit(builder.library, it, jobs, gives_way)] = it
             for ended in wait(running, return_when=FIRST_COMPLETED).done:
                 it = running.pop(ended)
                 try:
@@ -228,23 +345,18 @@ def prove_all(used, crates, at_once):
                 say(f"{it}: {time.monotonic() - started[it]:.0f} s, {len(done)} of {len(crates) + 1}")
 
 
-def build_library(crate, count, jobs, cpu):
-    """Proves and builds a library that others link with."""
-    clock = time.monotonic()
-    say(f"{crate}, for {cpu} processors .." if cpu != ANY_CPU else f"{crate} ..")
-    rt(crate, TOP / "crates" / crate, jobs, "lib", *words_for(cpu))
-    say(f"{crate}: {time.monotonic() - clock:.0f} s, {count} of {count}")
-
-
-def build_program(count, jobs, cpu):
-    """Proves, builds and runs the program, on an empty script, which writes nothing."""
-    program = TOP / "crates" / PROGRAM / "out" / PROGRAM
+def build_target(target, count, cpu, builder):
+    """Proves and builds what was asked for, over its libraries."""
     started, clock = time.time(), time.monotonic()
-    say(f"{PROGRAM}, for {cpu} processors .." if cpu != ANY_CPU else f"{PROGRAM} ..")
-    rt(PROGRAM, program.parent.parent, jobs, "run", *words_for(cpu), "--", "run", "--chain", NO_CHAIN)
-    # As old as the start: a file that was edited meanwhile is newer.
-    os.utime(program, (started, started))
-    say(f"{PROGRAM}: {time.monotonic() - clock:.0f} s, {count} of {count}")
+    say(f"{target}, for {cpu} processors .." if cpu != ANY_CPU else f"{target} ..")
+    jobs = jobs_of_one(1, 1)
+    if target == PROGRAM:
+        builder.program(jobs, cpu)
+        # As old as the start: a file that was edited meanwhile is newer.
+        os.utime(folder_of(PROGRAM) / "out" / PROGRAM, (started, started))
+    else:
+        builder.archive(target, jobs, cpu)
+    say(f"{target}: {time.monotonic() - clock:.0f} s, {count} of {count}")
 
 
 def arguments_of(used):
@@ -254,6 +366,7 @@ def arguments_of(used):
     parser.add_argument("--cpu", default=os.environ.get("LGM_CPU"), metavar="NAME",
                         help=f"the processor to build for: {NEWER_CPU}, or {ANY_CPU}, for any")
     parser.add_argument("--library", choices=sorted(used), metavar="CRATE", help="build this library, not the program")
+    parser.add_argument("--keep", action="store_true", help="keep the proofs, for checks of what will be changed")
     arguments = parser.parse_args()
     arguments.cpu = arguments.cpu or (ANY_CPU if arguments.library else own_cpu())
     return arguments
@@ -264,20 +377,16 @@ def main():
     used = read_crates(TOP / "crates.txt")
     arguments = arguments_of(used)
     target = arguments.library or PROGRAM
-    crates, stale = below(used, target), []
-    for it in crates:
-        if any(lower in stale for lower in used[it]) or not is_fresh(used, it):
-            stale.append(it)
-    at_once = min(max(1, arguments.at_once), max(1, len(stale)))
-    say(f"proving and building {len(stale) + 1} of {len(crates) + 1} crates, {at_once} at once; "
+    crates, at_once = below(used, target), max(1, arguments.at_once)
+    keeps = arguments.keep or any((folder_of(it) / "out" / "incremental").is_dir() for it in (*crates, target))
+    builder = Keeper(used, at_once) if keeps else Builder(used)
+    stale = stale_of(used, crates, builder)
+    say(f"proving and building {len(stale) + 1} of {len(crates) + 1} crates, {min(at_once, len(stale) + 1)} at once; "
         f"all of them take {TIMES.get(target, 'some time')} on four processors")
     begun = time.monotonic()
     try:
-        prove_all(used, stale, at_once)
-        if arguments.library:
-            build_library(target, len(stale) + 1, jobs_of_one(1, 1), arguments.cpu)
-        else:
-            build_program(len(stale) + 1, jobs_of_one(1, 1), arguments.cpu)
+        build_all(used, stale, at_once, builder)
+        build_target(target, len(stale) + 1, arguments.cpu, builder)
     except Failed as failed:
         crate, said = failed.args
         sys.stderr.write(said)

@@ -1,5 +1,5 @@
 #!/usr/bin/env python3
-"""Tests the shell script `lgm` and build.py over temporary crates, with a stand-in for `rt` that proves nothing.
+"""Tests the shell script `lgm` and build.py over temporary crates, with stand-ins for `rt` and `rattle` that prove nothing.
 
     python3 tests/test_build.py
 """
@@ -21,6 +21,7 @@ other_tests: left
 """
 RT = """#!/bin/sh
 # Notes what it does, and leaves what the builds of rt leave.
+[ "$1" = doc ] && { echo "$KIT/START-HERE.md"; exit 0; }
 crate=$(basename "$PWD")
 grep -q "^$crate" ../../crates.txt || exit 3
 [ "$1" = try ] && { echo "$*"; cat; echo "run=ended" >&2; exit 5; }
@@ -28,22 +29,42 @@ echo "begin $crate" >> "$LOG"
 [ "$crate" = "${BROKEN:-}" ] && { echo "a clause isn't proved"; exit 1; }
 case $crate in left|right) [ -f ../low/out/rlib/stamp ] || exit 4 ;; esac
 case $crate in left|right) sleep "${PAUSE:-0.1}" ;; esac
-mkdir -p out/rlib
+mkdir -p out/rlib out/incremental
 echo "$*" > out/rlib/stamp
 [ "$1" = run ] && { echo "$*" > "$LOG.run"; printf '#!/bin/sh\\necho "$@"\\n' > out/lgm; chmod +x out/lgm; }
 echo "end $crate" >> "$LOG"
 """
+RATTLE = """#!/bin/sh
+# The same for the builds of rattle: a library is a folder, and a program a file.
+crate=$(basename "$PWD")
+echo "begin $crate" >> "$LOG"
+[ "$crate" = "${BROKEN:-}" ] && { echo "a clause isn't proved"; exit 1; }
+case " $* " in *" --jobs 1 "*) ;; *) [ "$crate" = "${KILLED:-}" ] && kill -KILL $$ ;; esac
+for word; do
+    case $word in low=*|left=*|right=*) [ -d "${word#*=}" ] || exit 4 ;; esac
+    [ "${before:-}" = -o ] && to=$word
+    before=$word
+done
+case $crate in left|right) sleep "${PAUSE:-0.1}" ;; esac
+case " $* " in *" --statements "*) mkdir "$to" ;; *) echo "$*" > "$to"; echo "$*" > "$LOG.run" ;; esac
+echo "end $crate" >> "$LOG"
+"""
+LINK = """#!/bin/sh
+# Makes a program that prints its arguments.
+printf '#!/bin/sh\\necho "$@"\\n' > out/lgm; chmod +x out/lgm
+"""
 
 
 class Place:
-    """A temporary repository, with `rt` on the path."""
+    """A temporary repository and kit, with `rt` on the path."""
 
     def __init__(self, folder):
-        self.top, self.log = folder / "repository", folder / "log"
-        (folder / "bin").mkdir()
-        self.path = f"{folder / 'bin'}:{os.environ['PATH']}"
-        (folder / "bin" / "rt").write_text(RT)
-        (folder / "bin" / "rt").chmod(0o755)
+        self.top, self.log, self.kit = folder / "repository", folder / "log", folder / "kit"
+        (self.kit / "bin").mkdir(parents=True)
+        self.path = f"{self.kit / 'bin'}:{os.environ['PATH']}"
+        for name, text in (("rt", RT), ("rattle", RATTLE), ("rattle-link", LINK)):
+            (self.kit / "bin" / name).write_text(text)
+            (self.kit / "bin" / name).chmod(0o755)
         self.top.mkdir()
         for name in ("lgm", "build.py"):
             (self.top / name).write_bytes((TOP / name).read_bytes())
@@ -56,10 +77,10 @@ class Place:
             (self.top / "crates" / name / "src" / "lib.rt").write_text("//! A made crate.\n")
 
     def run(self, *words, given="", **more):
-        """What a command wrote, and what `rt` did."""
+        """What a command wrote, and what was built."""
         self.log.write_text("")
         done = subprocess.run(words, cwd=self.top, input=given, capture_output=True, text=True, check=False,
-                              env={**os.environ, "PATH": self.path, "LOG": str(self.log), **more})
+                              env={**os.environ, "PATH": self.path, "LOG": str(self.log), "KIT": str(self.kit), **more})
         return done, self.log.read_text().split("\n")[:-1]
 
     def touch(self, crate):
@@ -100,7 +121,7 @@ def builds_for_a_processor(place):
         done, log = place.run("./lgm", "run", LGM_CPU=cpu)
         assert done.stdout == "run\n" and log == ["begin lgm", "end lgm"], (done, log)
         told = ran.read_text()
-        assert told.startswith("run --jobs ") and f" -- run --chain {'00' * 32}" in told, told
+        assert told.startswith("build --jobs ") and told.endswith(" -o out/lgm.o\n"), told
         assert ("--cpu x86-64-v3" in told) == (cpu == "x86-64-v3") == ("for x86-64-v3 processors" in done.stderr), (told, done)
 
 
@@ -133,6 +154,31 @@ def builds_a_library(place):
     assert done.returncode == 2 and log == [], done
 
 
+def tells_rattle_what_it_uses(place):
+    """A crate is built over its libraries and those below, and the kit's; and once more if it is killed."""
+    place.touch("lgm")
+    done, log = place.run("./lgm", "run", KILLED="lgm")
+    assert done.stdout == "run\n" and log == ["begin lgm", "begin lgm", "end lgm"], (done, log)
+    told = place.log.with_name("log.run").read_text()
+    for word in ("--jobs 1 ", "--crate-name lgm src/main.rt ", f"--extern left={place.top}/crates/left/out/rlib/left.rlib ",
+                 f"--extern clap={place.kit}/rlibs/clap.rlib ", f"--extern std={place.kit}/rlibs/std.rlib ",
+                 f"-L dependency={place.top}/crates/low/out/rlib ", f"-L dependency={place.kit}/rlibs ",
+                 f"--logic-built {place.kit}/logic_built "):
+        assert word in told, (word, told)
+
+
+def keeps_what_is_proved(place):
+    """With `--keep` `rt` builds the libraries, and once it has kept something, also without."""
+    done, log = place.run("./build.py", "--keep")
+    assert done.returncode == 0 and sorted(log)[:4] == [f"begin {it}" for it in ("left", "lgm", "low", "right")], (done, log)
+    told = place.log.with_name("log.run").read_text()
+    assert told.startswith("run --jobs ") and f" -- run --chain {'00' * 32}" in told, told
+    place.touch("right")
+    done, log = place.run("./lgm", "run")
+    assert done.stdout == "run\n" and log == ["begin right", "end right", "begin lgm", "end lgm"], (done, log)
+    assert place.log.with_name("log.run").read_text().startswith("run "), log
+
+
 def builds_side_by_side(place):
     """Two independent libraries are built at the same time, or one after the other."""
     place.touch("low")
@@ -150,7 +196,7 @@ def says_what_failed(place):
         done, log = place.run(*words, BROKEN="right")
         assert done.returncode == (126 if words[0] == "./lgm" else 1) and done.stdout == "", done
         assert "a clause isn't proved\nlgm: right couldn't be built\n" in done.stderr and "begin lgm" not in log, done.stderr
-    (place.top.parent / "bin" / "rt").unlink()
+    (place.kit / "bin" / "rt").unlink()
     bare = place.top.parent / "bare"
     bare.mkdir()
     for name in ("sh", "find", "head", "dirname", "readlink", "awk"):
@@ -162,14 +208,16 @@ def says_what_failed(place):
 
 
 def main():
-    """Runs each test, in order, in one place."""
+    """Runs each test, in order: those of a build in one place, and those of one that keeps proofs in another."""
     tests = (tries_what_is_not_built, builds_and_runs, builds_for_a_processor, builds_what_changed, builds_a_library,
-             builds_side_by_side, says_what_failed)
-    with tempfile.TemporaryDirectory() as folder:
-        place = Place(Path(folder))
-        for test in tests:
-            test(place)
-    print(f"{len(tests)} passed")
+             tells_rattle_what_it_uses, builds_side_by_side, says_what_failed)
+    kept = (builds_and_runs, keeps_what_is_proved, builds_side_by_side, says_what_failed)
+    for some in (tests, kept):
+        with tempfile.TemporaryDirectory() as folder:
+            place = Place(Path(folder))
+            for test in some:
+                test(place)
+    print(f"{len(tests) + len(kept)} passed")
 
 
 if __name__ == "__main__":

@@ -2,4 +2,5 @@ pub mod Outcomes
 pub mod Lines
 pub mod LineFaults
 mod Hops
+mod Batches
 mod Messages

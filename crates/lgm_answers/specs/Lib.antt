@@ -5,3 +5,4 @@ pub mod Answer
 pub mod Setting
 pub mod Script
 pub mod Faults
+pub mod inner

@@ -6,9 +6,9 @@
 #![tactic(auto)]
 
 mod answer;
+mod batch;
 mod filters;
 mod query;
-mod read_ahead;
 mod route;
 mod run_fault;
 mod send;

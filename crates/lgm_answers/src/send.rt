@@ -8,8 +8,8 @@ ghost use Rattle.lgm_script.specs.Text.{message_behind, message_line};
 ghost use Rattle.lgm_answers.specs.Answer.{query_text, range_text, filter_text, news_text, commit_text};
 
 use crate::answer::RangeAsked;
+use crate::batch::Batch;
 use crate::filters::{Filters, PeerFilter};
-use crate::read_ahead::ReadAhead;
 use lgm_query::{Backlog, MapDiff, ReplyMessage, answer_range};
 use lgm_script::{Lead, Line, Output, SendFault, Sink};
 use lgm_store::Map;
@@ -17,19 +17,19 @@ use std::alloc::Global;
 
 /// Writes messages after a lead, one after the other.
 fn send_replies<W: Sink>(
+    alloc: Global,
     lead: &Lead,
     messages: &[ReplyMessage<'_>],
-    ahead: &mut ReadAhead,
     output: &mut Output<'_, W>,
 ) -> Result<(), SendFault>
     ensures { Writes (told_by W.seen output.old) (told_by W.seen output.new)
         (flat_map (message_behind lead.now) messages.now) result }
 {
+    let mut batch = Batch::new(alloc)?;
     for message in messages {
-        ahead.step(messages);
-        output.send_message(lead, message.as_slice())?;
+        batch.add(message.as_slice(), lead, output)?;
     }
-    Ok(())
+    batch.send(lead, output)
 }
 
 /// Writes the messages of the reply to a query.
@@ -43,8 +43,7 @@ pub(crate) fn send_messages<W: Sink>(
         (query_text number (Ok messages.now)) result }
 {
     let lead = Lead::new(alloc, number, None)?;
-    let mut ahead = ReadAhead::new(alloc)?;
-    send_replies(&lead, messages, &mut ahead, output)
+    send_replies(alloc, &lead, messages, output)
 }
 
 /// Makes the replies to a query of a range, and writes them.
@@ -63,6 +62,7 @@ pub(crate) fn send_range<W: Sink>(
 
 /// Writes the messages that an iterator yields after a lead, one after the other.
 fn send_each<'a, I: Iterator<Item = &'a [u8]> + Drop, W: Sink>(
+    alloc: Global,
     lead: &Lead,
     messages: I,
     output: &mut Output<'_, W>,
@@ -73,10 +73,11 @@ fn send_each<'a, I: Iterator<Item = &'a [u8]> + Drop, W: Sink>(
         → Writes (told_by W.seen output.old) (told_by W.seen output.new)
         (flat_map (message_behind lead.now) all) result }
 {
+    let mut batch = Batch::new(alloc)?;
     for message in messages {
-        output.send_message(lead, message)?;
+        batch.add(message, lead, output)?;
     }
-    Ok(())
+    batch.send(lead, output)
 }
 
 /// Writes messages for a peer, one after the other.
@@ -94,7 +95,7 @@ fn send_to<'a, I: Iterator<Item = &'a [u8]> + Drop, W: Sink>(
         (flat_map (message_line number (Some peer)) all) result }
 {
     let lead = Lead::new(alloc, number, Some(peer))?;
-    send_each(&lead, messages, output)
+    send_each(alloc, &lead, messages, output)
 }
 
 /// Writes that a peer has a filter, and then what passes it of a map.

@@ -1,17 +1,24 @@
-use Rattle.std.proofs.Common.{refl, sym, ap, subst}
+use Rattle.std.proofs.Common.{◌++◌, sym, ap, subst}
 use Rattle.std.specs.List.{flat_map}
 use Rattle.std.proofs.lemmas.Result.{err_from_is_err_and}
 use Rattle.lgm_script.specs.Text.{message_behind}
-use Rattle.lgm_script.proofs.Telling.{onward_first, onward_more, onward_stops, onward_ends}
+use Rattle.lgm_script.proofs.Telling.{onward_first, tells_none}
+use Rattle.lgm_answers.proofs.Batches.{onward_added, added_stops, sends_rest}
 use Rattle.lgm_answers.proofs.Messages.{Gives, gave_one, gave_all}
 use Rattle.lgm_answers.proofs.send.send_each.Goals as goal
+
+pub returns-in_err-batch : goal.returns-in_err-batch
+returns-in_err-batch g c =
+    let p = err_from_is_err_and c.from_residual.result c.from_residual.ensures.1 in
+    λ all gives. rw (p.1, p.2) (tells_none _ _)
 
 pub loop-message-init : goal.loop-message-init
 loop-message-init g c = λ all gives. (
   all,
   subst (λ it. Gives g.I.Iterator.next_gives it all)
       (sym c.into_iter-message-iterator.ensures.into_iter_gives) gives,
-  onward_first _ _ _ refl,
+  onward_first _ _ _ (ap (λ waiting. flat_map (message_behind c.args.lead.now) waiting ++ flat_map (message_behind c.args.lead.now) all)
+      (sym c.in_ok-batch.ensures)),
 )
 
 pub loop-message-preserved : goal.loop-message-preserved
@@ -20,23 +27,21 @@ loop-message-preserved g c = λ all gives.
     let next = gave_one g.I.Iterator.next_gives now.0 _ _ _ now.1 c.in-Some.ensures.steps in (
       next.others,
       next.left,
-      onward_more _ _ _ _ _ _ _ now.2 (ap (flat_map (message_behind c.args.lead.now))
-          next.is)
-          c.in_ok-send_message.ensures,
+      onward_added _ _ _ _ _ _ now.2 _ _ _ (ap (flat_map (message_behind c.args.lead.now)) next.is)
+          c.in_ok-add.ensures,
     )
 
-pub returns-in_err-send_message : goal.returns-in_err-send_message
-returns-in_err-send_message g c =
-    let p = err_from_is_err_and c.from_residual.result c.from_residual.ensures.1 in
+pub returns-in_err-add : goal.returns-in_err-add
+returns-in_err-add g c =
+    let p = err_from_is_err_and c.from_residual-in_err-add.result c.from_residual-in_err-add.ensures.1 in
     λ all gives.
     let now = c.loop-message.invariant all gives in
     let next = gave_one g.I.Iterator.next_gives now.0 _ _ _ now.1 c.in-Some.ensures.steps in
-    rw (p.1, p.2) (onward_stops _ _ _ _ _ _ _ _ now.2
-    (ap (flat_map (message_behind c.args.lead.now)) next.is)
-    c.in_err-send_message.ensures)
+    rw (p.1, p.2) (added_stops _ _ _ _ _ _ now.2 _ _ _ (ap (flat_map (message_behind c.args.lead.now)) next.is)
+    c.in_err-add.ensures)
 
 pub returns : goal.returns
 returns g c = λ all gives.
     let now = c.loop-message.invariant all gives in
-    onward_ends _ _ _ _ now.2 (ap (flat_map (message_behind c.args.lead.now))
-    (gave_all g.I.Iterator.next_gives now.0 _ _ now.1 c.in-None.ensures.steps))
+    sends_rest _ _ _ _ _ _ now.2 (ap (flat_map (message_behind c.args.lead.now))
+    (gave_all g.I.Iterator.next_gives now.0 _ _ now.1 c.in-None.ensures.steps)) c.send.result c.send.ensures.written

@@ -2,11 +2,6 @@ use Rattle.std.proofs.lemmas.Result.{err_from_is_err_and}
 use Rattle.lgm_script.proofs.Telling.{tells_none}
 use Rattle.lgm_answers.proofs.send.send_messages.Goals as goal
 
-pub returns-in_err-ahead : goal.returns-in_err-ahead
-returns-in_err-ahead g c =
-    let p = err_from_is_err_and c.from_residual-in_err-ahead.result c.from_residual-in_err-ahead.ensures.1 in
-    rw (p.1, p.2) (tells_none _ _)
-
 pub returns-in_err-lead : goal.returns-in_err-lead
 returns-in_err-lead g c =
     let p = err_from_is_err_and c.from_residual.result c.from_residual.ensures.1 in

@@ -1,0 +1,2 @@
+-- Definitions for contracts inside the crate.
+pub mod Batch

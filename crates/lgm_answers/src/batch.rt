@@ -1,0 +1,113 @@
+//! Messages that are written together.
+
+ghost use Rattle.std.specs.Prelude.{◌≡◌, ◌++◌, ◌∷◌, [], IfOk, OnOk, OnErr, map};
+ghost use Rattle.std.specs.List.{flat_map};
+ghost use Rattle.lgm_script.specs.Output.{told_by, Writes};
+ghost use Rattle.lgm_script.specs.Text.{message_behind};
+ghost use Rattle.lgm_answers.specs.inner.Batch.{Adds};
+
+use lgm_script::{Lead, Output, SendFault, Sink};
+use std::alloc::{AllocError, Global};
+use std::marker::Model;
+
+/// The number of messages that are written together.
+const TOGETHER: usize = 32;
+
+/// Messages of a map that wait to be written. Contracts see the list of them.
+///
+/// They are anywhere in memory. Looks at it that don't depend on each other wait for it together. So some messages are
+/// collected, their first bytes are read one after the other, and then they are written.
+#[derive(Drop)]
+pub(crate) struct Batch<'a> {
+    messages: Vec<&'a [u8]>,
+    /// The first bytes of the messages. They are kept, since what nobody keeps isn't read. No contract depends on them.
+    firsts: Vec<u8>,
+}
+
+impl<'a> Model for Batch<'a> {
+    ghost use Rattle.std.specs.Prelude.{List, ℕ, map};
+
+    ghost Value = { List (List ℕ) };
+
+    ghost view = { λ b. map (λ message. message.now) b.messages.items };
+}
+
+impl<'a> Batch<'a> {
+    /// No messages. The only error is out of memory.
+    pub(crate) fn new(alloc: Global) -> Result<Batch<'a>, AllocError>
+        ensures { IfOk result (λ batch. batch ≡ []) }
+    {
+        Ok(Batch {
+            messages: Vec::with_capacity(alloc, TOGETHER)?,
+            firsts: Vec::with_capacity(alloc, TOGETHER)?,
+        })
+    }
+
+    /// Adds a message behind the others, and writes all if they are as many as are written together.
+    #[inline(always)]
+    pub(crate) fn add<W: Sink>(
+        &mut self,
+        message: &'a [u8],
+        lead: &Lead,
+        output: &mut Output<'_, W>,
+    ) -> Result<(), SendFault>
+        ensures { Adds (told_by W.seen output.old) (told_by W.seen output.new)
+            (flat_map (message_behind lead.now) self.old) (message_behind lead.now message.now)
+            (flat_map (message_behind lead.now) self.new) result }
+    {
+        self.push(message)?;
+        if self.messages.len() < TOGETHER {
+            return Ok(());
+        }
+        self.send(lead, output)
+    }
+
+    fn push(&mut self, message: &'a [u8]) -> Result<(), AllocError>
+        ensures ok { OnOk result (self.new ≡ self.old ++ message.now ∷ []) }
+        ensures err { OnErr result (self.new ≡ self.old) }
+    {
+        self.messages.push(message)?;
+        Ok(())
+    }
+
+    /// Writes the messages, each after the lead, and drops them.
+    pub(crate) fn send<W: Sink>(
+        &mut self,
+        lead: &Lead,
+        output: &mut Output<'_, W>,
+    ) -> Result<(), SendFault>
+        ensures written { Writes (told_by W.seen output.old) (told_by W.seen output.new)
+            (flat_map (message_behind lead.now) self.old) result }
+        ensures empty { OnOk result (self.new ≡ []) }
+    {
+        self.read();
+        send_slices(lead, self.messages.as_slice(), output)?;
+        self.messages.clear();
+        Ok(())
+    }
+
+    /// Reads the first bytes of the messages.
+    fn read(&mut self)
+        ensures { self.new ≡ self.old }
+    {
+        self.firsts.clear();
+        for message in self.messages.as_slice() {
+            let _ = self.firsts.push(message.first().copied().unwrap_or(0));
+        }
+    }
+}
+
+/// Writes messages, each after the lead.
+fn send_slices<W: Sink>(
+    lead: &Lead,
+    messages: &[&[u8]],
+    output: &mut Output<'_, W>,
+) -> Result<(), SendFault>
+    ensures { Writes (told_by W.seen output.old) (told_by W.seen output.new)
+        (flat_map (message_behind lead.now) (map (λ message. message.now) messages.now)) result }
+{
+    for message in messages {
+        output.send_message(lead, message)?;
+    }
+    Ok(())
+}
