@@ -49,6 +49,7 @@ pub(crate) fn announce_in(raw: &[u8]) -> Announce<'_>
 }
 
 /// The row of a channel with this capacity in satoshi.
+#[inline(always)]
 pub(crate) fn channel_row(raw: &[u8], sat: u64) -> ChannelRow<'_>
     requires { 432 + features_len raw.now ≤ length raw.now }
     ensures { result ≡ channel_row sat raw.now }

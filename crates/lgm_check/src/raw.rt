@@ -44,6 +44,7 @@ impl<const N: usize> Raw<N> {
     }
 
     /// The bytes.
+    #[inline(always)]
     pub(crate) fn as_slice(&self) -> &[u8]
         ensures { result.now ≡ self.now }
     {

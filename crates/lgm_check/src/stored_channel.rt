@@ -62,7 +62,8 @@ impl StoredChannel {
         let _ = &self.raw;
     }
 
-    /// The row, read from the bytes.
+    /// The row, read from the bytes. It is compiled into its caller, so a field that isn't used isn't read.
+    #[inline(always)]
     pub fn row(&self) -> ChannelRow<'_>
         ensures { result ≡ self.now }
     {

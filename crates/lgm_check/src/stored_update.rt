@@ -59,7 +59,8 @@ impl StoredUpdate {
         let _ = &self.raw;
     }
 
-    /// The row, read from the bytes.
+    /// The row, read from the bytes. It is compiled into its caller, so a field that isn't used isn't read.
+    #[inline(always)]
     pub fn row(&self) -> UpdateRow<'_>
         ensures { result ≡ self.now }
     {

@@ -30,6 +30,7 @@ pub(crate) fn update_in(raw: &[u8]) -> ChannelUpdate<'_>
 }
 
 /// The row of an update.
+#[inline(always)]
 pub(crate) fn update_row(raw: &[u8]) -> UpdateRow<'_>
     requires { 138 ≤ length raw.now }
     ensures { result ≡ update_row raw.now }

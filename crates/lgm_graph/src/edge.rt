@@ -34,6 +34,7 @@ pub struct Edge {
 }
 
 /// The edge of an update of a channel, between nodes with these numbers, if it can carry payments.
+#[inline(always)]
 pub(crate) fn edge_on(
     channel: &ChannelRow,
     update: &UpdateRow,
@@ -53,6 +54,7 @@ pub(crate) fn edge_on(
 
 /// The edge of an update, between nodes with these numbers.
 #[tactic(auto, unfolding(crate::specs::Edges::edge_of))]
+#[inline(always)]
 fn edge_of(update: &UpdateRow, from: usize, to: usize) -> Edge
     requires from { from < 2 ^ 32 }
     requires to { to < 2 ^ 32 }
@@ -73,6 +75,7 @@ fn edge_of(update: &UpdateRow, from: usize, to: usize) -> Edge
 }
 
 /// Whether payments can use this direction, regardless of the features of the node it leads to.
+#[inline(always)]
 fn can_carry(channel: &ChannelRow, update: &UpdateRow) -> bool
     ensures { result ≡ can_carry channel.now update.now }
 {

@@ -1,11 +1,12 @@
 //! Answering lines in groups.
 
-ghost use Rattle.std.specs.Prelude.{◌≡◌, ◌≤◌, ◌+◌, ◌<◌, ◌^◌, [], ◌∷◌, length, map, IfOk, IfSome, OnOk};
+ghost use Rattle.std.specs.Prelude.{◌≡◌, ◌≤◌, ◌+◌, ◌<◌, ◌^◌, [], ◌∷◌, length, map, IfOk, IfNone, IfSome, None, OnOk};
 ghost use Rattle.std.specs.List.{AllByRecursion};
 ghost use Rattle.lgm_script.specs.Groups.{IsOfKind, AreAlike};
 ghost use Rattle.lgm_script.specs.Output.{told_by, Writes};
 ghost use Rattle.lgm_script.specs.Command.{command_of};
 ghost use Rattle.lgm_script.specs.declared.command.Command.TheVariants.{Route as AsksRoute};
+ghost use Rattle.lgm_answers.specs.Answer.{outcome_word};
 ghost use Rattle.lgm_run.specs.inner.CheckedItem.{state_by, offered_word, offered_text};
 ghost use Rattle.lgm_run.specs.inner.Questions.{asked_in};
 ghost use Rattle.lgm_run.specs.inner.Steps.{state_alone, text_alone, state_from, text_from};
@@ -24,24 +25,26 @@ use lgm_store::Hint;
 use std::alloc::{AllocError, Global};
 use std::thread::Threads;
 
-/// Offers the checked item of a line in its turn, if there is one, and returns the word of its outcome.
+/// Offers the checked item of a line in its turn, if there is one, and returns the word of its outcome, unless it was
+/// accepted.
 fn offer(
     alloc: Global,
     item: Option<CheckedItem>,
     hint: Hint,
     engine: &mut Engine,
-) -> Result<&'static str, AllocError>
+) -> Result<Option<&'static str>, AllocError>
     requires few { engine.old.accepted + 1 < 2 ^ 64 }
     ensures state { OnOk result (engine.new ≡ state_by engine.old item) }
-    ensures word { IfOk result (λ word. word.now ≡ offered_word engine.old.rows item) }
+    ensures accepted { IfOk result (λ word. IfNone word (offered_word engine.old.rows item ≡ outcome_word None)) }
+    ensures word { IfOk result (λ word. IfSome word (λ own. own.now ≡ offered_word engine.old.rows item)) }
 {
     let Some(item) = item else {
-        return Ok("bad");
+        return Ok(Some("bad"));
     };
     match engine.offer(alloc, item, hint) {
-        Ok(()) => Ok(outcome_word(None)),
+        Ok(()) => Ok(None),
         Err(Refusal::NoMemory) => Err(AllocError),
-        Err(refusal) => Ok(outcome_word(Some(refusal))),
+        Err(refusal) => Ok(Some(outcome_word(Some(refusal)))),
     }
 }
 
@@ -60,8 +63,11 @@ fn answer_item<W: Sink>(
     ensures written { Writes (told_by W.seen output.old) (told_by W.seen output.new)
         (offered_text number engine.old.rows item) result }
 {
-    let word = offer(alloc, item, hint, engine)?;
-    output.send(number, &Line::Word(word))
+    match offer(alloc, item, hint, engine)? {
+        // Nearly all are: this word is compiled into the line.
+        None => output.send(number, &Line::Word(outcome_word(None))),
+        Some(word) => output.send(number, &Line::Word(word)),
+    }
 }
 
 /// Answers lines of items, the first of which has this number: they are checked in parallel, and offered in order.

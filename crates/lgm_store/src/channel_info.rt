@@ -91,7 +91,8 @@ impl ChannelInfo {
         }
     }
 
-    /// The channel's row.
+    /// The channel's row. It is compiled into its caller, so a field that isn't used isn't read.
+    #[inline(always)]
     pub fn row(&self) -> ChannelRow<'_>
         ensures { result ≡ self.now.channel }
     {
@@ -120,7 +121,9 @@ impl ChannelInfo {
         &self.direction(second).node
     }
 
-    /// The row of the update from node 2 if `second`, else from node 1; none if that direction has no update.
+    /// The row of the update from node 2 if `second`, else from node 1; none if that direction has no update. It is
+    /// compiled into its caller as the channel's is.
+    #[inline(always)]
     pub fn update(&self, second: bool) -> Option<UpdateRow<'_>>
         ensures { result ≡ update_in second self.now }
     {
@@ -158,6 +161,7 @@ impl ChannelInfo {
         self.second.touch();
     }
 
+    #[inline(always)]
     fn direction(&self, second: bool) -> &Direction
         ensures direction { IsDirectionOf (if second then self.now.channel.message.node_id_2
             else self.now.channel.message.node_id_1) result.now }

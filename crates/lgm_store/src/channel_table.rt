@@ -108,7 +108,10 @@ impl ChannelTable {
 
     /// The number that a channel may have: the one of the hint, or else the cached one.
     fn guess(&self, hint: Hint, scid: Scid) -> Option<usize> {
-        hint.slot().or(self.cache.cached(scid.to_u64()))
+        match hint.slot() {
+            Some(number) => Some(number),
+            None => self.cache.cached(scid.to_u64()),
+        }
     }
 
     /// The channels whose ids are in a range, ascending.

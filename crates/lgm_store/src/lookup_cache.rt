@@ -9,9 +9,9 @@ const LEAST: usize = 1024;
 /// The multiplier of the hash, which spreads keys: 2^64 divided by the golden ratio, an odd number.
 const SPREAD: u64 = 0x9e37_79b9_7f4a_7c15;
 
-/// The numbers of some keys, of eight bytes each: a direct-mapped cache.
+/// The numbers of some keys, of eight bytes each: a cache of sets of two entries, which are beside each other in memory.
 ///
-/// An entry may be wrong, since two keys may have the same place and the same tag, and entries of removed keys stay. So a
+/// An entry may be wrong, since two keys may have the same set and the same tag, and entries of removed keys stay. So a
 /// caller checks what has the number. No contract depends on the cache.
 #[derive(Clone, Drop)]
 pub(crate) struct LookupCache {
@@ -33,13 +33,14 @@ impl LookupCache {
         }
     }
 
-    /// What may be the number of a key, if the entry at its place has its tag.
+    /// What may be the number of a key, if an entry at its place has its tag.
+    #[inline(always)]
     pub(crate) fn cached(&self, key: u64) -> Option<usize> {
-        let cached = self.places.get(self.place(key))?;
-        if cached.tag == tag(key) {
-            Some(cached.number as usize)
-        } else {
+        let number = self.guess(key);
+        if number == NOWHERE {
             None
+        } else {
+            Some(number)
         }
     }
 
@@ -47,18 +48,33 @@ impl LookupCache {
     /// with the next lookup before that has come.
     #[inline(always)]
     pub(crate) fn guess(&self, key: u64) -> usize {
-        match self.places.get(self.place(key)) {
+        let place = self.place(key);
+        self.number_at(place, key) & self.number_at(place ^ 1, key)
+    }
+
+    /// The number at a place, if the entry there has the key's tag, or [`NOWHERE`].
+    #[inline(always)]
+    fn number_at(&self, place: usize, key: u64) -> usize {
+        match self.places.get(place) {
             Some(cached) => unless(cached.tag != tag(key), cached.number as usize),
             None => NOWHERE,
         }
     }
 
-    /// Stores the number of a key, in place of the entry that was there.
+    /// Stores the number of a key at its place. The entry of another key there goes to the other place of the set.
     pub(crate) fn note(&mut self, key: u64, number: usize) {
         let place = self.place(key);
-        if let Some(cached) = self.places.get_mut(place) {
-            cached.tag = tag(key);
-            cached.number = u32::try_from(number).unwrap_or(0);
+        let Some(own) = self.places.get_mut(place) else {
+            return;
+        };
+        let before = *own;
+        own.tag = tag(key);
+        own.number = u32::try_from(number).unwrap_or(0);
+        if before.tag == tag(key) {
+            return;
+        }
+        if let Some(other) = self.places.get_mut(place ^ 1) {
+            *other = before;
         }
     }
 

@@ -50,6 +50,7 @@ impl<T> Shared<T> {
     }
 
     /// The value, borrowed.
+    #[inline(always)]
     pub fn get(&self) -> &T
         ensures { result.now ≡ self.now }
     {
