@@ -1,7 +1,7 @@
 -- Lines that are written in batches.
 use Rattle.std.proofs.Common.{◌≡◌, ℕ, Result, Ok, Err, List, [], ◌++◌, sym, ap, ◌∙◌, append_assoc, refl}
 use Rattle.lgm_script.specs.declared.output.SendFault.{SendFault}
-use Rattle.lgm_script.specs.Output.{OutputState, Tells, TellsPart, Writes}
+use Rattle.lgm_script.specs.Output.{OutputState, TellsPart, Writes}
 use Rattle.lgm_script.proofs.Telling.{Onward, onward_more, onward_stops, onward_ends}
 use Rattle.lgm_answers.specs.inner.Batch.{TellsFront}
 

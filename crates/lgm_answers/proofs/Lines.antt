@@ -1,5 +1,5 @@
 -- What is left of a script, and its lines.
-use Rattle.std.proofs.Common.{◌≡◌, ℕ, ◌<◌, Bool, true, false, cond, eqb, List, [], ◌∷◌, length, Option, Some, arith}
+use Rattle.std.proofs.Common.{ℕ, ◌<◌, Bool, true, false, cond, eqb, List, [], ◌∷◌, length, Option, Some, arith}
 use Rattle.lgm_script.specs.Lines.{lines_of, onto_first}
 
 -- bytes that are known
