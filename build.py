@@ -116,9 +116,10 @@ def default_at_once():
 
 def jobs_of_one(at_once, sharing):
     """Among how many processors one of several checks shares its work, as far as memory allows, if so many of them share
-    the processors: its part of them, but at least two, since a check waits for a part of its time. Each job loads the
-    libraries anew, so more of them cost more."""
-    return max(1, min(processors(), max(2, processors() // sharing), free_memory() // at_once // MEMORY_OF_JOB))
+    the processors: its part of them and half as many more, since a check waits for a part of its time, but at least two.
+    Each job loads the libraries anew, so more of them cost more."""
+    part = max(2, 3 * processors() // (2 * sharing))
+    return max(1, min(processors(), part, free_memory() // at_once // MEMORY_OF_JOB))
 
 
 def say(text):
