@@ -36,10 +36,10 @@ MOST_AT_ONCE = 4
 MEMORY_OF_ONE = 6 << 30  # bytes, for a check that shares its work among several processors
 MEMORY_OF_JOB = 2 << 30  # bytes, for what one processor does of it
 # What proofs of libraries took on four processors, of two at a time. Only the order and who gives way depend on it.
-SECONDS = {"lgm_hex": 20, "lgm_wire": 31, "lgm_par": 27, "lgm_gossip": 98, "lgm_check": 58, "lgm_script": 146, "lgm_store": 111,
-           "lgm_query": 127, "lgm_graph": 120, "lgm_route": 137, "lgm_payload": 58, "lgm_answers": 57, "lgm_publish": 98,
-           "lgm_run": 272, "lgm_live": 193, "lgm_start": 110}
-NEARLY = 0.95  # of the longest chain of libraries that wait for each other
+SECONDS = {"lgm_hex": 30, "lgm_wire": 41, "lgm_par": 50, "lgm_gossip": 125, "lgm_check": 58, "lgm_script": 180, "lgm_store": 130,
+           "lgm_query": 130, "lgm_graph": 122, "lgm_route": 157, "lgm_payload": 55, "lgm_answers": 70, "lgm_publish": 110,
+           "lgm_run": 280, "lgm_live": 270, "lgm_start": 80}
+NEARLY = 0.8  # of the longest chain of libraries that wait for each other
 BYTES_A_SECOND = 1_500
 NO_CHAIN = "00" * 32
 ANY_CPU = "default"  # what is built for unless it is told otherwise
@@ -48,7 +48,7 @@ NEWER_FLAGS = {"abm", "avx2", "bmi1", "bmi2", "f16c", "fma", "movbe"}  # what /p
 
 
 class Failed(Exception):
-    """A crate isn't proved: its name, and what the check printed."""
+    """A crate isn't proved: its name, what the check printed, and its exit status."""
 
 
 def read_crates(file):
@@ -127,18 +127,16 @@ def say(text):
     print(f"lgm: {text}", file=sys.stderr, flush=True)
 
 
-def words_for(cpu):
-    """What a build is told of the processor to build for."""
-    return () if cpu == ANY_CPU else ("--cpu", cpu)
-
-
 def call(crate, folder, *words):
     """Runs a command in a crate's folder."""
     done = subprocess.run(words, cwd=folder, stdin=subprocess.DEVNULL, stdout=subprocess.PIPE, stderr=subprocess.STDOUT, check=False)
     if done.returncode:
-        failed = Failed(crate, done.stdout.decode(errors="replace"))
-        failed.status = done.returncode
-        raise failed
+        raise Failed(crate, done.stdout.decode(errors="replace"), done.returncode)
+
+
+def words_for(cpu):
+    """What a build is told of the processor to build for."""
+    return () if cpu == ANY_CPU else ("--cpu", cpu)
 
 
 def giving_way(gives_way):
@@ -176,7 +174,7 @@ class Builder:
         try:
             build(jobs)
         except Failed as failed:
-            if failed.status != -signal.SIGKILL or jobs == 1:
+            if failed.args[2] != -signal.SIGKILL or jobs == 1:
                 raise
             build(1)
 
@@ -191,21 +189,20 @@ class Builder:
         # As old as the start: a file that was edited meanwhile is newer.
         os.utime(stamp, (started, started))
 
-    def linked(self, *words):
-        """What is said of the processor, and of the code that is linked."""
-        return (*words, "--toolchain", self.kit / "toolchain", "--backend", "llvm")
+    def linked(self, cpu):
+        """What is said of the code that is linked, and of the processor that it is for."""
+        return (*words_for(cpu), "--toolchain", self.kit / "toolchain", "--backend", "llvm")
 
     def archive(self, crate, jobs, cpu):
         """Proves and builds a library that programs in other languages link with."""
-        self.rattle(crate, jobs, *self.linked(*words_for(cpu)), "--crate-type", "staticlib", "-o", f"out/lib{crate}.a")
+        self.rattle(crate, jobs, *self.linked(cpu), "--crate-type", "staticlib", "-o", f"out/lib{crate}.a")
 
     def program(self, jobs, cpu):
         """Proves and builds the program."""
         part = f"out/{PROGRAM}.o"
-        self.rattle(PROGRAM, jobs, *self.linked(*words_for(cpu)), "-o", part, root="main.rt")
-        libraries = (self.kit / "c" / "libos_c.a", self.kit / "c" / "liblibc_c.a")
-        call(PROGRAM, folder_of(PROGRAM), self.kit / "bin" / "rattle-link", "--target", "x86_64-unknown-linux-gnu",
-             "--toolchain", self.kit / "toolchain", "-o", f"out/{PROGRAM}", part, *libraries)
+        self.rattle(PROGRAM, jobs, *self.linked(cpu), "-o", part, root="main.rt")
+        call(PROGRAM, folder_of(PROGRAM), self.kit / "bin" / "rattle-link", "--target", "x86_64-unknown-linux-gnu", "--toolchain",
+             self.kit / "toolchain", "-o", f"out/{PROGRAM}", part, self.kit / "c" / "libos_c.a", self.kit / "c" / "liblibc_c.a")
         call(PROGRAM, folder_of(PROGRAM), f"out/{PROGRAM}", "run", "--chain", NO_CHAIN)
 
 
@@ -309,7 +306,7 @@ def seconds_behind(used, crates):
 
 
 def urgent(used, crates, behind):
-    """The libraries that are part of a chain nearly as long as the longest one: the others give way to them."""
+    """The libraries that are part of a chain nearly as long as the longest one: others wait for them."""
     before = {}
     for it in crates:
         before[it] = max((before[lower] + seconds_for(lower) for lower in used[it] if lower in before), default=0)
@@ -317,24 +314,30 @@ def urgent(used, crates, behind):
     return {it for it in crates if before[it] + behind[it] > NEARLY * most}
 
 
+def next_of(ready, running, first, at_once):
+    """Which of the libraries that are ready begin: as many urgent ones as may run, and beside them one that gives way."""
+    count = sum(it in first for it in running)
+    return [*[it for it in ready if it in first][:at_once - count],
+            *[it for it in ready if it not in first][:1 - (len(running) - count)]]
+
+
 def build_all(used, crates, at_once, builder):
     """Proves and builds libraries, each behind those below it, and first those for which others wait the longest."""
     behind = seconds_behind(used, crates)
-    first = urgent(used, crates, behind)
+    first = set(crates) if at_once == 1 else urgent(used, crates, behind)
     left, done, running, started = sorted(crates, key=lambda it: -behind[it]), set(), {}, {}
-    with ThreadPoolExecutor(at_once) as pool:
+    with ThreadPoolExecutor(at_once + 1) as pool:
         while left or running:
             ready = [it for it in left if all(lower in done for lower in used[it] if lower in crates)]
-            begins = ready[:at_once - len(running)]
+            begins = next_of(ready, running.values(), first, at_once)
             # Those that give way leave the others all processors.
             sharing = sum(it in first for it in (*running.values(), *begins))
             for it in begins:
                 left.remove(it)
                 started[it] = time.monotonic()
                 say(f"{it} ..")
-                gives_way = at_once > 1 and it not in first
-                jobs = jobs_of_one(at_once, processors() if gives_way else max(1, sharing))
-                running[pool.submit(builder.library, it, jobs, gives_way)] = it
+                jobs = jobs_of_one(at_once, max(1, sharing) if it in first else processors())
+                running[pool.submit(builder.library, it, jobs, it not in first)] = it
             for ended in wait(running, return_when=FIRST_COMPLETED).done:
                 it = running.pop(ended)
                 try:
@@ -363,7 +366,8 @@ def build_target(target, count, cpu, builder):
 def arguments_of(used):
     """The words of the command line."""
     parser = argparse.ArgumentParser(description=__doc__.split("\n")[0])
-    parser.add_argument("--at-once", type=int, default=default_at_once(), metavar="N", help="so many checks side by side")
+    parser.add_argument("--at-once", type=int, default=default_at_once(), metavar="N",
+                        help="so many checks side by side, and from two on one more that gives way")
     parser.add_argument("--cpu", default=os.environ.get("LGM_CPU"), metavar="NAME",
                         help=f"the processor to build for: {NEWER_CPU}, or {ANY_CPU}, for any")
     parser.add_argument("--library", choices=sorted(used), metavar="CRATE", help="build this library, not the program")
@@ -389,7 +393,7 @@ def main():
         build_all(used, stale, at_once, builder)
         build_target(target, len(stale) + 1, arguments.cpu, builder)
     except Failed as failed:
-        crate, said = failed.args
+        crate, said, _status = failed.args
         sys.stderr.write(said)
         say(f"{crate} couldn't be built")
         sys.exit(1)
