@@ -55,26 +55,14 @@ impl Lead {
     }
 }
 
-/// Appends a number in decimal digits. They are few and just written, so they are appended one by one: a copy of all would
-/// wait until they have left the processor's store buffer.
+/// Appends a number in decimal digits.
 #[inline(always)]
 fn push_number(text: &mut Vec<u8>, number: u64) -> Result<(), AllocError>
     ensures ok { OnOk result (text.new.items ≡ text.old.items ++ decimal number) }
     ensures err { OnErr result (IsFront text.old.items text.new.items) }
 {
     let mut digits = itoa::Buffer::new();
-    push_digits(text, digits.format(number).as_bytes())
-}
-
-/// Appends some bytes, one by one.
-#[inline(always)]
-fn push_digits(text: &mut Vec<u8>, digits: &[u8]) -> Result<(), AllocError>
-    ensures ok { OnOk result (text.new.items ≡ text.old.items ++ digits.now) }
-    ensures err { OnErr result (IsFront text.old.items text.new.items) }
-{
-    for digit in digits {
-        text.push(*digit)?;
-    }
+    text.extend_from_slice(digits.format(number).as_bytes())?;
     Ok(())
 }
 
