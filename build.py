@@ -30,7 +30,7 @@ from pathlib import Path
 
 TOP = Path(__file__).resolve().parent
 PROGRAM = "lgm"
-TIMES = {PROGRAM: "20 to 30 minutes", "lgm_c": "15 to 20 minutes"}
+TIMES = {PROGRAM: "some 20 minutes", "lgm_c": "some 15 minutes"}
 SOURCES = ("src", "specs", "proofs")
 MOST_AT_ONCE = 4
 MEMORY_OF_ONE = 6 << 30  # bytes, for a check that shares its work among several processors
