@@ -16,12 +16,12 @@ const TOGETHER: usize = 32;
 /// Messages of a map that wait to be written. Contracts see the list of them.
 ///
 /// They are anywhere in memory. Looks at it that don't depend on each other wait for it together. So some messages are
-/// collected, their first bytes are read one after the other, and then they are written.
+/// collected, a byte of each of their blocks is read, one after the other, and then they are written.
 #[derive(Drop)]
 pub(crate) struct Batch<'a> {
     messages: Vec<&'a [u8]>,
-    /// The first bytes of the messages. They are kept, since what nobody keeps isn't read. No contract depends on them.
-    firsts: Vec<u8>,
+    /// What was read of each message. It is kept, since what nobody keeps isn't read. No contract depends on it.
+    seen: Vec<u8>,
 }
 
 impl<'a> Model for Batch<'a> {
@@ -39,7 +39,7 @@ impl<'a> Batch<'a> {
     {
         Ok(Batch {
             messages: Vec::with_capacity(alloc, TOGETHER)?,
-            firsts: Vec::with_capacity(alloc, TOGETHER)?,
+            seen: Vec::with_capacity(alloc, TOGETHER)?,
         })
     }
 
@@ -86,15 +86,27 @@ impl<'a> Batch<'a> {
         Ok(())
     }
 
-    /// Reads the first bytes of the messages.
+    /// Reads a byte of each block of the messages.
     fn read(&mut self)
         ensures { self.new ≡ self.old }
     {
-        self.firsts.clear();
+        self.seen.clear();
         for message in self.messages.as_slice() {
-            let _ = self.firsts.push(message.first().copied().unwrap_or(0));
+            let _ = self.seen.push(look(message));
         }
     }
+}
+
+/// The length of a block of memory, in bytes, of which the processor's cache has all or nothing.
+const BLOCK: usize = 64;
+
+/// A byte of each block of a message, put together.
+fn look(message: &[u8]) -> u8 {
+    let mut seen = message.last().copied().unwrap_or(0);
+    for place in 0..message.len() / BLOCK {
+        seen ^= message[place * BLOCK];
+    }
+    seen
 }
 
 /// Writes messages, each after the lead.

@@ -5,7 +5,8 @@ ghost use Rattle.lgm_store.specs.History.{fold_from};
 
 use crate::network::Network;
 use crate::view::MAX_CHANNELS;
-use lgm_store::{Map, Op};
+use lgm_gossip::Scid;
+use lgm_store::{Map, Op, TOGETHER};
 use std::alloc::{AllocError, Global};
 use std::collections::VecDeque;
 
@@ -25,20 +26,19 @@ fn forget_first(due: &mut VecDeque<Op>)
     due.pop_front();
 }
 
-/// The number of operations whose channels are read ahead.
-const AHEAD: usize = 32;
-
-/// Reads the rows of the channels that the next operations update, once for each [`AHEAD`] of them. No answer depends
+/// Reads the rows of the channels that the next operations update, once for each [`TOGETHER`] of them. No answer depends
 /// on it.
 fn read_ahead(map: &Map, due: &VecDeque<Op>) {
-    if due.len() % AHEAD != 0 {
+    if due.len() % TOGETHER != 0 {
         return;
     }
-    for op in due.iter().take(AHEAD) {
+    let mut scids = [Scid::from_u64(0); TOGETHER];
+    for (scid, op) in scids.iter_mut().zip(due) {
         if let Op::Update(row) = op {
-            map.prefetch_rows(row.get().scid());
+            *scid = row.get().scid();
         }
     }
+    map.prefetch_rows(&scids);
 }
 
 impl Replica {

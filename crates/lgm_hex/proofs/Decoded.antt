@@ -1,5 +1,5 @@
 -- Lanes of digits, and the bytes that they spell.
-use Rattle.std.proofs.Common.{◌≡◌, ℕ, zero, suc, ◌+◌, ◌-◌, ◌*◌, ◌/◌, ◌%◌, ◌^◌, ◌<◌, ◌≤◌, Bool, true, false, ◌&&◌, cond, eqb}
+use Rattle.std.proofs.Common.{◌≡◌, ℕ, zero, suc, ◌+◌, ◌-◌, ◌*◌, ◌/◌, ◌%◌, ◌^◌, ◌<◌, ◌≤◌, ◌⊎◌, Bool, true, false, ◌&&◌, cond, eqb}
 use Rattle.std.proofs.Common.{ltb, List, [], ◌∷◌, map, length, get_or, replicate, Option, Some, None, unwrap_or, Ok, bit_and}
 use Rattle.std.proofs.Common.{bit_or, w8, Fits, refl, sym, ap, ◌∙◌, inl, inr, arith, eqb-true, add-one, take, drop}
 use Rattle.std.proofs.lemmas.Bool.{cases_lt}
@@ -8,11 +8,11 @@ use Rattle.std.proofs.lemmas.List.{get_or-map, set-get_or}
 use Rattle.std.proofs.lemmas.Nat.{le_or_l, le_or_r}
 use Rattle.std.proofs.lemmas.Nat.Bits.{bit_at_ones}
 use Rattle.std.proofs.lemmas.Simd.{bitmask_splat, bit_mask_l, below_from_Fits, Each1-get_or, get_or-zip2, get_or_wider}
-use Rattle.std.proofs.lemmas.Simd.{length-chunk, get_or-chunk, get_or-put_chunk_below, get_or-put_chunk_at}
+use Rattle.std.proofs.lemmas.Simd.{length-chunk, get_or-chunk, get_or-put_chunk_below, get_or-put_chunk_at, get_or-put_chunk_above}
 use lib.Lanes.{zip2, sel_l, mask_l, top, Each1, chunk, put_chunk, number_l, digits_l}
 use Rattle.hex.specs.Hex.{◌>>=◌, hex_digit_value, digit_or_error, pair_value, decode_pairs, decode_sized}
 use Rattle.hex.proofs.Pairs.{prepend, decode_start, decode_step, decode_done, decode_sized-pairs}
-use Rattle.lgm_hex.specs.inner.Digits.{IsValue, AreValid, IsDecoded}
+use Rattle.lgm_hex.specs.inner.Digits.{IsValue, AreValid, IsWithin, IsDecoded}
 
 -- ---- values, lane by lane
 
@@ -75,31 +75,31 @@ lane_is_value : (c : ℕ) → c < 256 → IsValue c (lane c)
 lane_is_value c byte = value_found (hex_digit_value c) (lane c) (lane_agrees c byte)
 
 -- `values_of` gives the value of each lane
-pub values_are : (v : List ℕ) → length v ≡ 32 → Each1 (Fits w8) v → (k : ℕ) → k < 32 → IsValue (get_or v k 0) (get_or (computed (length v) v) k 0)
+pub values_are : (v : List ℕ) → length v ≡ 64 → Each1 (Fits w8) v → (k : ℕ) → k < 64 → IsValue (get_or v k 0) (get_or (computed (length v) v) k 0)
 values_are v long fits k h =
     let within : k < length v = omega arith in
     let byte = Each1-get_or (λ c. c < 256) v k 0 within (below_from_Fits w8 v fits) in
     rw (by_lane v, get_or-map lane v k 0 0 within) (lane_is_value (get_or v k 0) byte)
 
 -- where the mask of a vector's lanes below 16 is whole, each lane is
-pub all_small : (v : List ℕ) → length v ≡ 32
-    → eqb (mask_l (map (top 7) (zip2 (λ a b. cond (ltb a b) 255 0) v (replicate 32 16))) % 2 ^ 64) 4294967295 ≡ true
+pub all_small : (v : List ℕ) → length v ≡ 64
+    → eqb (mask_l (map (top 7) (zip2 (λ a b. cond (ltb a b) 255 0) v (replicate 64 16))) % 2 ^ 64) 18446744073709551615 ≡ true
     → AreValid v
 all_small v long test k h =
     let within : k < length v = omega arith in
-    let mask = sym (bitmask_splat w8 ltb v 32 16 long (omega arith)) ∙ eqb-true _ _ test in
-    let bit = sym (bit_mask_l (map (λ x. ltb x 16) v) k) ∙ ap (λ n. n / 2 ^ k % 2) mask ∙ bit_at_ones 32 k h in
+    let mask = sym (bitmask_splat w8 ltb v 64 16 long (omega arith)) ∙ eqb-true _ _ test in
+    let bit = sym (bit_mask_l (map (λ x. ltb x 16) v) k) ∙ ap (λ n. n / 2 ^ k % 2) mask ∙ bit_at_ones 64 k h in
     let lane = get_or-map (λ x. ltb x 16) v k 0 false within in
     grind (arith, nat_tests)
 
 -- where the bits of two vectors are put together, and each lane is below 16, it is so in both
-pub both_valid : (v w : List ℕ) → length v ≡ 32 → length w ≡ 32 → AreValid (zip2 bit_or v w) → AreValid v × AreValid w
+pub both_valid : (v w : List ℕ) → length v ≡ 64 → length w ≡ 64 → AreValid (zip2 bit_or v w) → AreValid v × AreValid w
 both_valid v w long also valid = (
   λ k h. omega (arith, valid k h, together k h, le_or_l (get_or v k 0) (get_or w k 0)),
   λ k h. omega (arith, valid k h, together k h, le_or_r (get_or v k 0) (get_or w k 0)),
 )
   where
-    together : (k : ℕ) → k < 32 → get_or (zip2 bit_or v w) k 0 ≡ bit_or (get_or v k 0) (get_or w k 0)
+    together : (k : ℕ) → k < 64 → get_or (zip2 bit_or v w) k 0 ≡ bit_or (get_or v k 0) (get_or w k 0)
     together k h = get_or-zip2 bit_or v w k 0 0 0 (omega arith) (omega arith)
 
 -- ---- bytes
@@ -115,10 +115,10 @@ two (x ∷ y ∷ []) long = omega arith
 two (x ∷ y ∷ z ∷ xs) long = absurd (omega arith)
 
 -- `joined` gives the byte of each pair
-pub joined_are : (v : List ℕ) → length v ≡ 32 → Each1 (Fits w8) v → AreValid v → (k : ℕ) → k < 16
-    → get_or (map byte_of (digits_l 65536 16 (number_l 256 v))) k 0 ≡ get_or v (2 * k) 0 * 16 + get_or v (2 * k + 1) 0
+pub joined_are : (v : List ℕ) → length v ≡ 64 → Each1 (Fits w8) v → AreValid v → (k : ℕ) → k < 32
+    → get_or (map byte_of (digits_l 65536 32 (number_l 256 v))) k 0 ≡ get_or v (2 * k) 0 * 16 + get_or v (2 * k + 1) 0
 joined_are v long fits valid k h =
-    let wide = get_or_wider 256 2 65536 16 v k refl (below_from_Fits w8 v fits) h in
+    let wide = get_or_wider 256 2 65536 32 v k refl (below_from_Fits w8 v fits) h in
     let size = length-chunk (2 * k) 2 v (omega arith) in
     let first : 2 * k + 0 ≡ 2 * k = omega arith in
     let high = get_or-chunk (2 * k) 2 v 0 0 (omega arith) ∙ ap (λ p. get_or v p 0) first in
@@ -126,7 +126,7 @@ joined_are v long fits valid k h =
     let small_high = valid (2 * k) (omega arith) in
     let small_low = valid (2 * k + 1) (omega arith) in
     let number = two (chunk (2 * k) 2 v) size in
-    get_or-map byte_of (digits_l 65536 16 (number_l 256 v)) k 0 0 (omega arith)
+    get_or-map byte_of (digits_l 65536 32 (number_l 256 v)) k 0 0 (omega arith)
     ∙ ap byte_of (wide ∙ number)
     ∙ omega (arith, high, low)
 
@@ -136,31 +136,38 @@ pair_reads high low i h l e f =
     ap (λ (o : Option ℕ). digit_or_error high i o >>= (λ x. digit_or_error low (i + 1) (hex_digit_value low) >>= (λ y. Ok (x * 16 + y)))) e
     ∙ ap (λ (o : Option ℕ). digit_or_error low (i + 1) o >>= (λ y. Ok (h * 16 + y))) f
 
--- a block decodes sixteen bytes more
-pub block_decoded : (digits out bytes values : List ℕ) (at : ℕ) → at + 16 ≤ length out → length digits ≡ 2 * length out → length bytes ≡ 16
-    → ((k : ℕ) → k < 32 → IsValue (get_or (chunk (2 * at) 32 digits) k 0) (get_or values k 0))
-    → (AreValid values → (k : ℕ) → k < 16 → get_or bytes k 0 ≡ get_or values (2 * k) 0 * 16 + get_or values (2 * k + 1) 0)
-    → AreValid values → IsDecoded digits out at → IsDecoded digits (put_chunk at out bytes) (at + 16)
-block_decoded digits out bytes values at room twice long are joined valid before k h =
+-- a block decodes its 32 bytes, and changes no others
+pub block_decoded : (digits out bytes values : List ℕ) (at : ℕ) → at + 32 ≤ length out → length digits ≡ 2 * length out → length bytes ≡ 32
+    → ((k : ℕ) → k < 64 → IsValue (get_or (chunk (2 * at) 64 digits) k 0) (get_or values k 0))
+    → (AreValid values → (k : ℕ) → k < 32 → get_or bytes k 0 ≡ get_or values (2 * k) 0 * 16 + get_or values (2 * k + 1) 0)
+    → AreValid values → (k : ℕ) → IsWithin at 32 k ⊎ IsDecoded digits out k → IsDecoded digits (put_chunk at out bytes) k
+block_decoded digits out bytes values at room twice long are joined valid k h =
     elim (cases_lt k at) [
-      | inl below ↦ rw (get_or-put_chunk_below at out bytes k 0 below) (before k below)
-      | inr above ↦
-          let j = k - at in
-          let e : at + j ≡ k = omega arith in
-          let byte = get_or-put_chunk_at at out bytes j 0 (omega arith) (omega arith) ∙ joined valid j (omega arith) in
-          pair_reads (get_or digits (2 * k) 0) (get_or digits (2 * k + 1) 0) (2 * k) (get_or values (2 * j) 0)
-          (get_or values (2 * j + 1) 0) (value_at (2 * j) (2 * k) (omega arith) (omega arith))
-          (value_at (2 * j + 1) (2 * k + 1) (omega arith) (omega arith))
-          ∙ ap Ok (sym (rw e at byte))
+      | inl below ↦ rw (get_or-put_chunk_below at out bytes k 0 below) (before (λ within. absurd (omega (arith, within.0))) h)
+      | inr from ↦ elim (cases_lt k (at + 32)) [
+        | inl within ↦
+            let j = k - at in
+            let e : at + j ≡ k = omega arith in
+            let byte = get_or-put_chunk_at at out bytes j 0 (omega arith) (omega arith) ∙ joined valid j (omega arith) in
+            pair_reads (get_or digits (2 * k) 0) (get_or digits (2 * k + 1) 0) (2 * k) (get_or values (2 * j) 0)
+            (get_or values (2 * j + 1) 0) (value_at (2 * j) (2 * k) (omega arith) (omega arith))
+            (value_at (2 * j + 1) (2 * k + 1) (omega arith) (omega arith))
+            ∙ ap Ok (sym (rw e at byte))
+        | inr above ↦ rw (get_or-put_chunk_above at out bytes k 0 (omega arith)) (before (λ within. absurd (omega (arith, within.1))) h)
+      ]
     ]
   where
-    value_at : (i m : ℕ) → i < 32 → 2 * at + i ≡ m → hex_digit_value (get_or digits m 0) ≡ Some (get_or values i 0)
+    before : (IsWithin at 32 k → ⊥) → IsWithin at 32 k ⊎ IsDecoded digits out k → IsDecoded digits out k
+    before never (inl within) = absurd (never within)
+    before never (inr done) = done
+
+    value_at : (i m : ℕ) → i < 64 → 2 * at + i ≡ m → hex_digit_value (get_or digits m 0) ≡ Some (get_or values i 0)
     value_at i m h e =
         ap (λ p. hex_digit_value (get_or digits p 0)) (sym e)
-        ∙ ap hex_digit_value (sym (get_or-chunk (2 * at) 32 digits i 0 h)) ∙ are i h (valid i h)
+        ∙ ap hex_digit_value (sym (get_or-chunk (2 * at) 64 digits i 0 h)) ∙ are i h (valid i h)
 
 -- the bytes before n, and what the rest of the text decodes to
-front : (s out : List ℕ) (n : ℕ) → n ≤ length out → length s ≡ 2 * length out → IsDecoded s out n
+front : (s out : List ℕ) (n : ℕ) → n ≤ length out → length s ≡ 2 * length out → ((k : ℕ) → k < n → IsDecoded s out k)
     → decode_pairs 0 s ≡ prepend (take n out) (decode_pairs (2 * n) (drop (2 * n) s))
 front s out zero within twice done = decode_start s out
 front s out (suc n) within twice done =
@@ -168,7 +175,7 @@ front s out (suc n) within twice done =
     rw (set-get_or, add-one) at (decode_step s out n (get_or out n 0) (omega arith) (omega arith) (done n (omega arith)) before)
 
 -- where each byte is decoded, the text is
-pub all_decoded : (s out : List ℕ) → length s ≡ 2 * length out → IsDecoded s out (length out) → decode_sized s (length out) ≡ Ok out
+pub all_decoded : (s out : List ℕ) → length s ≡ 2 * length out → ((k : ℕ) → k < length out → IsDecoded s out k) → decode_sized s (length out) ≡ Ok out
 all_decoded s out twice done =
     decode_sized-pairs s (length out) (omega arith) (omega arith)
     ∙ decode_done s out (length out) (omega arith) (omega arith) (front s out (length out) (omega arith) twice done)

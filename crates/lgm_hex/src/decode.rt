@@ -1,10 +1,10 @@
-//! Decoding, thirty-two digits at a time.
+//! Decoding, 64 digits at a time.
 
 ghost use Rattle.std.specs.Prelude.{◌≡◌, ◌≢◌, ℕ, ◌+◌, ◌*◌, ◌/◌, ◌%◌, ◌<◌, ◌≤◌, ◌⊎◌, [], length};
 ghost use Rattle.std.specs.Prelude.{slice_index, vec_capacity, IsTrue, IfErr, OnOk, OnErr, MatchResult};
 ghost use Rattle.hex.specs.Hex.{decode_of, decode_sized};
 ghost use Rattle.hex.specs.declared.error.FromHexError.TheVariants.{OddLength, OutOfMemory};
-ghost use Rattle.lgm_hex.specs.inner.Digits.{IsValue, AreValid, IsDecoded};
+ghost use Rattle.lgm_hex.specs.inner.Digits.{IsValue, AreValid, IsWithin, IsDecoded};
 
 use hex::FromHexError;
 use std::alloc::Allocator;
@@ -12,64 +12,66 @@ use std::simd::prelude::*;
 
 /// The value of each digit, and 16 or more for any other byte.
 #[inline(always)]
-fn values_of(digits: u8x32) -> u8x32
-    ensures { (k : ℕ) → k < 32 → IsValue (slice_index digits k) (slice_index result k) }
+fn values_of(digits: u8x64) -> u8x64
+    ensures { (k : ℕ) → k < 64 → IsValue (slice_index digits k) (slice_index result k) }
 {
     // `0` to `9` become the ten largest bytes and then 0 to 9; any other byte becomes 16 or more.
-    let number = (digits + u8x32::splat(255 - b'9')).saturating_sub(u8x32::splat(6))
-        - u8x32::splat(240);
+    let number = (digits + u8x64::splat(255 - b'9')).saturating_sub(u8x64::splat(6))
+        - u8x64::splat(240);
 
     // `A` to `F` and `a` to `f` become 0 to 5; any other byte becomes more.
-    let letter = (digits & u8x32::splat(0xdf)) - u8x32::splat(b'A');
-    number.simd_min(u8x32::splat(10).saturating_add(letter))
+    let letter = (digits & u8x64::splat(0xdf)) - u8x64::splat(b'A');
+    number.simd_min(u8x64::splat(10).saturating_add(letter))
 }
 
 /// Whether all are values of digits.
 #[inline(always)]
-fn are_valid(values: u8x32) -> bool
+fn are_valid(values: u8x64) -> bool
     ensures { IsTrue result → AreValid values }
 {
-    values.simd_lt(u8x32::splat(16)).all()
+    values.simd_lt(u8x64::splat(16)).all()
 }
 
-/// The bytes of sixteen pairs of values.
+/// The bytes of 32 pairs of values.
 #[inline(always)]
-fn joined(values: u8x32) -> u8x16
-    ensures len { length result ≡ 16 }
-    ensures lanes { AreValid values → (k : ℕ) → k < 16
+fn joined(values: u8x64) -> u8x32
+    ensures len { length result ≡ 32 }
+    ensures lanes { AreValid values → (k : ℕ) → k < 32
         → slice_index result k ≡ slice_index values (2 * k) * 16 + slice_index values (2 * k + 1) }
 {
     // A pair as a number: its first value, plus 256 times its second.
-    let pairs = u16x16::from_le_bytes(values);
-    let bytes = (pairs * u16x16::splat(0x1001)) >> u16x16::splat(8);
+    let pairs = u16x32::from_le_bytes(values);
+    let bytes = (pairs * u16x32::splat(0x1001)) >> u16x32::splat(8);
     bytes.cast::<u8>()
 }
 
-/// Writes sixteen bytes, and returns the values of their digits. If these are valid, the bytes are right.
+/// Writes 32 bytes, and returns the values of their digits. If these are valid, the bytes are right.
 #[inline(always)]
-fn decode_block(digits: &[u8], out: &mut [u8], at: usize) -> u8x32
-    requires room { at + 16 ≤ length out.old }
+fn decode_block(digits: &[u8], out: &mut [u8], at: usize) -> u8x64
+    requires room { at + 32 ≤ length out.old }
     requires twice { length digits.now ≡ 2 * length out.old }
-    ensures len { length result ≡ 32 }
-    ensures bytes { AreValid result → IsDecoded digits.now out.old at
-        → IsDecoded digits.now out.new (at + 16) }
+    ensures len { length result ≡ 64 }
+    ensures bytes { AreValid result → (k : ℕ) → IsWithin at 32 k ⊎ IsDecoded digits.now out.old k
+        → IsDecoded digits.now out.new k }
 {
-    let values = values_of(u8x32::from_slice(&digits[2 * at..]));
+    let values = values_of(u8x64::from_slice(&digits[2 * at..]));
     joined(values).copy_to_slice(&mut out[at..]);
     values
 }
 
-/// Writes all bytes, the last sixteen in a block of their own. If it returns true they are right.
+/// Writes all bytes, the last 32 in a block of their own. If it returns true they are right.
+///
+/// The last block comes first: so the bytes of a short text are those of one write, and a read of them needn't wait for
+/// two.
 fn decode_blocks(digits: &[u8], out: &mut [u8]) -> bool
-    requires some { 16 ≤ length out.old }
+    requires some { 32 ≤ length out.old }
     requires twice { length digits.now ≡ 2 * length out.old }
     ensures { IsTrue result → decode_sized digits.now (length out.new) ≡ Ok out.new }
 {
-    let mut seen = u8x32::splat(0);
-    for i in 0..(out.len() - 1) / 16 {
-        seen |= decode_block(digits, out, 16 * i);
+    let mut seen = decode_block(digits, out, out.len() - 32);
+    for i in 0..(out.len() - 1) / 32 {
+        seen |= decode_block(digits, out, 32 * i);
     }
-    seen |= decode_block(digits, out, out.len() - 16);
     are_valid(seen)
 }
 
@@ -86,7 +88,7 @@ pub fn decode_to_slice(digits: &[u8], out: &mut [u8]) -> Result<(), FromHexError
     ensures same { (length digits.now ≢ 2 * length out.old) → out.new ≡ out.old }
 {
     let fits = digits.len() % 2 == 0 && digits.len() / 2 == out.len();
-    if fits && out.len() >= 16 && decode_blocks(digits, out) {
+    if fits && out.len() >= 32 && decode_blocks(digits, out) {
         return Ok(());
     }
     hex::decode_to_slice(digits, out)

@@ -8,7 +8,7 @@ ghost use Rattle.lgm_live.specs.inner.Reading.{IsNoted, IsRead, HasRead};
 
 use crate::parsed_script::ParsedScript;
 use lgm_answers::{MAX_LINES, RunFault};
-use lgm_script::{LineReader, Output, Sink, Source, more_begins, next_line, parse};
+use lgm_script::{LineReader, Output, ROOM, Sink, Source, more_begins, next_line, parse};
 use std::alloc::{AllocError, Global};
 
 /// Adds the command of the first line, which has this many bytes, and drops the line.
@@ -74,7 +74,7 @@ pub(crate) fn read_script<R: Source, W: Sink>(
     ensures { HasRead (R.seen source.old) (R.seen source.new) (told_by W.seen output.old)
         (told_by W.seen output.new) (IsRead workers (R.seen source.old).left) result }
 {
-    let mut lines = LineReader::new(alloc)?;
+    let mut lines = LineReader::new(alloc, ROOM)?;
     let mut parsed = ParsedScript::new(alloc, workers)?;
     read_lines(alloc, &mut lines, source, output, &mut parsed)?;
     parsed.end_batch(alloc)?;

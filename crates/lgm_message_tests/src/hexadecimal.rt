@@ -39,6 +39,30 @@ fn decodes_into_a_kept_vector(rt: HostRuntime) -> Result<(), Fail> {
     Ok(())
 }
 
+/// By 16, 32 and 48 bytes: two digits at a time, a block, and two blocks that overlap. What isn't a digit is found in
+/// each of them.
+#[test]
+fn decodes_in_blocks(rt: HostRuntime) -> Result<(), Fail> {
+    let alloc = rt.alloc();
+    let (mut bytes, mut digits) = (Vec::new(alloc), Vec::new(alloc));
+    let mut decoded = Vec::new(alloc);
+    for _part in 0..3 {
+        bytes.extend_from_slice(&BYTES)?;
+        digits.extend_from_slice(MIXED)?;
+        decode_into(&mut decoded, digits.as_slice())?;
+        assert_eq!(rt; decoded.as_slice(), bytes.as_slice());
+    }
+    for index in [0, 40, 95] {
+        let mut wrong = digits.as_slice().to_vec(alloc)?;
+        if let Some(digit) = wrong.get_mut(index) {
+            *digit = b'g';
+        }
+        let bad = FromHexError::InvalidHexCharacter { c: 'g', index };
+        assert_eq!(rt; decode_into(&mut decoded, wrong.as_slice()), Err(bad));
+    }
+    Ok(())
+}
+
 #[test]
 fn refuses_as_hex_does(rt: HostRuntime) -> Result<(), Fail> {
     assert_eq!(rt;

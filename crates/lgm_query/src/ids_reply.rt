@@ -7,7 +7,7 @@ use crate::range_reply::encoded;
 use crate::reply::{Replies, ReplyMessage};
 use crate::reply_builder::ReplyBuilder;
 use lgm_gossip::{Bytes, ChainHash, IdsEnd, IdsQuery, Message};
-use lgm_store::Map;
+use lgm_store::{Map, TOGETHER};
 use std::alloc::{AllocError, Global};
 
 /// The flags that select all messages of a channel.
@@ -52,9 +52,19 @@ fn stored_messages<'a>(
 {
     let mut sending = ReplyBuilder::new(alloc, map.seed());
     for (place, scid) in query.ids.as_slice().iter().enumerate() {
+        if place % TOGETHER == 0 {
+            read_ahead(map, query, place);
+        }
         sending.send_chosen(map, *scid, flags_at(query, place))?;
     }
     Ok(sending.into_messages())
+}
+
+/// Reads the rows of the next channels, from this place on, so that the processor's cache has them.
+fn read_ahead(map: &Map, query: &IdsQuery, place: usize) {
+    let ids = query.ids.as_slice();
+    let (_, next) = ids.split_at(place.min(ids.len()));
+    map.prefetch_rows(next);
 }
 
 /// The flags of the id at an index of the query.

@@ -6,7 +6,7 @@ use std::alloc::{AllocError, Global};
 
 /// The number of items that are looked up together. What is read for them has to stay in the processor's nearest caches
 /// until their turns.
-const TOGETHER: usize = 64;
+const TOGETHER: usize = 32;
 
 /// What is looked up for checked items, and where it was found for the next of them. No contract depends on it.
 ///

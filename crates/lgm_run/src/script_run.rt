@@ -1,6 +1,6 @@
 //! Running a whole script.
 
-ghost use Rattle.std.specs.Prelude.{◌≡◌, ◌+◌, ◌<◌, ◌≤◌, [], length, IfOk, IfErr};
+ghost use Rattle.std.specs.Prelude.{◌≡◌, ◌+◌, ◌*◌, ◌<◌, ◌≤◌, [], length, IfOk, IfErr};
 ghost use Rattle.lgm_script.specs.Output.{told_by, Tells, TellsPart};
 ghost use Rattle.lgm_run.specs.inner.Steps.{opening};
 ghost use Rattle.lgm_run.specs.inner.Progress.{HaveAnswers, HaveBegun, HasAnswered};
@@ -16,7 +16,7 @@ use lgm_gossip::ChainHash;
 use lgm_graph::Known;
 use lgm_par::{Gate, MAX_WORKERS, Pool};
 use lgm_script::{
-    BLOCK, LineReader, MAX_LINE, Output, SendFault, Sink, Source, more_begins, next_group,
+    BLOCK, LineReader, MAX_LINE, Output, ROOM, SendFault, Sink, Source, more_begins, next_group,
     next_line,
 };
 use lgm_store::Seed;
@@ -31,6 +31,17 @@ pub struct Counts {
     pub lines: u64,
     /// The number of accepted items.
     pub accepted: u64,
+}
+
+/// The most bytes that are read ahead for several workers: 1,024 announcements of channels, so that a group is worth
+/// sharing.
+const ROOM_TO_SHARE: usize = 1_048_576;
+
+/// How many bytes are read ahead for this many workers.
+fn room_for(workers: usize) -> usize
+    ensures { 2 * MAX_LINE ≤ result }
+{
+    if workers > 1 { ROOM_TO_SHARE } else { ROOM }
 }
 
 /// Answers the next lines, the first of which has this number and `first` bytes. Returns the number of lines, at most
@@ -108,7 +119,7 @@ fn answer_all<Rt: Threads + Sync + RandomSource, G: Gate, R: Source, W: Sink>(
         (W.seen output.old.writer.now) (W.seen output.new.writer.now) result }
 {
     let alloc = context.pool.alloc;
-    let mut lines = LineReader::new(alloc)?;
+    let mut lines = LineReader::new(alloc, room_for(context.pool.workers))?;
     let made = Engine::new(alloc, Seed::random(context.pool.rt), known)?;
     let engine = remains.hold(made);
     let answered = answer_lines(context, &mut lines, source, engine, output);

@@ -46,12 +46,14 @@ pub fn number_below(limit: u64, digits: &[u8]) -> Option<u64>
     if number < limit { Some(number) } else { None }
 }
 
-/// A point: any 33 bytes, each as two hexadecimal digits.
+/// A point: any 33 bytes, each as two hexadecimal digits. It is compiled into its callers, which move it then.
+#[inline(always)]
 pub fn point(digits: &[u8]) -> Option<Point>
     ensures { result ≡ point_of digits.now }
 {
-    match lgm_hex::decode_array::<33>(digits) {
-        Ok(bytes) => Some(Point(bytes)),
+    let mut bytes = [0; 33];
+    match lgm_hex::decode_to_slice(digits, &mut bytes) {
+        Ok(()) => Some(Point(bytes)),
         Err(_) => None,
     }
 }

@@ -59,6 +59,7 @@ pub fn bytes(alloc: Global, digits: &[u8]) -> Result<Option<Bytes>, AllocError>
 }
 
 /// A verdict on signatures: `all`, `not-all`, `nobody` or the point that signed.
+#[inline(always)]
 fn sig(word: &[u8]) -> Option<Sig>
     ensures { result ≡ sig_of word.now }
 {
@@ -75,6 +76,7 @@ fn sig(word: &[u8]) -> Option<Sig>
 }
 
 /// A verdict on a funding output: `spent`, `wrong`, `-` or its satoshi.
+#[inline(always)]
 fn funding(word: &[u8]) -> Option<Funding>
     ensures { result ≡ funding_of word.now }
 {
@@ -91,6 +93,7 @@ fn funding(word: &[u8]) -> Option<Funding>
 }
 
 /// The verdicts on a message: `SIG` and `FUNDING`.
+#[inline(always)]
 fn evidence(signer: &[u8], output: &[u8]) -> Option<Evidence>
     ensures { result ≡ evidence_of (signer.now ∷ output.now ∷ []) }
 {

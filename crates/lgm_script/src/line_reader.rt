@@ -1,6 +1,6 @@
 //! The lines of a script, however its bytes arrive.
 
-ghost use Rattle.std.specs.Prelude.{◌≡◌, ◌+◌, ◌≤◌, ◌<◌, ◌-◌, [], true, false, List, ℕ, Option};
+ghost use Rattle.std.specs.Prelude.{◌≡◌, ◌+◌, ◌≤◌, ◌<◌, ◌-◌, ◌*◌, [], true, false, List, ℕ, Option};
 ghost use Rattle.std.specs.Prelude.{length, take, drop, IfOk, IfSome, IfNone, OnOk, OnErr};
 ghost use Rattle.lgm_script.specs.Device.{IsAtEnd};
 ghost use Rattle.lgm_script.specs.Lines.{ahead, HasNoLineFeed, IsFirstLine};
@@ -14,9 +14,9 @@ use std::marker::Model;
 /// The maximum length of a line in bytes, without its line feed.
 pub const MAX_LINE: usize = 140_000;
 
-/// The maximum number of bytes that are read ahead: more than seven of the longest lines, or 1,024 announcements of
-/// channels.
-const ROOM: usize = 1_048_576;
+/// A room for what is read ahead that leaves most of a processor's second cache to what is made of the lines: more than
+/// two of the longest.
+pub const ROOM: usize = 294_912;
 
 /// What was read ahead of a source. All memory is allocated when it is made.
 ///
@@ -30,23 +30,24 @@ pub struct LineReader {
 }
 
 impl Model for LineReader {
-    ghost use Rattle.std.specs.Prelude.{List, ℕ, length, take, drop, ◌≤◌, ◌≡◌};
-    ghost use Rattle.lgm_script.specs.declared.line_reader.TheConstants.{ROOM};
+    ghost use Rattle.std.specs.Prelude.{List, ℕ, length, take, drop, ◌≤◌, ◌*◌};
+    ghost use Rattle.lgm_script.specs.declared.line_reader.TheConstants.{MAX_LINE};
 
     ghost Value = { List ℕ };
 
     ghost view = { λ r. drop r.start (take r.end r.buffer.items) };
 
-    ghost invariant = { λ r. (r.start ≤ r.end) × (r.end ≤ ROOM) × (length r.buffer.items ≡ ROOM) };
+    ghost invariant = { λ r. (r.start ≤ r.end) × (r.end ≤ length r.buffer.items) × (2 * MAX_LINE ≤ length r.buffer.items) };
 }
 
 impl LineReader {
-    /// A reader with nothing read ahead.
-    pub fn new(alloc: Global) -> Result<LineReader, AllocError>
+    /// A reader with nothing read ahead, which reads at most `room` bytes ahead: at least two of the longest lines.
+    pub fn new(alloc: Global, room: usize) -> Result<LineReader, AllocError>
+        requires { 2 * MAX_LINE ≤ room }
         ensures { IfOk result (λ reader. reader ≡ []) }
     {
         Ok(LineReader {
-            buffer: Vec::from_elem(alloc, 0, ROOM)?,
+            buffer: Vec::from_elem(alloc, 0, room)?,
             start: 0,
             end: 0,
         })
@@ -108,15 +109,15 @@ pub(crate) fn find_line(bytes: &[u8], searched: usize) -> Option<usize>
 /// Moves the bytes from `start` to `end` to the front if there is no room after them. Returns their new offsets.
 fn make_room(buffer: &mut Vec<u8>, start: usize, end: usize) -> (usize, usize)
     requires order { start ≤ end }
-    requires within { end ≤ ROOM }
+    requires within { end ≤ length buffer.old.items }
     requires short { end - start ≤ MAX_LINE }
-    requires size { length buffer.old.items ≡ ROOM }
+    requires size { 2 * MAX_LINE ≤ length buffer.old.items }
     ensures same { drop result.0 (take result.1 buffer.new.items) ≡ drop start (take end buffer.old.items) }
     ensures order { result.0 ≤ result.1 }
-    ensures room { result.1 < ROOM }
-    ensures size { length buffer.new.items ≡ ROOM }
+    ensures room { result.1 < length buffer.new.items }
+    ensures size { length buffer.new.items ≡ length buffer.old.items }
 {
-    if end < ROOM {
+    if end < buffer.len() {
         return (start, end);
     }
     let count = end - start;

@@ -6,6 +6,7 @@ ghost use Rattle.lgm_script.specs.Text.{line_text, message_behind};
 ghost use Rattle.lgm_script.specs.declared.output.SendFault.TheVariants.{NoMemory};
 
 use crate::device::{Failed, Sink, write_all};
+use crate::line_numbers::LineNumbers;
 use crate::text::{Lead, Line, append_line, append_message};
 use std::alloc::AllocError;
 use thiserror::Error;
@@ -42,6 +43,7 @@ impl From<AllocError> for SendFault {
 pub struct Output<'a, W> {
     writer: &'a mut W,
     buffered: &'a mut Vec<u8>,
+    numbers: LineNumbers,
 }
 
 impl<'a, W: Sink> Output<'a, W> {
@@ -51,7 +53,11 @@ impl<'a, W: Sink> Output<'a, W> {
         ensures same { result.writer.now ≡ writer.entry.now }
         ensures buffered { result.buffered.now.items ≡ buffered.entry.now.items }
     {
-        Output { writer, buffered }
+        Output {
+            writer,
+            buffered,
+            numbers: LineNumbers::new(),
+        }
     }
 
     /// Writes what is buffered. After `Failed` a prefix of it may have been accepted.
@@ -91,7 +97,7 @@ impl<'a, W: Sink> Output<'a, W> {
         ensures { Writes (told_by W.seen self.old) (told_by W.seen self.new)
             (line_text number line.now) result }
     {
-        append_line(self.buffered, number, line)?;
+        append_line(self.buffered, &mut self.numbers, number, line)?;
         self.flush_block()
     }
 

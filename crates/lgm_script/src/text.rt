@@ -1,10 +1,11 @@
 //! The lines of answers, each appended to a text completely or not at all.
 
-ghost use Rattle.std.specs.Prelude.{◌≡◌, ◌++◌, take, IfOk, OnOk, OnErr};
+ghost use Rattle.std.specs.Prelude.{◌≡◌, ◌++◌, take, codes, IfOk, OnOk, OnErr};
 ghost use Rattle.std.specs.Fmt.{decimal};
 ghost use Rattle.lgm_script.specs.Text.{lead, message_behind, scid_text, line_text};
 ghost use Rattle.lgm_script.specs.inner.Front.{IsFront};
 
+use crate::line_numbers::LineNumbers;
 use lgm_gossip::Scid;
 use std::alloc::{AllocError, Global};
 use std::marker::Model;
@@ -66,6 +67,22 @@ fn push_number(text: &mut Vec<u8>, number: u64) -> Result<(), AllocError>
     Ok(())
 }
 
+/// Appends a space, a word and a line feed. A word that is known when this is compiled is appended at once.
+#[inline(always)]
+fn push_word(text: &mut Vec<u8>, word: &str) -> Result<(), AllocError>
+    ensures ok { OnOk result (text.new.items ≡ text.old.items ++ codes " " ++ word.now ++ codes "\n") }
+    ensures err { OnErr result (text.new.items ≡ text.old.items) }
+{
+    let bytes = word.as_bytes();
+    text.reserve(bytes.len().saturating_add(2))?;
+    text.push_reserved(b' ');
+    for i in 0..bytes.len() {
+        text.push_reserved(bytes[i]);
+    }
+    text.push_reserved(b'\n');
+    Ok(())
+}
+
 /// Appends what precedes a message, which may be for a peer.
 fn push_lead(text: &mut Vec<u8>, number: u64, peer: Option<u16>) -> Result<(), AllocError>
     ensures ok { OnOk result (text.new.items ≡ text.old.items ++ lead number peer) }
@@ -109,27 +126,29 @@ fn push_message(text: &mut Vec<u8>, lead: &Lead, message: &[u8]) -> Result<(), A
 
 /// Appends a line. If memory runs out a prefix of it may be appended.
 #[inline(always)]
-fn push_line(text: &mut Vec<u8>, number: u64, line: &Line<'_>) -> Result<(), AllocError>
+fn push_line(
+    text: &mut Vec<u8>,
+    numbers: &mut LineNumbers,
+    number: u64,
+    line: &Line<'_>,
+) -> Result<(), AllocError>
     ensures ok { OnOk result (text.new.items ≡ text.old.items ++ line_text number line.now) }
     ensures err { OnErr result (IsFront text.old.items text.new.items) }
 {
     match line {
         Line::Word(word) => {
-            push_number(text, number)?;
-            text.push(b' ')?;
-            text.extend_from_slice(word.as_bytes())?;
-            text.push(b'\n')?;
-            Ok(())
+            numbers.push(text, number)?;
+            push_word(text, word)
         }
         Line::Commit(count) => {
-            push_number(text, number)?;
+            numbers.push(text, number)?;
             text.extend_from_slice(b" commit ")?;
             push_number(text, *count)?;
             text.push(b'\n')?;
             Ok(())
         }
         Line::Route { sent, expiry, hops } => {
-            push_number(text, number)?;
+            numbers.push(text, number)?;
             text.extend_from_slice(b" route ")?;
             push_number(text, *sent)?;
             text.push(b' ')?;
@@ -140,7 +159,7 @@ fn push_line(text: &mut Vec<u8>, number: u64, line: &Line<'_>) -> Result<(), All
             Ok(())
         }
         Line::Hop(scid, payload) => {
-            push_number(text, number)?;
+            numbers.push(text, number)?;
             text.extend_from_slice(b" hop ")?;
             push_scid(text, *scid)?;
             text.push(b' ')?;
@@ -171,6 +190,7 @@ fn keep_if_whole(
 #[inline(always)]
 pub(crate) fn append_line(
     text: &mut Vec<u8>,
+    numbers: &mut LineNumbers,
     number: u64,
     line: &Line<'_>,
 ) -> Result<(), AllocError>
@@ -178,7 +198,7 @@ pub(crate) fn append_line(
     ensures err { OnErr result (text.new.items ≡ text.old.items) }
 {
     let length = text.len();
-    let pushed = push_line(text, number, line);
+    let pushed = push_line(text, numbers, number, line);
     keep_if_whole(text, length, pushed)
 }
 

@@ -27,6 +27,9 @@ use std::collections::BTreeMap;
 use std::marker::Model;
 use std::ops::Bound;
 
+/// The number of channels whose rows are read together.
+pub const TOGETHER: usize = 16;
+
 /// Channels with their updates, by id. Contracts see each id with its channel, ascending.
 ///
 /// Channels are stored in slots, with a B-tree from id to slot number, and a lookup cache in front: so a search of the
@@ -82,7 +85,7 @@ impl ChannelTable {
         Some(&self.slots[number])
     }
 
-    /// The number that the cache has for a channel, or [`NOWHERE`].
+    /// The number that the cache has for a channel, or one that is too large.
     #[inline(always)]
     pub(crate) fn locate(&self, scid: Scid) -> usize {
         self.cache.guess(scid.to_u64())
@@ -98,11 +101,20 @@ impl ChannelTable {
         }
     }
 
-    /// Reads the rows of a channel, if it is where the cache says, so that the processor's cache has them.
-    pub(crate) fn touch(&self, scid: Scid) {
-        match self.slots.get(self.locate(scid)) {
-            Some(stored) if stored.scid() == scid => stored.touch(),
-            _ => {}
+    /// Reads the rows of the first [`TOGETHER`] of these channels, so that the processor's cache has them: in three looks,
+    /// for the numbers, for what the slots have, and for the rows, each for all of them.
+    pub(crate) fn touch(&self, scids: &[Scid]) {
+        let mut numbers = [NOWHERE; TOGETHER];
+        for (number, scid) in numbers.iter_mut().zip(scids) {
+            *number = self.locate(*scid);
+        }
+        for (number, scid) in numbers.iter_mut().zip(scids) {
+            *number = self.prefetch(*number, *scid, true);
+        }
+        for number in &numbers {
+            if let Some(stored) = self.slots.get(*number) {
+                stored.touch();
+            }
         }
     }
 

@@ -59,7 +59,7 @@ impl ChannelsByNode {
         place_of(&self.lists, self.cache.cached(key_of(point)), point).is_some()
     }
 
-    /// The place that the cache has for a node's list, or [`NOWHERE`].
+    /// The place that the cache has for a node's list, or one that is too large.
     #[inline(always)]
     pub(crate) fn locate(&self, key: NodeKey) -> usize {
         self.cache.guess(key.front)

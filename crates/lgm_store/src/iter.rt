@@ -7,6 +7,7 @@ ghost use Rattle.lgm_store.specs.Reading.{is_between};
 ghost use Rattle.lgm_store.specs.inner.ChannelTable.{entries_in, id_in, HaveOwn};
 
 use crate::channel_info::ChannelInfo;
+use crate::channel_table::TOGETHER;
 use crate::map::Map;
 use crate::shared::Shared;
 use lgm_check::StoredNode;
@@ -59,9 +60,6 @@ impl<'a> Iterator for Channels<'a> {
         Some(&self.slots[*number])
     }
 }
-
-/// The number of channels whose rows are read together.
-const TOGETHER: usize = 16;
 
 /// An iteration over the channels of a map that runs ahead of another one, and reads their rows, so that the processor's
 /// cache has them when the other one is there. No contract depends on it.

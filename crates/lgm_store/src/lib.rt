@@ -25,6 +25,7 @@ mod seed;
 mod shared;
 
 pub use channel_info::ChannelInfo;
+pub use channel_table::TOGETHER;
 pub use checked_message::CheckedMessage;
 pub use iter::{Channels, ChannelsBetween, Nodes, ReadAhead};
 pub use laws::{histories_are_lawful, rows_ascend};

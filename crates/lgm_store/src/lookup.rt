@@ -1,6 +1,6 @@
 //! Looking up messages before they are offered.
 
-use crate::lookup_cache::NOWHERE;
+use crate::lookup_cache::{NOWHERE, found};
 use lgm_check::{StoredChannel, StoredNode, StoredUpdate};
 use lgm_gossip::{Point, Scid};
 
@@ -17,27 +17,28 @@ pub enum Lookup {
     Node(NodeKey),
 }
 
-/// What is compared of a point before it is compared: the first eight bytes of its x coordinate, and its last byte.
+/// What is compared of a point before it is compared: the first and the last eight bytes of its x coordinate. Two words,
+/// so that it is copied as such.
 #[derive(Clone, Copy, Debug)]
 pub struct NodeKey {
     pub(crate) front: u64,
-    last: u8,
+    back: u64,
 }
 
 impl NodeKey {
     /// The key of a point.
     pub(crate) fn of(point: &Point) -> NodeKey {
-        let [_, a, b, c, d, e, f, g, h, ..] = point.0;
+        let [_, a, b, c, d, e, f, g, h, .., i, j, k, l, m, n, o, p] = point.0;
         NodeKey {
             front: u64::from_be_bytes([a, b, c, d, e, f, g, h]),
-            last: point.0[32],
+            back: u64::from_be_bytes([i, j, k, l, m, n, o, p]),
         }
     }
 
     /// Whether the point has this key, by what is first and what is last of it in memory.
     pub(crate) fn is_of(self, point: &Point) -> bool {
         let own = NodeKey::of(point);
-        (own.front == self.front) & (own.last == self.last)
+        (own.front == self.front) & (own.back == self.back)
     }
 }
 
@@ -60,11 +61,11 @@ impl Lookup {
 /// found there is compared, and no answer depends on it.
 #[derive(Clone, Copy, Debug)]
 pub struct Hint {
-    /// The number of the channel's slot, or [`NOWHERE`].
+    /// The number of the channel's slot, or one that is too large for a cache.
     pub(crate) channel: usize,
-    /// The place of the first node's list of channels, or [`NOWHERE`].
+    /// The place of the first node's list of channels, or one that is too large.
     pub(crate) first: usize,
-    /// The place of the second node's list, or [`NOWHERE`].
+    /// The place of the second node's list, or one that is too large.
     pub(crate) second: usize,
 }
 
@@ -80,10 +81,6 @@ impl Hint {
 
     /// The number of the channel's slot, if there is a guess.
     pub(crate) fn slot(self) -> Option<usize> {
-        if self.channel == NOWHERE {
-            None
-        } else {
-            Some(self.channel)
-        }
+        found(self.channel)
     }
 }

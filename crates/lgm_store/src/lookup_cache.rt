@@ -9,72 +9,75 @@ const LEAST: usize = 1024;
 /// The multiplier of the hash, which spreads keys: 2^64 divided by the golden ratio, an odd number.
 const SPREAD: u64 = 0x9e37_79b9_7f4a_7c15;
 
-/// The numbers of some keys, of eight bytes each: a cache of sets of two entries, which are beside each other in memory.
+/// The numbers of some keys, of eight bytes each: a cache of sets of four entries, which are beside each other in memory.
 ///
 /// An entry may be wrong, since two keys may have the same set and the same tag, and entries of removed keys stay. So a
 /// caller checks what has the number. No contract depends on the cache.
 #[derive(Clone, Drop)]
 pub(crate) struct LookupCache {
-    places: Vec<CachedSlot>,
+    /// Each has a number below [`MOST`], and above it a tag of eight bits, which distinguishes a key from most others with
+    /// the same set.
+    entries: Vec<u32>,
 }
 
-#[derive(Clone, Copy)]
-struct CachedSlot {
-    /// Distinguishes a key from most others with the same place.
-    tag: u32,
-    number: u32,
-}
+/// The numbers that an entry can have are below this.
+const MOST: u32 = 1 << 24;
+
+/// The number of entries of a set, a power of two.
+const SET: usize = 4;
 
 impl LookupCache {
     /// An empty cache. Allocates nothing.
     pub(crate) fn new(alloc: Global) -> LookupCache {
         LookupCache {
-            places: Vec::new(alloc),
+            entries: Vec::new(alloc),
         }
     }
 
-    /// What may be the number of a key, if an entry at its place has its tag.
+    /// What may be the number of a key, if an entry of its set has its tag.
     #[inline(always)]
     pub(crate) fn cached(&self, key: u64) -> Option<usize> {
-        let number = self.guess(key);
-        if number == NOWHERE {
-            None
-        } else {
-            Some(number)
-        }
+        found(self.guess(key))
     }
 
-    /// What may be the number of a key, or [`NOWHERE`]. Nothing is decided by what is in memory, so the processor goes on
-    /// with the next lookup before that has come.
+    /// What may be the number of a key, or a number that is too large for an entry. Nothing is decided by what is in
+    /// memory, so the processor goes on with the next lookup before that has come.
     #[inline(always)]
     pub(crate) fn guess(&self, key: u64) -> usize {
         let place = self.place(key);
-        self.number_at(place, key) & self.number_at(place ^ 1, key)
+        let (one, two) = (self.own(place, key), self.own(place ^ 1, key));
+        let (three, four) = (self.own(place ^ 2, key), self.own(place ^ 3, key));
+        one.min(two).min(three.min(four)) as usize
     }
 
-    /// The number at a place, if the entry there has the key's tag, or [`NOWHERE`].
+    /// The number at an index, if the entry there has the key's tag, or else a number that is too large for an entry.
     #[inline(always)]
-    fn number_at(&self, place: usize, key: u64) -> usize {
-        match self.places.get(place) {
-            Some(cached) => unless(cached.tag != tag(key), cached.number as usize),
-            None => NOWHERE,
+    fn own(&self, place: usize, key: u64) -> u32 {
+        match self.entries.get(place) {
+            Some(entry) => *entry ^ tag(key),
+            None => u32::MAX,
         }
     }
 
-    /// Stores the number of a key at its place. The entry of another key there goes to the other place of the set.
+    /// Stores the number of a key at its place, if an entry can have it. The entry that was there goes to the next place of
+    /// the set, and so on, and the oldest one is dropped.
     pub(crate) fn note(&mut self, key: u64, number: usize) {
-        let place = self.place(key);
-        let Some(own) = self.places.get_mut(place) else {
-            return;
+        let number = match u32::try_from(number) {
+            Ok(number) if number < MOST => number,
+            _ => return,
         };
-        let before = *own;
-        own.tag = tag(key);
-        own.number = u32::try_from(number).unwrap_or(0);
-        if before.tag == tag(key) {
-            return;
-        }
-        if let Some(other) = self.places.get_mut(place ^ 1) {
-            *other = before;
+        let place = self.place(key);
+        let mut moved = tag(key) | number;
+        for step in 0..SET {
+            let Some(entry) = self.entries.get_mut(place ^ step) else {
+                return;
+            };
+            let before = *entry;
+            *entry = moved;
+            if before == 0 || (before ^ tag(key)) < MOST {
+                return;
+            }
+            moved = before;
         }
     }
 
@@ -88,28 +91,39 @@ impl LookupCache {
     /// Enlarges the cache if it has fewer than two entries for each of this many keys. Out of memory leaves it as it is:
     /// there are more misses then.
     pub(crate) fn reserve(&mut self, keys: usize) {
-        if keys > self.places.len() / 2 {
+        if keys > self.entries.len() / 2 {
             let _ = self.grow();
         }
     }
 
     fn grow(&mut self) -> Result<(), AllocError> {
-        if self.places.is_empty() {
-            self.places.resize(LEAST, CachedSlot { tag: 0, number: 0 })
+        if self.entries.is_empty() {
+            self.entries.resize(LEAST, 0)
         } else {
-            self.places.extend_from_within(..)
+            self.entries.extend_from_within(..)
         }
     }
 
-    /// The index of a key's entry. In a cache of twice the length it is the same, or higher by the old length.
+    /// The index of a key's newest entry, by the bits of its hash above the lower 32. In a cache of twice the length it is
+    /// the same, or higher by the old length.
     fn place(&self, key: u64) -> usize {
-        let spread = key.wrapping_mul(SPREAD) >> 32;
-        spread as usize & self.places.len().wrapping_sub(1)
+        let spread = spread(key) >> 32;
+        spread as usize & self.entries.len().wrapping_sub(1)
     }
 }
 
 /// The number of nothing.
 pub(crate) const NOWHERE: usize = usize::MAX;
+
+/// A number that was guessed, unless it is too large for an entry.
+#[inline(always)]
+pub(crate) fn found(number: usize) -> Option<usize> {
+    if number < MOST as usize {
+        Some(number)
+    } else {
+        None
+    }
+}
 
 /// [`NOWHERE`] if the test holds, else the number, without a branch.
 #[inline(always)]
@@ -118,7 +132,14 @@ pub(crate) fn unless(holds: bool, number: usize) -> usize {
     number | mask.wrapping_sub(usize::from(holds))
 }
 
-/// The exclusive or of the upper and the lower half of a key.
+/// A hash of a key, whose upper bits depend on all of its bits.
+#[inline(always)]
+fn spread(key: u64) -> u64 {
+    key.wrapping_mul(SPREAD)
+}
+
+/// The tag of a key, where an entry has it: the upper eight bits of its hash, of which its place has others.
+#[inline(always)]
 fn tag(key: u64) -> u32 {
-    (key >> 32) as u32 ^ (key & 0xffff_ffff) as u32
+    (spread(key) >> 32) as u32 / MOST * MOST
 }

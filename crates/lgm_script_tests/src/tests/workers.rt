@@ -134,8 +134,9 @@ fn questions_side_by_side(rt: HostRuntime) -> Result<(), Fail> {
     assert_side_by_side(&rt, alloc, query.as_bytes(), reply.as_bytes())
 }
 
-/// More announcements than are taken together: a group of 1,024, in two pieces and one more for each 128 KiB of its
-/// text, at most one a worker, and a group of one.
+/// More announcements than are taken together. One worker takes what 288 KiB of their text hold, so there are four
+/// groups of some 900 KiB. Several take 1,024, in two pieces and one more for each 128 KiB of their text, at most one a
+/// worker, and then the last one.
 #[test]
 fn more_items_than_a_group_has(rt: HostRuntime) -> Result<(), Fail> {
     let alloc = rt.alloc();
@@ -146,11 +147,11 @@ fn more_items_than_a_group_has(rt: HostRuntime) -> Result<(), Fail> {
         script.push_str(spelled(alloc, &item)?.as_str())?;
         want.push_str(format!(in alloc; "{line} accepted\n")?.as_str())?;
     }
-    for (workers, pieces) in [(1usize, 1usize), (2, 2), (3, 3), (64, 8)] {
+    for (workers, groups, pieces) in [(1usize, 4u64, 1usize), (2, 2, 2), (3, 2, 3), (64, 2, 8)] {
         let gate = counter(255);
         let text = answered(&rt, alloc, script.as_bytes(), workers, &gate)?;
         assert_eq!(rt; text.as_slice(), want.as_bytes(), "by {workers} workers");
-        assert_eq!(rt; gate.of_piece(0), 2, "by {workers} workers");
+        assert_eq!(rt; gate.of_piece(0), groups, "by {workers} workers");
         for piece in 1usize..8 {
             let passes = u64::from(piece < pieces);
             assert_eq!(rt; gate.of_piece(piece), passes, "by {workers} workers");

@@ -13,6 +13,7 @@ ghost use Rattle.lgm_store.specs.inner.Start.{start_after, IsEndBefore};
 
 use super::Map;
 use crate::channel_info::ChannelInfo;
+use crate::channel_table::TOGETHER;
 use crate::iter::{Channels, ChannelsBetween, Nodes};
 use crate::shared::found;
 use lgm_check::{ChannelRow, NodeRow, StoredNode, UpdateRow};
@@ -47,12 +48,12 @@ impl Map {
         self.channels.get(scid)
     }
 
-    /// Reads the rows of a channel, so that the processor's cache has them.
+    /// Reads the rows of the first [`TOGETHER`] of these channels, so that the processor's cache has them.
     ///
     /// Looks at the memory that don't depend on each other wait for it together. So a caller that reads many channels
     /// calls this for some of them before it reads the first.
-    pub fn prefetch_rows(&self, scid: Scid) {
-        self.channels.touch(scid);
+    pub fn prefetch_rows(&self, scids: &[Scid]) {
+        self.channels.touch(scids);
     }
 
     /// The row of a channel, if it is in the map.

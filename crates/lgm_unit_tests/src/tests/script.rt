@@ -93,7 +93,7 @@ fn joined(alloc: Global, text: &[u8], most: usize) -> Result<Vec<u8>, Fail> {
     let mut sink = Forgetful {};
     let mut buffered = Vec::new(alloc);
     let mut output = Output::new(&mut buffered, &mut sink);
-    let mut reader = LineReader::new(alloc)?;
+    let mut reader = LineReader::new(alloc, 2 * MAX_LINE)?;
     let mut joined = Vec::new(alloc);
     for _ in 0..10 {
         let Ok(Some(count)) = next_line(&mut reader, &mut source, &mut output) else {
@@ -126,7 +126,7 @@ fn first_length(alloc: Global, text: &[u8]) -> Result<Result<Option<usize>, Line
     let mut sink = Forgetful {};
     let mut buffered = Vec::new(alloc);
     let mut output = Output::new(&mut buffered, &mut sink);
-    let mut reader = LineReader::new(alloc)?;
+    let mut reader = LineReader::new(alloc, 2 * MAX_LINE)?;
     Ok(next_line(&mut reader, &mut source, &mut output))
 }
 
@@ -157,7 +157,7 @@ fn lines_before(alloc: Global, reads: usize) -> Result<(u8, Option<LineFault>), 
     let mut sink = Forgetful {};
     let mut buffered = Vec::new(alloc);
     let mut output = Output::new(&mut buffered, &mut sink);
-    let mut reader = LineReader::new(alloc)?;
+    let mut reader = LineReader::new(alloc, 2 * MAX_LINE)?;
     for lines in 0..4u8 {
         match next_line(&mut reader, &mut source, &mut output) {
             Ok(Some(count)) => {
