@@ -14,7 +14,7 @@ ghost use Rattle.lgm_run.specs.inner.Steps.{state_alone, text_alone, state_from,
 use crate::checked_item::{CheckedItem, check_lines};
 use crate::context::Context;
 use crate::engine::Engine;
-use crate::lookahead::Lookahead;
+use crate::lookahead::{hint_of, lookahead};
 use lgm_answers::{Answer, MAX_LINES, outcome_word};
 use lgm_check::Refusal;
 use lgm_par::Gate;
@@ -86,11 +86,12 @@ fn answer_items<Rt: Threads + Sync, G: Gate, W: Sink>(
         (text_from context.now.chain first engine.old (asked_in lines.now)) result }
 {
     let all = check_lines(context, lines)?;
-    let mut ahead = Lookahead::of(context.pool.alloc, &all)?;
+    let mut ahead = lookahead(context.pool.alloc, &all)?;
     let mut number = first;
     for item in all {
-        let hint = ahead.next(engine.growing());
-        answer_item(context.pool.alloc, number, item?, hint, engine, output)?;
+        let item = item?;
+        let hint = hint_of(&mut ahead, engine.growing(), &item);
+        answer_item(context.pool.alloc, number, item, hint, engine, output)?;
         number += 1;
     }
     Ok(())

@@ -6,7 +6,6 @@ ghost use Rattle.lgm_check.specs.Precheck.{checked_of};
 ghost use Rattle.lgm_check.specs.CheckedKind.{row_of, Fits};
 ghost use Rattle.lgm_store.specs.inner.CheckedMessage.{message_of};
 
-use crate::lookup::Lookup;
 use crate::shared::Shared;
 use lgm_check::{
     CheckedKind, Evidence, Refusal, StoredChannel, StoredNode, StoredUpdate, precheck_kind,
@@ -63,15 +62,6 @@ impl CheckedMessage {
         Ok(CheckedMessage {
             kind: keep(alloc, bytes, checked)?,
         })
-    }
-
-    /// What a map looks up to offer the message.
-    pub fn lookup(&self) -> Lookup {
-        match &self.kind {
-            Kind::Channel(row) => Lookup::of_channel(row.get()),
-            Kind::Update(row, _) => Lookup::of_update(row.get()),
-            Kind::Node(row) => Lookup::of_node(row.get()),
-        }
     }
 }
 

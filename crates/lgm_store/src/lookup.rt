@@ -1,26 +1,41 @@
-//! Looking up messages before they are offered.
+//! What is looked up of messages before they are offered, copied from them, so that the messages aren't read for that.
 
 use crate::lookup_cache::{NOWHERE, found};
 use lgm_check::{StoredChannel, StoredNode, StoredUpdate};
 use lgm_gossip::{Point, Scid};
 
-/// What a map looks up to offer a message, copied from it, so that the message isn't read for that.
+/// The channel of an update, and where it may be stored.
 #[derive(Clone, Copy, Debug)]
-pub enum Lookup {
-    /// Nothing.
-    None,
-    /// The channel of an update, and whether its direction is from node 2.
-    Update(Scid, bool),
-    /// A new channel and its two nodes.
-    Channel(Scid, NodeKey, NodeKey),
-    /// The node of a node announcement.
-    Node(NodeKey),
+pub(crate) struct UpdateLookup {
+    pub(crate) scid: Scid,
+    /// Whether the update's direction is from node 2.
+    pub(crate) second: bool,
+    /// The number of the channel's slot, or one that is too large for a cache.
+    pub(crate) slot: usize,
+}
+
+/// A new channel with its two nodes, and where their lists of channels may be stored.
+#[derive(Clone, Copy, Debug)]
+pub(crate) struct ChannelLookup {
+    pub(crate) scid: Scid,
+    /// The number of the channel's slot, if it isn't new.
+    pub(crate) slot: usize,
+    pub(crate) first: NodeLookup,
+    pub(crate) second: NodeLookup,
+}
+
+/// A node, and where its list of channels may be stored.
+#[derive(Clone, Copy, Debug)]
+pub(crate) struct NodeLookup {
+    pub(crate) key: NodeKey,
+    /// The place of the list, or one that is too large.
+    pub(crate) place: usize,
 }
 
 /// What is compared of a point before it is compared: the first and the last eight bytes of its x coordinate. Two words,
 /// so that it is copied as such.
 #[derive(Clone, Copy, Debug)]
-pub struct NodeKey {
+pub(crate) struct NodeKey {
     pub(crate) front: u64,
     back: u64,
 }
@@ -42,45 +57,61 @@ impl NodeKey {
     }
 }
 
-impl Lookup {
-    pub(crate) fn of_update(row: &StoredUpdate) -> Lookup {
-        Lookup::Update(row.scid(), row.is_second())
+impl UpdateLookup {
+    pub(crate) fn of(row: &StoredUpdate) -> UpdateLookup {
+        UpdateLookup {
+            scid: row.scid(),
+            second: row.is_second(),
+            slot: NOWHERE,
+        }
     }
 
-    pub(crate) fn of_channel(row: &StoredChannel) -> Lookup {
-        let (first, second) = (row.node(false), row.node(true));
-        Lookup::Channel(row.scid(), NodeKey::of(&first), NodeKey::of(&second))
-    }
-
-    pub(crate) fn of_node(row: &StoredNode) -> Lookup {
-        Lookup::Node(NodeKey::of(&row.node()))
+    /// Where the channel may be stored, after it was looked up.
+    pub(crate) fn hint(&self) -> Hint {
+        Hint { slot: self.slot }
     }
 }
 
-/// Where a message's channel and nodes may be stored, by [`Map::locate`](crate::Map::locate). It may be wrong: what is
-/// found there is compared, and no answer depends on it.
+impl ChannelLookup {
+    pub(crate) fn of(row: &StoredChannel) -> ChannelLookup {
+        ChannelLookup {
+            scid: row.scid(),
+            slot: NOWHERE,
+            first: NodeLookup::at(&row.node(false)),
+            second: NodeLookup::at(&row.node(true)),
+        }
+    }
+}
+
+impl NodeLookup {
+    pub(crate) fn of(row: &StoredNode) -> NodeLookup {
+        NodeLookup::at(&row.node())
+    }
+
+    fn at(point: &Point) -> NodeLookup {
+        NodeLookup {
+            key: NodeKey::of(point),
+            place: NOWHERE,
+        }
+    }
+}
+
+/// Where the channel of an update may be stored. It may be wrong: what is found there is compared, and no answer depends
+/// on it.
 #[derive(Clone, Copy, Debug)]
 pub struct Hint {
     /// The number of the channel's slot, or one that is too large for a cache.
-    pub(crate) channel: usize,
-    /// The place of the first node's list of channels, or one that is too large.
-    pub(crate) first: usize,
-    /// The place of the second node's list, or one that is too large.
-    pub(crate) second: usize,
+    slot: usize,
 }
 
 impl Hint {
     /// No place.
     pub fn none() -> Hint {
-        Hint {
-            channel: NOWHERE,
-            first: NOWHERE,
-            second: NOWHERE,
-        }
+        Hint { slot: NOWHERE }
     }
 
     /// The number of the channel's slot, if there is a guess.
     pub(crate) fn slot(self) -> Option<usize> {
-        found(self.channel)
+        found(self.slot)
     }
 }

@@ -3,34 +3,34 @@
 
 use std::alloc::{AllocError, Global};
 
-/// The number of entries of the smallest cache. It grows by doubling.
-const LEAST: usize = 1024;
+/// The number of sets of the smallest cache. It grows by doubling.
+const LEAST: usize = 256;
 
 /// The multiplier of the hash, which spreads keys: 2^64 divided by the golden ratio, an odd number.
 const SPREAD: u64 = 0x9e37_79b9_7f4a_7c15;
 
-/// The numbers of some keys, of eight bytes each: a cache of sets of four entries, which are beside each other in memory.
+/// The number of entries of a set.
+const SET: usize = 4;
+
+/// The numbers that an entry can have are below this.
+const MOST: u32 = 1 << 24;
+
+/// The numbers of some keys, of eight bytes each: a cache of sets of four entries, the newest first.
 ///
 /// An entry may be wrong, since two keys may have the same set and the same tag, and entries of removed keys stay. So a
 /// caller checks what has the number. No contract depends on the cache.
 #[derive(Clone, Drop)]
 pub(crate) struct LookupCache {
-    /// Each has a number below [`MOST`], and above it a tag of eight bits, which distinguishes a key from most others with
-    /// the same set.
-    entries: Vec<u32>,
+    /// An entry has a number below [`MOST`], and above it a tag of eight bits, which distinguishes a key from most others
+    /// with the same set.
+    sets: Vec<[u32; SET]>,
 }
-
-/// The numbers that an entry can have are below this.
-const MOST: u32 = 1 << 24;
-
-/// The number of entries of a set, a power of two.
-const SET: usize = 4;
 
 impl LookupCache {
     /// An empty cache. Allocates nothing.
     pub(crate) fn new(alloc: Global) -> LookupCache {
         LookupCache {
-            entries: Vec::new(alloc),
+            sets: Vec::new(alloc),
         }
     }
 
@@ -44,34 +44,30 @@ impl LookupCache {
     /// memory, so the processor goes on with the next lookup before that has come.
     #[inline(always)]
     pub(crate) fn guess(&self, key: u64) -> usize {
-        let place = self.place(key);
-        let (one, two) = (self.own(place, key), self.own(place ^ 1, key));
-        let (three, four) = (self.own(place ^ 2, key), self.own(place ^ 3, key));
-        one.min(two).min(three.min(four)) as usize
-    }
-
-    /// The number at an index, if the entry there has the key's tag, or else a number that is too large for an entry.
-    #[inline(always)]
-    fn own(&self, place: usize, key: u64) -> u32 {
-        match self.entries.get(place) {
-            Some(entry) => *entry ^ tag(key),
-            None => u32::MAX,
+        let own = tag(key);
+        match self.sets.get(self.place(key)) {
+            // With its tag an entry is its number, with another it is too large.
+            Some([a, b, c, d]) => {
+                let (a, b, c, d) = (*a ^ own, *b ^ own, *c ^ own, *d ^ own);
+                a.min(b).min(c.min(d)) as usize
+            }
+            None => NOWHERE,
         }
     }
 
-    /// Stores the number of a key at its place, if an entry can have it. The entry that was there goes to the next place of
-    /// the set, and so on, and the oldest one is dropped.
+    /// Stores the number of a key, if an entry can have it. It becomes the first of its set, the others follow, and the
+    /// oldest one is dropped.
     pub(crate) fn note(&mut self, key: u64, number: usize) {
         let number = match u32::try_from(number) {
             Ok(number) if number < MOST => number,
             _ => return,
         };
         let place = self.place(key);
+        let Some(set) = self.sets.get_mut(place) else {
+            return;
+        };
         let mut moved = tag(key) | number;
-        for step in 0..SET {
-            let Some(entry) = self.entries.get_mut(place ^ step) else {
-                return;
-            };
+        for entry in set {
             let before = *entry;
             *entry = moved;
             if before == 0 || (before ^ tag(key)) < MOST {
@@ -91,24 +87,25 @@ impl LookupCache {
     /// Enlarges the cache if it has fewer than two entries for each of this many keys. Out of memory leaves it as it is:
     /// there are more misses then.
     pub(crate) fn reserve(&mut self, keys: usize) {
-        if keys > self.entries.len() / 2 {
+        if keys / (SET / 2) > self.sets.len() {
             let _ = self.grow();
         }
     }
 
     fn grow(&mut self) -> Result<(), AllocError> {
-        if self.entries.is_empty() {
-            self.entries.resize(LEAST, 0)
+        if self.sets.is_empty() {
+            self.sets.resize(LEAST, [0; SET])
         } else {
-            self.entries.extend_from_within(..)
+            self.sets.extend_from_within(..)
         }
     }
 
-    /// The index of a key's newest entry, by the bits of its hash above the lower 32. In a cache of twice the length it is
-    /// the same, or higher by the old length.
+    /// The index of a key's set, by the bits of its hash above the lower 32. In a cache of twice the length it is the
+    /// same, or higher by the old length.
+    #[inline(always)]
     fn place(&self, key: u64) -> usize {
         let spread = spread(key) >> 32;
-        spread as usize & self.entries.len().wrapping_sub(1)
+        spread as usize & self.sets.len().wrapping_sub(1)
     }
 }
 

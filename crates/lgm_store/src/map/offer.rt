@@ -8,7 +8,7 @@ ghost use Rattle.lgm_store.specs.History.{absorbed};
 
 use super::Map;
 use crate::checked_message::{CheckedMessage, Kind};
-use crate::lookup::{Hint, Lookup};
+use crate::lookup::Hint;
 use crate::op::Op;
 use crate::shared::Shared;
 use lgm_check::{Refusal, StoredChannel, StoredNode, StoredUpdate};
@@ -47,52 +47,6 @@ impl Map {
             Kind::Channel(row) => self.offer_channel(alloc, row),
             Kind::Update(row, signer) => self.offer_update(row, &signer, hint),
             Kind::Node(row) => self.offer_node(row),
-        }
-    }
-
-    /// Where the channel and the nodes of a message may be stored: the first of three looks.
-    ///
-    /// Looks at the memory that don't depend on each other wait for it together. So a caller that offers many messages
-    /// takes the first look for some of them, then the second for each, then the third, and then offers these.
-    #[inline(always)]
-    pub fn locate(&self, lookup: &Lookup) -> Hint {
-        let mut hint = Hint::none();
-        match *lookup {
-            Lookup::None => {}
-            Lookup::Update(scid, _) => hint.channel = self.channels.locate(scid),
-            Lookup::Channel(scid, first, second) => {
-                hint.channel = self.channels.locate(scid);
-                hint.first = self.ends.locate(first);
-                hint.second = self.ends.locate(second);
-            }
-            Lookup::Node(node) => hint.first = self.ends.locate(node),
-        }
-        hint
-    }
-
-    /// Reads what offering the message will read at these places: the second look. A place at which something else is
-    /// found is left out.
-    #[inline(always)]
-    pub fn prefetch(&self, lookup: &Lookup, hint: &mut Hint) {
-        match *lookup {
-            Lookup::None => {}
-            Lookup::Update(scid, second) => {
-                hint.channel = self.channels.prefetch(hint.channel, scid, second);
-            }
-            Lookup::Channel(_, first, second) => {
-                hint.first = self.ends.prefetch(hint.first, first);
-                hint.second = self.ends.prefetch(hint.second, second);
-            }
-            Lookup::Node(node) => hint.first = self.ends.prefetch(hint.first, node),
-        }
-    }
-
-    /// Reads what follows of it: the third look.
-    #[inline(always)]
-    pub fn prefetch_ids(&self, lookup: &Lookup, hint: &mut Hint) {
-        if let Lookup::Channel(scid, _, _) = *lookup {
-            hint.first = self.ends.prefetch_ids(hint.first, scid);
-            hint.second = self.ends.prefetch_ids(hint.second, scid);
         }
     }
 
