@@ -26,6 +26,18 @@ fn forget_first(due: &mut VecDeque<Op>)
     due.pop_front();
 }
 
+/// Removes all operations. The rows of some are read together, since each loses an owner.
+fn forget_all(due: &mut VecDeque<Op>) {
+    for place in 0..due.len() {
+        if place % TOGETHER == 0 {
+            for op in due.iter().take(TOGETHER) {
+                op.prefetch();
+            }
+        }
+        due.pop_front();
+    }
+}
+
 /// Reads the rows of the channels that the next operations update, once for each [`TOGETHER`] of them. No answer depends
 /// on it.
 fn read_ahead(map: &Map, due: &VecDeque<Op>) {
@@ -79,6 +91,7 @@ impl Replica {
         ensures stays { OnErr result (self.new ≡ self.old) }
     {
         let copy = current.copy(alloc)?;
+        forget_all(&mut self.due);
         *self = Replica::new(alloc, copy);
         Ok(())
     }

@@ -14,7 +14,7 @@ ghost use Rattle.lgm_graph.specs.Graph.{takes_at, edges_into, edges_leaving};
 mod affected_nodes;
 mod apply;
 mod build;
-mod lookup_cache;
+mod number_cache;
 
 use crate::edge::Edge;
 use crate::known::Known;

@@ -154,6 +154,11 @@ impl ChannelInfo {
         }
     }
 
+    /// The last bytes that an iteration reads here, put together.
+    pub(crate) fn look(&self) -> u32 {
+        self.first.time ^ self.second.time
+    }
+
     /// Reads the beginning of each row, so that the processor's cache has it.
     pub(crate) fn touch(&self) {
         self.row.touch();
@@ -259,6 +264,8 @@ impl Clone for ChannelInfo {
     ghost is_clone = { λ stored copy. copy ≡ stored };
 
     fn clone(&self) -> Result<ChannelInfo, AllocError> {
+        // Each row gets one owner more, one after the other, so they are read together first.
+        self.touch();
         Ok(ChannelInfo {
             scid: self.scid,
             row: self.row.share()?,

@@ -62,7 +62,7 @@ impl ChannelsByNode {
     /// The place that the cache has for a node's list, or one that is too large.
     #[inline(always)]
     pub(crate) fn locate(&self, key: NodeKey) -> usize {
-        self.cache.guess(key.front)
+        self.cache.guess(key.front())
     }
 
     /// The place, unless it is hardly that of the node's list. The point and where its ids are is then in the processor's
@@ -167,7 +167,7 @@ impl ChannelsByNode {
 
 /// What a point is cached by: the first eight bytes of its x coordinate.
 fn key_of(point: &Point) -> u64 {
-    NodeKey::of(point).front
+    NodeKey::of(point).front()
 }
 
 /// The place of a point's list, if it has one: the guess if the point is there, else the hash table's.

@@ -1,6 +1,6 @@
 //! Iterators over a map.
 
-ghost use Rattle.std.specs.Prelude.{◌≡◌, filter};
+ghost use Rattle.std.specs.Prelude.{◌≡◌, ◌++◌, [], filter};
 ghost use Rattle.std.specs.Map.{values_of};
 ghost use Rattle.std.specs.Iterator.{YieldsFirstRef, item_count};
 ghost use Rattle.lgm_store.specs.Reading.{is_between};
@@ -8,34 +8,47 @@ ghost use Rattle.lgm_store.specs.inner.ChannelTable.{entries_in, id_in, HaveOwn}
 
 use crate::channel_info::ChannelInfo;
 use crate::channel_table::TOGETHER;
-use crate::map::Map;
 use crate::shared::Shared;
+use arrayvec::ArrayVec;
 use lgm_check::StoredNode;
 use lgm_gossip::{Point, Scid};
 use slab::Slab;
 use std::collections::btree_map::Range;
 use std::marker::Model;
 
+/// The ids of some channels, and their slot numbers.
+type Numbers = ArrayVec<(u64, usize), TOGETHER>;
+
 /// An iterator over the channels of a map with their updates, by id. Contracts see the list of those still to come.
 ///
-/// A step needs no search, and allocates nothing.
+/// A step needs no search, and allocates nothing. The slots of some channels are read together, since looks at the memory
+/// that don't depend on each other wait for it together.
 #[derive(Drop)]
 pub struct Channels<'a> {
+    /// The next channels, whose slots were read.
+    ahead: Numbers,
+    /// The index of the next of these.
+    place: usize,
+    /// The channels behind these.
     numbers: Range<'a, Scid, usize>,
     slots: &'a Slab<ChannelInfo>,
+    /// Whether the beginning of each row is read too.
+    rows: bool,
+    /// What was read of the slots. It is kept, since what nobody keeps isn't read. No contract depends on it.
+    seen: u32,
 }
 
 impl<'a> Model for Channels<'a> {
-    ghost use Rattle.std.specs.Prelude.{List};
+    ghost use Rattle.std.specs.Prelude.{List, ◌++◌, drop};
     ghost use Rattle.std.specs.Map.{values_of};
     ghost use Rattle.lgm_store.specs.declared.channel_info.ChannelInfo.{ChannelInfo};
     ghost use Rattle.lgm_store.specs.inner.ChannelTable.{entries_in, HaveOwn};
 
     ghost Value = { List ChannelInfo };
 
-    ghost view = { λ c. values_of (entries_in c.slots.now.slots c.numbers) };
+    ghost view = { λ c. values_of (entries_in c.slots.now.slots (drop c.place c.ahead.items ++ c.numbers)) };
 
-    ghost invariant = { λ c. HaveOwn c.slots.now.slots c.numbers };
+    ghost invariant = { λ c. HaveOwn c.slots.now.slots (drop c.place c.ahead.items ++ c.numbers) };
 }
 
 impl<'a> Channels<'a> {
@@ -44,7 +57,23 @@ impl<'a> Channels<'a> {
         requires { HaveOwn slots.now.slots numbers }
         ensures { result ≡ values_of (entries_in slots.now.slots numbers.entry) }
     {
-        Channels { numbers, slots }
+        Channels {
+            ahead: ArrayVec::new(),
+            place: 0,
+            numbers,
+            slots,
+            rows: false,
+            seen: 0,
+        }
+    }
+
+    /// The same, for a caller that reads the rows of all of them: these are read together too.
+    pub fn reading_rows(self) -> Channels<'a>
+        ensures { result ≡ self.entry }
+    {
+        let mut channels = self;
+        channels.rows = true;
+        channels
     }
 }
 
@@ -56,49 +85,53 @@ impl<'a> Iterator for Channels<'a> {
     ghost remaining = { item_count (λ left. left) };
 
     fn next(&mut self) -> Option<&'a ChannelInfo> {
-        let (_, number) = self.numbers.next()?;
-        Some(&self.slots[*number])
+        if self.place >= self.ahead.len() {
+            self.ahead = next_numbers(&mut self.numbers);
+            self.place = 0;
+            self.seen = read_slots(self.slots, &self.ahead, self.rows);
+        }
+        let (_, number) = *self.ahead.get(self.place)?;
+        self.place += 1;
+        Some(&self.slots[number])
     }
 }
 
-/// An iteration over the channels of a map that runs ahead of another one, and reads their rows, so that the processor's
-/// cache has them when the other one is there. No contract depends on it.
-///
-/// Looks at the memory that don't depend on each other wait for it together. So the rows of some channels are read one
-/// after the other, and then nothing for as many steps.
-#[derive(Drop)]
-pub struct ReadAhead<'a> {
-    channels: Channels<'a>,
-    /// The number of channels that were read ahead.
-    left: usize,
+/// The next channels, at most [`TOGETHER`].
+fn next_numbers(numbers: &mut Range<'_, Scid, usize>) -> Numbers
+    ensures all { numbers.old ≡ result.items ++ numbers.new }
+    ensures none { result.items ≡ [] → numbers.new ≡ [] }
+{
+    let mut ahead = ArrayVec::new();
+    while !ahead.is_full() {
+        let Some((scid, number)) = numbers.next() else {
+            return ahead;
+        };
+        ahead.push((scid.to_u64(), *number));
+    }
+    ahead
 }
 
-impl<'a> ReadAhead<'a> {
-    /// Ahead of an iteration over all channels.
-    pub fn of(map: &'a Map) -> ReadAhead<'a> {
-        ReadAhead {
-            channels: map.channels(),
-            left: 0,
+/// Reads what an iteration reads of these slots, and then the beginning of each row if rows are read.
+#[inline(never)]
+fn read_slots(slots: &Slab<ChannelInfo>, ahead: &Numbers, rows: bool) -> u32 {
+    let mut seen = 0;
+    for (_, number) in ahead.as_slice() {
+        if let Some(stored) = slots.get(*number) {
+            seen ^= stored.look();
         }
     }
-
-    /// Goes one channel on.
-    pub fn step(&mut self) {
-        if self.left == 0 {
-            self.read();
-        }
-        self.left = self.left.wrapping_sub(1);
+    if rows {
+        read_rows(slots, ahead);
     }
+    seen
+}
 
-    /// Reads the rows of the next channels.
-    fn read(&mut self) {
-        for _channel in 0..TOGETHER {
-            let Some(stored) = self.channels.next() else {
-                break;
-            };
+/// Reads the beginning of each row of these slots.
+fn read_rows(slots: &Slab<ChannelInfo>, ahead: &Numbers) {
+    for (_, number) in ahead.as_slice() {
+        if let Some(stored) = slots.get(*number) {
             stored.touch();
         }
-        self.left = TOGETHER;
     }
 }
 

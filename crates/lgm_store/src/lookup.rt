@@ -35,19 +35,24 @@ pub(crate) struct NodeLookup {
 /// What is compared of a point before it is compared: the first and the last eight bytes of its x coordinate. Two words,
 /// so that it is copied as such.
 #[derive(Clone, Copy, Debug)]
-pub(crate) struct NodeKey {
-    pub(crate) front: u64,
+pub struct NodeKey {
+    front: u64,
     back: u64,
 }
 
 impl NodeKey {
     /// The key of a point.
-    pub(crate) fn of(point: &Point) -> NodeKey {
+    pub fn of(point: &Point) -> NodeKey {
         let [_, a, b, c, d, e, f, g, h, .., i, j, k, l, m, n, o, p] = point.0;
         NodeKey {
             front: u64::from_be_bytes([a, b, c, d, e, f, g, h]),
             back: u64::from_be_bytes([i, j, k, l, m, n, o, p]),
         }
+    }
+
+    /// The first eight bytes, as a number, by which a point is cached.
+    pub fn front(self) -> u64 {
+        self.front
     }
 
     /// Whether the point has this key, by what is first and what is last of it in memory.

@@ -1,5 +1,5 @@
-//! A cache in front of the B-tree of a [`ChannelTable`](crate::channel_table::ChannelTable), and of the hash table of
-//! [`ChannelsByNode`](crate::channels_by_node::ChannelsByNode).
+//! A cache in front of the B-tree of a [`ChannelTable`](crate::channel_table::ChannelTable), of the hash table of
+//! [`ChannelsByNode`](crate::channels_by_node::ChannelsByNode), and of the numbers of a view's nodes.
 
 use std::alloc::{AllocError, Global};
 
@@ -20,7 +20,7 @@ const MOST: u32 = 1 << 24;
 /// An entry may be wrong, since two keys may have the same set and the same tag, and entries of removed keys stay. So a
 /// caller checks what has the number. No contract depends on the cache.
 #[derive(Clone, Drop)]
-pub(crate) struct LookupCache {
+pub struct LookupCache {
     /// An entry has a number below [`MOST`], and above it a tag of eight bits, which distinguishes a key from most others
     /// with the same set.
     sets: Vec<[u32; SET]>,
@@ -28,7 +28,7 @@ pub(crate) struct LookupCache {
 
 impl LookupCache {
     /// An empty cache. Allocates nothing.
-    pub(crate) fn new(alloc: Global) -> LookupCache {
+    pub fn new(alloc: Global) -> LookupCache {
         LookupCache {
             sets: Vec::new(alloc),
         }
@@ -36,7 +36,7 @@ impl LookupCache {
 
     /// What may be the number of a key, if an entry of its set has its tag.
     #[inline(always)]
-    pub(crate) fn cached(&self, key: u64) -> Option<usize> {
+    pub fn cached(&self, key: u64) -> Option<usize> {
         found(self.guess(key))
     }
 
@@ -57,7 +57,7 @@ impl LookupCache {
 
     /// Stores the number of a key, if an entry can have it. It becomes the first of its set, the others follow, and the
     /// oldest one is dropped.
-    pub(crate) fn note(&mut self, key: u64, number: usize) {
+    pub fn note(&mut self, key: u64, number: usize) {
         let number = match u32::try_from(number) {
             Ok(number) if number < MOST => number,
             _ => return,
@@ -86,7 +86,7 @@ impl LookupCache {
 
     /// Enlarges the cache if it has fewer than two entries for each of this many keys. Out of memory leaves it as it is:
     /// there are more misses then.
-    pub(crate) fn reserve(&mut self, keys: usize) {
+    pub fn reserve(&mut self, keys: usize) {
         if keys / (SET / 2) > self.sets.len() {
             let _ = self.grow();
         }

@@ -35,4 +35,16 @@ impl Op {
             Op::Ban(ban) => Ok(Op::Ban(ban.share()?)),
         }
     }
+
+    /// Reads the beginning of the row, so that the processor's cache has it. Looks at the memory that don't depend on each
+    /// other wait for it together, so a caller that drops many operations calls this for some of them first.
+    pub fn prefetch(&self) {
+        match self {
+            Op::Channel(row) => row.touch(),
+            Op::Update(row) => row.touch(),
+            Op::Node(row) => row.touch(),
+            Op::Close(_) => {}
+            Op::Ban(ban) => ban.touch(),
+        }
+    }
 }

@@ -11,13 +11,13 @@ ghost use Rattle.lgm_graph.specs.Graph.{IsGraphOf, IsNumbered, numbered_as, numb
 ghost use Rattle.lgm_graph.specs.inner.Sound.{AreLookedAt, ShowsIn};
 ghost use Rattle.lgm_graph.specs.inner.Walk.{AreEdgesOf, HasNumbered, KeepsNumbers, edges_of_channel};
 
-use super::lookup_cache::LookupCache;
+use super::number_cache::NumberCache;
 use super::{MAX_CHANNELS, View};
 use crate::edge::{Edge, edge_on};
 use crate::known::Known;
 use crate::nodes::{Nodes, takes_payments};
 use lgm_gossip::Point;
-use lgm_store::{ChannelInfo, Map, ReadAhead};
+use lgm_store::{ChannelInfo, Map};
 use std::alloc::{AllocError, Global};
 
 impl View {
@@ -30,11 +30,9 @@ impl View {
     {
         map.rows_are_lawful();
         let mut nodes = Nodes::new(alloc, map.seed());
-        let mut cache = LookupCache::new(alloc, map.count())?;
+        let mut cache = NumberCache::new(alloc);
         let mut edges = Vec::with_capacity(alloc, map.count())?;
-        let mut ahead = ReadAhead::of(map);
-        for stored in map.channels() {
-            ahead.step();
+        for stored in map.channels().reading_rows() {
             add_channel(
                 alloc, &mut nodes, &mut cache, &mut edges, known, map, stored,
             )?;
@@ -53,7 +51,7 @@ impl View {
 fn add_channel(
     alloc: Global,
     nodes: &mut Nodes,
-    cache: &mut LookupCache,
+    cache: &mut NumberCache,
     edges: &mut Vec<Edge>,
     known: &Known,
     map: &Map,
@@ -84,7 +82,7 @@ fn add_channel(
 fn number_end(
     alloc: Global,
     nodes: &mut Nodes,
-    cache: &mut LookupCache,
+    cache: &mut NumberCache,
     known: &Known,
     map: &Map,
     point: Point,
@@ -96,7 +94,7 @@ fn number_end(
         return Ok(number);
     }
     let number = number(alloc, nodes, known, map, point)?;
-    cache.note(&point, number);
+    cache.note(&point, number, nodes.points.len());
     Ok(number)
 }
 
