@@ -1,6 +1,6 @@
 //! Iterators over a map.
 
-ghost use Rattle.std.specs.Prelude.{◌≡◌, ◌++◌, [], filter};
+ghost use Rattle.std.specs.Prelude.{◌≡◌, ◌++◌, filter};
 ghost use Rattle.std.specs.Map.{values_of};
 ghost use Rattle.std.specs.Iterator.{YieldsFirstRef, item_count};
 ghost use Rattle.lgm_store.specs.Reading.{is_between};
@@ -84,31 +84,32 @@ impl<'a> Iterator for Channels<'a> {
 
     ghost remaining = { item_count (λ left. left) };
 
+    #[inline(always)]
     fn next(&mut self) -> Option<&'a ChannelInfo> {
-        if self.place >= self.ahead.len() {
-            self.ahead = next_numbers(&mut self.numbers);
-            self.place = 0;
-            self.seen = read_slots(self.slots, &self.ahead, self.rows);
+        if let Some((_, number)) = self.ahead.get(self.place).copied() {
+            self.place += 1;
+            return Some(&self.slots[number]);
         }
-        let (_, number) = *self.ahead.get(self.place)?;
-        self.place += 1;
-        Some(&self.slots[number])
+        let (_, number) = self.numbers.next()?;
+        take_next(&mut self.ahead, &mut self.numbers);
+        self.place = 0;
+        self.seen = read_slots(self.slots, &self.ahead, self.rows);
+        Some(&self.slots[*number])
     }
 }
 
-/// The next channels, at most [`TOGETHER`].
-fn next_numbers(numbers: &mut Range<'_, Scid, usize>) -> Numbers
-    ensures all { numbers.old ≡ result.items ++ numbers.new }
-    ensures none { result.items ≡ [] → numbers.new ≡ [] }
+/// Replaces these by the next ones, at most [`TOGETHER`].
+#[inline(never)]
+fn take_next(ahead: &mut Numbers, numbers: &mut Range<'_, Scid, usize>)
+    ensures { numbers.old ≡ ahead.new.items ++ numbers.new }
 {
-    let mut ahead = ArrayVec::new();
+    ahead.clear();
     while !ahead.is_full() {
         let Some((scid, number)) = numbers.next() else {
-            return ahead;
+            return;
         };
         ahead.push((scid.to_u64(), *number));
     }
-    ahead
 }
 
 /// Reads what an iteration reads of these slots, and then the beginning of each row if rows are read.

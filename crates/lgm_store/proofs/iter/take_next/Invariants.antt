@@ -1,5 +1,5 @@
 use Rattle.std.proofs.Common.{◌≡◌, ◌++◌, length}
-use Rattle.lgm_store.proofs.iter.next_numbers.Given as goal
+use Rattle.lgm_store.proofs.iter.take_next.Given as goal
 
 -- nothing is lost
 abbrev pub invariant-loop-numbers : goal.invariant-loop-numbers
