@@ -16,16 +16,77 @@ use slab::Slab;
 use std::collections::btree_map::Range;
 use std::marker::Model;
 
+/// An iterator over the channels of a map with their updates, by id. Contracts see the list of those still to come.
+///
+/// A step needs no search, and allocates nothing.
+#[derive(Drop)]
+pub struct Channels<'a> {
+    numbers: Range<'a, Scid, usize>,
+    slots: &'a Slab<ChannelInfo>,
+}
+
+impl<'a> Model for Channels<'a> {
+    ghost use Rattle.std.specs.Prelude.{List};
+    ghost use Rattle.std.specs.Map.{values_of};
+    ghost use Rattle.lgm_store.specs.declared.channel_info.ChannelInfo.{ChannelInfo};
+    ghost use Rattle.lgm_store.specs.inner.ChannelTable.{entries_in, HaveOwn};
+
+    ghost Value = { List ChannelInfo };
+
+    ghost view = { λ c. values_of (entries_in c.slots.now.slots c.numbers) };
+
+    ghost invariant = { λ c. HaveOwn c.slots.now.slots c.numbers };
+}
+
+impl<'a> Channels<'a> {
+    /// The channels of these slots, each of which has the channel of its id.
+    pub(crate) fn new(numbers: Range<'a, Scid, usize>, slots: &'a Slab<ChannelInfo>) -> Channels<'a>
+        requires { HaveOwn slots.now.slots numbers }
+        ensures { result ≡ values_of (entries_in slots.now.slots numbers.entry) }
+    {
+        Channels { numbers, slots }
+    }
+
+    /// The same channels, of which some are read together: what is stored inline, and if `rows` the beginning of each row.
+    pub fn together(self, rows: bool) -> ChannelsTogether<'a>
+        ensures { result ≡ self.entry }
+    {
+        let Channels { numbers, slots } = self;
+        ChannelsTogether {
+            ahead: ArrayVec::new(),
+            place: 0,
+            numbers,
+            slots,
+            rows,
+            seen: 0,
+        }
+    }
+}
+
+impl<'a> Iterator for Channels<'a> {
+    type Item = &'a ChannelInfo;
+
+    ghost next_gives = { YieldsFirstRef (λ left. left) };
+
+    ghost remaining = { item_count (λ left. left) };
+
+    fn next(&mut self) -> Option<&'a ChannelInfo> {
+        let (_, number) = self.numbers.next()?;
+        Some(&self.slots[*number])
+    }
+}
+
 /// The ids of some channels, and their slot numbers.
 type Numbers = ArrayVec<(u64, usize), TOGETHER>;
 
-/// An iterator over the channels of a map with their updates, by id. Contracts see the list of those still to come.
+/// An iterator over the channels of a map, by id, for a caller that does little with each. Contracts see the list of those
+/// still to come.
 ///
-/// A step needs no search, and allocates nothing. The slots of some channels are read together, since looks at the memory
-/// that don't depend on each other wait for it together.
+/// Looks at the memory that don't depend on each other wait for it together. So some channels are read, one after the
+/// other, and then given one by one. A caller that does more has the processor read the next channels meanwhile.
 #[derive(Drop)]
-pub struct Channels<'a> {
-    /// The next channels, whose slots were read.
+pub struct ChannelsTogether<'a> {
+    /// The next channels, which were read.
     ahead: Numbers,
     /// The index of the next of these.
     place: usize,
@@ -38,7 +99,7 @@ pub struct Channels<'a> {
     seen: u32,
 }
 
-impl<'a> Model for Channels<'a> {
+impl<'a> Model for ChannelsTogether<'a> {
     ghost use Rattle.std.specs.Prelude.{List, ◌++◌, drop};
     ghost use Rattle.std.specs.Map.{values_of};
     ghost use Rattle.lgm_store.specs.declared.channel_info.ChannelInfo.{ChannelInfo};
@@ -51,33 +112,7 @@ impl<'a> Model for Channels<'a> {
     ghost invariant = { λ c. HaveOwn c.slots.now.slots (drop c.place c.ahead.items ++ c.numbers) };
 }
 
-impl<'a> Channels<'a> {
-    /// The channels of these slots, each of which has the channel of its id.
-    pub(crate) fn new(numbers: Range<'a, Scid, usize>, slots: &'a Slab<ChannelInfo>) -> Channels<'a>
-        requires { HaveOwn slots.now.slots numbers }
-        ensures { result ≡ values_of (entries_in slots.now.slots numbers.entry) }
-    {
-        Channels {
-            ahead: ArrayVec::new(),
-            place: 0,
-            numbers,
-            slots,
-            rows: false,
-            seen: 0,
-        }
-    }
-
-    /// The same, for a caller that reads the rows of all of them: these are read together too.
-    pub fn reading_rows(self) -> Channels<'a>
-        ensures { result ≡ self.entry }
-    {
-        let mut channels = self;
-        channels.rows = true;
-        channels
-    }
-}
-
-impl<'a> Iterator for Channels<'a> {
+impl<'a> Iterator for ChannelsTogether<'a> {
     type Item = &'a ChannelInfo;
 
     ghost next_gives = { YieldsFirstRef (λ left. left) };
@@ -143,7 +178,7 @@ fn read_rows(slots: &Slab<ChannelInfo>, ahead: &Numbers) {
 #[derive(Drop)]
 pub struct ChannelsBetween<'a> {
     /// The channels still to come; those of other blocks are skipped.
-    channels: Channels<'a>,
+    channels: ChannelsTogether<'a>,
     from: u64,
     to: u64,
 }
@@ -163,7 +198,11 @@ impl<'a> ChannelsBetween<'a> {
     pub(crate) fn new(channels: Channels<'a>, from: u64, to: u64) -> ChannelsBetween<'a>
         ensures { result ≡ filter (λ stored. is_between (id_in stored) from to) channels.entry }
     {
-        ChannelsBetween { channels, from, to }
+        ChannelsBetween {
+            channels: channels.together(false),
+            from,
+            to,
+        }
     }
 }
 

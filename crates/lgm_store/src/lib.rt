@@ -28,7 +28,7 @@ mod shared;
 pub use channel_info::ChannelInfo;
 pub use channel_table::TOGETHER;
 pub use checked_message::CheckedMessage;
-pub use iter::{Channels, ChannelsBetween, Nodes};
+pub use iter::{Channels, ChannelsBetween, ChannelsTogether, Nodes};
 pub use laws::{histories_are_lawful, rows_ascend};
 pub use lookahead::Lookahead;
 pub use lookup::{Hint, NodeKey};

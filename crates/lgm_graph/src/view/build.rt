@@ -32,7 +32,7 @@ impl View {
         let mut nodes = Nodes::new(alloc, map.seed());
         let mut cache = NumberCache::new(alloc);
         let mut edges = Vec::with_capacity(alloc, map.count())?;
-        for stored in map.channels().reading_rows() {
+        for stored in map.channels().together(true) {
             add_channel(
                 alloc, &mut nodes, &mut cache, &mut edges, known, map, stored,
             )?;
