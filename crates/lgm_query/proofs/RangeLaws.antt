@@ -11,11 +11,11 @@ use Rattle.lgm_gossip.specs.declared.range_query.RangeQuery.{RangeQuery}
 use Rattle.lgm_gossip.specs.declared.timestamps.Timestamps.{Timestamps}
 use Rattle.lgm_gossip.specs.RangeReply.{ReplyFields}
 use Rattle.lgm_check.specs.declared.row.ChannelRow.{ChannelRow}
-use Rattle.lgm_store.specs.ChannelInfo.{stored_at}
+use Rattle.lgm_store.specs.ChannelInfo.{stored_at, timestamps_in}
 use Rattle.lgm_store.specs.Rows.{Rows}
 use Rattle.lgm_store.specs.Reading.{is_between, ids_between_of, channels_between_of}
 use Rattle.lgm_query.specs.RangeReply.{range_end, ids_asked_for, AreInRange, is_last, piece_at, ids_at, reply_start, reply_end, timestamps_of}
-use Rattle.lgm_query.specs.RangeReply.{timestamps_in, all_timestamps_of, timestamps_beside, asks_for_timestamps, timestamps_asked_for, reply}
+use Rattle.lgm_query.specs.RangeReply.{all_timestamps_of, timestamps_beside, asks_for_timestamps, timestamps_asked_for, reply}
 
 -- the requested ids are in the range
 pub All-ids_asked_for : (chain : ChainHash) (rows : Rows) (query : RangeQuery)

@@ -5,15 +5,13 @@ use Rattle.std.specs.Prelude.{None, slice_index, unwrap_or, All, if◌then◌els
 use Rattle.std.specs.Cmp.Lexicographic.{pointwise}
 use Rattle.std.specs.Int.{bit_at, div_ceil}
 use Rattle.std.specs.List.{range_with_len}
-use Rattle.std.specs.Option.{option_map_or}
 use Rattle.lgm_wire.specs.declared.chain_hash.ChainHash.{ChainHash}
 use Rattle.lgm_gossip.specs.declared.message.Message.TheVariants as messages
 use Rattle.lgm_gossip.specs.declared.range_query.RangeQuery.{RangeQuery}
 use Rattle.lgm_gossip.specs.declared.timestamps.Timestamps.{Timestamps}
 use Rattle.lgm_gossip.specs.RangeReply.{ReplyFields}
 use Rattle.lgm_gossip.specs.Spelling.{spelling}
-use Rattle.lgm_check.specs.declared.row.UpdateRow.{UpdateRow}
-use Rattle.lgm_store.specs.declared.channel_info.ChannelInfo.{ChannelInfo}
+use Rattle.lgm_store.specs.ChannelWithUpdates.{timestamp_of}
 use Rattle.lgm_store.specs.Rows.{Rows, update_of}
 use Rattle.lgm_store.specs.Reading.{block_of, is_between, ids_between_of}
 
@@ -65,10 +63,6 @@ reply_start query ids (suc i) =
     let end = reply_end query ids i in
     if first_block ids (suc i) + 1 == end then end - 1 else end
 
--- the timestamp of an update, or 0 if there is none
-abbrev pub timestamp_of : Option UpdateRow → ℕ
-timestamp_of row = option_map_or (λ row. row.message.timestamp) row 0
-
 -- the timestamps of a channel's updates
 abbrev pub timestamps_of : Rows → ℕ → Timestamps
 timestamps_of rows id =
@@ -76,10 +70,6 @@ timestamps_of rows id =
       node_1 = timestamp_of (update_of rows.updates id false);
       node_2 = timestamp_of (update_of rows.updates id true);
     }
-
--- the same of a channel with its updates
-abbrev pub timestamps_in : ChannelInfo → Timestamps
-timestamps_in stored = record { node_1 = timestamp_of stored.first; node_2 = timestamp_of stored.second }
 
 abbrev pub all_timestamps_of : Rows → List ℕ → List Timestamps
 all_timestamps_of rows ids = map (timestamps_of rows) ids

@@ -2,7 +2,7 @@
 
 ghost use Rattle.std.specs.Prelude.{◌≡◌, ◌*◌, ◌<◌, ◌≤◌, true, length, IfOk, if◌then◌else◌, ◌+◌, ◌-◌, ◌^◌};
 ghost use Rattle.lgm_store.specs.Rows.{Rows};
-ghost use Rattle.lgm_query.specs.RangeReply.{ids_asked_for, AreInRange, reply_count, piece_at, timestamps_in};
+ghost use Rattle.lgm_query.specs.RangeReply.{ids_asked_for, AreInRange, reply_count, piece_at};
 ghost use Rattle.lgm_query.specs.RangeReply.{timestamps_beside, all_timestamps_of, asks_for_timestamps, reply_bytes, range_reply};
 ghost use Rattle.lgm_query.specs.RangeReply.{range_end, is_last, ids_at, reply_end, reply_start};
 ghost use Rattle.lgm_store.specs.Reading.{block_of, ids_between_of};
@@ -13,7 +13,7 @@ use lgm_gossip::{
     Bytes, ChainHash, EncodeFault, Message, RangeQuery, RangeReply, Scid, Scids, TimestampList,
     Timestamps, encode,
 };
-use lgm_store::{ChannelInfo, Map};
+use lgm_store::Map;
 use std::alloc::{AllocError, Global};
 
 /// The replies to a `query_channel_range` on a map of `chain`, each a `reply_channel_range` (BOLT 7, "The
@@ -92,7 +92,7 @@ fn with_timestamps(alloc: Global, map: &Map, query: &RangeQuery) -> Result<Listi
     let mut times = Vec::new(alloc);
     for stored in map.channels_between(u64::from(query.first_blocknum), range_end(query)) {
         ids.push(stored.scid())?;
-        times.push(timestamps_of(stored))?;
+        times.push(stored.timestamps())?;
     }
     let ids = Scids::from_vec(ids);
     Ok(Listing { ids, times })
@@ -150,16 +150,6 @@ fn asks_for_timestamps(query: &RangeQuery) -> bool
     ensures { result ≡ asks_for_timestamps query.now }
 {
     query.options.unwrap_or(0) % 2 == 1
-}
-
-/// The timestamps of a channel's updates, 0 if there is none.
-fn timestamps_of(stored: &ChannelInfo) -> Timestamps
-    ensures { result ≡ timestamps_in stored.now }
-{
-    Timestamps {
-        node_1: stored.update_time(false).unwrap_or(0),
-        node_2: stored.update_time(true).unwrap_or(0),
-    }
 }
 
 /// The maximum number of ids in a reply.

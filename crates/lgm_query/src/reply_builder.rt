@@ -108,7 +108,7 @@ impl<'a> ReplyBuilder<'a> {
         }
     }
 
-    /// Adds the announcement of a node, if there is one and it wasn't sent. One that was sent isn't looked up again.
+    /// Adds the announcement of a node, if there is one and it wasn't sent.
     fn send_node(&mut self, map: &'a Map, point: &Point, wanted: bool) -> Result<(), AllocError>
         ensures { OnOk result (Sends
             (when wanted (option_map node (node_of map.now.nodes point.now)))
@@ -117,13 +117,12 @@ impl<'a> ReplyBuilder<'a> {
         if !wanted {
             return Ok(());
         }
-        if self.nodes.contains(point) {
-            return Ok(());
-        }
         let Some(row) = map.stored_node(point) else {
             return Ok(());
         };
-        self.nodes.insert(*point)?;
+        if !self.nodes.insert(*point)? {
+            return Ok(());
+        }
         self.push(row.raw())
     }
 

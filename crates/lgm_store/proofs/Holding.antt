@@ -17,6 +17,7 @@ use Rattle.lgm_store.specs.Keys.{IsKeyed, direction_cmp, direction_of}
 use Rattle.lgm_store.specs.inner.ChannelEntries.{alone, with_update_in, channel_entries, update_entry, update_entries}
 use Rattle.lgm_store.specs.ChannelInfo.{update_in}
 use Rattle.lgm_store.specs.History.{updates_without}
+use Rattle.lgm_store.proofs.Ordered.{lookup-below}
 use Rattle.lgm_store.proofs.Lists.{id_test, same_id}
 use Rattle.lgm_store.proofs.Listing.{is_at-id}
 use Rattle.lgm_store.proofs.Walking.{first_value}
@@ -85,9 +86,9 @@ remove-channels test (e ∷ es) = by (remove-channels test es) (test e.0)
 
 -- replacing an update leaves the channels unchanged
 -- nothing is removed if no key passes
-pub remove-none : {X : Type 0} (test : ℕ → Bool) (es : List (ℕ × X)) → lookup test es ≡ None → remove_entry test es ≡ es
-remove-none {X} test [] none = refl
-remove-none {X} test (e ∷ es) none = by (remove-none test es) (test e.0) refl none
+pub remove-none : {K X : Type 0} (test : K → Bool) (es : List (K × X)) → lookup test es ≡ None → remove_entry test es ≡ es
+remove-none {K} {X} test [] none = refl
+remove-none {K} {X} test (e ∷ es) none = by (remove-none test es) (test e.0) refl none
   where
     by : (lookup test es ≡ None → remove_entry test es ≡ es) → (b : Bool) → test e.0 ≡ b → cond (test e.0) (Some e.1) (lookup test es) ≡ None
         → cond (test e.0) es (e ∷ remove_entry test es) ≡ e ∷ es
@@ -129,7 +130,7 @@ channel-with false old row = refl
 -- ---- keys above one
 
 -- nothing is found below all keys
-pub lookup-above : {X : Type 0} (id : ℕ) (es : List (ℕ × X)) → AllByRecursion (λ k. nat_cmp id k ≡ Less) (keys_of es) → lookup (is_at (nat_cmp id)) es ≡ None
+lookup-above : {X : Type 0} (id : ℕ) (es : List (ℕ × X)) → AllByRecursion (λ k. nat_cmp id k ≡ Less) (keys_of es) → lookup (is_at (nat_cmp id)) es ≡ None
 lookup-above id [] above = refl
 lookup-above id (e ∷ es) above = rw above.0 (lookup-above id es above.1)
 
@@ -146,10 +147,6 @@ above-from id other (e ∷ es) lower above = (lower e.0 above.0, above-from id o
 above-equal : (id other : ℕ) (es : List (ℕ × ChannelInfo)) → nat_cmp id other ≡ Equal
     → AllByRecursion (λ k. nat_cmp other k ≡ Less) (keys_of es) → AllByRecursion (λ k. nat_cmp id k ≡ Less) (keys_of es)
 above-equal id other es is = above-from id other es (λ k less. nat_cmp_total.congr id other k is ∙ less)
-
-pub above-less : {X : Type 0} (id other : ℕ) (es : List (ℕ × X)) → nat_cmp id other ≡ Less
-    → AllByRecursion (λ k. nat_cmp other k ≡ Less) (keys_of es) → AllByRecursion (λ k. nat_cmp id k ≡ Less) (keys_of es)
-above-less id other es is = above-from id other es (λ k less. nat_cmp_total.trans id other k is less)
 
 -- ---- one update in front
 
@@ -309,7 +306,7 @@ set-updates id second row (e ∷ es) old sorted found = by (set-updates id secon
         ≡ insert_entry direction_cmp (update_entry e.0 false e.1.first ++ (update_entry e.0 true e.1.second ++ update_entries es)) (id, second) row
     by others Less is found =
         let found' : lookup (is_at (nat_cmp id)) es ≡ Some old = rw is at found in
-        let never : None ≡ Some old = sym (lookup-above id es (above-less id e.0 es is sorted.0)) ∙ found' in
+        let never : None ≡ Some old = sym (lookup-below nat_cmp_total id e.0 es is sorted.0) ∙ found' in
         absurd cc
     by others Equal is found =
         let here : Some e.1 ≡ Some old = rw is at found in

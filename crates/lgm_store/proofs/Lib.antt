@@ -17,6 +17,7 @@ pub mod BannedPoints
 pub mod ChannelWithUpdates
 pub mod Lawful
 pub mod Kept
+pub mod KeyOrder
 pub mod Slotted
 pub mod Numbering
 pub mod Putting

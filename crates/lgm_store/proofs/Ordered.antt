@@ -1,7 +1,7 @@
 -- Ordered maps and their rows: looking a row up, and inserting one.
-use Rattle.std.proofs.Common.{◌≡◌, Bool, true, false, not, cond, List, [], ◌∷◌, refl, sym, ap, ◌∙◌}
+use Rattle.std.proofs.Common.{◌≡◌, Bool, true, false, not, cond, List, [], ◌∷◌, Some, None, refl, sym, ap, ◌∙◌}
 use Rattle.std.specs.List.{AllByRecursion, filter, find}
-use Rattle.std.specs.Map.{lookup, remove_entry, keys_of, values_of}
+use Rattle.std.specs.Map.{lookup, remove_entry, set_value, keys_of, values_of}
 use Rattle.std.specs.BTreeMap.{is_at, insert_entry}
 use Rattle.std.specs.List.Sorted.{IsStrictlySortedBy}
 use Rattle.std.specs.Cmp.{IsTotalOrder}
@@ -123,3 +123,55 @@ module _ {K R : Type 0} (cmp : K → K → Ordering) (key : R → K) where
       by : IsKeyed key (remove_entry test es) → (b : Bool) → IsKeyed key (cond b es (e ∷ remove_entry test es))
       by others true = keyed.1
       by others false = (keyed.0, others)
+
+module _ {K X : Type 0} {cmp : K → K → Ordering} (total : IsTotalOrder cmp) where
+  -- nothing is found below all keys
+  pub lookup-below : (a b : K) (es : List (K × X)) → cmp a b ≡ Less
+      → AllByRecursion (λ k. cmp b k ≡ Less) (keys_of es) → lookup (is_at (cmp a)) es ≡ None
+  lookup-below a b [] less above = refl
+  lookup-below a b (e ∷ es) less above = rw (total.trans a b e.0 less above.0) (lookup-below a b es less above.1)
+
+  -- inserting under a key that is there replaces its value
+  pub insert-set : (key : K) (value own : X) (es : List (K × X)) → IsStrictlySortedBy cmp (keys_of es) → lookup (is_at (cmp key)) es ≡ Some own
+      → insert_entry cmp es key value ≡ set_value (is_at (cmp key)) es value
+  unfolding IsStrictlySortedBy
+  insert-set key value own [] sorted found = absurd cc
+  insert-set key value own (e ∷ es) sorted found = by (insert-set key value own es sorted.1) (cmp key e.0) refl found
+    where
+      by : (lookup (is_at (cmp key)) es ≡ Some own → insert_entry cmp es key value ≡ set_value (is_at (cmp key)) es value)
+          → (o : Ordering) → cmp key e.0 ≡ o → cond (is_eq (cmp key e.0)) (Some e.1) (lookup (is_at (cmp key)) es) ≡ Some own
+          → match_ordering (cmp key e.0) ((key, value) ∷ e ∷ es) ((e.0, value) ∷ es) (e ∷ insert_entry cmp es key value)
+          ≡ cond (is_eq (cmp key e.0)) ((e.0, value) ∷ es) (e ∷ set_value (is_at (cmp key)) es value)
+      by rest Less is found =
+          let here : lookup (is_at (cmp key)) es ≡ Some own = rw is at found in
+          let never : None ≡ Some own = sym (lookup-below key e.0 es is sorted.0) ∙ here in
+          absurd cc
+      by rest Equal is found = rw is refl
+      by rest Greater is found = rw is (ap (λ (xs : List (K × X)). e ∷ xs) (rest (rw is at found)))
+
+  -- a value that is put back in place of another one
+  put-back-in : (key : K) (value own : X) (es : List (K × X)) → IsStrictlySortedBy cmp (keys_of es) → lookup (is_at (cmp key)) es ≡ Some own
+      → insert_entry cmp (insert_entry cmp es key value) key own ≡ es
+  unfolding IsStrictlySortedBy
+  put-back-in key value own [] sorted found = absurd cc
+  put-back-in key value own (e ∷ es) sorted found = by (put-back-in key value own es sorted.1) (cmp key e.0) refl found
+    where
+      by : (lookup (is_at (cmp key)) es ≡ Some own → insert_entry cmp (insert_entry cmp es key value) key own ≡ es)
+          → (o : Ordering) → cmp key e.0 ≡ o → cond (is_eq (cmp key e.0)) (Some e.1) (lookup (is_at (cmp key)) es) ≡ Some own
+          → insert_entry cmp (match_ordering (cmp key e.0) ((key, value) ∷ e ∷ es) ((e.0, value) ∷ es)
+          (e ∷ insert_entry cmp es key value)) key own ≡ e ∷ es
+      by rest Less is found =
+          let here : lookup (is_at (cmp key)) es ≡ Some own = rw is at found in
+          let never : None ≡ Some own = sym (lookup-below key e.0 es is sorted.0) ∙ here in
+          absurd cc
+      by rest Equal is found =
+          let its : Some e.1 ≡ Some own = rw is at found in
+          let own_is : e.1 ≡ own = cc in
+          rw (is, is, ← own_is) refl
+      by rest Greater is found = rw is (rw is (ap (λ (xs : List (K × X)). e ∷ xs) (rest (rw is at found))))
+
+  pub put-back : (es changed back : List (K × X)) (key : K) (value own : X) → changed ≡ insert_entry cmp es key value
+      → back ≡ insert_entry cmp changed key own → IsStrictlySortedBy cmp (keys_of es)
+      → lookup (is_at (cmp key)) es ≡ Some own → back ≡ es
+  put-back es changed back key value own changed_is back_is sorted found =
+      back_is ∙ ap (λ (xs : List (K × X)). insert_entry cmp xs key own) changed_is ∙ put-back-in key value own es sorted found

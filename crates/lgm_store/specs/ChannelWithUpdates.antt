@@ -1,5 +1,6 @@
 -- A channel's row with the rows of its updates.
-use Rattle.std.specs.Prelude.{Option}
+use Rattle.std.specs.Prelude.{ℕ, Option}
+use Rattle.std.specs.Option.{option_map_or}
 use Rattle.lgm_check.specs.declared.row.ChannelRow.{ChannelRow}
 use Rattle.lgm_check.specs.declared.row.UpdateRow.{UpdateRow}
 
@@ -9,3 +10,7 @@ pub record ChannelWithUpdates : Type 0 where
   pub first : Option UpdateRow
   -- the update from node 2
   pub second : Option UpdateRow
+
+-- the timestamp of an update, or 0 if there is none
+abbrev pub timestamp_of : Option UpdateRow → ℕ
+timestamp_of row = option_map_or (λ row. row.message.timestamp) row 0

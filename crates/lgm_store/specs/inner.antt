@@ -1,6 +1,6 @@
 -- Definitions for contracts inside the crate.
 pub mod Decided
-pub mod Direction
+pub mod Slots
 pub mod ChannelTable
 pub mod ChannelsByNode
 pub mod Sound

@@ -3,41 +3,36 @@
 ghost use Rattle.std.specs.Prelude.{◌≡◌, Some, None, IfOk, OnOk, OnErr, if◌then◌else◌};
 ghost use Rattle.std.specs.Option.{option_copied, option_map};
 ghost use Rattle.lgm_store.specs.inner.ChannelEntries.{alone, with_update_in};
-ghost use Rattle.lgm_store.specs.ChannelInfo.{update_in};
-ghost use Rattle.lgm_store.specs.inner.Direction.{IsDirectionOf};
+ghost use Rattle.lgm_store.specs.ChannelInfo.{update_in, timestamps_in};
+ghost use Rattle.lgm_store.specs.ChannelWithUpdates.{timestamp_of};
 ghost use Rattle.lgm_store.specs.Rows.{is_second};
 ghost use Rattle.lgm_store.specs.Admission.{update_admission, Offers};
 ghost use Rattle.lgm_store.specs.inner.Decided.{update_op, update_verdict};
 
 use crate::shared::Shared;
 use lgm_check::{ChannelRow, Refusal, StoredChannel, StoredUpdate, UpdateRow};
-use lgm_gossip::{Point, Scid};
+use lgm_gossip::{Point, Scid, Timestamps};
 use std::alloc::AllocError;
 use std::marker::Model;
 
 /// A channel with the update of each direction that has one. Contracts see the rows.
 ///
-/// What iteration and admission read is stored inline, outside the rows: the channel id, and for each direction its
-/// node and its update's timestamp.
+/// What iteration and admission read is stored inline, outside the rows. What iteration reads is in front, so that it is
+/// mostly in one block of memory.
 #[derive(Drop)]
 pub struct ChannelInfo {
     scid: Scid,
+    /// The timestamp of the update from node 1, in seconds since 1970, or 0 without one.
+    first_time: u32,
+    /// The same of the update from node 2.
+    second_time: u32,
     row: Shared<StoredChannel>,
-    /// The direction from node 1.
-    first: Direction,
-    /// The direction from node 2.
-    second: Direction,
-}
-
-/// A direction of a channel.
-#[derive(Drop)]
-struct Direction {
-    /// The node that signs its updates.
-    node: Point,
-    /// The timestamp of its update, in seconds since 1970, or 0 without one.
-    time: u32,
-    /// Its update, if it has one.
-    row: Option<Shared<StoredUpdate>>,
+    /// The update from node 1, if there is one.
+    first: Option<Shared<StoredUpdate>>,
+    /// The update from node 2, if there is one.
+    second: Option<Shared<StoredUpdate>>,
+    node_1: Point,
+    node_2: Point,
 }
 
 impl Model for ChannelInfo {
@@ -46,36 +41,17 @@ impl Model for ChannelInfo {
 
     ghost Value = { ChannelWithUpdates };
 
-    ghost view = { λ h. record { channel = h.row; first = h.first.row; second = h.second.row } };
+    ghost view = { λ h. record { channel = h.row; first = h.first; second = h.second } };
 
-    ghost use Rattle.lgm_store.specs.inner.Direction.{IsDirectionOf};
+    ghost use Rattle.lgm_store.specs.ChannelWithUpdates.{timestamp_of};
 
     ghost invariant = { λ h. record {
       scid_is : h.scid ≡ h.row.message.short_channel_id;
-      first_is : IsDirectionOf h.row.message.node_id_1 h.first;
-      second_is : IsDirectionOf h.row.message.node_id_2 h.second;
+      first_time_is : h.first_time ≡ timestamp_of h.first;
+      second_time_is : h.second_time ≡ timestamp_of h.second;
+      node_1_is : h.node_1 ≡ h.row.message.node_id_1;
+      node_2_is : h.node_2 ≡ h.row.message.node_id_2;
     } };
-}
-
-impl Direction {
-    /// A direction without an update.
-    fn new(node: Point) -> Direction
-        ensures direction { IsDirectionOf node result }
-        ensures row { result.row ≡ None }
-    {
-        Direction {
-            node,
-            time: 0,
-            row: None,
-        }
-    }
-
-    /// Reads the beginning of the row, if there is one.
-    fn touch(&self) {
-        if let Some(row) = &self.row {
-            row.touch();
-        }
-    }
 }
 
 impl ChannelInfo {
@@ -85,8 +61,12 @@ impl ChannelInfo {
     {
         ChannelInfo {
             scid: row.get().scid(),
-            first: Direction::new(row.get().node(false)),
-            second: Direction::new(row.get().node(true)),
+            first_time: 0,
+            second_time: 0,
+            first: None,
+            second: None,
+            node_1: row.get().node(false),
+            node_2: row.get().node(true),
             row,
         }
     }
@@ -118,7 +98,7 @@ impl ChannelInfo {
         ensures { result.now
             ≡ (if second then self.now.channel.message.node_id_2 else self.now.channel.message.node_id_1) }
     {
-        &self.direction(second).node
+        if second { &self.node_2 } else { &self.node_1 }
     }
 
     /// The row of the update from node 2 if `second`, else from node 1; none if that direction has no update. It is
@@ -127,7 +107,7 @@ impl ChannelInfo {
     pub fn update(&self, second: bool) -> Option<UpdateRow<'_>>
         ensures { result ≡ update_in second self.now }
     {
-        match &self.direction(second).row {
+        match self.stored_update(second) {
             Some(row) => Some(row.get().row()),
             None => None,
         }
@@ -137,7 +117,7 @@ impl ChannelInfo {
     pub fn update_raw(&self, second: bool) -> Option<&[u8]>
         ensures { option_copied result ≡ option_map (λ row. row.raw) (update_in second self.now) }
     {
-        match &self.direction(second).row {
+        match self.stored_update(second) {
             Some(row) => Some(row.get().raw()),
             None => None,
         }
@@ -147,30 +127,48 @@ impl ChannelInfo {
     pub fn update_time(&self, second: bool) -> Option<u32>
         ensures { result ≡ option_map (λ row. row.message.timestamp) (update_in second self.now) }
     {
-        let direction = self.direction(second);
-        match &direction.row {
-            Some(_) => Some(direction.time),
+        match self.stored_update(second) {
+            Some(_) => Some(self.time(second)),
             None => None,
         }
     }
 
-    /// The last bytes that an iteration reads here, put together.
+    /// The timestamps of its updates, in seconds since 1970, each 0 if there is no update; read without following a row.
+    pub fn timestamps(&self) -> Timestamps
+        ensures { result ≡ timestamps_in self.now }
+    {
+        Timestamps {
+            node_1: self.first_time,
+            node_2: self.second_time,
+        }
+    }
+
+    /// What an iteration reads first here, put together.
     pub(crate) fn look(&self) -> u32 {
-        self.first.time ^ self.second.time
+        self.first_time ^ self.second_time
     }
 
     /// Reads the beginning of each row, so that the processor's cache has it.
     pub(crate) fn touch(&self) {
         self.row.touch();
-        self.first.touch();
-        self.second.touch();
+        touch(&self.first);
+        touch(&self.second);
     }
 
     #[inline(always)]
-    fn direction(&self, second: bool) -> &Direction
-        ensures direction { IsDirectionOf (if second then self.now.channel.message.node_id_2
-            else self.now.channel.message.node_id_1) result.now }
-        ensures row { result.now.row ≡ update_in second self.now }
+    fn time(&self, second: bool) -> u32
+        ensures { result ≡ timestamp_of (update_in second self.now) }
+    {
+        if second {
+            self.second_time
+        } else {
+            self.first_time
+        }
+    }
+
+    #[inline(always)]
+    fn stored_update(&self, second: bool) -> &Option<Shared<StoredUpdate>>
+        ensures { result.now ≡ update_in second self.now }
     {
         if second { &self.second } else { &self.first }
     }
@@ -178,9 +176,8 @@ impl ChannelInfo {
     /// Whether this is the channel with an id, by what is first and what is last in memory of what the admission of an
     /// update compares. No contract depends on it.
     pub(crate) fn is_likely(&self, scid: Scid, second: bool) -> bool {
-        let direction = if second { &self.second } else { &self.first };
-        let has_own_time = direction.row.is_some() | (direction.time == 0);
-        (self.scid == scid) & direction.node.lawful() & has_own_time
+        let has_own_time = self.stored_update(second).is_some() | (self.time(second) == 0);
+        (self.scid == scid) & self.node(second).lawful() & has_own_time
     }
 
     /// Whether an update with this signer is admitted, or else why not: 10 `signature`, 15 `not-newer`.
@@ -239,24 +236,12 @@ impl ChannelInfo {
     {
         let time = row.get().timestamp();
         if second {
-            self.second.time = time;
-            self.second.row = Some(row);
+            self.second_time = time;
+            self.second = Some(row);
         } else {
-            self.first.time = time;
-            self.first.row = Some(row);
+            self.first_time = time;
+            self.first = Some(row);
         }
-    }
-}
-
-impl Clone for Direction {
-    ghost is_clone = { λ direction copy. copy ≡ direction };
-
-    fn clone(&self) -> Result<Direction, AllocError> {
-        Ok(Direction {
-            node: self.node,
-            time: self.time,
-            row: copied(&self.row)?,
-        })
     }
 }
 
@@ -268,9 +253,13 @@ impl Clone for ChannelInfo {
         self.touch();
         Ok(ChannelInfo {
             scid: self.scid,
+            first_time: self.first_time,
+            second_time: self.second_time,
             row: self.row.share()?,
-            first: self.first.clone()?,
-            second: self.second.clone()?,
+            first: copied(&self.first)?,
+            second: copied(&self.second)?,
+            node_1: self.node_1,
+            node_2: self.node_2,
         })
     }
 }
@@ -282,5 +271,12 @@ fn copied(row: &Option<Shared<StoredUpdate>>) -> Result<Option<Shared<StoredUpda
     match row {
         Some(row) => Ok(Some(row.share()?)),
         None => Ok(None),
+    }
+}
+
+/// Reads the beginning of an update's row, if there is one.
+fn touch(row: &Option<Shared<StoredUpdate>>) {
+    if let Some(row) = row {
+        row.touch();
     }
 }

@@ -1,6 +1,6 @@
 //! Channels in slots, by id.
 
-ghost use Rattle.std.specs.Prelude.{◌≡◌, ◌≢◌, [], true, false, is_some, length, OnOk, OnErr};
+ghost use Rattle.std.specs.Prelude.{◌≡◌, ◌≢◌, [], true, false, is_some, length, Some, IfSome, OnOk, OnErr};
 ghost use Rattle.std.specs.Option.{option_copied, option_map, option_and_then};
 ghost use Rattle.std.specs.List.Sorted.{IsStrictlySortedBy};
 ghost use Rattle.std.specs.Map.{lookup, remove_entry, keys_of, values_of};
@@ -12,13 +12,16 @@ ghost use Rattle.lgm_store.specs.ChannelInfo.{update_in};
 ghost use Rattle.lgm_store.specs.Rows.{is_second};
 ghost use Rattle.lgm_store.specs.Admission.{update_admission, Offers};
 ghost use Rattle.lgm_store.specs.inner.Decided.{update_op};
-ghost use Rattle.lgm_store.specs.inner.ChannelTable.{id_in, IsNumbered, with_update_at};
+ghost use Rattle.lgm_store.specs.inner.Slots.{slot_at, IsNumbered};
+ghost use Rattle.lgm_store.specs.inner.ChannelTable.{id_in, with_update_at};
 
 use crate::channel_info::ChannelInfo;
 use crate::iter::Channels;
-use crate::lookup::Hint;
+use crate::lookup::{Hint, cache_key};
 use crate::lookup_cache::{LookupCache, NOWHERE, unless};
 use crate::shared::Shared;
+use crate::slots::add;
+use arrayvec::ArrayVec;
 use lgm_check::{Refusal, StoredUpdate};
 use lgm_gossip::{Point, Scid};
 use slab::Slab;
@@ -29,6 +32,9 @@ use std::ops::Bound;
 
 /// The number of channels whose rows are read together.
 pub const TOGETHER: usize = 16;
+
+/// The number of their nodes.
+pub(crate) const NODES: usize = 2 * TOGETHER;
 
 /// Channels with their updates, by id. Contracts see each id with its channel, ascending.
 ///
@@ -45,13 +51,15 @@ pub(crate) struct ChannelTable {
 impl Model for ChannelTable {
     ghost use Rattle.std.specs.Prelude.{ℕ, List};
     ghost use Rattle.lgm_store.specs.declared.channel_info.ChannelInfo.{ChannelInfo};
-    ghost use Rattle.lgm_store.specs.inner.ChannelTable.{entries_in, IsNumbered};
+    ghost use Rattle.std.specs.Ordering.{nat_cmp};
+    ghost use Rattle.lgm_store.specs.inner.Slots.{entries_in, IsNumbered};
+    ghost use Rattle.lgm_store.specs.inner.ChannelTable.{id_in};
 
     ghost Value = { List (ℕ × ChannelInfo) };
 
     ghost view = { λ s. entries_in s.slots.slots s.numbers.entries };
 
-    ghost invariant = { λ s. IsNumbered s.slots.slots s.numbers.entries };
+    ghost invariant = { λ s. IsNumbered nat_cmp id_in s.slots.slots s.numbers.entries };
 }
 
 impl ChannelTable {
@@ -101,9 +109,9 @@ impl ChannelTable {
         }
     }
 
-    /// Reads the rows of the first [`TOGETHER`] of these channels, so that the processor's cache has them: in three looks,
-    /// for the numbers, for what the slots have, and for the rows, each for all of them.
-    pub(crate) fn touch(&self, scids: &[Scid]) {
+    /// Reads the rows of the first [`TOGETHER`] of these channels, so that the processor's cache has them, and returns what
+    /// their nodes are cached by: in three looks, for the numbers, for what the slots have, and for the rows, each for all.
+    pub(crate) fn touch(&self, scids: &[Scid]) -> ArrayVec<u64, NODES> {
         let mut numbers = [NOWHERE; TOGETHER];
         for (number, scid) in numbers.iter_mut().zip(scids) {
             *number = self.locate(*scid);
@@ -111,11 +119,15 @@ impl ChannelTable {
         for (number, scid) in numbers.iter_mut().zip(scids) {
             *number = self.prefetch(*number, *scid, true);
         }
+        let mut nodes = ArrayVec::new();
         for number in &numbers {
             if let Some(stored) = self.slots.get(*number) {
                 stored.touch();
+                let _ = nodes.try_push(cache_key(stored.node(false)));
+                let _ = nodes.try_push(cache_key(stored.node(true)));
             }
         }
+        nodes
     }
 
     /// The number that a channel may have: the one of the hint, or else the cached one.
@@ -134,8 +146,7 @@ impl ChannelTable {
         Channels::new(self.numbers.range((start, end)), &self.slots)
     }
 
-    /// Adds a channel, and returns true, unless its id is in the table. One search of the tree decides that and adds it.
-    /// Out of memory leaves the table unchanged.
+    /// Adds a channel, and returns true, unless its id is in the table. Out of memory leaves the table unchanged.
     pub(crate) fn insert(&mut self, stored: ChannelInfo) -> Result<bool, AllocError>
         ensures new { result ≡ Ok true → lookup (is_at (nat_cmp (id_in stored))) self.old ≡ None }
         ensures added { result ≡ Ok true → self.new ≡ insert_entry nat_cmp self.old (id_in stored) stored }
@@ -143,13 +154,15 @@ impl ChannelTable {
         ensures present { result ≡ Ok false → is_some (lookup (is_at (nat_cmp (id_in stored))) self.old) ≡ true }
         ensures same { result ≢ Ok true → self.new ≡ self.old }
     {
-        self.slots.reserve(1)?;
-        let (scid, number) = (stored.scid(), self.slots.vacant_key());
-        if let Some(own) = self.numbers.insert(scid, number)? {
-            put_back(&mut self.numbers, scid, own);
+        let scid = stored.scid();
+        let guess = self.cache.cached(scid.to_u64());
+        if guessed(&self.slots, guess, scid).is_some() {
             return Ok(false);
         }
-        self.slots.insert_reserved(stored);
+        let (number, is_new) = add(&mut self.numbers, &mut self.slots, scid, stored)?;
+        if !is_new {
+            return Ok(false);
+        }
         self.cache.reserve(self.numbers.len());
         self.cache.note(scid.to_u64(), number);
         Ok(true)
@@ -215,16 +228,6 @@ impl ChannelTable {
     }
 }
 
-/// Gives an id of the tree the slot number that it had. Nothing is allocated.
-fn put_back(numbers: &mut BTreeMap<Scid, usize>, scid: Scid, number: usize)
-    requires { is_some (lookup (is_at (nat_cmp scid)) numbers.old.entries) ≡ true }
-    ensures { numbers.new.entries ≡ insert_entry nat_cmp numbers.old.entries scid number }
-{
-    let Ok(_) = numbers.insert(scid, number) else {
-        unreachable!();
-    };
-}
-
 impl Clone for ChannelTable {
     ghost is_clone = { λ slots copy. copy ≡ slots };
 
@@ -244,14 +247,22 @@ fn number_of(
     guess: Option<usize>,
     scid: Scid,
 ) -> Option<usize>
-    requires { IsNumbered slots.now.slots numbers.now.entries }
+    requires { IsNumbered nat_cmp id_in slots.now.slots numbers.now.entries }
     ensures { result ≡ lookup (is_at (nat_cmp scid)) numbers.now.entries }
 {
-    if let Some(number) = guess {
-        match slots.get(number) {
-            Some(stored) if stored.scid() == scid => return Some(number),
-            _ => {}
-        }
+    match guessed(slots, guess, scid) {
+        Some(number) => Some(number),
+        None => numbers.get(&scid).copied(),
     }
-    numbers.get(&scid).copied()
+}
+
+/// A guess of a slot number, if the slot has the channel.
+fn guessed(slots: &Slab<ChannelInfo>, guess: Option<usize>, scid: Scid) -> Option<usize>
+    ensures { IfSome result (λ number. option_map id_in (slot_at slots.now.slots number) ≡ Some scid) }
+{
+    let number = guess?;
+    match slots.get(number) {
+        Some(stored) if stored.scid() == scid => Some(number),
+        _ => None,
+    }
 }

@@ -5,7 +5,7 @@ ghost use Rattle.lgm_wire.specs.declared.point.Point.{Point};
 ghost use Rattle.lgm_store.specs.inner.ChannelsByNode.{entry_of, list_at, with_id, without_id};
 ghost use Rattle.lgm_store.specs.inner.ChannelsByNode.{changed, Lacks, Sets, IsSame, Lists, IsPlaceOf};
 
-use crate::lookup::NodeKey;
+use crate::lookup::{NodeKey, cache_key};
 use crate::lookup_cache::{LookupCache, NOWHERE, unless};
 use crate::scid_set::ScidSet;
 use crate::seed::Seed;
@@ -56,7 +56,7 @@ impl ChannelsByNode {
     pub(crate) fn contains(&self, point: &Point) -> bool
         ensures { result ≡ is_some (entry_of self.now point.now) }
     {
-        place_of(&self.lists, self.cache.cached(key_of(point)), point).is_some()
+        place_of(&self.lists, self.cache.cached(cache_key(point)), point).is_some()
     }
 
     /// The place that the cache has for a node's list, or one that is too large.
@@ -139,22 +139,22 @@ impl ChannelsByNode {
         ensures ok { OnOk result (Sets self.old self.new point (with_id (list_at self.old point) scid)) }
         ensures err { OnErr result (IsSame self.old self.new) }
     {
-        let guess = self.cache.cached(key_of(&point));
+        let guess = self.cache.cached(cache_key(&point));
         if let Some(place) = place_of(&self.lists, guess, &point) {
-            self.cache.correct(guess, key_of(&point), place);
+            self.cache.correct(guess, cache_key(&point), place);
             let (_, list) = self.lists.pair_mut(place);
             return list.insert(self.alloc, scid);
         }
         let (place, _) = self.lists.insert_full(point, ScidSet::of(scid))?;
         self.cache.reserve(self.lists.len());
-        self.cache.note(key_of(&point), place);
+        self.cache.note(cache_key(&point), place);
         Ok(())
     }
 
     fn remove_one(&mut self, point: &Point, scid: Scid)
         ensures { Sets self.old self.new point.now (without_id (list_at self.old point.now) scid) }
     {
-        let guess = self.cache.cached(key_of(point));
+        let guess = self.cache.cached(cache_key(point));
         if let Some(place) = place_of(&self.lists, guess, point) {
             let (_, list) = self.lists.pair_mut(place);
             list.remove(self.alloc, scid);
@@ -163,11 +163,6 @@ impl ChannelsByNode {
             }
         }
     }
-}
-
-/// What a point is cached by: the first eight bytes of its x coordinate.
-fn key_of(point: &Point) -> u64 {
-    NodeKey::of(point).front()
 }
 
 /// The place of a point's list, if it has one: the guess if the point is there, else the hash table's.

@@ -3,8 +3,10 @@
 ghost use Rattle.std.specs.Prelude.{◌≡◌, ◌++◌, filter};
 ghost use Rattle.std.specs.Map.{values_of};
 ghost use Rattle.std.specs.Iterator.{YieldsFirstRef, item_count};
+ghost use Rattle.lgm_store.specs.Keys.{point_of};
 ghost use Rattle.lgm_store.specs.Reading.{is_between};
-ghost use Rattle.lgm_store.specs.inner.ChannelTable.{entries_in, id_in, HaveOwn};
+ghost use Rattle.lgm_store.specs.inner.Slots.{entries_in, HaveOwn};
+ghost use Rattle.lgm_store.specs.inner.ChannelTable.{id_in};
 
 use crate::channel_info::ChannelInfo;
 use crate::channel_table::TOGETHER;
@@ -29,19 +31,20 @@ impl<'a> Model for Channels<'a> {
     ghost use Rattle.std.specs.Prelude.{List};
     ghost use Rattle.std.specs.Map.{values_of};
     ghost use Rattle.lgm_store.specs.declared.channel_info.ChannelInfo.{ChannelInfo};
-    ghost use Rattle.lgm_store.specs.inner.ChannelTable.{entries_in, HaveOwn};
+    ghost use Rattle.lgm_store.specs.inner.Slots.{entries_in, HaveOwn};
+    ghost use Rattle.lgm_store.specs.inner.ChannelTable.{id_in};
 
     ghost Value = { List ChannelInfo };
 
     ghost view = { λ c. values_of (entries_in c.slots.now.slots c.numbers) };
 
-    ghost invariant = { λ c. HaveOwn c.slots.now.slots c.numbers };
+    ghost invariant = { λ c. HaveOwn id_in c.slots.now.slots c.numbers };
 }
 
 impl<'a> Channels<'a> {
     /// The channels of these slots, each of which has the channel of its id.
     pub(crate) fn new(numbers: Range<'a, Scid, usize>, slots: &'a Slab<ChannelInfo>) -> Channels<'a>
-        requires { HaveOwn slots.now.slots numbers }
+        requires { HaveOwn id_in slots.now.slots numbers }
         ensures { result ≡ values_of (entries_in slots.now.slots numbers.entry) }
     {
         Channels { numbers, slots }
@@ -103,13 +106,14 @@ impl<'a> Model for ChannelsTogether<'a> {
     ghost use Rattle.std.specs.Prelude.{List, ◌++◌, drop};
     ghost use Rattle.std.specs.Map.{values_of};
     ghost use Rattle.lgm_store.specs.declared.channel_info.ChannelInfo.{ChannelInfo};
-    ghost use Rattle.lgm_store.specs.inner.ChannelTable.{entries_in, HaveOwn};
+    ghost use Rattle.lgm_store.specs.inner.Slots.{entries_in, HaveOwn};
+    ghost use Rattle.lgm_store.specs.inner.ChannelTable.{id_in};
 
     ghost Value = { List ChannelInfo };
 
     ghost view = { λ c. values_of (entries_in c.slots.now.slots (drop c.place c.ahead.items ++ c.numbers)) };
 
-    ghost invariant = { λ c. HaveOwn c.slots.now.slots (drop c.place c.ahead.items ++ c.numbers) };
+    ghost invariant = { λ c. HaveOwn id_in c.slots.now.slots (drop c.place c.ahead.items ++ c.numbers) };
 }
 
 impl<'a> Iterator for ChannelsTogether<'a> {
@@ -236,24 +240,34 @@ fn is_between(scid: Scid, from: u64, to: u64) -> bool
 /// A step needs no search, and allocates nothing.
 #[derive(Drop)]
 pub struct Nodes<'a> {
-    entries: Range<'a, Point, Shared<StoredNode>>,
+    numbers: Range<'a, Point, usize>,
+    slots: &'a Slab<Shared<StoredNode>>,
 }
 
 impl<'a> Model for Nodes<'a> {
     ghost use Rattle.std.specs.Prelude.{List};
     ghost use Rattle.std.specs.Map.{values_of};
     ghost use Rattle.lgm_check.specs.declared.row.NodeRow.{NodeRow};
+    ghost use Rattle.lgm_store.specs.Keys.{point_of};
+    ghost use Rattle.lgm_store.specs.inner.Slots.{entries_in, HaveOwn};
 
     ghost Value = { List NodeRow };
 
-    ghost view = { λ n. values_of n.entries };
+    ghost view = { λ n. values_of (entries_in n.slots.now.slots n.numbers) };
+
+    ghost invariant = { λ n. HaveOwn point_of n.slots.now.slots n.numbers };
 }
 
 impl<'a> Nodes<'a> {
-    pub(crate) fn new(entries: Range<'a, Point, Shared<StoredNode>>) -> Nodes<'a>
-        ensures { result ≡ values_of entries.entry }
+    /// The announcements of these slots, each of which has that of its node.
+    pub(crate) fn new(
+        numbers: Range<'a, Point, usize>,
+        slots: &'a Slab<Shared<StoredNode>>,
+    ) -> Nodes<'a>
+        requires { HaveOwn point_of slots.now.slots numbers }
+        ensures { result ≡ values_of (entries_in slots.now.slots numbers.entry) }
     {
-        Nodes { entries }
+        Nodes { numbers, slots }
     }
 }
 
@@ -265,9 +279,7 @@ impl<'a> Iterator for Nodes<'a> {
     ghost remaining = { item_count (λ left. left) };
 
     fn next(&mut self) -> Option<&'a StoredNode> {
-        match self.entries.next() {
-            Some((_, row)) => Some(row.get()),
-            None => None,
-        }
+        let (_, number) = self.numbers.next()?;
+        Some(self.slots[*number].get())
     }
 }

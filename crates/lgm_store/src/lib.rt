@@ -20,10 +20,12 @@ mod lookahead;
 mod lookup;
 mod lookup_cache;
 mod map;
+mod node_table;
 mod op;
 mod scid_set;
 mod seed;
 mod shared;
+mod slots;
 
 pub use channel_info::ChannelInfo;
 pub use channel_table::TOGETHER;

@@ -12,12 +12,9 @@ mod read;
 use crate::banned::Banned;
 use crate::channel_table::ChannelTable;
 use crate::channels_by_node::ChannelsByNode;
+use crate::node_table::NodeTable;
 use crate::seed::Seed;
-use crate::shared::Shared;
-use lgm_check::StoredNode;
-use lgm_gossip::Point;
 use std::alloc::{AllocError, Global};
-use std::collections::BTreeMap;
 use std::marker::Model;
 
 /// The public channels, their updates and nodes, as announced, and the banned nodes. Contracts see the rows.
@@ -29,7 +26,8 @@ pub struct Map {
     alloc: Global,
     /// Channels with their updates.
     channels: ChannelTable,
-    nodes: BTreeMap<Point, Shared<StoredNode>>,
+    /// Node announcements.
+    nodes: NodeTable,
     /// The ids of the channels of each node.
     ends: ChannelsByNode,
     banned: Banned,
@@ -41,18 +39,17 @@ impl Model for Map {
     ghost Value = { Rows };
 
     ghost use Rattle.std.specs.Map.{values_of};
-    ghost use Rattle.std.specs.BTreeMap.{values};
     ghost use Rattle.lgm_store.specs.inner.ChannelEntries.{channel_entries, update_entries};
     ghost use Rattle.lgm_store.specs.inner.Sound.{IsKept};
 
     ghost view = { λ m. record {
       channels = values_of (channel_entries m.channels);
       updates = values_of (update_entries m.channels);
-      nodes = values m.nodes;
+      nodes = values_of m.nodes;
       banned = m.banned;
     } };
 
-    ghost invariant = { λ m. IsKept (channel_entries m.channels) (update_entries m.channels) m.nodes.entries
+    ghost invariant = { λ m. IsKept (channel_entries m.channels) (update_entries m.channels) m.nodes
         m.ends m.banned };
 }
 
@@ -73,7 +70,7 @@ impl Map {
         Ok(Map {
             alloc,
             channels: ChannelTable::new(alloc),
-            nodes: BTreeMap::new(alloc),
+            nodes: NodeTable::new(alloc),
             ends: ChannelsByNode::new(alloc, seed)?,
             banned: Banned::new(alloc),
         })

@@ -1,7 +1,6 @@
 //! Reference-counted values.
 
 ghost use Rattle.std.specs.Prelude.{◌≡◌, IfOk};
-ghost use Rattle.std.specs.Option.{option_copied};
 
 use std::alloc::{AllocError, Global};
 use std::marker::Model;
@@ -63,15 +62,5 @@ impl<T: Drop> Clone for Shared<T> {
 
     fn clone(&self) -> Result<Shared<T>, AllocError> {
         self.share()
-    }
-}
-
-/// The value of a shared one, if there is one.
-pub(crate) fn found<T>(shared: Option<&Shared<T>>) -> Option<&T>
-    ensures { option_copied result ≡ option_copied shared.entry }
-{
-    match shared {
-        Some(shared) => Some(shared.get()),
-        None => None,
     }
 }

@@ -1,24 +1,26 @@
 //! Applying operations to a map.
 
-ghost use Rattle.std.specs.Prelude.{◌≡◌, ◌≢◌, true, false, ◌||◌, OnOk, OnErr, filter, is_some, IfOk, ◌++◌};
-ghost use Rattle.std.specs.BTreeMap.{values, IsOrdered};
-ghost use Rattle.lgm_store.specs.Rows.{channel_of, ends_channel, ends_banned};
+ghost use Rattle.std.specs.Prelude.{◌≡◌, ◌≢◌, Bool, true, false, ◌||◌, OnOk, OnErr, filter, is_some, is_ok, IfOk, ◌++◌, Ok};
+ghost use Rattle.std.specs.List.Sorted.{IsStrictlySortedBy};
+ghost use Rattle.std.specs.Map.{keys_of, values_of};
+ghost use Rattle.lgm_store.specs.Rows.{channel_of, node_of, ends_channel, ends_banned, is_banned};
 ghost use Rattle.lgm_store.specs.Keys.{IsKeyed, point_cmp, point_of};
 ghost use Rattle.lgm_store.specs.inner.ChannelsByNode.{stays_beside};
 ghost use Rattle.lgm_store.specs.History.{with_channel, with_update, with_node, without_channel, absorbed, fold};
 ghost use Rattle.lgm_store.specs.History.{with_ban};
 ghost use Rattle.lgm_store.specs.Reading.{ids_at};
+ghost use Rattle.lgm_store.specs.inner.Decided.{node_verdict};
 
 use super::Map;
 use crate::banned::Banned;
 use crate::channel_info::ChannelInfo;
 use crate::channels_by_node::ChannelsByNode;
+use crate::node_table::NodeTable;
 use crate::op::Op;
 use crate::shared::Shared;
 use lgm_check::{BanRow, StoredChannel, StoredNode, StoredUpdate};
 use lgm_gossip::{Point, Scid};
 use std::alloc::{AllocError, Global};
-use std::collections::BTreeMap;
 use std::mem;
 
 impl Map {
@@ -90,27 +92,32 @@ impl Map {
         ensures ok { OnOk result (self.new ≡ with_node self.old row) }
         ensures err { OnErr result (self.new ≡ self.old) }
     {
-        let node = row.get().node();
-        if !self.ends_channel(&node) {
+        if !self.ends_channel(&row.get().node()) {
             return Ok(());
         }
-        self.insert_node(node, row)
+        row.get().bytes_encode_row();
+        self.nodes.put(row)?;
+        Ok(())
     }
 
-    /// Stores the announcement of a node that has a channel.
-    pub(crate) fn insert_node(
-        &mut self,
-        node: Point,
-        row: Shared<StoredNode>,
-    ) -> Result<(), AllocError>
-        requires own { node ≡ row.message.node_id }
-        requires ended { ends_channel self.old.channels row.message.node_id ≡ true }
-        ensures ok { OnOk result (self.new ≡ with_node self.old row) }
-        ensures err { OnErr result (self.new ≡ self.old) }
+    /// Stores a node announcement, sharing its row, and returns true, if it is admitted. Out of memory leaves the map
+    /// unchanged.
+    pub(crate) fn add_node(&mut self, row: &Shared<StoredNode>) -> Result<bool, AllocError>
+        ensures admitted { (added : Bool) → result ≡ Ok added → is_ok (node_verdict
+            (is_banned self.old.banned (point_of row.now)) (ends_channel self.old.channels (point_of row.now))
+            (node_of self.old.nodes (point_of row.now)) row.now.message.timestamp) ≡ added }
+        ensures stored { result ≡ Ok true → self.new ≡ with_node self.old row.now }
+        ensures same { result ≢ Ok true → self.new ≡ self.old }
     {
+        let node = row.get().node();
+        if self.banned(&node) || !self.ends_channel(&node) {
+            return Ok(false);
+        }
         row.get().bytes_encode_row();
-        self.nodes.insert(node, row)?;
-        Ok(())
+        if !self.nodes.put_newer(row)? {
+            return Ok(false);
+        }
+        Ok(true)
     }
 
     pub(crate) fn close(&mut self, scid: Scid)
@@ -127,16 +134,12 @@ impl Map {
 }
 
 /// Removes the announcement of a node that has no channel left.
-fn drop_unless_ended(
-    nodes: &mut BTreeMap<Point, Shared<StoredNode>>,
-    ends: &ChannelsByNode,
-    node: &Point,
-)
-    requires keyed { IsKeyed point_of nodes.old.entries }
-    requires ascend { IsOrdered point_cmp nodes.old }
-    ensures keyed { IsKeyed point_of nodes.new.entries }
-    ensures ascend { IsOrdered point_cmp nodes.new }
-    ensures left { values nodes.new ≡ filter (stays_beside ends.now node.now) (values nodes.old) }
+fn drop_unless_ended(nodes: &mut NodeTable, ends: &ChannelsByNode, node: &Point)
+    requires keyed { IsKeyed point_of nodes.old }
+    requires ascend { IsStrictlySortedBy point_cmp (keys_of nodes.old) }
+    ensures keyed { IsKeyed point_of nodes.new }
+    ensures ascend { IsStrictlySortedBy point_cmp (keys_of nodes.new) }
+    ensures left { values_of nodes.new ≡ filter (stays_beside ends.now node.now) (values_of nodes.old) }
 {
     if !ends.contains(node) {
         nodes.remove(node);

@@ -110,8 +110,13 @@ impl Map {
         ensures accepted { IfOk result (λ op. self.new ≡ absorbed self.old op) }
         ensures refused { OnErr result (self.new ≡ self.old) }
     {
+        let added = self.add_node(&row);
+        if let Ok(true) = added {
+            return Ok(Op::Node(row));
+        }
+        // It is refused, or memory is short.
         self.admit_stored_node(row.get())?;
-        self.insert_node(row.get().node(), row.share()?)?;
-        Ok(Op::Node(row))
+        added?;
+        unreachable!()
     }
 }

@@ -15,7 +15,6 @@ use super::Map;
 use crate::channel_info::ChannelInfo;
 use crate::channel_table::TOGETHER;
 use crate::iter::{Channels, ChannelsBetween, Nodes};
-use crate::shared::found;
 use lgm_check::{ChannelRow, NodeRow, StoredNode, UpdateRow};
 use lgm_gossip::{Point, Scid, Scids};
 use std::alloc::{AllocError, Global};
@@ -48,12 +47,14 @@ impl Map {
         self.channels.get(scid)
     }
 
-    /// Reads the rows of the first [`TOGETHER`] of these channels, so that the processor's cache has them.
+    /// Reads the rows of the first [`TOGETHER`] of these channels, and of their nodes, so that the processor's cache has
+    /// them.
     ///
     /// Looks at the memory that don't depend on each other wait for it together. So a caller that reads many channels
     /// calls this for some of them before it reads the first.
     pub fn prefetch_rows(&self, scids: &[Scid]) {
-        self.channels.touch(scids);
+        let node_keys = self.channels.touch(scids);
+        self.nodes.touch(node_keys.as_slice());
     }
 
     /// The row of a channel, if it is in the map.
@@ -83,7 +84,7 @@ impl Map {
     pub fn stored_node(&self, node: &Point) -> Option<&StoredNode>
         ensures { option_copied result ≡ node_of self.now.nodes node.now }
     {
-        found(self.nodes.get(node))
+        self.nodes.get(node)
     }
 
     /// Whether the node has a channel in the map. Allocates nothing.
@@ -131,9 +132,11 @@ impl Map {
     pub fn next_node(&self, after: Option<&Point>) -> Option<NodeRow<'_>>
         ensures { result ≡ next_node_of self.now.nodes (option_copied after.entry) }
     {
-        let range = (start_after(after.copied()), Bound::Unbounded);
-        let (_, row) = self.nodes.range(range).next()?;
-        Some(row.get().row())
+        let mut nodes = self
+            .nodes
+            .range(start_after(after.copied()), Bound::Unbounded);
+        let stored = nodes.next()?;
+        Some(stored.row())
     }
 
     /// All channels with their updates, by ascending id.
@@ -147,8 +150,7 @@ impl Map {
     pub fn nodes(&self) -> Nodes<'_>
         ensures { result ≡ self.now.nodes }
     {
-        let all: (Bound<Point>, Bound<Point>) = (Bound::Unbounded, Bound::Unbounded);
-        Nodes::new(self.nodes.range(all))
+        self.nodes.range(Bound::Unbounded, Bound::Unbounded)
     }
 
     /// The channels funded in the blocks from `from` up to but excluding `to`, with their updates, by ascending id.

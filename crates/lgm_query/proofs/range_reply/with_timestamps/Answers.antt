@@ -1,9 +1,10 @@
 use Rattle.std.proofs.Common.{◌++◌, List, map, sym, ap, ◌∙◌}
 use Rattle.std.proofs.lemmas.List.{append-nil}
 use Rattle.lgm_store.specs.declared.channel_info.ChannelInfo.{ChannelInfo}
+use Rattle.lgm_store.specs.ChannelInfo.{timestamps_in}
 use Rattle.lgm_store.specs.inner.ChannelTable.{id_in}
 use Rattle.lgm_store.proofs.ChannelWithUpdates.{ids-channels}
-use Rattle.lgm_query.specs.RangeReply.{timestamps_in, range_end}
+use Rattle.lgm_query.specs.RangeReply.{range_end}
 use Rattle.lgm_query.proofs.RangeLaws.{timestamps-walked}
 use Rattle.lgm_query.proofs.range_reply.with_timestamps.Goals as goal
 

@@ -1,6 +1,6 @@
 use Rattle.std.proofs.Common.{◌≡◌, ◌++◌, map}
 use Rattle.lgm_store.specs.inner.ChannelTable.{id_in}
-use Rattle.lgm_query.specs.RangeReply.{timestamps_in}
+use Rattle.lgm_store.specs.ChannelInfo.{timestamps_in}
 use Rattle.lgm_query.proofs.range_reply.with_timestamps.Given as goal
 
 -- what was appended and what is left make the whole

@@ -111,13 +111,13 @@ invariant_of-self-in-Ok c =
     placed entries new id row its c.self.invariant.rows.channels_keyed c.self.invariant.rows.channels_ascend in
     record {
       rows =
-          IsSound-stored entries new c.self.inside.nodes.entries c.self.inside.ends c.add.new.self id row
+          IsSound-stored entries new c.self.inside.nodes c.self.inside.ends c.add.new.self id row
           c.node.result.now c.node-2.result.now its.own first second its.is its.none
           (c.in_ok-insert.ensures.ascend is_new) c.in-Ok.ensures.ok c.self.invariant.rows;
       spelled =
           AllSpelled-channel (values_of (channel_entries entries)) (values_of (channel_entries new))
           (values_of (update_entries entries)) (values_of (update_entries new))
-          (values_of c.self.inside.nodes.entries) row
+          (values_of c.self.inside.nodes) row
           (subst (λ (row : ChannelRow). Wire (wired.Announce row.message) row.raw) c.get.ensures c.bytes_encode_row.ensures) put_is
           (same_updates entries new id row its) c.self.invariant.spelled;
       banned_ascend = c.self.invariant.banned_ascend;
@@ -148,7 +148,7 @@ invariant_of-self-in-Err c =
     lookup-channels (is_at (nat_cmp id)) entries ∙ ap (option_map (λ stored. stored.channel)) its.none in
     rw left (record {
       rows =
-          IsSound-listed (channel_entries entries) (update_entries entries) c.self.inside.nodes.entries
+          IsSound-listed (channel_entries entries) (update_entries entries) c.self.inside.nodes
           c.self.inside.ends c.add.new.self
           (c.in-Err.ensures.err _ c.self.invariant.rows.listed (lacks id (channel_entries entries)
           c.self.invariant.rows.channels_keyed none_stored)) c.self.invariant.rows;

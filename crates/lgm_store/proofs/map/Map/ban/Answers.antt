@@ -25,17 +25,17 @@ loop-scid-preserved c =
     ∙ sym (closed_all-more _ c.deref-scid-items.result.now c.loop-scid.scid-index c.scid-item.result c.loop-scid-test.true c.scid-item.is)
 
 -- the rows with the banned points restored
-done : (c : After-drop-scids-2) → rows_of c.self-2.inside.channels c.self-2.inside.nodes.entries
+done : (c : After-drop-scids-2) → rows_of c.self-2.inside.channels c.self-2.inside.nodes
     c.replace-banned.result ≡ with_ban c.args.self.now c.args.ban.now
 done c =
     let points : Rows → Rows = λ rows. record rows { banned = c.replace-banned.result } in
     let aside : Rows → Rows = λ rows. record rows { banned = c.replace-banned.new.dest } in
     let lawful =
-    kept-lawful c.self.inside.channels c.self.inside.nodes.entries c.self.inside.ends c.self.inside.banned
+    kept-lawful c.self.inside.channels c.self.inside.nodes c.self.inside.ends c.self.inside.banned
     c.args.self.now c.self.view_is c.self.invariant in
     let whole : take c.loop-scid.scid-index c.deref-scid-items.result.now ≡ c.in_ok-scids.scids.items =
     take_all c.loop-scid.scid-index c.deref-scid-items.result.now c.loop-scid-test.false ∙ c.deref-scid-items.ensures.value in
-    let start : Rows = rows_of c.self.inside.channels c.self.inside.nodes.entries c.replace-banned.new.dest in
+    let start : Rows = rows_of c.self.inside.channels c.self.inside.nodes c.replace-banned.new.dest in
     ap points c.self-2.view_is
     ∙ banned-all c.args.self.now start c.loop-scid.self c.replace-banned.new.dest c.replace-banned.result
     c.in_ok-scids.scids.items c.args.ban.now lawful
@@ -46,7 +46,7 @@ done c =
 pub invariant_of-self-3 : goal.invariant_of-self-3
 invariant_of-self-3 c =
     let lawful =
-    kept-lawful c.self.inside.channels c.self.inside.nodes.entries c.self.inside.ends c.self.inside.banned
+    kept-lawful c.self.inside.channels c.self.inside.nodes c.self.inside.ends c.self.inside.banned
     c.args.self.now c.self.view_is c.self.invariant in
     record {
       rows = c.self-2.invariant.rows;

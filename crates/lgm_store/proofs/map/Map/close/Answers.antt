@@ -24,7 +24,7 @@ pub invariant_of-self : goal.invariant_of-self
 invariant_of-self c =
     record {
       rows =
-          IsSound-unchanged c.self.inside.channels c.remove.new.self c.self.inside.nodes.entries
+          IsSound-unchanged c.self.inside.channels c.remove.new.self c.self.inside.nodes
           c.self.inside.ends (unchanged c.self.inside.channels c.remove.new.self c.args.scid
           c.in_default.ensures.left c.in_default.ensures.value) c.self.invariant.rows;
       spelled =
@@ -46,11 +46,11 @@ returns-in_default c =
     (sym stored ∙ ap is_some (sym c.in_default.ensures.value)))
 
 -- the rows without a channel that is there
-left : (c : Joined-stored-2) → IsClosed c.self.inside.channels c.remove.new.self c.self.inside.nodes.entries
-    c.drop_unless_ended-2.new.nodes.entries c.remove-2.new.self c.args.scid
+left : (c : Joined-stored-2) → IsClosed c.self.inside.channels c.remove.new.self c.self.inside.nodes
+    c.drop_unless_ended-2.new.nodes c.remove-2.new.self c.args.scid
 left c =
-    closed c.self.inside.channels c.remove.new.self c.self.inside.nodes.entries
-    c.drop_unless_ended.new.nodes.entries c.drop_unless_ended-2.new.nodes.entries
+    closed c.self.inside.channels c.remove.new.self c.self.inside.nodes
+    c.drop_unless_ended.new.nodes c.drop_unless_ended-2.new.nodes
     c.self.inside.ends c.remove-2.new.self c.args.scid c.in-Some.stored c.node.result.now c.node-2.result.now
     c.node.ensures c.node-2.ensures
     c.remove.ensures.left (sym c.in-Some.ensures.value)
@@ -79,5 +79,5 @@ returns c =
     without_channel-stored c.args.self.now _ c.args.scid stored
     ((left c).channels_left ∙ ap (λ rows. channels_without rows.channels c.args.scid) c.self.view_is)
     ((left c).updates_left ∙ ap (λ rows. updates_without rows.updates c.args.scid) c.self.view_is)
-    ((left c).nodes_left ∙ ap (λ channels. ended_nodes channels (values_of c.self.inside.nodes.entries)) (left c).channels_left
+    ((left c).nodes_left ∙ ap (λ channels. ended_nodes channels (values_of c.self.inside.nodes)) (left c).channels_left
     ∙ ap (λ rows. ended_nodes (channels_without rows.channels c.args.scid) rows.nodes) c.self.view_is) (ap (λ rows. rows.banned) c.self.view_is)

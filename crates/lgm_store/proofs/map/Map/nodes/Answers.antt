@@ -5,4 +5,4 @@ use Rattle.lgm_store.proofs.ListLaws.{filter-true}
 
 pub returns : goal.returns
 returns c =
-    c.new.ensures ∙ ap values_of (c.range.ensures.between tt ∙ filter-true c.self.inside.nodes.entries) ∙ ap (λ rows. rows.nodes) c.self.view_is
+    c.range.ensures ∙ ap values_of (filter-true c.self.inside.nodes) ∙ ap (λ rows. rows.nodes) c.self.view_is

@@ -32,7 +32,7 @@ update_is c =
 
 pub invariant_of-self : goal.invariant_of-self
 invariant_of-self c = elim c.match-offer_update.branch [
-  | in-Ok w ↦ rw w.in-Ok.ensures.accepted (put-kept c.self.inside.channels c.self.inside.nodes.entries
+  | in-Ok w ↦ rw w.in-Ok.ensures.accepted (put-kept c.self.inside.channels c.self.inside.nodes
       c.self.inside.ends c.self.inside.banned c.args.row c.self.invariant
       (subst (λ (row : UpdateRow). Wire (wired.ChannelUpdate row.message) row.raw) c.get.ensures c.bytes_encode_row.ensures))
   | in-Err w ↦ rw w.in-Err.ensures.refused c.self.invariant
@@ -46,8 +46,8 @@ returns-clause-admission c = elim c.match-offer_update.branch [
 
 pub returns-clause-accepted : goal.returns-clause-accepted
 returns-clause-accepted c = elim c.match-offer_update.branch [
-  | in-Ok w ↦ rw w.result-is (ap (λ (es : List (ℕ × ChannelInfo)). rows_of es c.self.inside.nodes.entries c.self.inside.banned) w.in-Ok.ensures.accepted
-      ∙ put-rows c.self.inside.channels c.self.inside.nodes.entries c.self.inside.ends c.self.inside.banned
+  | in-Ok w ↦ rw w.result-is (ap (λ (es : List (ℕ × ChannelInfo)). rows_of es c.self.inside.nodes c.self.inside.banned) w.in-Ok.ensures.accepted
+      ∙ put-rows c.self.inside.channels c.self.inside.nodes c.self.inside.ends c.self.inside.banned
       c.args.row c.self.invariant c.args.self.now c.self.view_is)
   | in-Err w ↦ rw w.result-is tt
 ]

@@ -5,5 +5,5 @@ use Rattle.lgm_store.proofs.map.Map.stored_node.Goals as goal
 
 pub returns : goal.returns
 returns c =
-    c.found.ensures ∙ c.get.ensures.value ∙ lookup-node c.self.inside.nodes.entries c.args.node.now c.self.invariant.rows.nodes_keyed
+    c.get.ensures ∙ lookup-node c.self.inside.nodes c.args.node.now c.self.invariant.rows.nodes_keyed
     ∙ ap (λ rows. node_of rows.nodes c.args.node.now) c.self.view_is

@@ -3,8 +3,8 @@ use Rattle.lgm_store.proofs.map.Map.with_seed.Goals as goal
 
 pub invariant_of-result : goal.invariant_of-result
 invariant_of-result c = record {
-  rows = IsSound-empty c.new.result c.new-2.result.entries c.in_ok-new.field-0 c.new.ensures c.new-2.ensures.empty c.in_ok-new.ensures;
-  spelled = rw (c.new.ensures, c.new-2.ensures.empty) (record { channels = tt; updates = tt; nodes = tt });
+  rows = IsSound-empty c.new.result c.new-2.result c.in_ok-new.field-0 c.new.ensures c.new-2.ensures c.in_ok-new.ensures;
+  spelled = rw (c.new.ensures, c.new-2.ensures) (record { channels = tt; updates = tt; nodes = tt });
   banned_ascend = c.new-4.ensures.ascend;
   allowed = rw c.new.ensures tt;
 }
