@@ -13,7 +13,7 @@ use Rattle.lgm_check.specs.declared.row.ChannelRow.{ChannelRow}
 use Rattle.lgm_check.specs.declared.row.UpdateRow.{UpdateRow}
 use Rattle.lgm_store.specs.Rows.{is_second, by_id, by_direction, update_of}
 use Rattle.lgm_store.proofs.ListLaws.{All-to}
-use Rattle.lgm_store.proofs.Lists.{same_id}
+use Rattle.lgm_store.specs.inner.SameKeys.{same_id}
 use Rattle.lgm_graph.specs.Edges.{PointEdge, edge_on, edge_in}
 use Rattle.lgm_graph.specs.inner.Walk.{edges_of_channel}
 use Rattle.lgm_graph.proofs.Keeping.{less_lt, eqb_self, none_above}

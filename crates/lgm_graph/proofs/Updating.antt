@@ -12,7 +12,8 @@ use Rattle.lgm_check.specs.declared.row.UpdateRow.{UpdateRow}
 use Rattle.lgm_store.specs.Rows.{Rows, IsAscending, is_second, is_point, channel_of, put, by_direction}
 use Rattle.lgm_store.specs.History.{with_update}
 use Rattle.lgm_store.proofs.ListLaws.{All-append, All-filter, All-to}
-use Rattle.lgm_store.proofs.Lists.{same_id, same_bool}
+use Rattle.lgm_store.specs.inner.SameKeys.{same_id}
+use Rattle.lgm_store.proofs.Lists.{same_bool}
 use Rattle.lgm_graph.specs.declared.edge.Edge.{Edge}
 use Rattle.lgm_graph.specs.declared.nodes.Nodes.{Nodes}
 use Rattle.lgm_graph.specs.Edges.{PointEdge, edge_of, edge_on, edge_in, end_of, carrying}

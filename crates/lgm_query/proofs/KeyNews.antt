@@ -24,7 +24,8 @@ use Rattle.lgm_store.specs.ChannelInfo.{stored_at}
 use Rattle.lgm_store.specs.Keys.{point_cmp, point_of, id_of}
 use Rattle.lgm_store.proofs.ListLaws.{All-append, All-each, filter-alike, find-same}
 use Rattle.lgm_store.proofs.Points.{is_at-point}
-use Rattle.lgm_store.proofs.Lists.{node_total, same_node}
+use Rattle.lgm_store.specs.inner.SameKeys.{same_node}
+use Rattle.lgm_store.proofs.Lists.{node_total}
 use Rattle.lgm_query.specs.declared.filter.Filter.{Filter}
 use Rattle.lgm_query.specs.Backlog.{passes, passing_update, behind_announcement, passing_channel, passing_node, backlog, is_among, news}
 use Rattle.lgm_query.specs.KeyNews.{passing_of_channel, passing_of_node, without_known, news_of_channel, news_of_node}

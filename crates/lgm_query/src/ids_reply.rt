@@ -22,8 +22,8 @@ const ALL: u64 = 0b11111;
 /// selected. A repeated id is answered again, but a node announcement is sent only at its first place. A query of
 /// another chain gets the end message alone, with `full_information` 0.
 ///
-/// Each id takes time logarithmic in the map. A reference to each message and the point of each node sent are
-/// allocated, whatever the messages' lengths. The only error is out of memory.
+/// Each id takes time logarithmic in the map. References to five messages for each id, and the point of each node sent,
+/// are allocated, whatever the messages' lengths. The only error is out of memory.
 pub fn answer_ids<'a>(
     alloc: Global,
     chain: &ChainHash,
@@ -50,7 +50,8 @@ fn stored_messages<'a>(
 ) -> Result<Vec<ReplyMessage<'a>>, AllocError>
     ensures { IfOk result (λ stored. stored.items ≡ messages_asked_for map.now query.now) }
 {
-    let mut sending = ReplyBuilder::new(alloc, map.seed());
+    let channels = query.ids.as_slice().len();
+    let mut sending = ReplyBuilder::with_room(alloc, channels, map.seed())?;
     for (place, scid) in query.ids.as_slice().iter().enumerate() {
         if place % TOGETHER == 0 {
             read_ahead(map, query, place);

@@ -88,9 +88,11 @@ fn with_timestamps(alloc: Global, map: &Map, query: &RangeQuery) -> Result<Listi
     ensures times { IfOk result (λ listing. listing.times.items ≡ all_timestamps_of map.now
         (ids_between_of map.now.channels query.now.first_blocknum (range_end query.now))) }
 {
-    let mut ids = Vec::new(alloc);
-    let mut times = Vec::new(alloc);
-    for stored in map.channels_between(u64::from(query.first_blocknum), range_end(query)) {
+    let (from, to) = (u64::from(query.first_blocknum), range_end(query));
+    let room = map.capacity_between(from, to);
+    let mut ids = Vec::with_capacity(alloc, room)?;
+    let mut times = Vec::with_capacity(alloc, room)?;
+    for stored in map.channels_between(from, to) {
         ids.push(stored.scid())?;
         times.push(stored.timestamps())?;
     }

@@ -1,6 +1,6 @@
 //! Building a reply from messages of a map.
 
-ghost use Rattle.std.specs.Prelude.{◌≡◌, ◌%◌, ◌<◌, ◌++◌, ◌==◌, ◌∷◌, [], OnOk, Some};
+ghost use Rattle.std.specs.Prelude.{◌≡◌, ◌%◌, ◌<◌, ◌++◌, ◌==◌, ◌∷◌, [], IfOk, OnOk, Some};
 ghost use Rattle.std.specs.Int.{bit_at};
 ghost use Rattle.std.specs.Option.{option_map};
 ghost use Rattle.lgm_store.specs.ChannelInfo.{update_in};
@@ -15,6 +15,9 @@ use lgm_store::{ChannelInfo, Map, Seed};
 use std::alloc::{AllocError, Global};
 use std::collections::HashSet;
 use std::marker::Model;
+
+/// The number of messages of a channel with its nodes: its announcement, two updates and those of its nodes.
+const MESSAGES: usize = 5;
 
 /// The messages of a reply so far, and the nodes whose announcements are among them.
 #[derive(Drop)]
@@ -32,14 +35,19 @@ impl<'a> Model for ReplyBuilder<'a> {
 }
 
 impl<'a> ReplyBuilder<'a> {
-    /// No messages. Nothing is allocated yet; nodes are hashed by the seed.
-    pub(crate) fn new(alloc: Global, seed: Seed) -> ReplyBuilder<'a>
-        ensures { AreSent [] result }
+    /// No messages, with room for those of this many channels, and for as many nodes, which are hashed by the seed. The only
+    /// error is out of memory.
+    pub(crate) fn with_room(
+        alloc: Global,
+        channels: usize,
+        seed: Seed,
+    ) -> Result<ReplyBuilder<'a>, AllocError>
+        ensures { IfOk result (λ builder. AreSent [] builder) }
     {
-        ReplyBuilder {
-            messages: Vec::new(alloc),
-            nodes: HashSet::with_hasher(alloc, seed),
-        }
+        Ok(ReplyBuilder {
+            messages: Vec::with_capacity(alloc, channels.saturating_mul(MESSAGES))?,
+            nodes: HashSet::with_capacity_and_hasher(alloc, channels, seed)?,
+        })
     }
 
     /// The messages.

@@ -12,7 +12,8 @@ use Rattle.std.specs.Ordering.{match_ordering}
 use Rattle.lgm_wire.specs.declared.point.Point.{Point}
 use Rattle.lgm_store.specs.Keys.{IsKeyed, point_cmp}
 use Rattle.lgm_store.specs.Rows.{put, by_point}
-use Rattle.lgm_store.proofs.Lists.{node_total, same_node}
+use Rattle.lgm_store.specs.inner.SameKeys.{same_node}
+use Rattle.lgm_store.proofs.Lists.{node_total}
 use Rattle.lgm_store.proofs.Ordered.{values-insert}
 
 -- ---- the set of banned points

@@ -27,7 +27,7 @@ use Rattle.lgm_store.specs.Laws.{IsLawful, AreStored}
 use Rattle.lgm_store.specs.Laws as Lawful
 use Rattle.lgm_store.specs.declared.op.Op.TheVariants as ops
 use Rattle.lgm_store.proofs.ListLaws.{All-filter, filter-filter, filter-same, filter-alike, filter-true}
-use Rattle.lgm_store.proofs.Lists.{same_node}
+use Rattle.lgm_store.specs.inner.SameKeys.{same_node}
 use Rattle.lgm_store.proofs.Lawful.{AreStored-absorbed, AreEnded-absorbed}
 
 abbrev pub closed_all : Rows → List ℕ → Rows

@@ -18,7 +18,8 @@ use Rattle.lgm_store.specs.inner.ChannelEntries.{alone, with_update_in, channel_
 use Rattle.lgm_store.specs.ChannelInfo.{update_in}
 use Rattle.lgm_store.specs.History.{updates_without}
 use Rattle.lgm_store.proofs.Ordered.{lookup-below}
-use Rattle.lgm_store.proofs.Lists.{id_test, same_id}
+use Rattle.lgm_store.specs.inner.SameKeys.{same_id}
+use Rattle.lgm_store.proofs.Lists.{id_test}
 use Rattle.lgm_store.proofs.Listing.{is_at-id}
 use Rattle.lgm_store.proofs.Walking.{first_value}
 

@@ -7,7 +7,8 @@ use Rattle.std.specs.declared.cmp.Ordering.TheVariants.{Less, Equal, Greater}
 use Rattle.std.specs.Ordering.{is_eq, ordering_reverse, nat_cmp}
 use Rattle.std.proofs.lemmas.Cmp.{nat_cmp_total}
 use Rattle.lgm_store.specs.Keys.{point_cmp}
-use Rattle.lgm_store.proofs.Lists.{same_id, node_total, same_node}
+use Rattle.lgm_store.specs.inner.SameKeys.{same_id, same_node}
+use Rattle.lgm_store.proofs.Lists.{node_total}
 
 pub record IsKeyOrder {K : Type 0} (cmp : K → K → Ordering) : Type 0 where
   pub total : IsTotalOrder cmp

@@ -10,13 +10,13 @@ use Rattle.std.specs.declared.cmp.Ordering.{Ordering}
 use Rattle.std.specs.declared.cmp.Ordering.TheVariants.{Less, Equal, Greater}
 use Rattle.std.specs.Ordering.{is_eq, nat_cmp, bool_cmp, ordering_then}
 use Rattle.std.proofs.lemmas.Cmp.{nat_cmp_total, nat_list_cmp_total, nat_list_eq_equiv, on_total, then_total}
-use Rattle.std.proofs.lemmas.Map.Lookups.{exact_bytes}
 use Rattle.std.proofs.lemmas.Bool.Decides.{nat_tests}
 use Rattle.lgm_wire.specs.declared.point.Point.{Point}
 use Rattle.lgm_check.specs.declared.row.ChannelRow.{ChannelRow}
 use Rattle.lgm_check.specs.declared.row.UpdateRow.{UpdateRow}
 use Rattle.lgm_check.specs.declared.row.NodeRow.{NodeRow}
 use Rattle.lgm_store.specs.Keys.{IsKeyed, point_cmp, direction_cmp, point_of, direction_of, id_of}
+use Rattle.lgm_store.specs.inner.SameKeys.{same_id, same_node}
 use Rattle.lgm_store.specs.Rows.{put, by_id, by_direction, by_node, is_point, channel_of, update_of, node_of}
 use Rattle.lgm_store.specs.History.{channels_without}
 use Rattle.lgm_store.proofs.ListLaws.{filter-same, find-same}
@@ -27,9 +27,6 @@ use Rattle.lgm_store.proofs.Points.{is_at-point}
 
 pub id_test : (k id : ℕ) → is_eq (nat_cmp id k) ≡ eqb k id
 id_test k id = grind (arith, nat_tests)
-
-pub same_id : (a b : ℕ) → nat_cmp a b ≡ Equal → a ≡ b
-same_id a b e = grind (arith, nat_tests)
 
 pub lookup-channel : (entries : List (ℕ × ChannelRow)) (id : ℕ) → IsKeyed id_of entries
     → lookup (is_at (nat_cmp id)) entries ≡ channel_of (values_of entries) id
@@ -106,11 +103,6 @@ values-update entries new k row own is keyed sorted = rw (is, own) (values-inser
 
 pub node_total : IsTotalOrder point_cmp
 node_total = on_total (λ (p : Point). p.0) nat_list_cmp_total
-
-pub same_node : (a b : Point) → point_cmp a b ≡ Equal → a ≡ b
-same_node a b e =
-    let bytes : a.0 ≡ b.0 = exact_bytes a.0 b.0 e in
-    ap (λ (x : List ℕ). let point : Point = record { 0 = x } in point) bytes
 
 pub lookup-node : (entries : List (Point × NodeRow)) (node : Point) → IsKeyed point_of entries
     → lookup (is_at (point_cmp node)) entries ≡ node_of (values_of entries) node

@@ -1,8 +1,8 @@
 -- That slots and the tree stay numbered alike, after each operation.
 use Rattle.std.proofs.Common.{◌≡◌, ◌≢◌, ℕ, Bool, true, false, cond, List, [], ◌∷◌, Option}
-use Rattle.std.proofs.Common.{Some, None, Result, Ok, refl, sym, ap, ◌∙◌, inl, inr}
+use Rattle.std.proofs.Common.{Some, None, refl, sym, ap, ◌∙◌, inl, inr}
 use Rattle.std.specs.Prelude.{is_some}
-use Rattle.std.specs.Option.{IfSome, option_map, option_and_then}
+use Rattle.std.specs.Option.{option_map, option_and_then}
 use Rattle.std.specs.List.Sorted.{IsStrictlySortedBy}
 use Rattle.std.specs.Map.{lookup, remove_entry, set_value, keys_of}
 use Rattle.std.specs.BTreeMap.{is_at, insert_entry}
@@ -10,15 +10,10 @@ use Rattle.std.specs.declared.cmp.Ordering.{Ordering}
 use Rattle.std.proofs.lemmas.Bool.{cases_eq}
 use Rattle.slab.specs.Slab.{Slab, with_value, Updates}
 use Rattle.slab.proofs.SlabLemmas.{Updates-with_value}
-use Rattle.lgm_store.specs.inner.Slots.{slot_at, entries_in, HaveOwn, IsNumbered, IsAdded, AreSame}
+use Rattle.lgm_store.specs.inner.Slots.{slot_at, entries_in, HaveOwn, IsNumbered, IsAdded, IsFound}
 use Rattle.lgm_store.proofs.Ordered.{insert-set}
 use Rattle.lgm_store.proofs.KeyOrder.{IsKeyOrder, same_at, is_at-own}
 use Rattle.lgm_store.proofs.Slotted.{in_slot, inserted, inserted-own, removed-own, lookup-slots, found-own, keys-slots, set}
-
--- what was returned, with the flag that was tested
-pub was : {E : Type 0} {answer : Result (ℕ × Bool) E} {is expected : Bool} → (number : ℕ) → answer ≡ Ok (number, is) → is ≡ expected
-    → answer ≡ Ok (number, expected)
-was number answered tested = rw tested at answered
 
 module _ {K V : Type 0} {cmp : K → K → Ordering} (order : IsKeyOrder cmp) (key_of : V → K) where
   -- ---- the invariant
@@ -136,15 +131,6 @@ module _ {K V : Type 0} {cmp : K → K → Ordering} (order : IsKeyOrder cmp) (k
       let here = in_slot order key_of (slot_at slots number) key (found-own order key_of slots key number numbers own found) in
       ap is_some (found-stored slots numbers entries key number here.0 own view_is found here.1)
 
-  -- a right guess
-  pub guessed-held : (slots : List (Option V)) (numbers : List (K × ℕ)) (entries : List (K × V)) (key : K) (guess : Option ℕ)
-      → IsNumbered cmp key_of slots numbers → entries_in slots numbers ≡ entries
-      → IfSome guess (λ number. option_map key_of (slot_at slots number) ≡ Some key)
-      → is_some guess ≡ true → is_some (lookup (is_at (cmp key)) entries) ≡ true
-  guessed-held slots numbers entries key None sound view_is right some = absurd cc
-  guessed-held slots numbers entries key (Some number) sound view_is right some =
-      found-held slots numbers entries key number sound.own view_is (sound.listed number key right)
-
   pub ascend-slots : (slots : List (Option V)) (numbers : List (K × ℕ)) → HaveOwn key_of slots numbers → IsStrictlySortedBy cmp (keys_of numbers)
       → IsStrictlySortedBy cmp (keys_of (entries_in slots numbers))
   ascend-slots slots numbers own ascend = rw (keys-slots order key_of slots numbers own) ascend
@@ -157,18 +143,18 @@ module _ {K V : Type 0} {cmp : K → K → Ordering} (order : IsKeyOrder cmp) (k
     pub sorted : IsStrictlySortedBy cmp (keys_of (entries_in slots numbers))
 
   -- under a new key
-  pub put-added : (old new : Slab V) (numbers numbers' : List (K × ℕ)) (before : List (K × V)) (key : K) (number : ℕ) (value : V)
-      → IsAdded cmp old new numbers numbers' key number value → IsNumbered cmp key_of old.slots numbers
+  pub put-added : (old new : Slab V) (numbers numbers' : List (K × ℕ)) (before : List (K × V)) (key : K) (value : V)
+      → IsAdded cmp old new numbers numbers' key value → IsNumbered cmp key_of old.slots numbers
       → entries_in old.slots numbers ≡ before → key_of value ≡ key → IsPut new.slots numbers' before key value
-  put-added old new numbers numbers' before key number value added sound view_is own =
+  put-added old new numbers numbers' before key value added sound view_is own =
       let after : IsNumbered cmp key_of new.slots numbers' =
-      numbered-insert old new numbers numbers' key number value added.updates added.vacant own added.none added.entries
+      numbered-insert old new numbers numbers' key added.number value added.updates added.vacant own added.none added.entries
       added.ascend added.finds sound in
       record {
         numbered = after;
         view =
             ap (λ (es : List (K × ℕ)). entries_in new.slots es) added.entries
-            ∙ inserted order key_of old.slots new.slots number added.updates.others key value numbers added.vacant
+            ∙ inserted order key_of old.slots new.slots added.number added.updates.others key value numbers added.vacant
             added.updates.changed sound.own
             ∙ ap (λ (es : List (K × V)). insert_entry cmp es key value) view_is;
         sorted = ascend-slots new.slots numbers' after.own after.ascend;
@@ -197,11 +183,28 @@ module _ {K V : Type 0} {cmp : K → K → Ordering} (order : IsKeyOrder cmp) (k
         sorted = ascend-slots (with_value s number value).slots numbers after.own after.ascend;
       }
 
-  -- what is the same is numbered alike
-  pub same-numbered : (old new : Slab V) (numbers numbers' : List (K × ℕ)) → AreSame old new numbers numbers'
-      → IsNumbered cmp key_of old.slots numbers → IsNumbered cmp key_of new.slots numbers'
-  same-numbered old new numbers numbers' same sound = rw (same.same_slots, same.same_numbers) sound
+  -- in the slot that was found
+  pub put-found : (old new : Slab V) (numbers numbers' : List (K × ℕ)) (before : List (K × V)) (key : K) (value : V) (found : ℕ × V)
+      → IsFound cmp old new numbers numbers' key value found → IsNumbered cmp key_of old.slots numbers
+      → entries_in old.slots numbers ≡ before → key_of value ≡ key
+      → IsPut (with_value new found.0 found.1).slots numbers' before key value
+  put-found old new numbers numbers' before key value found is_found sound view_is own =
+      let sound' : IsNumbered cmp key_of new.slots numbers' = rw (is_found.same_slots, is_found.same_numbers) sound in
+      let view' : entries_in new.slots numbers' ≡ before = rw (is_found.same_slots, is_found.same_numbers) view_is in
+      let own' : lookup (is_at (cmp key)) numbers' ≡ Some found.0 = rw is_found.same_numbers is_found.own in
+      let here = in_slot order key_of (slot_at new.slots found.0) key (found-own order key_of new.slots key found.0 numbers' sound'.own own') in
+      rw is_found.same_value (put-written new numbers' before key found.0 here.0 value sound' view' own' here.1 own)
 
-  pub same-entries : (old new : Slab V) (numbers numbers' : List (K × ℕ)) (before : List (K × V)) → AreSame old new numbers numbers'
-      → entries_in old.slots numbers ≡ before → entries_in new.slots numbers' ≡ before
-  same-entries old new numbers numbers' before same view_is = rw (same.same_slots, same.same_numbers) view_is
+  pub has-found : (old new : Slab V) (numbers numbers' : List (K × ℕ)) (key : K) (value : V) (found : ℕ × V)
+      → IsFound cmp old new numbers numbers' key value found → IsNumbered cmp key_of old.slots numbers
+      → is_some (slot_at new.slots found.0) ≡ true
+  has-found old new numbers numbers' key value found is_found sound =
+      rw is_found.same_slots (has-slot old.slots numbers key found.0 sound.own is_found.own)
+
+  -- the value that was there
+  pub found-value : (old new : Slab V) (numbers numbers' : List (K × ℕ)) (before : List (K × V)) (key : K) (value stored : V) (found : ℕ × V)
+      → IsFound cmp old new numbers numbers' key value found → IsNumbered cmp key_of old.slots numbers
+      → entries_in old.slots numbers ≡ before → slot_at new.slots found.0 ≡ Some stored
+      → lookup (is_at (cmp key)) before ≡ Some stored
+  found-value old new numbers numbers' before key value stored found is_found sound view_is here =
+      found-stored old.slots numbers before key found.0 stored sound.own view_is is_found.own (rw is_found.same_slots at here)

@@ -1,6 +1,7 @@
 -- Definitions for contracts inside the crate.
 pub mod Decided
 pub mod Slots
+pub mod SameKeys
 pub mod ChannelTable
 pub mod ChannelsByNode
 pub mod Sound

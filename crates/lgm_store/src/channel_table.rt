@@ -1,9 +1,9 @@
-//! Channels in slots, by id.
+//! Channels with their updates by id.
 
-ghost use Rattle.std.specs.Prelude.{◌≡◌, ◌≢◌, [], true, false, is_some, length, Some, IfSome, OnOk, OnErr};
-ghost use Rattle.std.specs.Option.{option_copied, option_map, option_and_then};
+ghost use Rattle.std.specs.Prelude.{◌≡◌, ◌≢◌, true, false, is_some, OnOk, OnErr};
+ghost use Rattle.std.specs.Option.{option_map, option_and_then};
 ghost use Rattle.std.specs.List.Sorted.{IsStrictlySortedBy};
-ghost use Rattle.std.specs.Map.{lookup, remove_entry, keys_of, values_of};
+ghost use Rattle.std.specs.Map.{lookup, keys_of, values_of};
 ghost use Rattle.std.specs.BTreeMap.{is_at, insert_entry};
 ghost use Rattle.std.specs.BTreeMap.Range.{entries_between, IsLeBy, IsLtBy};
 ghost use Rattle.std.specs.Range.Bound.{IsForward};
@@ -12,22 +12,19 @@ ghost use Rattle.lgm_store.specs.ChannelInfo.{update_in};
 ghost use Rattle.lgm_store.specs.Rows.{is_second};
 ghost use Rattle.lgm_store.specs.Admission.{update_admission, Offers};
 ghost use Rattle.lgm_store.specs.inner.Decided.{update_op};
-ghost use Rattle.lgm_store.specs.inner.Slots.{slot_at, IsNumbered};
+ghost use Rattle.lgm_store.specs.inner.SameKeys.{same_id};
 ghost use Rattle.lgm_store.specs.inner.ChannelTable.{id_in, with_update_at};
 
 use crate::channel_info::ChannelInfo;
 use crate::iter::Channels;
-use crate::lookup::{Hint, cache_key};
-use crate::lookup_cache::{LookupCache, NOWHERE, unless};
+use crate::lookup::Hint;
+use crate::lookup_cache::{NOWHERE, unless};
 use crate::shared::Shared;
-use crate::slots::add;
+use crate::slot_table::{Key, Keyed, SlotTable, number_of, place};
 use arrayvec::ArrayVec;
 use lgm_check::{Refusal, StoredUpdate};
 use lgm_gossip::{Point, Scid};
-use slab::Slab;
-use std::alloc::{AllocError, Global};
-use std::collections::BTreeMap;
-use std::marker::Model;
+use std::alloc::AllocError;
 use std::ops::Bound;
 
 /// The number of channels whose rows are read together.
@@ -37,66 +34,30 @@ pub const TOGETHER: usize = 16;
 pub(crate) const NODES: usize = 2 * TOGETHER;
 
 /// Channels with their updates, by id. Contracts see each id with its channel, ascending.
-///
-/// Channels are stored in slots, with a B-tree from id to slot number, and a lookup cache in front: so a search of the
-/// tree reads ids and slot numbers alone, and mostly there is no search. The slot of a removed channel is reused.
-#[derive(Drop)]
-pub(crate) struct ChannelTable {
-    numbers: BTreeMap<Scid, usize>,
-    slots: Slab<ChannelInfo>,
-    /// In front of the tree. No contract depends on it.
-    cache: LookupCache,
+pub(crate) type ChannelTable = SlotTable<Scid, ChannelInfo>;
+
+impl Key for Scid {
+    /// The id as a number.
+    fn cache_key(&self) -> u64 {
+        self.to_u64()
+    }
+
+    ghost same = { same_id };
 }
 
-impl Model for ChannelTable {
-    ghost use Rattle.std.specs.Prelude.{ℕ, List};
-    ghost use Rattle.lgm_store.specs.declared.channel_info.ChannelInfo.{ChannelInfo};
-    ghost use Rattle.std.specs.Ordering.{nat_cmp};
-    ghost use Rattle.lgm_store.specs.inner.Slots.{entries_in, IsNumbered};
-    ghost use Rattle.lgm_store.specs.inner.ChannelTable.{id_in};
+impl Keyed<Scid> for ChannelInfo {
+    ghost key_of = { id_in };
 
-    ghost Value = { List (ℕ × ChannelInfo) };
-
-    ghost view = { λ s. entries_in s.slots.slots s.numbers.entries };
-
-    ghost invariant = { λ s. IsNumbered nat_cmp id_in s.slots.slots s.numbers.entries };
+    fn key(&self) -> Scid {
+        self.scid()
+    }
 }
 
-impl ChannelTable {
-    /// A table without channels. Allocates nothing.
-    pub(crate) fn new(alloc: Global) -> ChannelTable
-        ensures { result ≡ [] }
-    {
-        ChannelTable {
-            numbers: BTreeMap::new(alloc),
-            slots: Slab::new(alloc),
-            cache: LookupCache::new(alloc),
-        }
-    }
-
-    /// The number of channels.
-    pub(crate) fn len(&self) -> usize
-        ensures { result ≡ length self.now }
-    {
-        self.numbers.len()
-    }
-
-    pub(crate) fn get(&self, scid: Scid) -> Option<&ChannelInfo>
-        ensures { option_copied result ≡ lookup (is_at (nat_cmp scid)) self.now }
-    {
-        let number = number_of(
-            &self.numbers,
-            &self.slots,
-            self.cache.cached(scid.to_u64()),
-            scid,
-        )?;
-        Some(&self.slots[number])
-    }
-
+impl SlotTable<Scid, ChannelInfo> {
     /// The number that the cache has for a channel, or one that is too large.
     #[inline(always)]
     pub(crate) fn locate(&self, scid: Scid) -> usize {
-        self.cache.guess(scid.to_u64())
+        self.cache.guess(scid.cache_key())
     }
 
     /// The number, unless its slot is hardly that of the channel. What the admission of an update reads is then in the
@@ -123,8 +84,8 @@ impl ChannelTable {
         for number in &numbers {
             if let Some(stored) = self.slots.get(*number) {
                 stored.touch();
-                let _ = nodes.try_push(cache_key(stored.node(false)));
-                let _ = nodes.try_push(cache_key(stored.node(true)));
+                let _ = nodes.try_push(stored.node(false).cache_key());
+                let _ = nodes.try_push(stored.node(true).cache_key());
             }
         }
         nodes
@@ -134,7 +95,7 @@ impl ChannelTable {
     fn guess(&self, hint: Hint, scid: Scid) -> Option<usize> {
         match hint.slot() {
             Some(number) => Some(number),
-            None => self.cache.cached(scid.to_u64()),
+            None => self.cache.cached(scid.cache_key()),
         }
     }
 
@@ -154,35 +115,11 @@ impl ChannelTable {
         ensures present { result ≡ Ok false → is_some (lookup (is_at (nat_cmp (id_in stored))) self.old) ≡ true }
         ensures same { result ≢ Ok true → self.new ≡ self.old }
     {
-        let scid = stored.scid();
-        let guess = self.cache.cached(scid.to_u64());
-        if guessed(&self.slots, guess, scid).is_some() {
-            return Ok(false);
-        }
-        let (number, is_new) = add(&mut self.numbers, &mut self.slots, scid, stored)?;
-        if !is_new {
-            return Ok(false);
-        }
-        self.cache.reserve(self.numbers.len());
-        self.cache.note(scid.to_u64(), number);
-        Ok(true)
-    }
-
-    /// Removes a channel and returns it, if it is in the table.
-    pub(crate) fn remove(&mut self, scid: Scid) -> Option<ChannelInfo>
-        ensures value { result ≡ lookup (is_at (nat_cmp scid)) self.old }
-        ensures left { self.new ≡ remove_entry (is_at (nat_cmp scid)) self.old }
-        ensures ascend { IsStrictlySortedBy nat_cmp (keys_of self.new) }
-    {
-        let number = self.numbers.remove(&scid)?;
-        Some(self.slots.remove(number))
-    }
-
-    /// Removes a channel, if it is in the table.
-    pub(crate) fn discard(&mut self, scid: Scid)
-        ensures { self.new ≡ remove_entry (is_at (nat_cmp scid)) self.old }
-    {
-        self.remove(scid);
+        let placed = place(&mut self.numbers, &mut self.slots, &mut self.cache, stored)?;
+        let Some(_) = placed else {
+            return Ok(true);
+        };
+        Ok(false)
     }
 
     /// Replaces the update of a direction, if its channel is in the table.
@@ -193,12 +130,12 @@ impl ChannelTable {
         let Some(number) = number_of(
             &self.numbers,
             &self.slots,
-            self.cache.cached(scid.to_u64()),
-            scid,
+            self.cache.cached(scid.cache_key()),
+            &scid,
         ) else {
             return;
         };
-        self.cache.note(scid.to_u64(), number);
+        self.cache.note(scid.cache_key(), number);
         let stored = &mut self.slots[number];
         stored.put_update(second, row);
     }
@@ -219,50 +156,23 @@ impl ChannelTable {
     {
         let scid = row.get().scid();
         let guess = self.guess(hint, scid);
-        let Some(number) = number_of(&self.numbers, &self.slots, guess, scid) else {
+        let Some(number) = number_of(&self.numbers, &self.slots, guess, &scid) else {
             return Err(Refusal::UnknownChannel);
         };
-        self.cache.correct(guess, scid.to_u64(), number);
+        self.cache.correct(guess, scid.cache_key(), number);
         let stored = &mut self.slots[number];
         stored.offer_update(row, signer)
     }
 }
 
-impl Clone for ChannelTable {
-    ghost is_clone = { λ slots copy. copy ≡ slots };
+impl Clone for SlotTable<Scid, ChannelInfo> {
+    ghost is_clone = { λ table copy. copy ≡ table };
 
     fn clone(&self) -> Result<ChannelTable, AllocError> {
-        Ok(ChannelTable {
+        Ok(SlotTable {
             numbers: self.numbers.clone()?,
             slots: self.slots.clone()?,
             cache: self.cache.clone()?,
         })
-    }
-}
-
-/// The slot number of a channel, if it is in the table: the cached one if that slot has the channel, else the tree's.
-fn number_of(
-    numbers: &BTreeMap<Scid, usize>,
-    slots: &Slab<ChannelInfo>,
-    guess: Option<usize>,
-    scid: Scid,
-) -> Option<usize>
-    requires { IsNumbered nat_cmp id_in slots.now.slots numbers.now.entries }
-    ensures { result ≡ lookup (is_at (nat_cmp scid)) numbers.now.entries }
-{
-    match guessed(slots, guess, scid) {
-        Some(number) => Some(number),
-        None => numbers.get(&scid).copied(),
-    }
-}
-
-/// A guess of a slot number, if the slot has the channel.
-fn guessed(slots: &Slab<ChannelInfo>, guess: Option<usize>, scid: Scid) -> Option<usize>
-    ensures { IfSome result (λ number. option_map id_in (slot_at slots.now.slots number) ≡ Some scid) }
-{
-    let number = guess?;
-    match slots.get(number) {
-        Some(stored) if stored.scid() == scid => Some(number),
-        _ => None,
     }
 }

@@ -5,10 +5,11 @@ ghost use Rattle.lgm_wire.specs.declared.point.Point.{Point};
 ghost use Rattle.lgm_store.specs.inner.ChannelsByNode.{entry_of, list_at, with_id, without_id};
 ghost use Rattle.lgm_store.specs.inner.ChannelsByNode.{changed, Lacks, Sets, IsSame, Lists, IsPlaceOf};
 
-use crate::lookup::{NodeKey, cache_key};
+use crate::lookup::NodeKey;
 use crate::lookup_cache::{LookupCache, NOWHERE, unless};
 use crate::scid_set::ScidSet;
 use crate::seed::Seed;
+use crate::slot_table::Key;
 use indexmap::IndexMap;
 use lgm_gossip::{Point, Scid};
 use std::alloc::{AllocError, Global};
@@ -56,7 +57,7 @@ impl ChannelsByNode {
     pub(crate) fn contains(&self, point: &Point) -> bool
         ensures { result ≡ is_some (entry_of self.now point.now) }
     {
-        place_of(&self.lists, self.cache.cached(cache_key(point)), point).is_some()
+        place_of(&self.lists, self.cache.cached(point.cache_key()), point).is_some()
     }
 
     /// The place that the cache has for a node's list, or one that is too large.
@@ -139,22 +140,22 @@ impl ChannelsByNode {
         ensures ok { OnOk result (Sets self.old self.new point (with_id (list_at self.old point) scid)) }
         ensures err { OnErr result (IsSame self.old self.new) }
     {
-        let guess = self.cache.cached(cache_key(&point));
+        let guess = self.cache.cached(point.cache_key());
         if let Some(place) = place_of(&self.lists, guess, &point) {
-            self.cache.correct(guess, cache_key(&point), place);
+            self.cache.correct(guess, point.cache_key(), place);
             let (_, list) = self.lists.pair_mut(place);
             return list.insert(self.alloc, scid);
         }
         let (place, _) = self.lists.insert_full(point, ScidSet::of(scid))?;
         self.cache.reserve(self.lists.len());
-        self.cache.note(cache_key(&point), place);
+        self.cache.note(point.cache_key(), place);
         Ok(())
     }
 
     fn remove_one(&mut self, point: &Point, scid: Scid)
         ensures { Sets self.old self.new point.now (without_id (list_at self.old point.now) scid) }
     {
-        let guess = self.cache.cached(cache_key(point));
+        let guess = self.cache.cached(point.cache_key());
         if let Some(place) = place_of(&self.lists, guess, point) {
             let (_, list) = self.lists.pair_mut(place);
             list.remove(self.alloc, scid);

@@ -25,7 +25,7 @@ mod op;
 mod scid_set;
 mod seed;
 mod shared;
-mod slots;
+mod slot_table;
 
 pub use channel_info::ChannelInfo;
 pub use channel_table::TOGETHER;

@@ -120,8 +120,3 @@ impl Hint {
         found(self.slot)
     }
 }
-
-/// What a node is cached by: the first eight bytes of its id's x coordinate.
-pub(crate) fn cache_key(node: &Point) -> u64 {
-    NodeKey::of(node).front()
-}

@@ -1,4 +1,4 @@
-//! A cache in front of the B-tree of a [`ChannelTable`](crate::channel_table::ChannelTable), of the hash table of
+//! A cache in front of the B-tree of a [`SlotTable`](crate::slot_table::SlotTable), of the hash table of
 //! [`ChannelsByNode`](crate::channels_by_node::ChannelsByNode), and of the numbers of a view's nodes.
 
 use std::alloc::{AllocError, Global};

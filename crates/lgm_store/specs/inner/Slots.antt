@@ -45,10 +45,25 @@ pub record AreSame {K V : Type 0} (old new : Slab V) (numbers numbers' : List (K
 
 -- a value was added under a new key
 pub record IsAdded {K V : Type 0} (cmp : K → K → Ordering) (old new : Slab V) (numbers numbers' : List (K × ℕ))
-    (key : K) (number : ℕ) (value : V) : Type 0 where
+    (key : K) (value : V) : Type 0 where
+  pub number : ℕ
   pub vacant : slot_at old.slots number ≡ None
   pub updates : Updates old new number (Some value)
   pub none : lookup (is_at (cmp key)) numbers ≡ None
   pub entries : numbers' ≡ insert_entry cmp numbers key number
   pub ascend : IsStrictlySortedBy cmp (keys_of numbers')
   pub finds : (q : K) → lookup (is_at (cmp q)) numbers' ≡ cond (is_at (cmp key) q) (Some number) (lookup (is_at (cmp q)) numbers)
+
+-- a value was returned, with the number of the slot of its key's
+pub record IsFound {K V : Type 0} (cmp : K → K → Ordering) (old new : Slab V) (numbers numbers' : List (K × ℕ))
+    (key : K) (value : V) (found : ℕ × V) : Type 0 where
+  pub own : lookup (is_at (cmp key)) numbers ≡ Some found.0
+  pub same_value : found.1 ≡ value
+  pub same_slots : new.slots ≡ old.slots
+  pub same_numbers : numbers' ≡ numbers
+
+-- a value was added, or returned since its key has one
+abbrev pub Places : {K V : Type 0} → (K → K → Ordering) → (V → K) → Slab V → Slab V
+    → List (K × ℕ) → List (K × ℕ) → V → Option (ℕ × V) → Type 0
+Places cmp key_of old new numbers numbers' value None = IsAdded cmp old new numbers numbers' (key_of value) value
+Places cmp key_of old new numbers numbers' value (Some found) = IsFound cmp old new numbers numbers' (key_of value) value found

@@ -75,7 +75,7 @@ impl Map {
         match self.ends.add(first, second, scid) {
             Ok(()) => Ok(true),
             Err(refused) => {
-                self.channels.discard(scid);
+                self.channels.discard(&scid);
                 Err(refused)
             }
         }
@@ -123,7 +123,7 @@ impl Map {
     pub(crate) fn close(&mut self, scid: Scid)
         ensures { self.new ≡ without_channel self.old scid }
     {
-        let Some(stored) = self.channels.remove(scid) else {
+        let Some(stored) = self.channels.remove(&scid) else {
             return;
         };
         let (first, second) = (*stored.node(false), *stored.node(true));
@@ -142,7 +142,7 @@ fn drop_unless_ended(nodes: &mut NodeTable, ends: &ChannelsByNode, node: &Point)
     ensures left { values_of nodes.new ≡ filter (stays_beside ends.now node.now) (values_of nodes.old) }
 {
     if !ends.contains(node) {
-        nodes.remove(node);
+        nodes.discard(node);
     }
 }
 

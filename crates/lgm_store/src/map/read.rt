@@ -44,7 +44,7 @@ impl Map {
         ensures stored { option_copied result
             ≡ option_map (stored_at self.now) (channel_of self.now.channels scid) }
     {
-        self.channels.get(scid)
+        self.channels.get(&scid)
     }
 
     /// Reads the rows of the first [`TOGETHER`] of these channels, and of their nodes, so that the processor's cache has
@@ -84,7 +84,8 @@ impl Map {
     pub fn stored_node(&self, node: &Point) -> Option<&StoredNode>
         ensures { option_copied result ≡ node_of self.now.nodes node.now }
     {
-        self.nodes.get(node)
+        let row = self.nodes.get(node)?;
+        Some(row.get())
     }
 
     /// Whether the node has a channel in the map. Allocates nothing.
@@ -173,16 +174,29 @@ impl Map {
     pub fn ids_between(&self, alloc: Global, from: u64, to: u64) -> Result<Scids, AllocError>
         ensures { IfOk result (λ ids. ids ≡ ids_between_of self.now.channels from to) }
     {
-        let mut ids = Vec::new(alloc);
+        let mut ids = Vec::with_capacity(alloc, self.capacity_between(from, to))?;
         for stored in self.channels_between(from, to) {
             ids.push(stored.scid())?;
         }
         Ok(Scids::from_vec(ids))
     }
+
+    /// The capacity to reserve for what is collected of the channels of these blocks: their number if the range has all
+    /// blocks, else 0. No contract depends on it.
+    pub fn capacity_between(&self, from: u64, to: u64) -> usize {
+        if from == 0 && to >= BLOCKS {
+            self.count()
+        } else {
+            0
+        }
+    }
 }
 
 /// The number of ids per block.
 const BLOCK: u64 = 1 << 40;
+
+/// The number of blocks that ids can have.
+const BLOCKS: u64 = 1 << 24;
 
 /// An id that is above all ids of earlier blocks.
 fn start_of(block: u64) -> Scid

@@ -10,7 +10,7 @@ use Rattle.lgm_query.proofs.range_reply.with_timestamps.Goals as goal
 
 pub returns-clause-ids : goal.returns-clause-ids
 returns-clause-ids c =
-    let walked = rw (c.from.ensures, c.range_end.ensures.value) at
+    let walked = rw (c.from-from.ensures, c.range_end-to.ensures.value) at
     (c.into_iter-stored-iterator.ensures.into_iter_gives ∙ c.channels_between-stored-items.ensures) in
     let query = c.args.query.now in
     c.from_vec-ids.ensures ∙ sym (append-nil c.loop-stored.ids.items)
@@ -20,7 +20,7 @@ returns-clause-ids c =
 
 pub returns-clause-times : goal.returns-clause-times
 returns-clause-times c =
-    let walked = rw (c.from.ensures, c.range_end.ensures.value) at
+    let walked = rw (c.from-from.ensures, c.range_end-to.ensures.value) at
     (c.into_iter-stored-iterator.ensures.into_iter_gives ∙ c.channels_between-stored-items.ensures) in
     let query = c.args.query.now in
     sym (append-nil c.loop-stored.times.items)

@@ -143,7 +143,7 @@ invariant_of-self-in-Err c =
     let its =
     added entries c.insert.new.self id c.args.row.now c.new-stored.result stored c.scid-scid.ensures
     (c.in_ok-insert.ensures.new is_new) (c.in_ok-insert.ensures.added is_new) in
-    let left = restored entries c.insert.new.self c.discard.new.self id c.args.row.now its c.discard.ensures in
+    let left = restored entries c.insert.new.self c.discard.new.self id c.args.row.now its c.discard.ensures.left in
     let none_stored =
     lookup-channels (is_at (nat_cmp id)) entries ∙ ap (option_map (λ stored. stored.channel)) its.none in
     rw left (record {
@@ -208,4 +208,4 @@ returns-in-Err-clause-same c = λ _.
     let its =
     added entries c.insert.new.self c.scid-scid.result c.args.row.now c.new-stored.result stored c.scid-scid.ensures
     (c.in_ok-insert.ensures.new is_new) (c.in_ok-insert.ensures.added is_new) in
-    rw (restored entries c.insert.new.self c.discard.new.self c.scid-scid.result c.args.row.now its c.discard.ensures) c.self.view_is
+    rw (restored entries c.insert.new.self c.discard.new.self c.scid-scid.result c.args.row.now its c.discard.ensures.left) c.self.view_is

@@ -6,6 +6,6 @@ use Rattle.lgm_store.proofs.map.Map.ids_between.Goals as goal
 pub loop-stored-init : goal.loop-stored-init
 loop-stored-init c =
     let walk : c.into_iter-stored-iterator.result ≡ c.channels_between-stored-items.result = search rules in
-    rw c.new-ids.ensures.items (ap (λ (hs : List ChannelInfo).
+    rw c.in_ok-ids.ensures.items (ap (λ (hs : List ChannelInfo).
     map (λ stored. stored.channel.message.short_channel_id) hs) (walk ∙ c.channels_between-stored-items.ensures)
     ∙ ids-channels c.args.self.now c.args.self.now.channels c.args.from c.args.to)

@@ -19,12 +19,12 @@ all_stay ends node here (row ∷ rows) = rw (here, ← all_stay ends node here r
 
 pub returns-then-not-contains-clause-keyed : goal.returns-then-not-contains-clause-keyed
 returns-then-not-contains-clause-keyed c =
-    rw c.remove.ensures.left (IsKeyed-remove point_cmp point_of (is_at (point_cmp c.args.node.now)) c.args.nodes.now c.requires.keyed)
+    rw c.discard.ensures.left (IsKeyed-remove point_cmp point_of (is_at (point_cmp c.args.node.now)) c.args.nodes.now c.requires.keyed)
 
 pub returns-then-not-contains-clause-left : goal.returns-then-not-contains-clause-left
 returns-then-not-contains-clause-left c =
     let gone = sym c.contains.ensures ∙ c.if-not-contains.true in
-    values-no_node c.args.nodes.now c.remove.new.self c.args.node.now c.remove.ensures.left c.requires.keyed c.requires.ascend
+    values-no_node c.args.nodes.now c.discard.new.self c.args.node.now c.discard.ensures.left c.requires.keyed c.requires.ascend
     ∙ filter-same _ (stays_beside c.args.ends.now c.args.node.now) (λ row. rw gone refl) (values_of c.args.nodes.now)
 
 pub returns-else-not-contains-clause-left : goal.returns-else-not-contains-clause-left

@@ -7,7 +7,7 @@ use Rattle.lgm_store.specs.declared.channel_info.ChannelInfo.{ChannelInfo}
 use Rattle.lgm_store.specs.inner.Slots.{entries_in}
 use Rattle.lgm_store.proofs.KeyOrder.{by_id}
 use Rattle.lgm_store.proofs.Slotted.{filter-slots, own-filter}
-use Rattle.lgm_store.proofs.channel_table.ChannelTable.range.Goals as goal
+use Rattle.lgm_store.proofs.channel_table.SlotTable+Scid+ChannelInfo.range.Goals as goal
 
 pub new-requires : goal.new-requires
 new-requires c =

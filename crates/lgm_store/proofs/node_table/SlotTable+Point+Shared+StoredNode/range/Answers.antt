@@ -7,7 +7,7 @@ use Rattle.lgm_store.specs.Keys.{point_cmp, point_of}
 use Rattle.lgm_store.specs.inner.Slots.{entries_in}
 use Rattle.lgm_store.proofs.KeyOrder.{by_node}
 use Rattle.lgm_store.proofs.Slotted.{filter-slots, own-filter}
-use Rattle.lgm_store.proofs.node_table.NodeTable.range.Goals as goal
+use Rattle.lgm_store.proofs.node_table.SlotTable+Point+Shared+StoredNode.range.Goals as goal
 
 pub new-requires : goal.new-requires
 new-requires c =

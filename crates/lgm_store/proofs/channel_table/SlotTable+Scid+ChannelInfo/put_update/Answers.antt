@@ -11,8 +11,8 @@ use Rattle.lgm_store.proofs.KeyOrder.{by_id}
 use Rattle.lgm_store.proofs.Holding.{channel-with}
 use Rattle.lgm_store.proofs.Putting.{put-is}
 use Rattle.lgm_store.proofs.Numbering.{numbered-put, entries-put, found-stored, found-none, has-slot}
-use Rattle.lgm_store.proofs.channel_table.ChannelTable.put_update.Goals as goal
-use Rattle.lgm_store.proofs.channel_table.ChannelTable.put_update.Goals.{After-self-1}
+use Rattle.lgm_store.proofs.channel_table.SlotTable+Scid+ChannelInfo.put_update.Goals as goal
+use Rattle.lgm_store.proofs.channel_table.SlotTable+Scid+ChannelInfo.put_update.Goals.{After-self-1}
 
 pub returns-in_default : goal.returns-in_default
 returns-in_default c =

@@ -12,8 +12,8 @@ use Rattle.lgm_store.proofs.KeyOrder.{by_id}
 use Rattle.lgm_store.proofs.ChannelWithUpdates.{set_value-same}
 use Rattle.lgm_store.proofs.Putting.{put-is}
 use Rattle.lgm_store.proofs.Numbering.{numbered-put, entries-put, found-stored, found-none, has-slot}
-use Rattle.lgm_store.proofs.channel_table.ChannelTable.offer_update.Goals as goal
-use Rattle.lgm_store.proofs.channel_table.ChannelTable.offer_update.Goals.{After-self-1}
+use Rattle.lgm_store.proofs.channel_table.SlotTable+Scid+ChannelInfo.offer_update.Goals as goal
+use Rattle.lgm_store.proofs.channel_table.SlotTable+Scid+ChannelInfo.offer_update.Goals.{After-self-1}
 
 pub returns-in_default-clause-admission : goal.returns-in_default-clause-admission
 returns-in_default-clause-admission c =
