@@ -1,15 +1,17 @@
 -- Lanes of bytes, and the digits that spell them.
 use Rattle.std.proofs.Common.{◌≡◌, ℕ, zero, suc, ◌+◌, ◌-◌, ◌*◌, ◌/◌, ◌%◌, ◌^◌, ◌<◌, ◌≤◌, Bool, true, ◌&&◌, eqb, List, [], ◌∷◌, ◌++◌}
-use Rattle.std.proofs.Common.{length, get_or, replicate, bit_and, w8, refl, sym, ap, ◌∙◌, inl, inr, arith, add-one, take, drop}
+use Rattle.std.proofs.Common.{length, get_or, replicate, bit_and, w8, refl, sym, ap, ◌∙◌, inl, inr, arith, add-one, take, drop, slice_index}
 use Rattle.std.proofs.lemmas.Bool.{cases_lt}
 use Rattle.std.proofs.lemmas.Bool.Decides.{Decides-below_and, Decides-eqb}
-use Rattle.std.proofs.lemmas.List.{get_or-map, set-get_or, get_or_append_left, get_or-append_right}
+use Rattle.std.proofs.lemmas.List.{get_or-map, set-get_or, get_or_append_left, get_or-append_right, append_assoc, append-nil, take-take, drop_all}
 use Rattle.std.proofs.lemmas.Nat.{and_mask}
+use Rattle.std.proofs.Math.Seq.{take-add, take-append-add}
 use Rattle.std.proofs.lemmas.Simd.{SwzOk, swz_l, SwzOk-from_below, get_or-swz_l_below, Each1-from_get_or, get_or-zip2}
-use Rattle.std.proofs.lemmas.Simd.{get_or-replicate, get_or-chunk, get_or-put_chunk_below, get_or-put_chunk_at}
-use lib.Lanes.{zip2, pick_l, chunk, put_chunk}
+use Rattle.std.proofs.lemmas.Simd.{get_or-replicate, length-chunk}
+use lib.Lanes.{zip2, pick_l, chunk}
+use Rattle.std.specs.Prelude.{slice_range}
 use Rattle.hex.specs.Hex.{lower_digits, encode_with, encode_lower}
-use Rattle.hex.proofs.Pairs.{encode_step, encode_done}
+use Rattle.hex.proofs.Pairs.{encode_step, encode_done, encode_with-drop}
 use Rattle.lgm_hex.specs.inner.Digits.{IsEncoded}
 
 -- ---- digits, lane by lane
@@ -101,30 +103,6 @@ pairs_are bytes high low long also highs lows k h = (
 
 -- ---- text
 
--- a block encodes 32 bytes more
-pub block_encoded : (bytes out digits : List ℕ) (at : ℕ) → at + 32 ≤ length bytes → length out ≡ 2 * length bytes → length digits ≡ 64
-    → IsEncoded (chunk at 32 bytes) digits 32 → IsEncoded bytes out at → IsEncoded bytes (put_chunk (2 * at) out digits) (at + 32)
-block_encoded bytes out digits at room twice long pairs before k h =
-    elim (cases_lt k at) [
-      | inl below ↦ (
-        get_or-put_chunk_below (2 * at) out digits (2 * k) 0 (omega arith) ∙ (before k below).0,
-        get_or-put_chunk_below (2 * at) out digits (2 * k + 1) 0 (omega arith) ∙ (before k below).1,
-      )
-      | inr above ↦
-          let j = k - at in
-          let e : at + j ≡ k = omega arith in
-          let byte = get_or-chunk at 32 bytes j 0 (omega arith) ∙ ap (λ p. get_or bytes p 0) e in
-          let pair = pairs j (omega arith) in (
-            written (2 * j) (2 * k) (omega arith) (omega arith) ∙ pair.0 ∙ ap (λ (b : ℕ). get_or lower_digits (b / 16) 0) byte,
-            written (2 * j + 1) (2 * k + 1) (omega arith) (omega arith) ∙ pair.1 ∙ ap (λ (b : ℕ). get_or lower_digits (b % 16) 0) byte,
-          )
-    ]
-  where
-    written : (i m : ℕ) → i < 64 → 2 * at + i ≡ m → get_or (put_chunk (2 * at) out digits) m 0 ≡ get_or digits i 0
-    written i m h e =
-        ap (λ p. get_or (put_chunk (2 * at) out digits) p 0) (sym e)
-        ∙ get_or-put_chunk_at (2 * at) out digits i 0 (omega arith) (omega arith)
-
 -- the digits of the bytes before n, and those of the rest
 front : (bytes out : List ℕ) (n : ℕ) → n ≤ length bytes → length out ≡ 2 * length bytes → IsEncoded bytes out n
     → take (2 * n) out ++ encode_with lower_digits (drop n bytes) ≡ encode_lower bytes
@@ -136,6 +114,75 @@ front bytes out (suc n) within twice done =
     (get_or out (2 * n + 1) 0) (omega arith) (omega arith) here.0 here.1 before)
 
 -- where the digits of each byte are written, the text is
-pub all_encoded : (bytes out : List ℕ) → length out ≡ 2 * length bytes → IsEncoded bytes out (length bytes) → out ≡ encode_lower bytes
+all_encoded : (bytes out : List ℕ) → length out ≡ 2 * length bytes → IsEncoded bytes out (length bytes) → out ≡ encode_lower bytes
 all_encoded bytes out twice done =
     encode_done lower_digits bytes out (length bytes) (omega arith) twice (front bytes out (length bytes) (omega arith) twice done)
+
+-- the digits of a block are those of its 32 bytes
+pub block_encoded : (bytes digits : List ℕ) (at : ℕ) → at + 32 ≤ length bytes → length digits ≡ 64
+    → IsEncoded (chunk at 32 bytes) digits 32 → digits ≡ encode_lower (slice_range bytes at (at + 32))
+block_encoded bytes digits at room long pairs =
+    let back : at + 32 - at ≡ 32 = omega arith in
+    let block = length-chunk at 32 bytes room in
+    rw back (all_encoded (chunk at 32 bytes) digits (omega (arith, block)) (λ k h. pairs k (omega (arith, block))))
+
+-- the digits of one byte more, from the text before its first digit to that behind its second
+pub byte_appended : (bytes before text between after : List ℕ) (i high low : ℕ) → i < length bytes
+    → high ≡ slice_index lower_digits (slice_index bytes i / 16) → low ≡ slice_index lower_digits (slice_index bytes i % 16)
+    → between ≡ text ++ high ∷ [] → after ≡ between ++ low ∷ []
+    → text ++ encode_lower (drop i bytes) ≡ before ++ encode_lower bytes
+    → after ++ encode_lower (drop (i + 1) bytes) ≡ before ++ encode_lower bytes
+byte_appended bytes before text between after i high low h is_high is_low first second so_far =
+    let rest = encode_with-drop lower_digits bytes i h in
+    let tail = encode_lower (drop (i + 1) bytes) in
+    let joined = append_assoc (text ++ high ∷ []) (low ∷ []) tail ∙ append_assoc text (high ∷ []) (low ∷ tail) in
+    rw (second, first, joined, is_high, is_low) (rw rest at so_far)
+
+-- the digits of two runs of bytes, one after the other
+encode_append : (t xs ys : List ℕ) → encode_with t (xs ++ ys) ≡ encode_with t xs ++ encode_with t ys
+unfolding encode_with
+encode_append t [] ys = refl
+encode_append t (b ∷ rest) ys = ap (λ text. slice_index t (b / 16) ∷ slice_index t (b % 16) ∷ text) (encode_append t rest ys)
+
+-- the first digits are those of the first bytes
+take-encode : (t : List ℕ) (n : ℕ) (bytes : List ℕ) → take (2 * n) (encode_with t bytes) ≡ encode_with t (take n bytes)
+unfolding encode_with
+take-encode t zero bytes = refl
+take-encode t (suc n) [] = let two : 2 * suc n ≡ suc (suc (2 * n)) = omega arith in rw two refl
+take-encode t (suc n) (b ∷ rest) =
+    let two : 2 * suc n ≡ suc (suc (2 * n)) = omega arith in
+    rw two (ap (λ text. slice_index t (b / 16) ∷ slice_index t (b % 16) ∷ text) (take-encode t n rest))
+
+-- the bytes before an index, and those from there to a second one
+take_further : (bytes : List ℕ) (n m : ℕ) → take n bytes ++ slice_range bytes n (n + m) ≡ take (n + m) bytes
+take_further bytes n m =
+    let back : n + m - n ≡ m = omega arith in
+    rw back (sym (take-add n m bytes))
+
+-- text to which the digits of a further block are appended
+pub block_appended : (before text after bytes : List ℕ) (at : ℕ)
+    → text ≡ before ++ encode_lower (take at bytes)
+    → after ≡ text ++ encode_lower (slice_range bytes at (at + 32))
+    → after ≡ before ++ encode_lower (take (at + 32) bytes)
+block_appended before text after bytes at front block =
+    block ∙ ap (λ t. t ++ encode_lower (slice_range bytes at (at + 32))) front
+    ∙ append_assoc before _ _
+    ∙ ap (λ t. before ++ t) (sym (encode_append lower_digits (take at bytes) (slice_range bytes at (at + 32)))
+    ∙ ap encode_lower (take_further bytes at 32))
+
+-- text of which the digits of the bytes from an index on are dropped
+pub text_cut : (before text bytes : List ℕ) (n at : ℕ) → at ≤ n
+    → text ≡ before ++ encode_lower (take n bytes)
+    → take (length before + 2 * at) text ≡ before ++ encode_lower (take at bytes)
+text_cut before text bytes n at within front =
+    ap (take (length before + 2 * at)) front
+    ∙ take-append-add before (encode_lower (take n bytes)) (2 * at)
+    ∙ ap (λ t. before ++ t) (take-encode lower_digits at (take n bytes) ∙ ap encode_lower (take-take at n bytes within))
+
+-- text that lacks the digits of no byte
+pub none_left : (bytes before text : List ℕ) (i : ℕ) → length bytes ≤ i
+    → text ++ encode_lower (drop i bytes) ≡ before ++ encode_lower bytes → text ≡ before ++ encode_lower bytes
+unfolding encode_with
+none_left bytes before text i h so_far =
+    let none = drop_all i bytes h in
+    rw (none, append-nil) at so_far

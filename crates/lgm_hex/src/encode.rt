@@ -1,10 +1,11 @@
 //! Encoding, 32 bytes at a time.
 
-ghost use Rattle.std.specs.Prelude.{◌≡◌, ℕ, ◌+◌, ◌*◌, ◌<◌, ◌≤◌, ◌++◌, length};
-ghost use Rattle.std.specs.Prelude.{slice_index, OnOk, OnErr};
+ghost use Rattle.std.specs.Prelude.{◌≡◌, ℕ, ◌+◌, ◌*◌, ◌<◌, ◌≤◌, ◌++◌, length, take};
+ghost use Rattle.std.specs.Prelude.{slice_index, slice_range, vec_len, vec_capacity, OnOk, OnErr};
 ghost use Rattle.hex.specs.Hex.{encode_lower, lower_digits};
 ghost use Rattle.lgm_hex.specs.inner.Digits.{IsEncoded};
 
+use core::mem::replace_with;
 use std::alloc::AllocError;
 use std::simd::prelude::*;
 
@@ -18,15 +19,16 @@ fn digit(value: u8) -> u8
     b'0' + value + letter
 }
 
-/// Writes two digits for each byte, one byte at a time.
-fn encode_each(bytes: &[u8], out: &mut [u8])
-    requires { length out.old ≡ 2 * length bytes.now }
-    ensures { out.new ≡ encode_lower bytes.now }
+/// Appends two digits for each byte, one byte at a time. There is room for them.
+#[inline(always)]
+fn push_each(text: &mut Vec<u8>, bytes: &[u8])
+    requires { vec_len text.old + 2 * length bytes.now ≤ vec_capacity text.old }
+    ensures { text.new.items ≡ text.old.items ++ encode_lower bytes.now }
 {
     for i in 0..bytes.len() {
         let byte = bytes[i];
-        out[2 * i] = digit(byte >> 4);
-        out[2 * i + 1] = digit(byte & 0x0f);
+        text.push_reserved(digit(byte >> 4));
+        text.push_reserved(digit(byte & 0x0f));
     }
 }
 
@@ -59,29 +61,78 @@ fn pairs_of(bytes: u8x32) -> u8x64
     )
 }
 
-/// Writes the digits of 32 bytes.
+/// Makes the text 64 bytes longer. There is room for them.
+///
+/// The caller overwrites them at once, so no code for the zeros remains.
 #[inline(always)]
-fn encode_block(bytes: &[u8], out: &mut [u8], at: usize)
-    requires room { at + 32 ≤ length bytes.now }
-    requires twice { length out.old ≡ 2 * length bytes.now }
-    ensures { IsEncoded bytes.now out.old at → IsEncoded bytes.now out.new (at + 32) }
+fn lengthen(text: &mut Vec<u8>)
+    requires { vec_len text.old + 64 ≤ vec_capacity text.old }
+    ensures front { take (length text.old.items) text.new.items ≡ text.old.items }
+    ensures len { vec_len text.new ≡ vec_len text.old + 64 }
+    ensures capacity { vec_capacity text.old ≤ vec_capacity text.new }
 {
-    let block = u8x32::from_slice(&bytes[at..]);
-    pairs_of(block).copy_to_slice(&mut out[2 * at..]);
+    for _byte in 0..64usize {
+        text.push_reserved(0);
+    }
 }
 
-/// Writes two digits for each byte, in blocks of 32 bytes if there are that many.
-fn encode_into(bytes: &[u8], out: &mut [u8])
-    requires { length out.old ≡ 2 * length bytes.now }
-    ensures { out.new ≡ encode_lower bytes.now }
+/// Writes the digits of 32 bytes over the last 64 bytes, which begin at an index.
+#[inline(always)]
+fn put_at_end(out: &mut [u8], at: usize, digits: u8x64)
+    requires { at + 64 ≡ length out.old }
+    ensures { out.new ≡ take at out.old ++ digits }
+{
+    digits.copy_to_slice(&mut out[at..]);
+}
+
+/// Appends the digits of the 32 bytes from an index on. There is room for them.
+#[inline(always)]
+fn push_block(text: &mut Vec<u8>, bytes: &[u8], at: usize)
+    requires within { at + 32 ≤ length bytes.now }
+    requires room { vec_len text.old + 64 ≤ vec_capacity text.old }
+    ensures items { text.new.items ≡ text.old.items ++ encode_lower (slice_range bytes.now at (at + 32)) }
+    ensures len { vec_len text.new ≡ vec_len text.old + 64 }
+    ensures capacity { vec_capacity text.old ≤ vec_capacity text.new }
+{
+    let digits = pairs_of(u8x32::from_slice(&bytes[at..]));
+    let start = text.len();
+    lengthen(text);
+    put_at_end(text.as_mut_slice(), start, digits);
+}
+
+/// Appends two digits for each byte, in blocks of 32 bytes. There is room for them.
+///
+/// The last block is whole as well: the digits that it has in common with the one before are dropped first.
+#[inline(always)]
+fn push_blocks(text: &mut Vec<u8>, bytes: &[u8])
+    requires some { 32 ≤ length bytes.now }
+    requires room { vec_len text.old + 2 * length bytes.now ≤ vec_capacity text.old }
+    ensures { text.new.items ≡ text.old.items ++ encode_lower bytes.now }
+{
+    let start = text.len();
+    let last = bytes.len() - 32;
+    for i in 0..(bytes.len() - 1) / 32 {
+        push_block(text, bytes, 32 * i);
+    }
+    text.truncate(start + 2 * last);
+    push_block(text, bytes, last);
+}
+
+/// The text with two digits for each byte appended. There is room for them.
+///
+/// The text is passed by value, so the compiler keeps its length in a register: behind a reference, a digit that is
+/// written could be part of the length for all that it knows, and each would be written alone.
+#[inline(always)]
+fn with_digits(mut text: Vec<u8>, bytes: &[u8]) -> (Vec<u8>, ())
+    requires { vec_len text + 2 * length bytes.now ≤ vec_capacity text }
+    ensures { result.0.items ≡ text.items ++ encode_lower bytes.now }
 {
     if bytes.len() < 32 {
-        return encode_each(bytes, out);
+        push_each(&mut text, bytes);
+    } else {
+        push_blocks(&mut text, bytes);
     }
-    for i in 0..(bytes.len() - 1) / 32 {
-        encode_block(bytes, out, 32 * i);
-    }
-    encode_block(bytes, out, bytes.len() - 32);
+    (text, ())
 }
 
 /// Appends the bytes in lower-case digits. If memory runs out the text is unchanged.
@@ -89,14 +140,7 @@ pub fn append(text: &mut Vec<u8>, bytes: &[u8]) -> Result<(), AllocError>
     ensures ok { OnOk result (text.new.items ≡ text.old.items ++ encode_lower bytes.now) }
     ensures err { OnErr result (text.new.items ≡ text.old.items) }
 {
-    let start = text.len();
-    let Some(digits) = bytes.len().checked_mul(2) else {
-        return Err(AllocError);
-    };
-    let Some(len) = start.checked_add(digits) else {
-        return Err(AllocError);
-    };
-    text.resize(len, 0)?;
-    encode_into(bytes, &mut text.as_mut_slice()[start..]);
+    text.reserve(2 * bytes.len())?;
+    replace_with(text, bytes, with_digits);
     Ok(())
 }
