@@ -81,8 +81,9 @@ enum {
     LGM_CLOSED = 100,
     LGM_OPEN = 101,
     /*
-     * Out of memory. The same call may be made again. It comes only if the call would have succeeded, or was to search
-     * for a route, or to decode a query or a reply with lists: any other fault is returned even if memory is short.
+     * Out of memory. The same call may be made again. It comes only if the call would have succeeded, or returned
+     * LGM_ROOM, or was to search for a route, or to decode a query or a reply with lists: any other fault is returned even
+     * if memory is short. lgm_filter and lgm_snapshot_filter return LGM_ROOM even then.
      */
     LGM_NO_MEMORY = 102,
     /* A number that stands for no verdict. */
@@ -242,7 +243,8 @@ uint32_t lgm_news(lgm_map *map, const uint8_t *filter, size_t filter_len, uint8_
 
 /*
  * Moves the mark to the map as it is now, or sets the first mark. From then on each accepted message and close is kept
- * until the mark moves.
+ * until the mark moves, or until there are more than the map has channels, and 1,024 more: then none are, and the next
+ * lgm_news and lgm_mark take the time of the map.
  *
  * LGM_CLOSED; LGM_NO_MEMORY.
  */

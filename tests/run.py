@@ -1,10 +1,10 @@
 #!/usr/bin/env python3
 """Runs the tests that aren't of a crate and want no library for C: of the pages, the build script, `./test`, the
-comparison of the header, the examples, the program beside Electrum, and the program where calls fail.
+comparison of the header, the examples, the program beside Electrum, where calls fail, and where it runs for long.
 
     python3 tests/run.py [PROGRAM]
 
-PROGRAM is ./lgm if left out, which is built first where it is stale. It takes some two minutes. A file of tests that ends
+PROGRAM is ./lgm if left out, which is built first where it is stale. It takes some three minutes. A file of tests that ends
 with status 77 has said what it misses, and counts neither as passed nor as failed.
 """
 
@@ -19,7 +19,8 @@ WITH_PROGRAM = ("examples/test_why.py", "examples/test_client.py", "examples/tes
                 "examples/test_wallet_database.py", "examples/test_examples.py", "examples/test_why_route.py",
                 "examples/test_shorten.py", "bench/test_route_picture.py",
                 "tests/electrum.py")
-BUILT = "tests/refusals.py"  # over the program itself, since a shell in front of it would be refused calls too
+# Over the program itself, since a shell in front of it would be refused calls too, and watched in place of it.
+BUILT = ("tests/refusals.py", "tests/soak.py")
 LEFT_OUT = 77
 
 
@@ -35,7 +36,7 @@ def main():
     if not program:
         chain = "00" * 32
         subprocess.run([TOP / "lgm", "run", "--chain", chain], stdin=subprocess.DEVNULL, check=True)
-    runs = [(test,) for test in ALONE] + [(test, *program) for test in (*WITH_PROGRAM, BUILT)]
+    runs = [(test,) for test in ALONE] + [(test, *program) for test in (*WITH_PROGRAM, *BUILT)]
     results = {words[0]: ended(*words) for words in runs}
     failed = [name for name, status in results.items() if status not in (0, LEFT_OUT)]
     print(f"== {list(results.values()).count(0)} passed, {len(failed)} failed", *failed)

@@ -4,3 +4,4 @@ pub mod SnapshotHandle
 pub mod Networks
 pub mod Marking
 pub mod Following
+pub mod Framing

@@ -1,13 +1,21 @@
-//! Messages one after the other.
+//! Messages one after the other, in the caller's buffer.
+//!
+//! Their length is counted first, which takes no memory. Only if the buffer has room for them are they put together.
 
-ghost use Rattle.std.specs.Prelude.{◌≡◌, ◌++◌, IfOk, OnOk};
-ghost use Rattle.lgm_c.specs.Writing.{framed, all_framed};
+ghost use Rattle.std.specs.Prelude.{◌≡◌, ◌+◌, ◌++◌, length, IfOk, IfSome, OnOk};
+ghost use Rattle.lgm_query.specs.Backlog.{backlog, news};
+ghost use Rattle.lgm_c.specs.Status.{status_of};
+ghost use Rattle.lgm_c.specs.Writing.{framed, all_framed, buffer};
+ghost use Rattle.lgm_c.specs.inner.Framing.{MayWrite};
 
-use lgm_query::{Backlog, ReplyMessage};
+use crate::fault::Fault;
+use crate::output::write_bytes;
+use lgm_query::{Backlog, Filter, MapDiff, News, ReplyMessage};
+use lgm_store::Map;
 use std::alloc::{AllocError, Global};
 
 /// Appends a message: its length first, in eight bytes, little-endian.
-pub(crate) fn frame(written: &mut Vec<u8>, message: &[u8]) -> Result<(), AllocError>
+fn frame(written: &mut Vec<u8>, message: &[u8]) -> Result<(), AllocError>
     ensures { OnOk result (written.new.items ≡ written.old.items ++ framed message.now) }
 {
     written.extend_from_slice(&(message.len() as u64).to_le_bytes())?;
@@ -15,27 +23,148 @@ pub(crate) fn frame(written: &mut Vec<u8>, message: &[u8]) -> Result<(), AllocEr
     Ok(())
 }
 
-/// Replies, each after its length.
-pub(crate) fn frame_replies(
+/// A number of bytes, and those of a message after its length, unless that is beyond 2^64.
+fn with_frame(bytes: usize, message: &[u8]) -> Option<usize>
+    ensures { IfSome result (λ sum. sum ≡ bytes + length (framed message.now)) }
+{
+    bytes.checked_add(8)?.checked_add(message.len())
+}
+
+/// The number of bytes of replies, each after its length.
+fn replies_length(replies: &[ReplyMessage<'_>]) -> Option<usize>
+    ensures { IfSome result (λ sum. sum ≡ length (all_framed replies.now)) }
+{
+    let mut sum = 0;
+    for reply in replies {
+        sum = with_frame(sum, reply.as_slice())?;
+    }
+    Some(sum)
+}
+
+/// Replies, each after its length, this many bytes.
+fn frame_replies(
     alloc: Global,
     replies: &[ReplyMessage<'_>],
+    bytes: usize,
 ) -> Result<Vec<u8>, AllocError>
     ensures { IfOk result (λ written. written.items ≡ all_framed replies.now) }
 {
-    let mut written = Vec::new(alloc);
+    let mut written = Vec::with_capacity(alloc, bytes)?;
     for reply in replies {
         frame(&mut written, reply.as_slice())?;
     }
     Ok(written)
 }
 
-/// What passes a filter, each message after its length.
-pub(crate) fn frame_backlog(alloc: Global, backlog: Backlog<'_>) -> Result<Vec<u8>, AllocError>
+/// Writes replies, each after its length, if the buffer has room for them, and the length of all in any case. Out of memory
+/// changes nothing.
+pub(crate) fn write_replies(
+    alloc: Global,
+    replies: &[ReplyMessage<'_>],
+    room: &mut [u8],
+    needed: &mut usize,
+) -> Result<(), Fault>
+    ensures { MayWrite (all_framed replies.now) (status_of result)
+        (buffer room.old needed.old) (buffer room.new needed.new) }
+{
+    // No answer has 2^64 bytes.
+    let Some(bytes) = replies_length(replies) else {
+        return Err(Fault::NoMemory);
+    };
+    if room.len() < bytes {
+        *needed = bytes;
+        return Err(Fault::Room);
+    }
+    let framed = frame_replies(alloc, replies, bytes)?;
+    write_bytes(&framed, room, needed)
+}
+
+/// The number of bytes of what passes a filter, each message after its length.
+fn backlog_length(backlog: Backlog<'_>) -> Option<usize>
+    ensures { IfSome result (λ sum. sum ≡ length (all_framed backlog.entry)) }
+{
+    let mut sum = 0;
+    for message in backlog {
+        sum = with_frame(sum, message)?;
+    }
+    Some(sum)
+}
+
+/// What passes a filter, each message after its length, this many bytes.
+fn frame_backlog(alloc: Global, backlog: Backlog<'_>, bytes: usize) -> Result<Vec<u8>, AllocError>
     ensures { IfOk result (λ written. written.items ≡ all_framed backlog.entry) }
 {
-    let mut written = Vec::new(alloc);
+    let mut written = Vec::with_capacity(alloc, bytes)?;
     for message in backlog {
         frame(&mut written, message)?;
     }
     Ok(written)
+}
+
+/// Writes what passes a filter, as [`write_replies`] does.
+pub(crate) fn write_backlog(
+    alloc: Global,
+    map: &Map,
+    filter: &Filter,
+    room: &mut [u8],
+    needed: &mut usize,
+) -> Result<(), Fault>
+    ensures { MayWrite (all_framed (backlog map.now filter.now)) (status_of result)
+        (buffer room.old needed.old) (buffer room.new needed.new) }
+{
+    // No map has 2^64 bytes.
+    let Some(bytes) = backlog_length(Backlog::of(map, filter)) else {
+        return Err(Fault::NoMemory);
+    };
+    if room.len() < bytes {
+        *needed = bytes;
+        return Err(Fault::Room);
+    }
+    let framed = frame_backlog(alloc, Backlog::of(map, filter), bytes)?;
+    write_bytes(&framed, room, needed)
+}
+
+/// The number of bytes of news, each message after its length.
+fn news_length(news: News<'_, '_>) -> Option<usize>
+    ensures { IfSome result (λ sum. sum ≡ length (all_framed news.entry)) }
+{
+    let mut sum = 0;
+    for message in news {
+        sum = with_frame(sum, message)?;
+    }
+    Some(sum)
+}
+
+/// News, each message after its length, this many bytes.
+fn frame_news(alloc: Global, news: News<'_, '_>, bytes: usize) -> Result<Vec<u8>, AllocError>
+    ensures { IfOk result (λ written. written.items ≡ all_framed news.entry) }
+{
+    let mut written = Vec::with_capacity(alloc, bytes)?;
+    for message in news {
+        frame(&mut written, message)?;
+    }
+    Ok(written)
+}
+
+/// Writes the news between two maps, as [`write_replies`] does.
+pub(crate) fn write_news(
+    alloc: Global,
+    map_diff: &MapDiff<'_>,
+    filter: &Filter,
+    room: &mut [u8],
+    needed: &mut usize,
+) -> Result<(), Fault>
+    ensures { MayWrite (all_framed (news map_diff.now.before map_diff.now.after filter.now)) (status_of result)
+        (buffer room.old needed.old) (buffer room.new needed.new) }
+{
+    // No map has 2^64 bytes.
+    let Some(bytes) = news_length(map_diff.news(filter)) else {
+        return Err(Fault::NoMemory);
+    };
+    if room.len() < bytes {
+        *needed = bytes;
+        return Err(Fault::Room);
+    }
+    let framed = frame_news(alloc, map_diff.news(filter), bytes)?;
+    write_bytes(&framed, room, needed)
 }

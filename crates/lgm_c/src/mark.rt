@@ -1,19 +1,23 @@
 //! Marks: news are relative to them.
 
-ghost use Rattle.std.specs.Prelude.{◌≡◌, IfOk, OnOk, OnErr};
+ghost use Rattle.std.specs.Prelude.{◌≡◌, Some, OnOk, OnErr};
 ghost use Rattle.lgm_gossip.specs.Memory.{TakesMemory};
 ghost use Rattle.lgm_store.specs.Admission.{admitted_close};
 ghost use Rattle.lgm_query.specs.Backlog.{news};
 ghost use Rattle.lgm_c.specs.Offering.{offered_to};
 ghost use Rattle.lgm_c.specs.inner.Following.{Follows};
-ghost use Rattle.lgm_c.specs.Writing.{all_framed};
+ghost use Rattle.lgm_c.specs.inner.Framing.{MayWrite};
+ghost use Rattle.lgm_c.specs.inner.Marking.{LeadsTo};
+ghost use Rattle.lgm_c.specs.Status.{status_of};
+ghost use Rattle.lgm_c.specs.Writing.{all_framed, buffer};
 
 use crate::current::Current;
-use crate::frames::frame;
+use crate::fault::Fault;
+use crate::frames::write_news;
 use crate::verdict::refusal_without_memory;
 use lgm_check::{Evidence, Refusal};
 use lgm_gossip::{ChainHash, Scid};
-use lgm_graph::{Network, Replica};
+use lgm_graph::{Network, Replica, push_pending, reserve_pending};
 use lgm_query::{Filter, MapDiff, TouchedKeys};
 use lgm_store::{Map, Op};
 use std::alloc::{AllocError, Global};
@@ -21,32 +25,34 @@ use std::collections::VecDeque;
 use std::marker::Model;
 use std::mem::swap;
 
-/// A map as it was at a mark, and the operations that were applied to the current map since. Contracts see the rows of
-/// both.
+/// A map as it was at a mark, and the operations that were applied to the current map since, while they are few for that map
+/// ([`push_pending`]). Contracts see the rows at the mark, and those to which the operations lead, if they are kept.
 #[derive(Drop)]
 pub struct Mark {
     /// The map at the mark, with the operations from before the mark that have yet to be applied to it.
     replica: Replica,
-    /// Operations since the mark.
-    since: VecDeque<Op>,
+    /// Operations since the mark, if they are kept.
+    since: Option<VecDeque<Op>>,
 }
 
 impl Model for Mark {
+    ghost use Rattle.std.specs.Option.{option_map};
     ghost use Rattle.lgm_c.specs.inner.Marking.{Marked, marked_by};
 
     ghost Value = { Marked };
 
-    ghost view = { λ m. marked_by m.replica.network.rows m.replica.due.items m.since.items };
+    ghost view = { λ m. marked_by m.replica.network.rows m.replica.due.items
+        (option_map (λ ops. ops.items) m.since) };
 }
 
 impl Mark {
     /// A mark at the rows of a network.
     pub(crate) fn of(alloc: Global, network: Network) -> Mark
-        ensures { result ≡ record { marked = network.rows; rows = network.rows } }
+        ensures { result ≡ record { marked = network.rows; rows = Some network.rows } }
     {
         Mark {
             replica: Replica::new(alloc, network),
-            since: VecDeque::new(alloc),
+            since: Some(VecDeque::new(alloc)),
         }
     }
 
@@ -59,17 +65,17 @@ impl Mark {
         bytes: &[u8],
         evidence: &Evidence,
     ) -> Result<(), Refusal>
-        requires { self.old.rows ≡ current.old.rows }
+        requires { LeadsTo self.old.rows current.old.rows }
         ensures marked { self.new.marked ≡ self.old.marked }
-        ensures beside { self.new.rows ≡ current.new.rows }
+        ensures beside { LeadsTo self.new.rows current.new.rows }
         ensures follows { Follows (TakesMemory bytes.now)
             (offered_to chain.now current.old.rows bytes.now evidence.now) result current.old current.new }
     {
-        if self.since.reserve(1).is_err() {
+        if reserve_pending(&mut self.since).is_err() {
             return Err(refusal_without_memory(alloc, current.map(), chain, bytes, evidence));
         }
         let op = current.offer(alloc, chain, bytes, evidence)?;
-        self.since.push_back_reserved(op);
+        push_pending(&mut self.since, op, current.map().count());
         Ok(())
     }
 
@@ -80,48 +86,58 @@ impl Mark {
         current: &mut Current,
         scid: Scid,
     ) -> Result<(), Refusal>
-        requires { self.old.rows ≡ current.old.rows }
+        requires { LeadsTo self.old.rows current.old.rows }
         ensures marked { self.new.marked ≡ self.old.marked }
-        ensures beside { self.new.rows ≡ current.new.rows }
+        ensures beside { LeadsTo self.new.rows current.new.rows }
         ensures follows { Follows ⊥ (admitted_close current.old.rows scid) result current.old current.new }
     {
         current.map().admit_close(scid)?;
-        self.since.reserve(1)?;
+        reserve_pending(&mut self.since)?;
         let op = current.close(alloc, scid)?;
-        self.since.push_back_reserved(op);
+        push_pending(&mut self.since, op, current.map().count());
         Ok(())
     }
 
-    /// Moves the mark to the current map. Out of memory leaves it where it was.
-    pub(crate) fn renew(&mut self) -> Result<(), AllocError>
+    /// Moves the mark to the current map, of which it takes a copy if the operations since weren't kept. Out of memory leaves it
+    /// where it was.
+    pub(crate) fn renew(&mut self, alloc: Global, current: &Current) -> Result<(), AllocError>
+        requires { LeadsTo self.old.rows current.now.rows }
         ensures renewed { OnOk result
-            (self.new ≡ record { marked = self.old.rows; rows = self.old.rows }) }
+            (self.new ≡ record { marked = current.now.rows; rows = Some current.now.rows }) }
         ensures stays { OnErr result (self.new ≡ self.old) }
     {
+        let Some(since) = &mut self.since else {
+            *self = Mark::of(alloc, current.copy_network(alloc)?);
+            return Ok(());
+        };
         self.replica.catch_up()?;
-        swap(&mut self.replica.due, &mut self.since);
+        swap(&mut self.replica.due, since);
         Ok(())
     }
 
-    /// What has come to pass a filter since the mark, each message after its length.
+    /// Writes what has come to pass a filter since the mark, each message after its length, or the length of all alone.
     pub(crate) fn news(
         &mut self,
         alloc: Global,
         map: &Map,
         filter: &Filter,
-    ) -> Result<Vec<u8>, AllocError>
-        requires { self.old.rows ≡ map.now }
+        room: &mut [u8],
+        needed: &mut usize,
+    ) -> Result<(), Fault>
+        requires { LeadsTo self.old.rows map.now }
         ensures same { self.new ≡ self.old }
-        ensures news { IfOk result (λ written.
-            written.items ≡ all_framed (news self.old.marked map.now filter.now)) }
+        ensures news { MayWrite (all_framed (news self.old.marked map.now filter.now)) (status_of result)
+            (buffer room.old needed.old) (buffer room.new needed.new) }
     {
         self.replica.catch_up()?;
-        let changes = TouchedKeys::of(alloc, &self.since)?;
-        let map_diff = MapDiff::between(alloc, self.replica.network.map(), map, &changes)?;
-        let mut written = Vec::new(alloc);
-        for message in map_diff.news(filter) {
-            frame(&mut written, message)?;
-        }
-        Ok(written)
+        let before = self.replica.network.map();
+        let map_diff = match &self.since {
+            Some(since) => {
+                let changes = TouchedKeys::of(alloc, since)?;
+                MapDiff::between(alloc, before, map, &changes)?
+            }
+            None => MapDiff::of_maps(alloc, before, map)?,
+        };
+        write_news(alloc, &map_diff, filter, room, needed)
     }
 }

@@ -1,61 +1,90 @@
 //! Queries and filters of peers, and the messages that answer them.
 
 ghost use Rattle.std.specs.Prelude.{◌≡◌};
-ghost use Rattle.lgm_gossip.specs.Memory.{GivesIf, TakesMemory};
+ghost use Rattle.lgm_query.specs.Requests.{replies_to};
 ghost use Rattle.lgm_c.specs.Asking.{query_answer, backlog_answer, news_answer};
 ghost use Rattle.lgm_c.specs.Opening.{MovesMark};
-ghost use Rattle.lgm_c.specs.Status.{MayRunOut};
-ghost use Rattle.lgm_c.specs.Writing.{Answers, buffer};
+ghost use Rattle.lgm_c.specs.Status.{status_of};
+ghost use Rattle.lgm_c.specs.Writing.{all_framed, Answers, WritesAnswer, buffer};
+ghost use Rattle.lgm_c.specs.inner.Framing.{MayWrite};
 
-use crate::fault::Fault;
-use crate::frames::{frame_backlog, frame_replies};
+use crate::fault::{Fault, status};
+use crate::frames::{write_backlog, write_replies};
 use crate::map::LgmMap;
-use crate::output::write_answer;
 use crate::state::State;
 use lgm_gossip::ChainHash;
-use lgm_query::{Backlog, read_filter, read_query};
+use lgm_query::{Query, read_filter, read_query};
 use lgm_store::Map;
 use std::alloc::Global;
 
-/// The replies to the query that the bytes encode, each after its length.
+/// Writes the replies to a query, each after its length, or their length alone.
+fn write_query(
+    alloc: Global,
+    chain: &ChainHash,
+    map: &Map,
+    query: &Query,
+    room: &mut [u8],
+    needed: &mut usize,
+) -> Result<(), Fault>
+    ensures { MayWrite (all_framed (replies_to chain.now map.now query.now)) (status_of result)
+        (buffer room.old needed.old) (buffer room.new needed.new) }
+{
+    let replies = query.answer(alloc, chain, map)?;
+    write_replies(alloc, replies.as_slice(), room, needed)
+}
+
+/// Answers the query that the bytes encode.
 pub(crate) fn answer_query(
     alloc: Global,
     chain: &ChainHash,
     map: &Map,
     bytes: &[u8],
-) -> Result<Vec<u8>, Fault>
-    ensures { GivesIf (MayRunOut (TakesMemory bytes.now) (query_answer bytes.now chain.now map.now))
-        Fault.NoMemory (λ written. written.items) result (query_answer bytes.now chain.now map.now) }
+    room: &mut [u8],
+    needed: &mut usize,
+) -> u32
+    ensures { WritesAnswer bytes.now (query_answer bytes.now chain.now map.now) result
+        (buffer room.old needed.old) (buffer room.new needed.new) }
 {
-    let query = read_query(alloc, bytes)?;
-    let replies = query.answer(alloc, chain, map)?;
-    Ok(frame_replies(alloc, replies.as_slice())?)
+    match read_query(alloc, bytes) {
+        Ok(query) => status(&write_query(alloc, chain, map, &query, room, needed)),
+        Err(fault) => Fault::from(fault).number(),
+    }
 }
 
-/// What passes the filter that the bytes encode, each message after its length.
+/// Answers the filter that the bytes encode with what passes of a map.
 pub(crate) fn answer_filter(
     alloc: Global,
     chain: &ChainHash,
     map: &Map,
     bytes: &[u8],
-) -> Result<Vec<u8>, Fault>
-    ensures { GivesIf (MayRunOut (TakesMemory bytes.now) (backlog_answer bytes.now chain.now map.now))
-        Fault.NoMemory (λ written. written.items) result (backlog_answer bytes.now chain.now map.now) }
+    room: &mut [u8],
+    needed: &mut usize,
+) -> u32
+    ensures { WritesAnswer bytes.now (backlog_answer bytes.now chain.now map.now) result
+        (buffer room.old needed.old) (buffer room.new needed.new) }
 {
-    let filter = read_filter(alloc, chain, bytes)?;
-    Ok(frame_backlog(alloc, Backlog::of(map, &filter))?)
+    match read_filter(alloc, chain, bytes) {
+        Ok(filter) => status(&write_backlog(alloc, map, &filter, room, needed)),
+        Err(fault) => Fault::from(fault).number(),
+    }
 }
 
-/// What has come to pass the filter that the bytes encode since the mark, each message after its length.
-fn answer_news(alloc: Global, inner: &mut State, bytes: &[u8]) -> Result<Vec<u8>, Fault>
+/// Answers the filter that the bytes encode with what has come to pass since the mark.
+fn answer_news(
+    alloc: Global,
+    inner: &mut State,
+    bytes: &[u8],
+    room: &mut [u8],
+    needed: &mut usize,
+) -> u32
     ensures same { inner.new ≡ inner.old }
-    ensures news { GivesIf (MayRunOut (TakesMemory bytes.now)
-        (news_answer bytes.now inner.old.chain inner.old.marked inner.old.rows))
-        Fault.NoMemory (λ written. written.items) result
-        (news_answer bytes.now inner.old.chain inner.old.marked inner.old.rows) }
+    ensures news { WritesAnswer bytes.now (news_answer bytes.now inner.old.chain inner.old.marked inner.old.rows) result
+        (buffer room.old needed.old) (buffer room.new needed.new) }
 {
-    let filter = read_filter(alloc, inner.chain(), bytes)?;
-    Ok(inner.news(alloc, &filter)?)
+    match read_filter(alloc, inner.chain(), bytes) {
+        Ok(filter) => status(&inner.news(alloc, &filter, room, needed)),
+        Err(fault) => Fault::from(fault).number(),
+    }
 }
 
 /// The replies to a peer's query of channels or of a range of blocks (BOLT 7, "Query Messages").
@@ -75,9 +104,9 @@ pub extern "C" fn lgm_query(
     let Some(inner) = map.take(alloc) else {
         return Fault::Closed.number();
     };
-    let answer = answer_query(alloc, inner.chain(), inner.map(), query);
+    let status = answer_query(alloc, inner.chain(), inner.map(), query, replies, needed);
     *map = LgmMap::open(inner);
-    write_answer(&answer, replies, needed)
+    status
 }
 
 /// The messages of the map that pass a peer's filter (BOLT 7, "The gossip_timestamp_filter Message").
@@ -97,9 +126,9 @@ pub extern "C" fn lgm_filter(
     let Some(inner) = map.take(alloc) else {
         return Fault::Closed.number();
     };
-    let answer = answer_filter(alloc, inner.chain(), inner.map(), filter);
+    let status = answer_filter(alloc, inner.chain(), inner.map(), filter, messages, needed);
     *map = LgmMap::open(inner);
-    write_answer(&answer, messages, needed)
+    status
 }
 
 /// The messages that pass a peer's filter now and didn't at the mark. Before the first mark, all that pass.
@@ -119,9 +148,9 @@ pub extern "C" fn lgm_news(
     let Some(mut inner) = map.take(alloc) else {
         return Fault::Closed.number();
     };
-    let answer = answer_news(alloc, &mut inner, filter);
+    let status = answer_news(alloc, &mut inner, filter, messages, needed);
     *map = LgmMap::open(inner);
-    write_answer(&answer, messages, needed)
+    status
 }
 
 /// Moves the mark to the map as it is.

@@ -2,24 +2,24 @@
 
 ghost use Rattle.std.specs.Prelude.{◌≡◌, Option};
 ghost use Rattle.std.specs.Option.{option_map};
-ghost use Rattle.lgm_gossip.specs.Memory.{GivesIf, TakesMemory};
+ghost use Rattle.lgm_query.specs.Backlog.{news};
 ghost use Rattle.lgm_c.specs.Asking.{query_answer, backlog_answer, news_answer};
 ghost use Rattle.lgm_c.specs.Looking.{count_of, channel_found, node_found, WritesNode};
 ghost use Rattle.lgm_c.specs.Published.{both_open};
 ghost use Rattle.lgm_c.specs.Routing.{route_asked, WritesRoute, buffers};
-ghost use Rattle.lgm_c.specs.Status.{if_open, MayRunOut, Finds};
-ghost use Rattle.lgm_c.specs.Writing.{Answers, buffer};
+ghost use Rattle.lgm_c.specs.Status.{if_open, status_of, Finds};
+ghost use Rattle.lgm_c.specs.Writing.{all_framed, Answers, WritesAnswer, buffer};
+ghost use Rattle.lgm_c.specs.inner.Framing.{MayWrite};
 
 use crate::fault::{Fault, status};
-use crate::frames::frame_replies;
+use crate::frames::write_replies;
 use crate::lgm_snapshot::LgmSnapshot;
 use crate::lookups::{LgmChannel, LgmNode, find_channel, write_channel, write_node};
-use crate::output::write_answer;
 use crate::queries::{answer_filter, answer_query};
 use crate::routes::{LgmHop, LgmLengths, LgmPayment, request_of, write_found};
 use crate::snapshot::Snapshot;
 use lgm_gossip::{Point, Scid};
-use lgm_query::{news, read_filter};
+use lgm_query::{Filter, news, read_filter};
 use std::alloc::Global;
 
 /// The number of channels of a snapshot: 0 of a closed one.
@@ -78,9 +78,9 @@ pub extern "C" fn lgm_snapshot_query(
     let Some(state) = snapshot.take(alloc) else {
         return Fault::Closed.number();
     };
-    let answer = answer_query(alloc, state.chain(), state.map(), query);
+    let status = answer_query(alloc, state.chain(), state.map(), query, replies, needed);
     *snapshot = LgmSnapshot::open(state);
-    write_answer(&answer, replies, needed)
+    status
 }
 
 /// The messages of a snapshot that pass a peer's filter, as `lgm_filter` returns them.
@@ -100,27 +100,43 @@ pub extern "C" fn lgm_snapshot_filter(
     let Some(state) = snapshot.take(alloc) else {
         return Fault::Closed.number();
     };
-    let answer = answer_filter(alloc, state.chain(), state.map(), filter);
+    let status = answer_filter(alloc, state.chain(), state.map(), filter, messages, needed);
     *snapshot = LgmSnapshot::open(state);
-    write_answer(&answer, messages, needed)
+    status
 }
 
-/// What passes the filter that the bytes encode in the later snapshot and didn't in the earlier one, each message after
-/// its length.
+/// Writes the news between two snapshots, each message after its length, or their length alone.
+fn write_between(
+    alloc: Global,
+    before: &Snapshot,
+    after: &Snapshot,
+    filter: &Filter,
+    room: &mut [u8],
+    needed: &mut usize,
+) -> Result<(), Fault>
+    ensures { MayWrite (all_framed (news before.now.rows after.now.rows filter.now)) (status_of result)
+        (buffer room.old needed.old) (buffer room.new needed.new) }
+{
+    let news = news(alloc, before.map(), after.map(), filter)?;
+    write_replies(alloc, news.as_slice(), room, needed)
+}
+
+/// Answers the filter that the bytes encode with what passes in the later snapshot and didn't in the earlier one.
 fn answer_news(
     alloc: Global,
     before: &Snapshot,
     after: &Snapshot,
     bytes: &[u8],
-) -> Result<Vec<u8>, Fault>
-    ensures { GivesIf (MayRunOut (TakesMemory bytes.now)
-        (news_answer bytes.now after.now.chain before.now.rows after.now.rows))
-        Fault.NoMemory (λ written. written.items) result
-        (news_answer bytes.now after.now.chain before.now.rows after.now.rows) }
+    room: &mut [u8],
+    needed: &mut usize,
+) -> u32
+    ensures { WritesAnswer bytes.now (news_answer bytes.now after.now.chain before.now.rows after.now.rows) result
+        (buffer room.old needed.old) (buffer room.new needed.new) }
 {
-    let filter = read_filter(alloc, after.chain(), bytes)?;
-    let news = news(alloc, before.map(), after.map(), &filter)?;
-    Ok(frame_replies(alloc, news.as_slice())?)
+    match read_filter(alloc, after.chain(), bytes) {
+        Ok(filter) => status(&write_between(alloc, before, after, &filter, room, needed)),
+        Err(fault) => Fault::from(fault).number(),
+    }
 }
 
 /// The messages that pass a peer's filter in a snapshot and didn't in an earlier one. The filter is one of the chain of
@@ -147,10 +163,10 @@ pub extern "C" fn lgm_snapshot_news(
         *before = LgmSnapshot::open(earlier);
         return Fault::Closed.number();
     };
-    let answer = answer_news(alloc, &earlier, &later, filter);
+    let status = answer_news(alloc, &earlier, &later, filter, messages, needed);
     *before = LgmSnapshot::open(earlier);
     *after = LgmSnapshot::open(later);
-    write_answer(&answer, messages, needed)
+    status
 }
 
 /// What a snapshot has of a channel, as `lgm_channel` returns it.

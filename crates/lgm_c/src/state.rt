@@ -10,17 +10,18 @@ ghost use Rattle.lgm_c.specs.MapState.{opened};
 ghost use Rattle.lgm_c.specs.Published.{published};
 ghost use Rattle.lgm_c.specs.Routing.{route_for, IsSearched};
 ghost use Rattle.lgm_c.specs.Status.{status_of};
-ghost use Rattle.lgm_c.specs.Writing.{all_framed};
+ghost use Rattle.lgm_c.specs.Writing.{all_framed, buffer};
+ghost use Rattle.lgm_c.specs.inner.Framing.{MayWrite};
 
 use crate::current::Current;
 use crate::fault::Fault;
-use crate::frames::frame_backlog;
+use crate::frames::write_backlog;
 use crate::mark::Mark;
 use crate::snapshot::Snapshot;
 use lgm_check::{Evidence, Refusal};
 use lgm_gossip::{ChainHash, Scid};
 use lgm_graph::{Known, Network};
-use lgm_query::{Backlog, Filter};
+use lgm_query::Filter;
 use lgm_route::{Request, Route};
 use lgm_store::{Map, Seed};
 use std::alloc::{AllocError, Global};
@@ -140,7 +141,7 @@ impl State {
         ensures stays { OnErr result (self.new ≡ self.old) }
     {
         match &mut self.mark {
-            Some(mark) => mark.renew(),
+            Some(mark) => mark.renew(alloc, &self.current),
             None => {
                 let network = self.current.copy_network(alloc)?;
                 self.mark = Some(Mark::of(alloc, network));
@@ -149,17 +150,23 @@ impl State {
         }
     }
 
-    /// What has come to pass a filter since the mark, each message after its length. Before the first mark, all that
-    /// passes.
-    pub(crate) fn news(&mut self, alloc: Global, filter: &Filter) -> Result<Vec<u8>, AllocError>
+    /// Writes what has come to pass a filter since the mark, each message after its length, or the length of all alone. Before
+    /// the first mark, all that passes.
+    pub(crate) fn news(
+        &mut self,
+        alloc: Global,
+        filter: &Filter,
+        room: &mut [u8],
+        needed: &mut usize,
+    ) -> Result<(), Fault>
         ensures same { self.new ≡ self.old }
-        ensures news { IfOk result (λ written.
-            written.items ≡ all_framed (news self.old.marked self.old.rows filter.now)) }
+        ensures news { MayWrite (all_framed (news self.old.marked self.old.rows filter.now)) (status_of result)
+            (buffer room.old needed.old) (buffer room.new needed.new) }
     {
         let Some(mark) = &mut self.mark else {
-            return frame_backlog(alloc, Backlog::of(self.current.map(), filter));
+            return write_backlog(alloc, self.current.map(), filter, room, needed);
         };
-        mark.news(alloc, self.current.map(), filter)
+        mark.news(alloc, self.current.map(), filter, room, needed)
     }
 
     /// The best route of a payment. The first search builds the view.

@@ -1,6 +1,7 @@
 //! Each call once with ample memory, and once at each of its faults: what no clause says, since any call may be out of
 //! memory. The numbers and lengths are worked out by hand, from BOLT 7, BOLT 4 and `docs/protocol.md`.
 
+mod bounds;
 mod snapshots;
 
 use crate::lookups::{LgmChannel, LgmDirection, LgmNode, lgm_channel, lgm_count, lgm_node};

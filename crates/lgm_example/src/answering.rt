@@ -22,12 +22,12 @@ pub struct Tally {
     pub sent: u64,
 }
 
-/// What the payer A sends so that C receives 1,000,000 msat, on the map that a guard shows; none if there is no route.
+/// What the payer A sends so that D receives 1,000,000 msat, on the map that a guard shows; none if there is no route.
 /// The only error is out of memory.
 fn find(alloc: Global, guard: &Guard) -> Result<Option<u64>, AllocError> {
     let request = Request {
         payer: point(10),
-        payee: point(12),
+        payee: point(13),
         amount: 1_000_000,
         expiry: 700_000,
     };
@@ -51,10 +51,10 @@ impl Tally {
         }
     }
 
-    /// Adds an answer. From the fourth operation on, each raises the fee by 1 msat.
+    /// Adds an answer. From the eighth operation on, each raises the fee by 1 msat.
     fn add(&mut self, version: u64, sent: u64) {
         self.routed = self.routed.saturating_add(1);
-        if sent == version.saturating_add(1_000_996) {
+        if sent == version.saturating_add(1_000_992) {
             self.right = self.right.saturating_add(1);
         }
         if version < self.version {

@@ -1,15 +1,17 @@
 //! A route server in a few lines: one thread takes gossip while two others answer payments.
 //!
 //! [`taking`] is the writer's side, [`answering`] a reader's, and [`messages`] makes the gossip, which a node would get
-//! from its peers. The page `docs/readers.md` explains the calls.
+//! from its peers. [`retrying`] is a reader's payment that fails at first, and is tried again. The page `docs/readers.md` explains the calls.
 #![tactic(auto)]
 
 mod answering;
 mod messages;
+mod retrying;
 mod taking;
 
 use crate::answering::{Tally, answer_all};
 use crate::messages::{announcement, update};
+use crate::retrying::{Ended, pay};
 use crate::taking::Taker;
 use lgm_graph::Known;
 use lgm_publish::{Eye, Pen, board};
@@ -27,13 +29,17 @@ const CHANGES: u32 = 50;
 /// The number of payments that each reader answers meanwhile.
 const PAYMENTS: u32 = 1_000;
 
-/// Takes the channels of A with B and of B with C, and publishes them.
+/// Takes the channels 1 of A with B and 2 of B with D, and 3 of A with C and 4 of C with D, and publishes them.
 fn open<R: Wait>(rt: &R, alloc: Global, taker: &mut Taker, pen: &mut Pen) -> bool {
     for message in [
         announcement(alloc, 1, 10, 11),
-        update(alloc, 1, 1, 0),
-        announcement(alloc, 2, 11, 12),
-        update(alloc, 2, 1, 1_000),
+        update(alloc, 1, 10, 1, 0),
+        announcement(alloc, 2, 11, 13),
+        update(alloc, 2, 11, 1, 1_000),
+        announcement(alloc, 3, 10, 12),
+        update(alloc, 3, 10, 1, 0),
+        announcement(alloc, 4, 12, 13),
+        update(alloc, 4, 12, 1, 5_000),
     ] {
         let Ok((bytes, evidence)) = message else {
             return false;
@@ -48,7 +54,7 @@ fn open<R: Wait>(rt: &R, alloc: Global, taker: &mut Taker, pen: &mut Pen) -> boo
 /// Changes the fee of the second channel repeatedly, and publishes each change.
 fn change<R: Wait>(rt: &R, alloc: Global, taker: &mut Taker, pen: &mut Pen) -> bool {
     for turn in 1..=CHANGES {
-        let Ok((bytes, evidence)) = update(alloc, 2, 1 + turn, 1_000 + turn) else {
+        let Ok((bytes, evidence)) = update(alloc, 2, 11, 1 + turn, 1_000 + turn) else {
             return false;
         };
         if taker.take(alloc, pen, bytes.as_slice(), &evidence).is_err()
@@ -87,20 +93,22 @@ fn serve<R: Threads + Wait + Sync>(
     if changed { seen } else { None }
 }
 
-/// Runs the server. Returns what the readers have observed, and what one of them observes after the last publication.
+/// Runs the server. Returns what the readers have observed, what one of them observes after the last publication, and how
+/// its payment ends.
 fn run<R: Threads + Wait + Sync>(
     rt: &R,
     alloc: Global,
     taker: &mut Taker,
     pen: &mut Pen,
     eyes: (Eye, Eye),
-) -> Option<(Tally, Tally, Tally)> {
+) -> Option<(Tally, Tally, Tally, Ended)> {
     if !open(rt, alloc, taker, pen) {
         return None;
     }
     let ((eye, first), (_eye, second)) = serve(rt, alloc, taker, pen, eyes)?;
-    let (_eye, last) = answer_all(alloc, eye, 1);
-    Some((first, second, last))
+    let (eye, last) = answer_all(alloc, eye, 1);
+    let (_eye, ended) = pay(alloc, eye);
+    Some((first, second, last, ended))
 }
 
 fn main(rt: HostRuntime) -> io::Result<ExitCode> {
@@ -115,7 +123,7 @@ fn main(rt: HostRuntime) -> io::Result<ExitCode> {
     };
     let published = pen.published();
     pen.end(&rt);
-    let Some((first, second, last)) = seen else {
+    let Some((first, second, last, ended)) = seen else {
         return Ok(ExitCode::FAILURE);
     };
     for tally in [first, second] {
@@ -126,5 +134,6 @@ fn main(rt: HostRuntime) -> io::Result<ExitCode> {
     }
     println!(rt; "{published} operations are published")?;
     println!(rt; "on version {}, A sends {} msat", last.version, last.sent)?;
+    println!(rt; "{ended}")?;
     Ok(ExitCode::SUCCESS)
 }

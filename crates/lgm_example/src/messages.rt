@@ -11,7 +11,7 @@ pub fn point(number: u8) -> Point {
 }
 
 /// A channel id by its number: this many blocks after block 600,000.
-fn scid(number: u32) -> Scid {
+pub fn scid(number: u32) -> Scid {
     Scid::new(600_000 + number % 1_000, 0, 0)
 }
 
@@ -34,6 +34,7 @@ pub fn announcement(
 pub fn update(
     alloc: Global,
     number: u32,
+    from: u8,
     timestamp: u32,
     fee: u32,
 ) -> Result<(Bytes, Evidence), AllocError> {
@@ -42,7 +43,7 @@ pub fn update(
         ..Update::new(scid(number), 0, timestamp)
     };
     let evidence = Evidence {
-        sig: Sig::By(point(if number == 1 { 10 } else { 11 })),
+        sig: Sig::By(point(from)),
         funding: Funding::NotAsked,
     };
     Ok((update.bytes(alloc)?, evidence))

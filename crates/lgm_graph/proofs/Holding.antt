@@ -13,7 +13,7 @@ use Rattle.lgm_store.specs.Rows.{Rows, IsAscending, is_point, is_second, channel
 use Rattle.lgm_store.proofs.Lists.{direction_total}
 use Rattle.lgm_graph.specs.Edges.{PointEdge}
 use Rattle.lgm_graph.specs.declared.edge.Edge.{Edge}
-use Rattle.lgm_graph.specs.Edges.{edge_of, edge_in, end_of, carrying, edges_of, takes_payments, AreDirections}
+use Rattle.lgm_graph.specs.Edges.{edge_of, edge_in, end_of, carrying, edges_of, takes_payments, AreDirections, AreKeyed}
 use Rattle.lgm_graph.specs.Graph.{Graph, IsGraphOf, IsJoined, IsNumbered, number_of, numbered_in, edge_between, edges, point_edges}
 use Rattle.lgm_graph.specs.inner.Lists.{to_key, IsCut}
 use Rattle.lgm_graph.proofs.Numbers.{get_number}
@@ -111,17 +111,16 @@ key_of : (channels : List ChannelRow) (row : UpdateRow) (e : PointEdge) → edge
 unfolding edge_of
 key_of channels row e is = let found = edge_in-some channels row e is in rw (found.2) (refl, refl)
 
-pub are_directions : (known : Option (List ℕ)) (rows : Rows) → IsAscending rows → AreDirections (edges_of known rows)
-are_directions known rows ascend edge other there also same = by (other_direction edge.second other.second)
+-- two edges of one channel, regardless of the nodes that they lead to, are the same or have opposite directions
+pub carrying_directions : (rows : Rows) → IsAscending rows → (edge other : PointEdge) → Among (carrying rows) edge → Among (carrying rows) other
+    → edge.scid ≡ other.scid → (edge ≡ other) ⊎ ((edge.from ≡ other.to) × (edge.to ≡ other.from))
+carrying_directions rows ascend edge other there also same = by (other_direction edge.second other.second)
   where
-    carried : (e : PointEdge) → Contains (edges_of known rows) e → Among (carrying rows) e
-    carried e is = (Among-passed (λ e. takes_payments known rows.nodes e.to) (carrying rows) e (Among-Contains (edges_of known rows) e is)).0
-
     one : IsOfChannel rows.channels edge
-    one = All_among (IsOfChannel rows.channels) (carrying rows) edge (carrying_of rows.channels rows.updates) (carried edge there)
+    one = All_among (IsOfChannel rows.channels) (carrying rows) edge (carrying_of rows.channels rows.updates) there
 
     two : IsOfChannel rows.channels other
-    two = All_among (IsOfChannel rows.channels) (carrying rows) other (carrying_of rows.channels rows.updates) (carried other also)
+    two = All_among (IsOfChannel rows.channels) (carrying rows) other (carrying_of rows.channels rows.updates) also
 
     channel : one.channel ≡ two.channel
     channel = let h : Some one.channel ≡ Some two.channel = sym one.stored ∙ ap (channel_of rows.channels) same ∙ two.stored in cc
@@ -131,11 +130,10 @@ are_directions known rows ascend edge other there also same = by (other_directio
 
     same_edge : edge.second ≡ other.second → edge ≡ other
     same_edge direction =
-        let made = Among-filter_map (edge_in rows.channels) rows.updates edge (carried edge there) in
+        let made = Among-filter_map (edge_in rows.channels) rows.updates edge there in
         let key = key_of rows.channels made.0 edge made.2 in
         cut_once (to_key made.0.message.short_channel_id (is_second made.0)) (carrying rows) edge other
-        (carrying_cut rows.channels rows.updates made.0 ascend.updates) (carried edge there)
-        (carried other also)
+        (carrying_cut rows.channels rows.updates made.0 ascend.updates) there also
         (equal made.0.message.short_channel_id (is_second made.0) edge key.0 key.1)
         (equal made.0.message.short_channel_id (is_second made.0) other (sym same ∙ key.0) (sym direction ∙ key.1))
 
@@ -146,3 +144,20 @@ are_directions known rows ascend edge other there also same = by (other_directio
           ∙ ap (end_of two.channel) (sym (twice_not edge.second) ∙ ap not turned) ∙ sym two.to,
       one.to ∙ ap (λ (c : ChannelRow). end_of c (not edge.second)) channel ∙ ap (end_of two.channel) turned ∙ sym two.from,
     )
+
+pub are_directions : (known : Option (List ℕ)) (rows : Rows) → IsAscending rows → AreDirections (edges_of known rows)
+are_directions known rows ascend edge other there also same = carrying_directions rows ascend edge other (carried edge there) (carried other also) same
+  where
+    carried : (e : PointEdge) → Contains (edges_of known rows) e → Among (carrying rows) e
+    carried e is = (Among-passed (λ e. takes_payments known rows.nodes e.to) (carrying rows) e (Among-Contains (edges_of known rows) e is)).0
+
+-- node and id identify an edge, if two edges of one id are the same or have opposite directions
+pub directions_are_keyed : (edges : List PointEdge) → AreDirections edges → AreKeyed edges
+directions_are_keyed edges directions edge other there also from id apart = by (directions edge other there also id)
+  where
+    by : (edge ≡ other) ⊎ ((edge.from ≡ other.to) × (edge.to ≡ other.from)) → edge ≡ other
+    by (inl same) = same
+    by (inr back) = absurd (apart (from ∙ sym back.1))
+
+pub are_keyed : (known : Option (List ℕ)) (rows : Rows) → IsAscending rows → AreKeyed (edges_of known rows)
+are_keyed known rows ascend = directions_are_keyed (edges_of known rows) (are_directions known rows ascend)

@@ -9,6 +9,7 @@ mod Making
 mod Numbering
 mod Walked
 mod Writing
+mod Limiting
 mod Listing
 mod Flags
 mod Updating
@@ -21,3 +22,12 @@ mod Parting
 mod Once
 pub mod Holding
 mod Counted
+mod Keys
+pub mod OverlayLaws
+mod Further
+mod ByNumber
+mod LentLists
+mod Touching
+mod Saying
+mod Laid
+mod Covering

@@ -55,7 +55,7 @@ pub end_numbered : (points : List Point) (channel : ChannelRow) (second : Bool)
 end_numbered points channel true first other = other
 end_numbered points channel false first other = first
 
-found_passes : {X : Type 0} (p : X → Bool) (xs : List X) (x : X) → find p xs ≡ Some x → p x ≡ true
+pub found_passes : {X : Type 0} (p : X → Bool) (xs : List X) (x : X) → find p xs ≡ Some x → p x ≡ true
 found_passes p [] x is = absurd cc
 found_passes p (y ∷ ys) x is = by (found_passes p ys x) (p y) refl is
   where

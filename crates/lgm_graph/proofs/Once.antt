@@ -13,7 +13,7 @@ use Rattle.lgm_store.proofs.ListLaws.{All-filter, All-to}
 use Rattle.lgm_store.proofs.Points.{same_point, is_point-self}
 use Rattle.lgm_graph.specs.declared.edge.Edge.{Edge}
 use Rattle.lgm_graph.specs.Edges.{PointEdge, carrying, edges_of, takes_payments}
-use Rattle.lgm_graph.specs.Graph.{Graph, IsGraphOf, IsJoined, IsNumbered, number_of, numbered_in, edge_between, point_edges}
+use Rattle.lgm_graph.specs.Graph.{Graph, Shows, IsGraphOf, IsJoined, IsNumbered, number_of, numbered_in, edge_between, point_edges}
 use Rattle.lgm_graph.proofs.Showing.{edges_at}
 use Rattle.lgm_graph.proofs.Listing.{back_again}
 
@@ -90,76 +90,83 @@ numbered_among (q ∷ qs) p there = by (numbered_among qs p) (is_point p q) refl
         last true rest = refl
         last false rest = rest
 
-module _ (rows : Rows) (graph : Graph) (distinct : IsDistinct is_point graph.points) (beside : IsGraphOf rows graph) where
+-- a graph shows these edges, and each that leads to a node that takes payments is listed there once
+module _ (takes : Point → Bool) (listed : List PointEdge) (graph : Graph) (distinct : IsDistinct is_point graph.points)
+    (accepts_is : graph.accepts_payments ≡ map takes graph.points) (shows : Shows listed graph.points graph.into graph.out) where
   -- the edges into one node
-  shown_at : (p : Point) → map (edge_between graph.points) (if takes_payments graph.known rows.nodes p
-      then edges_at (λ e. e.to) graph.points (carrying rows) p else [])
-      ≡ filter (λ e. is_point p e.to) (edges_of graph.known rows)
-  shown_at p = along (carrying rows) beside.shows.joined
+  shown_at : (p : Point) → map (edge_between graph.points) (if takes p
+      then edges_at (λ e. e.to) graph.points listed p else [])
+      ≡ filter (λ e. is_point p e.to) (filter (λ e. takes e.to) listed)
+  shown_at p = along listed shows.joined
     where
       along : (es : List PointEdge) → AllByRecursion (IsJoined graph.points) es
-          → map (edge_between graph.points) (if takes_payments graph.known rows.nodes p
+          → map (edge_between graph.points) (if takes p
           then edges_at (λ e. e.to) graph.points es p else [])
-          ≡ filter (λ e. is_point p e.to) (filter (λ e. takes_payments graph.known rows.nodes e.to) es)
-      along [] joined = none (takes_payments graph.known rows.nodes p)
+          ≡ filter (λ e. is_point p e.to) (filter (λ e. takes e.to) es)
+      along [] joined = none (takes p)
         where
           none : (b : Bool) → map (edge_between graph.points) (if b then [] else []) ≡ []
           none true = refl
           none false = refl
-      along (e ∷ es) joined = by (along es joined.1) (is_point p e.to) refl (takes_payments graph.known rows.nodes p) refl
+      along (e ∷ es) joined = by (along es joined.1) (is_point p e.to) refl (takes p) refl
         where
           into : List PointEdge
           into = filter (λ d. is_point p d.to) es
 
           left : List PointEdge
-          left = filter (λ d. takes_payments graph.known rows.nodes d.to) es
+          left = filter (λ d. takes d.to) es
 
-          by : map (edge_between graph.points) (if takes_payments graph.known rows.nodes p
+          by : map (edge_between graph.points) (if takes p
               then map (numbered_in graph.points) into else []) ≡ filter (λ d. is_point p d.to) left
-              → (b : Bool) → is_point p e.to ≡ b → (t : Bool) → takes_payments graph.known rows.nodes p ≡ t
-              → map (edge_between graph.points) (if takes_payments graph.known rows.nodes p
+              → (b : Bool) → is_point p e.to ≡ b → (t : Bool) → takes p ≡ t
+              → map (edge_between graph.points) (if takes p
               then map (numbered_in graph.points) (cond (is_point p e.to) (e ∷ into) into) else [])
-              ≡ filter (λ d. is_point p d.to) (cond (takes_payments graph.known rows.nodes e.to) (e ∷ left) left)
+              ≡ filter (λ d. is_point p d.to) (cond (takes e.to) (e ∷ left) left)
           by rest true b true t =
-              let own : takes_payments graph.known rows.nodes e.to ≡ true =
-              ap (takes_payments graph.known rows.nodes) (sym (same_point p e.to b)) ∙ t in
-              let back = back_again graph.points distinct (carrying rows) beside.shows.joined e joined.0 in
+              let own : takes e.to ≡ true =
+              ap (takes) (sym (same_point p e.to b)) ∙ t in
+              let back = back_again graph.points distinct listed shows.joined e joined.0 in
               let rest' : map (edge_between graph.points) (map (numbered_in graph.points) into) ≡ filter (λ d. is_point p d.to) left = rw t at rest in
               rw (b, t, own, b) (ap (λ (d : PointEdge). d ∷ map (edge_between graph.points)
               (map (numbered_in graph.points) into)) back ∙ ap (λ (l : List PointEdge). e ∷ l) rest')
           by rest true b false t =
-              let own : takes_payments graph.known rows.nodes e.to ≡ false =
-              ap (takes_payments graph.known rows.nodes) (sym (same_point p e.to b)) ∙ t in
+              let own : takes e.to ≡ false =
+              ap (takes) (sym (same_point p e.to b)) ∙ t in
               rw (own, t) (rw t at rest)
-          by rest false b t is = elsewhere (takes_payments graph.known rows.nodes e.to)
+          by rest false b t is = elsewhere (takes e.to)
             where
-              elsewhere : (d : Bool) → map (edge_between graph.points) (if takes_payments graph.known rows.nodes p
+              elsewhere : (d : Bool) → map (edge_between graph.points) (if takes p
                   then map (numbered_in graph.points) (cond (is_point p e.to) (e ∷ into) into) else [])
                   ≡ filter (λ d. is_point p d.to) (cond d (e ∷ left) left)
               elsewhere true = rw b rest
               elsewhere false = rw b rest
 
   edges_are : (ps : List Point) → map (edge_between graph.points) (flat_map (λ (node : Bool × List Edge). if node.0
-      then node.1 else []) (zip (map (takes_payments graph.known rows.nodes) ps)
-      (map (edges_at (λ e. e.to) graph.points (carrying rows)) ps)))
-      ≡ buffered ps (edges_of graph.known rows)
+      then node.1 else []) (zip (map (takes) ps)
+      (map (edges_at (λ e. e.to) graph.points listed) ps)))
+      ≡ buffered ps (filter (λ e. takes e.to) listed)
   edges_are [] = refl
   edges_are (p ∷ ps) =
-      map-append (edge_between graph.points) (if takes_payments graph.known rows.nodes p
-      then edges_at (λ e. e.to) graph.points (carrying rows) p else []) _
+      map-append (edge_between graph.points) (if takes p
+      then edges_at (λ e. e.to) graph.points listed p else []) _
       ∙ rw (shown_at p, edges_are ps) refl
 
-  pub once : IsPermutation (edges_of graph.known rows) (point_edges graph)
-  once =
-      let all : AllByRecursion (λ e. list_any (λ q. is_point q e.to) graph.points ≡ true) (edges_of graph.known rows) =
-      All-filter _ (λ e. takes_payments graph.known rows.nodes e.to) (carrying rows)
+  pub shown_once : IsPermutation (filter (λ e. takes e.to) listed) (point_edges graph)
+  shown_once =
+      let all : AllByRecursion (λ e. list_any (λ q. is_point q e.to) graph.points ≡ true) (filter (λ e. takes e.to) listed) =
+      All-filter _ (λ e. takes e.to) listed
       (All-to (IsJoined graph.points) (λ e. list_any (λ q. is_point q e.to) graph.points ≡ true)
-      (carrying rows) (λ e both. numbered_among graph.points e.to both.1) beside.shows.joined) in
-      let is : point_edges graph ≡ buffered graph.points (edges_of graph.known rows) =
+      listed (λ e both. numbered_among graph.points e.to both.1) shows.joined) in
+      let is : point_edges graph ≡ buffered graph.points (filter (λ e. takes e.to) listed) =
       ap (λ (ts : List Bool). map (edge_between graph.points) (flat_map
-      (λ (node : Bool × List Edge). if node.0 then node.1 else []) (zip ts graph.into))) beside.accepts_payments
+      (λ (node : Bool × List Edge). if node.0 then node.1 else []) (zip ts graph.into))) accepts_is
       ∙ ap (λ (ls : List (List Edge)).
       map (edge_between graph.points) (flat_map (λ (node : Bool × List Edge). if node.0 then node.1 else [])
-      (zip (map (takes_payments graph.known rows.nodes) graph.points) ls))) beside.shows.into_is
+      (zip (map (takes) graph.points) ls))) shows.into_is
       ∙ edges_are graph.points in
-      subst (IsPermutation (edges_of graph.known rows)) (sym is) (gathered_once graph.points (edges_of graph.known rows) distinct all)
+      subst (IsPermutation (filter (λ e. takes e.to) listed)) (sym is) (gathered_once graph.points (filter (λ e. takes e.to) listed) distinct all)
+
+pub once : (rows : Rows) (graph : Graph) → IsDistinct is_point graph.points → IsGraphOf rows graph
+    → IsPermutation (edges_of graph.known rows) (point_edges graph)
+once rows graph distinct beside =
+    shown_once (takes_payments graph.known rows.nodes) (carrying rows) graph distinct beside.accepts_payments beside.shows

@@ -211,7 +211,7 @@ edges_kept points more edges keeps joined = All-to (IsJoined points) (λ e. numb
     (λ e both. let from = keeps e.from both.0 in let to = keeps e.to both.1 in rw (from.0, to.0) refl) joined
 
 -- no edge has an end without a number
-none_at : (end : PointEdge → Point) (points : List Point) (p : Point) (edges : List PointEdge)
+pub none_at : (end : PointEdge → Point) (points : List Point) (p : Point) (edges : List PointEdge)
     → (IsNumbered points p → ⊥) → AllByRecursion (λ e. IsNumbered points (end e)) edges
     → filter (λ e. is_point p (end e)) edges ≡ []
 none_at end points p [] new all = refl

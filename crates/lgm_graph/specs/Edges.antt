@@ -1,5 +1,5 @@
 -- The edges of rows.
-use Rattle.std.specs.Prelude.{◌≡◌, ◌⊎◌, Contains, ℕ, ◌*◌, ◌/◌, ◌%◌, Bool, true, not, ◌&&◌, nat_eq}
+use Rattle.std.specs.Prelude.{◌≡◌, ◌≢◌, ◌⊎◌, Contains, ℕ, ◌*◌, ◌/◌, ◌%◌, Bool, true, not, ◌&&◌, nat_eq}
 use Rattle.std.specs.Prelude.{nat_le, List, Option, Some, None, filter, if◌then◌else◌}
 use Rattle.std.specs.List.{filter_map}
 use Rattle.std.specs.Option.{option_and_then, option_map_or}
@@ -78,3 +78,9 @@ abbrev pub AreDirections : List PointEdge → Type 0
 AreDirections edges =
     (edge other : PointEdge) → Contains edges edge → Contains edges other → edge.scid ≡ other.scid
     → (edge ≡ other) ⊎ ((edge.from ≡ other.to) × (edge.to ≡ other.from))
+
+-- two edges with one id from one node are the same, unless they lead back to it: a node resolves an id among its own channels
+abbrev pub AreKeyed : List PointEdge → Type 0
+AreKeyed edges =
+    (edge other : PointEdge) → Contains edges edge → Contains edges other → edge.from ≡ other.from
+    → edge.scid ≡ other.scid → edge.from ≢ edge.to → edge ≡ other

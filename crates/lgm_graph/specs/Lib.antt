@@ -2,6 +2,8 @@ pub mod Fee
 pub mod Known
 pub mod Edges
 pub mod Graph
+pub mod Overlay
 pub mod Network
+pub mod Pending
 pub mod Route
 pub mod inner

@@ -1,5 +1,5 @@
 -- A map with its view, while there is one.
-use Rattle.std.specs.Prelude.{◌≡◌, ℕ, ◌+◌, ◌<◌, ◌≤◌, List, Option, Some, None, length, IfSome}
+use Rattle.std.specs.Prelude.{◌≡◌, ℕ, ◌+◌, ◌*◌, ◌<◌, ◌≤◌, List, Option, Some, None, length, min, IfSome}
 use Rattle.lgm_store.specs.Rows.{Rows}
 use Rattle.lgm_graph.specs.Graph.{Graph, IsGraphOf}
 
@@ -19,8 +19,12 @@ pub record IsViewOf (known : Option (List ℕ)) (rows : Rows) (graph : Graph) : 
 abbrev pub IsViewed : Option (List ℕ) → Rows → Option Graph → Type 0
 IsViewed known rows graph = IfSome graph (IsViewOf known rows)
 
--- a view numbers two more points at most, or it is dropped if it numbers more than 4,000,000,000
-abbrev pub GoesOn : Option Graph → Option Graph → Type 0
-GoesOn None graph = graph ≡ None
-GoesOn (Some old) None = 4000000000 < length old.points
-GoesOn (Some old) (Some new) = length new.points ≤ length old.points + 2
+-- how many points the view of these rows may number before another operation: four for each channel, and 1,024 more
+abbrev pub most_points : Rows → ℕ
+most_points rows = min (4 * length rows.channels + 1024) 4000000000
+
+-- a view numbers two more points at most, or it is dropped if it numbers too many for the rows
+abbrev pub GoesOn : Rows → Option Graph → Option Graph → Type 0
+GoesOn rows None graph = graph ≡ None
+GoesOn rows (Some old) None = most_points rows < length old.points
+GoesOn rows (Some old) (Some new) = (length old.points ≤ most_points rows) × (length new.points ≤ length old.points + 2)

@@ -3,3 +3,4 @@ pub mod Lists
 pub mod Sound
 pub mod Walk
 pub mod Applying
+pub mod Overlaying

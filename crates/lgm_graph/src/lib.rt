@@ -3,7 +3,8 @@
 //! A [`View`] numbers the nodes of a map, and has the edges into and out of each node as consecutive lists, as a search
 //! for routes reads them. It is built from a map, or maintained while operations change the map. A node that requires
 //! unknown features takes no payments. A [`Network`] is a map with its view as one value, and a [`Replica`] one that is
-//! behind another. A [`Route`] is a walk over edges with what each [`Hop`] forwards.
+//! behind another. An [`Overlay`] is what a payer knows beside the map, and an
+//! [`OverlayView`] the view over it. A [`RoutingGraph`] is what a search reads. A [`Route`] is a walk over edges with what each [`Hop`] forwards.
 #![tactic(auto)]
 
 mod edge;
@@ -13,8 +14,13 @@ mod laws;
 mod lists;
 mod network;
 mod nodes;
+mod overlay;
+mod overlay_laws;
+mod overlay_view;
+mod pending;
 mod replica;
 mod route;
+mod routing_graph;
 mod view;
 
 pub use edge::Edge;
@@ -22,6 +28,11 @@ pub use fees::fee;
 pub use known::Known;
 pub use laws::edges_are_directions;
 pub use network::Network;
+pub use overlay::{ExtraEdge, Limit, Overlay};
+pub use overlay_laws::overlays_are_lawful;
+pub use overlay_view::OverlayView;
+pub use pending::{push_pending, reserve_pending};
 pub use replica::Replica;
 pub use route::{Hop, Route};
+pub use routing_graph::RoutingGraph;
 pub use view::{MAX_CHANNELS, View};

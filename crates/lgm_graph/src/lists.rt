@@ -99,6 +99,16 @@ impl Edges {
         }
     }
 
+    /// Gives back its memory if it has no edges, or room for more than four times as many, and some more.
+    fn shrink(&mut self)
+        ensures { self.new.edges.items ≡ self.old.edges.items }
+    {
+        let edges = self.edges.len();
+        if edges == 0 || self.edges.capacity() / 4 > edges.saturating_add(4) {
+            self.edges.shrink_to_fit();
+        }
+    }
+
     /// Appends an edge.
     fn push(&mut self, edge: Edge)
         requires { HasRoom self.old }
@@ -118,6 +128,7 @@ impl Edges {
                 ensures { result ≡ is_not_of scid edge.now }
             { edge.scid != scid },
         );
+        self.shrink();
     }
 }
 
@@ -142,6 +153,7 @@ impl Edges {
                 ensures { result ≡ is_allowed points.entry.now.keys stored.entry.now.banned edge.now }
             { !(is_banned(points, stored, edge.from) || is_banned(points, stored, edge.to)) },
         );
+        self.shrink();
     }
 }
 

@@ -5,7 +5,7 @@ ghost use Rattle.std.specs.Option.{option_copied, option_or};
 ghost use Rattle.lgm_store.specs.Rows.{empty};
 ghost use Rattle.lgm_store.specs.Admission.{admitted, admitted_close, Offers};
 ghost use Rattle.lgm_store.specs.History.{absorbed};
-ghost use Rattle.lgm_graph.specs.Network.{GoesOn, IsViewed};
+ghost use Rattle.lgm_graph.specs.Network.{GoesOn, IsViewed, most_points};
 
 use crate::known::Known;
 use crate::view::{MAX_CHANNELS, View};
@@ -15,8 +15,15 @@ use lgm_store::{CheckedMessage, Hint, Map, Op, Seed};
 use std::alloc::{AllocError, Global};
 use std::marker::Model;
 
-/// A view with more points than this is dropped, since numbers of points have 32 bits and are never reused.
-const MOST_POINTS: usize = 4_000_000_000;
+/// How many points the view of a map may number: four for each channel, and 1,024 more, and in any case no more than their
+/// numbers of 32 bits allow. Each channel has two, and a point keeps its number when its last channel is removed. So since a
+/// view was built, more channels have been removed than there are, when it numbers too many.
+fn most_points(map: &Map) -> usize
+    ensures { result ≡ most_points map.now }
+{
+    let points = map.count().saturating_mul(4).saturating_add(1024);
+    points.min(4_000_000_000)
+}
 
 /// A map, and its view once it is built, to which operations are applied together. Contracts see the known feature bits
 /// of nodes, the rows of the map, and the graph of the view, which is always that of these rows.
@@ -87,7 +94,8 @@ impl Network {
         self.view.as_ref()
     }
 
-    /// Builds the view, unless there is one. The only error is out of memory, which leaves all unchanged.
+    /// Builds the view, unless there is one that numbers few enough points for the map ([`Network::absorb`]). The only error
+    /// is out of memory, which leaves all unchanged.
     pub fn make_view(&mut self, alloc: Global) -> Result<(), AllocError>
         requires { length self.old.rows.channels ≤ MAX_CHANNELS }
         ensures rows { self.new.rows ≡ self.old.rows }
@@ -95,11 +103,16 @@ impl Network {
         ensures made { OnOk result (IsSome self.new.graph) }
         ensures few { OnOk result (self.old.graph ≡ None
             → IfSome self.new.graph (λ graph. length graph.points ≤ 2 * length self.old.rows.channels)) }
+        ensures fits { OnOk result
+            (IfSome self.new.graph (λ graph. length graph.points ≤ most_points self.old.rows)) }
         ensures stays { OnErr result (self.new ≡ self.old) }
     {
-        if self.view.is_none() {
-            self.view = Some(View::of(alloc, &self.map, &self.known)?);
+        if let Some(view) = &self.view {
+            if view.nodes() <= most_points(&self.map) {
+                return Ok(());
+            }
         }
+        self.view = Some(View::of(alloc, &self.map, &self.known)?);
         Ok(())
     }
 
@@ -117,16 +130,17 @@ impl Network {
 }
 
 impl Network {
-    /// Applies an operation to the map, and to its view, if there is one. The only error is out of memory, which leaves
-    /// both unchanged.
+    /// Applies an operation to the map, and to its view, if there is one. If the view numbers more than four points for each
+    /// channel of the map and 1,024 more, it is dropped instead, so what a view takes is bounded by the map. The only error
+    /// is out of memory, which leaves both unchanged.
     pub fn absorb(&mut self, op: &Op) -> Result<(), AllocError>
         ensures rows { OnOk result (self.new.rows ≡ absorbed self.old.rows op.now) }
         ensures known { self.new.known ≡ self.old.known }
-        ensures view { OnOk result (GoesOn self.old.graph self.new.graph) }
+        ensures view { OnOk result (GoesOn self.old.rows self.old.graph self.new.graph) }
         ensures stays { OnErr result (self.new ≡ self.old) }
     {
         if let Some(view) = &mut self.view {
-            if view.nodes() <= MOST_POINTS {
+            if view.nodes() <= most_points(&self.map) {
                 return view.apply(&mut self.map, op);
             }
         }

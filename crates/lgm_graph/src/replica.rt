@@ -27,7 +27,7 @@ fn forget_first(due: &mut VecDeque<Op>)
 }
 
 /// Removes all operations. The rows of some are read together, since each loses an owner.
-fn forget_all(due: &mut VecDeque<Op>) {
+pub(crate) fn forget_all(due: &mut VecDeque<Op>) {
     for place in 0..due.len() {
         if place % TOGETHER == 0 {
             for op in due.iter().take(TOGETHER) {

@@ -1,7 +1,7 @@
 //! The view of a map.
 
 ghost use Rattle.std.specs.Prelude.{◌≡◌, ◌↔◌, Contains, ◌+◌, ◌-◌, ◌^◌, ◌<◌, ◌≤◌};
-ghost use Rattle.std.specs.Prelude.{length, min, slice_get, IfOk, OnOk, OnErr};
+ghost use Rattle.std.specs.Prelude.{length, min, [], slice_get, slice_index_or, IfOk, OnOk, OnErr};
 ghost use Rattle.std.specs.List.{position};
 ghost use Rattle.std.specs.List.Sorted.{IsPermutation};
 ghost use Rattle.std.specs.Option.{option_copied};
@@ -10,6 +10,7 @@ ghost use Rattle.lgm_store.specs.History.{absorbed};
 ghost use Rattle.lgm_graph.specs.Edges.{PointEdge, edges_of};
 ghost use Rattle.lgm_graph.specs.Graph.{AreListed, IsGraphOf, edges, point_edges};
 ghost use Rattle.lgm_graph.specs.Graph.{takes_at, edges_into, edges_leaving};
+ghost use Rattle.lgm_graph.specs.inner.Sound.{IsSound};
 
 mod affected_nodes;
 mod apply;
@@ -20,7 +21,7 @@ use crate::edge::Edge;
 use crate::known::Known;
 use crate::nodes::Nodes;
 use lgm_gossip::Point;
-use lgm_store::{Map, Op};
+use lgm_store::{Map, Op, Seed};
 use std::alloc::{AllocError, Global};
 use std::marker::Model;
 
@@ -99,6 +100,16 @@ impl View {
         }
     }
 
+    /// The edges into the node with an index, by id and direction, whether or not it takes payments.
+    pub(crate) fn all_into(&self, number: u32) -> &[Edge]
+        ensures { result.now ≡ slice_index_or self.now.into number [] }
+    {
+        match self.nodes.into.get(number as usize) {
+            Some(list) => list.edges.as_slice(),
+            None => &[],
+        }
+    }
+
     /// The edges out of the node with an index, by id and direction, including those to nodes that take no payments.
     pub fn edges_leaving(&self, number: u32) -> &[Edge]
         ensures { result.now ≡ edges_leaving self.now number }
@@ -157,6 +168,19 @@ impl View {
 }
 
 impl View {
+    /// Some edges are in the lists of both of their nodes. The call does nothing.
+    pub(crate) fn is_sound(&self)
+        ensures { IsSound self.now }
+    {
+        // The first use of a field makes known what holds of every view.
+        let _nodes = &self.nodes;
+    }
+
+    /// The seed of the hash of its points.
+    pub(crate) fn seed(&self) -> Seed {
+        *self.nodes.points.hasher()
+    }
+
     /// A copy with the same graph. The only error is out of memory.
     pub fn copy(&self, alloc: Global) -> Result<View, AllocError>
         ensures { IfOk result (λ copy. copy ≡ self.now) }
@@ -172,8 +196,9 @@ impl View {
     /// points, and a point keeps its number when its last channel is removed. The only error is out of memory, which
     /// leaves map and view unchanged.
     ///
-    /// An update costs two searches in the lists of its nodes, a node announcement one check of its features, a close a
-    /// traversal of the edges of its two nodes, and a ban one of the edges of the nodes that lose channels.
+    /// An update costs a search in the edges of each of its two nodes. If it enables or disables its direction, or is the
+    /// first of it, the edges behind it move there, 48 bytes each. A node announcement costs one check of its features, a
+    /// close a traversal of the edges of its two nodes, and a ban one of the edges of the nodes that lose channels.
     pub fn apply(&mut self, map: &mut Map, op: &Op) -> Result<(), AllocError>
         requires few { length self.old.points ≤ 4294967290 }
         requires beside { IsGraphOf map.old self.old }

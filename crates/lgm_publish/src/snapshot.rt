@@ -27,16 +27,15 @@ pub(crate) enum LogEntry {
 /// A map with its view, and the list of operations that made it. At run time only the length of the list exists.
 #[derive(Drop)]
 pub(crate) struct Snapshot {
+    alloc: Global,
     network: Network,
-    /// The number of operations applied. It bounds the points that the view may number.
+    /// The number of operations applied. It bounds the channels of the map.
     absorbed: u64,
     told: Told,
 }
 
 impl Model for Snapshot {
-    ghost use Rattle.std.specs.Prelude.{◌≤◌, ◌*◌};
-    ghost use Rattle.lgm_publish.specs.declared.snapshot.TheConstants.{MAX_OPERATIONS};
-    ghost use Rattle.lgm_publish.specs.inner.Contents.{Contents, NumbersAtMost};
+    ghost use Rattle.lgm_publish.specs.inner.Contents.{Contents, IsShown};
 
     ghost Value = { Contents };
 
@@ -47,7 +46,7 @@ impl Model for Snapshot {
       told = e.told;
     } };
 
-    ghost invariant = { λ e. (e.absorbed ≤ MAX_OPERATIONS) × NumbersAtMost (2 * e.absorbed) e.network.graph };
+    ghost invariant = { λ e. IsShown e.network e.absorbed };
 }
 
 impl Snapshot {
@@ -64,6 +63,7 @@ impl Snapshot {
         let mut network = Network::new(alloc, seed, known)?;
         network.make_view(alloc)?;
         Ok(Snapshot {
+            alloc,
             network,
             absorbed: 0,
             told,
@@ -95,7 +95,8 @@ impl Snapshot {
         &self.told
     }
 
-    /// Applies an operation to the map and its view. Beyond the limit, which is never reached, it does nothing.
+    /// Applies an operation to the map and its view, which is built anew before if it numbers too many points. Beyond the
+    /// limit, which is never reached, it does nothing. The only error is out of memory, which leaves the map unchanged.
     fn absorb(&mut self, op: &Op) -> Result<(), AllocError>
         ensures ok { OnOk result (self.new ≡ after_op self.old op.now) }
         ensures err { OnErr result (self.new ≡ self.old) }
@@ -103,6 +104,7 @@ impl Snapshot {
         if self.absorbed == MAX_OPERATIONS {
             return Ok(());
         }
+        self.network.make_view(self.alloc)?;
         self.network.absorb(op)?;
         self.absorbed += 1;
         Ok(())

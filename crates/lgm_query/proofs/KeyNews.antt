@@ -1,6 +1,6 @@
 -- The news of channels and of nodes, key by key.
 use Rattle.std.proofs.Common.{◌≡◌, ℕ, Bool, true, false, not, cond, List, [], ◌∷◌, ◌++◌, Option, Some, None, refl, sym, ap, ◌∙◌, arith}
-use Rattle.std.specs.Prelude.{nat_eq}
+use Rattle.std.specs.Prelude.{nat_eq, map}
 use Rattle.std.specs.Cmp.Lexicographic.{pointwise}
 use Rattle.std.specs.List.{AllByRecursion, find, flat_map, list_any}
 use Rattle.std.specs.List.Sorted.{IsStrictlySortedBy}
@@ -191,11 +191,10 @@ told key c about h g earlier given rows among at some own tell =
     (All-given _ _ _ (h row) (λ m one other. among m (key row) one) own_about own_about) ∙ at row is)
     own tell
 
-channel_news : (f : Filter) (before after : Rows) (ids : List ℕ) → IsAscending before → IsAscending after
-    → TellKeys before → TellKeys after → IsStrictlySortedBy nat_cmp ids
-    → ((id : ℕ) → list_any (is_at (nat_cmp id)) ids ≡ false → news_of_channel f before after id ≡ [])
-    → without_known (backlog before f) (flat_map (passing_at f after) after.channels) ≡ flat_map (news_of_channel f before after) ids
-channel_news f before after ids before_ascends after_ascends before_tells after_tells ascend lie =
+channel_rows : (f : Filter) (before after : Rows) → IsAscending before → IsAscending after → TellKeys before → TellKeys after
+    → without_known (backlog before f) (flat_map (passing_at f after) after.channels)
+    ≡ flat_map (λ row. news_of_channel f before after (id_of row)) after.channels
+channel_rows f before after before_ascends after_ascends before_tells after_tells =
     filter-flat_map _ (passing_at f after) after.channels
     ∙ flat_map-alike _ (λ row. news_of_channel f before after (id_of row)) after.channels
     (told id_of nat_cmp of_channel (passing_at f after) (news_of_channel f before after) (backlog before f)
@@ -205,6 +204,25 @@ channel_news f before after ids before_ascends after_ascends before_tells after_
     (sym is ∙ find-same _ _ (λ other. id_test (id_of other) (id_of row)) after.channels))
     after.channels (own_rows id_of nat_cmp id_level after.channels after_ascends.channels)
     (channels_about f after after_tells after.channels after_tells.channels))
+
+node_rows : (f : Filter) (before after : Rows) → IsAscending before → IsAscending after → TellKeys before → TellKeys after
+    → without_known (backlog before f) (flat_map (passing_node f) after.nodes)
+    ≡ flat_map (λ row. news_of_node f before after (point_of row)) after.nodes
+node_rows f before after before_ascends after_ascends before_tells after_tells =
+    filter-flat_map _ (passing_node f) after.nodes
+    ∙ flat_map-alike _ (λ row. news_of_node f before after (point_of row)) after.nodes
+    (told point_of point_cmp of_node (passing_node f) (news_of_node f before after) (backlog before f) (passing_of_node f before) after.nodes
+    (λ m node about. among_node f before m node before_ascends before_tells about)
+    (λ row is. ap (λ o. without_known (passing_of_node f before (point_of row)) (option_map_or (passing_node f) o []))
+    (sym is ∙ find-same _ _ (λ other. is_at-point (point_of other) (point_of row)) after.nodes))
+    after.nodes (own_rows point_of point_cmp node_equal after.nodes after_ascends.nodes) (nodes_about f after.nodes after_tells.nodes))
+
+channel_news : (f : Filter) (before after : Rows) (ids : List ℕ) → IsAscending before → IsAscending after
+    → TellKeys before → TellKeys after → IsStrictlySortedBy nat_cmp ids
+    → ((id : ℕ) → list_any (is_at (nat_cmp id)) ids ≡ false → news_of_channel f before after id ≡ [])
+    → without_known (backlog before f) (flat_map (passing_at f after) after.channels) ≡ flat_map (news_of_channel f before after) ids
+channel_news f before after ids before_ascends after_ascends before_tells after_tells ascend lie =
+    channel_rows f before after before_ascends after_ascends before_tells after_tells
     ∙ along_keys id_of nat_cmp nat_cmp_total exact_unsigned (news_of_channel f before after) after.channels ids after_ascends.channels ascend
     (All-each _ after.channels (λ row. lie (id_of row))) (All-each _ ids none)
   where
@@ -218,13 +236,7 @@ node_news : (f : Filter) (before after : Rows) (nodes : List Point) → IsAscend
     → ((node : Point) → list_any (is_at (point_cmp node)) nodes ≡ false → news_of_node f before after node ≡ [])
     → without_known (backlog before f) (flat_map (passing_node f) after.nodes) ≡ flat_map (news_of_node f before after) nodes
 node_news f before after nodes before_ascends after_ascends before_tells after_tells ascend lie =
-    filter-flat_map _ (passing_node f) after.nodes
-    ∙ flat_map-alike _ (λ row. news_of_node f before after (point_of row)) after.nodes
-    (told point_of point_cmp of_node (passing_node f) (news_of_node f before after) (backlog before f) (passing_of_node f before) after.nodes
-    (λ m node about. among_node f before m node before_ascends before_tells about)
-    (λ row is. ap (λ o. without_known (passing_of_node f before (point_of row)) (option_map_or (passing_node f) o []))
-    (sym is ∙ find-same _ _ (λ other. is_at-point (point_of other) (point_of row)) after.nodes))
-    after.nodes (own_rows point_of point_cmp node_equal after.nodes after_ascends.nodes) (nodes_about f after.nodes after_tells.nodes))
+    node_rows f before after before_ascends after_ascends before_tells after_tells
     ∙ along_keys point_of point_cmp node_total same_node (news_of_node f before after) after.nodes nodes after_ascends.nodes ascend
     (All-each _ after.nodes (λ row. lie (point_of row))) (All-each _ nodes none)
   where
@@ -244,4 +256,18 @@ news_at_keys f before after ids nodes before_ascends after_ascends before_tells 
     ∙ rw (
       channel_news f before after ids before_ascends after_ascends before_tells after_tells lie.channels_ascend lie.of_channels,
       node_news f before after nodes before_ascends after_ascends before_tells after_tells lie.nodes_ascend lie.of_nodes,
+    ) refl
+
+-- in any case they are those of the rows of the later map
+pub news_at_rows : (f : Filter) (before after : Rows) → IsAscending before → IsAscending after → TellKeys before → TellKeys after
+    → news before after f ≡ flat_map (news_of_channel f before after) (map id_of after.channels)
+    ++ flat_map (news_of_node f before after) (map point_of after.nodes)
+news_at_rows f before after before_ascends after_ascends before_tells after_tells =
+    ap (without_known (backlog before f)) (backlog_rows f after)
+    ∙ filter-append _ (flat_map (passing_at f after) after.channels) (flat_map (passing_node f) after.nodes)
+    ∙ rw (
+      channel_rows f before after before_ascends after_ascends before_tells after_tells,
+      node_rows f before after before_ascends after_ascends before_tells after_tells,
+      flat_map-map (news_of_channel f before after) id_of after.channels,
+      flat_map-map (news_of_node f before after) point_of after.nodes,
     ) refl

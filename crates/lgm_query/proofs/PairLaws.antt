@@ -20,3 +20,18 @@ one_more_pair f before after pairs pair id ids same =
     ap (λ (messages : List (List ℕ)). messages ++ left) (flat_map-append (news_of_channel_pair f) pairs (pair ∷ []))
     ∙ ap more (append-nil (news_of_channel_pair f pair) ∙ same)
     ∙ append_assoc told (news_of_channel f before after id) left
+
+-- in any lists: one more element gives what was left to its key
+pub one_more : {P K : Type 0} (told : P → List (List ℕ)) (left : K → List (List ℕ)) (pairs : List P) (pair : P) (key : K) (keys : List K)
+    → told pair ≡ left key
+    → flat_map told (pairs ++ pair ∷ []) ++ flat_map left keys ≡ flat_map told pairs ++ flat_map left (key ∷ keys)
+one_more told left pairs pair key keys same =
+    let more : List (List ℕ) → List (List ℕ) = λ messages. (flat_map told pairs ++ messages) ++ flat_map left keys in
+    ap (λ (messages : List (List ℕ)). messages ++ flat_map left keys) (flat_map-append told pairs (pair ∷ []))
+    ∙ ap more (append-nil (told pair) ∙ same)
+    ∙ append_assoc (flat_map told pairs) (left key) (flat_map left keys)
+
+-- and a key to which nothing was left needs none
+pub none_more : {P K : Type 0} (told : P → List (List ℕ)) (left : K → List (List ℕ)) (pairs : List P) (key : K) (keys : List K)
+    → [] ≡ left key → flat_map told pairs ++ flat_map left keys ≡ flat_map told pairs ++ flat_map left (key ∷ keys)
+none_more told left pairs key keys none = ap (λ (messages : List (List ℕ)). flat_map told pairs ++ (messages ++ flat_map left keys)) none

@@ -1,7 +1,8 @@
 //! The differences between two maps.
 
-ghost use Rattle.std.specs.Prelude.{◌≡◌, IfOk};
+ghost use Rattle.std.specs.Prelude.{◌≡◌, map, IfOk};
 ghost use Rattle.std.specs.List.{flat_map};
+ghost use Rattle.lgm_store.specs.Keys.{id_of, point_of};
 ghost use Rattle.lgm_query.specs.declared.filter.Filter.{Filter};
 ghost use Rattle.lgm_query.specs.Backlog.{news};
 ghost use Rattle.lgm_query.specs.KeyNews.{news_of_channel, news_of_node};
@@ -66,6 +67,30 @@ impl<'a> MapDiff<'a> {
         })
     }
 
+    /// The differences from an earlier map to a later one, whatever led from one to the other.
+    ///
+    /// Time is that of the later map, with two searches for each of its rows, all of whose messages are read. The only error
+    /// is out of memory.
+    pub fn of_maps(
+        alloc: Global,
+        before: &'a Map,
+        after: &'a Map,
+    ) -> Result<MapDiff<'a>, AllocError>
+        ensures { IfOk result
+            (λ map_diff. map_diff ≡ record { before = before.now; after = after.now }) }
+    {
+        before.rows_are_lawful();
+        after.rows_are_lawful();
+        before.bytes_encode_rows();
+        after.bytes_encode_rows();
+        Ok(MapDiff {
+            before,
+            after,
+            channels: all_channel_pairs(alloc, before, after)?,
+            nodes: all_node_pairs(alloc, before, after)?,
+        })
+    }
+
     /// Iterates over the [`news`](crate::news_iter) from the earlier map to the later one. Nothing is allocated, and only
     /// the timestamps of what was touched are looked at, or nothing if the filter's range is empty.
     pub fn news<'b>(&'b self, filter: &Filter) -> News<'b, 'a>
@@ -110,6 +135,45 @@ fn node_pairs<'a>(
     let mut pairs = Vec::new(alloc);
     for node in nodes {
         if let Some(pair) = NodePair::at(before, after, node) {
+            pairs.push(pair)?;
+        }
+    }
+    Ok(pairs)
+}
+
+/// The rows of both maps for each channel of the later one.
+#[tactic(auto, using(crate::proofs::PairLaws::one_more_pair))]
+fn all_channel_pairs<'a>(
+    alloc: Global,
+    before: &'a Map,
+    after: &'a Map,
+) -> Result<Vec<ChannelPair<'a>>, AllocError>
+    ensures { IfOk result (λ pairs. (f : Filter)
+        → flat_map (news_of_channel_pair f) pairs.items
+        ≡ flat_map (news_of_channel f before.now after.now) (map id_of after.now.channels)) }
+{
+    let mut pairs = Vec::new(alloc);
+    for stored in after.channels() {
+        if let Some(pair) = ChannelPair::at(before, after, stored.scid()) {
+            pairs.push(pair)?;
+        }
+    }
+    Ok(pairs)
+}
+
+/// The rows of both maps for each node of the later one.
+fn all_node_pairs<'a>(
+    alloc: Global,
+    before: &'a Map,
+    after: &'a Map,
+) -> Result<Vec<NodePair<'a>>, AllocError>
+    ensures { IfOk result (λ pairs. (f : Filter)
+        → flat_map (news_of_node_pair f) pairs.items
+        ≡ flat_map (news_of_node f before.now after.now) (map point_of after.now.nodes)) }
+{
+    let mut pairs = Vec::new(alloc);
+    for row in after.nodes() {
+        if let Some(pair) = NodePair::at(before, after, &row.node()) {
             pairs.push(pair)?;
         }
     }

@@ -3,6 +3,8 @@ use Rattle.std.proofs.Common.{◌≡◌, ◌≢◌, ◌⊎◌, ◌↔◌, ℕ, �
 use Rattle.std.proofs.Common.{suc, true, false, cond, refl, sym, ◌∙◌, ap, subst, inl, inr, arith}
 use Rattle.std.specs.Prelude.{nat_le, nat_lt, nat_eq, is_some, ◌&&◌, Option, Some, None, Result, Ok, Err}
 use Rattle.std.specs.List.{Contains, fold}
+use Rattle.std.specs.List.Sorted.{IsPermutation}
+use Rattle.std.proofs.lemmas.List.Sorted.{Contains-permutation, IsPermutation-sym}
 use Rattle.std.specs.declared.cmp.Ordering.TheVariants.{Less, Equal, Greater}
 use Rattle.std.specs.Ordering.{nat_cmp, is_lt, is_gt}
 use Rattle.std.specs.Cmp.Lexicographic.{slice_cmp}
@@ -11,7 +13,7 @@ use Rattle.std.proofs.lemmas.Bool.Decides.{nat_tests}
 use Rattle.lgm_wire.specs.declared.point.Point.{Point}
 use Rattle.lgm_store.specs.Rows.{is_point}
 use Rattle.lgm_store.proofs.Points.{same_point, is_point-self}
-use Rattle.lgm_graph.specs.Edges.{PointEdge, AreDirections}
+use Rattle.lgm_graph.specs.Edges.{PointEdge, AreKeyed}
 use Rattle.lgm_graph.proofs.Members.{Among, Contains-Among, Among-Contains, Among-passes, Among-passed}
 use Rattle.lgm_graph.proofs.Members.{Among-mapped, Among-map, Among-flat, Among-flattened}
 use Rattle.lgm_route.specs.declared.request.Request.{Request}
@@ -218,24 +220,24 @@ point_apart request none same =
     false≢true (sym (ap is_some none) ∙ some)
 
 both_found : (edges : List PointEdge) (request : Request) (answer other : Result (List Hop) RouteFault)
-    → AreDirections edges → request.payer ≢ request.payee →
+    → AreKeyed edges → request.payer ≢ request.payee →
     IsFoundOver edges request answer → IsFoundOver edges request other → answer ≡ other
-both_found edges request (Ok hops) (Ok hops') directions apart found also =
-    let same = least-unique edges request found.0 also.0 directions apart found.1 also.1 in
+both_found edges request (Ok hops) (Ok hops') keyed apart found also =
+    let same = least-unique edges request found.0 also.0 keyed apart found.1 also.1 in
     ap Ok (found.2 ∙ ap (hops_of request) same ∙ sym also.2)
-both_found edges request (Ok hops) (Err fault) directions apart found also = absurd (also.1 found.0 found.1.usable)
-both_found edges request (Err fault) (Ok hops) directions apart found also = absurd (found.1 also.0 also.1.usable)
-both_found edges request (Err fault) (Err fault') directions apart found also = ap Err (found.0 ∙ sym also.0)
+both_found edges request (Ok hops) (Err fault) keyed apart found also = absurd (also.1 found.0 found.1.usable)
+both_found edges request (Err fault) (Ok hops) keyed apart found also = absurd (found.1 also.0 also.1.usable)
+both_found edges request (Err fault) (Err fault') keyed apart found also = ap Err (found.0 ∙ sym also.0)
 
 -- a request has one answer
-pub answer-unique : (edges : List PointEdge) (request : Request) (answer other : Result (List Hop) RouteFault) → AreDirections edges →
+pub answer-unique : (edges : List PointEdge) (request : Request) (answer other : Result (List Hop) RouteFault) → AreKeyed edges →
     IsAnswer edges request answer → IsAnswer edges request other → answer ≡ other
-answer-unique edges request answer other directions is also = by (refusal request) refl is also
+answer-unique edges request answer other keyed is also = by (refusal request) refl is also
   where
     by : (refused : Option RouteFault) → refusal request ≡ refused → IsAnswerBy refused edges request answer
         → IsAnswerBy refused edges request other → answer ≡ other
     by (Some fault) e is also = is ∙ sym also
-    by None e is also = both_found edges request answer other directions (point_apart request e) is also
+    by None e is also = both_found edges request answer other keyed (point_apart request e) is also
 
 -- ---- lists of the same edges have the same answers
 
@@ -279,14 +281,31 @@ answer-over edges others request answer same is = by (refusal request) is
 
 -- the answer is that of exhaustive search
 pub answer-tried : (edges others : List PointEdge) (request : Request) (answer : Result (List Hop) RouteFault)
-    → AreDirections others → HaveSame edges others →
+    → AreKeyed others → HaveSame edges others →
     IsAnswer edges request answer → answer ≡ answer_of others request
-answer-tried edges others request answer directions same is =
-    answer-unique others request answer (answer_of others request) directions (answer-over edges others request answer same is) (tried others request)
+answer-tried edges others request answer keyed same is =
+    answer-unique others request answer (answer_of others request) keyed (answer-over edges others request answer same is) (tried others request)
 
 -- so it is over the edges of the rows, unless memory ran out
 pub answered : {E : Type 0} (edges others : List PointEdge) (request : Request) (answer : Result (List Hop) RouteFault)
-    → AreDirections others → HaveSame edges others → E ⊎ IsAnswer edges request answer
+    → AreKeyed others → HaveSame edges others → E ⊎ IsAnswer edges request answer
     → E ⊎ (answer ≡ answer_of others request)
-answered edges others request answer directions same (inl none) = inl none
-answered edges others request answer directions same (inr is) = inr (answer-tried edges others request answer directions same is)
+answered edges others request answer keyed same (inl none) = inl none
+answered edges others request answer keyed same (inr is) = inr (answer-tried edges others request answer keyed same is)
+
+-- so it is over the same edges in another order
+pub answered-reordered : {E : Type 0} (edges others : List PointEdge) (request : Request) (answer : Result (List Hop) RouteFault)
+    → AreKeyed others → IsPermutation others edges → E ⊎ IsAnswer edges request answer
+    → E ⊎ (answer ≡ answer_of others request)
+answered-reordered edges others request answer keyed order is =
+    answered edges others request answer keyed
+    (λ edge. (
+      Contains-permutation edges others edge (IsPermutation-sym others edges order),
+      Contains-permutation others edges edge order,
+    )) is
+
+-- and if it is refused
+pub answered-refused : {E : Type 0} (edges : List PointEdge) (request : Request) (fault : RouteFault) → AreKeyed edges → refusal request ≡ Some fault
+    → E ⊎ (Err fault ≡ answer_of edges request)
+answered-refused edges request fault keyed refused =
+    answered edges edges request (Err fault) keyed (λ edge. (λ there. there, λ there. there)) (inr (rw refused refl))

@@ -12,3 +12,4 @@ pub mod Crossing
 pub mod HopLaws
 pub mod Visits
 pub mod Choosing
+mod Narrowing

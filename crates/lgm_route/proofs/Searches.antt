@@ -1,5 +1,5 @@
 -- A search as one value, from step to step.
-use Rattle.std.proofs.Common.{◌≡◌, ◌⊎◌, ℕ, zero, suc, ◌+◌, ◌*◌, ◌^◌, ◌<◌, ◌≤◌, List, [], ◌∷◌, length, get_or}
+use Rattle.std.proofs.Common.{◌≡◌, ◌⊎◌, ℕ, zero, suc, ◌+◌, ◌^◌, ◌<◌, ◌≤◌, List, [], ◌∷◌, length, get_or}
 use Rattle.std.proofs.Common.{Option, Some, None, Bool, true, false, refl, sym, ◌∙◌, subst, inl, inr, arith}
 use Rattle.lgm_graph.specs.Graph.{Graph, edges, edges_into, AreListed}
 use Rattle.lgm_graph.specs.declared.edge.Edge.{Edge}

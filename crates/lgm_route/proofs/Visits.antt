@@ -9,7 +9,7 @@ use Rattle.std.proofs.lemmas.Bool.{false≢true}
 use Rattle.lgm_wire.specs.declared.point.Point.{Point}
 use Rattle.lgm_store.specs.Rows.{is_point}
 use Rattle.lgm_store.proofs.Points.{same_point, is_point-self}
-use Rattle.lgm_graph.specs.Edges.{PointEdge, AreDirections}
+use Rattle.lgm_graph.specs.Edges.{PointEdge, AreKeyed}
 use Rattle.lgm_route.specs.declared.request.Request.{Request}
 use Rattle.lgm_route.specs.Routes.{owed, sent, ids, IsRest, IsStep, walk_key, Precedes, IsLeast, Visits, IsSimple}
 use Rattle.lgm_route.specs.inner.Searching.{NotAfter}
@@ -163,25 +163,25 @@ tail_of : (x y : ℕ) (xs ys : List ℕ) → x ∷ xs ≡ y ∷ ys → xs ≡ ys
 tail_of x y xs ys e = cc
 
 -- the ids of a walk that visits no node twice identify it
-pub ids_name : (edges : List PointEdge) (request : Request) (node : Point) (walk other : List PointEdge) → AreDirections edges →
+pub ids_name : (edges : List PointEdge) (request : Request) (node : Point) (walk other : List PointEdge) → AreKeyed edges →
     IsRest edges request node walk → IsRest edges request node other → IsSimple node walk → ids walk ≡ ids other → walk ≡ other
-ids_name edges request node [] [] directions joins also simple e = refl
-ids_name edges request node [] (edge ∷ rest) directions joins also simple e = absurd (cc)
-ids_name edges request node (edge ∷ rest) [] directions joins also simple e = absurd (cc)
-ids_name edges request node (edge ∷ rest) (edge' ∷ rest') directions joins also simple e =
-    by (directions edge edge' joins.0.there also.0.there (head_of edge.scid edge'.scid (ids rest) (ids rest') e))
-    (λ same. ids_name edges request edge.to rest rest' directions joins.1 (subst (λ d. IsRest edges request
-    d.to rest') (sym same) also.1) simple.1 (tail_of edge.scid edge'.scid (ids rest) (ids rest') e))
-  where
-    by : (edge ≡ edge') ⊎ ((edge.from ≡ edge'.to) × (edge.to ≡ edge'.from)) → (edge ≡ edge' → rest ≡ rest') → edge ∷ rest ≡ edge' ∷ rest'
-    by (inl same) tails = let tail = tails same in cc (same, tail)
-    by (inr back) tails = absurd (simple.0 (inl (back.1 ∙ also.0.leaves)))
+ids_name edges request node [] [] keyed joins also simple e = refl
+ids_name edges request node [] (edge ∷ rest) keyed joins also simple e = absurd (cc)
+ids_name edges request node (edge ∷ rest) [] keyed joins also simple e = absurd (cc)
+ids_name edges request node (edge ∷ rest) (edge' ∷ rest') keyed joins also simple e =
+    let same : edge ≡ edge' =
+    keyed edge edge' joins.0.there also.0.there (joins.0.leaves ∙ sym also.0.leaves) (head_of edge.scid edge'.scid (ids rest) (ids rest') e)
+    (λ back. simple.0 (inl (sym back ∙ joins.0.leaves))) in
+    let tail : rest ≡ rest' =
+    ids_name edges request edge.to rest rest' keyed joins.1 (subst (λ d. IsRest edges request d.to rest') (sym same) also.1) simple.1
+    (tail_of edge.scid edge'.scid (ids rest) (ids rest') e) in
+    cc (same, tail)
 
 -- there is one best walk
-pub least-unique : (edges : List PointEdge) (request : Request) (walk other : List PointEdge) → AreDirections edges → request.payer ≢ request.payee →
+pub least-unique : (edges : List PointEdge) (request : Request) (walk other : List PointEdge) → AreKeyed edges → request.payer ≢ request.payee →
     IsLeast edges request walk → IsLeast edges request other → walk ≡ other
-least-unique edges request walk other directions apart least also =
-    ids_name edges request request.payer walk other directions least.usable.joins also.usable.joins (least-simple edges request walk apart least)
+least-unique edges request walk other keyed apart least also =
+    ids_name edges request request.payer walk other keyed least.usable.joins also.usable.joins (least-simple edges request walk apart least)
     (tail_of (length walk) (length other) (ids walk) (ids other)
     (tail_of (sent request.amount walk) (sent request.amount other) (length walk ∷ ids walk) (length other ∷ ids other)
     (same_of (walk_key request walk) (walk_key request other)

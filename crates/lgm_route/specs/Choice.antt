@@ -6,7 +6,7 @@ use Rattle.std.specs.Ordering.{nat_cmp, is_lt}
 use Rattle.std.specs.Cmp.Lexicographic.{slice_cmp}
 use Rattle.lgm_wire.specs.declared.point.Point.{Point}
 use Rattle.lgm_store.specs.Rows.{is_point}
-use Rattle.lgm_graph.specs.Edges.{PointEdge, AreDirections}
+use Rattle.lgm_graph.specs.Edges.{PointEdge, AreKeyed}
 use Rattle.lgm_route.specs.declared.request.Request.{Request}
 use Rattle.lgm_graph.specs.declared.route.Hop.{Hop}
 use Rattle.lgm_route.specs.declared.fault.RouteFault.{RouteFault}
@@ -56,10 +56,9 @@ answer_by None request walk = found_by request walk
 unfoldable pub answer_of : List PointEdge → Request → Result (List Hop) RouteFault
 answer_of edges request = answer_by (refusal request) request (least_walk edges request)
 
--- exhaustive search returns an answer; if two edges of one id are the same or have opposite directions, each answer is
--- that one
+-- exhaustive search returns an answer; if node and id identify an edge, each answer is that one
 pub record AnswerIsOne : Type 0 where
   pub found : (edges : List PointEdge) (request : Request) → IsAnswer edges request (answer_of edges request)
   pub one : (edges : List PointEdge) (request : Request) (answer : Result (List Hop) RouteFault)
-      → AreDirections edges →
+      → AreKeyed edges →
       IsAnswer edges request answer → answer ≡ answer_of edges request

@@ -6,7 +6,8 @@ use Rattle.std.specs.Ordering.{nat_cmp}
 use Rattle.std.specs.Cmp.Lexicographic.{slice_cmp}
 use Rattle.lgm_wire.specs.declared.point.Point.{Point}
 use Rattle.lgm_graph.specs.Fee.{fee_of}
-use Rattle.lgm_graph.specs.Edges.{PointEdge, AreDirections}
+use Rattle.lgm_graph.specs.Edges.{PointEdge, AreKeyed}
+use Rattle.lgm_graph.specs.Overlay.{AreNarrowed}
 use Rattle.lgm_route.specs.declared.request.Request.{Request}
 use Rattle.lgm_graph.specs.declared.route.Hop.{Hop}
 
@@ -93,10 +94,17 @@ abbrev pub IsSimple : Point → List PointEdge → Type 0
 IsSimple node [] = Unit {0}
 IsSimple node (edge ∷ rest) = (Visits node (edge ∷ rest) → ⊥) × IsSimple edge.to rest
 
--- if two edges of one id are the same or have opposite directions, a request between different nodes has at most one
--- best walk, which visits no node twice
+-- if node and id identify an edge, a request between different nodes has at most one best walk, which visits no node
+-- twice
 abbrev pub LeastIsOne : Type 0
 LeastIsOne =
-    (edges : List PointEdge) (request : Request) (walk other : List PointEdge) → AreDirections edges
+    (edges : List PointEdge) (request : Request) (walk other : List PointEdge) → AreKeyed edges
     → request.payer ≢ request.payee →
     IsLeast edges request walk → IsLeast edges request other → (walk ≡ other) × IsSimple request.payer walk
+
+-- edges that are removed, or carry less, let no payment through that had no route, and make none cheaper
+pub record NarrowingNeverHelps : Type 0 where
+  pub usable : (edges others : List PointEdge) (request : Request) (walk : List PointEdge) → AreNarrowed edges others
+      → IsUsable edges request walk → (other : List PointEdge) × IsUsable others request other
+  pub sent : (edges others : List PointEdge) (request : Request) (walk best : List PointEdge) → AreNarrowed edges others
+      → IsUsable edges request walk → IsLeast others request best → sent request.amount best ≤ sent request.amount walk

@@ -15,18 +15,18 @@ use crate::fault::RouteFault;
 use crate::hops::hops;
 use crate::request::{NumberedRequest, Request};
 use crate::search::Search;
-use lgm_graph::{Edge, Hop, Route, View};
+use lgm_graph::{Edge, Hop, Route, RoutingGraph, View};
 use lgm_par::{Gate, MAX_WORKERS, Pool};
 use std::alloc::{AllocError, Global};
 use std::thread::Threads;
 
 /// A new search.
-fn begin<'a>(
+fn begin<'a, V: RoutingGraph>(
     alloc: Global,
-    view: &'a View,
+    view: &'a V,
     request: &NumberedRequest,
-) -> Result<Search<'a>, AllocError>
-    ensures { IfOk result (λ search. IsBegun view.entry.now request.now search) }
+) -> Result<Search<'a, V>, AllocError>
+    ensures { IfOk result (λ search. IsBegun (V.graph view.entry.now) request.now search) }
 {
     let _nodes = view.nodes();
     let upper_bound = most_sent(view, request);
@@ -36,13 +36,13 @@ fn begin<'a>(
 }
 
 /// The best walk between numbered nodes, if one is usable.
-fn best_walk(
+fn best_walk<V: RoutingGraph>(
     alloc: Global,
-    view: &View,
+    view: &V,
     request: &NumberedRequest,
 ) -> Result<Option<Vec<Edge>>, AllocError>
     ensures { IfOk result
-        (λ best. IsBestWalk (edges view.now) request.now (option_map (λ walk. walk.items) best)) }
+        (λ best. IsBestWalk (edges (V.graph view.now)) request.now (option_map (λ walk. walk.items) best)) }
 {
     let mut search = begin(alloc, view, request)?;
     search.settle_best_first(alloc)?;
@@ -51,13 +51,13 @@ fn best_walk(
 }
 
 /// The same, found by several workers.
-fn best_walk_chunked<Rt: Threads + Sync, G: Gate>(
+fn best_walk_chunked<Rt: Threads + Sync, G: Gate, V: RoutingGraph + Sync>(
     pool: &Pool<'_, Rt, G>,
-    view: &View,
+    view: &V,
     request: &NumberedRequest,
 ) -> Result<Option<Vec<Edge>>, AllocError>
     ensures { IfOk result
-        (λ best. IsBestWalk (edges view.now) request.now (option_map (λ walk. walk.items) best)) }
+        (λ best. IsBestWalk (edges (V.graph view.now)) request.now (option_map (λ walk. walk.items) best)) }
 {
     let mut search = begin(pool.alloc, view, request)?;
     search.settle_chunked(pool)?;
@@ -66,8 +66,8 @@ fn best_walk_chunked<Rt: Threads + Sync, G: Gate>(
 }
 
 /// The request between numbered nodes, if both have a number.
-fn numbering_of(view: &View, request: &Request) -> Option<NumberedRequest>
-    ensures { IsNumberingOf view.now request.now result }
+fn numbering_of<V: RoutingGraph>(view: &V, request: &Request) -> Option<NumberedRequest>
+    ensures { IsNumberingOf (V.graph view.now) request.now result }
 {
     // The contract of `nodes` says that the nodes of edges are numbered.
     let _nodes = view.nodes();
@@ -85,11 +85,11 @@ fn numbering_of(view: &View, request: &Request) -> Option<NumberedRequest>
 }
 
 /// The request between numbered nodes, or why there is no route for it, whatever the edges between them are.
-fn numbered(view: &View, request: &Request) -> Result<NumberedRequest, RouteFault>
+fn numbered<V: RoutingGraph>(view: &V, request: &Request) -> Result<NumberedRequest, RouteFault>
     ensures refused { (fault : RouteFault) → refusal request.now ≡ Some fault → result ≡ Err fault }
-    ensures found { IfOk result (λ numbered. IsNumberingOf view.now request.now (Some numbered)) }
+    ensures found { IfOk result (λ numbered. IsNumberingOf (V.graph view.now) request.now (Some numbered)) }
     ensures allowed { IfOk result (λ _. refusal request.now ≡ None) }
-    ensures answer { IfErr result (λ fault. IsAnswer (point_edges view.now) request.now (Err fault)) }
+    ensures answer { IfErr result (λ fault. IsAnswer (point_edges (V.graph view.now)) request.now (Err fault)) }
 {
     if let Some(fault) = request.refusal() {
         return Err(fault);
@@ -101,18 +101,18 @@ fn numbered(view: &View, request: &Request) -> Result<NumberedRequest, RouteFaul
 }
 
 /// The hops of the best walk, if there is one.
-fn hops_of(
+fn hops_of<V: RoutingGraph>(
     alloc: Global,
-    view: &View,
+    view: &V,
     request: &Request,
     numbered: &NumberedRequest,
     walk: Option<Vec<Edge>>,
 ) -> Result<Option<Vec<Hop>>, AllocError>
     requires expiry { request.now.expiry ≤ 498000000 }
-    requires numbered { IsNumberingOf view.now request.now (Some numbered.now) }
-    requires walk { IsBestWalk (edges view.now) numbered.now (option_map (λ walk. walk.items) walk) }
+    requires numbered { IsNumberingOf (V.graph view.now) request.now (Some numbered.now) }
+    requires walk { IsBestWalk (edges (V.graph view.now)) numbered.now (option_map (λ walk. walk.items) walk) }
     ensures { IfOk result
-        (λ best. IsBest (point_edges view.now) request.now (option_map (λ hops. hops.items) best)) }
+        (λ best. IsBest (point_edges (V.graph view.now)) request.now (option_map (λ hops. hops.items) best)) }
 {
     // The contract of `nodes` says that the nodes of edges are numbered.
     let _nodes = view.nodes();
@@ -126,17 +126,17 @@ fn hops_of(
 }
 
 /// The route over the best walk, or that there is none.
-fn route_over(
+fn route_over<V: RoutingGraph>(
     alloc: Global,
-    view: &View,
+    view: &V,
     request: &Request,
     numbered: &NumberedRequest,
     walk: Option<Vec<Edge>>,
 ) -> Result<Route, RouteFault>
     requires expiry { request.now.expiry ≤ 498000000 }
-    requires numbered { IsNumberingOf view.now request.now (Some numbered.now) }
-    requires walk { IsBestWalk (edges view.now) numbered.now (option_map (λ walk. walk.items) walk) }
-    ensures { (result ≡ Err RouteFault.NoMemory) ⊎ IsFoundOver (point_edges view.now) request.now result }
+    requires numbered { IsNumberingOf (V.graph view.now) request.now (Some numbered.now) }
+    requires walk { IsBestWalk (edges (V.graph view.now)) numbered.now (option_map (λ walk. walk.items) walk) }
+    ensures { (result ≡ Err RouteFault.NoMemory) ⊎ IsFoundOver (point_edges (V.graph view.now)) request.now result }
 {
     match hops_of(alloc, view, request, numbered, walk)? {
         Some(hops) => Ok(Route::from_vec(hops)),
@@ -161,9 +161,22 @@ pub fn least(alloc: Global, view: &View, request: &Request) -> Result<Route, Rou
     // Otherwise the answer is the best route, or that there is none, unless memory runs out.
     ensures answer { (result ≡ Err RouteFault.NoMemory) ⊎ IsAnswer (point_edges view.now) request.now result }
 {
-    let numbered = numbered(view, request)?;
-    let walk = best_walk(alloc, view, &numbered)?;
-    route_over(alloc, view, request, &numbered, walk)
+    least_in(alloc, view, request)
+}
+
+/// The best route of a payment over the edges of any graph, as [`least`] finds it over those of a view, with the same
+/// refusals.
+pub fn least_in<V: RoutingGraph>(
+    alloc: Global,
+    graph: &V,
+    request: &Request,
+) -> Result<Route, RouteFault>
+    ensures refused { (fault : RouteFault) → refusal request.now ≡ Some fault → result ≡ Err fault }
+    ensures answer { (result ≡ Err RouteFault.NoMemory) ⊎ IsAnswer (point_edges (V.graph graph.now)) request.now result }
+{
+    let numbered = numbered(graph, request)?;
+    let walk = best_walk(alloc, graph, &numbered)?;
+    route_over(alloc, graph, request, &numbered, walk)
 }
 
 /// The same route as [`least`], found by a pool of workers, whatever its gate does.
@@ -187,12 +200,24 @@ pub fn least_pooled<Rt: Threads + Sync, G: Gate>(
     ensures refused { (fault : RouteFault) → refusal request.now ≡ Some fault → result ≡ Err fault }
     ensures answer { (result ≡ Err RouteFault.NoMemory) ⊎ IsAnswer (point_edges view.now) request.now result }
 {
+    least_pooled_in(pool, view, request)
+}
+
+/// The same route as [`least_in`], found by a pool of workers as in [`least_pooled`].
+pub fn least_pooled_in<Rt: Threads + Sync, G: Gate, V: RoutingGraph + Sync>(
+    pool: &Pool<'_, Rt, G>,
+    graph: &V,
+    request: &Request,
+) -> Result<Route, RouteFault>
+    ensures refused { (fault : RouteFault) → refusal request.now ≡ Some fault → result ≡ Err fault }
+    ensures answer { (result ≡ Err RouteFault.NoMemory) ⊎ IsAnswer (point_edges (V.graph graph.now)) request.now result }
+{
     if pool.workers == 1 {
-        return least(pool.alloc, view, request);
+        return least_in(pool.alloc, graph, request);
     }
-    let numbered = numbered(view, request)?;
-    let walk = best_walk_chunked(pool, view, &numbered)?;
-    route_over(pool.alloc, view, request, &numbered, walk)
+    let numbered = numbered(graph, request)?;
+    let walk = best_walk_chunked(pool, graph, &numbered)?;
+    route_over(pool.alloc, graph, request, &numbered, walk)
 }
 
 /// The same route as [`least`], found by several workers, for any number of them from 1 to [`MAX_WORKERS`], and
@@ -220,10 +245,10 @@ pub fn least_chunked<Rt: Threads + Sync, G: Gate>(
 
 /// An amount in msat above what any walk sends: its first edge carries at most the greatest maximum of the edges out of
 /// the payer.
-pub(crate) fn most_sent(view: &View, request: &NumberedRequest) -> u128
-    requires { AreListed view.now }
+pub(crate) fn most_sent<V: RoutingGraph>(view: &V, request: &NumberedRequest) -> u128
+    requires { AreListed (V.graph view.now) }
     ensures low { result ≤ 2 ^ 64 }
-    ensures upper_bound { IsUpperBound (edges view.now) request.now result }
+    ensures upper_bound { IsUpperBound (edges (V.graph view.now)) request.now result }
 {
     let mut most = 0;
     for edge in view.edges_leaving(request.payer) {

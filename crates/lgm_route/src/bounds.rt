@@ -8,7 +8,7 @@ ghost use Rattle.lgm_graph.specs.Graph.{edges};
 use crate::forward_search::ForwardSearch;
 use crate::request::NumberedRequest;
 use lgm_gossip::Scid;
-use lgm_graph::View;
+use lgm_graph::RoutingGraph;
 use std::alloc::{AllocError, Global};
 use std::marker::Model;
 
@@ -88,14 +88,14 @@ fn steps_for(nodes: usize) -> usize {
     1_024
 }
 
-/// Lower bounds on the fees from the payer to each node of a view.
-pub(crate) fn lower_bounds(
+/// Lower bounds on the fees from the payer to each node of a graph.
+pub(crate) fn lower_bounds<V: RoutingGraph>(
     alloc: Global,
-    view: &View,
+    view: &V,
     request: &NumberedRequest,
 ) -> Result<Bounds, AllocError>
-    ensures long { IfOk result (λ low. length low ≡ length view.now.points) }
-    ensures low { IfOk result (λ low. AreLow (edges view.now) request.now low) }
+    ensures long { IfOk result (λ low. length low ≡ length (V.graph view.now).points) }
+    ensures low { IfOk result (λ low. AreLow (edges (V.graph view.now)) request.now low) }
 {
     let mut pass = ForwardSearch::new(alloc, view, request)?;
     pass.expand(steps_for(view.nodes()))?;

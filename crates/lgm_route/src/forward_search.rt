@@ -11,7 +11,7 @@ use crate::bounds::Bounds;
 use crate::entry::Entry;
 use crate::request::NumberedRequest;
 use lgm_gossip::Scid;
-use lgm_graph::{Edge, View, fee};
+use lgm_graph::{Edge, RoutingGraph, fee};
 use std::alloc::{AllocError, Global};
 use std::collections::BinaryHeap;
 use std::marker::Model;
@@ -19,12 +19,12 @@ use std::marker::Model;
 /// The maximum average number of edges that a forward search relaxes per step.
 const EDGES: usize = 40;
 
-/// A search over the edges of a view, from the payer on, which lowers the fees to nodes.
+/// A search over the edges of a graph, from the payer on, which lowers the fees to nodes.
 ///
 /// A node is closed once the edges out of it were relaxed, and opened again when the fees to it fall.
 #[derive(Drop)]
-pub(crate) struct ForwardSearch<'a> {
-    view: &'a View,
+pub(crate) struct ForwardSearch<'a, V: RoutingGraph> {
+    view: &'a V,
     request: &'a NumberedRequest,
     /// The fees to each node, in msat, or 2^64 - 1 if the search hasn't reached it.
     dist: Vec<u64>,
@@ -32,15 +32,15 @@ pub(crate) struct ForwardSearch<'a> {
     reached_nodes: ReachedNodes,
 }
 
-impl<'a> Model for ForwardSearch<'a> {
+impl<'a, V: RoutingGraph> Model for ForwardSearch<'a, V> {
     ghost use Rattle.lgm_route.specs.inner.ForwardState.{ForwardState, forward_state, IsForwardState};
 
     ghost Value = { ForwardState };
 
-    ghost view = { λ p. forward_state p.view.now p.request.now p.dist.items p.closed.items p.reached_nodes.reached.items };
+    ghost view = { λ p. forward_state (V.graph p.view.now) p.request.now p.dist.items p.closed.items p.reached_nodes.reached.items };
 
     ghost invariant = { λ p. IsForwardState
-        (forward_state p.view.now p.request.now p.dist.items p.closed.items p.reached_nodes.reached.items) };
+        (forward_state (V.graph p.view.now) p.request.now p.dist.items p.closed.items p.reached_nodes.reached.items) };
 }
 
 /// Lowers the fees to a node, which is then open again.
@@ -108,14 +108,14 @@ fn none_closed(alloc: Global, nodes: usize) -> Result<Vec<bool>, AllocError>
     vec![in alloc; false; nodes]
 }
 
-impl<'a> ForwardSearch<'a> {
+impl<'a, V: RoutingGraph> ForwardSearch<'a, V> {
     /// A search that has only reached the payer.
     pub(crate) fn new(
         alloc: Global,
-        view: &'a View,
+        view: &'a V,
         request: &'a NumberedRequest,
-    ) -> Result<ForwardSearch<'a>, AllocError>
-        ensures view { IfOk result (λ pass. pass.graph ≡ view.entry.now) }
+    ) -> Result<ForwardSearch<'a, V>, AllocError>
+        ensures view { IfOk result (λ pass. pass.graph ≡ V.graph view.entry.now) }
         ensures request { IfOk result (λ pass. pass.request ≡ request.entry.now) }
     {
         let nodes = view.nodes();

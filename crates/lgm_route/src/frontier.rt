@@ -7,6 +7,7 @@ ghost use Rattle.lgm_route.specs.inner.State.{AreRelaxationsAt, Extends};
 
 use crate::label::Label;
 use crate::search::Search;
+use lgm_graph::RoutingGraph;
 use lgm_par::{Gate, Pool};
 use std::alloc::{AllocError, Global};
 use std::thread::Threads;
@@ -23,9 +24,9 @@ fn push(labels: &mut Vec<Label>, label: Option<Label>) -> Result<(), AllocError>
 }
 
 /// The relaxations of each label of a frontier, computed in chunks.
-fn all_relaxations<Rt: Threads + Sync, G: Gate>(
+fn all_relaxations<Rt: Threads + Sync, G: Gate, V: RoutingGraph + Sync>(
     pool: &Pool<'_, Rt, G>,
-    search: &Search,
+    search: &Search<'_, V>,
     frontier: &[usize],
 ) -> Result<Vec<Result<Vec<Label>, AllocError>>, AllocError>
     requires { All (λ i. i < length search.now.labels) frontier.now }
@@ -36,7 +37,7 @@ fn all_relaxations<Rt: Threads + Sync, G: Gate>(
     pool.map(frontier, &|i| search.relaxations(alloc, *i))
 }
 
-impl<'a> Search<'a> {
+impl<'a, V: RoutingGraph> Search<'a, V> {
     /// Whether a label is neither settled, pruned nor dominated.
     pub(crate) fn is_open(&self, i: usize) -> bool
         requires { i < length self.now.labels }
@@ -74,6 +75,19 @@ impl<'a> Search<'a> {
         Ok(())
     }
 
+    /// Settles the labels of a frontier one after the other.
+    fn settle_in_turn(&mut self, frontier: &[usize]) -> Result<(), AllocError>
+        requires { All (λ i. i < length self.old.labels) frontier.now }
+        ensures { IfOk result (λ _. Extends self.old self.new) }
+    {
+        for i in frontier {
+            self.settle(*i)?;
+        }
+        Ok(())
+    }
+}
+
+impl<'a, V: RoutingGraph + Sync> Search<'a, V> {
     /// Relaxes the labels of a frontier in chunks, and then merges the results, in the order of the frontier.
     fn settle_in_chunks<Rt: Threads + Sync, G: Gate>(
         &mut self,
@@ -89,17 +103,6 @@ impl<'a> Search<'a> {
                 Ok(relaxations) => self.merge(frontier[k], relaxations)?,
                 Err(e) => return Err(*e),
             }
-        }
-        Ok(())
-    }
-
-    /// Settles the labels of a frontier one after the other.
-    fn settle_in_turn(&mut self, frontier: &[usize]) -> Result<(), AllocError>
-        requires { All (λ i. i < length self.old.labels) frontier.now }
-        ensures { IfOk result (λ _. Extends self.old self.new) }
-    {
-        for i in frontier {
-            self.settle(*i)?;
         }
         Ok(())
     }

@@ -8,13 +8,13 @@ ghost use Rattle.lgm_route.specs.inner.Searching.{AreCarried, IsSpelled, Spells}
 use crate::label::{Label, first_of};
 use crate::request::Request;
 use lgm_gossip::Point;
-use lgm_graph::{Edge, Hop, View, fee};
+use lgm_graph::{Edge, Hop, RoutingGraph, fee};
 use std::alloc::{AllocError, Global};
 
 /// The point of a node's number.
-fn point_at(view: &View, number: u32) -> Point
-    requires { number < length view.now.points }
-    ensures { result ≡ point_at view.now number }
+fn point_at<V: RoutingGraph>(view: &V, number: u32) -> Point
+    requires { number < length (V.graph view.now).points }
+    ensures { result ≡ point_at (V.graph view.now) number }
 {
     match view.point(number) {
         Some(point) => *point,
@@ -23,10 +23,10 @@ fn point_at(view: &View, number: u32) -> Point
 }
 
 /// The hop over one edge.
-fn hop_over(view: &View, edge: &Edge, amount: u64, expiry: u32) -> Hop
-    requires from { edge.now.from < length view.now.points }
-    requires to { edge.now.to < length view.now.points }
-    ensures { result ≡ hop_over view.now edge.now amount expiry }
+fn hop_over<V: RoutingGraph>(view: &V, edge: &Edge, amount: u64, expiry: u32) -> Hop
+    requires from { edge.now.from < length (V.graph view.now).points }
+    requires to { edge.now.to < length (V.graph view.now).points }
+    ensures { result ≡ hop_over (V.graph view.now) edge.now amount expiry }
 {
     Hop {
         scid: edge.scid,
@@ -38,17 +38,17 @@ fn hop_over(view: &View, edge: &Edge, amount: u64, expiry: u32) -> Hop
 }
 
 /// The hops of a walk, with the amount and the expiry on each edge.
-pub(crate) fn hops(
+pub(crate) fn hops<V: RoutingGraph>(
     alloc: Global,
-    view: &View,
+    view: &V,
     request: &Request,
     walk: &[Edge],
 ) -> Result<Vec<Hop>, AllocError>
     requires few { length walk.now ≤ 20 }
     requires expiry { request.now.expiry ≤ 498000000 }
     requires carried { AreCarried request.now.amount walk.now }
-    requires ends { AreNumbered view.now walk.now }
-    ensures { IfOk result (λ hops. hops.items ≡ hops_of request.now (edges_in view.now walk.now)) }
+    requires ends { AreNumbered (V.graph view.now) walk.now }
+    ensures { IfOk result (λ hops. hops.items ≡ hops_of request.now (edges_in (V.graph view.now) walk.now)) }
 {
     let mut hops = Vec::new(alloc);
     let mut owed = request.amount as u128;
@@ -66,15 +66,15 @@ pub(crate) fn hops(
 }
 
 /// The walk that a label represents.
-pub(crate) fn rebuild(
+pub(crate) fn rebuild<V: RoutingGraph>(
     alloc: Global,
-    view: &View,
+    view: &V,
     labels: &[Label],
     found: &Label,
 ) -> Result<Vec<Edge>, AllocError>
-    requires { IsSpelled view.now labels.now found.now }
+    requires { IsSpelled (V.graph view.now) labels.now found.now }
     ensures { IfOk result
-        (λ walk. Spells view.now labels.now found.now walk.items × (length walk.items ≡ found.now.hops)) }
+        (λ walk. Spells (V.graph view.now) labels.now found.now walk.items × (length walk.items ≡ found.now.hops)) }
 {
     let mut walk = Vec::new(alloc);
     let mut here = *found;

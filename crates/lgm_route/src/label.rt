@@ -5,7 +5,7 @@ ghost use Rattle.lgm_route.specs.inner.Searching.{Begins, first_of, IsSpelled, I
 ghost use Rattle.lgm_route.specs.inner.Searching.{DoesDominate, SomeWalk, IsBetter, cost};
 
 use crate::request::NumberedRequest;
-use lgm_graph::{Edge, View};
+use lgm_graph::{Edge, RoutingGraph};
 
 /// The rest of a walk from a node to the payee: its first edge, followed by the rest of another label, its parent. A
 /// label without edges is at the payee. A whole walk is stored as a label too, whose amount is what the payer sends.
@@ -24,21 +24,30 @@ pub(crate) struct Label {
 }
 
 /// The first edge of a label.
-pub(crate) fn first_of<'a>(view: &'a View, labels: &[Label], label: &Label) -> &'a Edge
-    requires { Begins view.now labels.now label.now }
-    ensures { result.now ≡ first_of view.now labels.now label.now }
+pub(crate) fn first_of<'a, V: RoutingGraph>(
+    view: &'a V,
+    labels: &[Label],
+    label: &Label,
+) -> &'a Edge
+    requires { Begins (V.graph view.now) labels.now label.now }
+    ensures { result.now ≡ first_of (V.graph view.now) labels.now label.now }
 {
     let node = labels[label.parent].node;
     &view.edges_into(node)[label.at]
 }
 
 /// Whether the ids of a label's edges precede or equal those of another's.
-pub(crate) fn ids_first(view: &View, labels: &[Label], label: &Label, other: &Label) -> bool
-    requires spelled { IsSpelled view.now labels.now label.now }
-    requires also { IsSpelled view.now labels.now other.now }
+pub(crate) fn ids_first<V: RoutingGraph>(
+    view: &V,
+    labels: &[Label],
+    label: &Label,
+    other: &Label,
+) -> bool
+    requires spelled { IsSpelled (V.graph view.now) labels.now label.now }
+    requires also { IsSpelled (V.graph view.now) labels.now other.now }
     requires equal { label.now.hops ≡ other.now.hops }
-    ensures first { result ≡ true → IdsFirst view.now labels.now label.now other.now }
-    ensures after { result ≡ false → IdsFirst view.now labels.now other.now label.now }
+    ensures first { result ≡ true → IdsFirst (V.graph view.now) labels.now label.now other.now }
+    ensures after { result ≡ false → IdsFirst (V.graph view.now) labels.now other.now label.now }
 {
     let mut here = *label;
     let mut there = *other;
@@ -61,10 +70,15 @@ pub(crate) fn ids_first(view: &View, labels: &[Label], label: &Label, other: &La
 }
 
 /// Whether a label's rest dominates another's.
-pub(crate) fn dominates(view: &View, labels: &[Label], label: &Label, other: &Label) -> bool
-    requires spelled { IsSpelled view.now labels.now label.now }
-    requires also { IsSpelled view.now labels.now other.now }
-    ensures { result ≡ true → DoesDominate view.now labels.now label.now other.now }
+pub(crate) fn dominates<V: RoutingGraph>(
+    view: &V,
+    labels: &[Label],
+    label: &Label,
+    other: &Label,
+) -> bool
+    requires spelled { IsSpelled (V.graph view.now) labels.now label.now }
+    requires also { IsSpelled (V.graph view.now) labels.now other.now }
+    ensures { result ≡ true → DoesDominate (V.graph view.now) labels.now label.now other.now }
 {
     if other.hops < label.hops || other.amount < label.amount {
         false
@@ -89,17 +103,17 @@ pub(crate) fn bound_of(upper_bound: u128, best: &Option<Label>) -> u128
 }
 
 /// Whether a new walk is better than the best so far.
-pub(crate) fn is_better(
-    view: &View,
+pub(crate) fn is_better<V: RoutingGraph>(
+    view: &V,
     request: &NumberedRequest,
     labels: &[Label],
     upper_bound: u128,
     best: &Option<Label>,
     new: &Label,
 ) -> bool
-    requires found { IsFound view.now request.now labels.now upper_bound best.now }
-    requires new { SomeWalk view.now request.now labels.now new.now }
-    ensures { IsBetter view.now request.now labels.now upper_bound best.now new.now
+    requires found { IsFound (V.graph view.now) request.now labels.now upper_bound best.now }
+    requires new { SomeWalk (V.graph view.now) request.now labels.now new.now }
+    ensures { IsBetter (V.graph view.now) request.now labels.now upper_bound best.now new.now
         (if result then Some new.now else best.now) }
 {
     match best {

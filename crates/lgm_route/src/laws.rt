@@ -1,20 +1,27 @@
 //! Laws of the definitions.
 
 ghost use Rattle.lgm_route.specs.Choice.{AnswerIsOne};
-ghost use Rattle.lgm_route.specs.Routes.{LeastIsOne};
+ghost use Rattle.lgm_route.specs.Routes.{LeastIsOne, NarrowingNeverHelps};
 
 /// A law of routes, stated by the contract; the call does nothing.
 ///
-/// If two edges of one id are the same or have opposite directions, a request between different nodes has at most one
-/// best walk, and that walk visits no node twice.
+/// If two edges with one id from one node are the same, or lead back to it, a request between different nodes has at
+/// most one best walk, and that walk visits no node twice.
 pub fn least_is_one()
     ensures { LeastIsOne }
 {}
 
 /// A law of routes, stated by the contract; the call does nothing.
 ///
-/// If two edges of one id are the same or have opposite directions, a request has exactly one answer: that of
+/// If two edges with one id from one node are the same, or lead back to it, a request has exactly one answer: that of
 /// exhaustive search.
 pub fn answer_is_one()
     ensures { AnswerIsOne }
+{}
+
+/// A law of routes, stated by the contract; the call does nothing.
+///
+/// If edges are removed, or carry less, a request that had no route has none, and the best walk sends no less.
+pub fn narrowing_never_helps()
+    ensures { NarrowingNeverHelps }
 {}

@@ -5,6 +5,7 @@ ghost use Rattle.lgm_route.specs.inner.State.{Extends};
 
 use crate::queue::Queue;
 use crate::search::Search;
+use lgm_graph::RoutingGraph;
 use lgm_par::{Gate, Pool};
 use std::alloc::{AllocError, Global};
 use std::thread::Threads;
@@ -44,7 +45,7 @@ impl Layers {
     }
 
     /// Adds the new labels to their layers.
-    fn fill(&mut self, search: &Search) -> Result<(), AllocError> {
+    fn fill<V: RoutingGraph>(&mut self, search: &Search<'_, V>) -> Result<(), AllocError> {
         for i in self.before.len()..search.len() {
             let hops = search.label(i).hops as usize;
             if hops < self.last.len() {
@@ -58,7 +59,12 @@ impl Layers {
     }
 
     /// The open labels with this many edges.
-    fn layer(&self, alloc: Global, search: &Search, hops: u32) -> Result<Vec<usize>, AllocError>
+    fn layer<V: RoutingGraph>(
+        &self,
+        alloc: Global,
+        search: &Search<'_, V>,
+        hops: u32,
+    ) -> Result<Vec<usize>, AllocError>
         ensures { IfOk result (λ frontier. All (λ i. i < length search.now.labels) frontier.items) }
     {
         let mut frontier = Vec::new(alloc);
@@ -80,7 +86,11 @@ impl Layers {
 
     /// The next frontier: the open labels with the fewest edges, but more edges than those of the frontiers before.
     /// Empty if there are none.
-    fn frontier(&mut self, alloc: Global, search: &Search) -> Result<Vec<usize>, AllocError>
+    fn frontier<V: RoutingGraph>(
+        &mut self,
+        alloc: Global,
+        search: &Search<'_, V>,
+    ) -> Result<Vec<usize>, AllocError>
         ensures { IfOk result (λ frontier. All (λ i. i < length search.now.labels) frontier.items) }
     {
         for hops in self.next_layer..LAYERS {
@@ -94,7 +104,7 @@ impl Layers {
     }
 }
 
-impl<'a> Search<'a> {
+impl<'a, V: RoutingGraph> Search<'a, V> {
     /// The number of labels of an early frontier that are worth a worker: an eighth of the network's nodes, so that the
     /// search of a large network hardly ever starts threads early.
     fn early_share(&self) -> usize
@@ -102,7 +112,9 @@ impl<'a> Search<'a> {
     {
         (self.nodes() / 8).clamp(1, SHARE)
     }
+}
 
+impl<'a, V: RoutingGraph + Sync> Search<'a, V> {
     /// Settles the first labels frontier by frontier: those with equal lower bounds together.
     fn settle_early<Rt: Threads + Sync, G: Gate>(
         &mut self,

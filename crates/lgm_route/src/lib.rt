@@ -21,9 +21,9 @@ mod relaxation;
 mod request;
 mod search;
 
-pub use answers::{answer, answer_chunked};
-pub use best_route::{least, least_chunked, least_pooled};
+pub use answers::{answer, answer_chunked, answer_over, answer_over_chunked};
+pub use best_route::{least, least_chunked, least_in, least_pooled, least_pooled_in};
 pub use fault::RouteFault;
-pub use laws::{answer_is_one, least_is_one};
-pub use lgm_graph::{Hop, Route};
+pub use laws::{answer_is_one, least_is_one, narrowing_never_helps};
+pub use lgm_graph::{Hop, Route, RoutingGraph};
 pub use request::Request;

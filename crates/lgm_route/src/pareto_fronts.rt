@@ -6,7 +6,7 @@ ghost use Rattle.lgm_route.specs.inner.Searching.{IsMarked};
 
 use crate::label::{Label, dominates};
 use crate::request::NumberedRequest;
-use lgm_graph::View;
+use lgm_graph::RoutingGraph;
 use std::alloc::{AllocError, Global};
 
 /// The maximum number of labels in a front: no two have the same number of edges.
@@ -66,15 +66,15 @@ impl ParetoFronts {
     }
 
     /// The index of a label of the same node that dominates this one, if the front has one.
-    pub(crate) fn find_dominator(
+    pub(crate) fn find_dominator<V: RoutingGraph>(
         &self,
-        view: &View,
+        view: &V,
         labels: &[Label],
         label: &Label,
     ) -> Option<usize>
-        requires spelled { AreSpelled view.now labels.now }
-        requires label { IsSpelled view.now labels.now label.now }
-        ensures { IfSome result (λ place. IsDominator view.now labels.now label.now place) }
+        requires spelled { AreSpelled (V.graph view.now) labels.now }
+        requires label { IsSpelled (V.graph view.now) labels.now label.now }
+        ensures { IfSome result (λ place. IsDominator (V.graph view.now) labels.now label.now place) }
     {
         let mut place = self.first_of(label.node as usize);
         for _step in 0..MOST {
@@ -90,14 +90,14 @@ impl ParetoFronts {
     }
 
     /// Adds the label that is created next to its node's front, and removes those that it dominates.
-    pub(crate) fn add(
+    pub(crate) fn add<V: RoutingGraph>(
         &mut self,
-        view: &View,
+        view: &V,
         labels: &[Label],
         new: &Label,
     ) -> Result<(), AllocError>
-        requires spelled { AreSpelled view.now labels.now }
-        requires new { IsSpelled view.now labels.now new.now }
+        requires spelled { AreSpelled (V.graph view.now) labels.now }
+        requires new { IsSpelled (V.graph view.now) labels.now new.now }
     {
         let here = labels.len();
         self.following.push(u32::MAX)?;
@@ -123,18 +123,18 @@ impl ParetoFronts {
 }
 
 /// Adds a label, unless it is dominated.
-pub(crate) fn offer(
-    view: &View,
+pub(crate) fn offer<V: RoutingGraph>(
+    view: &V,
     request: &NumberedRequest,
     labels: &mut Vec<Label>,
     fronts: &mut ParetoFronts,
     new: Label,
 ) -> Result<(), AllocError>
-    requires labelled { AreLabels view.now request.now labels.old.items }
-    requires new { SomeRest view.now request.now labels.old.items new }
+    requires labelled { AreLabels (V.graph view.now) request.now labels.old.items }
+    requires new { SomeRest (V.graph view.now) request.now labels.old.items new }
     requires few { new.hops ≤ 19 }
     ensures offered { IfOk result
-        (λ _. IsOffered view.now request.now labels.old.items new labels.new.items) }
+        (λ _. IsOffered (V.graph view.now) request.now labels.old.items new labels.new.items) }
     ensures stays { OnErr result (labels.new.items ≡ labels.old.items) }
 {
     match fronts.find_dominator(view, labels, &new) {

@@ -6,6 +6,7 @@ ghost use Rattle.lgm_route.specs.inner.State.{Extends};
 use crate::entry::Entry;
 use crate::label::cost;
 use crate::search::Search;
+use lgm_graph::RoutingGraph;
 use std::alloc::{AllocError, Global};
 use std::collections::BinaryHeap;
 
@@ -20,7 +21,10 @@ pub(crate) struct Queue {
 
 impl Queue {
     /// A queue of all labels, and of those that dives from them add.
-    pub(crate) fn of(alloc: Global, search: &mut Search) -> Result<Queue, AllocError>
+    pub(crate) fn of<V: RoutingGraph>(
+        alloc: Global,
+        search: &mut Search<'_, V>,
+    ) -> Result<Queue, AllocError>
         ensures { IfOk result (λ _. Extends search.old search.new) }
     {
         let mut queue = Queue {
@@ -33,7 +37,10 @@ impl Queue {
     }
 
     /// Queues the new labels, and those that dives from them add.
-    pub(crate) fn fill(&mut self, search: &mut Search) -> Result<(), AllocError>
+    pub(crate) fn fill<V: RoutingGraph>(
+        &mut self,
+        search: &mut Search<'_, V>,
+    ) -> Result<(), AllocError>
         ensures { IfOk result (λ _. Extends search.old search.new) }
     {
         for i in self.queued..usize::MAX {
@@ -50,7 +57,7 @@ impl Queue {
     }
 
     /// The index of the label with the smallest lower bound, unless all are pruned.
-    fn next(&mut self, search: &Search) -> Option<usize>
+    fn next<V: RoutingGraph>(&mut self, search: &Search<'_, V>) -> Option<usize>
         ensures { IfSome result (λ i. i < length search.now.labels) }
     {
         let entry = self.heap.pop()?;
@@ -69,7 +76,7 @@ impl Queue {
 
 impl Queue {
     /// The open label with the least lower bound, unless the remaining ones can be pruned.
-    fn next_open(&mut self, search: &Search) -> Option<usize>
+    fn next_open<V: RoutingGraph>(&mut self, search: &Search<'_, V>) -> Option<usize>
         ensures { IfSome result (λ i. i < length search.now.labels) }
     {
         for _turn in 0..usize::MAX {
@@ -82,7 +89,7 @@ impl Queue {
     }
 
     /// Whether the next label has the lower bound and the number of edges of this one.
-    fn is_next_level_with(&self, search: &Search, i: usize) -> bool
+    fn is_next_level_with<V: RoutingGraph>(&self, search: &Search<'_, V>, i: usize) -> bool
         requires { i < length search.now.labels }
     {
         let entry = Entry::new(search.excess_lower_bound(i), search.label(i).hops, i);
@@ -94,10 +101,10 @@ impl Queue {
 
     /// The next frontier: of the open labels with the least lower bound, those with the fewest edges. Empty if the
     /// remaining labels can be pruned.
-    pub(crate) fn frontier(
+    pub(crate) fn frontier<V: RoutingGraph>(
         &mut self,
         alloc: Global,
-        search: &Search,
+        search: &Search<'_, V>,
     ) -> Result<Vec<usize>, AllocError>
         ensures { IfOk result (λ frontier. All (λ i. i < length search.now.labels) frontier.items) }
     {
@@ -121,7 +128,7 @@ impl Queue {
     }
 }
 
-impl<'a> Search<'a> {
+impl<'a, V: RoutingGraph> Search<'a, V> {
     /// A lower bound on what walks over a label send above the request's amount, in msat.
     #[inline(always)]
     pub(crate) fn excess_lower_bound(&self, i: usize) -> u64
@@ -185,9 +192,9 @@ impl Dives {
 
     /// Dives from a label with this bound, if it is smaller than those before and the label's node is near the payer.
     #[inline(always)]
-    pub(crate) fn dive(
+    pub(crate) fn dive<V: RoutingGraph>(
         &mut self,
-        search: &mut Search,
+        search: &mut Search<'_, V>,
         i: usize,
         excess_lower_bound: u64,
     ) -> Result<(), AllocError>

@@ -7,13 +7,13 @@ ghost use Rattle.lgm_route.specs.inner.State.{Extends, IsIntoAt, IsRelaxationAt,
 
 use crate::label::{Label, cost};
 use crate::search::Search;
-use lgm_graph::{Edge, fee};
+use lgm_graph::{Edge, RoutingGraph, fee};
 use std::alloc::AllocError;
 
 /// The maximum number of edges of a rest that is extended to a longer one.
 const MOST_EDGES: u32 = 19;
 
-impl<'a> Search<'a> {
+impl<'a, V: RoutingGraph> Search<'a, V> {
     /// The relaxation of a label over one edge into its node: a whole walk if the edge is the payer's, else a longer
     /// rest. None if the edge can't carry it, or if a longer rest would be too long or is pruned.
     #[inline(always)]
@@ -161,9 +161,14 @@ impl<'a> Search<'a> {
             }
         }
         if low < edges.len() && edges[low].scid == over {
-            Some(low)
-        } else {
-            None
+            return Some(low);
         }
+        // Lists with extra edges aren't in the order of ids.
+        for at in 0..edges.len() {
+            if edges[at].scid == over {
+                return Some(at);
+            }
+        }
+        None
     }
 }

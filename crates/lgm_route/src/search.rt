@@ -15,11 +15,11 @@ use crate::label::{Label, bound_of, cost, is_better};
 use crate::pareto_fronts::{ParetoFronts, mark, offer};
 use crate::request::NumberedRequest;
 use lgm_gossip::Scid;
-use lgm_graph::{Edge, View};
+use lgm_graph::{Edge, RoutingGraph};
 use std::alloc::{AllocError, Global};
 use std::marker::Model;
 
-/// A search for the best walk of a request over the edges of a view.
+/// A search for the best walk of a request over the edges of a graph.
 ///
 /// Each label marked as settled was relaxed over the edges into its node, or a label that dominates it was, or it was
 /// pruned: no walk over it is better than the best so far. Labels may be settled in any order: once all are, no usable
@@ -29,8 +29,8 @@ use std::marker::Model;
 /// twenty labels per node are relaxed, one for each number of edges, if labels come best-first or by their number of
 /// edges.
 #[derive(Drop)]
-pub(crate) struct Search<'a> {
-    view: &'a View,
+pub(crate) struct Search<'a, V: RoutingGraph> {
+    view: &'a V,
     request: NumberedRequest,
     low: Bounds,
     /// An upper bound: some usable walk sends less, in msat, if there is one.
@@ -43,15 +43,15 @@ pub(crate) struct Search<'a> {
     done: Vec<bool>,
 }
 
-impl<'a> Model for Search<'a> {
+impl<'a, V: RoutingGraph> Model for Search<'a, V> {
     ghost use Rattle.lgm_route.specs.inner.State.{State, state_of, IsSearch};
 
     ghost Value = { State };
 
-    ghost view = { λ s. state_of s.view.now s.request s.low s.upper_bound s.labels.items s.best s.done.items };
+    ghost view = { λ s. state_of (V.graph s.view.now) s.request s.low s.upper_bound s.labels.items s.best s.done.items };
 
     ghost invariant = { λ s. IsSearch
-        (state_of s.view.now s.request s.low s.upper_bound s.labels.items s.best s.done.items) };
+        (state_of (V.graph s.view.now) s.request s.low s.upper_bound s.labels.items s.best s.done.items) };
 }
 
 /// The label without edges.
@@ -68,21 +68,21 @@ fn at_payee(request: &NumberedRequest) -> Label
     }
 }
 
-impl<'a> Search<'a> {
+impl<'a, V: RoutingGraph> Search<'a, V> {
     /// A new search, with the label at the payee.
     pub(crate) fn new(
         alloc: Global,
-        view: &'a View,
+        view: &'a V,
         request: NumberedRequest,
         low: Bounds,
         upper_bound: u128,
-    ) -> Result<Search<'a>, AllocError>
-        requires listed { AreListed view.now }
-        requires long { length low ≡ length view.now.points }
-        requires low { AreLow (edges view.now) request low }
+    ) -> Result<Search<'a, V>, AllocError>
+        requires listed { AreListed (V.graph view.now) }
+        requires long { length low ≡ length (V.graph view.now).points }
+        requires low { AreLow (edges (V.graph view.now)) request low }
         requires small { upper_bound ≤ 2 ^ 64 }
         ensures { IfOk result (λ search. search.ground
-            ≡ record { graph = view.entry.now; request = request; low = low; upper_bound = upper_bound }) }
+            ≡ record { graph = V.graph view.entry.now; request = request; low = low; upper_bound = upper_bound }) }
     {
         let fronts = ParetoFronts::new(alloc, low.len())?;
         let mut labels = Vec::new(alloc);
@@ -195,7 +195,7 @@ impl<'a> Search<'a> {
     }
 }
 
-impl<'a> Search<'a> {
+impl<'a, V: RoutingGraph> Search<'a, V> {
     /// Adds a label, unless it is dominated.
     #[inline(always)]
     pub(crate) fn offer(&mut self, new: Label) -> Result<(), AllocError>
@@ -249,7 +249,7 @@ impl<'a> Search<'a> {
     }
 }
 
-impl<'a> Search<'a> {
+impl<'a, V: RoutingGraph> Search<'a, V> {
     /// The best walk, once the search is finished, if one is usable.
     pub(crate) fn best_walk(&self, alloc: Global) -> Result<Option<Vec<Edge>>, AllocError>
         requires finished { IsFinished self.now }
@@ -267,7 +267,7 @@ impl<'a> Search<'a> {
     }
 }
 
-impl<'a> Search<'a> {
+impl<'a, V: RoutingGraph> Search<'a, V> {
     /// A lower bound on the cost of walks over the label.
     #[inline(always)]
     pub(crate) fn cost_lower_bound(&self, label: &Label) -> u128

@@ -1,6 +1,7 @@
 pub mod Booleans
 pub mod ListLaws
 pub mod Ordered
+pub mod Packing
 pub mod Points
 pub mod Finding
 pub mod Listing

@@ -1,6 +1,6 @@
 //! Channels with their updates by id.
 
-ghost use Rattle.std.specs.Prelude.{◌≡◌, ◌≢◌, true, false, is_some, OnOk, OnErr};
+ghost use Rattle.std.specs.Prelude.{◌≡◌, ◌≢◌, true, false, is_some, IfOk, OnOk, OnErr};
 ghost use Rattle.std.specs.Option.{option_map, option_and_then};
 ghost use Rattle.std.specs.List.Sorted.{IsStrictlySortedBy};
 ghost use Rattle.std.specs.Map.{lookup, keys_of, values_of};
@@ -24,7 +24,7 @@ use crate::slot_table::{Key, Keyed, SlotTable, number_of, place};
 use arrayvec::ArrayVec;
 use lgm_check::{Refusal, StoredUpdate};
 use lgm_gossip::{Point, Scid};
-use std::alloc::AllocError;
+use std::alloc::{AllocError, Global};
 use std::ops::Bound;
 
 /// The number of channels whose rows are read together.
@@ -50,6 +50,10 @@ impl Keyed<Scid> for ChannelInfo {
 
     fn key(&self) -> Scid {
         self.scid()
+    }
+
+    fn copied(&self) -> Result<ChannelInfo, AllocError> {
+        self.clone()
     }
 }
 
@@ -162,6 +166,16 @@ impl SlotTable<Scid, ChannelInfo> {
         self.cache.correct(guess, scid.cache_key(), number);
         let stored = &mut self.slots[number];
         stored.offer_update(row, signer)
+    }
+
+    /// A copy, without vacant slots if most are vacant. The only error is out of memory.
+    pub(crate) fn copy(&self, alloc: Global) -> Result<ChannelTable, AllocError>
+        ensures { IfOk result (λ copy. copy ≡ self.now) }
+    {
+        if self.is_sparse() {
+            return self.packed(alloc);
+        }
+        self.clone()
     }
 }
 

@@ -9,7 +9,7 @@ use crate::lookup::NodeKey;
 use crate::lookup_cache::{LookupCache, NOWHERE, unless};
 use crate::scid_set::ScidSet;
 use crate::seed::Seed;
-use crate::slot_table::Key;
+use crate::slot_table::{Key, is_sparse};
 use indexmap::IndexMap;
 use lgm_gossip::{Point, Scid};
 use std::alloc::{AllocError, Global};
@@ -125,14 +125,21 @@ impl ChannelsByNode {
         }
     }
 
-    /// A copy. The only error is out of memory.
+    /// A copy, with the room of its points if most of the room is vacant. The only error is out of memory.
     pub(crate) fn copy(&self) -> Result<ChannelsByNode, AllocError>
         ensures { IfOk result (λ copy. copy ≡ self.now) }
     {
+        let mut lists = self.lists.clone()?;
+        let cache = if is_sparse(lists.capacity(), lists.len()) {
+            lists.shrink_to_fit();
+            LookupCache::for_keys(self.alloc, lists.len())
+        } else {
+            self.cache.clone()?
+        };
         Ok(ChannelsByNode {
             alloc: self.alloc,
-            lists: self.lists.clone()?,
-            cache: self.cache.clone()?,
+            lists,
+            cache,
         })
     }
 

@@ -34,6 +34,15 @@ impl LookupCache {
         }
     }
 
+    /// An empty cache for this many keys. It is smaller if memory is short.
+    pub(crate) fn for_keys(alloc: Global, keys: usize) -> LookupCache {
+        let mut cache = LookupCache::new(alloc);
+        for _doubling in 0..usize::BITS {
+            cache.reserve(keys);
+        }
+        cache
+    }
+
     /// What may be the number of a key, if an entry of its set has its tag.
     #[inline(always)]
     pub fn cached(&self, key: u64) -> Option<usize> {

@@ -1,6 +1,6 @@
 //! Node announcements by node id.
 
-ghost use Rattle.std.specs.Prelude.{◌≡◌, ◌≢◌, Bool, true, Ok, OnOk, OnErr};
+ghost use Rattle.std.specs.Prelude.{◌≡◌, ◌≢◌, Bool, true, Ok, IfOk, OnOk, OnErr};
 ghost use Rattle.std.specs.List.Sorted.{IsStrictlySortedBy};
 ghost use Rattle.std.specs.Map.{lookup, keys_of, values_of};
 ghost use Rattle.std.specs.BTreeMap.{is_at, insert_entry};
@@ -18,7 +18,7 @@ use crate::shared::Shared;
 use crate::slot_table::{Key, Keyed, SlotTable, place};
 use lgm_check::StoredNode;
 use lgm_gossip::Point;
-use std::alloc::AllocError;
+use std::alloc::{AllocError, Global};
 use std::ops::Bound;
 
 /// Node announcements, by node id. Contracts see each id with its announcement's row, ascending.
@@ -38,6 +38,10 @@ impl Keyed<Point> for Shared<StoredNode> {
 
     fn key(&self) -> Point {
         self.get().node()
+    }
+
+    fn copied(&self) -> Result<Shared<StoredNode>, AllocError> {
+        self.share()
     }
 }
 
@@ -101,6 +105,16 @@ impl SlotTable<Point, Shared<StoredNode>> {
         }
         self.slots[number] = shared;
         Ok(true)
+    }
+
+    /// A copy, without vacant slots if most are vacant. The only error is out of memory.
+    pub(crate) fn copy(&self, alloc: Global) -> Result<NodeTable, AllocError>
+        ensures { IfOk result (λ copy. copy ≡ self.now) }
+    {
+        if self.is_sparse() {
+            return self.packed(alloc);
+        }
+        self.clone()
     }
 }
 

@@ -1,11 +1,12 @@
 //! Values in slots, by key.
 
-ghost use Rattle.std.specs.Prelude.{◌≡◌, [], length, true, is_some, IfSome, IfOk, OnErr};
+ghost use Rattle.std.specs.Prelude.{◌≡◌, ◌++◌, ◌∷◌, [], length, true, is_some, IfSome, IfOk, OnOk, OnErr};
 ghost use Rattle.std.specs.Option.{option_copied, option_map};
 ghost use Rattle.std.specs.List.Sorted.{IsStrictlySortedBy};
 ghost use Rattle.std.specs.Map.{lookup, remove_entry, keys_of};
 ghost use Rattle.std.specs.BTreeMap.{is_at, insert_entry};
-ghost use Rattle.std.specs.declared.cmp.Ordering.TheVariants.{Equal};
+ghost use Rattle.std.specs.List.{AllByRecursion};
+ghost use Rattle.std.specs.declared.cmp.Ordering.TheVariants.{Equal, Greater};
 ghost use Rattle.lgm_store.specs.inner.Slots.{slot_at, IsNumbered, AreSame, Places};
 
 use crate::lookup_cache::LookupCache;
@@ -22,12 +23,16 @@ pub(crate) trait Key: Ord + Copy + Drop {
     ghost same: { (a b : Self) → Self.cmp a b ≡ Equal → a ≡ b };
 }
 
-/// A value that has its key.
+/// A value that has its key, and is copied by sharing its rows.
 pub(crate) trait Keyed<K>: Drop {
     ghost key_of: { Self → K };
 
     fn key(&self) -> K
         ensures { result ≡ key_of self.now };
+
+    /// A copy. The only error is out of memory.
+    fn copied(&self) -> Result<Self, AllocError>
+        ensures { IfOk result (λ copy. copy ≡ self.now) };
 }
 
 /// Values by key. Contracts see each key with its value, ascending.
@@ -97,6 +102,40 @@ impl<K: Key, V: Keyed<K>> SlotTable<K, V> {
         ensures ascend { IsStrictlySortedBy K.cmp (keys_of self.new) }
     {
         self.remove(key);
+    }
+}
+
+/// Whether there is room for more than four times as many values as there are, and some more.
+pub(crate) fn is_sparse(room: usize, values: usize) -> bool {
+    room / 4 > values.saturating_add(64)
+}
+
+impl<K: Key, V: Keyed<K>> SlotTable<K, V> {
+    /// Whether most slots are vacant.
+    pub(crate) fn is_sparse(&self) -> bool {
+        is_sparse(self.slots.capacity(), self.numbers.len())
+    }
+
+    /// A copy without vacant slots, which are in the order of the keys.
+    pub(crate) fn packed(&self, alloc: Global) -> Result<SlotTable<K, V>, AllocError>
+        ensures { IfOk result (λ copy. copy ≡ self.now) }
+    {
+        let mut copy = SlotTable::new(alloc);
+        for (_, number) in &self.numbers {
+            copy.append(self.slots[*number].copied()?)?;
+        }
+        Ok(copy)
+    }
+
+    /// Adds a value whose key is above all others. The only error is out of memory.
+    fn append(&mut self, value: V) -> Result<(), AllocError>
+        requires { AllByRecursion (λ key. K.cmp (V.key_of value) key ≡ Greater) (keys_of self.old) }
+        ensures { OnOk result (self.new ≡ self.old ++ (V.key_of value, value) ∷ []) }
+    {
+        match place(&mut self.numbers, &mut self.slots, &mut self.cache, value)? {
+            None => Ok(()),
+            Some(_) => unreachable!(),
+        }
     }
 }
 

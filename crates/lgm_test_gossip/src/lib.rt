@@ -1,11 +1,14 @@
-//! Gossip for tests: messages made from their main fields, with zero signatures.
+//! Gossip for tests: messages made from their main fields, with zero signatures, operations made of them, and random
+//! numbers from a seed.
 //!
 //! [`Channel`], [`Update`] and [`Node`] have the fields that tests set. `new` takes those without a usual value;
-//! `message` gives the message as a type, and `bytes` its encoding.
+//! `message` gives the message as a type, and `bytes` its encoding. [`ops`] makes operations of fewer numbers.
 #![tactic(auto)]
 
 mod channel;
 mod node;
+mod numbers;
+pub mod ops;
 mod points;
 mod terms;
 mod update;
@@ -13,6 +16,7 @@ mod writing;
 
 pub use channel::Channel;
 pub use node::Node;
+pub use numbers::Numbers;
 pub use points::{point, repeated_point};
 pub use terms::{FREE, Terms};
 pub use update::Update;

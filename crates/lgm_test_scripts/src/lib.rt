@@ -5,14 +5,12 @@
 mod devices;
 mod line;
 mod notation;
-mod numbers;
 mod runs;
 mod transcript;
 
 pub use devices::{FailingSink, FailingSource};
-pub use lgm_test_gossip::{FREE, Terms};
+pub use lgm_test_gossip::{FREE, Numbers, Terms};
 pub use line::{CHAIN, Line, OTHER_CHAIN, SECRET, item_of, script_of};
 pub use notation::spelled;
-pub use numbers::Numbers;
 pub use runs::{Differing, ended, find_differing, run_by, written};
 pub use transcript::text_of;

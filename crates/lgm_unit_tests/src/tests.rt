@@ -1,6 +1,6 @@
+mod bounds;
 mod graph;
 mod items;
-mod made;
 mod par;
 mod payload;
 mod publish;

@@ -1,5 +1,6 @@
 -- How a mark is stored: a map with the operations that lead from it to the rows at the mark, and those since.
 use Rattle.std.specs.Prelude.{◌≡◌, List, Option, Some, None, IfSome}
+use Rattle.std.specs.Option.{option_map}
 use Rattle.lgm_wire.specs.declared.chain_hash.ChainHash.{ChainHash}
 use Rattle.lgm_store.specs.declared.op.Op.{Op}
 use Rattle.lgm_store.specs.Rows.{Rows, empty}
@@ -7,14 +8,21 @@ use Rattle.lgm_store.specs.History.{fold_from}
 use Rattle.lgm_c.specs.MapState.{MapState}
 use Rattle.lgm_c.specs.inner.Networks.{Counted}
 
--- the rows at a mark, and the current ones
+-- the rows at a mark, and those to which the operations since lead, if they are kept
 pub record Marked : Type 0 where
   pub marked : Rows
-  pub rows : Rows
+  pub rows : Option Rows
 
 -- the map is behind the mark by the operations due, and the mark is behind the current rows by those since
-abbrev pub marked_by : Rows → List Op → List Op → Marked
-marked_by map due since = record { marked = fold_from map due; rows = fold_from (fold_from map due) since }
+abbrev pub marked_by : Rows → List Op → Option (List Op) → Marked
+marked_by map due since = record {
+  marked = fold_from map due;
+  rows = option_map (fold_from (fold_from map due)) since;
+}
+
+-- operations that are kept lead to these rows
+abbrev pub LeadsTo : Option Rows → Rows → Type 0
+LeadsTo led rows = IfSome led (λ own. own ≡ rows)
 
 abbrev pub rows_at : Option Marked → Rows
 rows_at None = empty
@@ -31,4 +39,4 @@ state_in chain current mark = record {
 
 -- a mark leads to the current rows
 abbrev pub IsFollowed : Counted → Option Marked → Type 0
-IsFollowed current mark = IfSome mark (λ m. m.rows ≡ current.rows)
+IsFollowed current mark = IfSome mark (λ m. LeadsTo m.rows current.rows)

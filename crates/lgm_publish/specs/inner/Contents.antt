@@ -1,7 +1,8 @@
 -- The contents of a snapshot.
-use Rattle.std.specs.Prelude.{ℕ, ◌≤◌, List, Option, Some, None, length}
+use Rattle.std.specs.Prelude.{ℕ, ◌≤◌, List, Option, Some, None, length, IsSome}
 use Rattle.lgm_store.specs.Rows.{Rows}
-use Rattle.lgm_graph.specs.Graph.{Graph}
+use Rattle.lgm_graph.specs.Network.{NetworkState}
+use Rattle.lgm_publish.specs.declared.snapshot.TheConstants.{MAX_OPERATIONS}
 use Rattle.lgm_publish.specs.Handles.{History, Sight}
 
 -- the rows of a map, and what made them
@@ -23,7 +24,8 @@ abbrev pub known_in : Option Contents → Option (List ℕ)
 known_in (Some contents) = contents.known
 known_in None = None
 
--- there is a view, which numbers at most this many points
-abbrev pub NumbersAtMost : ℕ → Option Graph → Type 0
-NumbersAtMost most None = ⊥
-NumbersAtMost most (Some graph) = length graph.points ≤ most
+-- there is a view, and there are no more channels than operations that were applied, within the limit
+pub record IsShown (network : NetworkState) (absorbed : ℕ) : Type 0 where
+  pub viewed : IsSome network.graph
+  pub few : length network.rows.channels ≤ absorbed
+  pub limited : absorbed ≤ MAX_OPERATIONS

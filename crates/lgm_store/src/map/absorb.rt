@@ -147,14 +147,15 @@ fn drop_unless_ended(nodes: &mut NodeTable, ends: &ChannelsByNode, node: &Point)
 }
 
 impl Map {
-    /// A copy with the same rows, which are shared. The only error is out of memory.
+    /// A copy with the same rows, which are shared. It takes the room of these rows, however many the map once had. The only
+    /// error is out of memory.
     pub fn copy(&self, alloc: Global) -> Result<Map, AllocError>
         ensures { IfOk result (λ copy. copy ≡ self.now) }
     {
         Ok(Map {
             alloc,
-            channels: self.channels.clone()?,
-            nodes: self.nodes.clone()?,
+            channels: self.channels.copy(alloc)?,
+            nodes: self.nodes.copy(alloc)?,
             ends: self.ends.copy()?,
             banned: self.banned.copy()?,
         })

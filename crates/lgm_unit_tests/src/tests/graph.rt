@@ -1,9 +1,10 @@
 //! `lgm_graph`: edges as operations change them, and views of them.
 
-use super::made::{FREE, Terms, ban, channel, node, point, update};
 use lgm_gossip::{Point, Scid};
 use lgm_graph::{Edge, Known, Network, Replica, View, fee};
 use lgm_store::{Map, Op, Seed};
+use lgm_test_gossip::ops::{ban, channel, node, update};
+use lgm_test_gossip::{FREE, Terms, point};
 use std::alloc::{AllocError, Global};
 use std::test::Fail;
 

@@ -5,9 +5,9 @@ mod refused;
 mod shown;
 mod worlds;
 
-use super::made::{self, FREE};
 use lgm_gossip::Scid;
 use lgm_store::Op;
+use lgm_test_gossip::{FREE, ops};
 use std::alloc::{AllocError, Global};
 
 /// The channel's id: block 600,000.
@@ -17,10 +17,10 @@ fn scid() -> Scid {
 
 /// The announcement of the channel between the nodes 10 and 11, of 100,000 sat.
 fn channel(alloc: Global) -> Result<Op, AllocError> {
-    made::channel(alloc, scid(), (10, 11), 100_000, &[])
+    ops::channel(alloc, scid(), (10, 11), 100_000, &[])
 }
 
 /// An update of the direction from node 10, which is 0, or from node 11, which is 1.
 fn update(alloc: Global, direction: u8) -> Result<Op, AllocError> {
-    made::update(alloc, scid(), direction, &FREE)
+    ops::update(alloc, scid(), direction, &FREE)
 }

@@ -1,11 +1,12 @@
 //! `lgm_route`: routes over small maps, whose amounts and ids were worked out by hand.
 
-use super::made::{FREE, Terms, channel, point, update};
 use lgm_gossip::Scid;
 use lgm_graph::{Known, View};
 use lgm_par::{Gate, Open};
 use lgm_route::{Hop, Request, Route, RouteFault, least, least_chunked};
 use lgm_store::Map;
+use lgm_test_gossip::ops::{channel, update};
+use lgm_test_gossip::{FREE, Terms, point};
 use std::alloc::{AllocError, Global};
 use std::process::Abort;
 use std::sync::atomic::{AtomicU64, Ordering};

@@ -5,7 +5,7 @@ use Rattle.lgm_route.specs.inner.State.{Ground}
 use Rattle.lgm_route.proofs.best_route.begin.Goals as goal
 
 pub returns : goal.returns
-returns c =
+returns g c =
     let ground = c.in_ok-search.ensures in
     record {
       graph_is = ap (λ (g : Ground). g.graph) ground;

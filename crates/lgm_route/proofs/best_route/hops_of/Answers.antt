@@ -19,31 +19,31 @@ best_for graph n amount walk found same is best =
     subst (IsBestWalk (edges graph) _) is (subst (λ m. IsBestWalk (edges graph) m walk) same best)
 
 pub hops-requires-clause-carried : goal.hops-requires-clause-carried
-hops-requires-clause-carried c =
+hops-requires-clause-carried g c =
     let least =
-    best_for c.args.view.now c.args.numbered.now c.args.request.now.amount _ _
+    best_for (g.V.RoutingGraph.graph c.args.view.now) c.args.numbered.now c.args.request.now.amount _ _
     c.requires.numbered.2 (ap (λ w. option_map (λ walk. walk.items) w) c.in-Some.is) c.requires.walk in
     subst (λ w. AreCarried c.args.request.now.amount (w)) (sym c.deref.ensures.value)
     (carried_under c.args.request.now.amount c.in-Some.walk.items least.1)
 
 pub hops-requires-clause-ends : goal.hops-requires-clause-ends
-hops-requires-clause-ends c =
-    let best = subst (λ b. IsBestWalk (edges c.args.view.now) c.args.numbered.now (option_map (λ walk. walk.items) b)) c.in-Some.is c.requires.walk in
-    subst (AreNumbered c.args.view.now) (sym c.deref.ensures.value)
-    (walk_numbered c.args.view.now c.nodes-nodes.ensures.listed c.args.numbered.now c.in-Some.walk.items
+hops-requires-clause-ends g c =
+    let best = subst (λ b. IsBestWalk (edges (g.V.RoutingGraph.graph c.args.view.now)) c.args.numbered.now (option_map (λ walk. walk.items) b)) c.in-Some.is c.requires.walk in
+    subst (AreNumbered (g.V.RoutingGraph.graph c.args.view.now)) (sym c.deref.ensures.value)
+    (walk_numbered (g.V.RoutingGraph.graph c.args.view.now) c.nodes-nodes.ensures.listed c.args.numbered.now c.in-Some.walk.items
     c.args.numbered.now.payer best.0.usable.joins)
 
 pub returns-in-None : goal.returns-in-None
-returns-in-None c =
+returns-in-None g c =
     let none =
-    best_for c.args.view.now c.args.numbered.now c.args.request.now.amount _ _
+    best_for (g.V.RoutingGraph.graph c.args.view.now) c.args.numbered.now c.args.request.now.amount _ _
     c.requires.numbered.2 (ap (λ w. option_map (λ walk. walk.items) w) c.in-None.is) c.requires.walk in
-    none_over c.args.view.now c.nodes-nodes.ensures.listed c.args.request.now c.args.numbered.now.payer
+    none_over (g.V.RoutingGraph.graph c.args.view.now) c.nodes-nodes.ensures.listed c.args.request.now c.args.numbered.now.payer
     c.args.numbered.now.payee c.requires.numbered.0 c.requires.numbered.1 none
 
 pub returns-in_ok-hops-in-Some : goal.returns-in_ok-hops-in-Some
-returns-in_ok-hops-in-Some c =
-    let graph = c.args.view.now in
+returns-in_ok-hops-in-Some g c =
+    let graph = g.V.RoutingGraph.graph c.args.view.now in
     let request = c.args.request.now in
     let walk = c.in-Some.walk.items in
     let least =

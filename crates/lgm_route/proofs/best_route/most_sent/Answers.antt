@@ -4,7 +4,7 @@ use Rattle.lgm_route.proofs.Endings.{start_of}
 use Rattle.lgm_route.proofs.best_route.most_sent.Goals as goal
 
 pub returns-clause-upper_bound : goal.returns-clause-upper_bound
-returns-clause-upper_bound c =
-    start_of c.args.view.now c.loop-edge.most c.args.request.now c.requires
+returns-clause-upper_bound g c =
+    start_of (g.V.RoutingGraph.graph c.args.view.now) c.loop-edge.most c.args.request.now c.requires
     (subst (λ r. (j : ℕ) → j < length r → (edge_at r j).max < c.loop-edge.most) c.edges_leaving-edge-items.ensures
     (λ j to. c.loop-edge.invariant.above j (omega (arith, to, c.loop-edge-test.false))))

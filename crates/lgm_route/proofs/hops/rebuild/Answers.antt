@@ -4,28 +4,28 @@ use Rattle.lgm_route.proofs.Chains.{IsOnTheWay, way_more, way_step}
 use Rattle.lgm_route.proofs.hops.rebuild.Goals as goal
 
 pub first_of-requires : goal.first_of-requires
-first_of-requires c =
-    (way_more c.args.view.now c.args.labels.now c.args.found.now c.loop-step.here
+first_of-requires g c =
+    (way_more (g.V.RoutingGraph.graph c.args.view.now) c.args.labels.now c.args.found.now c.loop-step.here
     (c.args.found.now.hops - c.loop-step.step) c.loop-step.walk.items c.loop-step.invariant
     (omega (arith, c.loop-step-test.true))).begins
 
 pub bounds-labels-here : goal.bounds-labels-here
-bounds-labels-here c =
-    (way_more c.args.view.now c.args.labels.now c.args.found.now c.loop-step.here
+bounds-labels-here g c =
+    (way_more (g.V.RoutingGraph.graph c.args.view.now) c.args.labels.now c.args.found.now c.loop-step.here
     (c.args.found.now.hops - c.loop-step.step) c.loop-step.walk.items c.loop-step.invariant
     (omega (arith, c.loop-step-test.true))).begins.parent
 
 pub offset_bounds-labels-here : goal.offset_bounds-labels-here
-offset_bounds-labels-here c =
+offset_bounds-labels-here g c =
     let h =
-    (way_more c.args.view.now c.args.labels.now c.args.found.now c.loop-step.here
+    (way_more (g.V.RoutingGraph.graph c.args.view.now) c.args.labels.now c.args.found.now c.loop-step.here
     (c.args.found.now.hops - c.loop-step.step) c.loop-step.walk.items c.loop-step.invariant
     (omega (arith, c.loop-step-test.true))).begins.parent in
     omega arith
 
 pub loop-step-preserved : goal.loop-step-preserved
-loop-step-preserved c =
-    let graph = c.args.view.now in
+loop-step-preserved g c =
+    let graph = g.V.RoutingGraph.graph c.args.view.now in
     let labels = c.args.labels.now in
     let here = c.loop-step.here in
     let next : c.args.found.now.hops - c.loop-step.step - 1

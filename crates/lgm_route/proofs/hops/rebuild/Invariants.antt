@@ -3,4 +3,4 @@ use Rattle.lgm_route.proofs.Chains.{IsOnTheWay}
 use Rattle.lgm_route.proofs.hops.rebuild.Given as goal
 
 abbrev pub invariant-loop-step : goal.invariant-loop-step
-invariant-loop-step l = IsOnTheWay l.view l.labels l.found l.here (l.found.hops - l.step) l.walk.items
+invariant-loop-step g l = IsOnTheWay (g.V.RoutingGraph.graph l.view) l.labels l.found l.here (l.found.hops - l.step) l.walk.items

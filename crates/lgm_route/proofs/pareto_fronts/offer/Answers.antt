@@ -4,18 +4,18 @@ use Rattle.lgm_route.proofs.Steps.{offered_there, offered_new, spelled_labels}
 use Rattle.lgm_route.proofs.pareto_fronts.offer.Goals as goal
 
 pub find_dominator-requires-clause-spelled : goal.find_dominator-requires-clause-spelled
-find_dominator-requires-clause-spelled c =
-    subst (AreSpelled c.args.view.now) (sym c.deref.ensures.value)
-    (spelled_labels c.args.view.now c.args.request.now c.args.labels.now.items c.requires.labelled)
+find_dominator-requires-clause-spelled g c =
+    subst (AreSpelled (g.V.RoutingGraph.graph c.args.view.now)) (sym c.deref.ensures.value)
+    (spelled_labels (g.V.RoutingGraph.graph c.args.view.now) c.args.request.now c.args.labels.now.items c.requires.labelled)
 
 pub add-requires-clause-spelled : goal.add-requires-clause-spelled
-add-requires-clause-spelled c =
-    subst (AreSpelled c.args.view.now) (sym c.deref-in-None.ensures.value)
-    (spelled_labels c.args.view.now c.args.request.now c.args.labels.now.items c.requires.labelled)
+add-requires-clause-spelled g c =
+    subst (AreSpelled (g.V.RoutingGraph.graph c.args.view.now)) (sym c.deref-in-None.ensures.value)
+    (spelled_labels (g.V.RoutingGraph.graph c.args.view.now) c.args.request.now c.args.labels.now.items c.requires.labelled)
 
 pub returns-in-Some-clause-offered : goal.returns-in-Some-clause-offered
-returns-in-Some-clause-offered c =
-    let graph = c.args.view.now in
+returns-in-Some-clause-offered g c =
+    let graph = g.V.RoutingGraph.graph c.args.view.now in
     let labels = c.args.labels.now.items in
     let place = c.in-Some._place in
     let there : IsDominator graph labels c.args.new place =
@@ -24,6 +24,6 @@ returns-in-Some-clause-offered c =
     offered_there graph c.args.request.now labels c.args.new place c.requires.labelled there.within there.node there.dominates
 
 pub returns-in_ok-push-in-None-clause-offered : goal.returns-in_ok-push-in-None-clause-offered
-returns-in_ok-push-in-None-clause-offered c =
-    subst (λ ls. IsOffered c.args.view.now c.args.request.now c.args.labels.now.items c.args.new ls) (sym c.in_ok-push-in-None.ensures.items)
-    (offered_new c.args.view.now c.args.request.now c.args.labels.now.items c.args.new c.requires.labelled c.requires.new c.requires.few)
+returns-in_ok-push-in-None-clause-offered g c =
+    subst (λ ls. IsOffered (g.V.RoutingGraph.graph c.args.view.now) c.args.request.now c.args.labels.now.items c.args.new ls) (sym c.in_ok-push-in-None.ensures.items)
+    (offered_new (g.V.RoutingGraph.graph c.args.view.now) c.args.request.now c.args.labels.now.items c.args.new c.requires.labelled c.requires.new c.requires.few)

@@ -1,11 +1,11 @@
 //! A world of one eye.
 
 use super::{channel, scid, update};
-use crate::tests::made::point;
 use lgm_gossip::Scid;
 use lgm_graph::Known;
 use lgm_publish::{Event, Reply, World, WorldFault};
 use lgm_route::{Request, RouteFault};
+use lgm_test_gossip::point;
 use std::test::Fail;
 
 /// What the eye answers when node 10 is to pay node 11: the number of hops and the first one's channel, or why there is

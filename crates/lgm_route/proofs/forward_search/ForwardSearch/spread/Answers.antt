@@ -6,7 +6,7 @@ use Rattle.lgm_route.proofs.ForwardStates.{same_pass-trans, near_next, near_all}
 use Rattle.lgm_route.proofs.forward_search.ForwardSearch.spread.Goals as goal
 
 pub loop-edge-preserved : goal.loop-edge-preserved
-loop-edge-preserved c =
+loop-edge-preserved g c =
     let before = c.loop-edge.self in
     let after = c.look.new.self in
     let run = c.edges_leaving-edge-items.result.now in
@@ -22,7 +22,7 @@ loop-edge-preserved c =
     }
 
 pub close-requires-clause-near : goal.close-requires-clause-near
-close-requires-clause-near c =
+close-requires-clause-near g c =
     near_all c.args.self.now c.loop-edge.self c.fees_to-start.result c.loop-edge.edge-index c.args.node
     c.edges_leaving-edge-items.result.now c.loop-edge.invariant.same c.edges_leaving-edge-items.ensures
     (omega (arith, c.loop-edge-test.false)) c.loop-edge.invariant.start c.loop-edge.invariant.near

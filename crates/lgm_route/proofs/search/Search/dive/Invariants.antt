@@ -3,7 +3,7 @@ use Rattle.lgm_route.specs.inner.State.{Extends}
 use Rattle.lgm_route.proofs.search.Search.dive.Given as goal
 
 abbrev pub invariant-loop-step : goal.invariant-loop-step
-invariant-loop-step l = record {
+invariant-loop-step g l = record {
   extends : Extends l.fn.self l.self;
   within : l.here < length l.self.labels;
 }

@@ -7,16 +7,16 @@ use Rattle.lgm_route.proofs.Searches.{spelled}
 use Rattle.lgm_route.proofs.search.Search.dominator.Goals as goal
 
 pub find_dominator-requires-clause-spelled : goal.find_dominator-requires-clause-spelled
-find_dominator-requires-clause-spelled c =
+find_dominator-requires-clause-spelled g c =
     let s : State =
-    state_of c.self.inside.view.now c.self.inside.request c.self.inside.low c.self.inside.upper_bound
+    state_of (g.V.RoutingGraph.graph c.self.inside.view.now) c.self.inside.request c.self.inside.low c.self.inside.upper_bound
     c.self.inside.labels.items c.self.inside.best c.self.inside.done.items in
     subst (AreSpelled s.ground.graph) (sym c.deref.ensures.value) (spelled s c.self.invariant)
 
 pub find_dominator-requires-clause-label : goal.find_dominator-requires-clause-label
-find_dominator-requires-clause-label c =
+find_dominator-requires-clause-label g c =
     let s : State =
-    state_of c.self.inside.view.now c.self.inside.request c.self.inside.low c.self.inside.upper_bound
+    state_of (g.V.RoutingGraph.graph c.self.inside.view.now) c.self.inside.request c.self.inside.low c.self.inside.upper_bound
     c.self.inside.labels.items c.self.inside.best c.self.inside.done.items in
     let within : c.args.i < length s.labels = subst (λ t. c.args.i < length t.labels) (sym c.self.view_is) c.requires in
     let at : label_at s.labels c.args.i ≡ c.index.result.now =
@@ -25,4 +25,4 @@ find_dominator-requires-clause-label c =
     (subst (IsSpelled s.ground.graph s.labels) at (spelled s c.self.invariant c.args.i within))
 
 pub returns-in-None : goal.returns-in-None
-returns-in-None c = record { within = c.requires; node = refl; dominates = serves_itself c.args.self.now.ground.graph c.args.self.now.labels _ }
+returns-in-None g c = record { within = c.requires; node = refl; dominates = serves_itself c.args.self.now.ground.graph c.args.self.now.labels _ }

@@ -6,22 +6,22 @@ use Rattle.lgm_route.proofs.Searches.{search_better, extends_better}
 use Rattle.lgm_route.proofs.search.Search.improve.Goals as goal
 use Rattle.lgm_route.proofs.search.Search.improve.Goals.{After-self-1}
 
-abbrev now : (c : After-self-1) → State
-now c =
-    state_of c.self.inside.view.now c.self.inside.request c.self.inside.low c.self.inside.upper_bound
+abbrev now : (g : _) → After-self-1 g → State
+now g c =
+    state_of (g.V.RoutingGraph.graph c.self.inside.view.now) c.self.inside.request c.self.inside.low c.self.inside.upper_bound
     c.self.inside.labels.items c.self.inside.best c.self.inside.done.items
 
-better : (c : After-self-1) → IsBetter (now c).ground.graph (now c).ground.request (now c).labels (now c).ground.upper_bound (now c).best c.args.new (Some c.args.new)
-better c =
-    let s = now c in
+better : (g : _) (c : After-self-1 g) → IsBetter (now g c).ground.graph (now g c).ground.request (now g c).labels (now g c).ground.upper_bound (now g c).best c.args.new (Some c.args.new)
+better g c =
+    let s = now g c in
     subst (λ ls. IsBetter s.ground.graph s.ground.request ls s.ground.upper_bound s.best c.args.new (Some c.args.new)) c.deref.ensures.value
     (subst (λ b. IsBetter s.ground.graph s.ground.request c.deref.result.now s.ground.upper_bound s.best c.args.new
     (if b then Some c.args.new else s.best)) c.if-is_better.true c.is_better.ensures)
 
 pub invariant_of-self : goal.invariant_of-self
-invariant_of-self c = search_better (now c) c.args.new (Some c.args.new) c.self.invariant (better c)
+invariant_of-self g c = search_better (now g c) c.args.new (Some c.args.new) c.self.invariant (better g c)
 
 pub returns-then-is_better-clause-extends : goal.returns-then-is_better-clause-extends
-returns-then-is_better-clause-extends c =
-    subst (λ t. Extends t (record (now c) { best = Some c.args.new })) c.self.view_is
-    (extends_better (now c) c.args.new (Some c.args.new) (better c))
+returns-then-is_better-clause-extends g c =
+    subst (λ t. Extends t (record (now g c) { best = Some c.args.new })) c.self.view_is
+    (extends_better (now g c) c.args.new (Some c.args.new) (better g c))

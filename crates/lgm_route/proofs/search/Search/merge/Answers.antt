@@ -5,7 +5,7 @@ use Rattle.lgm_route.proofs.Searches.{extends-trans, led_at_later, led_self, pas
 use Rattle.lgm_route.proofs.search.Search.merge.Goals as goal
 
 pub insert-requires : goal.insert-requires
-insert-requires c =
+insert-requires g c =
     let first = c.args.self.now in
     let new : Label = label_at c.args.relaxations.now c.loop-new.new-index in
     let edge = first_of first.ground.graph first.labels new in
@@ -14,7 +14,7 @@ insert-requires c =
     (c.requires.relaxations.led c.loop-new.new-index c.loop-new-test.true))
 
 pub loop-new-preserved : goal.loop-new-preserved
-loop-new-preserved c =
+loop-new-preserved g c =
     let first = c.args.self.now in
     let before = c.loop-new.self in
     let after = c.insert.new.self in
@@ -33,7 +33,7 @@ loop-new-preserved c =
     }
 
 pub mark-requires-clause-settled : goal.mark-requires-clause-settled
-mark-requires-clause-settled c =
+mark-requires-clause-settled g c =
     let first = c.args.self.now in
     let last = c.loop-new.self in
     settled_led first last c.args.i c.len-len.ensures.search c.loop-new.invariant.extends c.requires.label

@@ -7,7 +7,7 @@ use Rattle.lgm_route.proofs.Searches.{extends-trans, passed_more, left_all}
 use Rattle.lgm_route.proofs.search.Search.relax.Goals as goal
 
 pub loop-at-preserved : goal.loop-at-preserved
-loop-at-preserved c =
+loop-at-preserved g c =
     let first = c.args.self.now in
     let before = c.loop-at.self in
     let after = c.relax_edge.new.self in
@@ -24,7 +24,7 @@ loop-at-preserved c =
     }
 
 pub returns-clause-left : goal.returns-clause-left
-returns-clause-left c =
+returns-clause-left g c =
     let first = c.args.self.now in
     let last = c.loop-at.self in
     let run = c.edges_into-edges.result.now in

@@ -4,7 +4,7 @@ use Rattle.lgm_route.specs.inner.State.{Extends, IsRelaxedOn}
 use Rattle.lgm_route.proofs.search.Search.relax.Given as goal
 
 abbrev pub invariant-loop-at : goal.invariant-loop-at
-invariant-loop-at l = record {
+invariant-loop-at g l = record {
   extends : Extends l.fn.self l.self;
   passed : (j : ℕ) → j < l.at → IsRelaxedOn l.fn.self l.i (edge_at l.edges j) l.self;
 }

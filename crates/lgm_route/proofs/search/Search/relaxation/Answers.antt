@@ -3,7 +3,7 @@ use Rattle.lgm_route.proofs.Steps.{led}
 use Rattle.lgm_route.proofs.search.Search.relaxation.Goals as goal
 
 pub returns-then-edge-request : goal.returns-then-edge-request
-returns-then-edge-request c =
+returns-then-edge-request g c =
     let s = c.args.self.now in
     let label = c.args.label.now in
     let request = c.request-request.ensures in
@@ -14,7 +14,7 @@ returns-then-edge-request c =
     (λ from. refl) (λ other. absurd (other (c.if-edge-request.true ∙ ap (λ r. r.payer) request)))
 
 pub returns : goal.returns
-returns c =
+returns g c =
     let s = c.args.self.now in
     let label = c.args.label.now in
     let request = c.request-request.ensures in

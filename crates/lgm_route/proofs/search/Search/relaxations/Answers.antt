@@ -7,7 +7,7 @@ use Rattle.lgm_route.proofs.RelaxationLaws.{AreLeadsTo, leads_next, leads_all}
 use Rattle.lgm_route.proofs.search.Search.relaxations.Goals as goal
 
 pub loop-at-preserved : goal.loop-at-preserved
-loop-at-preserved c =
+loop-at-preserved g c =
     let s = c.args.self.now in
     let run = c.edges_into-edges.result.now in
     let same : c.index-edges-at.result ≡ edge_at run c.loop-at.at =
@@ -19,7 +19,7 @@ loop-at-preserved c =
     (subst (λ edge. IsRelaxationAt s c.args.i edge c.relaxation.result) same c.relaxation.ensures))
 
 pub returns : goal.returns
-returns c =
+returns g c =
     let s = c.args.self.now in
     leads_all s.ground.graph s.ground.request s.ground.low (bound_in s) s.labels c.args.i
     c.edges_into-edges.result.now c.loop-at.at c.loop-at.relaxations.items

@@ -3,6 +3,6 @@ use Rattle.lgm_route.proofs.RelaxationLaws.{AreLeadsTo}
 use Rattle.lgm_route.proofs.search.Search.relaxations.Given as goal
 
 abbrev pub invariant-loop-at : goal.invariant-loop-at
-invariant-loop-at l =
+invariant-loop-at g l =
     AreLeadsTo l.self.ground.graph l.self.ground.request l.self.ground.low (bound_in l.self) l.self.labels l.i
     l.edges l.at l.relaxations.items

@@ -2,4 +2,4 @@ use Rattle.lgm_route.specs.inner.State.{Extends}
 use Rattle.lgm_route.proofs.search.Search.settle_queue.Given as goal
 
 abbrev pub invariant-loop-turn : goal.invariant-loop-turn
-invariant-loop-turn l = Extends l.fn.self l.self
+invariant-loop-turn g l = Extends l.fn.self l.self

@@ -1,10 +1,14 @@
-//! Operations of few numbers.
+//! Operations of few numbers, as a map absorbs them.
 
+use crate::channel::Channel;
+use crate::node::Node;
+use crate::points::point;
+use crate::terms::Terms;
+use crate::update::Update;
+use crate::writing::written;
 use lgm_check::{BanRow, ChannelRow, NodeRow, StoredChannel, StoredNode, StoredUpdate, UpdateRow};
 use lgm_gossip::{BorrowedBytes, Message, Scid};
 use lgm_store::{Op, Shared};
-use lgm_test_gossip::{Channel, Node, Update, written};
-pub use lgm_test_gossip::{FREE, Terms, point};
 use std::alloc::{AllocError, Global};
 
 /// The announcement of a channel between two nodes, of this capacity in satoshi, with these features.

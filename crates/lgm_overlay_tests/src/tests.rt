@@ -1,0 +1,10 @@
+mod beside;
+mod edges;
+mod exclusions;
+mod hints;
+mod made;
+mod memory;
+mod paid;
+mod plain;
+mod random;
+mod refusals;

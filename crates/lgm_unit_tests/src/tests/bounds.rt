@@ -1,0 +1,152 @@
+//! What networks, boards and copies of maps take: it is bounded by what there is, whatever has been.
+
+use lgm_gossip::Scid;
+use lgm_graph::{Known, Network, push_pending, reserve_pending};
+use lgm_publish::{Eye, Pen, board};
+use lgm_store::{Map, Op, Seed};
+use lgm_test_gossip::FREE;
+use lgm_test_gossip::ops::{channel, update};
+use std::alloc::{AllocError, Global};
+use std::collections::VecDeque;
+use std::fs;
+use std::rt::Files;
+use std::sync::Wait;
+use std::test::Fail;
+
+/// The id of the channel of a block.
+fn scid(block: u32) -> Scid {
+    Scid::from_u64(u64::from(block) << 40)
+}
+
+/// 10,000 channels, each between two nodes that come with it, and its close, with which they go.
+fn coming_and_going(alloc: Global) -> Result<Vec<Op>, AllocError> {
+    let mut ops = Vec::new(alloc);
+    for pair in 0..10_000u16 {
+        let first = pair.wrapping_mul(2);
+        let nodes = (first, first.wrapping_add(1));
+        ops.push(channel(alloc, scid(7), nodes, 100_000, &[])?)?;
+        ops.push(Op::Close(scid(7)))?;
+    }
+    Ok(ops)
+}
+
+/// The points of a network's view, which is built if there is none.
+fn points(alloc: Global, network: &mut Network) -> Result<usize, Fail> {
+    if network.map().count() > 2_000_000_000 {
+        return Err(Fail::from("too many channels"));
+    }
+    network.make_view(alloc)?;
+    Ok(network.view().ok_or("no view")?.nodes())
+}
+
+/// Of 20,000 nodes that come and go, the view of a map without channels numbers 1,024 at most, for each of none four.
+#[test]
+fn a_view_forgets_nodes(rt: HostRuntime) -> Result<(), Fail> {
+    let alloc = rt.alloc();
+    let mut network = Network::new(alloc, Seed::new([7; 16]), &Known::all())?;
+    let mut most = 0;
+    for op in &coming_and_going(alloc)? {
+        network.absorb(op)?;
+        if network.map().count() == 0 {
+            most = points(alloc, &mut network)?.max(most);
+        }
+    }
+    assert_eq!(rt; most, 1_024);
+    Ok(())
+}
+
+/// The points of the view that is published last.
+fn published_points(eye: Eye) -> (Eye, usize) {
+    match eye.enter() {
+        Ok(guard) => {
+            let points = guard.view().nodes();
+            (guard.leave(), points)
+        }
+        Err(eye) => (eye, usize::MAX),
+    }
+}
+
+/// The most points that are published.
+fn most_published<R: Wait>(rt: &R, mut pen: Pen, mut eye: Eye, ops: Vec<Op>) -> usize {
+    let mut most = 0;
+    for op in ops {
+        let _ = pen.append(op);
+        let _ = pen.publish(rt);
+        let (back, points) = published_points(eye);
+        eye = back;
+        most = points.max(most);
+    }
+    pen.end(rt);
+    most
+}
+
+/// The same through a board: the most points of a view that is published.
+#[test]
+fn a_board_forgets_nodes(rt: HostRuntime) -> Result<(), Fail> {
+    let alloc = rt.alloc();
+    let ops = coming_and_going(alloc)?;
+    let (pen, mut eyes) = board(&rt, alloc, 1, &Known::all())?;
+    let eye = eyes.pop().expect(&rt, "an eye");
+    let most = most_published(&rt, pen, eye, ops);
+    assert!(rt; most <= 1_026, "{most} points");
+    Ok(())
+}
+
+/// Operations on a map of one channel are kept while they are 1,025 at most.
+#[test]
+fn pending_operations_are_few(rt: HostRuntime) -> Result<(), Fail> {
+    let alloc = rt.alloc();
+    let mut pending = Some(VecDeque::new(alloc));
+    for count in 0..1_025usize {
+        assert_eq!(rt; pending.as_ref().map(|ops| ops.len()), Some(count));
+        reserve_pending(&mut pending)?;
+        push_pending(&mut pending, update(alloc, scid(7), 0, &FREE)?, 1);
+    }
+    reserve_pending(&mut pending)?;
+    push_pending(&mut pending, update(alloc, scid(7), 0, &FREE)?, 1);
+    assert!(rt; pending.is_none());
+    Ok(())
+}
+
+/// The most memory that the process has had so far, in KiB.
+fn most_memory<R: Files + AllocGlobal>(rt: &R) -> Result<u64, Fail> {
+    let status = fs::read_to_string(rt, "/proc/self/status")?;
+    for line in status.lines() {
+        if let Some(figure) = line.strip_prefix("VmHWM:") {
+            let number = figure.trim().strip_suffix(" kB").ok_or("no unit")?;
+            return Ok(number.parse::<u64>()?);
+        }
+    }
+    Err(Fail::from("no figure"))
+}
+
+/// A map of 60 channels, which had 10,000.
+fn once_large(alloc: Global) -> Result<Map, AllocError> {
+    let mut map = Map::new(alloc)?;
+    for block in 0..10_000u16 {
+        let nodes = (block, block.wrapping_add(1));
+        map.absorb(&channel(alloc, scid(u32::from(block)), nodes, 100_000, &[])?)?;
+    }
+    for block in 60..10_000u32 {
+        map.absorb(&Op::Close(scid(block)))?;
+    }
+    Ok(map)
+}
+
+/// Each of 100 copies has 60 channels. With the room of 10,000 they would take some 400,000 KiB. If `rt try` runs the test,
+/// freed memory is kept for a while, so that they take up to 40,000.
+#[test]
+fn a_copy_takes_the_room_that_it_needs(rt: HostRuntime) -> Result<(), Fail> {
+    let alloc = rt.alloc();
+    let map = once_large(alloc)?;
+    let before = most_memory(&rt)?;
+    let mut copies = Vec::new(alloc);
+    for _ in 0..100 {
+        let copy = map.copy(alloc)?;
+        assert_eq!(rt; copy.count(), 60);
+        copies.push(copy)?;
+    }
+    let more = most_memory(&rt)?.saturating_sub(before);
+    assert!(rt; more < 100_000, "{more} KiB more");
+    Ok(())
+}
