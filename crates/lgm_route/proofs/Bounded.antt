@@ -3,36 +3,36 @@ use Rattle.std.proofs.Common.{◌≡◌, ◌≢◌, ◌⊎◌, ℕ, zero, suc, �
 use Rattle.std.proofs.Common.{set, Bool, true, false, refl, sym, ◌∙◌, ap, subst, inl, inr, arith, get_or-set_other}
 use Rattle.std.specs.List.{Contains}
 use Rattle.std.proofs.lemmas.List.{get_or_default, get_or_push, length_push, get_or_append_left}
-use Rattle.lgm_graph.specs.Fee.{fee_of}
 use Rattle.lgm_graph.specs.Graph.{Graph, edges, edges_leaving, AreListed}
 use Rattle.lgm_graph.specs.declared.edge.Edge.{Edge}
+use Rattle.lgm_route.specs.declared.bounds.Measure.{Measure}
 use Rattle.lgm_route.specs.declared.request.NumberedRequest.{NumberedRequest}
 use Rattle.lgm_route.specs.inner.Searching.{number_at, no_edge, edge_at}
-use Rattle.lgm_route.specs.inner.Bounding.{AreLow, IsLowered, IsSpread, IsRadius, AreCut, AreReached, bounds_in, is_closed, IsNear, IsLooked}
+use Rattle.lgm_route.specs.inner.Bounding.{AreLowBy, MayCarry, charged, IsLowered, IsSpread, IsRadius, AreCut, AreReached, bounds_in, is_closed, IsNear, IsLooked}
 use Rattle.lgm_route.proofs.Rests.{trichotomy}
 
 abbrev pub IsCut : ℕ → ℕ → ℕ → Type 0
 IsCut most old new = ((new ≡ old) × (old ≤ most)) ⊎ ((new ≡ most) × (most ≤ old))
 
-pub near_later : (request : NumberedRequest) (start nodes : ℕ) (dist after : List ℕ) (edge : Edge)
+pub near_later : (measure : Measure) (request : NumberedRequest) (start nodes : ℕ) (dist after : List ℕ) (edge : Edge)
     → ((other : ℕ) → number_at after other ≤ number_at dist other) →
-    IsNear request start nodes dist edge → IsNear request start nodes after edge
-near_later request start nodes dist after edge falls near =
+    IsNear measure request start nodes dist edge → IsNear measure request start nodes after edge
+near_later measure request start nodes dist after edge falls near =
     record {
-      over = λ to min max. omega (arith, falls edge.to, near.over to min max);
-      first = λ to min max from. omega (arith, falls edge.to, near.first to min max from);
+      over = λ to may. omega (arith, falls edge.to, near.over to may);
+      first = λ to may from. omega (arith, falls edge.to, near.first to may from);
     }
 
 -- after fees are lowered, the same holds of closed nodes
-pub spread_lowered : (edges : List Edge) (request : NumberedRequest) (dist : List ℕ) (closed : List Bool)
+pub spread_lowered : (measure : Measure) (edges : List Edge) (request : NumberedRequest) (dist : List ℕ) (closed : List Bool)
     (node amount : ℕ) (after : List ℕ) (now : List Bool) →
-    IsLowered dist closed node amount after now → IsSpread edges request dist closed → IsSpread edges request after now
-spread_lowered edges request dist closed node amount after now low is =
+    IsLowered dist closed node amount after now → IsSpread measure edges request dist closed → IsSpread measure edges request after now
+spread_lowered measure edges request dist closed node amount after now low is =
     record {
-      near = λ edge there shut min max.
+      near = λ edge there shut may.
           let old = low.still edge.from shut in
-          omega (arith, low.falls edge.to, is.near edge there old.0 min max, old.1);
-      first = λ edge there shut min max from. omega (arith, low.falls edge.to, is.first edge there (low.still edge.from shut).0 min max from);
+          omega (arith, low.falls edge.to, is.near edge there old.0 may, old.1);
+      first = λ edge there shut may from. omega (arith, low.falls edge.to, is.first edge there (low.still edge.from shut).0 may from);
       payer = omega (arith, low.falls request.payer, is.payer);
     }
 
@@ -45,56 +45,56 @@ start_lowered dist closed node amount after now start at low h k = by (low.least
     by (inr p) = omega arith
 
 -- after an edge is relaxed
-pub looked : (request : NumberedRequest) (start amount node : ℕ) (edge : Edge) (dist : List ℕ)
+pub looked : (measure : Measure) (request : NumberedRequest) (start amount node : ℕ) (edge : Edge) (dist : List ℕ)
     (closed : List Bool) (after : List ℕ) (now : List Bool) →
     IsLowered dist closed node amount after now → node ≡ edge.to → start ≤ amount → (edge.from ≡ request.payer
-    → amount ≤ start) → amount ≤ start + fee_of request.amount edge.base edge.millionths →
-    IsLooked request start edge dist closed after now
-looked request start amount node edge dist closed after now low to more first most =
+    → amount ≤ start) → amount ≤ start + charged measure request edge →
+    IsLooked measure request start edge dist closed after now
+looked measure request start amount node edge dist closed after now low to more first most =
     let same = ap (λ n. number_at after n) to in
     record {
       falls = low.falls;
-      keeps = λ edges is. spread_lowered edges request dist closed node amount after now low is;
+      keeps = λ edges is. spread_lowered measure edges request dist closed node amount after now low is;
       stays = λ at h. start_lowered dist closed node amount after now start at low more h;
       near =
           record {
-            over = λ inside min max. omega (arith, same, low.near, most);
-            first = λ inside min max from. omega (arith, same, low.near, first from);
+            over = λ inside may. omega (arith, same, low.near, most);
+            first = λ inside may from. omega (arith, same, low.near, first from);
           };
     }
 
 -- one more edge out of the node was relaxed
-pub near_more : (request : NumberedRequest) (start nodes place : ℕ) (leaving : List Edge) (dist after : List ℕ) →
+pub near_more : (measure : Measure) (request : NumberedRequest) (start nodes place : ℕ) (leaving : List Edge) (dist after : List ℕ) →
     ((other : ℕ) → number_at after other ≤ number_at dist other) →
-    ((j : ℕ) → j < place → IsNear request start nodes dist (edge_at leaving j)) → IsNear request start nodes after (edge_at leaving place) →
-    (j : ℕ) → j < place + 1 → IsNear request start nodes after (edge_at leaving j)
-near_more request start nodes place leaving dist after falls before new j to = by (trichotomy j place)
+    ((j : ℕ) → j < place → IsNear measure request start nodes dist (edge_at leaving j)) → IsNear measure request start nodes after (edge_at leaving place) →
+    (j : ℕ) → j < place + 1 → IsNear measure request start nodes after (edge_at leaving j)
+near_more measure request start nodes place leaving dist after falls before new j to = by (trichotomy j place)
   where
-    by : (j < place) ⊎ (j ≡ place) ⊎ (place < j) → IsNear request start nodes after (edge_at leaving j)
-    by (inl p) = near_later request start nodes dist after (edge_at leaving j) falls (before j p)
-    by (inr (inl e)) = subst (λ n. IsNear request start nodes after (edge_at leaving n)) (sym e) new
+    by : (j < place) ⊎ (j ≡ place) ⊎ (place < j) → IsNear measure request start nodes after (edge_at leaving j)
+    by (inl p) = near_later measure request start nodes dist after (edge_at leaving j) falls (before j p)
+    by (inr (inl e)) = subst (λ n. IsNear measure request start nodes after (edge_at leaving n)) (sym e) new
     by (inr (inr p)) = absurd (omega arith)
 
 -- the node is closed
-pub spread_closed : (graph : Graph) (request : NumberedRequest) (dist : List ℕ) (closed : List Bool) (node start : ℕ) →
+pub spread_closed : (measure : Measure) (graph : Graph) (request : NumberedRequest) (dist : List ℕ) (closed : List Bool) (node start : ℕ) →
     AreListed graph → length graph.points ≡ length dist → node < length closed → (node ≡ request.payer → start ≡ 0) → start ≤ number_at dist node →
-    ((j : ℕ) → j < length (edges_leaving graph node) → IsNear request start (length dist) dist (edge_at (edges_leaving graph node) j)) →
-    IsSpread (edges graph) request dist closed → IsSpread (edges graph) request dist (set closed node true)
-spread_closed graph request dist closed node start listed long within none low near is =
+    ((j : ℕ) → j < length (edges_leaving graph node) → IsNear measure request start (length dist) dist (edge_at (edges_leaving graph node) j)) →
+    IsSpread measure (edges graph) request dist closed → IsSpread measure (edges graph) request dist (set closed node true)
+spread_closed measure graph request dist closed node start listed long within none low near is =
     record {
-      near = λ edge there shut min max. at edge there min max shut (trichotomy edge.from node);
-      first = λ edge there shut min max from. at_first edge there min max from shut (trichotomy edge.from node);
+      near = λ edge there shut may. at edge there may shut (trichotomy edge.from node);
+      first = λ edge there shut may from. at_first edge there may from shut (trichotomy edge.from node);
       payer = is.payer;
     }
   where
     run : List Edge
     run = edges_leaving graph node
 
-    found : (edge : Edge) → Contains (edges graph) edge → edge.from ≡ node → IsNear request start (length dist) dist edge
+    found : (edge : Edge) → Contains (edges graph) edge → edge.from ≡ node → IsNear measure request start (length dist) dist edge
     found edge there from =
         let place : Contains run edge = subst (λ n. Contains (edges_leaving graph n) edge) from (listed.each edge there).leaves in
         let same : edge_at run place.0 ≡ edge = subst (λ e. e ≡ edge) (get_or_default run place.0 edge no_edge place.1) place.2 in
-        subst (λ e. IsNear request start (length dist) dist e) same (near place.0 place.1)
+        subst (λ e. IsNear measure request start (length dist) dist e) same (near place.0 place.1)
 
     inside : (edge : Edge) → Contains (edges graph) edge → edge.to < length dist
     inside edge there = omega (arith, (listed.each edge there).to, long)
@@ -102,60 +102,59 @@ spread_closed graph request dist closed node start listed long within none low n
     before : (other : ℕ) → other ≢ node → is_closed (set closed node true) other ≡ true → is_closed closed other ≡ true
     before other apart shut = sym (get_or-set_other closed node other true false apart) ∙ shut
 
-    at : (edge : Edge) → Contains (edges graph) edge → edge.min ≤ request.amount → request.amount ≤ edge.max
+    at : (edge : Edge) → Contains (edges graph) edge → MayCarry request edge
         → is_closed (set closed node true) edge.from ≡ true →
         (edge.from < node) ⊎ (edge.from ≡ node) ⊎ (node < edge.from) → number_at dist edge.to
-        ≤ number_at dist edge.from + fee_of request.amount edge.base edge.millionths
-    at edge there min max shut (inl p) = is.near edge there (before edge.from (λ e. omega (arith, p)) shut) min max
-    at edge there min max shut (inr (inl e)) = omega (arith, (found edge there e).over (inside edge there) min max, ap (λ n. number_at dist n) e)
-    at edge there min max shut (inr (inr p)) = is.near edge there (before edge.from (λ e. omega (arith, p)) shut) min max
+        ≤ number_at dist edge.from + charged measure request edge
+    at edge there may shut (inl p) = is.near edge there (before edge.from (λ e. omega (arith, p)) shut) may
+    at edge there may shut (inr (inl e)) = omega (arith, (found edge there e).over (inside edge there) may, ap (λ n. number_at dist n) e)
+    at edge there may shut (inr (inr p)) = is.near edge there (before edge.from (λ e. omega (arith, p)) shut) may
 
-    at_first : (edge : Edge) → Contains (edges graph) edge → edge.min ≤ request.amount → request.amount
-        ≤ edge.max → edge.from ≡ request.payer → is_closed (set closed node true) edge.from ≡ true →
+    at_first : (edge : Edge) → Contains (edges graph) edge → MayCarry request edge → edge.from ≡ request.payer → is_closed (set closed node true) edge.from ≡ true →
         (edge.from < node) ⊎ (edge.from ≡ node) ⊎ (node < edge.from) → number_at dist edge.to ≤ 0
-    at_first edge there min max from shut (inl p) = is.first edge there (before edge.from (λ e. omega (arith, p)) shut) min max from
-    at_first edge there min max from shut (inr (inl e)) =
-        omega (arith, (found edge there e).first (inside edge there) min max from, none (sym e ∙ from))
-    at_first edge there min max from shut (inr (inr p)) = is.first edge there (before edge.from (λ e. omega (arith, p)) shut) min max from
+    at_first edge there may from shut (inl p) = is.first edge there (before edge.from (λ e. omega (arith, p)) shut) may from
+    at_first edge there may from shut (inr (inl e)) =
+        omega (arith, (found edge there e).first (inside edge there) may from, none (sym e ∙ from))
+    at_first edge there may from shut (inr (inr p)) = is.first edge there (before edge.from (λ e. omega (arith, p)) shut) may from
 
 -- cut at the radius, the fees are lower bounds
-pub low_of : (edges : List Edge) (request : NumberedRequest) (dist : List ℕ) (closed : List Bool) (most : ℕ) (after : List ℕ) →
+pub low_of : (measure : Measure) (edges : List Edge) (request : NumberedRequest) (dist : List ℕ) (closed : List Bool) (most : ℕ) (after : List ℕ) →
     ((edge : Edge) → Contains edges edge → (edge.from < length dist) × (edge.to < length dist))
-    → IsSpread edges request dist closed → IsRadius dist closed most → AreCut dist most after
-    → AreLow edges request after
-low_of edges request dist closed most after range is radius cut =
+    → IsSpread measure edges request dist closed → IsRadius dist closed most → AreCut dist most after
+    → AreLowBy measure edges request after
+low_of measure edges request dist closed most after range is radius cut =
     record {
       rises =
-          λ edge there min max. rises edge there min max (is_closed closed edge.from) refl
+          λ edge there may. rises edge there may (is_closed closed edge.from) refl
           (cut.each edge.from (inside edge there).0) (cut.each edge.to (inside edge there).1);
-      none = λ edge there min max from. none edge there min max from (is_closed closed edge.from) refl (cut.each edge.to (inside edge there).1);
+      none = λ edge there may from. none edge there may from (is_closed closed edge.from) refl (cut.each edge.to (inside edge there).1);
     }
   where
     inside : (edge : Edge) → Contains edges edge → (edge.from < length dist) × (edge.to < length dist)
     inside edge there = range edge there
 
-    rises : (edge : Edge) → Contains edges edge → edge.min ≤ request.amount → request.amount ≤ edge.max
+    rises : (edge : Edge) → Contains edges edge → MayCarry request edge
         → (b : Bool) → is_closed closed edge.from ≡ b →
         IsCut most (number_at dist edge.from) (number_at after edge.from) → IsCut most (number_at dist edge.to) (number_at after edge.to) →
-        number_at after edge.to ≤ number_at after edge.from + fee_of request.amount edge.base edge.millionths
-    rises edge there min max true e (inl p) (inl q) = omega (arith, p.0, q.0, is.near edge there e min max)
-    rises edge there min max true e (inl p) (inr q) = omega (arith, p.0, q.0, q.1, is.near edge there e min max)
-    rises edge there min max true e (inr p) (inl q) = omega (arith, p.0, q.0, q.1)
-    rises edge there min max true e (inr p) (inr q) = omega (arith, p.0, q.0)
-    rises edge there min max false e (inl p) (inl q) = omega (arith, p.0, q.0, q.1, radius edge.from (inside edge there).0 e)
-    rises edge there min max false e (inl p) (inr q) = omega (arith, p.0, q.0, radius edge.from (inside edge there).0 e)
-    rises edge there min max false e (inr p) (inl q) = omega (arith, p.0, q.0, q.1)
-    rises edge there min max false e (inr p) (inr q) = omega (arith, p.0, q.0)
+        number_at after edge.to ≤ number_at after edge.from + charged measure request edge
+    rises edge there may true e (inl p) (inl q) = omega (arith, p.0, q.0, is.near edge there e may)
+    rises edge there may true e (inl p) (inr q) = omega (arith, p.0, q.0, q.1, is.near edge there e may)
+    rises edge there may true e (inr p) (inl q) = omega (arith, p.0, q.0, q.1)
+    rises edge there may true e (inr p) (inr q) = omega (arith, p.0, q.0)
+    rises edge there may false e (inl p) (inl q) = omega (arith, p.0, q.0, q.1, radius edge.from (inside edge there).0 e)
+    rises edge there may false e (inl p) (inr q) = omega (arith, p.0, q.0, radius edge.from (inside edge there).0 e)
+    rises edge there may false e (inr p) (inl q) = omega (arith, p.0, q.0, q.1)
+    rises edge there may false e (inr p) (inr q) = omega (arith, p.0, q.0)
 
-    none : (edge : Edge) → Contains edges edge → edge.min ≤ request.amount → request.amount ≤ edge.max
+    none : (edge : Edge) → Contains edges edge → MayCarry request edge
         → edge.from ≡ request.payer → (b : Bool) → is_closed closed edge.from ≡ b →
         IsCut most (number_at dist edge.to) (number_at after edge.to) → number_at after edge.to ≡ 0
-    none edge there min max from true e (inl q) = omega (arith, q.0, is.first edge there e min max from)
-    none edge there min max from true e (inr q) = omega (arith, q.0, q.1, is.first edge there e min max from)
-    none edge there min max from false e (inl q) =
+    none edge there may from true e (inl q) = omega (arith, q.0, is.first edge there e may from)
+    none edge there may from true e (inr q) = omega (arith, q.0, q.1, is.first edge there e may from)
+    none edge there may from false e (inl q) =
         omega
         (arith, q.0, q.1, radius edge.from (inside edge there).0 e, ap (λ n. number_at dist n) from, is.payer)
-    none edge there min max from false e (inr q) =
+    none edge there may from false e (inr q) =
         omega
         (arith, q.0, radius edge.from (inside edge there).0 e, ap (λ n. number_at dist n) from, is.payer)
 
@@ -225,12 +224,12 @@ reached_same dist after reached node long here charged others are other within =
 
 -- ---- before the first step
 
-pub spread_first : (edges : List Edge) (request : NumberedRequest) (dist : List ℕ) (closed : List Bool)
+pub spread_first : (measure : Measure) (edges : List Edge) (request : NumberedRequest) (dist : List ℕ) (closed : List Bool)
     → ((node : ℕ) → is_closed closed node ≡ false) → number_at dist request.payer ≡ 0 →
-    IsSpread edges request dist closed
-spread_first edges request dist closed none payer = record {
-  near = λ edge there shut min max. absurd (no edge.from shut);
-  first = λ edge there shut min max from. absurd (no edge.from shut);
+    IsSpread measure edges request dist closed
+spread_first measure edges request dist closed none payer = record {
+  near = λ edge there shut may. absurd (no edge.from shut);
+  first = λ edge there shut may from. absurd (no edge.from shut);
   payer = payer;
 }
   where

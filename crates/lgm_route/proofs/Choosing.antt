@@ -56,10 +56,10 @@ list_found edges walk (suc more) (inr there) =
 
 -- ---- the usable ones
 
-le_true : (a b : ℕ) → a ≤ b → nat_le a b ≡ true
+pub le_true : (a b : ℕ) → a ≤ b → nat_le a b ≡ true
 le_true a b h = grind (arith, nat_tests)
 
-true_le : (a b : ℕ) → nat_le a b ≡ true → a ≤ b
+pub true_le : (a b : ℕ) → nat_le a b ≡ true → a ≤ b
 true_le a b h = grind (arith, nat_tests)
 
 rests_lead : (edges : List PointEdge) (request : Request) (node : Point) (walk : List PointEdge)
@@ -93,13 +93,13 @@ leads_rest edges request node (edge ∷ rest) h of =
 abbrev is_usable : Request → List PointEdge → Bool
 is_usable request walk = nat_le 1 (length walk) && relaxations request request.payer walk
 
-usable_found : (edges : List PointEdge) (request : Request) (walk : List PointEdge) → IsUsable edges request walk → Among (usable_walks edges request) walk
+pub usable_found : (edges : List PointEdge) (request : Request) (walk : List PointEdge) → IsUsable edges request walk → Among (usable_walks edges request) walk
 usable_found edges request walk usable =
     let of = rests_lead edges request request.payer walk usable.joins in
     let some = le_true 1 (length walk) usable.some in
     Among-passes (is_usable request) (lists_of edges 20) walk (found_list edges walk 20 of.1 usable.few) (rw (some, of.0) refl)
 
-found_usable : (edges : List PointEdge) (request : Request) (walk : List PointEdge) → Among (usable_walks edges request) walk → IsUsable edges request walk
+pub found_usable : (edges : List PointEdge) (request : Request) (walk : List PointEdge) → Among (usable_walks edges request) walk → IsUsable edges request walk
 found_usable edges request walk there =
     let passed = Among-passed (is_usable request) (lists_of edges 20) walk there in
     let list = list_found edges walk 20 passed.0 in
@@ -109,7 +109,7 @@ found_usable edges request walk there =
 -- ---- the best of them
 
 -- no walk of the list has a lesser key
-abbrev NoneBefore : Request → List PointEdge → List (List PointEdge) → Type 0
+abbrev pub NoneBefore : Request → List PointEdge → List (List PointEdge) → Type 0
 NoneBefore request best walks = (other : List PointEdge) → Among walks other → NotAfter (walk_key request best) (walk_key request other)
 
 -- the better of two walks
@@ -157,7 +157,7 @@ one_more request best walk next last walks is later = (among later.0 is.1, none)
         (walk_key request last) (walk_key request next) (walk_key request walk) before (is.0).1)
     none other (inr (inr there)) = later.1 other (inr there)
 
-folded : (request : Request) (best : List PointEdge) (walks : List (List PointEdge)) →
+pub folded : (request : Request) (best : List PointEdge) (walks : List (List PointEdge)) →
     Among (best ∷ walks) (fold (lesser request) best walks) × NoneBefore request (fold (lesser request) best walks) (best ∷ walks)
 folded request best [] = (inl refl, none)
   where
@@ -212,7 +212,7 @@ some_fault false true r = refl
 some_fault false false true = refl
 some_fault false false false = refl
 
-point_apart : (request : Request) → refusal request ≡ None → request.payer ≢ request.payee
+pub point_apart : (request : Request) → refusal request ≡ None → request.payer ≢ request.payee
 point_apart request none same =
     let self : is_point request.payer request.payee ≡ true = subst (λ p. is_point request.payer p ≡ true) same (is_point-self request.payer) in
     let refused = some_fault (nat_eq request.amount 0) (nat_lt 2100000000000000000 request.amount) (nat_lt 498000000 request.expiry) in
@@ -241,7 +241,7 @@ answer-unique edges request answer other keyed is also = by (refusal request) re
 
 -- ---- lists of the same edges have the same answers
 
-abbrev HaveSame : List PointEdge → List PointEdge → Type 0
+abbrev pub HaveSame : List PointEdge → List PointEdge → Type 0
 HaveSame edges others = (edge : PointEdge) → Contains edges edge ↔ Contains others edge
 
 rest_over : (edges others : List PointEdge) (request : Request) (node : Point) (walk : List PointEdge)
@@ -253,7 +253,7 @@ rest_over edges others request node (edge ∷ rest) stored joins = (
   rest_over edges others request edge.to rest stored joins.1,
 )
 
-usable_over : (edges others : List PointEdge) (request : Request) (walk : List PointEdge) → ((edge : PointEdge) → Contains edges edge → Contains others edge) →
+pub usable_over : (edges others : List PointEdge) (request : Request) (walk : List PointEdge) → ((edge : PointEdge) → Contains edges edge → Contains others edge) →
     IsUsable edges request walk → IsUsable others request walk
 usable_over edges others request walk stored usable =
     record { some = usable.some; few = usable.few; joins = rest_over edges others request request.payer walk stored usable.joins }
@@ -293,16 +293,18 @@ pub answered : {E : Type 0} (edges others : List PointEdge) (request : Request) 
 answered edges others request answer keyed same (inl none) = inl none
 answered edges others request answer keyed same (inr is) = inr (answer-tried edges others request answer keyed same is)
 
+pub same-permuted : (edges others : List PointEdge) → IsPermutation others edges → HaveSame edges others
+same-permuted edges others order edge = (
+  Contains-permutation edges others edge (IsPermutation-sym others edges order),
+  Contains-permutation others edges edge order,
+)
+
 -- so it is over the same edges in another order
 pub answered-reordered : {E : Type 0} (edges others : List PointEdge) (request : Request) (answer : Result (List Hop) RouteFault)
     → AreKeyed others → IsPermutation others edges → E ⊎ IsAnswer edges request answer
     → E ⊎ (answer ≡ answer_of others request)
 answered-reordered edges others request answer keyed order is =
-    answered edges others request answer keyed
-    (λ edge. (
-      Contains-permutation edges others edge (IsPermutation-sym others edges order),
-      Contains-permutation others edges edge order,
-    )) is
+    answered edges others request answer keyed (same-permuted edges others order) is
 
 -- and if it is refused
 pub answered-refused : {E : Type 0} (edges : List PointEdge) (request : Request) (fault : RouteFault) → AreKeyed edges → refusal request ≡ Some fault

@@ -1,5 +1,5 @@
 -- From numbered nodes to points: the walks over numbered edges are those over edges between points.
-use Rattle.std.proofs.Common.{◌≡◌, ℕ, zero, suc, ◌+◌, ◌<◌, List, []}
+use Rattle.std.proofs.Common.{◌≡◌, ℕ, zero, suc, ◌+◌, ◌<◌, ◌≤◌, List, [], Option}
 use Rattle.std.proofs.Common.{◌∷◌, length, get_or, map, Some, None, refl, sym, ◌∙◌, ap, subst, arith}
 use Rattle.std.specs.Prelude.{Contains}
 use Rattle.std.specs.List.{position}
@@ -17,6 +17,10 @@ use Rattle.lgm_route.specs.declared.request.Request.{Request}
 use Rattle.lgm_route.specs.declared.request.NumberedRequest.{NumberedRequest}
 use Rattle.lgm_route.specs.Routes as routes
 use Rattle.lgm_route.specs.inner.Numbered as walks
+use Rattle.lgm_route.specs.inner.Best.{IsInTime, IsUsableFor, IsLeastFor, IsBestFor, IsFoundFor}
+use Rattle.lgm_graph.specs.declared.route.Hop.{Hop}
+use Rattle.lgm_route.specs.declared.fault.RouteFault.TheVariants.{NoRoute}
+use Rattle.std.specs.Prelude.{Ok, Err}
 
 -- ---- lists
 
@@ -65,13 +69,70 @@ key_over amount walk = routes.sent amount walk ∷ length walk ∷ routes.ids wa
 keys_same : (points : List Point) (amount : ℕ) (walk : List Edge) → key_over amount (over points walk) ≡ key amount walk
 keys_same points amount walk = rw (sent_over points amount walk, length-map walk (edge_between points), ids_over points walk) refl
 
+-- ---- limits
+
+delay_over : (points : List Point) (limit : ℕ) (walk : List Edge) → routes.due 0 (over points walk) ≡ walks.delay (Some limit) walk
+delay_over points limit [] = refl
+delay_over points limit (by_number ∷ rest) = ap (λ n. n + by_number.delta) (delay_over points limit rest)
+
+no_delay : (walk : List Edge) → walks.delay None walk ≡ 0
+no_delay [] = refl
+no_delay (by_number ∷ rest) = omega (arith, no_delay rest)
+
+time_over : (points : List Point) (limit : Option ℕ) (walk : List Edge) → walks.walk_delay limit walk ≤ walks.most_delay limit
+    → IsInTime limit (over points walk)
+time_over points None walk h = tt
+time_over points (Some limit) [] h = h
+time_over points (Some limit) (by_number ∷ rest) h = omega (arith, h, delay_over points limit rest)
+
+time_back : (points : List Point) (limit : Option ℕ) (walk : List Edge) → IsInTime limit (over points walk)
+    → walks.walk_delay limit walk ≤ walks.most_delay limit
+time_back points None [] h = omega arith
+time_back points None (by_number ∷ rest) h = omega (arith, no_delay rest)
+time_back points (Some limit) [] h = h
+time_back points (Some limit) (by_number ∷ rest) h = omega (arith, h, delay_over points limit rest)
+
+-- a usable walk within the limit, if there is one
+pub usable_parts : (limit : Option ℕ) (edges : List PointEdge) (request : Request) (walk : List PointEdge)
+    → IsUsableFor limit edges request walk → routes.IsUsable edges request walk × IsInTime limit walk
+usable_parts None edges request walk usable = (usable, tt)
+usable_parts (Some limit) edges request walk usable = (usable.usable, usable.in_time)
+
+least_for : (limit : Option ℕ) (edges : List PointEdge) (request : Request) (walk : List PointEdge)
+    → routes.IsUsable edges request walk → IsInTime limit walk →
+    ((other : List PointEdge) → routes.IsUsable edges request other → IsInTime limit other
+    → routes.Precedes request other walk → ⊥) → IsLeastFor limit edges request walk
+least_for None edges request walk usable timely first = record { usable = usable; first = λ other able. first other able tt }
+least_for (Some limit) edges request walk usable timely first =
+    record {
+      usable = record { usable = usable; in_time = timely };
+      first = λ other able. first other able.usable able.in_time;
+    }
+
+-- the best walk for a limit is usable
+pub least_parts : (limit : Option ℕ) (edges : List PointEdge) (request : Request) (walk : List PointEdge)
+    → IsLeastFor limit edges request walk → routes.IsUsable edges request walk
+least_parts None edges request walk least = least.usable
+least_parts (Some limit) edges request walk least = least.usable.usable
+
+-- what is found is the best walk for the limit
+pub found_none : (limit : Option ℕ) (edges : List PointEdge) (request : Request) → IsBestFor limit edges request None
+    → IsFoundFor limit edges request (Err NoRoute)
+found_none None edges request none = (refl, none)
+found_none (Some limit) edges request none = (refl, none)
+
+pub found_some : (limit : Option ℕ) (edges : List PointEdge) (request : Request) (hops : List Hop)
+    → IsBestFor limit edges request (Some hops) → IsFoundFor limit edges request (Ok hops)
+found_some None edges request hops best = best
+found_some (Some limit) edges request hops best = best
+
 -- ---- walks
 
 module _ (graph : Graph) (listed : AreListed graph) (request : Request) (payer payee : ℕ)
     (payer_is : position (is_point request.payer) graph.points ≡ Some payer)
-    (payee_is : position (is_point request.payee) graph.points ≡ Some payee) where
+    (payee_is : position (is_point request.payee) graph.points ≡ Some payee) (limit : Option ℕ) where
   abbrev numbered : NumberedRequest
-  numbered = record { payer = payer; payee = payee; amount = request.amount }
+  numbered = record { payer = payer; payee = payee; amount = request.amount; limit = limit }
 
   abbrev point_at : ℕ → Point
   point_at number = get_or graph.points number no_point
@@ -130,30 +191,33 @@ module _ (graph : Graph) (listed : AreListed graph) (request : Request) (payer p
         ),
       )
 
-  usable_back : (walk : List PointEdge) → routes.IsUsable (point_edges graph) request walk
+  usable_back : (walk : List PointEdge) → routes.IsUsable (point_edges graph) request walk → IsInTime limit walk
       → (back : List Edge) × (over graph.points back ≡ walk) × walks.IsUsable (edges graph) numbered back
-  usable_back walk usable =
+  usable_back walk usable timely =
       let back = rest_back walk request.payer payer (number_some graph.points request.payer payer payer_is).0 usable.joins in
       let long : length back.0 ≡ length walk = sym (length-map back.0 (edge_between graph.points)) ∙ ap length back.1 in
-      (back.0, back.1, record { some = let h = usable.some in omega arith; few = let h = usable.few in omega arith; joins = back.2 })
+      (back.0, back.1, record { some = let h = usable.some in omega arith; few = let h = usable.few in omega arith; joins = back.2; in_time = time_back graph.points limit back.0 (subst (IsInTime limit) (sym back.1) timely) })
 
   pub none_over : ((walk : List Edge) → walks.IsUsable (edges graph) numbered walk → ⊥) → (walk : List PointEdge)
-      → routes.IsUsable (point_edges graph) request walk → ⊥
-  none_over none walk usable = let back = usable_back walk usable in none back.0 back.2
+      → IsUsableFor limit (point_edges graph) request walk → ⊥
+  none_over none walk usable =
+      let parts = usable_parts limit (point_edges graph) request walk usable in
+      let back = usable_back walk parts.0 parts.1 in
+      none back.0 back.2
 
-  pub least_over : (walk : List Edge) → walks.IsLeast (edges graph) numbered walk → routes.IsLeast (point_edges graph) request (over graph.points walk)
+  pub least_over : (walk : List Edge) → walks.IsLeast (edges graph) numbered walk → IsLeastFor limit (point_edges graph) request (over graph.points walk)
   least_over walk least =
       let long = length-map walk (edge_between graph.points) in
-      record {
-        usable = record {
-          some = let h = least.usable.some in omega arith;
-          few = let h = least.usable.few in omega arith;
-          joins =
-              subst (λ p. routes.IsRest (point_edges graph) request p (over graph.points walk))
-              (stands request.payer payer payer_is) (rest_over walk payer least.usable.joins);
-        };
-        first = λ other usable before. first (usable_back other usable) before;
-      }
+      least_for limit (point_edges graph) request (over graph.points walk)
+      (record {
+        some = let h = least.usable.some in omega arith;
+        few = let h = least.usable.few in omega arith;
+        joins =
+            subst (λ p. routes.IsRest (point_edges graph) request p (over graph.points walk))
+            (stands request.payer payer payer_is) (rest_over walk payer least.usable.joins);
+      })
+      (time_over graph.points limit walk least.usable.in_time)
+      (λ other usable timely before. first (usable_back other usable timely) before)
     where
       first : {other : List PointEdge} → (back : List Edge) × (over graph.points back ≡ other) × walks.IsUsable
           (edges graph) numbered back → routes.Precedes request other (over graph.points walk) → ⊥

@@ -41,6 +41,7 @@ least_of graph request labels upper_bound found walk best is spells long =
             some = omega (arith, (is.0).1.some, (is.0).1.long);
             few = omega (arith, (is.0).1.few, (is.0).1.long);
             joins = (is.0).1.joins;
+            in_time = (is.0).1.in_time;
           };
       first = λ other usable before. by other (best other usable) before;
     })

@@ -4,9 +4,10 @@ use Rattle.std.proofs.Common.{sym, ap, subst, inl, inr, arith, length-set}
 use Rattle.std.specs.List.{Contains}
 use Rattle.lgm_graph.specs.Graph.{Graph, edges, edges_leaving, AreListed}
 use Rattle.lgm_graph.specs.declared.edge.Edge.{Edge}
+use Rattle.lgm_route.specs.declared.bounds.Measure.{Measure}
 use Rattle.lgm_route.specs.declared.request.NumberedRequest.{NumberedRequest}
 use Rattle.lgm_route.specs.inner.Searching.{number_at, edge_at}
-use Rattle.lgm_route.specs.inner.Bounding.{IsNear, IsLooked, IsLowered, IsRadius, AreLow, AreReached, bounds_in, is_closed}
+use Rattle.lgm_route.specs.inner.Bounding.{IsNear, IsLooked, IsLowered, IsRadius, AreLowBy, AreReached, bounds_in, is_closed}
 use Rattle.lgm_route.specs.inner.ForwardState.{ForwardState, forward_state, IsForwardState, IsSameForwardState, AreNear}
 use Rattle.lgm_route.proofs.Bounded.{near_more, spread_lowered, spread_closed, spread_first, reached_more, reached_same, low_of, cut_bounds}
 
@@ -14,54 +15,55 @@ pub same_pass-trans : (a b c : ForwardState) → IsSameForwardState a b → IsSa
 same_pass-trans a b c first second = record {
   graph = second.graph ∙ first.graph;
   request = second.request ∙ first.request;
+  measure = second.measure ∙ first.measure;
   long = second.long ∙ first.long;
 }
 
 -- the fees to the edge's start are no less than these
-near_raised : (request : NumberedRequest) (start more nodes : ℕ) (dist : List ℕ) (edge : Edge) → start ≤ more
-    → IsNear request start nodes dist edge → IsNear request more nodes dist edge
-near_raised request start more nodes dist edge le near = record {
-  over = λ to min max. omega (arith, le, near.over to min max);
-  first = λ to min max from. omega (arith, le, near.first to min max from);
+near_raised : (measure : Measure) (request : NumberedRequest) (start more nodes : ℕ) (dist : List ℕ) (edge : Edge) → start ≤ more
+    → IsNear measure request start nodes dist edge → IsNear measure request more nodes dist edge
+near_raised measure request start more nodes dist edge le near = record {
+  over = λ to may. omega (arith, le, near.over to may);
+  first = λ to may from. omega (arith, le, near.first to may from);
 }
 
 -- the edges before this place were relaxed, at these fees to their start
 abbrev pub AreNearTo : ForwardState → ForwardState → ℕ → List Edge → ℕ → Type 0
 AreNearTo first pass start run place =
-    (j : ℕ) → j < place → IsNear first.request start (length first.dist) pass.dist (edge_at run j)
+    (j : ℕ) → j < place → IsNear first.measure first.request start (length first.dist) pass.dist (edge_at run j)
 
 -- one more is relaxed
 pub near_next : (first before after : ForwardState) (start place : ℕ) (run : List Edge) → IsSameForwardState first before
     → AreNearTo first before start run place
-    → IsLooked before.request start (edge_at run place) before.dist before.closed after.dist after.closed
+    → IsLooked before.measure before.request start (edge_at run place) before.dist before.closed after.dist after.closed
     → AreNearTo first after start run (place + 1)
 near_next first before after start place run same near looked =
-    near_more first.request start (length first.dist) place run before.dist after.dist looked.falls near
-    (rw (same.request, same.long) at looked.near)
+    near_more first.measure first.request start (length first.dist) place run before.dist after.dist looked.falls near
+    (rw (same.request, same.measure, same.long) at looked.near)
 
 -- all of a node's are
 pub near_all : (first last : ForwardState) (start place node : ℕ) (run : List Edge) → IsSameForwardState first last
     → run ≡ edges_leaving first.graph node → length run ≤ place → start ≤ number_at last.dist node
     → AreNearTo first last start run place → AreNear last node
 near_all first last start place node run same own all low near =
-    rw (same.graph, same.request, same.long) (subst (λ (r : List Edge). (j : ℕ) → j < length r
-    → IsNear first.request (number_at last.dist node) (length first.dist) last.dist (edge_at r j)) own
-    (λ j to. near_raised first.request start (number_at last.dist node) (length first.dist) last.dist (edge_at run j) low
+    rw (same.graph, same.request, same.measure, same.long) (subst (λ (r : List Edge). (j : ℕ) → j < length r
+    → IsNear first.measure first.request (number_at last.dist node) (length first.dist) last.dist (edge_at r j)) own
+    (λ j to. near_raised first.measure first.request start (number_at last.dist node) (length first.dist) last.dist (edge_at run j) low
     (near j (omega (arith, to, all)))))
 
 -- ---- the invariant
 
 -- before the first step
-pub first_pass : (graph : Graph) (request : NumberedRequest) (dist : List ℕ) (closed : List Bool) → AreListed graph
+pub first_pass : (graph : Graph) (request : NumberedRequest) (measure : Measure) (dist : List ℕ) (closed : List Bool) → AreListed graph
     → length graph.points ≡ length dist → length closed ≡ length dist → ((node : ℕ) → is_closed closed node ≡ false)
     → number_at dist request.payer ≡ 0
     → ((node : ℕ) → node < length dist → (node ≡ request.payer) ⊎ (number_at dist node ≡ 2 ^ 64 - 1))
-    → IsForwardState (forward_state graph request dist closed (request.payer ∷ []))
-first_pass graph request dist closed listed nodes long none payer others = record {
+    → IsForwardState (forward_state graph request measure dist closed (request.payer ∷ []))
+first_pass graph request measure dist closed listed nodes long none payer others = record {
   listed = listed;
   nodes = nodes;
   long = long;
-  spread = spread_first (edges graph) request dist closed none payer;
+  spread = spread_first measure (edges graph) request dist closed none payer;
   reached = λ node within. by node (others node within);
 }
   where
@@ -75,12 +77,12 @@ pub pass_lowered : (pass : ForwardState) (node amount : ℕ) (dist : List ℕ) (
     → node < length pass.dist → length dist ≡ length pass.dist → length closed ≡ length pass.closed
     → IsLowered pass.dist pass.closed node amount dist closed
     → (reached ≡ pass.reached ++ node ∷ []) ⊎ ((number_at pass.dist node < 2 ^ 64 - 1) × (reached ≡ pass.reached))
-    → IsForwardState (forward_state pass.graph pass.request dist closed reached)
+    → IsForwardState (forward_state pass.graph pass.request pass.measure dist closed reached)
 pass_lowered pass node amount dist closed reached is within dist_long closed_long lowered more = record {
   listed = is.listed;
   nodes = is.nodes ∙ sym dist_long;
   long = closed_long ∙ is.long ∙ sym dist_long;
-  spread = spread_lowered (edges pass.graph) pass.request pass.dist pass.closed node amount dist closed lowered is.spread;
+  spread = spread_lowered pass.measure (edges pass.graph) pass.request pass.dist pass.closed node amount dist closed lowered is.spread;
   reached = by more;
 }
   where
@@ -97,15 +99,15 @@ pass_closed pass node is within near = record {
   nodes = is.nodes;
   long = length-set pass.closed node true ∙ is.long;
   spread =
-      spread_closed pass.graph pass.request pass.dist pass.closed node (number_at pass.dist node) is.listed is.nodes
+      spread_closed pass.measure pass.graph pass.request pass.dist pass.closed node (number_at pass.dist node) is.listed is.nodes
       (omega (arith, within, is.long)) (λ own. ap (number_at pass.dist) own ∙ is.spread.payer) (omega arith) near is.spread;
   reached = is.reached;
 }
 
 -- cut at the least fees to an open node, the fees are bounds
 pub low_of_pass : (pass : ForwardState) (most : ℕ) → IsForwardState pass → IsRadius pass.dist pass.closed most
-    → AreLow (edges pass.graph) pass.request (bounds_in most pass.dist)
+    → AreLowBy pass.measure (edges pass.graph) pass.request (bounds_in most pass.dist)
 low_of_pass pass most is radius =
-    low_of (edges pass.graph) pass.request pass.dist pass.closed most (bounds_in most pass.dist)
+    low_of pass.measure (edges pass.graph) pass.request pass.dist pass.closed most (bounds_in most pass.dist)
     (λ edge there. (omega (arith, (is.listed.each edge there).from, is.nodes), omega (arith, (is.listed.each edge there).to, is.nodes)))
     is.spread radius (cut_bounds most pass.dist)

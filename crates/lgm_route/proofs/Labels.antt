@@ -1,5 +1,5 @@
 -- Labels, and the rests that they represent.
-use Rattle.std.proofs.Common.{◌≡◌, ◌⊎◌, ℕ, ◌<◌, ◌≤◌, List, [], ◌∷◌, ◌++◌, length, Option}
+use Rattle.std.proofs.Common.{◌≡◌, ◌⊎◌, ℕ, ◌+◌, ◌<◌, ◌≤◌, List, [], ◌∷◌, ◌++◌, length, Option}
 use Rattle.std.proofs.Common.{Some, None, refl, sym, ◌∙◌, ap, subst, inl, inr, arith}
 use Rattle.std.proofs.Common.{length-append}
 use Rattle.std.proofs.lemmas.List.{get_or_append_left, append_assoc, append-nil}
@@ -7,10 +7,10 @@ use Rattle.lgm_graph.specs.Graph.{Graph, edges, edges_into}
 use Rattle.lgm_graph.specs.declared.edge.Edge.{Edge}
 use Rattle.lgm_route.specs.declared.request.NumberedRequest.{NumberedRequest}
 use Rattle.lgm_route.specs.declared.label.Label.{Label}
-use Rattle.lgm_route.specs.inner.Numbered.{owed, sent, IsRest, IsStep, IsUsable}
-use Rattle.lgm_route.specs.inner.Searching.{cost, walk_key, Dominates, label_at, no_label, number_at, Spells, IsLabel, IsWalk, bound_of, IsNoBetter, Has}
+use Rattle.lgm_route.specs.inner.Numbered.{owed, sent, counted, delay, most_delay, IsRest, IsStep, IsUsable}
+use Rattle.lgm_route.specs.inner.Searching.{Low, cost, walk_key, Dominates, label_at, no_label, number_at, Spells, IsLabel, IsWalk, bound_of, IsNoBetter, Has}
 use Rattle.lgm_route.specs.inner.Searching.{IsHopeless, Reaches, IsRelaxed, IsLeft, IsSettled, AreLabels, IsFound, Grows, Begins, first_of, edge_at}
-use Rattle.lgm_route.specs.inner.Bounding.{AreLow}
+use Rattle.lgm_route.specs.inner.Bounding.{AreLow, MayCarry}
 use Rattle.lgm_route.proofs.Orders.{NotAfter-trans}
 use Rattle.lgm_route.proofs.Rests.{Dominates-refl, Dominates-trans, Dominates-owed, Dominates-prepend, Dominates-walk}
 use Rattle.lgm_route.proofs.Rests.{step-cheaper, walk_less, fee-monotone, owed-least}
@@ -60,7 +60,7 @@ Spells-grows graph labels more label (edge ∷ rest) h = (
 pub label-grows : (graph : Graph) (request : NumberedRequest) (labels more : List Label) (label : Label) (rest : List Edge) →
     IsLabel graph request labels label rest → IsLabel graph request (labels ++ more) label rest
 label-grows graph request labels more label rest h =
-    record { spells = Spells-grows graph labels more label rest h.spells; long = h.long; joins = h.joins; owes = h.owes }
+    record { spells = Spells-grows graph labels more label rest h.spells; long = h.long; joins = h.joins; owes = h.owes; waits = h.waits; in_time = h.in_time }
 
 pub walk-grows : (graph : Graph) (request : NumberedRequest) (labels more : List Label) (label : Label) (walk : List Edge) →
     IsWalk graph request labels label walk → IsWalk graph request (labels ++ more) label walk
@@ -72,6 +72,7 @@ walk-grows graph request labels more label walk h =
       few = h.few;
       joins = h.joins;
       sends = h.sends;
+      in_time = h.in_time;
     }
 
 pub has-grows : (graph : Graph) (request : NumberedRequest) (labels more : List Label) (node : ℕ) (rest : List Edge) →
@@ -100,11 +101,11 @@ found-grows graph request labels more upper_bound None h = tt
 found-grows graph request labels more upper_bound (Some found) h = (((h.0).0, walk-grows graph request labels more found (h.0).0 (h.0).1), h.1)
 
 -- a rest that dominates another can be pruned only if that one can
-pub hopeless-dominates : (request : NumberedRequest) (low : List ℕ) (bound node : ℕ) (a b : List Edge) → Dominates request a b →
+pub hopeless-dominates : (request : NumberedRequest) (low : Low) (bound node : ℕ) (a b : List Edge) → Dominates request a b →
     IsHopeless request low bound node a → IsHopeless request low bound node b
 hopeless-dominates request low bound node a b h hopeless = omega (arith, hopeless, h.fewer, Dominates-owed request a b h)
 
-pub reaches-dominates : (graph : Graph) (request : NumberedRequest) (low : List ℕ) (upper_bound : ℕ)
+pub reaches-dominates : (graph : Graph) (request : NumberedRequest) (low : Low) (upper_bound : ℕ)
     (labels : List Label) (found : Option Label) (node : ℕ) (a b : List Edge) → Dominates request a b →
     Reaches graph request low upper_bound labels found node a → Reaches graph request low upper_bound labels found node b
 reaches-dominates graph request low upper_bound labels found node a b h (inl has) =
@@ -120,7 +121,7 @@ reaches-dominates graph request low upper_bound labels found node a b h (inr hop
     inr (hopeless-dominates request low (bound_of upper_bound found) node a b h hopeless)
 
 -- what is preserved as the search grows
-module _ (graph : Graph) (request : NumberedRequest) (low : List ℕ) (upper_bound : ℕ) (labels : List Label)
+module _ (graph : Graph) (request : NumberedRequest) (low : Low) (upper_bound : ℕ) (labels : List Label)
     (found : Option Label) (after : List Label) (now : Option Label)
     (grows : Grows graph request upper_bound labels found after now) where
   pub has-later : (node : ℕ) (rest : List Edge) → Has graph request labels node rest → Has graph request after node rest
@@ -143,7 +144,7 @@ module _ (graph : Graph) (request : NumberedRequest) (low : List ℕ) (upper_bou
   pub passed-later : (edge : Edge) (rest : List Edge) → IsRelaxed graph request low upper_bound labels found edge
       rest → IsRelaxed graph request low upper_bound after now edge rest
   passed-later edge rest h =
-      record { whole = λ from. grows.first (edge ∷ rest) (h.whole from); longer = λ few. reaches-later edge.from (edge ∷ rest) (h.longer few) }
+      record { whole = λ from. grows.first (edge ∷ rest) (h.whole from); longer = λ few timely. reaches-later edge.from (edge ∷ rest) (h.longer few timely) }
 
   pub left-later : (node : ℕ) (rest : List Edge) → IsLeft graph request low upper_bound labels found node rest
       → IsLeft graph request low upper_bound after now node rest
@@ -174,7 +175,7 @@ grows-trans graph request upper_bound a b c x y z h k =
     }
 
 -- once all labels are settled, every rest is reached
-module _ (graph : Graph) (request : NumberedRequest) (low : List ℕ) (upper_bound : ℕ) (labels : List Label) (found : Option Label)
+module _ (graph : Graph) (request : NumberedRequest) (low : Low) (upper_bound : ℕ) (labels : List Label) (found : Option Label)
     (labelled : AreLabels graph request labels) (are_low : AreLow (edges graph) request low)
     (settled : (i : ℕ) → i < length labels → IsSettled graph request low upper_bound labels found (label_at labels i)) where
   -- a rest with a label is pruned, or one that dominates it was relaxed
@@ -200,18 +201,29 @@ module _ (graph : Graph) (request : NumberedRequest) (low : List ℕ) (upper_bou
       by (inl p) = inl (hopeless-dominates request low (bound_of upper_bound found) node s.rest rest dominates p)
       by (inr p) = inr (p.0, Dominates-trans request p.0 s.rest rest p.1 dominates, p.2)
 
+  -- an edge over which the rest isn't too late can carry the amount
+  may_carry : (node : ℕ) (edge : Edge) (rest : List Edge) → IsStep (edges graph) request node edge rest
+      → delay request.limit (edge ∷ rest) ≤ most_delay request.limit → MayCarry request edge
+  may_carry node edge rest step timely = record {
+    above_min = step.above_min;
+    below_max = omega (arith, step.below_max, owed-least request.amount rest);
+    quick = inr (omega (arith, timely));
+  }
+
   hopeless_on : (node : ℕ) (edge : Edge) (rest : List Edge) → IsStep (edges graph) request node edge rest →
+      delay request.limit (edge ∷ rest) ≤ most_delay request.limit →
       IsHopeless request low (bound_of upper_bound found) edge.to rest → IsHopeless request low (bound_of upper_bound found) node (edge ∷ rest)
-  hopeless_on node edge rest step h =
+  hopeless_on node edge rest step timely h =
       let least = owed-least request.amount rest in
-      let rises = are_low.rises edge step.there step.above_min (omega (arith, step.below_max)) in
+      let rises = are_low.fees.rises edge step.there (may_carry node edge rest step timely) in
       let fees = fee-monotone request.amount (owed request.amount rest) edge.base edge.millionths least in
-      let from = ap (λ n. number_at low n) step.leaves in
+      let from = ap (λ n. number_at low.fees n) step.leaves in
       omega (arith, h, rises, fees, from)
 
   pub all_reached : (rest : List Edge) (node : ℕ) → IsRest (edges graph) request node rest → length rest ≤ 19
+      → delay request.limit rest + number_at low.delays node ≤ most_delay request.limit
       → Reaches graph request low upper_bound labels found node rest
-  all_reached [] node joins few =
+  all_reached [] node joins few timely =
       inl (record {
         place = 0;
         within = omega (arith, labelled.some);
@@ -230,16 +242,26 @@ module _ (graph : Graph) (request : NumberedRequest) (low : List ℕ) (upper_bou
 
       first : IsLabel graph request labels (label_at labels 0) []
       first = subst (λ r. IsLabel graph request labels (label_at labels 0) r) (empty s.0 (s.1.long ∙ labelled.first.1)) s.1
-  all_reached (edge ∷ rest) node joins few = by (onward edge.to rest (all_reached rest edge.to joins.1 (omega arith)))
+  all_reached (edge ∷ rest) node joins few timely =
+      by (onward edge.to rest (all_reached rest edge.to joins.1 (omega arith) (omega (arith, timely, from, sooner))))
     where
+      in_time : delay request.limit (edge ∷ rest) ≤ most_delay request.limit
+      in_time = omega (arith, timely)
+
+      from : number_at low.delays edge.from ≡ number_at low.delays node
+      from = ap (λ n. number_at low.delays n) joins.0.leaves
+
+      sooner : number_at low.delays edge.to ≤ number_at low.delays edge.from + counted request.limit edge
+      sooner = are_low.delays.rises edge joins.0.there (may_carry node edge rest joins.0 in_time)
+
       by : Onward edge.to rest → Reaches graph request low upper_bound labels found node (edge ∷ rest)
-      by (inl h) = inr (hopeless_on node edge rest joins.0 h)
+      by (inl h) = inr (hopeless_on node edge rest joins.0 in_time h)
       by (inr h) =
           let cheaper = step-cheaper (edges graph) request node edge h.0 rest (Dominates-owed request h.0 rest h.1) joins.0 in
           let passed = h.2 edge joins.0.there refl joins.0.above_min cheaper.below_max in
           subst (λ n. Reaches graph request low upper_bound labels found n (edge ∷ rest)) joins.0.leaves
           (reaches-dominates graph request low upper_bound labels found edge.from (edge ∷ h.0) (edge ∷ rest) (Dominates-prepend request edge h.0 rest h.1)
-          (passed.longer (omega (arith, h.1.fewer))))
+          (passed.longer (omega (arith, h.1.fewer)) (omega (arith, timely, from, h.1.sooner))))
 
   -- so no usable walk is better than the best
   no_better_by : (walk : List Edge) (o : Option Label) → IsFound graph request labels upper_bound o
@@ -263,14 +285,23 @@ module _ (graph : Graph) (request : NumberedRequest) (low : List ℕ) (upper_bou
   pub none_better : IsFound graph request labels upper_bound found → (walk : List Edge)
       → IsUsable (edges graph) request walk → IsNoBetter graph request labels upper_bound found walk
   none_better is [] usable = absurd (omega (arith, usable.some))
-  none_better is (edge ∷ rest) usable = by (onward edge.to rest (all_reached rest edge.to usable.joins.1 (omega (arith, usable.few))))
+  none_better is (edge ∷ rest) usable =
+      by (onward edge.to rest (all_reached rest edge.to usable.joins.1 (omega (arith, usable.few))
+      (omega (arith, usable.in_time, are_low.delays.none edge step.there carries step.leaves))))
     where
       step : IsStep (edges graph) request request.payer edge rest
       step = usable.joins.0
 
+      carries : MayCarry request edge
+      carries = record {
+        above_min = step.above_min;
+        below_max = omega (arith, step.below_max, owed-least request.amount rest);
+        quick = inl step.leaves;
+      }
+
       by : Onward edge.to rest → IsNoBetter graph request labels upper_bound found (edge ∷ rest)
       by (inl h) =
-          let none = are_low.none edge step.there step.above_min (omega (arith, step.below_max, owed-least request.amount rest)) step.leaves in
+          let none = are_low.fees.none edge step.there carries step.leaves in
           no_better_by (edge ∷ rest) found is usable.few (omega (arith, h, none))
       by (inr h) =
           let cheaper = step-cheaper (edges graph) request request.payer edge h.0 rest (Dominates-owed request h.0 rest h.1) step in

@@ -12,4 +12,6 @@ pub mod Crossing
 pub mod HopLaws
 pub mod Visits
 pub mod Choosing
+pub mod ChoiceWithinLaws
+pub mod WithinLaws
 mod Narrowing

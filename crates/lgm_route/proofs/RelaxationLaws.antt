@@ -7,8 +7,8 @@ use Rattle.lgm_graph.specs.Graph.{Graph, edges, edges_into, AreListed}
 use Rattle.lgm_graph.specs.declared.edge.Edge.{Edge}
 use Rattle.lgm_route.specs.declared.request.NumberedRequest.{NumberedRequest}
 use Rattle.lgm_route.specs.declared.label.Label.{Label}
-use Rattle.lgm_route.specs.inner.Numbered.{IsRest}
-use Rattle.lgm_route.specs.inner.Searching.{cost, edge_at, first_of, label_at, no_label, number_at, Spells, IsLabel, IsWalk, SomeRest}
+use Rattle.lgm_route.specs.inner.Numbered.{counted, IsRest}
+use Rattle.lgm_route.specs.inner.Searching.{Low, cost, edge_at, first_of, label_at, no_label, number_at, Spells, IsLabel, IsWalk, SomeRest}
 use Rattle.lgm_route.specs.inner.Searching.{SomeWalk, AreLabels, bound_of, Grows, RelaxesOn, RelaxesAll}
 use Rattle.lgm_route.specs.inner.Relaxations.{IsNeedless, IsRelaxationOf, IsRelaxation, in_list, IsAmong, AreRelaxations}
 use Rattle.lgm_route.proofs.Rests.{trichotomy}
@@ -37,6 +37,7 @@ module _ (graph : Graph) (request : NumberedRequest) (labels : List Label) (i : 
         few = omega (arith, led.hops, few);
         joins = subst (λ n. IsRest (edges graph) request n (edge ∷ rest)) from step;
         sends = is.owes ∙ sym (led.whole from);
+        in_time = omega (arith, is.waits, is.in_time);
       }
 
   pub led_rest : edge.from ≢ request.payer → IsLabel graph request labels new (edge ∷ rest)
@@ -46,6 +47,8 @@ module _ (graph : Graph) (request : NumberedRequest) (labels : List Label) (i : 
         long = omega (arith, is.long, led.hops);
         joins = subst (λ n. IsRest (edges graph) request n (edge ∷ rest)) (sym led.node) step;
         owes = ap (λ y. y + fee_of y edge.base edge.millionths) is.owes ∙ sym (led.longer other).1;
+        waits = ap (λ y. y + counted request.limit edge) is.waits ∙ sym (led.longer other).2;
+        in_time = (led.longer other).3;
       }
 
 -- a relaxation represents a walk, or a rest
@@ -68,26 +71,26 @@ module _ (graph : Graph) (request : NumberedRequest) (labels : List Label) (new 
       )
 
 -- a relaxation that isn't needed counts as applied
-pub passed_needless : (graph : Graph) (request : NumberedRequest) (low : List ℕ) (upper_bound bound i : ℕ)
+pub passed_needless : (graph : Graph) (request : NumberedRequest) (low : Low) (upper_bound bound i : ℕ)
     (labels after : List Label) (now : Option Label) (edge : Edge) →
     bound_of upper_bound now ≤ bound → IsNeedless request low bound (label_at labels i) edge → RelaxesOn graph request low upper_bound labels i after now edge
 passed_needless graph request low upper_bound bound i labels after now edge lower needless rest is to min max =
     let h = needless min (omega (arith, is.owes, max)) in
     record {
       whole = λ from. absurd (h.0 from);
-      longer = λ few.
+      longer = λ few timely.
           let hopeless =
-          subst (λ x. bound ≤ cost (x + fee_of x edge.base edge.millionths + number_at low edge.from) ((label_at labels i).hops + 1)) (sym is.owes) (h.1 (omega (arith, is.long, few))) in
+          subst (λ x. bound ≤ cost (x + fee_of x edge.base edge.millionths + number_at low.fees edge.from) ((label_at labels i).hops + 1)) (sym is.owes) (h.1 (omega (arith, is.long, few)) (omega (arith, is.waits, timely))) in
           inr (omega (arith, hopeless, is.long, lower));
     }
 
 -- all relaxations of a label over the edges up to an index
-pub record AreLeadsTo (graph : Graph) (request : NumberedRequest) (low : List ℕ) (bound : ℕ)
+pub record AreLeadsTo (graph : Graph) (request : NumberedRequest) (low : Low) (bound : ℕ)
     (labels : List Label) (i : ℕ) (run : List Edge) (place : ℕ) (relaxations : List Label) : Type 0 where
   pub led : (k : ℕ) → k < length relaxations → IsRelaxationOf graph request labels i (first_of graph labels (label_at relaxations k)) (label_at relaxations k)
   pub each : (j : ℕ) → j < place → IsNeedless request low bound (label_at labels i) (edge_at run j) ⊎ IsAmong graph labels relaxations (edge_at run j)
 
-pub leads_next : (graph : Graph) (request : NumberedRequest) (low : List ℕ) (bound : ℕ) (labels : List Label)
+pub leads_next : (graph : Graph) (request : NumberedRequest) (low : Low) (bound : ℕ) (labels : List Label)
     (i : ℕ) (run : List Edge) (place : ℕ) (relaxations : List Label) (relaxation : Option Label) →
     AreLeadsTo graph request low bound labels i run place relaxations → IsRelaxation graph request low bound labels i (edge_at run place) relaxation →
     AreLeadsTo graph request low bound labels i run (place + 1) (relaxations ++ in_list relaxation)
@@ -135,7 +138,7 @@ leads_next graph request low bound labels i run place relaxations (Some new) are
     by j to (inr (inl e)) = inr (length relaxations, omega (arith, long), ap (λ l. first_of graph labels l) last ∙ new_led.over ∙ ap (edge_at run) (sym e))
     by j to (inr (inr p)) = absurd (omega arith)
 
-pub leads_all : (graph : Graph) (request : NumberedRequest) (low : List ℕ) (bound : ℕ) (labels : List Label)
+pub leads_all : (graph : Graph) (request : NumberedRequest) (low : Low) (bound : ℕ) (labels : List Label)
     (i : ℕ) (run : List Edge) (place : ℕ) (relaxations : List Label) →
     run ≡ edges_into graph (label_at labels i).node → length run ≤ place → AreLeadsTo graph request low bound
     labels i run place relaxations → AreRelaxations graph request low bound labels i relaxations
@@ -149,7 +152,7 @@ leads_all graph request low bound labels i run place relaxations is all are =
     At j edges = IsNeedless request low bound (label_at labels i) (edge_at edges j) ⊎ IsAmong graph labels relaxations (edge_at edges j)
 
 -- a relaxation of a label, later in the search
-module _ (graph : Graph) (request : NumberedRequest) (low : List ℕ) (upper_bound : ℕ) (labels : List Label)
+module _ (graph : Graph) (request : NumberedRequest) (low : Low) (upper_bound : ℕ) (labels : List Label)
     (found : Option Label) (after : List Label) (now : Option Label)
     (grows : Grows graph request upper_bound labels found after now) (i : ℕ) (within : i < length labels) where
   same : label_at after i ≡ label_at labels i
@@ -179,15 +182,15 @@ module _ (graph : Graph) (request : NumberedRequest) (low : List ℕ) (upper_bou
         node = led.node;
         hops = led.hops ∙ ap (λ l. l.hops + 1) (sym same);
         whole = λ from. led.whole from ∙ ap (λ l. l.amount) (sym same);
-        longer = λ other. ((led.longer other).0, (led.longer other).1 ∙ ap (λ l. l.amount + fee_of l.amount edge.base edge.millionths) (sym same));
+        longer = λ other. ((led.longer other).0, (led.longer other).1 ∙ ap (λ l. l.amount + fee_of l.amount edge.base edge.millionths) (sym same), (led.longer other).2 ∙ ap (λ l. l.delay + counted request.limit edge) (sym same), (led.longer other).3);
       }
 
-needless_lower : (request : NumberedRequest) (low : List ℕ) (bound lower : ℕ) (label : Label) (edge : Edge)
+needless_lower : (request : NumberedRequest) (low : Low) (bound lower : ℕ) (label : Label) (edge : Edge)
     → lower ≤ bound → IsNeedless request low bound label edge → IsNeedless request low lower label edge
-needless_lower request low bound lower label edge less needless min max = ((needless min max).0, λ few. omega (arith, less, (needless min max).1 few))
+needless_lower request low bound lower label edge less needless min max = ((needless min max).0, λ few timely. omega (arith, less, (needless min max).1 few timely))
 
 -- all relaxations of a label, later in the search
-pub leads_later : (graph : Graph) (request : NumberedRequest) (low : List ℕ) (upper_bound : ℕ) (labels : List Label)
+pub leads_later : (graph : Graph) (request : NumberedRequest) (low : Low) (upper_bound : ℕ) (labels : List Label)
     (found : Option Label) (after : List Label) (now : Option Label) (i : ℕ) (relaxations : List Label) →
     Grows graph request upper_bound labels found after now → i < length labels → AreRelaxations graph request low (bound_of upper_bound found) labels i relaxations →
     AreRelaxations graph request low (bound_of upper_bound now) after i relaxations
@@ -225,7 +228,7 @@ leads_later graph request low upper_bound labels found after now i relaxations g
     by j (inr h) = inr (h.0, h.1, first h.0 h.1 ∙ h.2)
 
 -- once all relaxations of a label were applied, the label was relaxed
-pub all_taken : (graph : Graph) (request : NumberedRequest) (low : List ℕ) (upper_bound i : ℕ) (labels : List Label)
+pub all_taken : (graph : Graph) (request : NumberedRequest) (low : Low) (upper_bound i : ℕ) (labels : List Label)
     (found : Option Label) (after : List Label) (now : Option Label) (relaxations : List Label) → AreListed graph →
     Grows graph request upper_bound labels found after now → AreRelaxations graph request low (bound_of upper_bound found) labels i relaxations →
     ((k : ℕ) → k < length relaxations → RelaxesOn graph request low upper_bound labels i after now (first_of graph labels (label_at relaxations k))) →

@@ -31,12 +31,13 @@ step-cheaper edges request node edge rest other h step =
     record { there = step.there; leaves = step.leaves; above_min = step.above_min; below_max = omega (arith, step.below_max) }
 
 pub Dominates-refl : (request : NumberedRequest) (rest : List Edge) → Dominates request rest rest
-Dominates-refl request rest = record { fewer = omega arith; before = NotAfter-refl (rest_key request rest) }
+Dominates-refl request rest = record { fewer = omega arith; sooner = omega arith; before = NotAfter-refl (rest_key request rest) }
 
 pub Dominates-trans : (request : NumberedRequest) (a b c : List Edge) → Dominates request a b → Dominates request b c → Dominates request a c
 Dominates-trans request a b c h k =
     record {
       fewer = omega (arith, h.fewer, k.fewer);
+      sooner = omega (arith, h.sooner, k.sooner);
       before =
           NotAfter-trans (rest_key request a) (rest_key request b) (rest_key request c) h.before k.before;
     }
@@ -58,7 +59,7 @@ tails_prepend edge a b h = by (NotAfter-split (length a) (length b) (ids a) (ids
 
 pub Dominates-prepend : (request : NumberedRequest) (edge : Edge) (a b : List Edge) → Dominates request a b → Dominates request (edge ∷ a) (edge ∷ b)
 Dominates-prepend request edge a b h =
-    record { fewer = omega (arith, h.fewer); before = by (NotAfter-split x y (length a ∷ ids a) (length b ∷ ids b) h.before) }
+    record { fewer = omega (arith, h.fewer); sooner = omega (arith, h.sooner); before = by (NotAfter-split x y (length a ∷ ids a) (length b ∷ ids b) h.before) }
   where
     x : ℕ
     x = owed request.amount a

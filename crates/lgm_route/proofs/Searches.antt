@@ -7,7 +7,7 @@ use Rattle.lgm_route.specs.declared.request.NumberedRequest.{NumberedRequest}
 use Rattle.lgm_route.specs.declared.label.Label.{Label}
 use Rattle.lgm_route.specs.inner.Bounding.{AreLow}
 use Rattle.lgm_route.specs.inner.Numbered.{sent, IsLeast}
-use Rattle.lgm_route.specs.inner.Searching.{cost, label_at, edge_at, Spells, first_of, bound_of, number_at, IsSettled, AreLabels, IsFound}
+use Rattle.lgm_route.specs.inner.Searching.{Low, cost, label_at, edge_at, Spells, first_of, bound_of, number_at, IsSettled, AreLabels, IsFound}
 use Rattle.lgm_route.specs.inner.Searching.{Grows, IsOffered, IsBetter, RelaxesOn, AreSpelled, SomeRest, IsNoBetter, IsDominatorOf}
 use Rattle.lgm_route.specs.inner.Relaxations.{IsRelaxationOf, AreRelaxations}
 use Rattle.lgm_route.specs.inner.State.{Ground, State, state_of, IsGround, IsSearch, Extends, IsSettledAt, IsMarkedAt}
@@ -137,7 +137,7 @@ settled_led a b i is h within left =
 
 -- so is a pruned one
 pub settled_vain : (s : State) (i : ℕ) → IsSearch s → i < length s.labels →
-    bound_in s ≤ cost ((label_at s.labels i).amount + number_at s.ground.low (label_at s.labels i).node) (label_at s.labels i).hops → IsSettledAt s i
+    bound_in s ≤ cost ((label_at s.labels i).amount + number_at s.ground.low.fees (label_at s.labels i).node) (label_at s.labels i).hops → IsSettledAt s i
 settled_vain s i is within h =
     settled_hopeless s.ground.graph s.ground.request s.ground.low s.ground.upper_bound s.labels s.best (label_at s.labels i) (is.labelled.sound i within) h
 
@@ -177,10 +177,10 @@ walk_least s best walk some is finished spelled =
     )
 
 -- a new search
-pub begun : (graph : Graph) (request : NumberedRequest) (low : List ℕ) (upper_bound : ℕ) → AreListed graph
-    → length low ≡ length graph.points → AreLow (edges graph) request low → upper_bound ≤ 2 ^ 64 →
+pub begun : (graph : Graph) (request : NumberedRequest) (low : Low) (upper_bound : ℕ) → AreListed graph
+    → length low.fees ≡ length graph.points → AreLow (edges graph) request low → upper_bound ≤ 2 ^ 64 →
     (labels : List Label)
-    → labels ≡ record { amount = request.amount; parent = 0; at = 0; node = request.payee; hops = 0 } ∷ []
+    → labels ≡ record { amount = request.amount; parent = 0; at = 0; node = request.payee; hops = 0; delay = 0 } ∷ []
     → (done : List Bool) → done ≡ [] →
     IsSearch (state_of graph request low upper_bound labels None done)
 begun graph request low upper_bound listed long are_low small labels one done none = record {
@@ -194,10 +194,10 @@ begun graph request low upper_bound listed long are_low small labels one done no
     no i h = cc
 
     label : Label
-    label = record { amount = request.amount; parent = 0; at = 0; node = request.payee; hops = 0 }
+    label = record { amount = request.amount; parent = 0; at = 0; node = request.payee; hops = 0; delay = 0 }
 
     sound : (i : ℕ) → i < length (label ∷ []) → SomeRest graph request (label ∷ []) (label_at (label ∷ []) i)
-    sound zero within = ([], record { spells = tt; long = refl; joins = refl; owes = refl })
+    sound zero within = ([], record { spells = tt; long = refl; joins = refl; owes = refl; waits = refl; in_time = omega arith })
     sound (suc i) within = absurd (omega arith)
 
     few : (i : ℕ) → i < length (label ∷ []) → (label_at (label ∷ []) i).hops ≤ 19

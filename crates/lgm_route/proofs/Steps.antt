@@ -10,8 +10,8 @@ use Rattle.lgm_graph.specs.Graph.{Graph, edges, edges_into, AreListed}
 use Rattle.lgm_graph.specs.declared.edge.Edge.{Edge}
 use Rattle.lgm_route.specs.declared.request.NumberedRequest.{NumberedRequest}
 use Rattle.lgm_route.specs.declared.label.Label.{Label}
-use Rattle.lgm_route.specs.inner.Numbered.{sent, ids}
-use Rattle.lgm_route.specs.inner.Searching.{cost, NotAfter, walk_key, Dominates, no_edge, edge_at, label_at, no_label, number_at}
+use Rattle.lgm_route.specs.inner.Numbered.{sent, ids, counted, most_delay}
+use Rattle.lgm_route.specs.inner.Searching.{Low, cost, NotAfter, walk_key, Dominates, no_edge, edge_at, label_at, no_label, number_at}
 use Rattle.lgm_route.specs.inner.Searching.{IdsFirst, IsLabel, IsWalk, DoesDominate, SomeRest, SomeWalk, bound_of, IsHopeless}
 use Rattle.lgm_route.specs.inner.Searching.{IsRelaxed, IsLeft, IsSettled, AreLabels, IsFound, Grows, IsBetter, IsOffered, RelaxesOn}
 use Rattle.lgm_route.specs.inner.Searching.{RelaxesAll, IsDominatorOf, AreSpelled, AreSettled}
@@ -206,7 +206,7 @@ offered_new graph request labels new are some few =
     low i (inr (inr p)) within = absurd (omega (arith, all))
 
 -- relaxing over an edge, seen from an earlier state, or in a later one
-pub passes_from : (graph : Graph) (request : NumberedRequest) (low : List ℕ) (upper_bound i : ℕ)
+pub passes_from : (graph : Graph) (request : NumberedRequest) (low : Low) (upper_bound i : ℕ)
     (labels : List Label) (found : Option Label) (after : List Label) (now : Option Label) (last : List Label)
     (best : Option Label) (edge : Edge) →
     Grows graph request upper_bound labels found after now → i < length labels → RelaxesOn graph request low upper_bound
@@ -217,7 +217,7 @@ passes_from graph request low upper_bound i labels found after now last best edg
     (label-later graph request low upper_bound labels found after now grows (label_at labels i) rest is))
     (to ∙ ap (λ l. l.node) (sym same)) min max
 
-pub passes_later : (graph : Graph) (request : NumberedRequest) (low : List ℕ) (upper_bound i : ℕ)
+pub passes_later : (graph : Graph) (request : NumberedRequest) (low : Low) (upper_bound i : ℕ)
     (labels : List Label) (after : List Label) (now : Option Label) (last : List Label) (best : Option Label)
     (edge : Edge) →
     Grows graph request upper_bound after now last best → RelaxesOn graph request low upper_bound labels i after now edge
@@ -242,12 +242,13 @@ into_node graph labels i at edge listed into =
     record { there = found.1; to = found.0; from = (listed.each edge found.1).from }
 
 -- a label, relaxed over an edge into its node that can carry it
-pub led : (graph : Graph) (request : NumberedRequest) (labels : List Label) (i at owed : ℕ) (label : Label) (edge : Edge)
+pub led : (graph : Graph) (request : NumberedRequest) (labels : List Label) (i at owed delay : ℕ) (label : Label) (edge : Edge)
     → AreListed graph → IsInto graph labels i at edge → label ≡ label_at labels i → edge.min ≤ request.amount → label.amount ≤ edge.max
     → (edge.from ≡ request.payer → owed ≡ label.amount)
-    → (edge.from ≢ request.payer → (label.hops < 19) × (owed ≡ label.amount + fee_of label.amount edge.base edge.millionths))
-    → IsRelaxationOf graph request labels i edge (record { amount = owed; parent = i; at = at; node = edge.from; hops = label.hops + 1 })
-led graph request labels i at owed label edge listed into is min max whole longer =
+    → (edge.from ≢ request.payer → (label.hops < 19) × (owed ≡ label.amount + fee_of label.amount edge.base edge.millionths)
+    × (delay ≡ label.delay + counted request.limit edge) × (delay ≤ most_delay request.limit))
+    → IsRelaxationOf graph request labels i edge (record { amount = owed; parent = i; at = at; node = edge.from; hops = label.hops + 1; delay = delay })
+led graph request labels i at owed delay label edge listed into is min max whole longer =
     let e = into_node graph labels i at edge listed into in
     let same = ap (λ (l : Label). l.amount) is in
     record {
@@ -262,11 +263,11 @@ led graph request labels i at owed label edge listed into is min max whole longe
       node = refl;
       hops = ap (λ (l : Label). l.hops + 1) is;
       whole = λ from. whole from ∙ same;
-      longer = λ other. (omega (arith, (longer other).0), (longer other).1 ∙ ap (λ (l : Label). l.amount + fee_of l.amount edge.base edge.millionths) is);
+      longer = λ other. (omega (arith, (longer other).0), (longer other).1 ∙ ap (λ (l : Label). l.amount + fee_of l.amount edge.base edge.millionths) is, (longer other).2 ∙ ap (λ (l : Label). l.delay + counted request.limit edge) is, (longer other).3);
     }
 
 -- each edge into the label's node is in the run of edges into it
-pub all_passed : (graph : Graph) (request : NumberedRequest) (low : List ℕ) (upper_bound i : ℕ)
+pub all_passed : (graph : Graph) (request : NumberedRequest) (low : Low) (upper_bound i : ℕ)
     (labels after : List Label) (now : Option Label) → AreListed graph →
     ((j : ℕ) → j < length (edges_into graph (label_at labels i).node) → RelaxesOn graph request low upper_bound
     labels i after now (edge_at (edges_into graph (label_at labels i).node) j)) →
@@ -279,7 +280,7 @@ all_passed graph request low upper_bound i labels after now listed passes rest i
     (passes place.0 place.1 rest is (ap (λ e. e.to) same ∙ to) (omega (arith, ap (λ e. e.min) same, min)) (omega (arith, ap (λ e. e.max) same, max)))
 
 -- a label is settled if one that dominates it is
-pub settled_serves : (graph : Graph) (request : NumberedRequest) (low : List ℕ) (upper_bound : ℕ)
+pub settled_serves : (graph : Graph) (request : NumberedRequest) (low : Low) (upper_bound : ℕ)
     (labels : List Label) (found : Option Label) (x y : Label) (rest : List Edge) →
     x.node ≡ y.node → ((a b : List Edge) → IsLabel graph request labels x a → IsLabel graph request labels y b
     → Dominates request a b) → IsLabel graph request labels y rest
@@ -312,7 +313,7 @@ pub spelled_labels : (graph : Graph) (request : NumberedRequest) (labels : List 
 spelled_labels graph request labels labelled i within = let s = labelled.sound i within in (s.0, s.1.spells, s.1.long)
 
 -- marked labels are settled, and one more
-module _ (graph : Graph) (request : NumberedRequest) (low : List ℕ) (upper_bound : ℕ) where
+module _ (graph : Graph) (request : NumberedRequest) (low : Low) (upper_bound : ℕ) where
   pub still_settled : (labels : List Label) (found : Option Label) (after : List Label) (now : Option Label) (done : List Bool) →
       Grows graph request upper_bound labels found after now → AreSettled graph request low upper_bound labels found done
       → AreSettled graph request low upper_bound after now done
@@ -336,7 +337,7 @@ module _ (graph : Graph) (request : NumberedRequest) (low : List ℕ) (upper_bou
       })
 
   pub settled_hopeless : (labels : List Label) (found : Option Label) (label : Label) → SomeRest graph request labels label →
-      bound_of upper_bound found ≤ cost (label.amount + number_at low label.node) label.hops → IsSettled graph request low upper_bound labels found label
+      bound_of upper_bound found ≤ cost (label.amount + number_at low.fees label.node) label.hops → IsSettled graph request low upper_bound labels found label
   settled_hopeless labels found label some h = record { rest = some.0; is = some.1; done = inl (omega (arith, h, some.1.owes, some.1.long)) }
 
   -- a label that another one dominates

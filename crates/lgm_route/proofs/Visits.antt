@@ -11,7 +11,8 @@ use Rattle.lgm_store.specs.Rows.{is_point}
 use Rattle.lgm_store.proofs.Points.{same_point, is_point-self}
 use Rattle.lgm_graph.specs.Edges.{PointEdge, AreKeyed}
 use Rattle.lgm_route.specs.declared.request.Request.{Request}
-use Rattle.lgm_route.specs.Routes.{owed, sent, ids, IsRest, IsStep, walk_key, Precedes, IsLeast, Visits, IsSimple}
+use Rattle.lgm_route.specs.Within.{delay, IsLeastWithin}
+use Rattle.lgm_route.specs.Routes.{owed, sent, due, ids, IsRest, IsStep, walk_key, Precedes, IsLeast, Visits, IsSimple}
 use Rattle.lgm_route.specs.inner.Searching.{NotAfter}
 use Rattle.lgm_route.proofs.Orders.{NotAfter-split, NotAfter-heads}
 use Rattle.lgm_route.proofs.Rests.{raised-le}
@@ -20,10 +21,15 @@ sent_below : (amount : ℕ) (walk : List PointEdge) → sent amount walk ≤ owe
 sent_below amount [] = omega arith
 sent_below amount (edge ∷ rest) = omega arith
 
--- a walk from the node, of fewer edges, over which no more is sent
+delay_below : (walk : List PointEdge) → delay walk ≤ due 0 walk
+delay_below [] = omega arith
+delay_below (edge ∷ rest) = omega arith
+
+-- a walk from the node, of fewer edges, over which no more is sent, and which takes no longer
 abbrev Shorter : List PointEdge → Request → Point → List PointEdge → Type 0
 Shorter edges request node walk =
-    (other : List PointEdge) × IsRest edges request node other × (length other < length walk) × (owed request.amount other ≤ sent request.amount walk)
+    (other : List PointEdge) × IsRest edges request node other × (length other < length walk)
+    × (owed request.amount other ≤ sent request.amount walk) × (due 0 other ≤ delay walk)
 
 -- from a visited node the rest of the walk continues
 from_visit : (edges : List PointEdge) (request : Request) (node visited : Point) (walk : List PointEdge)
@@ -31,10 +37,15 @@ from_visit : (edges : List PointEdge) (request : Request) (node visited : Point)
     Shorter edges request visited walk
 from_visit edges request node visited [] joins h = absurd h
 from_visit edges request node visited (edge ∷ rest) joins (inl e) =
-    (rest, subst (λ n. IsRest edges request n rest) e joins.1, omega arith, omega arith)
+    (rest, subst (λ n. IsRest edges request n rest) e joins.1, omega arith, omega arith, omega arith)
 from_visit edges request node visited (edge ∷ rest) joins (inr h) =
-    let later = from_visit edges request edge.to visited rest joins.1 h in
-    (later.0, later.1, omega (arith, later.2), omega (arith, later.3, sent_below request.amount rest))
+    let later = from_visit edges request edge.to visited rest joins.1 h in (
+      later.0,
+      later.1,
+      omega (arith, later.2),
+      omega (arith, later.3, sent_below request.amount rest),
+      omega (arith, later.4, delay_below rest),
+    )
 
 same_or_not : (p q : Point) → (p ≡ q) ⊎ (p ≢ q)
 same_or_not p q = by (is_point p q) refl
@@ -63,12 +74,12 @@ step-cheaper : (edges : List PointEdge) (request : Request) (node : Point) (edge
 step-cheaper edges request node edge rest other h step =
     record { there = step.there; leaves = step.leaves; above_min = step.above_min; below_max = omega (arith, step.below_max) }
 
--- a walk from the node with fewer edges and no greater amounts
+-- a walk from the node with fewer edges, and no greater amounts or delays
 abbrev Better : List PointEdge → Request → Point → List PointEdge → Type 0
 Better edges request node walk =
     (other : List PointEdge) × IsRest edges request node other × (length other < length walk)
     × (owed request.amount other ≤ owed request.amount walk)
-    × (sent request.amount other ≤ sent request.amount walk)
+    × (sent request.amount other ≤ sent request.amount walk) × (due 0 other ≤ due 0 walk) × (delay other ≤ delay walk)
 
 -- a walk visits no node twice, or there is a better one without the loop
 simple_or_better : (edges : List PointEdge) (request : Request) (node : Point) (walk : List PointEdge) → IsRest edges request node walk →
@@ -77,7 +88,15 @@ simple_or_better edges request node [] joins = inl tt
 simple_or_better edges request node (edge ∷ rest) joins = by (visits_or_not node (edge ∷ rest)) (simple_or_better edges request edge.to rest joins.1)
   where
     round : Shorter edges request node (edge ∷ rest) → Better edges request node (edge ∷ rest)
-    round s = (s.0, s.1, s.2, omega (arith, s.3), omega (arith, s.3, sent_below request.amount s.0))
+    round s = (
+      s.0,
+      s.1,
+      s.2,
+      omega (arith, s.3),
+      omega (arith, s.3, sent_below request.amount s.0),
+      omega (arith, s.4),
+      omega (arith, s.4, delay_below s.0),
+    )
 
     by : Visits node (edge ∷ rest) ⊎ (Visits node (edge ∷ rest) → ⊥) → IsSimple edge.to rest ⊎ Better edges request edge.to rest →
         IsSimple node (edge ∷ rest) ⊎ Better edges request node (edge ∷ rest)
@@ -90,6 +109,8 @@ simple_or_better edges request node (edge ∷ rest) joins = by (visits_or_not no
           omega (arith, b.2),
           raised-le (owed request.amount b.0) (owed request.amount rest) edge.base edge.millionths b.3,
           b.3,
+          omega (arith, b.5),
+          omega (arith, b.5),
         )
 
 precedes_of : (request : Request) (walk other : List PointEdge) → length other < length walk
@@ -135,6 +156,26 @@ least-simple edges request walk apart least = by (simple_or_better edges request
         absurd (least.first b.0 (record { some = some_edges edges request b.0 apart b.1; few = omega (arith, b.2, least.usable.few); joins = b.1 })
         (precedes_of request walk b.0 b.2 b.4))
 
+-- nor does the best one within a limit
+pub least-simple-within : (edges : List PointEdge) (request : Request) (limit : ℕ) (walk : List PointEdge)
+    → request.payer ≢ request.payee → IsLeastWithin edges request limit walk → IsSimple request.payer walk
+least-simple-within edges request limit walk apart least = by (simple_or_better edges request request.payer walk least.usable.usable.joins)
+  where
+    by : IsSimple request.payer walk ⊎ Better edges request request.payer walk → IsSimple request.payer walk
+    by (inl s) = s
+    by (inr b) =
+        absurd (least.first b.0
+        (record {
+          usable =
+              record {
+                some = some_edges edges request b.0 apart b.1;
+                few = omega (arith, b.2, least.usable.usable.few);
+                joins = b.1;
+              };
+          in_time = omega (arith, b.6, least.usable.in_time);
+        })
+        (precedes_of request walk b.0 b.2 b.4))
+
 -- of two lists of which neither is after the other, each is the other
 same_of : (xs ys : List ℕ) → NotAfter xs ys → NotAfter ys xs → xs ≡ ys
 same_of [] [] h k = refl
@@ -177,13 +218,29 @@ ids_name edges request node (edge ∷ rest) (edge' ∷ rest') keyed joins also s
     (tail_of edge.scid edge'.scid (ids rest) (ids rest') e) in
     cc (same, tail)
 
+-- of two walks of which neither precedes the other, one that visits no node twice is the other
+one_walk : (edges : List PointEdge) (request : Request) (walk other : List PointEdge) → AreKeyed edges →
+    IsRest edges request request.payer walk → IsRest edges request request.payer other → IsSimple request.payer walk →
+    (Precedes request other walk → ⊥) → (Precedes request walk other → ⊥) → walk ≡ other
+one_walk edges request walk other keyed joins also simple first after =
+    ids_name edges request request.payer walk other keyed joins also simple
+    (tail_of (length walk) (length other) (ids walk) (ids other)
+    (tail_of (sent request.amount walk) (sent request.amount other) (length walk ∷ ids walk) (length other ∷ ids other)
+    (same_of (walk_key request walk) (walk_key request other)
+    (not_after (walk_key request walk) (walk_key request other) first)
+    (not_after (walk_key request other) (walk_key request walk) after))))
+
 -- there is one best walk
 pub least-unique : (edges : List PointEdge) (request : Request) (walk other : List PointEdge) → AreKeyed edges → request.payer ≢ request.payee →
     IsLeast edges request walk → IsLeast edges request other → walk ≡ other
 least-unique edges request walk other keyed apart least also =
-    ids_name edges request request.payer walk other keyed least.usable.joins also.usable.joins (least-simple edges request walk apart least)
-    (tail_of (length walk) (length other) (ids walk) (ids other)
-    (tail_of (sent request.amount walk) (sent request.amount other) (length walk ∷ ids walk) (length other ∷ ids other)
-    (same_of (walk_key request walk) (walk_key request other)
-    (not_after (walk_key request walk) (walk_key request other) (least.first other also.usable))
-    (not_after (walk_key request other) (walk_key request walk) (also.first walk least.usable)))))
+    one_walk edges request walk other keyed least.usable.joins also.usable.joins (least-simple edges request walk apart least)
+    (least.first other also.usable) (also.first walk least.usable)
+
+-- and one within a limit
+pub least-unique-within : (edges : List PointEdge) (request : Request) (limit : ℕ) (walk other : List PointEdge)
+    → AreKeyed edges → request.payer ≢ request.payee →
+    IsLeastWithin edges request limit walk → IsLeastWithin edges request limit other → walk ≡ other
+least-unique-within edges request limit walk other keyed apart least also =
+    one_walk edges request walk other keyed least.usable.usable.joins also.usable.usable.joins
+    (least-simple-within edges request limit walk apart least) (least.first other also.usable) (also.first walk least.usable)

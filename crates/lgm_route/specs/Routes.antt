@@ -1,6 +1,6 @@
 -- Walks over edges between points, what they cost, and the best one.
 use Rattle.std.specs.Prelude.{◌≡◌, ◌≢◌, ◌⊎◌, ℕ, ◌+◌, ◌≤◌, List, [], ◌∷◌}
-use Rattle.std.specs.Prelude.{length, map, Contains, Option, Some, None}
+use Rattle.std.specs.Prelude.{length, map, Contains}
 use Rattle.std.specs.declared.cmp.Ordering.TheVariants.{Less}
 use Rattle.std.specs.Ordering.{nat_cmp}
 use Rattle.std.specs.Cmp.Lexicographic.{slice_cmp}
@@ -77,12 +77,6 @@ hops_of request (edge ∷ rest) =
       expiry = due request.expiry rest;
     }
     ∷ hops_of request rest
-
--- the hops of the best walk, or none if no walk is usable
-abbrev pub IsBest : List PointEdge → Request → Option (List Hop) → Type 0
-IsBest edges request None = (walk : List PointEdge) → IsUsable edges request walk → ⊥
-IsBest edges request (Some hops) =
-    (walk : List PointEdge) × IsLeast edges request walk × (hops ≡ hops_of request walk)
 
 -- some edge of the walk ends at the node
 abbrev pub Visits : Point → List PointEdge → Type 0

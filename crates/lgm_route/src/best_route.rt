@@ -1,13 +1,13 @@
 //! The best route of a payment.
 
-ghost use Rattle.std.specs.Prelude.{◌≡◌, ◌⊎◌, ◌≤◌, Some, None, Err, IfOk, IfErr, ◌^◌};
+ghost use Rattle.std.specs.Prelude.{◌≡◌, ◌⊎◌, ◌-◌, ◌<◌, ◌≤◌, Some, None, Err, IfOk, IfErr, ◌^◌};
 ghost use Rattle.std.specs.Option.{option_map};
 ghost use Rattle.lgm_graph.specs.Graph.{edges, point_edges, AreListed};
-ghost use Rattle.lgm_route.specs.Answers.{refusal, IsAnswer, IsFoundOver};
-ghost use Rattle.lgm_route.specs.inner.Best.{IsBestWalk, IsNumberingOf};
-ghost use Rattle.lgm_route.specs.Routes.{IsBest};
-ghost use Rattle.lgm_route.specs.inner.State.{IsBegun};
+ghost use Rattle.lgm_route.specs.Answers.{refusal, IsAnswer};
+ghost use Rattle.lgm_route.specs.inner.Best.{IsBestWalk, IsNumberingOf, IsAnswerFor, IsBestFor, IsFoundFor};
+ghost use Rattle.lgm_route.specs.inner.State.{IsBegun, IsFinished};
 ghost use Rattle.lgm_route.specs.declared.fault.RouteFault.{RouteFault};
+ghost use Rattle.lgm_route.specs.declared.within.LimitedFault.TheVariants.{Fault, Undecided};
 ghost use Rattle.lgm_route.specs.inner.Searching.{IsUpperBound};
 
 use crate::bounds::lower_bounds;
@@ -15,23 +15,25 @@ use crate::fault::RouteFault;
 use crate::hops::hops;
 use crate::request::{NumberedRequest, Request};
 use crate::search::Search;
+use crate::within::LimitedFault;
 use lgm_graph::{Edge, Hop, Route, RoutingGraph, View};
 use lgm_par::{Gate, MAX_WORKERS, Pool};
 use std::alloc::{AllocError, Global};
 use std::thread::Threads;
 
-/// A new search.
+/// A new search, with at most this many labels.
 fn begin<'a, V: RoutingGraph>(
     alloc: Global,
     view: &'a V,
     request: &NumberedRequest,
+    most_labels: usize,
 ) -> Result<Search<'a, V>, AllocError>
     ensures { IfOk result (λ search. IsBegun (V.graph view.entry.now) request.now search) }
 {
     let _nodes = view.nodes();
     let upper_bound = most_sent(view, request);
     let low = lower_bounds(alloc, view, request)?;
-    let search = Search::new(alloc, view, *request, low, upper_bound)?;
+    let search = Search::new(alloc, view, *request, low, upper_bound, most_labels)?;
     Ok(search)
 }
 
@@ -44,10 +46,40 @@ fn best_walk<V: RoutingGraph>(
     ensures { IfOk result
         (λ best. IsBestWalk (edges (V.graph view.now)) request.now (option_map (λ walk. walk.items) best)) }
 {
-    let mut search = begin(alloc, view, request)?;
-    search.settle_best_first(alloc)?;
-    search.sweep()?;
+    let mut search = begin(alloc, view, request, usize::MAX)?;
+    finish(alloc, &mut search)?;
     search.best_walk(alloc)
+}
+
+/// The same, found with at most this many labels.
+pub(crate) fn best_walk_of_labels<V: RoutingGraph>(
+    alloc: Global,
+    view: &V,
+    request: &NumberedRequest,
+    most_labels: usize,
+) -> Result<Option<Vec<Edge>>, LimitedFault>
+    ensures found { IfOk result
+        (λ best. IsBestWalk (edges (V.graph view.now)) request.now (option_map (λ walk. walk.items) best)) }
+    ensures fault { IfErr result (λ fault. (fault ≡ Fault RouteFault.NoMemory)
+        ⊎ ((fault ≡ Undecided) × (most_labels < 2 ^ 64 - 1))) }
+{
+    let mut search = begin(alloc, view, request, most_labels)?;
+    if let Err(e) = finish(alloc, &mut search) {
+        if search.is_full(most_labels) {
+            return Err(LimitedFault::Undecided);
+        }
+        return Err(LimitedFault::from(e));
+    }
+    let walk = search.best_walk(alloc)?;
+    Ok(walk)
+}
+
+/// Settles all labels of a search, best-first.
+fn finish<V: RoutingGraph>(alloc: Global, search: &mut Search<'_, V>) -> Result<(), AllocError>
+    ensures { IfOk result (λ _. (search.new.ground ≡ search.old.ground) × IsFinished search.new) }
+{
+    search.settle_best_first(alloc)?;
+    search.sweep()
 }
 
 /// The same, found by several workers.
@@ -59,15 +91,19 @@ fn best_walk_chunked<Rt: Threads + Sync, G: Gate, V: RoutingGraph + Sync>(
     ensures { IfOk result
         (λ best. IsBestWalk (edges (V.graph view.now)) request.now (option_map (λ walk. walk.items) best)) }
 {
-    let mut search = begin(pool.alloc, view, request)?;
+    let mut search = begin(pool.alloc, view, request, usize::MAX)?;
     search.settle_chunked(pool)?;
     search.sweep()?;
     search.best_walk(pool.alloc)
 }
 
 /// The request between numbered nodes, if both have a number.
-fn numbering_of<V: RoutingGraph>(view: &V, request: &Request) -> Option<NumberedRequest>
-    ensures { IsNumberingOf (V.graph view.now) request.now result }
+fn numbering_of<V: RoutingGraph>(
+    view: &V,
+    request: &Request,
+    limit: Option<u16>,
+) -> Option<NumberedRequest>
+    ensures { IsNumberingOf (V.graph view.now) request.now limit result }
 {
     // The contract of `nodes` says that the nodes of edges are numbered.
     let _nodes = view.nodes();
@@ -81,20 +117,25 @@ fn numbering_of<V: RoutingGraph>(view: &V, request: &Request) -> Option<Numbered
         payer,
         payee,
         amount: request.amount,
+        limit,
     })
 }
 
 /// The request between numbered nodes, or why there is no route for it, whatever the edges between them are.
-fn numbered<V: RoutingGraph>(view: &V, request: &Request) -> Result<NumberedRequest, RouteFault>
+pub(crate) fn numbered<V: RoutingGraph>(
+    view: &V,
+    request: &Request,
+    limit: Option<u16>,
+) -> Result<NumberedRequest, RouteFault>
     ensures refused { (fault : RouteFault) → refusal request.now ≡ Some fault → result ≡ Err fault }
-    ensures found { IfOk result (λ numbered. IsNumberingOf (V.graph view.now) request.now (Some numbered)) }
+    ensures found { IfOk result (λ numbered. IsNumberingOf (V.graph view.now) request.now limit (Some numbered)) }
     ensures allowed { IfOk result (λ _. refusal request.now ≡ None) }
-    ensures answer { IfErr result (λ fault. IsAnswer (point_edges (V.graph view.now)) request.now (Err fault)) }
+    ensures answer { IfErr result (λ fault. IsAnswerFor limit (point_edges (V.graph view.now)) request.now (Err fault)) }
 {
     if let Some(fault) = request.refusal() {
         return Err(fault);
     }
-    match numbering_of(view, request) {
+    match numbering_of(view, request, limit) {
         Some(numbered) => Ok(numbered),
         None => Err(RouteFault::NoRoute),
     }
@@ -105,14 +146,15 @@ fn hops_of<V: RoutingGraph>(
     alloc: Global,
     view: &V,
     request: &Request,
+    limit: Option<u16>,
     numbered: &NumberedRequest,
     walk: Option<Vec<Edge>>,
 ) -> Result<Option<Vec<Hop>>, AllocError>
     requires expiry { request.now.expiry ≤ 498000000 }
-    requires numbered { IsNumberingOf (V.graph view.now) request.now (Some numbered.now) }
+    requires numbered { IsNumberingOf (V.graph view.now) request.now limit (Some numbered.now) }
     requires walk { IsBestWalk (edges (V.graph view.now)) numbered.now (option_map (λ walk. walk.items) walk) }
     ensures { IfOk result
-        (λ best. IsBest (point_edges (V.graph view.now)) request.now (option_map (λ hops. hops.items) best)) }
+        (λ best. IsBestFor limit (point_edges (V.graph view.now)) request.now (option_map (λ hops. hops.items) best)) }
 {
     // The contract of `nodes` says that the nodes of edges are numbered.
     let _nodes = view.nodes();
@@ -126,19 +168,20 @@ fn hops_of<V: RoutingGraph>(
 }
 
 /// The route over the best walk, or that there is none.
-fn route_over<V: RoutingGraph>(
+pub(crate) fn route_over<V: RoutingGraph>(
     alloc: Global,
     view: &V,
     request: &Request,
+    limit: Option<u16>,
     numbered: &NumberedRequest,
     walk: Option<Vec<Edge>>,
 ) -> Result<Route, RouteFault>
     requires expiry { request.now.expiry ≤ 498000000 }
-    requires numbered { IsNumberingOf (V.graph view.now) request.now (Some numbered.now) }
+    requires numbered { IsNumberingOf (V.graph view.now) request.now limit (Some numbered.now) }
     requires walk { IsBestWalk (edges (V.graph view.now)) numbered.now (option_map (λ walk. walk.items) walk) }
-    ensures { (result ≡ Err RouteFault.NoMemory) ⊎ IsFoundOver (point_edges (V.graph view.now)) request.now result }
+    ensures { (result ≡ Err RouteFault.NoMemory) ⊎ IsFoundFor limit (point_edges (V.graph view.now)) request.now result }
 {
-    match hops_of(alloc, view, request, numbered, walk)? {
+    match hops_of(alloc, view, request, limit, numbered, walk)? {
         Some(hops) => Ok(Route::from_vec(hops)),
         None => Err(RouteFault::NoRoute),
     }
@@ -174,9 +217,9 @@ pub fn least_in<V: RoutingGraph>(
     ensures refused { (fault : RouteFault) → refusal request.now ≡ Some fault → result ≡ Err fault }
     ensures answer { (result ≡ Err RouteFault.NoMemory) ⊎ IsAnswer (point_edges (V.graph graph.now)) request.now result }
 {
-    let numbered = numbered(graph, request)?;
+    let numbered = numbered(graph, request, None)?;
     let walk = best_walk(alloc, graph, &numbered)?;
-    route_over(alloc, graph, request, &numbered, walk)
+    route_over(alloc, graph, request, None, &numbered, walk)
 }
 
 /// The same route as [`least`], found by a pool of workers, whatever its gate does.
@@ -215,9 +258,9 @@ pub fn least_pooled_in<Rt: Threads + Sync, G: Gate, V: RoutingGraph + Sync>(
     if pool.workers == 1 {
         return least_in(pool.alloc, graph, request);
     }
-    let numbered = numbered(graph, request)?;
+    let numbered = numbered(graph, request, None)?;
     let walk = best_walk_chunked(pool, graph, &numbered)?;
-    route_over(pool.alloc, graph, request, &numbered, walk)
+    route_over(pool.alloc, graph, request, None, &numbered, walk)
 }
 
 /// The same route as [`least`], found by several workers, for any number of them from 1 to [`MAX_WORKERS`], and

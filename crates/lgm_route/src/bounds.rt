@@ -1,8 +1,8 @@
-//! Lower bounds on the fees from the payer to each node.
+//! Lower bounds on the fees and the delays from the payer to each node.
 
-ghost use Rattle.std.specs.Prelude.{◌≡◌, length, IfOk};
+ghost use Rattle.std.specs.Prelude.{◌≡◌, [], length, IfOk};
 ghost use Rattle.lgm_route.specs.inner.Searching.{number_at};
-ghost use Rattle.lgm_route.specs.inner.Bounding.{bounds_in, AreLow};
+ghost use Rattle.lgm_route.specs.inner.Bounding.{bounds_in, AreLow, AreLowBy};
 ghost use Rattle.lgm_graph.specs.Graph.{edges};
 
 use crate::forward_search::ForwardSearch;
@@ -12,17 +12,26 @@ use lgm_graph::RoutingGraph;
 use std::alloc::{AllocError, Global};
 use std::marker::Model;
 
-/// Lower bounds on the fees from the payer to each node, in msat. Contracts see the bounds by number of the node.
+/// What a forward search adds up.
+#[derive(Clone, Copy)]
+pub(crate) enum Measure {
+    /// The fees for the request's amount, in msat.
+    Fees,
+    /// The delays that count, in blocks.
+    Delays,
+}
+
+/// Lower bounds on the fees or the delays from the payer to each node. Contracts see the bounds by number of the node.
 ///
 /// They are computed by a forward search from the payer. It also finds over which channel each node is reached for
-/// these fees, which no contract depends on.
+/// these, which no contract depends on.
 #[derive(Drop)]
 pub(crate) struct Bounds {
-    /// The fees to each node that the forward search reached, in msat.
+    /// What leads to each node that the forward search reached.
     charged: Vec<u64>,
-    /// The channel over which it reached each node for these fees.
+    /// The channel over which it reached each node for this.
     over: Vec<Scid>,
-    /// The radius: the least fees to a node that was reached and not expanded, in msat. No bound exceeds it.
+    /// The radius: the least of what leads to a node that was reached and not expanded. No bound exceeds it.
     radius: u64,
 }
 
@@ -33,6 +42,22 @@ impl Model for Bounds {
     ghost Value = { List ℕ };
 
     ghost view = { λ b. bounds_in b.radius b.charged.items };
+}
+
+/// Lower bounds from the payer to each node: on the fees, and on the delays that count.
+#[derive(Drop)]
+pub(crate) struct LowerBounds {
+    pub fees: Bounds,
+    /// None is known if the request has no limit, since no delay counts then.
+    pub delays: Bounds,
+}
+
+impl Model for LowerBounds {
+    ghost use Rattle.lgm_route.specs.inner.Searching.{Low};
+
+    ghost Value = { Low };
+
+    ghost view = { λ b. record { fees = b.fees; delays = b.delays } };
 }
 
 impl Bounds {
@@ -46,6 +71,13 @@ impl Bounds {
         }
     }
 
+    /// No bounds.
+    fn none(alloc: Global) -> Bounds
+        ensures { result ≡ [] }
+    {
+        Bounds::new(Vec::new(alloc), Vec::new(alloc), 0)
+    }
+
     /// The number of nodes.
     pub(crate) fn len(&self) -> usize
         ensures { result ≡ length self.now }
@@ -53,7 +85,7 @@ impl Bounds {
         self.charged.len()
     }
 
-    /// The bound of a node, in msat; 0 for an unknown number.
+    /// The bound of a node; 0 for an unknown number.
     #[inline(always)]
     pub(crate) fn at(&self, node: u32) -> u64
         ensures { result ≡ number_at self.now node }
@@ -88,16 +120,34 @@ fn steps_for(nodes: usize) -> usize {
     1_024
 }
 
-/// Lower bounds on the fees from the payer to each node of a graph.
+/// Lower bounds on a measure from the payer to each node of a graph.
+fn bounds_by<V: RoutingGraph>(
+    alloc: Global,
+    view: &V,
+    request: &NumberedRequest,
+    measure: Measure,
+) -> Result<Bounds, AllocError>
+    ensures long { IfOk result (λ low. length low ≡ length (V.graph view.now).points) }
+    ensures low { IfOk result (λ low. AreLowBy measure (edges (V.graph view.now)) request.now low) }
+{
+    let mut pass = ForwardSearch::new(alloc, view, request, measure)?;
+    pass.expand(steps_for(view.nodes()))?;
+    Ok(pass.into_bounds())
+}
+
+/// Lower bounds on the fees from the payer to each node of a graph, and on the delays if the request has a limit.
 pub(crate) fn lower_bounds<V: RoutingGraph>(
     alloc: Global,
     view: &V,
     request: &NumberedRequest,
-) -> Result<Bounds, AllocError>
-    ensures long { IfOk result (λ low. length low ≡ length (V.graph view.now).points) }
+) -> Result<LowerBounds, AllocError>
+    ensures long { IfOk result (λ low. length low.fees ≡ length (V.graph view.now).points) }
     ensures low { IfOk result (λ low. AreLow (edges (V.graph view.now)) request.now low) }
 {
-    let mut pass = ForwardSearch::new(alloc, view, request)?;
-    pass.expand(steps_for(view.nodes()))?;
-    Ok(pass.into_bounds())
+    let fees = bounds_by(alloc, view, request, Measure::Fees)?;
+    let delays = match request.limit {
+        None => Bounds::none(alloc),
+        Some(_limit) => bounds_by(alloc, view, request, Measure::Delays)?,
+    };
+    Ok(LowerBounds { fees, delays })
 }

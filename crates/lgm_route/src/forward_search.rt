@@ -1,13 +1,12 @@
-//! The forward search: it expands nodes from the payer on, mostly those with the least fees first.
+//! The forward search: it expands nodes from the payer on, mostly those with the least fees (or delays) first.
 
 ghost use Rattle.std.specs.Prelude.{◌≡◌, ◌^◌, ◌-◌, ◌<◌, ◌≤◌, ◌⊎◌, ℕ, length, IfOk, false, ◌++◌, ◌∷◌, [], OnOk, OnErr};
-ghost use Rattle.lgm_graph.specs.Fee.{fee_of};
 ghost use Rattle.lgm_graph.specs.Graph.{edges, edges_leaving};
 ghost use Rattle.lgm_route.specs.inner.Searching.{number_at};
-ghost use Rattle.lgm_route.specs.inner.Bounding.{AreLow, IsLowered, IsLooked, IsRadius, is_closed};
+ghost use Rattle.lgm_route.specs.inner.Bounding.{AreLowBy, charged, IsLowered, IsLooked, IsRadius, is_closed};
 ghost use Rattle.lgm_route.specs.inner.ForwardState.{IsForwardState, IsSameForwardState, AreNear};
 
-use crate::bounds::Bounds;
+use crate::bounds::{Bounds, Measure};
 use crate::entry::Entry;
 use crate::request::NumberedRequest;
 use lgm_gossip::Scid;
@@ -19,14 +18,16 @@ use std::marker::Model;
 /// The maximum average number of edges that a forward search relaxes per step.
 const EDGES: usize = 40;
 
-/// A search over the edges of a graph, from the payer on, which lowers the fees to nodes.
+/// A search over the edges of a graph, from the payer on, which lowers the fees to nodes, or the delays: whatever it
+/// measures is called fees here.
 ///
 /// A node is closed once the edges out of it were relaxed, and opened again when the fees to it fall.
 #[derive(Drop)]
 pub(crate) struct ForwardSearch<'a, V: RoutingGraph> {
     view: &'a V,
     request: &'a NumberedRequest,
-    /// The fees to each node, in msat, or 2^64 - 1 if the search hasn't reached it.
+    measure: Measure,
+    /// The fees to each node, or 2^64 - 1 if the search hasn't reached it.
     dist: Vec<u64>,
     closed: Vec<bool>,
     reached_nodes: ReachedNodes,
@@ -37,10 +38,10 @@ impl<'a, V: RoutingGraph> Model for ForwardSearch<'a, V> {
 
     ghost Value = { ForwardState };
 
-    ghost view = { λ p. forward_state (V.graph p.view.now) p.request.now p.dist.items p.closed.items p.reached_nodes.reached.items };
+    ghost view = { λ p. forward_state (V.graph p.view.now) p.request.now p.measure p.dist.items p.closed.items p.reached_nodes.reached.items };
 
     ghost invariant = { λ p. IsForwardState
-        (forward_state (V.graph p.view.now) p.request.now p.dist.items p.closed.items p.reached_nodes.reached.items) };
+        (forward_state (V.graph p.view.now) p.request.now p.measure p.dist.items p.closed.items p.reached_nodes.reached.items) };
 }
 
 /// Lowers the fees to a node, which is then open again.
@@ -59,16 +60,19 @@ fn lower_at(dist: &mut Vec<u64>, closed: &mut Vec<bool>, node: usize, amount: u1
     true
 }
 
-/// The fee of an edge for the request's amount, or 0 if the edge is the payer's own.
-fn charge(request: &NumberedRequest, edge: &Edge) -> u128
+/// What an edge adds: its fee for the request's amount or its delay, or 0 if the edge is the payer's own.
+#[inline(always)]
+fn charge(measure: Measure, request: &NumberedRequest, edge: &Edge) -> u128
     ensures first { edge.now.from ≡ request.now.payer → result ≡ 0 }
-    ensures most { result ≤ fee_of request.now.amount edge.now.base edge.now.millionths }
+    ensures most { result ≤ charged measure request.now edge.now }
     ensures low { result < 2 ^ 97 }
 {
     if edge.from == request.payer {
-        0
-    } else {
-        fee(request.amount, edge.base, edge.millionths)
+        return 0;
+    }
+    match measure {
+        Measure::Fees => fee(request.amount, edge.base, edge.millionths),
+        Measure::Delays => request.counted(edge) as u128,
     }
 }
 
@@ -114,14 +118,17 @@ impl<'a, V: RoutingGraph> ForwardSearch<'a, V> {
         alloc: Global,
         view: &'a V,
         request: &'a NumberedRequest,
+        measure: Measure,
     ) -> Result<ForwardSearch<'a, V>, AllocError>
         ensures view { IfOk result (λ pass. pass.graph ≡ V.graph view.entry.now) }
         ensures request { IfOk result (λ pass. pass.request ≡ request.entry.now) }
+        ensures measure { IfOk result (λ pass. pass.measure ≡ measure) }
     {
         let nodes = view.nodes();
         Ok(ForwardSearch {
             view,
             request,
+            measure,
             dist: first_fees(alloc, nodes, request.payer)?,
             closed: none_closed(alloc, nodes)?,
             reached_nodes: ReachedNodes::new(alloc, nodes, request.payer)?,
@@ -176,17 +183,18 @@ impl<'a, V: RoutingGraph> ForwardSearch<'a, V> {
     /// Relaxes an edge out of a node to which these fees lead: lowers the fees to its end.
     fn look(&mut self, edge: &Edge, start: u64) -> Result<(), AllocError>
         ensures same { IsSameForwardState self.old self.new }
-        ensures looked { IfOk result (λ _. IsLooked self.old.request start edge.now
+        ensures looked { IfOk result (λ _. IsLooked self.old.measure self.old.request start edge.now
             self.old.dist self.old.closed self.new.dist self.new.closed) }
     {
         let request = self.request;
         if request.amount < edge.min
             || edge.max < request.amount
+            || request.is_beyond(edge)
             || self.dist.len() <= edge.to as usize
         {
             return Ok(());
         }
-        if self.lower(edge.to, start as u128 + charge(request, edge))? {
+        if self.lower(edge.to, start as u128 + charge(self.measure, request, edge))? {
             self.queue(edge.to, edge.scid)?;
         }
         Ok(())
@@ -261,7 +269,7 @@ impl<'a, V: RoutingGraph> ForwardSearch<'a, V> {
     /// The fees, which up to the least of an open node are lower bounds.
     pub(crate) fn into_bounds(self) -> Bounds
         ensures long { length result ≡ length self.entry.graph.points }
-        ensures low { AreLow (edges self.entry.graph) self.entry.request result }
+        ensures low { AreLowBy self.entry.measure (edges self.entry.graph) self.entry.request result }
     {
         let radius = self.radius();
         let ForwardSearch {

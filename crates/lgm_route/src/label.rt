@@ -20,7 +20,9 @@ pub(crate) struct Label {
     /// The node at which the rest begins.
     pub node: u32,
     /// The number of edges.
-    pub hops: u32,
+    pub hops: u16,
+    /// The delay, in blocks that count.
+    pub delay: u16,
 }
 
 /// The first edge of a label.
@@ -80,7 +82,7 @@ pub(crate) fn dominates<V: RoutingGraph>(
     requires also { IsSpelled (V.graph view.now) labels.now other.now }
     ensures { result ≡ true → DoesDominate (V.graph view.now) labels.now label.now other.now }
 {
-    if other.hops < label.hops || other.amount < label.amount {
+    if other.hops < label.hops || other.amount < label.amount || other.delay < label.delay {
         false
     } else if label.amount < other.amount || label.hops < other.hops {
         true

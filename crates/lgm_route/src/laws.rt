@@ -2,6 +2,7 @@
 
 ghost use Rattle.lgm_route.specs.Choice.{AnswerIsOne};
 ghost use Rattle.lgm_route.specs.Routes.{LeastIsOne, NarrowingNeverHelps};
+ghost use Rattle.lgm_route.specs.Within.{AnswerWithinIsOne};
 
 /// A law of routes, stated by the contract; the call does nothing.
 ///
@@ -17,6 +18,14 @@ pub fn least_is_one()
 /// exhaustive search.
 pub fn answer_is_one()
     ensures { AnswerIsOne }
+{}
+
+/// A law of routes, stated by the contract; the call does nothing.
+///
+/// If two edges with one id from one node are the same, or lead back to it, a request has exactly one answer within a
+/// limit of the delay: that of exhaustive search.
+pub fn answer_within_is_one()
+    ensures { AnswerWithinIsOne }
 {}
 
 /// A law of routes, stated by the contract; the call does nothing.

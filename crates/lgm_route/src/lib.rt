@@ -20,10 +20,12 @@ mod queue;
 mod relaxation;
 mod request;
 mod search;
+mod within;
 
-pub use answers::{answer, answer_chunked, answer_over, answer_over_chunked};
+pub use answers::{answer, answer_chunked, answer_over, answer_over_chunked, answer_within};
 pub use best_route::{least, least_chunked, least_in, least_pooled, least_pooled_in};
 pub use fault::RouteFault;
-pub use laws::{answer_is_one, least_is_one, narrowing_never_helps};
+pub use laws::{answer_is_one, answer_within_is_one, least_is_one, narrowing_never_helps};
 pub use lgm_graph::{Hop, Route, RoutingGraph};
 pub use request::Request;
+pub use within::{DelayLimit, LimitedFault, least_within};

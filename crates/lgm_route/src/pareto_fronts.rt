@@ -9,10 +9,8 @@ use crate::request::NumberedRequest;
 use lgm_graph::RoutingGraph;
 use std::alloc::{AllocError, Global};
 
-/// The maximum number of labels in a front: no two have the same number of edges.
-const MOST: usize = 20;
-
-/// For each node the Pareto front of its labels: the indices of the undominated ones, the latest first. An index that
+/// For each node the Pareto front of its labels: the indices of the undominated ones, the latest first. Without a limit
+/// of the delay these are at most 20, since no two have the same number of edges. An index that
 /// is no label of the node ends the list. No contract depends on the fronts: whoever takes an index checks that its
 /// label dominates.
 #[derive(Drop)]
@@ -77,7 +75,7 @@ impl ParetoFronts {
         ensures { IfSome result (λ place. IsDominator (V.graph view.now) labels.now label.now place) }
     {
         let mut place = self.first_of(label.node as usize);
-        for _step in 0..MOST {
+        for _step in 0..labels.len() {
             if labels.len() <= place || labels[place].node != label.node {
                 return None;
             }
@@ -107,7 +105,7 @@ impl ParetoFronts {
             self.first[node] = kept(here);
         }
         let mut last = here;
-        for _step in 0..MOST {
+        for _step in 0..labels.len() {
             if labels.len() <= place || labels[place].node != new.node {
                 break;
             }
@@ -122,12 +120,13 @@ impl ParetoFronts {
     }
 }
 
-/// Adds a label, unless it is dominated.
+/// Adds a label, unless it is dominated. More than this many labels count as out of memory.
 pub(crate) fn offer<V: RoutingGraph>(
     view: &V,
     request: &NumberedRequest,
     labels: &mut Vec<Label>,
     fronts: &mut ParetoFronts,
+    most: usize,
     new: Label,
 ) -> Result<(), AllocError>
     requires labelled { AreLabels (V.graph view.now) request.now labels.old.items }
@@ -140,6 +139,9 @@ pub(crate) fn offer<V: RoutingGraph>(
     match fronts.find_dominator(view, labels, &new) {
         Some(_place) => Ok(()),
         None => {
+            if most <= labels.len() {
+                return Err(AllocError);
+            }
             fronts.add(view, labels, &new)?;
             labels.push(new)?;
             Ok(())

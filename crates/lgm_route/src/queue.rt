@@ -49,8 +49,7 @@ impl Queue {
                 break;
             }
             let excess_lower_bound = search.excess_lower_bound(i);
-            self.heap
-                .push(Entry::new(excess_lower_bound, search.label(i).hops, i))?;
+            self.heap.push(Entry::new(excess_lower_bound, search.label(i).hops as u32, i))?;
             self.dives.dive(search, i, excess_lower_bound)?;
         }
         Ok(())
@@ -92,7 +91,7 @@ impl Queue {
     fn is_next_level_with<V: RoutingGraph>(&self, search: &Search<'_, V>, i: usize) -> bool
         requires { i < length search.now.labels }
     {
-        let entry = Entry::new(search.excess_lower_bound(i), search.label(i).hops, i);
+        let entry = Entry::new(search.excess_lower_bound(i), search.label(i).hops as u32, i);
         match self.heap.peek() {
             Some(next) => next.is_level_with(entry),
             None => false,

@@ -11,11 +11,11 @@ use lgm_graph::{Edge, RoutingGraph, fee};
 use std::alloc::AllocError;
 
 /// The maximum number of edges of a rest that is extended to a longer one.
-const MOST_EDGES: u32 = 19;
+const MOST_EDGES: u16 = 19;
 
 impl<'a, V: RoutingGraph> Search<'a, V> {
     /// The relaxation of a label over one edge into its node: a whole walk if the edge is the payer's, else a longer
-    /// rest. None if the edge can't carry it, or if a longer rest would be too long or is pruned.
+    /// rest. None if the edge can't carry it, or if a longer rest would be too long, or its walks beyond the limit, or is pruned.
     #[inline(always)]
     pub(crate) fn relaxation(
         &self,
@@ -41,6 +41,7 @@ impl<'a, V: RoutingGraph> Search<'a, V> {
                 at,
                 node: edge.from,
                 hops: label.hops + 1,
+                delay: label.delay,
             });
         }
         if label.hops >= MOST_EDGES {
@@ -54,12 +55,14 @@ impl<'a, V: RoutingGraph> Search<'a, V> {
         if self.bound() <= least || amount >= 1 << 64 {
             return None;
         }
+        let delay = request.delay_over(label.delay, edge, self.least_delay(edge.from))?;
         Some(Label {
             amount: amount as u64,
             parent: i,
             at,
             node: edge.from,
             hops: label.hops + 1,
+            delay,
         })
     }
 

@@ -1,10 +1,13 @@
 //! Payment requests.
 
-ghost use Rattle.std.specs.Prelude.{◌≡◌};
+ghost use Rattle.std.specs.Prelude.{◌≡◌, false};
 ghost use Rattle.lgm_route.specs.Answers.{refusal};
+ghost use Rattle.lgm_route.specs.inner.Numbered.{counted, IsDelayOver};
+ghost use Rattle.lgm_route.specs.inner.Bounding.{MayCarry};
 
 use crate::fault::RouteFault;
 use lgm_gossip::Point;
+use lgm_graph::Edge;
 
 /// The greatest amount of a payment, in msat.
 const MOST_AMOUNT: u64 = 2_100_000_000_000_000_000;
@@ -44,7 +47,8 @@ impl Request {
     }
 }
 
-/// A [`Request`](crate::Request) as a search reads it: with the node indices of payer and payee in a view.
+/// A [`Request`](crate::Request) as a search reads it: with the node indices of payer and payee in a view, and maybe a
+/// limit of the delay.
 #[derive(Clone, Copy)]
 pub(crate) struct NumberedRequest {
     /// The index of the node that pays.
@@ -53,4 +57,49 @@ pub(crate) struct NumberedRequest {
     pub payee: u32,
     /// What the payee receives, in msat.
     pub amount: u64,
+    /// The maximum delay, in blocks: the sum of `cltv_expiry_delta` of all channels but the first. Without one, no
+    /// channel's delay counts.
+    pub limit: Option<u16>,
+}
+
+impl NumberedRequest {
+    /// The blocks of an edge that count.
+    #[inline(always)]
+    pub(crate) fn counted(&self, edge: &Edge) -> u16
+        ensures { result ≡ counted self.now.limit edge.now }
+    {
+        match self.limit {
+            None => 0,
+            Some(_limit) => edge.delta,
+        }
+    }
+
+    /// Whether an edge alone is beyond the limit. The payer's own adds no delay.
+    #[inline(always)]
+    pub(crate) fn is_beyond(&self, edge: &Edge) -> bool
+        ensures { MayCarry self.now edge.now → result ≡ false }
+    {
+        match self.limit {
+            None => false,
+            Some(limit) => limit < edge.delta && edge.from != self.payer,
+        }
+    }
+
+    /// The delay of a rest with one more edge, if with what leads to that edge it can be within the limit.
+    #[inline(always)]
+    pub(crate) fn delay_over(&self, delay: u16, edge: &Edge, least: u64) -> Option<u16>
+        ensures { IsDelayOver self.now.limit delay edge.now least result }
+    {
+        match self.limit {
+            None => Some(delay),
+            Some(limit) => {
+                let longer = delay as u128 + edge.delta as u128;
+                if (limit as u128) < longer + least as u128 {
+                    None
+                } else {
+                    Some(longer as u16)
+                }
+            }
+        }
+    }
 }

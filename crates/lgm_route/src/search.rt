@@ -1,6 +1,6 @@
 //! The search for the best walk as one value.
 
-ghost use Rattle.std.specs.Prelude.{◌≡◌, ◌^◌, ◌<◌, ◌≤◌, length, IfOk, false, slice_index_or, ◌+◌, ◌*◌};
+ghost use Rattle.std.specs.Prelude.{◌≡◌, ◌^◌, ◌-◌, ◌<◌, ◌≤◌, length, IfOk, true, false, slice_index_or, ◌+◌, ◌*◌};
 ghost use Rattle.lgm_graph.specs.Graph.{edges, edges_into, AreListed};
 ghost use Rattle.lgm_route.specs.inner.Bounding.{AreLow};
 ghost use Rattle.lgm_route.specs.inner.Searching.{label_at, number_at, SomeRest, SomeWalk, IsOffered, IsBetter};
@@ -9,7 +9,7 @@ ghost use Rattle.lgm_route.specs.inner.State.{IsSearch, Extends, IsSettledAt, Is
 ghost use Rattle.lgm_route.specs.inner.Best.{IsBestWalk};
 ghost use Rattle.std.specs.Option.{option_map};
 
-use crate::bounds::Bounds;
+use crate::bounds::LowerBounds;
 use crate::hops::rebuild;
 use crate::label::{Label, bound_of, cost, is_better};
 use crate::pareto_fronts::{ParetoFronts, mark, offer};
@@ -32,7 +32,7 @@ use std::marker::Model;
 pub(crate) struct Search<'a, V: RoutingGraph> {
     view: &'a V,
     request: NumberedRequest,
-    low: Bounds,
+    low: LowerBounds,
     /// An upper bound: some usable walk sends less, in msat, if there is one.
     upper_bound: u128,
     labels: Vec<Label>,
@@ -41,6 +41,8 @@ pub(crate) struct Search<'a, V: RoutingGraph> {
     fronts: ParetoFronts,
     /// Which labels are settled.
     done: Vec<bool>,
+    /// The maximum number of labels: more count as out of memory. No contract depends on it.
+    most_labels: usize,
 }
 
 impl<'a, V: RoutingGraph> Model for Search<'a, V> {
@@ -57,7 +59,7 @@ impl<'a, V: RoutingGraph> Model for Search<'a, V> {
 /// The label without edges.
 fn at_payee(request: &NumberedRequest) -> Label
     ensures { result
-        ≡ record { amount = request.now.amount; parent = 0; at = 0; node = request.now.payee; hops = 0 } }
+        ≡ record { amount = request.now.amount; parent = 0; at = 0; node = request.now.payee; hops = 0; delay = 0 } }
 {
     Label {
         amount: request.amount,
@@ -65,6 +67,7 @@ fn at_payee(request: &NumberedRequest) -> Label
         at: 0,
         node: request.payee,
         hops: 0,
+        delay: 0,
     }
 }
 
@@ -74,17 +77,18 @@ impl<'a, V: RoutingGraph> Search<'a, V> {
         alloc: Global,
         view: &'a V,
         request: NumberedRequest,
-        low: Bounds,
+        low: LowerBounds,
         upper_bound: u128,
+        most_labels: usize,
     ) -> Result<Search<'a, V>, AllocError>
         requires listed { AreListed (V.graph view.now) }
-        requires long { length low ≡ length (V.graph view.now).points }
+        requires long { length low.fees ≡ length (V.graph view.now).points }
         requires low { AreLow (edges (V.graph view.now)) request low }
         requires small { upper_bound ≤ 2 ^ 64 }
         ensures { IfOk result (λ search. search.ground
             ≡ record { graph = V.graph view.entry.now; request = request; low = low; upper_bound = upper_bound }) }
     {
-        let fronts = ParetoFronts::new(alloc, low.len())?;
+        let fronts = ParetoFronts::new(alloc, low.fees.len())?;
         let mut labels = Vec::new(alloc);
         labels.push(at_payee(&request))?;
         Ok(Search {
@@ -96,6 +100,7 @@ impl<'a, V: RoutingGraph> Search<'a, V> {
             best: None,
             fronts,
             done: Vec::new(alloc),
+            most_labels,
         })
     }
 
@@ -142,19 +147,27 @@ impl<'a, V: RoutingGraph> Search<'a, V> {
     /// A lower bound on the fees from the payer to a node, in msat.
     #[inline(always)]
     pub(crate) fn lower_bound(&self, node: u32) -> u64
-        ensures { result ≡ number_at self.now.ground.low node }
+        ensures { result ≡ number_at self.now.ground.low.fees node }
     {
-        self.low.at(node)
+        self.low.fees.at(node)
+    }
+
+    /// A lower bound on the delays from the payer to a node, in blocks that count.
+    #[inline(always)]
+    pub(crate) fn least_delay(&self, node: u32) -> u64
+        ensures { result ≡ number_at self.now.ground.low.delays node }
+    {
+        self.low.delays.at(node)
     }
 
     /// The channel to a node on the cheapest way from the payer, if the node is near the payer.
     pub(crate) fn channel_to(&self, node: u32) -> Option<Scid> {
-        self.low.channel_to(node)
+        self.low.fees.channel_to(node)
     }
 
     /// Whether a node is near the payer: then the forward search found a way to it.
     pub(crate) fn is_near(&self, node: u32) -> bool {
-        self.low.channel_to(node).is_some()
+        self.low.fees.channel_to(node).is_some()
     }
 
     /// The cost that a better walk is below.
@@ -164,6 +177,14 @@ impl<'a, V: RoutingGraph> Search<'a, V> {
         ensures low { result ≤ 2 ^ 70 }
     {
         bound_of(self.upper_bound, &self.best)
+    }
+
+    /// Whether the search has as many labels as it may, if there is a maximum.
+    pub(crate) fn is_full(&self, most_labels: usize) -> bool
+        ensures bounded { result ≡ true → most_labels < 2 ^ 64 - 1 }
+        ensures full { result ≡ true → most_labels ≤ length self.now.labels }
+    {
+        most_labels < usize::MAX && most_labels <= self.labels.len()
     }
 
     /// Whether some walk was found.
@@ -211,6 +232,7 @@ impl<'a, V: RoutingGraph> Search<'a, V> {
             &self.request,
             &mut self.labels,
             &mut self.fronts,
+            self.most_labels,
             new,
         )?;
         Ok(())
@@ -272,7 +294,7 @@ impl<'a, V: RoutingGraph> Search<'a, V> {
     #[inline(always)]
     pub(crate) fn cost_lower_bound(&self, label: &Label) -> u128
         ensures { result
-            ≡ cost (label.now.amount + number_at self.now.ground.low label.now.node) label.now.hops }
+            ≡ cost (label.now.amount + number_at self.now.ground.low.fees label.now.node) label.now.hops }
     {
         cost(
             label.amount as u128 + self.lower_bound(label.node) as u128,

@@ -1,5 +1,5 @@
 -- The result of the search: the best walk over numbered edges, whose amount fits 64 bits.
-use Rattle.std.specs.Prelude.{◌≡◌, ℕ, ◌<◌, ◌^◌, List, Option, Some, None, map, length, slice_index_or}
+use Rattle.std.specs.Prelude.{◌≡◌, ℕ, ◌<◌, ◌≤◌, ◌^◌, List, Option, Some, None, Result, map, length, slice_index_or}
 use Rattle.std.specs.List.{AllByRecursion, position}
 use Rattle.lgm_wire.specs.declared.point.Point.{Point}
 use Rattle.lgm_graph.specs.Edges.{PointEdge}
@@ -10,7 +10,10 @@ use Rattle.lgm_route.specs.declared.request.Request.{Request}
 use Rattle.lgm_graph.specs.declared.route.Hop.{Hop}
 use Rattle.lgm_route.specs.declared.request.NumberedRequest.{NumberedRequest}
 use Rattle.lgm_route.specs.inner.Numbered.{sent, IsUsable, IsLeast}
+use Rattle.lgm_route.specs.declared.fault.RouteFault.{RouteFault}
 use Rattle.lgm_route.specs.Routes as routes
+use Rattle.lgm_route.specs.Answers.{IsFoundOver, IsAnswer}
+use Rattle.lgm_route.specs.Within as within
 
 abbrev pub IsBestWalk : List Edge → NumberedRequest → Option (List Edge) → Type 0
 IsBestWalk edges request None = (walk : List Edge) → IsUsable edges request walk → ⊥
@@ -39,10 +42,41 @@ abbrev pub AreNumbered : Graph → List Edge → Type 0
 AreNumbered graph walk =
     AllByRecursion (λ edge. (edge.from < length graph.points) × (edge.to < length graph.points)) walk
 
+-- the walk is within the limit, if there is one
+abbrev pub IsInTime : Option ℕ → List PointEdge → Type 0
+IsInTime None walk = Unit {0}
+IsInTime (Some limit) walk = within.delay walk ≤ limit
+
+-- a usable walk, within the limit if there is one
+abbrev pub IsUsableFor : Option ℕ → List PointEdge → Request → List PointEdge → Type 0
+IsUsableFor None edges request walk = routes.IsUsable edges request walk
+IsUsableFor (Some limit) edges request walk = within.IsUsableWithin edges request limit walk
+
+-- the best of these
+abbrev pub IsLeastFor : Option ℕ → List PointEdge → Request → List PointEdge → Type 0
+IsLeastFor None edges request walk = routes.IsLeast edges request walk
+IsLeastFor (Some limit) edges request walk = within.IsLeastWithin edges request limit walk
+
+-- its hops, or none if there is no such walk
+abbrev pub IsBestFor : Option ℕ → List PointEdge → Request → Option (List Hop) → Type 0
+IsBestFor limit edges request None = (walk : List PointEdge) → IsUsableFor limit edges request walk → ⊥
+IsBestFor limit edges request (Some hops) =
+    (walk : List PointEdge) × IsLeastFor limit edges request walk × (hops ≡ routes.hops_of request walk)
+
+-- what is found, within the limit if there is one
+abbrev pub IsFoundFor : Option ℕ → List PointEdge → Request → Result (List Hop) RouteFault → Type 0
+IsFoundFor None edges request answer = IsFoundOver edges request answer
+IsFoundFor (Some limit) edges request answer = within.IsFoundWithin limit edges request answer
+
+abbrev pub IsAnswerFor : Option ℕ → List PointEdge → Request → Result (List Hop) RouteFault → Type 0
+IsAnswerFor None edges request answer = IsAnswer edges request answer
+IsAnswerFor (Some limit) edges request answer = within.IsAnswerWithin limit edges request answer
+
 -- a request between numbered nodes, or none, if a node has no number and so no walk is usable
-abbrev pub IsNumberingOf : Graph → Request → Option NumberedRequest → Type 0
-IsNumberingOf graph request None = (walk : List PointEdge) → routes.IsUsable (point_edges graph) request walk → ⊥
-IsNumberingOf graph request (Some numbered) =
+abbrev pub IsNumberingOf : Graph → Request → Option ℕ → Option NumberedRequest → Type 0
+IsNumberingOf graph request limit None =
+    (walk : List PointEdge) → routes.IsUsable (point_edges graph) request walk → ⊥
+IsNumberingOf graph request limit (Some numbered) =
     (position (is_point request.payer) graph.points ≡ Some numbered.payer)
     × (position (is_point request.payee) graph.points ≡ Some numbered.payee) ×
-    (numbered ≡ record { payer = numbered.payer; payee = numbered.payee; amount = request.amount })
+    (numbered ≡ record { payer = numbered.payer; payee = numbered.payee; amount = request.amount; limit = limit })

@@ -1,17 +1,36 @@
--- Lower bounds on the fees from the payer to each node, and the forward search that computes them.
+-- Lower bounds on the fees and the delays from the payer to each node, and the forward search that computes them.
 use Rattle.std.specs.Prelude.{◌≡◌, ◌⊎◌, ℕ, ◌+◌, ◌^◌, ◌-◌, ◌<◌, ◌≤◌, min, List, length}
 use Rattle.std.specs.Prelude.{map, Contains, Bool, true, slice_index_or, false}
 use Rattle.lgm_graph.specs.Fee.{fee_of}
 use Rattle.lgm_graph.specs.declared.edge.Edge.{Edge}
+use Rattle.lgm_route.specs.declared.bounds.Measure.{Measure}
+use Rattle.lgm_route.specs.declared.bounds.Measure.TheVariants.{Fees, Delays}
 use Rattle.lgm_route.specs.declared.request.NumberedRequest.{NumberedRequest}
-use Rattle.lgm_route.specs.inner.Searching.{number_at}
+use Rattle.lgm_route.specs.inner.Numbered.{counted, most_delay}
+use Rattle.lgm_route.specs.inner.Searching.{Low, number_at}
 
--- lower bounds on what is charged from the payer to each node: over an edge they grow by at most its fee
-pub record AreLow (edges : List Edge) (request : NumberedRequest) (low : List ℕ) : Type 0 where
-  pub rises : (edge : Edge) → Contains edges edge → edge.min ≤ request.amount → request.amount ≤ edge.max →
-      number_at low edge.to ≤ number_at low edge.from + fee_of request.amount edge.base edge.millionths
-  pub none : (edge : Edge) → Contains edges edge → edge.min ≤ request.amount → request.amount ≤ edge.max
+-- what an edge adds: its fee for the request's amount, or the blocks of it that count
+abbrev pub charged : Measure → NumberedRequest → Edge → ℕ
+charged Fees request edge = fee_of request.amount edge.base edge.millionths
+charged Delays request edge = counted request.limit edge
+
+-- an edge that can carry the amount. Unless it is the payer's own, it isn't beyond the limit alone
+pub record MayCarry (request : NumberedRequest) (edge : Edge) : Type 0 where
+  pub above_min : edge.min ≤ request.amount
+  pub below_max : request.amount ≤ edge.max
+  pub quick : (edge.from ≡ request.payer) ⊎ (counted request.limit edge ≤ most_delay request.limit)
+
+-- lower bounds on what is added from the payer to each node: over an edge they grow by at most what it adds
+pub record AreLowBy (measure : Measure) (edges : List Edge) (request : NumberedRequest) (low : List ℕ) : Type 0 where
+  pub rises : (edge : Edge) → Contains edges edge → MayCarry request edge →
+      number_at low edge.to ≤ number_at low edge.from + charged measure request edge
+  pub none : (edge : Edge) → Contains edges edge → MayCarry request edge
       → edge.from ≡ request.payer → number_at low edge.to ≡ 0
+
+-- lower bounds on the fees, and on the delays that count
+pub record AreLow (edges : List Edge) (request : NumberedRequest) (low : Low) : Type 0 where
+  pub fees : AreLowBy Fees edges request low.fees
+  pub delays : AreLowBy Delays edges request low.delays
 
 abbrev pub is_closed : List Bool → ℕ → Bool
 is_closed closed node = slice_index_or closed node false
@@ -26,31 +45,27 @@ pub record IsLowered (dist : List ℕ) (closed : List Bool) (node amount : ℕ) 
   pub still : (other : ℕ) → is_closed now other ≡ true
       → (is_closed closed other ≡ true) × (number_at after other ≡ number_at dist other)
 
--- over the edges out of a closed node the fees grow by at most the edge's fee, and from the payer by nothing
-pub record IsSpread (edges : List Edge) (request : NumberedRequest) (dist : List ℕ)
+-- over the edges out of a closed node the fees grow by at most what the edge adds, and from the payer by nothing
+pub record IsSpread (measure : Measure) (edges : List Edge) (request : NumberedRequest) (dist : List ℕ)
     (closed : List Bool) : Type 0 where
-  pub near : (edge : Edge) → Contains edges edge → is_closed closed edge.from ≡ true
-      → edge.min ≤ request.amount → request.amount ≤ edge.max →
-      number_at dist edge.to ≤ number_at dist edge.from + fee_of request.amount edge.base edge.millionths
-  pub first : (edge : Edge) → Contains edges edge → is_closed closed edge.from ≡ true
-      → edge.min ≤ request.amount → request.amount ≤ edge.max →
+  pub near : (edge : Edge) → Contains edges edge → is_closed closed edge.from ≡ true → MayCarry request edge →
+      number_at dist edge.to ≤ number_at dist edge.from + charged measure request edge
+  pub first : (edge : Edge) → Contains edges edge → is_closed closed edge.from ≡ true → MayCarry request edge →
       edge.from ≡ request.payer → number_at dist edge.to ≤ 0
   pub payer : number_at dist request.payer ≡ 0
 
--- the fees to the edge's end are at most those to its start plus its fee, which is 0 from the payer
-pub record IsNear (request : NumberedRequest) (start nodes : ℕ) (dist : List ℕ) (edge : Edge) : Type 0 where
-  pub over : edge.to < nodes → edge.min ≤ request.amount → request.amount ≤ edge.max
-      → number_at dist edge.to ≤ start + fee_of request.amount edge.base edge.millionths
-  pub first : edge.to < nodes → edge.min ≤ request.amount → request.amount ≤ edge.max
-      → edge.from ≡ request.payer → number_at dist edge.to ≤ start
+-- the fees to the edge's end are at most those to its start and what the edge adds, which is 0 from the payer
+pub record IsNear (measure : Measure) (request : NumberedRequest) (start nodes : ℕ) (dist : List ℕ) (edge : Edge) : Type 0 where
+  pub over : edge.to < nodes → MayCarry request edge → number_at dist edge.to ≤ start + charged measure request edge
+  pub first : edge.to < nodes → MayCarry request edge → edge.from ≡ request.payer → number_at dist edge.to ≤ start
 
 -- the effect of relaxing an edge
-pub record IsLooked (request : NumberedRequest) (start : ℕ) (edge : Edge) (dist : List ℕ) (closed : List Bool)
+pub record IsLooked (measure : Measure) (request : NumberedRequest) (start : ℕ) (edge : Edge) (dist : List ℕ) (closed : List Bool)
     (after : List ℕ) (now : List Bool) : Type 0 where
   pub falls : (other : ℕ) → number_at after other ≤ number_at dist other
-  pub keeps : (edges : List Edge) → IsSpread edges request dist closed → IsSpread edges request after now
+  pub keeps : (edges : List Edge) → IsSpread measure edges request dist closed → IsSpread measure edges request after now
   pub stays : (at : ℕ) → start ≤ number_at dist at → start ≤ number_at after at
-  pub near : IsNear request start (length dist) after edge
+  pub near : IsNear measure request start (length dist) after edge
 
 abbrev pub IsRadius : List ℕ → List Bool → ℕ → Type 0
 IsRadius dist closed most =

@@ -1,22 +1,25 @@
 -- A forward search from the payer as one value, and its invariant.
 use Rattle.std.specs.Prelude.{◌≡◌, ℕ, ◌<◌, List, length, Bool}
 use Rattle.lgm_graph.specs.Graph.{Graph, edges, edges_leaving, AreListed}
+use Rattle.lgm_route.specs.declared.bounds.Measure.{Measure}
 use Rattle.lgm_route.specs.declared.request.NumberedRequest.{NumberedRequest}
 use Rattle.lgm_route.specs.inner.Searching.{number_at, edge_at}
 use Rattle.lgm_route.specs.inner.Bounding.{IsSpread, IsNear, AreReached}
 
--- the edges and the request, the fees to each node, which nodes are closed, and which were reached
+-- the edges and the request, what is measured, the fees to each node, which nodes are closed, and which were reached
 pub record ForwardState : Type 0 where
   pub graph : Graph
   pub request : NumberedRequest
+  pub measure : Measure
   pub dist : List ℕ
   pub closed : List Bool
   pub reached : List ℕ
 
-abbrev pub forward_state : Graph → NumberedRequest → List ℕ → List Bool → List ℕ → ForwardState
-forward_state graph request dist closed reached = record {
+abbrev pub forward_state : Graph → NumberedRequest → Measure → List ℕ → List Bool → List ℕ → ForwardState
+forward_state graph request measure dist closed reached = record {
   graph = graph;
   request = request;
+  measure = measure;
   dist = dist;
   closed = closed;
   reached = reached;
@@ -27,17 +30,18 @@ pub record IsForwardState (pass : ForwardState) : Type 0 where
   pub listed : AreListed pass.graph
   pub nodes : length pass.graph.points ≡ length pass.dist
   pub long : length pass.closed ≡ length pass.dist
-  pub spread : IsSpread (edges pass.graph) pass.request pass.dist pass.closed
+  pub spread : IsSpread pass.measure (edges pass.graph) pass.request pass.dist pass.closed
   pub reached : AreReached pass.dist pass.reached
 
--- a forward search over the same edges for the same request
+-- a forward search over the same edges for the same request and measure
 pub record IsSameForwardState (before after : ForwardState) : Type 0 where
   pub graph : after.graph ≡ before.graph
   pub request : after.request ≡ before.request
+  pub measure : after.measure ≡ before.measure
   pub long : length after.dist ≡ length before.dist
 
 -- the edges out of a node were relaxed
 abbrev pub AreNear : ForwardState → ℕ → Type 0
 AreNear pass node = (j : ℕ) → j < length (edges_leaving pass.graph node)
-    → IsNear pass.request (number_at pass.dist node) (length pass.dist) pass.dist
+    → IsNear pass.measure pass.request (number_at pass.dist node) (length pass.dist) pass.dist
     (edge_at (edges_leaving pass.graph node) j)

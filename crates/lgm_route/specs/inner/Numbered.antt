@@ -1,5 +1,5 @@
 -- Walks over edges between numbered nodes: as in Routes, for the search.
-use Rattle.std.specs.Prelude.{◌≡◌, ℕ, ◌+◌, ◌≤◌, List, [], ◌∷◌, length, map, Contains}
+use Rattle.std.specs.Prelude.{◌≡◌, ℕ, ◌+◌, ◌<◌, ◌≤◌, List, [], ◌∷◌, length, map, Contains, Option, Some, None}
 use Rattle.std.specs.declared.cmp.Ordering.TheVariants.{Less}
 use Rattle.std.specs.Ordering.{nat_cmp}
 use Rattle.std.specs.Cmp.Lexicographic.{slice_cmp}
@@ -18,6 +18,32 @@ abbrev pub sent : ℕ → List Edge → ℕ
 sent amount [] = amount
 sent amount (edge ∷ rest) = owed amount rest
 
+-- the blocks of an edge that count: none without a limit
+abbrev pub counted : Option ℕ → Edge → ℕ
+counted None edge = 0
+counted (Some limit) edge = edge.delta
+
+-- the greatest delay, in blocks that count
+abbrev pub most_delay : Option ℕ → ℕ
+most_delay None = 0
+most_delay (Some limit) = limit
+
+-- the delay of these edges, in blocks that count
+abbrev pub delay : Option ℕ → List Edge → ℕ
+delay limit [] = 0
+delay limit (edge ∷ rest) = delay limit rest + counted limit edge
+
+-- the delay of a walk: the first edge is the payer's own, and adds nothing
+abbrev pub walk_delay : Option ℕ → List Edge → ℕ
+walk_delay limit [] = 0
+walk_delay limit (edge ∷ rest) = delay limit rest
+
+-- the delay of a rest with one more edge, or none if with this delay before it that is beyond the limit
+abbrev pub IsDelayOver : Option ℕ → ℕ → Edge → ℕ → Option ℕ → Type 0
+IsDelayOver limit delay edge before None = most_delay limit < delay + counted limit edge + before
+IsDelayOver limit delay edge before (Some longer) =
+    (longer ≡ delay + counted limit edge) × (delay ≤ most_delay limit → longer ≤ most_delay limit)
+
 -- an edge of the list from the node that can carry what the edges after it need
 pub record IsStep (edges : List Edge) (request : NumberedRequest) (node : ℕ) (edge : Edge)
     (rest : List Edge) : Type 0 where
@@ -32,11 +58,12 @@ IsRest edges request node [] = node ≡ request.payee
 IsRest edges request node (edge ∷ rest) =
     IsStep edges request node edge rest × IsRest edges request edge.to rest
 
--- a walk of 1 to 20 edges, from the payer to the payee
+-- a walk of 1 to 20 edges, from the payer to the payee, within the request's limit
 pub record IsUsable (edges : List Edge) (request : NumberedRequest) (walk : List Edge) : Type 0 where
   pub some : 1 ≤ length walk
   pub few : length walk ≤ 20
   pub joins : IsRest edges request request.payer walk
+  pub in_time : walk_delay request.limit walk ≤ most_delay request.limit
 
 abbrev pub ids : List Edge → List ℕ
 ids walk = map (λ edge. edge.scid) walk

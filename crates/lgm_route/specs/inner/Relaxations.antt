@@ -6,7 +6,8 @@ use Rattle.lgm_graph.specs.Graph.{Graph, edges, edges_into}
 use Rattle.lgm_graph.specs.declared.edge.Edge.{Edge}
 use Rattle.lgm_route.specs.declared.request.NumberedRequest.{NumberedRequest}
 use Rattle.lgm_route.specs.declared.label.Label.{Label}
-use Rattle.lgm_route.specs.inner.Searching.{cost, number_at, label_at, edge_at, first_of, Begins, RelaxesOn}
+use Rattle.lgm_route.specs.inner.Numbered.{counted, most_delay}
+use Rattle.lgm_route.specs.inner.Searching.{Low, cost, number_at, label_at, edge_at, first_of, Begins, RelaxesOn}
 
 -- the edge is the one at the index among those into the label's node
 pub record IsInto (graph : Graph) (labels : List Label) (i at : ℕ) (edge : Edge) : Type 0 where
@@ -15,13 +16,14 @@ pub record IsInto (graph : Graph) (labels : List Label) (i at : ℕ) (edge : Edg
   pub is : edge_at (edges_into graph (label_at labels i).node) at ≡ edge
 
 -- if the edge can carry it, the label needn't be relaxed over it: the edge isn't the payer's, and a longer rest would
--- be too long, or is pruned
-abbrev pub IsNeedless : NumberedRequest → List ℕ → ℕ → Label → Edge → Type 0
+-- be too long, or beyond the limit, or is pruned
+abbrev pub IsNeedless : NumberedRequest → Low → ℕ → Label → Edge → Type 0
 IsNeedless request low bound label edge =
     edge.min ≤ request.amount → label.amount ≤ edge.max →
     (edge.from ≢ request.payer) ×
-    (label.hops < 19 → bound ≤ cost (label.amount + fee_of label.amount edge.base edge.millionths
-    + number_at low edge.from) (label.hops + 1))
+    (label.hops < 19 → label.delay + counted request.limit edge + number_at low.delays edge.from ≤ most_delay request.limit →
+    bound ≤ cost (label.amount + fee_of label.amount edge.base edge.millionths
+    + number_at low.fees edge.from) (label.hops + 1))
 
 -- the label at the index, relaxed over the edge: a walk if that is the payer's, else a longer rest
 pub record IsRelaxationOf (graph : Graph) (request : NumberedRequest) (labels : List Label) (i : ℕ) (edge : Edge)
@@ -40,9 +42,11 @@ pub record IsRelaxationOf (graph : Graph) (request : NumberedRequest) (labels : 
   pub longer : edge.from ≢ request.payer →
       (new.hops ≤ 19)
       × (new.amount ≡ (label_at labels i).amount + fee_of (label_at labels i).amount edge.base edge.millionths)
+      × (new.delay ≡ (label_at labels i).delay + counted request.limit edge)
+      × (new.delay ≤ most_delay request.limit)
 
 -- the relaxation of the label at the index over the edge, if it is needed
-abbrev pub IsRelaxation : Graph → NumberedRequest → List ℕ → ℕ → List Label → ℕ → Edge → Option Label → Type 0
+abbrev pub IsRelaxation : Graph → NumberedRequest → Low → ℕ → List Label → ℕ → Edge → Option Label → Type 0
 IsRelaxation graph request low bound labels i edge None = IsNeedless request low bound (label_at labels i) edge
 IsRelaxation graph request low bound labels i edge (Some new) = IsRelaxationOf graph request labels i edge new
 
@@ -54,7 +58,7 @@ in_list (Some label) = label ∷ []
 -- the relaxation that this label is was applied
 abbrev pub IsTaken : Graph → NumberedRequest → ℕ → List Label → Label → List Label → Option Label → Type 0
 IsTaken graph request upper_bound labels new after now =
-    (low : List ℕ) → RelaxesOn graph request low upper_bound labels new.parent after now (first_of graph labels new)
+    (low : Low) → RelaxesOn graph request low upper_bound labels new.parent after now (first_of graph labels new)
 
 -- one of the labels is a relaxation over the edge
 abbrev pub IsAmong : Graph → List Label → List Label → Edge → Type 0
@@ -62,7 +66,7 @@ IsAmong graph labels relaxations edge =
     (k : ℕ) × (k < length relaxations) × (first_of graph labels (label_at relaxations k) ≡ edge)
 
 -- all relaxations of the label at the index: over each edge into its node for which that is needed
-pub record AreRelaxations (graph : Graph) (request : NumberedRequest) (low : List ℕ) (bound : ℕ)
+pub record AreRelaxations (graph : Graph) (request : NumberedRequest) (low : Low) (bound : ℕ)
     (labels : List Label) (i : ℕ) (relaxations : List Label) : Type 0 where
   pub led : (k : ℕ) → k < length relaxations
       → IsRelaxationOf graph request labels i (first_of graph labels (label_at relaxations k)) (label_at relaxations k)

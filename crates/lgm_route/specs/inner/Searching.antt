@@ -7,7 +7,7 @@ use Rattle.lgm_graph.specs.Graph.{Graph, edges, edges_into}
 use Rattle.lgm_graph.specs.declared.edge.Edge.{Edge}
 use Rattle.lgm_route.specs.declared.request.NumberedRequest.{NumberedRequest}
 use Rattle.lgm_route.specs.declared.label.Label.{Label}
-use Rattle.lgm_route.specs.inner.Numbered.{owed, sent, ids, IsRest, IsUsable}
+use Rattle.lgm_route.specs.inner.Numbered.{owed, sent, ids, delay, walk_delay, most_delay, IsRest, IsUsable}
 
 -- the first list equals the second, or precedes it
 abbrev pub NotAfter : List ℕ → List ℕ → Type 0
@@ -19,9 +19,11 @@ rest_key request rest = owed request.amount rest ∷ length rest ∷ ids rest
 abbrev pub walk_key : NumberedRequest → List Edge → List ℕ
 walk_key request walk = sent request.amount walk ∷ length walk ∷ ids walk
 
--- one rest dominates another: it has no more edges, and doesn't come after it by amount, number of edges and ids
+-- one rest dominates another: it has no more edges and no more delay that counts, and doesn't come after it by amount,
+-- number of edges and ids
 pub record Dominates (request : NumberedRequest) (rest other : List Edge) : Type 0 where
   pub fewer : length rest ≤ length other
+  pub sooner : delay request.limit rest ≤ delay request.limit other
   pub before : NotAfter (rest_key request rest) (rest_key request other)
 
 -- a placeholder if a list has no edge
@@ -43,13 +45,18 @@ abbrev pub edge_at : List Edge → ℕ → Edge
 edge_at edges i = slice_index_or edges i no_edge
 
 abbrev pub no_label : Label
-no_label = record { amount = 0; parent = 0; at = 0; node = 0; hops = 0 }
+no_label = record { amount = 0; parent = 0; at = 0; node = 0; hops = 0; delay = 0 }
 
 abbrev pub label_at : List Label → ℕ → Label
 label_at labels i = slice_index_or labels i no_label
 
 abbrev pub number_at : List ℕ → ℕ → ℕ
 number_at numbers i = slice_index_or numbers i 0
+
+-- lower bounds on the fees from the payer to each node, in msat, and on the delays, in blocks that count
+pub record Low : Type 0 where
+  pub fees : List ℕ
+  pub delays : List ℕ
 
 -- the first edge of a label: the one at its index among those into the node of the label after it
 abbrev pub first_of : Graph → List Label → Label → Edge
@@ -67,13 +74,15 @@ Spells graph labels label (edge ∷ rest) =
     (first_of graph labels label ≡ edge) × Begins graph labels label
     × Spells graph labels (label_at labels label.parent) rest
 
--- the rest that a label represents
+-- the rest that a label represents, within the limit
 pub record IsLabel (graph : Graph) (request : NumberedRequest) (labels : List Label) (label : Label)
     (rest : List Edge) : Type 0 where
   pub spells : Spells graph labels label rest
   pub long : length rest ≡ label.hops
   pub joins : IsRest (edges graph) request label.node rest
   pub owes : owed request.amount rest ≡ label.amount
+  pub waits : delay request.limit rest ≡ label.delay
+  pub in_time : label.delay ≤ most_delay request.limit
 
 -- the walk that a label represents, whose amount is what is sent
 pub record IsWalk (graph : Graph) (request : NumberedRequest) (labels : List Label) (label : Label)
@@ -84,6 +93,7 @@ pub record IsWalk (graph : Graph) (request : NumberedRequest) (labels : List Lab
   pub few : label.hops ≤ 20
   pub joins : IsRest (edges graph) request request.payer walk
   pub sends : sent request.amount walk ≡ label.amount
+  pub in_time : walk_delay request.limit walk ≤ most_delay request.limit
 
 -- a label represents as many edges as its number of hops
 abbrev pub IsSpelled : Graph → List Label → Label → Type 0
@@ -136,29 +146,31 @@ pub record Has (graph : Graph) (request : NumberedRequest) (labels : List Label)
   pub dominates : Dominates request other rest
 
 -- no walk over this rest is better than the best so far: it is pruned
-abbrev pub IsHopeless : NumberedRequest → List ℕ → ℕ → ℕ → List Edge → Type 0
+abbrev pub IsHopeless : NumberedRequest → Low → ℕ → ℕ → List Edge → Type 0
 IsHopeless request low bound node rest =
-    bound ≤ cost (owed request.amount rest + number_at low node) (length rest)
+    bound ≤ cost (owed request.amount rest + number_at low.fees node) (length rest)
 
-abbrev pub Reaches : Graph → NumberedRequest → List ℕ → ℕ → List Label → Option Label → ℕ → List Edge → Type 0
+abbrev pub Reaches : Graph → NumberedRequest → Low → ℕ → List Label → Option Label → ℕ → List Edge → Type 0
 Reaches graph request low upper_bound labels found node rest =
     Has graph request labels node rest ⊎ IsHopeless request low (bound_of upper_bound found) node rest
 
--- the rest was relaxed over this edge: to a walk, or else to a longer rest
-pub record IsRelaxed (graph : Graph) (request : NumberedRequest) (low : List ℕ) (upper_bound : ℕ)
+-- the rest was relaxed over this edge: to a walk, or else to a longer rest, if a walk over that can be within the limit
+pub record IsRelaxed (graph : Graph) (request : NumberedRequest) (low : Low) (upper_bound : ℕ)
     (labels : List Label) (found : Option Label) (edge : Edge) (rest : List Edge) : Type 0 where
   pub whole : edge.from ≡ request.payer → IsNoBetter graph request labels upper_bound found (edge ∷ rest)
-  pub longer : length rest < 19 → Reaches graph request low upper_bound labels found edge.from (edge ∷ rest)
+  pub longer : length rest < 19
+      → delay request.limit (edge ∷ rest) + number_at low.delays edge.from ≤ most_delay request.limit
+      → Reaches graph request low upper_bound labels found edge.from (edge ∷ rest)
 
 -- over every edge into the node that can carry it
-abbrev pub IsLeft : Graph → NumberedRequest → List ℕ → ℕ → List Label → Option Label → ℕ → List Edge → Type 0
+abbrev pub IsLeft : Graph → NumberedRequest → Low → ℕ → List Label → Option Label → ℕ → List Edge → Type 0
 IsLeft graph request low upper_bound labels found node rest =
     (edge : Edge) → Contains (edges graph) edge → edge.to ≡ node → edge.min ≤ request.amount
     → owed request.amount rest ≤ edge.max →
     IsRelaxed graph request low upper_bound labels found edge rest
 
 -- a label is pruned, or its rest or one that dominates it was relaxed
-pub record IsSettled (graph : Graph) (request : NumberedRequest) (low : List ℕ) (upper_bound : ℕ)
+pub record IsSettled (graph : Graph) (request : NumberedRequest) (low : Low) (upper_bound : ℕ)
     (labels : List Label) (found : Option Label) (label : Label) : Type 0 where
   pub rest : List Edge
   pub is : IsLabel graph request labels label rest
@@ -209,7 +221,7 @@ pub record IsOffered (graph : Graph) (request : NumberedRequest) (labels : List 
   pub has : (rest : List Edge) → IsLabel graph request labels new rest → Has graph request after new.node rest
 
 -- the label was relaxed over the edge, if that can carry it
-abbrev pub RelaxesOn : Graph → NumberedRequest → List ℕ → ℕ → List Label → ℕ → List Label → Option Label
+abbrev pub RelaxesOn : Graph → NumberedRequest → Low → ℕ → List Label → ℕ → List Label → Option Label
     → Edge → Type 0
 RelaxesOn graph request low upper_bound labels i after now edge =
     (rest : List Edge) → IsLabel graph request labels (label_at labels i) rest →
@@ -217,7 +229,7 @@ RelaxesOn graph request low upper_bound labels i after now edge =
     IsRelaxed graph request low upper_bound after now edge rest
 
 -- the label was relaxed
-abbrev pub RelaxesAll : Graph → NumberedRequest → List ℕ → ℕ → List Label → ℕ → List Label
+abbrev pub RelaxesAll : Graph → NumberedRequest → Low → ℕ → List Label → ℕ → List Label
     → Option Label → Type 0
 RelaxesAll graph request low upper_bound labels i after now =
     (rest : List Edge) → IsLabel graph request labels (label_at labels i) rest
@@ -250,7 +262,7 @@ IsUpperBound edges request upper_bound =
     → (other : List Edge) × IsUsable edges request other × (sent request.amount other < upper_bound)
 
 -- every marked label is settled
-abbrev pub AreSettled : Graph → NumberedRequest → List ℕ → ℕ → List Label → Option Label → List Bool → Type 0
+abbrev pub AreSettled : Graph → NumberedRequest → Low → ℕ → List Label → Option Label → List Bool → Type 0
 AreSettled graph request low upper_bound labels found done =
     (i : ℕ) → slice_index_or done i false ≡ true
     → (i < length labels) × IsSettled graph request low upper_bound labels found (label_at labels i)

@@ -6,15 +6,15 @@ use Rattle.lgm_route.specs.declared.request.NumberedRequest.{NumberedRequest}
 use Rattle.lgm_route.specs.declared.label.Label.{Label}
 use Rattle.lgm_route.specs.inner.Numbered.{IsUsable}
 use Rattle.lgm_route.specs.inner.Bounding.{AreLow}
-use Rattle.lgm_route.specs.inner.Searching.{label_at, bound_of, IsSettled, AreLabels, IsFound, Grows}
+use Rattle.lgm_route.specs.inner.Searching.{Low, label_at, bound_of, IsSettled, AreLabels, IsFound, Grows}
 use Rattle.lgm_route.specs.inner.Searching.{RelaxesOn, RelaxesAll, AreSettled, IsNoBetter, IsUpperBound}
 use Rattle.lgm_route.specs.inner.Relaxations.{IsInto, IsRelaxation, AreRelaxations}
 
--- the edges, the request, lower bounds on the fees from the payer to each node, and an upper bound on the best walk
+-- the edges, the request, lower bounds from the payer to each node, and an upper bound on the best walk
 pub record Ground : Type 0 where
   pub graph : Graph
   pub request : NumberedRequest
-  pub low : List ℕ
+  pub low : Low
   pub upper_bound : ℕ
 
 -- the labels, the best walk so far, and which labels are settled
@@ -24,7 +24,7 @@ pub record State : Type 0 where
   pub best : Option Label
   pub done : List Bool
 
-abbrev pub state_of : Graph → NumberedRequest → List ℕ → ℕ → List Label → Option Label → List Bool → State
+abbrev pub state_of : Graph → NumberedRequest → Low → ℕ → List Label → Option Label → List Bool → State
 state_of graph request low upper_bound labels best done = record {
   ground = record { graph = graph; request = request; low = low; upper_bound = upper_bound };
   labels = labels;
@@ -34,7 +34,7 @@ state_of graph request low upper_bound labels best done = record {
 
 pub record IsGround (ground : Ground) : Type 0 where
   pub listed : AreListed ground.graph
-  pub long : length ground.low ≡ length ground.graph.points
+  pub long : length ground.low.fees ≡ length ground.graph.points
   pub low : AreLow (edges ground.graph) ground.request ground.low
   pub small : ground.upper_bound ≤ 2 ^ 64
 

@@ -12,7 +12,7 @@ loop-edge-preserved g c =
     let run = c.edges_leaving-edge-items.result.now in
     let place = c.loop-edge.edge-index in
     let same : c.edge-item.result ≡ edge_at run place = c.edge-item.is ∙ get_or_default run place c.edge-item.result no_edge c.loop-edge-test.true in
-    let looked = subst (λ e. IsLooked before.request c.fees_to-start.result e before.dist before.closed after.dist after.closed) same c.in_ok-look.ensures.looked in
+    let looked = subst (λ e. IsLooked before.measure before.request c.fees_to-start.result e before.dist before.closed after.dist after.closed) same c.in_ok-look.ensures.looked in
     record {
       same = same_pass-trans c.args.self.now before after c.loop-edge.invariant.same c.in_ok-look.ensures.same;
       start = looked.stays c.args.node c.loop-edge.invariant.start;

@@ -6,7 +6,7 @@ use Rattle.lgm_route.proofs.search.Search.settle.Goals as goal
 pub mark-requires-clause-settled : goal.mark-requires-clause-settled
 mark-requires-clause-settled g c =
     let s = c.args.self.now in
-    let least = c.cost_lower_bound.ensures ∙ ap (λ l. cost (l.amount + number_at s.ground.low l.node) l.hops) c.label-label.ensures.label in
+    let least = c.cost_lower_bound.ensures ∙ ap (λ l. cost (l.amount + number_at s.ground.low.fees l.node) l.hops) c.label-label.ensures.label in
     settled_vain s c.args.i c.label-label.ensures.search c.requires (omega (arith, least, c.bound.ensures.exact, c.if-bound-cost_lower_bound.true))
 
 pub mark-requires-2-clause-settled : goal.mark-requires-2-clause-settled
