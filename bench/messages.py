@@ -5,6 +5,8 @@ import struct
 CHAIN = bytes([0xC1]) * 32
 ANNOUNCEMENT_SIGNATURES = 256  # four of them
 SIGNATURE = 64
+CHANNEL_ANNOUNCEMENT, CHANNEL_UPDATE = b"\x01\x00", b"\x01\x02"
+TIMES_AND_TERMS = 2 + SIGNATURE + len(CHAIN) + 8  # the place of these fields in an update
 
 _UPDATE = struct.Struct(">IBBHQIIQ")
 _SCID = struct.Struct(">II")
@@ -52,6 +54,19 @@ def channel_update(signature, scid, timestamp, channel_flags, terms):
     """Type 258. The terms are delta, minimum, base fee, proportional fee in ppm, and maximum."""
     fields = _UPDATE.pack(timestamp, 1, channel_flags, *terms)
     return b"".join((b"\x01\x02", signature, CHAIN, scid, fields))
+
+
+def terms_of(update):
+    """The terms of an update, as `channel_update` takes them."""
+    return _UPDATE.unpack_from(update, TIMES_AND_TERMS)[3:]
+
+
+def with_terms(update, terms):
+    """An update with these terms in place of its own."""
+    changed = bytearray(update)
+    times = _UPDATE.unpack_from(update, TIMES_AND_TERMS)[:3]
+    _UPDATE.pack_into(changed, TIMES_AND_TERMS, *times, *terms)
+    return bytes(changed)
 
 
 def query_short_channel_ids(scids, flags=None):

@@ -16,6 +16,9 @@ ROUTES_A_ROUND = 5
 LIVE_ROUTES_A_ROUND = 50
 AMOUNTS = (1_000, 50_000, 1_000_000, 10_000_000, 50_000_000, 200_000_000, 1_000_000_000)  # msat
 HEIGHT = 917_000
+SLOW = 2_016  # blocks
+SLOWEST = 0xFFFF
+LURED_AMOUNT = 100_000  # msat
 FULL_RANGES = 640
 ONE_BLOCK_RANGES = 10_000
 BANS = 2_000
@@ -103,6 +106,42 @@ def routes(network):
         yield route_line(network)
 
 
+def slow_routes(network):
+    """The network, and a thousand payments. Every twentieth channel is free, and delays by 2,016 blocks."""
+    channels = 0
+    for line in routes(network):
+        channels += is_of(line, messages.CHANNEL_ANNOUNCEMENT)
+        if channels % 20 == 0 and is_of(line, messages.CHANNEL_UPDATE):
+            line = with_terms(line, (SLOW, None, 0, 0, None))
+        yield line
+
+
+def lured_routes(network):
+    """The network, and a thousand payments. Each node's cheapest update has the greatest delta."""
+    lines, cheapest = list(routes(network)), {}
+    for place, line in enumerate(lines):
+        if is_of(line, messages.CHANNEL_UPDATE):
+            _, _, base, millionths, _ = messages.terms_of(bytes.fromhex(line.split()[1]))
+            fee, node = base * 1_000_000 + millionths * LURED_AMOUNT, line.split()[2]
+            cheapest[node] = min(cheapest.get(node, (fee, place)), (fee, place))
+    for _, place in cheapest.values():
+        lines[place] = with_terms(lines[place], (SLOWEST, None, None, None, None))
+    yield from lines
+
+
+def is_of(line, kind):
+    """Whether a line is a message of this type."""
+    return line.startswith(f"m {kind.hex()}")
+
+
+def with_terms(line, terms):
+    """The line of an update with these terms; its own where they are None."""
+    word, message, *rest = line.split()
+    old = bytes.fromhex(message)
+    terms = tuple(own if new is None else new for own, new in zip(messages.terms_of(old), terms))
+    return " ".join((word, messages.with_terms(old, terms).hex(), *rest)) + "\n"
+
+
 def rounds(network, routes_a_round=0):
     """Rounds of newer updates of any channels, each round with a commit and then payments."""
     timestamp = NOW
@@ -182,4 +221,4 @@ def bans(network):
 WORKLOADS = {
     "sync": sync, "routes": routes, "queries": queries, "churn": churn, "filters": filters,
     "peers": peers, "updates": updates, "live": live, "ranges": ranges, "blocks": blocks,
-    "bans": bans}
+    "bans": bans, "slow": slow_routes, "lured": lured_routes}

@@ -1,7 +1,9 @@
 mod beside;
+mod delays;
 mod edges;
 mod exclusions;
 mod hints;
+mod labels;
 mod made;
 mod memory;
 mod paid;

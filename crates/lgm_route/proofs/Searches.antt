@@ -1,6 +1,6 @@
 -- A search as one value, from step to step.
 use Rattle.std.proofs.Common.{◌≡◌, ◌⊎◌, ℕ, zero, suc, ◌+◌, ◌^◌, ◌<◌, ◌≤◌, List, [], ◌∷◌, length, get_or}
-use Rattle.std.proofs.Common.{Option, Some, None, Bool, true, false, refl, sym, ◌∙◌, subst, inl, inr, arith}
+use Rattle.std.proofs.Common.{Option, Some, None, Bool, true, false, refl, sym, ◌∙◌, ap, subst, inl, inr, arith}
 use Rattle.lgm_graph.specs.Graph.{Graph, edges, edges_into, AreListed}
 use Rattle.lgm_graph.specs.declared.edge.Edge.{Edge}
 use Rattle.lgm_route.specs.declared.request.NumberedRequest.{NumberedRequest}
@@ -148,6 +148,10 @@ settled_by a b i place is later h within stands marked =
     subst (λ g. Settled g b i) (sym h.ground)
     (settled_for a.ground.graph a.ground.request a.ground.low a.ground.upper_bound a.labels a.best b.labels b.best i place h.grows is.labelled within stands
     (subst (λ g. Settled g b place) h.ground (later.settled place marked).1))
+
+-- the bound never rises
+pub bound_falls : (a b : State) → Extends a b → bound_in b ≤ bound_in a
+bound_falls a b h = omega (arith, h.grows.lower, ap (λ (g : Ground). bound_of g.upper_bound b.best) h.ground)
 
 -- one more label is marked
 pub marked_more : (a b : State) (i : ℕ) → Extends a b → ((j : ℕ) → j < i → IsMarkedAt a j) → IsMarkedAt b i → (j : ℕ) → j < i + 1 → IsMarkedAt b j

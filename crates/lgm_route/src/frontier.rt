@@ -52,10 +52,14 @@ impl<'a, V: RoutingGraph> Search<'a, V> {
         ensures { IfOk result (λ relaxations. AreRelaxationsAt self.now i relaxations.items) }
     {
         let label = self.label(i);
+        let bound = self.bound();
         let edges = self.edges_into(label.node);
         let mut relaxations = Vec::new(alloc);
         for at in 0..edges.len() {
-            push(&mut relaxations, self.relaxation(i, &label, at, &edges[at]))?;
+            push(
+                &mut relaxations,
+                self.relaxation(bound, i, &label, at, &edges[at]),
+            )?;
         }
         Ok(relaxations)
     }

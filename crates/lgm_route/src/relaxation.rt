@@ -1,9 +1,9 @@
 //! Relaxation of labels over edges.
 
-ghost use Rattle.std.specs.Prelude.{◌≡◌, ◌<◌, length, IfOk, IfSome};
+ghost use Rattle.std.specs.Prelude.{◌≡◌, ◌<◌, ◌≤◌, length, IfOk, IfSome};
 ghost use Rattle.lgm_route.specs.inner.Searching.{label_at, first_of};
 ghost use Rattle.lgm_route.specs.inner.Relaxations.{IsRelaxationOf};
-ghost use Rattle.lgm_route.specs.inner.State.{Extends, IsIntoAt, IsRelaxationAt, IsRelaxedOn, IsLeftAt};
+ghost use Rattle.lgm_route.specs.inner.State.{Extends, IsIntoAt, IsRelaxationAt, IsRelaxedOn, IsLeftAt, bound_in};
 
 use crate::label::{Label, cost};
 use crate::search::Search;
@@ -14,16 +14,18 @@ use std::alloc::AllocError;
 const MOST_EDGES: u16 = 19;
 
 impl<'a, V: RoutingGraph> Search<'a, V> {
-    /// The relaxation of a label over one edge into its node: a whole walk if the edge is the payer's, else a longer
-    /// rest. None if the edge can't carry it, or if a longer rest would be too long, or its walks beyond the limit, or is pruned.
+    /// The relaxation of a label over one edge into its node, where no walk of this cost is better: a whole walk if the
+    /// edge is the payer's, else a longer rest. None if the edge can't carry it, or if a longer rest would be too long, or its walks beyond the limit, or is pruned.
     #[inline(always)]
     pub(crate) fn relaxation(
         &self,
+        bound: u128,
         i: usize,
         label: &Label,
         at: usize,
         edge: &Edge,
     ) -> Option<Label>
+        requires bound { bound_in self.now ≤ bound }
         requires label { label.now ≡ label_at self.now.labels i }
         requires into { IsIntoAt self.now i at edge.now }
         ensures { IsRelaxationAt self.now i edge.now result }
@@ -52,10 +54,10 @@ impl<'a, V: RoutingGraph> Search<'a, V> {
             amount + self.lower_bound(edge.from) as u128,
             label.hops as u128 + 1,
         );
-        if self.bound() <= least || amount >= 1 << 64 {
+        if bound <= least || amount >= 1 << 64 {
             return None;
         }
-        let delay = request.delay_over(label.delay, edge, self.least_delay(edge.from))?;
+        let delay = self.delay_over(label, edge)?;
         Some(Label {
             amount: amount as u64,
             parent: i,
@@ -89,17 +91,19 @@ impl<'a, V: RoutingGraph> Search<'a, V> {
     #[inline(always)]
     pub(crate) fn relax_edge(
         &mut self,
+        bound: u128,
         i: usize,
         label: &Label,
         at: usize,
         edge: &Edge,
     ) -> Result<(), AllocError>
+        requires bound { bound_in self.old ≤ bound }
         requires label { label.now ≡ label_at self.old.labels i }
         requires into { IsIntoAt self.old i at edge.now }
         ensures extends { IfOk result (λ _. Extends self.old self.new) }
         ensures passed { IfOk result (λ _. IsRelaxedOn self.old i edge.now self.new) }
     {
-        match self.relaxation(i, label, at, edge) {
+        match self.relaxation(bound, i, label, at, edge) {
             None => Ok(()),
             Some(new) => {
                 self.insert(new)?;
@@ -115,9 +119,11 @@ impl<'a, V: RoutingGraph> Search<'a, V> {
         ensures left { IfOk result (λ _. IsLeftAt self.old i self.new) }
     {
         let label = self.label(i);
+        // A walk that is found meanwhile lowers the bound, which only matters for the labels to come.
+        let bound = self.bound();
         let edges = self.edges_into(label.node);
         for at in 0..edges.len() {
-            self.relax_edge(i, &label, at, &edges[at])?;
+            self.relax_edge(bound, i, &label, at, &edges[at])?;
         }
         Ok(())
     }
@@ -136,7 +142,8 @@ impl<'a, V: RoutingGraph> Search<'a, V> {
             let Some(at) = self.next_edge(label.node, edges) else {
                 break;
             };
-            self.relax_edge(here, &label, at, &edges[at])?;
+            let bound = self.bound();
+            self.relax_edge(bound, here, &label, at, &edges[at])?;
             if self.len() <= last {
                 break;
             }

@@ -3,6 +3,7 @@
 ghost use Rattle.std.specs.Prelude.{◌≡◌, ◌^◌, ◌-◌, ◌<◌, ◌≤◌, length, IfOk, true, false, slice_index_or, ◌+◌, ◌*◌};
 ghost use Rattle.lgm_graph.specs.Graph.{edges, edges_into, AreListed};
 ghost use Rattle.lgm_route.specs.inner.Bounding.{AreLow};
+ghost use Rattle.lgm_route.specs.inner.Numbered.{IsDelayOver};
 ghost use Rattle.lgm_route.specs.inner.Searching.{label_at, number_at, SomeRest, SomeWalk, IsOffered, IsBetter};
 ghost use Rattle.lgm_route.specs.inner.Searching.{IsUpperBound, IsDominatorOf, cost};
 ghost use Rattle.lgm_route.specs.inner.State.{IsSearch, Extends, IsSettledAt, IsMarkedAt, IsFinished, bound_in};
@@ -152,12 +153,14 @@ impl<'a, V: RoutingGraph> Search<'a, V> {
         self.low.fees.at(node)
     }
 
-    /// A lower bound on the delays from the payer to a node, in blocks that count.
+    /// The delay of a label with one more edge, if walks over it can be within the limit.
     #[inline(always)]
-    pub(crate) fn least_delay(&self, node: u32) -> u64
-        ensures { result ≡ number_at self.now.ground.low.delays node }
+    pub(crate) fn delay_over(&self, label: &Label, edge: &Edge) -> Option<u16>
+        ensures { IsDelayOver self.now.ground.request.limit label.now.delay edge.now
+            (number_at self.now.ground.low.delays edge.now.from) result }
     {
-        self.low.delays.at(node)
+        self.request
+            .delay_over(label.delay, edge, self.low.delays.at(edge.from))
     }
 
     /// The channel to a node on the cheapest way from the payer, if the node is near the payer.

@@ -1,11 +1,11 @@
 //! Payments over random overlays, compared with those of the plain program.
 
 use super::made::{Item, NOTHING, Parts, map_of};
-use super::paid::{Told, assert_over};
+use super::paid::{Told, assert_over, assert_within, limited};
 use super::plain::{PlainPayment, best_hops, carrying, laid_over};
-use super::random::{items, lists_over, payment};
+use super::random::{items, lists_over, payment, within};
 use lgm_graph::Known;
-use lgm_route::{Request, RouteFault};
+use lgm_route::{DelayLimit, Request, RouteFault};
 use lgm_store::Map;
 use lgm_test_gossip::{Numbers, point};
 use std::alloc::{AllocError, Global};
@@ -13,18 +13,26 @@ use std::process::Abort;
 use std::test::Fail;
 use std::thread::Threads;
 
-/// How often an overlay made a difference to the answer.
+/// How often an overlay, or a limit of the delay over it, made a difference to the answer.
 #[derive(Clone, Copy, Debug)]
 struct Seen {
-    /// There is a route over the overlay, and none without it.
+    /// There is a route with it, and none without it.
     opened: u32,
-    /// There is none over it, and one without it.
+    /// There is none with it, and one without it.
     closed: u32,
     /// There are two different routes.
     other: u32,
     /// There is one route with and without it.
     same: u32,
 }
+
+/// Nothing was seen yet.
+const UNSEEN: Seen = Seen {
+    opened: 0,
+    closed: 0,
+    other: 0,
+    same: 0,
+};
 
 impl Seen {
     fn add(&mut self, over: &[Told], without: &[Told]) {
@@ -44,12 +52,13 @@ impl Seen {
     }
 }
 
-/// Six payments, each over an overlay of its own.
+/// Six payments, each over an overlay and within a limit of its own.
 fn compare<Rt: Abort + Threads + Sync>(
     rt: &Rt,
     alloc: Global,
     numbers: &mut Numbers,
-    seen: &mut Seen,
+    overlays: &mut Seen,
+    limits: &mut Seen,
 ) -> Result<(), AllocError> {
     let items = items(alloc, numbers)?;
     let map = map_of(alloc, items.as_slice())?;
@@ -58,67 +67,71 @@ fn compare<Rt: Abort + Threads + Sync>(
         let lists = lists_over(alloc, numbers, ways.as_slice())?;
         let knows = numbers.below(2) == 0;
         let payment = payment(numbers);
-        compare_one(
+        let bits: &[u8] = if knows { &[1] } else { &[0] };
+        let known = Known::bits(alloc, bits)?;
+        let parts = lists.parts();
+        let bare = laid_over(alloc, items.as_slice(), knows, NOTHING)?;
+        let laid = laid_over(alloc, items.as_slice(), knows, parts)?;
+        let without = best_hops(alloc, bare.as_slice(), &payment)?;
+        let over = best_hops(alloc, laid.as_slice(), &payment)?;
+        let soon = within(numbers, &payment, over.as_slice());
+        let quick = best_hops(alloc, laid.as_slice(), &soon)?;
+        overlays.add(over.as_slice(), without.as_slice());
+        limits.add(quick.as_slice(), over.as_slice());
+        let request = request_of(&payment);
+        assert_over(rt, alloc, &map, &known, parts, &request, wanted(&over))?;
+        let limit = DelayLimit {
+            most_delay: soon.most_delay,
+            most_labels: 1_000,
+        };
+        assert_within(
             rt,
             alloc,
-            items.as_slice(),
             &map,
-            knows,
-            lists.parts(),
-            &payment,
-            seen,
+            &known,
+            parts,
+            &request,
+            &limit,
+            limited(wanted(&quick)),
         )?;
     }
     Ok(())
 }
 
-/// One of them, where bit 0 is known or no bit is.
-fn compare_one<Rt: Abort + Threads + Sync>(
-    rt: &Rt,
-    alloc: Global,
-    items: &[Item],
-    map: &Map,
-    knows: bool,
-    parts: Parts,
-    payment: &PlainPayment,
-    seen: &mut Seen,
-) -> Result<(), AllocError> {
-    let ways = laid_over(alloc, items, knows, parts)?;
-    let over = best_hops(alloc, ways.as_slice(), payment)?;
-    let ways = laid_over(alloc, items, knows, NOTHING)?;
-    let without = best_hops(alloc, ways.as_slice(), payment)?;
-    seen.add(over.as_slice(), without.as_slice());
-    let request = Request {
+/// A payment as the crates take it.
+fn request_of(payment: &PlainPayment) -> Request {
+    Request {
         payer: point(payment.payer),
         payee: point(payment.payee),
         amount: payment.amount,
         expiry: payment.expiry,
-    };
-    let wanted = if over.is_empty() {
+    }
+}
+
+/// The answer with these hops: no route if there are none.
+fn wanted(hops: &Vec<Told>) -> Result<&[Told], RouteFault> {
+    if hops.is_empty() {
         Err(RouteFault::NoRoute)
     } else {
-        Ok(over.as_slice())
-    };
-    let bits: &[u8] = if knows { &[1] } else { &[0] };
-    let known = Known::bits(alloc, bits)?;
-    assert_over(rt, alloc, map, &known, parts, &request, wanted)
+        Ok(hops.as_slice())
+    }
 }
 
 #[test]
 fn made_overlays(rt: HostRuntime) -> Result<(), Fail> {
     let mut numbers = Numbers::new(1);
-    let mut seen = Seen {
-        opened: 0,
-        closed: 0,
-        other: 0,
-        same: 0,
-    };
+    let mut overlays = UNSEEN;
+    let mut limits = UNSEEN;
     for _ in 0..500 {
-        compare(&rt, rt.alloc(), &mut numbers, &mut seen)?;
+        compare(&rt, rt.alloc(), &mut numbers, &mut overlays, &mut limits)?;
     }
-    assert!(rt; seen.opened >= 50, "{seen:?}");
-    assert!(rt; seen.closed >= 50, "{seen:?}");
-    assert!(rt; seen.other >= 50, "{seen:?}");
-    assert!(rt; seen.same >= 50, "{seen:?}");
+    assert!(rt; overlays.opened >= 50, "{overlays:?}");
+    assert!(rt; overlays.closed >= 50, "{overlays:?}");
+    assert!(rt; overlays.other >= 50, "{overlays:?}");
+    assert!(rt; overlays.same >= 50, "{overlays:?}");
+    assert!(rt; limits.opened == 0, "{limits:?}");
+    assert!(rt; limits.closed >= 50, "{limits:?}");
+    assert!(rt; limits.other >= 30, "{limits:?}");
+    assert!(rt; limits.same >= 50, "{limits:?}");
     Ok(())
 }

@@ -4,10 +4,14 @@ use super::made::{Item, Parts, Way, free, map_of, overlay_of};
 use lgm_gossip::Point;
 use lgm_graph::{Known, View};
 use lgm_par::{Open, Pool};
-use lgm_route::{Request, Route, RouteFault, answer_over, answer_over_chunked};
+use lgm_route::{
+    DelayLimit, LimitedFault, Request, Route, RouteFault, answer_over, answer_over_chunked,
+    answer_within,
+};
 use lgm_store::Map;
 use lgm_test_gossip::{FREE, Terms, point};
 use std::alloc::{AllocError, Global};
+use std::fmt;
 use std::process::Abort;
 use std::test::Fail;
 use std::thread::Threads;
@@ -80,22 +84,56 @@ fn hops_of(alloc: Global, route: &Route) -> Result<Vec<Told>, AllocError> {
 }
 
 /// That an answer is this route, or this fault.
-pub fn assert_answer(
+pub fn assert_answer<F: Copy + PartialEq + fmt::Debug>(
     rt: &impl Abort,
     alloc: Global,
-    answer: &Result<Route, RouteFault>,
-    wanted: Result<&[Told], RouteFault>,
+    answer: &Result<Route, F>,
+    wanted: Result<&[Told], F>,
 ) -> Result<(), AllocError> {
     match (answer, wanted) {
         (Ok(route), Ok(hops)) => assert_eq!(rt; hops_of(alloc, route)?.as_slice(), hops),
         (Err(fault), Err(other)) => assert_eq!(rt; *fault, other),
-        (Ok(route), Err(fault)) => assert!(rt; false, "{route:?} instead of {fault}"),
-        (Err(fault), Ok(hops)) => assert!(rt; false, "{fault} instead of {hops:?}"),
+        (Ok(route), Err(fault)) => assert!(rt; false, "{route:?} instead of {fault:?}"),
+        (Err(fault), Ok(hops)) => assert!(rt; false, "{fault:?} instead of {hops:?}"),
     }
     Ok(())
 }
 
-/// That a payment over an overlay gets this answer, also from 3 and from 64 workers.
+/// That a payment over an overlay within a limit of the delay gets this answer.
+pub fn assert_within(
+    rt: &impl Abort,
+    alloc: Global,
+    map: &Map,
+    known: &Known,
+    parts: Parts,
+    request: &Request,
+    limit: &DelayLimit,
+    wanted: Result<&[Told], LimitedFault>,
+) -> Result<(), AllocError> {
+    assert!(rt; map.count() <= 1_000_000);
+    let view = View::of(alloc, map, known)?;
+    let overlay = overlay_of(alloc, parts)?;
+    assert!(rt; overlay.extra_count() <= 1_000_000);
+    let answer = answer_within(alloc, map, &view, &overlay, request, limit);
+    assert_answer(rt, alloc, &answer, wanted)
+}
+
+/// A limit that no route of a test reaches.
+pub const NO_LIMIT: DelayLimit = DelayLimit {
+    most_delay: u16::MAX,
+    most_labels: 0,
+};
+
+/// What a call within a limit answers where the limit makes no difference.
+pub fn limited<T>(answer: Result<T, RouteFault>) -> Result<T, LimitedFault> {
+    match answer {
+        Ok(hops) => Ok(hops),
+        Err(fault) => Err(LimitedFault::Fault(fault)),
+    }
+}
+
+/// That a payment over an overlay gets this answer, also from 3 and from 64 workers, and within a limit that no route
+/// reaches.
 pub fn assert_over<Rt: Abort + Threads + Sync>(
     rt: &Rt,
     alloc: Global,
@@ -121,7 +159,8 @@ pub fn assert_over<Rt: Abort + Threads + Sync>(
         let answer = answer_over_chunked(&pool, map, &view, &overlay, request);
         assert_answer(rt, alloc, &answer, wanted)?;
     }
-    Ok(())
+    let answer = answer_within(alloc, map, &view, &overlay, request, &NO_LIMIT);
+    assert_answer(rt, alloc, &answer, limited(wanted))
 }
 
 /// That 1,000 msat over an overlay on a map, where all features are known, take this route, or none.

@@ -12,6 +12,8 @@ pub struct PlainPayment {
     pub payee: u16,
     pub amount: u64,
     pub expiry: u32,
+    /// The most blocks between this expiry and that of the first hop.
+    pub most_delay: u16,
 }
 
 /// What the map's channels can carry, in msat.
@@ -140,6 +142,15 @@ fn charge(way: &Way, amount: u64) -> u128 {
     share.saturating_add(u128::from(way.terms.base))
 }
 
+/// Whether the first of these hops, which come from the last one on, expires in time.
+fn are_in_time(payment: &PlainPayment, hops: &[Told]) -> bool {
+    let latest = payment.expiry.saturating_add(u32::from(payment.most_delay));
+    match hops.last() {
+        Some(first) => first.4 <= latest,
+        None => true,
+    }
+}
+
 /// The hops over a walk, from the last one on, if all edges can carry what they have to.
 fn hops_back(
     alloc: Global,
@@ -195,14 +206,17 @@ fn better(
     let Some(hops) = hops_back(alloc, payment, walk)? else {
         return Ok(best);
     };
+    if !are_in_time(payment, hops.as_slice()) {
+        return Ok(best);
+    }
     match best {
         Some(best) if !are_better(hops.as_slice(), best.as_slice()) => Ok(Some(best)),
         _ => Ok(Some(hops)),
     }
 }
 
-/// The hops of the best route over these edges, from the payer on, or none if there is no route. (A walk that comes to a
-/// node twice is never better.)
+/// The hops of the best route over these edges in time, from the payer on, or none if there is no route. (A walk that
+/// comes to a node twice is never better or in time alone.)
 pub fn best_hops(
     alloc: Global,
     ways: &[Way],

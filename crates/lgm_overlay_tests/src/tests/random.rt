@@ -1,6 +1,7 @@
 //! Random maps and overlays from a seed.
 
 use super::made::{Item, Parts, Way};
+use super::paid::Told;
 use super::plain::PlainPayment;
 use lgm_test_gossip::{Numbers, Terms};
 use std::alloc::{AllocError, Global};
@@ -171,5 +172,21 @@ pub fn payment(numbers: &mut Numbers) -> PlainPayment {
             .one_of(&[1, 999, 1000, 1000, 1000, 1001])
             .unwrap_or(1),
         expiry: 700_000,
+        most_delay: u16::MAX,
+    }
+}
+
+/// The same within any delay, or within one block less than this route's.
+pub fn within(numbers: &mut Numbers, payment: &PlainPayment, route: &[Told]) -> PlainPayment {
+    let mut most_delay = numbers.one_of(&[0, 40, 80, 144, 184, 300]).unwrap_or(0);
+    if let Some(first) = route.first()
+        && numbers.below(4) != 0
+    {
+        let delay = first.4.saturating_sub(payment.expiry);
+        most_delay = u16::try_from(delay.saturating_sub(1)).unwrap_or(0);
+    }
+    PlainPayment {
+        most_delay,
+        ..*payment
     }
 }

@@ -3,7 +3,7 @@ use Rattle.std.proofs.lemmas.List.{get_or_default}
 use Rattle.lgm_graph.specs.Graph.{edges_into}
 use Rattle.lgm_route.specs.inner.Searching.{label_at, edge_at, no_edge}
 use Rattle.lgm_route.specs.inner.State.{IsRelaxedOn}
-use Rattle.lgm_route.proofs.Searches.{extends-trans, passed_more, left_all}
+use Rattle.lgm_route.proofs.Searches.{extends-trans, bound_falls, passed_more, left_all}
 use Rattle.lgm_route.proofs.search.Search.relax.Goals as goal
 
 pub loop-at-preserved : goal.loop-at-preserved
@@ -33,3 +33,7 @@ returns-clause-left g c =
     left_all first last c.args.i c.label-label.ensures.search.ground
     (subst (λ r. (j : ℕ) → j < length r → IsRelaxedOn first c.args.i (edge_at r j) last) same
     (λ j to. c.loop-at.invariant.passed j (omega (arith, to, c.loop-at-test.false))))
+
+pub relax_edge-requires-clause-bound : goal.relax_edge-requires-clause-bound
+relax_edge-requires-clause-bound g c =
+    omega (arith, bound_falls c.args.self.now c.loop-at.self c.loop-at.invariant.extends, c.bound-bound.ensures.exact)

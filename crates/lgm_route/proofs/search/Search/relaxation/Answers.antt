@@ -1,5 +1,5 @@
 use Rattle.std.proofs.Common.{◌+◌, ◌≤◌, ◌∙◌, refl, sym, ap, arith}
-use Rattle.lgm_route.specs.inner.Numbered.{counted, most_delay}
+use Rattle.lgm_route.specs.inner.Numbered.{most_delay}
 use Rattle.lgm_route.proofs.Steps.{led}
 use Rattle.lgm_route.proofs.search.Search.relaxation.Goals as goal
 
@@ -20,10 +20,9 @@ returns g c =
     let label = c.args.label.now in
     let request = c.request-request.ensures in
     let amount = ap (λ r. r.amount) request in
-    let limit = ap (λ r. r.limit) request in
     let represented = (c.len-len.ensures.search.labelled.sound c.args.i c.requires.into.within).1 in
-    let in_time : label.delay ≤ most_delay c.request-request.result.limit =
-    omega (arith, represented.in_time, ap (λ l. l.delay) c.requires.label, ap most_delay limit) in
+    let in_time : label.delay ≤ most_delay s.ground.request.limit =
+    omega (arith, represented.in_time, ap (λ l. l.delay) c.requires.label) in
     led s.ground.graph s.ground.request s.labels c.args.i c.args.at _ _ label c.args.edge.now
     c.len-len.ensures.search.ground.listed c.requires.into c.requires.label
     (omega (arith, amount, c.if-request-edge.false)) (omega (arith, c.if-edge-label.false))
@@ -31,6 +30,6 @@ returns g c =
     (λ other. (
       omega (arith, c.if-label-ge-MOST_EDGES.false),
       ap (λ f. label.amount + f) c.fee.ensures.value,
-      c.in_ok-delay.ensures.0 ∙ ap (λ l. label.delay + counted l c.args.edge.now) limit,
-      omega (arith, c.in_ok-delay.ensures.1 in_time, ap most_delay limit),
+      c.in_ok-delay.ensures.0,
+      c.in_ok-delay.ensures.1 in_time,
     ))
