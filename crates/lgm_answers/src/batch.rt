@@ -1,6 +1,6 @@
 //! Messages that are written together.
 
-ghost use Rattle.std.specs.Prelude.{◌≡◌, ◌++◌, ◌∷◌, [], IfOk, OnOk, OnErr, map};
+ghost use Rattle.std.specs.Prelude.{◌≡◌, ◌<◌, ◌++◌, ◌∷◌, [], IfOk, OnOk, OnErr, length, map};
 ghost use Rattle.std.specs.List.{flat_map};
 ghost use Rattle.lgm_script.specs.Output.{told_by, Writes};
 ghost use Rattle.lgm_script.specs.Text.{message_behind};
@@ -51,9 +51,10 @@ impl<'a> Batch<'a> {
         lead: &Lead,
         output: &mut Output<'_, W>,
     ) -> Result<(), SendFault>
-        ensures { Adds (told_by W.seen output.old) (told_by W.seen output.new)
+        ensures adds { Adds (told_by W.seen output.old) (told_by W.seen output.new)
             (flat_map (message_behind lead.now) self.old) (message_behind lead.now message.now)
             (flat_map (message_behind lead.now) self.new) result }
+        ensures few { OnOk result (length self.new < TOGETHER) }
     {
         self.push(message)?;
         if self.messages.len() < TOGETHER {

@@ -5,7 +5,7 @@ ghost use Rattle.std.specs.Option.{option_copied, option_or};
 ghost use Rattle.lgm_store.specs.Rows.{empty};
 ghost use Rattle.lgm_store.specs.Admission.{admitted, admitted_close, Offers};
 ghost use Rattle.lgm_store.specs.History.{absorbed};
-ghost use Rattle.lgm_graph.specs.Network.{GoesOn, IsViewed, most_points};
+ghost use Rattle.lgm_graph.specs.Network.{GoesOn, IsViewed, KeepsView, most_points};
 
 use crate::known::Known;
 use crate::view::{MAX_CHANNELS, View};
@@ -105,6 +105,7 @@ impl Network {
             → IfSome self.new.graph (λ graph. length graph.points ≤ 2 * length self.old.rows.channels)) }
         ensures fits { OnOk result
             (IfSome self.new.graph (λ graph. length graph.points ≤ most_points self.old.rows)) }
+        ensures kept { KeepsView self.old self.new.graph }
         ensures stays { OnErr result (self.new ≡ self.old) }
     {
         if let Some(view) = &self.view {

@@ -3,7 +3,7 @@
 ghost use Rattle.std.specs.Prelude.{◌≡◌, ◌++◌, ◌∷◌, [], ℕ, ◌+◌, ◌<◌, ◌≤◌, List, map, length, slice_set};
 ghost use Rattle.std.specs.Prelude.{slice_index_or, OnOk, IfOk, Option, Bool, false, true, if◌then◌else◌};
 ghost use Rattle.std.specs.List.{HoldsAt, list_any};
-ghost use Rattle.indexmap.specs.IndexSet.{spare};
+ghost use Rattle.indexmap.specs.IndexSet.{hasher_of, spare};
 ghost use Rattle.lgm_wire.specs.declared.point.Point.{Point as APoint};
 ghost use Rattle.lgm_graph.specs.declared.edge.Edge.{Edge as AnEdge};
 ghost use Rattle.lgm_graph.specs.inner.Walk.{HasNumbered};
@@ -55,6 +55,7 @@ impl Nodes {
     /// No nodes. Points will be hashed with the seed.
     pub(crate) fn new(alloc: Global, seed: Seed) -> Nodes
         ensures points { result.points.keys ≡ [] }
+        ensures hasher { hasher_of result.points ≡ seed }
         ensures accepts_payments { result.accepts_payments.items ≡ [] }
         ensures into { result.into.items ≡ [] }
         ensures out { result.out.items ≡ [] }

@@ -1,7 +1,8 @@
 //! A network that follows another one.
 
-ghost use Rattle.std.specs.Prelude.{◌≡◌, ◌≢◌, ◌⊎◌, ◌≤◌, [], drop, length, IsSome, OnOk, OnErr};
+ghost use Rattle.std.specs.Prelude.{◌≡◌, ◌≢◌, ◌⊎◌, ◌≤◌, [], None, drop, length, IsSome, OnOk, OnErr};
 ghost use Rattle.lgm_store.specs.History.{fold_from};
+ghost use Rattle.lgm_graph.specs.Network.{GoesOnOver, KeepsView, TakesView};
 
 use crate::network::Network;
 use crate::view::MAX_CHANNELS;
@@ -71,6 +72,8 @@ impl Replica {
         ensures rows { fold_from self.new.network.rows self.new.due.items
             ≡ fold_from self.old.network.rows self.old.due.items }
         ensures known { self.new.network.known ≡ self.old.network.known }
+        ensures view { OnOk result
+            (GoesOnOver self.old.network.rows self.old.network.graph self.old.due.items self.new.network.graph) }
         ensures done { OnOk result (self.new.due.items ≡ []) }
         ensures some { OnErr result (self.new.due.items ≢ []) }
     {
@@ -87,6 +90,7 @@ impl Replica {
     fn renew(&mut self, alloc: Global, current: &Network) -> Result<(), AllocError>
         ensures rows { OnOk result (self.new.network.rows ≡ current.now.rows) }
         ensures known { OnOk result (self.new.network.known ≡ current.now.known) }
+        ensures bare { OnOk result (self.new.network.graph ≡ None) }
         ensures done { OnOk result (self.new.due.items ≡ []) }
         ensures stays { OnErr result (self.new ≡ self.old) }
     {
@@ -97,7 +101,7 @@ impl Replica {
     }
 
     /// Applies all operations that are due, after which it has the rows of the network that it follows, and gives that
-    /// one its view. If more are due than that one has channels, it becomes a copy instead, and its view is dropped.
+    /// one its view, as far as [`Network::absorb`] keeps it. If more are due than that one has channels, it becomes a copy instead, and its view is dropped.
     /// The only error is out of memory: what wasn't applied is still due then. The rows of the other network are
     /// unchanged.
     #[inline(always)]
@@ -110,6 +114,9 @@ impl Replica {
         ensures known { self.new.network.known ≡ self.old.network.known }
         ensures done { OnOk result (self.new.due.items ≡ []) }
         ensures none { self.old.due.items ≡ [] → self.new.due.items ≡ [] }
+        ensures left { OnOk result (self.old.due.items ≢ [] → self.new.network.graph ≡ None) }
+        ensures moved { OnOk result (self.old.due.items ≢ [] → length self.old.due.items ≤ length current.old.rows.channels
+            → TakesView self.old.network self.old.due.items current.old.graph current.new.graph) }
         ensures same { current.new.rows ≡ current.old.rows }
         ensures same_known { current.new.known ≡ current.old.known }
     {
@@ -127,6 +134,9 @@ impl Replica {
             ≡ fold_from self.old.network.rows self.old.due.items }
         ensures known { self.new.network.known ≡ self.old.network.known }
         ensures done { OnOk result (self.new.due.items ≡ []) }
+        ensures left { OnOk result (self.new.network.graph ≡ None) }
+        ensures moved { OnOk result (length self.old.due.items ≤ length current.old.rows.channels
+            → TakesView self.old.network self.old.due.items current.old.graph current.new.graph) }
         ensures same { current.new.rows ≡ current.old.rows }
         ensures same_known { current.new.known ≡ current.old.known }
     {
@@ -147,6 +157,7 @@ impl Replica {
             ⊎ (fold_from self.old.network.rows self.old.due.items ≡ current.old.rows) }
         requires known { self.old.network.known ≡ current.old.known }
         ensures made { OnOk result (IsSome current.new.graph) }
+        ensures kept { OnOk result (self.old.network.graph ≡ None → KeepsView current.old current.new.graph) }
         ensures rows { fold_from self.new.network.rows self.new.due.items
             ≡ fold_from self.old.network.rows self.old.due.items }
         ensures known { self.new.network.known ≡ self.old.network.known }

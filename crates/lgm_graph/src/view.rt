@@ -176,8 +176,8 @@ impl View {
         let _nodes = &self.nodes;
     }
 
-    /// The seed of the hash of its points.
-    pub(crate) fn seed(&self) -> Seed {
+    /// The seed by which the points are hashed: that of the map of which it was built.
+    pub fn seed(&self) -> Seed {
         *self.nodes.points.hasher()
     }
 

@@ -4,7 +4,7 @@
 //! A digit is one of `0` to `9`, `a` to `f` and `A` to `F`; two of them encode a byte, high nibble first. Output is
 //! always lower case.
 //!
-//! Thirty-two digits are decoded at a time, without a branch on their values, and 32 bytes encoded. Shorter input,
+//! Sixty-four digits are decoded at a time, without a branch on their values, and 32 bytes encoded. Shorter input,
 //! and input with an error, is passed to `hex`, so the errors are those of `hex`.
 #![tactic(auto)]
 

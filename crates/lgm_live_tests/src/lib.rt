@@ -16,3 +16,5 @@ mod routes;
 mod runs;
 #[cfg(test)]
 mod seeds;
+#[cfg(test)]
+mod waiting;

@@ -1,6 +1,6 @@
 //! Workers that share work.
 
-ghost use Rattle.std.specs.Prelude.{◌<◌, ◌≤◌, IfOk};
+ghost use Rattle.std.specs.Prelude.{◌≡◌, ◌<◌, ◌≤◌, IfOk, min};
 ghost use Rattle.lgm_par.specs.declared.pool.TheConstants.{MAX_WORKERS};
 ghost use Rattle.lgm_par.specs.inner.Chunks.{piece_of};
 ghost use Rattle.lgm_par.specs.Pieces.{AcceptsAll, GivesAll};
@@ -34,6 +34,7 @@ impl<'a, Rt: Threads + Sync, G: Gate> Pool<'a, Rt, G> {
     /// The same with at most `most` workers.
     pub fn at_most(&self, most: usize) -> Pool<'a, Rt, G>
         requires { 1 ≤ most }
+        ensures { result.workers ≡ min self.now.workers most }
     {
         Pool {
             rt: self.rt,

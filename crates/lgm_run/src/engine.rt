@@ -1,6 +1,6 @@
 //! The state between two lines.
 
-ghost use Rattle.std.specs.Prelude.{◌≡◌, ◌+◌, ◌≤◌, ◌<◌, ◌^◌, ℕ, length, IfOk, OnOk, OnErr};
+ghost use Rattle.std.specs.Prelude.{◌≡◌, ◌+◌, ◌≤◌, ◌<◌, ◌^◌, [], ℕ, length, IfOk, OnOk, OnErr};
 ghost use Rattle.lgm_wire.specs.reading.Reading.{Gives};
 ghost use Rattle.lgm_script.specs.Output.{told_by, Writes};
 ghost use Rattle.lgm_answers.specs.Answer.{commit_text, route_text, answer_text};
@@ -146,15 +146,16 @@ impl Engine {
     }
 }
 
-/// The answer to a commit.
+/// The answer to a commit. Without filters there are no news, and none are looked for.
 fn committed<'a>(
     alloc: Global,
     accepted: u64,
     maps: &'a Maps,
     filters: &'a Filters,
 ) -> Result<Answer<'a>, AllocError>
-    ensures { IfOk result (λ answer. (n : ℕ)
+    ensures text { IfOk result (λ answer. (n : ℕ)
         → answer_text n answer ≡ commit_text n accepted maps.now.committed maps.now.rows filters.now) }
+    ensures none { filters.now ≡ [] → result ≡ Ok (Answer.Committed accepted) }
 {
     if filters.as_map().is_empty() {
         return Ok(Answer::Committed(accepted));

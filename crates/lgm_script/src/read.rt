@@ -3,7 +3,7 @@
 ghost use Rattle.std.specs.Prelude.{◌≡◌, ◌≢◌, ◌≤◌, ◌<◌, [], true, false, length};
 ghost use Rattle.std.specs.Prelude.{take, IfOk, IfSome, OnOk};
 ghost use Rattle.lgm_script.specs.Device.{IsAtEnd};
-ghost use Rattle.lgm_script.specs.Lines.{ahead, IsFirstLine, IsLongerThan};
+ghost use Rattle.lgm_script.specs.Lines.{ahead, HasNoLineFeed, IsFirstLine, IsLongerThan};
 ghost use Rattle.lgm_script.specs.Output.{told_by, Tells, TellsPart};
 
 use crate::device::{Sink, Source};
@@ -52,14 +52,15 @@ fn read_on<R: Source, W: Sink>(
 
 /// The length of the next line, which is then at the start of what was read ahead; `None` at the end.
 ///
-/// If the line isn't completely read ahead, what is buffered is written before the source is read: so no answer waits
-/// for input. `TooLong` applies to a last line without a line feed, too. No byte is consumed.
+/// If a line feed was read ahead, nothing is read. Else what is buffered is written before the source is read: so no
+/// answer waits for input. `TooLong` applies to a last line without a line feed, too. No byte is consumed.
 pub fn next_line<R: Source, W: Sink>(
     lines: &mut LineReader,
     source: &mut R,
     output: &mut Output<'_, W>,
 ) -> Result<Option<usize>, LineFault>
     ensures kept { ahead lines.new (R.seen source.new).left ≡ ahead lines.old (R.seen source.old).left }
+    ensures ready { ¬ HasNoLineFeed lines.old → (lines.new ≡ lines.old) × (source.new ≡ source.old) }
     ensures line { IfOk result (λ found. IfSome found (IsFirstLine lines.new (R.seen source.new).left)) }
     ensures short { IfOk result (λ found. IfSome found (λ count. count ≤ MAX_LINE)) }
     ensures end { result ≡ Ok None → IsAtEnd (ahead lines.new (R.seen source.new).left) }

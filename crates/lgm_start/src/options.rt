@@ -1,9 +1,9 @@
 //! The command line.
 
-ghost use Rattle.std.specs.Prelude.{◌≡◌, ◌≤◌, [], IfOk, codes};
+ghost use Rattle.std.specs.Prelude.{◌≡◌, ◌≤◌, ◌⊎◌, [], IfOk, IfErr, codes};
 ghost use Rattle.std.specs.Option.{option_map, unwrap_or};
-ghost use Rattle.clap.specs.Words.{found_of, first_value};
-ghost use Rattle.lgm_start.specs.Options.{AreChain, AreKnown};
+ghost use Rattle.clap.specs.Words.{found_of, first_value, one_text};
+ghost use Rattle.lgm_start.specs.Options.{AreChain, AreNoChain, AreKnown, AreNotKnown, AreWorkers};
 ghost use Rattle.lgm_start.specs.declared.options.BadWords.TheVariants.{NoMemory};
 
 use clap::builder::ValueParser;
@@ -19,8 +19,8 @@ use std::io::ErrorKind;
 /// The greatest number of bytes of the known feature bits.
 const MAX_KNOWN: usize = 256;
 
-/// The program's version, and the kit that it is proved with.
-const VERSION: &str = "1.0 (rattle-kit-13f)";
+/// The program's version.
+const VERSION: &str = "1.0";
 
 /// The end of the help of `lgm run`: for the chain of the examples, and for mainnet.
 const RUN_EXAMPLES: &str = "\
@@ -143,8 +143,10 @@ fn program<'a>(alloc: Global) -> Result<Command<'a>, AllocError> {
         .subcommand(live)
 }
 
+/// The chain that digits spell. The only error is `Chain`.
 fn chain(digits: &str) -> Result<ChainHash, BadWords>
-    ensures { IfOk result (AreChain digits.now) }
+    ensures ok { IfOk result (AreChain digits.now) }
+    ensures bad { IfErr result (λ bad. (bad ≡ BadWords.Chain) × AreNoChain digits.now) }
 {
     match lgm_hex::decode_array::<32>(digits.as_bytes()) {
         Ok(bytes) => Ok(ChainHash(bytes)),
@@ -152,9 +154,11 @@ fn chain(digits: &str) -> Result<ChainHash, BadWords>
     }
 }
 
-/// The known feature bits. Without digits all are known.
+/// The known feature bits. Without digits all are known. The errors are `Known`, and out of memory.
 fn known(alloc: Global, digits: Option<&str>) -> Result<Known, BadWords>
-    ensures { IfOk result (AreKnown (option_map (λ d. d.now) digits.entry)) }
+    ensures ok { IfOk result (AreKnown (option_map (λ d. d.now) digits.entry)) }
+    ensures bad { IfErr result (λ bad. (bad ≡ BadWords.NoMemory)
+        ⊎ ((bad ≡ BadWords.Known) × AreNotKnown (option_map (λ d. d.now) digits.entry))) }
 {
     let Some(digits) = digits else {
         return Ok(Known::all());
@@ -178,7 +182,9 @@ fn options_of(alloc: Global, mode: Mode, words: &ArgMatches) -> Result<Options, 
         AreChain (unwrap_or (first_value (found_of words.now) (codes "chain")) []) options.chain) }
     ensures known { IfOk result
         (λ options. AreKnown (first_value (found_of words.now) (codes "known")) options.known) }
-    ensures workers { IfOk result (λ options. (1 ≤ options.workers) × (options.workers ≤ MAX_WORKERS)) }
+    ensures workers { IfOk result
+        (λ options. AreWorkers (one_text (found_of words.now) (codes "workers")) options.workers) }
+    ensures few { IfOk result (λ options. (1 ≤ options.workers) × (options.workers ≤ MAX_WORKERS)) }
 {
     // `clap` has checked that they are 1 to `MAX_WORKERS`.
     let workers = words

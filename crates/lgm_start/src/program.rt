@@ -1,7 +1,7 @@
 //! The whole program, over any words and streams.
 
-ghost use Rattle.std.specs.Prelude.{◌≡◌};
-ghost use Rattle.lgm_start.specs.Ended.{status_of};
+ghost use Rattle.std.specs.Prelude.{◌≡◌, ◌≢◌};
+ghost use Rattle.lgm_start.specs.Ended.{EndsWith, line_of, status_of};
 
 use crate::answer::{Ended, answer};
 use crate::options::{BadWords, parse};
@@ -31,7 +31,9 @@ fn write_line<S: Sink>(errors: &mut S, text: &str) {
 }
 
 /// The line on standard error for a fault of `lgm run` or `lgm live`, with its line feed.
-pub fn fault_line(fault: RunFault) -> &'static str {
+pub fn fault_line(fault: RunFault) -> &'static str
+    ensures { result.now ≡ line_of fault }
+{
     match fault {
         RunFault::Read => "lgm: read failed\n",
         RunFault::Write => "lgm: write failed\n",
@@ -61,7 +63,9 @@ fn finish<S: Sink>(errors: &mut S, ended: &Ended) -> u8
 }
 
 /// Writes what `clap` says about the arguments.
-fn explain<S: Sink>(alloc: Global, errors: &mut S, error: &Error) -> u8 {
+fn explain<S: Sink>(alloc: Global, errors: &mut S, error: &Error) -> u8
+    ensures { result ≢ 0 }
+{
     if matches!(error.kind(), ErrorKind::OutOfMemory) {
         return fail(errors, RunFault::NoMemory);
     }
@@ -75,7 +79,9 @@ fn explain<S: Sink>(alloc: Global, errors: &mut S, error: &Error) -> u8 {
 }
 
 /// Writes why words give no options, and returns the exit status: 1 if memory ran out, else 2.
-pub fn refuse<S: Sink>(alloc: Global, errors: &mut S, bad: &BadWords) -> u8 {
+pub fn refuse<S: Sink>(alloc: Global, errors: &mut S, bad: &BadWords) -> u8
+    ensures { result ≢ 0 }
+{
     let line = match bad {
         BadWords::NotText => "lgm: argument isn't UTF-8\n",
         BadWords::Words(error) => return explain(alloc, errors, error),
@@ -102,7 +108,9 @@ pub fn start<Rt: Threads + Wait + Sync + RandomSource, R: Source, W: Sink, S: Si
     reader: &mut R,
     writer: &mut W,
     errors: &mut S,
-) -> u8 {
+) -> u8
+    ensures { EndsWith (R.seen reader.old) (R.seen reader.new) (W.seen writer.old) (W.seen writer.new) result }
+{
     start_with_gate(rt, alloc, words, &Open, reader, writer, errors)
 }
 
@@ -121,7 +129,9 @@ pub fn start_with_gate<
     reader: &mut R,
     writer: &mut W,
     errors: &mut S,
-) -> u8 {
+) -> u8
+    ensures { EndsWith (R.seen reader.old) (R.seen reader.new) (W.seen writer.old) (W.seen writer.new) result }
+{
     let options = match parse(alloc, words) {
         Ok(options) => options,
         Err(bad) => return refuse(alloc, errors, &bad),

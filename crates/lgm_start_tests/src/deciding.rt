@@ -258,6 +258,32 @@ fn as_many_pieces_as_workers(rt: HostRuntime) -> Result<(), Fail> {
     Ok(())
 }
 
+// The pieces of `lgm live` are its workers, and behind them the writer.
+#[test]
+fn as_many_workers_of_live_as_the_words_say(rt: HostRuntime) -> Result<(), Fail> {
+    let alloc = rt.alloc();
+    let all = ["lgm", "live", "--chain", CHAIN, "--workers"];
+    for (workers, want) in [("1", 1), ("2", 2), ("3", 3), ("64", 64), ("", 4)] {
+        let mut words = Vec::from_slice(alloc, &all)?;
+        if workers.is_empty() {
+            words.pop();
+        } else {
+            words.push(workers)?;
+        }
+        let gate = Greatest {
+            piece: AtomicU64::new(0),
+        };
+        let given = Given {
+            words: words.as_slice(),
+            last: None,
+        };
+        let (status, _, _) = started_in(&rt, alloc, given, &gate, b"commit\n", 10_000);
+        assert_eq!(rt; status, 0, "at {workers}");
+        assert_eq!(rt; gate.piece.load(Ordering::SeqCst), want, "at {workers}");
+    }
+    Ok(())
+}
+
 #[test]
 fn words_are_utf_8(rt: HostRuntime) -> Result<(), Fail> {
     let words = ["lgm", "run", "--chain", CHAIN, "--known"];

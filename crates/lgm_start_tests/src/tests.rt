@@ -156,10 +156,10 @@ fn words_are_checked_first(rt: HostRuntime) -> Result<(), Fail> {
 }
 
 #[test]
-fn the_version_names_the_kit(rt: HostRuntime) -> Result<(), Fail> {
+fn the_version_is_named(rt: HostRuntime) -> Result<(), Fail> {
     let (status, writer, errors) = started(&rt, rt.alloc(), &["lgm", "--version"], b"");
     assert_eq!(rt; status, 2);
-    assert_eq!(rt; errors.taken(), b"lgm 1.0 (rattle-kit-13f)\n".as_slice());
+    assert_eq!(rt; errors.taken(), b"lgm 1.0\n".as_slice());
     assert!(rt; writer.taken().is_empty());
     Ok(())
 }

@@ -15,10 +15,15 @@ use Rattle.lgm_store.specs.Rows.{is_point}
 use Rattle.lgm_store.proofs.Points.{same_point, is_point-self}
 use Rattle.std.specs.Prelude.{slice_get}
 use Rattle.std.specs.Cmp.{IsEquivalence}
-use Rattle.std.specs.Map.{lookup_key}
+use Rattle.std.specs.Map.{lookup_key, keys_of}
+use Rattle.std.proofs.Common.{inl, inr, ◌-◌, length, map, take, position, Option}
+use Rattle.std.specs.Prelude.{swap_remove, slice_set, slice_index_or}
+use Rattle.std.proofs.lemmas.List.{take-map, map-set, length-map}
+use Rattle.std.proofs.Math.ListN.{get_or-map}
+use Rattle.indexmap.specs.IndexMap.{swap_remove_entry}
 use Rattle.indexmap.specs.IndexMap.{IndexMap, IsUnique, with_value_at}
 use Rattle.indexmap.proofs.CallerLemmas.{updates-with_value_at}
-use Rattle.lgm_store.specs.inner.ChannelsByNode.{with_id, without_id, entry_of, list_at, kept, IsSame, Sets, Lists, Lacks, changed, IsPlaceOf}
+use Rattle.lgm_store.specs.inner.ChannelsByNode.{with_id, without_id, entry_of, list_at, kept, IsSame, Sets, Lists, Lacks, changed, IsPlaceOf, MovesLastAlone}
 
 -- ---- inserting and removing keys
 
@@ -54,6 +59,26 @@ kept-with (x ∷ xs) id = by (nat_cmp id x)
     by Less = refl
     by Equal = refl
     by Greater = refl
+
+-- ---- removing an entry
+
+-- the keys behind an entry that is removed, whose place the last one takes
+keys-swap_remove : {K X : Type 0} (es : List (K × X)) (i : ℕ) (e : K × X) → keys_of (swap_remove es i e) ≡ swap_remove (keys_of es) i e.0
+keys-swap_remove {K} {X} es i e =
+    let key : K × X → K = λ p. p.0 in
+    let last = length es - 1 in
+    rw (length-map es key) (sym (take-map key last (slice_set es i (slice_index_or es last e)))
+    ∙ ap (take last) (map-set key es i (slice_index_or es last e) ∙ ap (slice_set (map key es) i) (sym (get_or-map key es last e))))
+
+-- whichever entry is removed of those with the same keys, at most the last one moves
+pub moves-removed : (test : Point → Bool) (old es new : List (Point × List ℕ)) → keys_of es ≡ keys_of old
+    → new ≡ swap_remove_entry test es → MovesLastAlone old new
+moves-removed test old [] new same is = inl (rw is same)
+moves-removed test old (e ∷ es) new same is = by (position test (keys_of (e ∷ es))) refl
+  where
+    by : (found : Option ℕ) → position test (keys_of (e ∷ es)) ≡ found → MovesLastAlone old new
+    by None none = inl (ap keys_of is ∙ rw none same)
+    by (Some i) some = inr (i, e.0, ap keys_of is ∙ rw some (keys-swap_remove (e ∷ es) i e ∙ ap (λ ks. swap_remove ks i e.0) same))
 
 -- ---- lists at points
 

@@ -2,6 +2,7 @@
 pub mod Decided
 pub mod Slots
 pub mod SameKeys
+pub mod Seed
 pub mod ChannelTable
 pub mod ChannelsByNode
 pub mod Sound

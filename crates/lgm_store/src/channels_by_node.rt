@@ -3,7 +3,7 @@
 ghost use Rattle.std.specs.Prelude.{◌≡◌, ◌++◌, ℕ, [], List, None, is_some, IfOk, IfNone, IfSome, OnOk, OnErr};
 ghost use Rattle.lgm_wire.specs.declared.point.Point.{Point};
 ghost use Rattle.lgm_store.specs.inner.ChannelsByNode.{entry_of, list_at, with_id, without_id};
-ghost use Rattle.lgm_store.specs.inner.ChannelsByNode.{changed, Lacks, Sets, IsSame, Lists, IsPlaceOf};
+ghost use Rattle.lgm_store.specs.inner.ChannelsByNode.{changed, Lacks, Sets, IsSame, Lists, IsPlaceOf, MovesLastAlone};
 
 use crate::lookup::NodeKey;
 use crate::lookup_cache::{LookupCache, NOWHERE, unless};
@@ -160,7 +160,8 @@ impl ChannelsByNode {
     }
 
     fn remove_one(&mut self, point: &Point, scid: Scid)
-        ensures { Sets self.old self.new point.now (without_id (list_at self.old point.now) scid) }
+        ensures sets { Sets self.old self.new point.now (without_id (list_at self.old point.now) scid) }
+        ensures moves { MovesLastAlone self.old self.new }
     {
         let guess = self.cache.cached(point.cache_key());
         if let Some(place) = place_of(&self.lists, guess, point) {

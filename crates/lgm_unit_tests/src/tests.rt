@@ -1,8 +1,10 @@
 mod bounds;
 mod graph;
 mod items;
+mod memory;
 mod par;
 mod payload;
 mod publish;
 mod route;
 mod script;
+mod seeds;

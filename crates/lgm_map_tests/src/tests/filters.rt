@@ -1,8 +1,10 @@
 //! Backlogs of a map, and news between two, by their calls.
 
 use super::item::take_offer;
-use lgm_query::{Filter, ReplyMessage, backlog, news};
+use lgm_gossip::Scid;
+use lgm_query::{Backlog, Filter, ReplyMessage, backlog, news};
 use lgm_store::Map;
+use lgm_test_gossip::ops::channel;
 use lgm_test_scripts::{item_of, spelled};
 use std::alloc::{AllocError, Global};
 use std::process::Abort;
@@ -124,4 +126,24 @@ fn news_between_two_maps(rt: HostRuntime) -> Result<(), Fail> {
     )?;
     let again = "close 1x0x0\nm ca(1x0x0,A,B) all 100000\nm cu(1x0x0,0,5) A -\n";
     assert_news(&rt, alloc, updated, again, "")
+}
+
+/// An empty range passes nothing, and costs nothing: with a pass over 20,000 channels for each of 1,000,000 filters this
+/// would take minutes.
+#[test]
+fn an_empty_range_walks_no_map(rt: HostRuntime) -> Result<(), Fail> {
+    let alloc = rt.alloc();
+    let mut map = Map::new(alloc)?;
+    for number in 0..20_000u64 {
+        map.absorb(&channel(alloc, Scid::from_u64(number), (10, 11), 100_000, &[])?)?;
+    }
+    let none = Filter { first: 0, range: 0 };
+    let mut passing = 0u64;
+    for _ in 0..1_000_000 {
+        if Backlog::of(&map, &none).next().is_some() {
+            passing = passing.saturating_add(1);
+        }
+    }
+    assert_eq!(rt; passing, 0);
+    Ok(())
 }

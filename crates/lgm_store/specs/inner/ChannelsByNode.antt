@@ -1,9 +1,9 @@
 -- The index from nodes to the ids of their channels.
 use Rattle.std.specs.Prelude.{◌≡◌, ℕ, Bool, false, not, ◌||◌, is_some, List, [], ◌∷◌}
-use Rattle.std.specs.Prelude.{Option, Some, None, unwrap_or, cond, if◌then◌else◌, slice_get}
+use Rattle.std.specs.Prelude.{◌⊎◌, Option, Some, None, unwrap_or, cond, if◌then◌else◌, slice_get, swap_remove}
 use Rattle.std.specs.List.{list_any}
 use Rattle.std.specs.Ordering.{nat_cmp}
-use Rattle.std.specs.Map.{lookup}
+use Rattle.std.specs.Map.{lookup, keys_of}
 use Rattle.std.specs.Set.{remove_key}
 use Rattle.std.specs.BTreeMap.{is_at}
 use Rattle.std.specs.BTreeSet.{insert_key}
@@ -44,6 +44,11 @@ IsSame old new = (q : Point) → entry_of new q ≡ entry_of old q
 -- the list of this point is replaced, and the others are the same
 abbrev pub Sets : List (Point × List ℕ) → List (Point × List ℕ) → Point → List ℕ → Type 0
 Sets old new point ids = (q : Point) → entry_of new q ≡ cond (is_point point q) (kept ids) (entry_of old q)
+
+-- the points keep their places, but that the last one takes the place of one that is removed
+abbrev pub MovesLastAlone : List (Point × List ℕ) → List (Point × List ℕ) → Type 0
+MovesLastAlone old new =
+    (keys_of new ≡ keys_of old) ⊎ ((place : ℕ) × (point : Point) × (keys_of new ≡ swap_remove (keys_of old) place point))
 
 -- the index has exactly these lists
 abbrev pub Lists : List (Point × List ℕ) → (Point → List ℕ) → Type 0

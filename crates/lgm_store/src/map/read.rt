@@ -1,6 +1,6 @@
 //! Reading a map.
 
-ghost use Rattle.std.specs.Prelude.{◌≡◌, ℕ, Bool, ◌*◌, ◌^◌, ◌<◌, ◌≤◌, IfOk, length, map};
+ghost use Rattle.std.specs.Prelude.{◌≡◌, ℕ, Bool, ◌-◌, ◌*◌, ◌^◌, ◌<◌, ◌≤◌, IfOk, length, map, min};
 ghost use Rattle.std.specs.Option.{option_copied, option_map, option_and_then};
 ghost use Rattle.lgm_store.specs.ChannelInfo.{update_in};
 ghost use Rattle.lgm_store.specs.ChannelInfo.{stored_at};
@@ -198,15 +198,16 @@ const BLOCK: u64 = 1 << 40;
 /// The number of blocks that ids can have.
 const BLOCKS: u64 = 1 << 24;
 
-/// An id that is above all ids of earlier blocks.
+/// The first id of a block, or the greatest of all if no id has the block.
 fn start_of(block: u64) -> Scid
+    ensures exact { result ≡ min (block * 2 ^ 40) (2 ^ 64 - 1) }
     ensures least { result ≤ block * 2 ^ 40 }
     ensures earlier { (id : ℕ) → id < result → block_of id < block }
 {
     Scid::from_u64(block.saturating_mul(BLOCK))
 }
 
-/// An upper bound that excludes only ids of this block and later ones.
+/// The upper bound that excludes the ids of this block and later ones, and no others.
 fn end_before(block: u64) -> Bound<Scid>
     ensures { IsEndBefore block result }
 {

@@ -1,5 +1,6 @@
 //! What networks, boards and copies of maps take: it is bounded by what there is, whatever has been.
 
+use super::memory::most_memory;
 use lgm_gossip::Scid;
 use lgm_graph::{Known, Network, push_pending, reserve_pending};
 use lgm_publish::{Eye, Pen, board};
@@ -8,8 +9,6 @@ use lgm_test_gossip::FREE;
 use lgm_test_gossip::ops::{channel, update};
 use std::alloc::{AllocError, Global};
 use std::collections::VecDeque;
-use std::fs;
-use std::rt::Files;
 use std::sync::Wait;
 use std::test::Fail;
 
@@ -106,18 +105,6 @@ fn pending_operations_are_few(rt: HostRuntime) -> Result<(), Fail> {
     push_pending(&mut pending, update(alloc, scid(7), 0, &FREE)?, 1);
     assert!(rt; pending.is_none());
     Ok(())
-}
-
-/// The most memory that the process has had so far, in KiB.
-fn most_memory<R: Files + AllocGlobal>(rt: &R) -> Result<u64, Fail> {
-    let status = fs::read_to_string(rt, "/proc/self/status")?;
-    for line in status.lines() {
-        if let Some(figure) = line.strip_prefix("VmHWM:") {
-            let number = figure.trim().strip_suffix(" kB").ok_or("no unit")?;
-            return Ok(number.parse::<u64>()?);
-        }
-    }
-    Err(Fail::from("no figure"))
 }
 
 /// A map of 60 channels, which had 10,000.

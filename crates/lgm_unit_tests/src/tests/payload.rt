@@ -8,7 +8,7 @@ use std::alloc::Global;
 use std::test::Fail;
 
 /// A payment secret.
-const SECRET: [u8; 32] = [0x11; 32];
+pub const SECRET: [u8; 32] = [0x11; 32];
 
 /// The payload of a node that forwards 4,999,999 msat over 600000x1x0.
 const FORWARD: [u8; 21] =
@@ -32,7 +32,7 @@ fn point(last: u8) -> Point {
 }
 
 /// Two channels, of which the second charges 10,199 msat and 20 blocks.
-fn two_hops() -> [Hop; 2] {
+pub fn two_hops() -> [Hop; 2] {
     [
         Hop {
             scid: Scid::new(600_000, 0, 0),

@@ -28,7 +28,7 @@ loop-message-preserved g c = λ all gives.
       next.others,
       next.left,
       onward_added _ _ _ _ _ _ now.2 _ _ _ (ap (flat_map (message_behind c.args.lead.now)) next.is)
-          c.in_ok-add.ensures,
+          c.in_ok-add.ensures.adds,
     )
 
 pub returns-in_err-add : goal.returns-in_err-add
@@ -38,7 +38,7 @@ returns-in_err-add g c =
     let now = c.loop-message.invariant all gives in
     let next = gave_one g.I.Iterator.next_gives now.0 _ _ _ now.1 c.in-Some.ensures.steps in
     rw (p.1, p.2) (added_stops _ _ _ _ _ _ now.2 _ _ _ (ap (flat_map (message_behind c.args.lead.now)) next.is)
-    c.in_err-add.ensures)
+    c.in_err-add.ensures.adds)
 
 pub returns : goal.returns
 returns g c = λ all gives.

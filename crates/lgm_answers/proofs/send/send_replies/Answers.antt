@@ -31,7 +31,7 @@ loop-message-preserved g c =
     onward_added _ _ _ _ _ _ c.loop-message.invariant _ _ _
     (message_there c.args.lead.now c.loop-message.message-index c.args.messages.now c.message-item.result
     c.as_slice.result.now c.loop-message-test.true c.message-item.is c.as_slice.ensures)
-    c.in_ok-add.ensures
+    c.in_ok-add.ensures.adds
 
 pub returns-in_err-add : goal.returns-in_err-add
 returns-in_err-add g c =
@@ -39,7 +39,7 @@ returns-in_err-add g c =
     rw (p.1, p.2) (added_stops _ _ _ _ _ _ c.loop-message.invariant _ _ _
     (message_there c.args.lead.now c.loop-message.message-index c.args.messages.now c.message-item.result
     c.as_slice.result.now c.loop-message-test.true c.message-item.is c.as_slice.ensures)
-    c.in_err-add.ensures)
+    c.in_err-add.ensures.adds)
 
 pub returns : goal.returns
 returns g c =

@@ -1,10 +1,11 @@
-use Rattle.std.proofs.Common.{Bool, Result, Ok, Err, ◌≡◌, ◌<◌, ◌∙◌, [], length, take, sym, ap, arith}
+use Rattle.std.proofs.Common.{Bool, Result, Ok, Err, ℕ, List, ◌≡◌, ◌<◌, ◌⊎◌, ◌∙◌, [], length, take, inl, inr, sym, ap, arith}
 use Rattle.std.proofs.lemmas.List.Elements.{All-same}
 use Rattle.std.proofs.lemmas.Result.{err_from_is_err_and}
 use Rattle.lgm_script.specs.declared.line_reader.TheConstants.{MAX_LINE}
 use Rattle.lgm_script.specs.declared.read.LineFault.{LineFault}
 use Rattle.lgm_script.specs.declared.read.LineFault.TheVariants.{Write}
 use Rattle.lgm_script.specs.declared.output.SendFault.TheVariants.{Write as SendWrite}
+use Rattle.lgm_script.specs.Lines.{HasNoLineFeed}
 use Rattle.lgm_script.proofs.Splitting.{EndsNoLine, first_is_longer, has_longer}
 use Rattle.lgm_script.proofs.Telling.{tells_both, tells_part_behind}
 use Rattle.lgm_script.proofs.read.next_line.Goals as goal
@@ -14,6 +15,38 @@ failed fault = Err fault
 
 failed_is : {T : Type 0} (a b : LineFault) → failed {T = T} a ≡ failed b → a ≡ b
 failed_is a b e = cc
+
+-- where a line feed was read ahead, nothing was read since
+module _ {S : Type 0} (old lines : List ℕ) (was source : S) where
+  stays : HasNoLineFeed old ⊎ ((lines ≡ old) × (source ≡ was)) → ¬ HasNoLineFeed old → (lines ≡ old) × (source ≡ was)
+  stays (inl none) some = absurd (some none)
+  stays (inr same) some = same
+
+  -- and where there is none now, there was none
+  none_before : HasNoLineFeed old ⊎ ((lines ≡ old) × (source ≡ was)) → HasNoLineFeed lines → HasNoLineFeed old
+  none_before (inl none) now = none
+  none_before (inr same) now = rw same.0 at now
+
+pub returns-then-count-gt-MAX_LINE-clause-ready : goal.returns-then-count-gt-MAX_LINE-clause-ready
+returns-then-count-gt-MAX_LINE-clause-ready g c = stays _ _ _ _ c.loop-count.invariant.ready
+
+pub returns-else-count-gt-MAX_LINE-clause-ready : goal.returns-else-count-gt-MAX_LINE-clause-ready
+returns-else-count-gt-MAX_LINE-clause-ready g c = stays _ _ _ _ c.loop-count.invariant.ready
+
+pub returns-then-searched-gt-MAX_LINE-clause-ready : goal.returns-then-searched-gt-MAX_LINE-clause-ready
+returns-then-searched-gt-MAX_LINE-clause-ready g c = stays _ _ _ _ c.loop-count.invariant.ready
+
+pub returns-in_err-read_on-clause-ready : goal.returns-in_err-read_on-clause-ready
+returns-in_err-read_on-clause-ready g c = λ some.
+    absurd (some (none_before _ _ _ _ c.loop-count.invariant.ready (rw c.buffered.ensures at c.in_default.ensures.none)))
+
+pub returns-then-searched-gt0-clause-ready : goal.returns-then-searched-gt0-clause-ready
+returns-then-searched-gt0-clause-ready g c = λ some.
+    absurd (some (none_before _ _ _ _ c.loop-count.invariant.ready (rw c.buffered.ensures at c.in_default.ensures.none)))
+
+pub returns-else-searched-gt0-clause-ready : goal.returns-else-searched-gt0-clause-ready
+returns-else-searched-gt0-clause-ready g c = λ some.
+    absurd (some (none_before _ _ _ _ c.loop-count.invariant.ready (rw c.buffered.ensures at c.in_default.ensures.none)))
 
 pub returns-then-count-gt-MAX_LINE-clause-too_long : goal.returns-then-count-gt-MAX_LINE-clause-too_long
 returns-then-count-gt-MAX_LINE-clause-too_long g c = λ e.
@@ -60,6 +93,7 @@ loop-count-preserved g c =
       one =
           rw size (All-same EndsNoLine (take (length lines) c.read_on.new.lines) lines
           c.in_ok-read_on.ensures.front (rw c.buffered.ensures at c.in_default.ensures.none));
+      ready = inl (none_before _ _ _ _ c.loop-count.invariant.ready (rw c.buffered.ensures at c.in_default.ensures.none));
       written = tells_both _ _ _ [] [] c.loop-count.invariant.written (c.in_ok-read_on.ensures.written (λ e. cc));
       well = c.in_ok-read_on.ensures.well (λ e. cc) ∙ c.loop-count.invariant.well;
     }

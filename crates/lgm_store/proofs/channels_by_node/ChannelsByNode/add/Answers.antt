@@ -14,7 +14,7 @@ returns-then-is_err-clause-err c =
     on_err_weaker c.add_one-added.result
     (λ same ids lists lacks. Lists-undo c.args.scid c.args.self.now c.add_one.new.self
     c.add_one-added.new.self c.remove_one.new.self c.args.first ids c.in_ok-add_one.ensures.ok same
-    c.remove_one.ensures lacks lists)
+    c.remove_one.ensures.sets lacks lists)
     c.add_one-added.ensures.err
 
 pub returns-else-is_err-clause-ok : goal.returns-else-is_err-clause-ok

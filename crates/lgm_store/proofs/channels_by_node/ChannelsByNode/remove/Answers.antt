@@ -15,9 +15,9 @@ pub returns-then-ne : goal.returns-then-ne
 returns-then-ne c ids lists =
     Lists-change (λ list. without_id list c.args.scid) c.args.self.now c.remove_one.new.self
     c.remove_one-then-ne.new.self c.args.first.now c.args.second.now ids
-    (not_true _ c.if-ne.ensures) c.remove_one.ensures c.remove_one-then-ne.ensures lists
+    (not_true _ c.if-ne.ensures) c.remove_one.ensures.sets c.remove_one-then-ne.ensures.sets lists
 
 pub returns-else-ne : goal.returns-else-ne
 returns-else-ne c ids lists =
     Lists-change_same (λ list. without_id list c.args.scid) c.args.self.now c.remove_one.new.self
-    c.args.first.now c.args.second.now ids (not_false _ c.if-ne.ensures) c.remove_one.ensures lists
+    c.args.first.now c.args.second.now ids (not_false _ c.if-ne.ensures) c.remove_one.ensures.sets lists

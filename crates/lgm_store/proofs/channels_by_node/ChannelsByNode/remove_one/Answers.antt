@@ -1,8 +1,11 @@
 use Rattle.std.proofs.Common.{◌≡◌, ℕ, true, false, List, [], ◌∷◌, Some, length, refl, ap, sym, ◌∙◌, arith}
 use Rattle.std.proofs.lemmas.Bool.Decides.{nat_tests}
 use Rattle.std.specs.Prelude.{◌==◌}
-use Rattle.lgm_store.specs.inner.ChannelsByNode.{list_at, without_id, kept, Sets}
-use Rattle.lgm_store.proofs.Listing.{Sets-put, Sets-out, list-lent, entries-lent}
+use Rattle.std.specs.Map.{keys_of}
+use Rattle.std.proofs.Common.{inl}
+use Rattle.indexmap.proofs.CallerLemmas.{keys-with_value_at}
+use Rattle.lgm_store.specs.inner.ChannelsByNode.{list_at, without_id, kept, Sets, MovesLastAlone}
+use Rattle.lgm_store.proofs.Listing.{Sets-put, Sets-out, list-lent, entries-lent, moves-removed}
 use Rattle.lgm_store.proofs.channels_by_node.ChannelsByNode.remove_one.Goals as goal
 use Rattle.lgm_store.proofs.channels_by_node.ChannelsByNode.remove_one.Goals.{Joined-swap_remove, in-Some+in-One-1, in-Some+in-Many-1, in-None-1}
 
@@ -31,15 +34,30 @@ out c =
     c.pair_mut-list.ensures.unique)
     c.swap_remove.ensures.updates.0
 
-pub returns-then-is_empty : goal.returns-then-is_empty
-returns-then-is_empty c = elim c.match-swap_remove.branch [
+-- at most the last one moves
+moved : (c : Joined-swap_remove) → MovesLastAlone c.args.self.now c.swap_remove.new.self.entries
+moved c = moves-removed _ _ _ _ (keys-with_value_at c.self.inside.lists c.in-Some.place c.remove.new.self ∙ ap keys_of c.self.view_is)
+    c.swap_remove.ensures.entries
+
+pub returns-then-is_empty-clause-sets : goal.returns-then-is_empty-clause-sets
+returns-then-is_empty-clause-sets c = elim c.match-swap_remove.branch [
   | in-Some+in-One-1 w ↦ rw w.self-is (out c)
   | in-Some+in-Many-1 w ↦ rw w.self-is (out c)
   | in-None-1 w ↦ rw w.self-is (out c)
 ]
 
-pub returns-else-is_empty : goal.returns-else-is_empty
-returns-else-is_empty c =
+pub returns-then-is_empty-clause-moves : goal.returns-then-is_empty-clause-moves
+returns-then-is_empty-clause-moves c = elim c.match-swap_remove.branch [
+  | in-Some+in-One-1 w ↦ rw w.self-is (moved c)
+  | in-Some+in-Many-1 w ↦ rw w.self-is (moved c)
+  | in-None-1 w ↦ rw w.self-is (moved c)
+]
+
+pub returns-else-is_empty-clause-moves : goal.returns-else-is_empty-clause-moves
+returns-else-is_empty-clause-moves c = inl (keys-with_value_at c.self.inside.lists c.in-Some.place c.remove.new.self ∙ ap keys_of c.self.view_is)
+
+pub returns-else-is_empty-clause-sets : goal.returns-else-is_empty-clause-sets
+returns-else-is_empty-clause-sets c =
     let lists = c.self.inside.lists in
     let own = c.pair_mut-list.result.0.now in
     let list = c.pair_mut-list.result.1.now in
