@@ -1,6 +1,5 @@
 mod Values
 mod MapValues
-mod SnapshotValues
 mod Outcomes
 mod Networks
 mod Marks

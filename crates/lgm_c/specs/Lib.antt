@@ -2,6 +2,7 @@ pub mod MapState
 pub mod Status
 pub mod Writing
 pub mod Evidence
+pub mod Changing
 pub mod Opening
 pub mod Published
 pub mod Offering

@@ -11,6 +11,7 @@ use Rattle.lgm_store.specs.Rows.{Rows}
 use Rattle.lgm_store.specs.Admission.{admitted, admitted_close}
 use Rattle.lgm_store.specs.History.{absorbed}
 use Rattle.lgm_c.specs.declared.fault.Fault.TheVariants as faults
+use Rattle.lgm_c.specs.Changing.{Changes}
 use Rattle.lgm_c.specs.MapState.{MapState, next_version}
 use Rattle.lgm_c.specs.Status.{number_of, no_memory, refused, MayRunOut}
 
@@ -33,15 +34,16 @@ Does takes outcome old status new =
     ((status ≡ outcome_number outcome) × (new ≡ Some (state_behind old outcome)))
     ⊎ (MayRunOut takes outcome × (status ≡ no_memory) × (new ≡ Some old))
 
--- a message is offered to a handle, with the verdicts on it if the numbers stand for some; a refusal is returned even
--- if memory is short, unless decoding the message allocates
-abbrev pub Offers : List ℕ → Option Evidence → ℕ → Option MapState → Option MapState → Type 0
-Offers bytes evidence status None new = (status ≡ number_of faults.Closed) × (new ≡ None)
-Offers bytes None status (Some old) new = (status ≡ number_of faults.Argument) × (new ≡ Some old)
-Offers bytes (Some evidence) status (Some old) new =
+-- a message is offered to a map, with the verdicts on it if the numbers stand for some; a refusal is returned even if
+-- memory is short, unless decoding the message allocates
+abbrev pub OffersTo : List ℕ → Option Evidence → MapState → ℕ → Option MapState → Type 0
+OffersTo bytes None old status new = (status ≡ number_of faults.Argument) × (new ≡ Some old)
+OffersTo bytes (Some evidence) old status new =
     Does (TakesMemory bytes) (offered_to old.chain old.rows bytes evidence) old status new
+
+abbrev pub Offers : List ℕ → Option Evidence → ℕ → Option MapState → Option MapState → Type 0
+Offers bytes evidence = Changes (OffersTo bytes evidence)
 
 -- a channel is closed; a refusal allocates nothing
 abbrev pub Closes : ℕ → ℕ → Option MapState → Option MapState → Type 0
-Closes id status None new = (status ≡ number_of faults.Closed) × (new ≡ None)
-Closes id status (Some old) new = Does ⊥ (admitted_close old.rows id) old status new
+Closes id = Changes (λ old status new. Does ⊥ (admitted_close old.rows id) old status new)

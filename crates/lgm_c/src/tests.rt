@@ -2,7 +2,7 @@
 //! memory. The numbers and lengths are worked out by hand, from BOLT 7, BOLT 4 and `docs/protocol.md`.
 
 mod bounds;
-mod snapshots;
+mod published;
 
 use crate::lookups::{LgmChannel, LgmDirection, LgmNode, lgm_channel, lgm_count, lgm_node};
 use crate::map::LgmMap;
@@ -316,7 +316,9 @@ fn words(rt: HostRuntime) {
     let mut word = [1; 24];
     lgm_word(0, &mut word);
     assert_eq!(rt; word, *b"accepted\0\0\0\0\0\0\0\0\0\0\0\0\0\0\0\0");
+    lgm_word(106, &mut word);
+    assert_eq!(rt; word, *b"published\0\0\0\0\0\0\0\0\0\0\0\0\0\0\0");
     lgm_word(17, &mut word);
     assert_eq!(rt; word, [0; 24]);
-    assert_eq!(rt; lgm_version(), 1);
+    assert_eq!(rt; lgm_version(), 2);
 }
