@@ -186,7 +186,7 @@ def test_python():
                 for hop in route.hops)
         return [f"route {route.sent_msat} {route.expiry} {len(route.hops)}", *hops]
 
-    words = {number: ctypes.create_string_buffer(24) for number in range(1, 107)}
+    words = {number: ctypes.create_string_buffer(24) for number in range(1, 108)}
     for number, word in words.items():
         lgm._load().lgm_word(ctypes.c_uint32(number), word)
     words = {number: word.value.decode() for number, word in words.items() if word.value}
@@ -246,6 +246,37 @@ def test_lookups():
         found = {point: network.node(point) for point in nodes}
         found = {point: (node.timestamp, node.rgb, node.alias, node.addresses) for point, node in found.items()}
         report("lgm.py, nodes", len(nodes) > 0 and found == nodes)
+        listed = list(network.channels()) == sorted(channels) and list(network.nodes()) == sorted(nodes)
+        report("lgm.py, lists", listed and list(network.banned()) == [])
+        report("lgm.py, copy", copied(network, lgm) == (sorted(channels), sorted(nodes), sorted(stored(network, lgm))))
+        worst = max(channels, key=lambda scid: channels[scid][1])
+        banned = channels[worst][1:3]
+        for point in banned:
+            network.ban(point)
+        left = sorted(scid for scid, channel in channels.items() if not {*banned} & {*channel[1:3]})
+        report("lgm.py, bans", list(network.banned()) == sorted(banned) and list(network.channels()) == left)
+
+
+def stored(network, lgm):
+    """The messages of a map, each with the satoshi of its channel or `None`: announcements of channels first."""
+    for scid in network.channels():
+        yield network.message(scid), network.channel(scid).capacity_sat, None
+    for scid in network.channels():
+        channel = network.channel(scid)
+        for which, terms, point in ((lgm.UPDATE_1, channel.from_1, channel.node_1),
+                                    (lgm.UPDATE_2, channel.from_2, channel.node_2)):
+            if terms:
+                yield network.message(scid, which), 0, point
+    for point in network.nodes():
+        yield network.node_message(point), 0, point
+
+
+def copied(network, lgm):
+    """What a second map has, to which the messages of a map are offered."""
+    with lgm.Map(bytes.fromhex(CHAIN)) as copy:
+        for message, sat, point in stored(network, lgm):
+            copy.offer(message, point or lgm.ALL_FOUR, lgm.NOT_ASKED if point else sat)
+        return list(copy.channels()), list(copy.nodes()), sorted(stored(copy, lgm))
 
 
 def test_threads():
@@ -352,7 +383,7 @@ def test_one_class():
 
     message = b"\1\t" + bytes.fromhex(CHAIN) + bytes(4) + b"\xff" * 4
     with lgm.Map(bytes.fromhex(CHAIN)) as network, network.publish() as published, published.publish() as other:
-        calls = [(published.offer, b""), (published.close_channel, 0), (published.mark,)]
+        calls = [(published.offer, b""), (published.close_channel, 0), (published.ban, bytes(33)), (published.mark,)]
         right = all(raised(*call) is lgm.Published for call in calls) and raised(network.share) is lgm.Argument
         right &= bool(network) and bool(published) and len(network) == len(published) == 0
         right &= network.version == published.version == other.version == 0 and published.news(message) == []

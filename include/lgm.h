@@ -86,14 +86,16 @@ enum {
      * if memory is short. lgm_filter returns LGM_ROOM even then.
      */
     LGM_NO_MEMORY = 102,
-    /* A number that stands for no verdict; a map that changes, where only a published one is shared. */
+    /* A number that stands for no verdict or message; a map that changes, where only a published one is shared. */
     LGM_ARGUMENT = 103,
     /* A buffer is too short. The lengths that are needed were written. */
     LGM_ROOM = 104,
     /* The map has more than 2,000,000,000 channels, too many for a route search. */
     LGM_FULL = 105,
     /* The map was published, so it doesn't change. */
-    LGM_PUBLISHED = 106
+    LGM_PUBLISHED = 106,
+    /* There is none: no id or point above the given one, or no such update. */
+    LGM_NONE = 107
 };
 
 /*
@@ -171,6 +173,15 @@ uint32_t lgm_offer(lgm_map *map, const uint8_t *message, size_t message_len, uin
  * LGM_CLOSED; LGM_PUBLISHED; LGM_UNKNOWN_CHANNEL; LGM_NO_MEMORY.
  */
 uint32_t lgm_close_channel(lgm_map *map, uint64_t scid);
+
+/*
+ * Bans a node, as contradicting announcements of a channel ban the nodes of both: removes its channels with their updates,
+ * and the announcement of each node that has no other channel. Announcements of it and of its channels are refused from
+ * then on. A ban lasts as long as the map.
+ *
+ * LGM_CLOSED; LGM_PUBLISHED; LGM_BANNED; LGM_NO_MEMORY.
+ */
+uint32_t lgm_ban(lgm_map *map, const uint8_t point[33]);
 
 /* The number of channels, or 0 for a closed handle. */
 size_t lgm_count(lgm_map *map);
@@ -252,8 +263,8 @@ uint32_t lgm_news_between(lgm_map *before, lgm_map *after, const uint8_t *filter
                           uint8_t *messages, size_t messages_len, size_t *needed);
 
 /*
- * Moves the mark to the map as it is now, or sets the first mark. From then on each accepted message and close is kept
- * until the mark moves, or until there are more than the map has channels, and 1,024 more: then none are, and the next
+ * Moves the mark to the map as it is now, or sets the first mark. From then on each accepted message, close and ban is
+ * kept until the mark moves, or until there are more than the map has channels, and 1,024 more: then none are, and the next
  * lgm_news and lgm_mark take the time of the map.
  *
  * LGM_CLOSED; LGM_PUBLISHED; LGM_NO_MEMORY.
@@ -280,7 +291,7 @@ uint32_t lgm_publish(lgm_map *map, lgm_map *published);
  */
 uint32_t lgm_share(lgm_map *published, lgm_map *other);
 
-/* How many messages and closes the map has accepted, or had when it was published; 0 for a closed handle. */
+/* How many messages, closes and bans the map has accepted, or had when it was published; 0 for a closed handle. */
 uint64_t lgm_version_of(lgm_map *map);
 
 /* The terms of a channel's direction, from its channel_update. If the map has none, all is 0. */
@@ -327,6 +338,33 @@ typedef struct {
  */
 uint32_t lgm_node(lgm_map *map, const uint8_t point[33], lgm_node_info *node, uint8_t *addresses,
                   size_t addresses_len, size_t *needed);
+
+/*
+ * Writes a message of a channel as it was received, and its length to `needed`: the announcement if `which` is 0, the update
+ * that node 1 sets if it is 1, and that of node 2 if it is 2.
+ *
+ * LGM_CLOSED; LGM_ARGUMENT; LGM_UNKNOWN_CHANNEL; LGM_NONE, without such an update; LGM_ROOM.
+ */
+uint32_t lgm_channel_message(lgm_map *map, uint64_t scid, uint32_t which, uint8_t *message, size_t message_len,
+                             size_t *needed);
+
+/*
+ * Writes the announcement of a node in the same way.
+ *
+ * LGM_CLOSED; LGM_NOT_ANNOUNCED; LGM_ROOM.
+ */
+uint32_t lgm_node_message(lgm_map *map, const uint8_t point[33], uint8_t *message, size_t message_len, size_t *needed);
+
+/*
+ * Go through the channels of a map by id, and by point, byte by byte, through its nodes with an announcement and through its
+ * banned nodes. Each replaces `*scid` or `point` by the least one above it or, if `is_first`, by the least of all. With
+ * LGM_NONE it is unchanged. Between two calls the map may change.
+ *
+ * LGM_CLOSED; LGM_NONE.
+ */
+uint32_t lgm_next_channel(lgm_map *map, bool is_first, uint64_t *scid);
+uint32_t lgm_next_node(lgm_map *map, bool is_first, uint8_t point[33]);
+uint32_t lgm_next_banned(lgm_map *map, bool is_first, uint8_t point[33]);
 
 #ifdef __cplusplus
 }

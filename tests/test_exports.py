@@ -23,6 +23,7 @@ CHANGES = (
     ("lgm_map *map, const lgm_payment *payment", "lgm_map *map, lgm_payment *payment", "function lgm_route: "),
     ("uint32_t lgm_mark(lgm_map *map);", "void lgm_mark(lgm_map *map);", "function lgm_mark: "),
     ("void lgm_free(", "void lgm_drop(", "function lgm_drop: "),
+    ("bool is_first, uint64_t *scid", "bool is_first, uint32_t *scid", "function lgm_next_channel: "),
     ("lgm_share(lgm_map *published", "lgm_share(const lgm_map *published", "function lgm_share: "),
 )
 

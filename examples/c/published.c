@@ -96,6 +96,7 @@ static void expect_unchanged(lgm_map *published) {
     expect("an update", lgm_offer(published, terms, UPDATE, LGM_SIG_BY, a, LGM_FUNDING_NOT_ASKED, 0), LGM_PUBLISHED);
     expect("no verdict", lgm_offer(published, terms, UPDATE, 4, a, LGM_FUNDING_NOT_ASKED, 0), LGM_PUBLISHED);
     expect("a close", lgm_close_channel(published, scid), LGM_PUBLISHED);
+    expect("a ban", lgm_ban(published, a), LGM_PUBLISHED);
     expect("a mark", lgm_mark(published), LGM_PUBLISHED);
     none_left = false;
 }

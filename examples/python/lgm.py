@@ -19,6 +19,7 @@ beside this one, where `examples/build-c` puts it.
 import ctypes
 import os
 import re
+import sys
 import threading
 from dataclasses import dataclass
 from functools import wraps
@@ -63,7 +64,7 @@ _REFUSALS = {1: "malformed", 2: "unknown-even", 3: "ignored", 4: "not-gossip", 5
              14: "unknown-node", 15: "not-newer", 16: "banned"}
 _REASONS = {21: "amount-zero", 22: "amount-too-large", 23: "expiry-too-large", 24: "self-payment", 25: "no-route"}
 _OTHERS = {31: "not-query", 32: "not-filter", 33: "not-announced", 100: "closed", 101: "open", 102: "no-memory",
-           103: "argument", 104: "room", 105: "full", 106: "published"}
+           103: "argument", 104: "room", 105: "full", 106: "published", 107: "none"}
 
 
 def _classes(base, words):
@@ -193,6 +194,9 @@ def _alone(method):
     return locked
 
 
+# The messages of a channel, for `Map.message`: its announcement, and the updates of node 1 and node 2.
+ANNOUNCEMENT, UPDATE_1, UPDATE_2 = range(3)
+
 # The length of a buffer that is kept from call to call; a longer one is given back.
 _KEPT = 1 << 20
 
@@ -272,6 +276,11 @@ class Map:
         _check(self._library.lgm_close_channel(self._at, _number("an id", scid, 2**64)))
 
     @_alone
+    def ban(self, point):
+        """Bans a node, and removes its channels, as contradicting announcements ban theirs."""
+        _check(self._library.lgm_ban(self._at, _octets("a point", point, 33)))
+
+    @_alone
     def route(self, payer, payee, amount_msat, expiry, secret):
         """The route by which the payer sends the least."""
         payment = _c.PAYMENT.pack(
@@ -333,7 +342,7 @@ class Map:
 
     @property
     def version(self):
-        """How many messages and closes the map has accepted, or had when it was published."""
+        """How many messages, closes and bans the map has accepted, or had when it was published."""
         with self._lock:
             return self._library.lgm_version_of(self._at)
 
@@ -351,6 +360,42 @@ class Map:
         """What the map has of a node."""
         addresses = self._written(self._library.lgm_node, _octets("a point", point, 33), self._struct.at)
         return Node(*_c.NODE.unpack_from(self._struct.bytes), addresses)
+
+    @_alone
+    def message(self, scid, which=ANNOUNCEMENT):
+        """A message of a channel, as it was received: ANNOUNCEMENT, UPDATE_1 or UPDATE_2."""
+        scid, which = _number("an id", scid, 2**64), _number("which", which, 2**32)
+        return self._written(self._library.lgm_channel_message, scid, which)
+
+    @_alone
+    def node_message(self, point):
+        """A node's announcement, as it was received."""
+        return self._written(self._library.lgm_node_message, _octets("a point", point, 33))
+
+    def channels(self):
+        """The ids of all channels, ascending."""
+        for scid in self._keys(self._library.lgm_next_channel, 8):
+            yield int.from_bytes(scid, sys.byteorder)
+
+    def nodes(self):
+        """The points of all nodes with an announcement, ascending byte by byte."""
+        return self._keys(self._library.lgm_next_node, 33)
+
+    def banned(self):
+        """The points of all banned nodes, ascending byte by byte."""
+        return self._keys(self._library.lgm_next_banned, 33)
+
+    def _keys(self, call, length):
+        """The keys that a call goes through. Between two of them the map may change."""
+        key, is_first = _Buffer(length), True
+        while True:
+            with self._lock:
+                number = call(self._at, is_first, key.at)
+            if number == _c.NONE:
+                return
+            _check(number)
+            yield key.front(length)
+            is_first = False
 
     def _written(self, call, *arguments):
         """The bytes that a call writes, to a buffer that grows if it is too short. One that was large is given back."""

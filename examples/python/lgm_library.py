@@ -9,6 +9,7 @@ from pathlib import Path
 LIBRARY = os.environ.get("LGM_LIBRARY") or Path(__file__).resolve().parent.parent / "out" / "liblgm.so"
 VERSION = 2
 ROOM = 104
+NONE = 107
 MOST_HOPS = 20
 MOST_PAYLOADS = 1300
 
@@ -34,6 +35,7 @@ CALLS = {
     "lgm_free": (None, [AT]),
     "lgm_offer": (U32, [AT, BYTES, SIZE, U32, BYTES, U32, U64]),
     "lgm_close_channel": (U32, [AT, U64]),
+    "lgm_ban": (U32, [AT, BYTES]),
     "lgm_count": (SIZE, [AT]),
     "lgm_route": (U32, [AT, BYTES, AT, SIZE, AT, SIZE, AT]),
     "lgm_query": (U32, ANSWERING),
@@ -46,6 +48,11 @@ CALLS = {
     "lgm_version_of": (U64, [AT]),
     "lgm_channel": (U32, [AT, U64, AT]),
     "lgm_node": (U32, [AT, BYTES, AT, AT, SIZE, AT]),
+    "lgm_channel_message": (U32, [AT, U64, U32, AT, SIZE, AT]),
+    "lgm_node_message": (U32, [AT, BYTES, AT, SIZE, AT]),
+    "lgm_next_channel": (U32, [AT, ctypes.c_bool, AT]),
+    "lgm_next_node": (U32, [AT, ctypes.c_bool, AT]),
+    "lgm_next_banned": (U32, [AT, ctypes.c_bool, AT]),
 }
 
 

@@ -9,5 +9,6 @@ pub mod Offering
 pub mod Asking
 pub mod Routing
 pub mod Looking
+pub mod Listing
 pub mod Words
 pub mod inner

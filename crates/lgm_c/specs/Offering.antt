@@ -1,13 +1,17 @@
 -- What offering a message or a close does to the state of a handle.
-use Rattle.std.specs.Prelude.{◌≡◌, ◌⊎◌, ℕ, List, Option, Some, None, Result, Ok, Err}
+use Rattle.std.specs.Prelude.{◌≡◌, ◌⊎◌, ℕ, not, List, Option, Some, None, Result, Ok, Err}
 use Rattle.lgm_wire.specs.reading.Reading.{◌>>=◌}
 use Rattle.lgm_wire.specs.declared.chain_hash.ChainHash.{ChainHash}
+use Rattle.lgm_wire.specs.declared.point.Point.{Point}
 use Rattle.lgm_gossip.specs.Memory.{TakesMemory}
 use Rattle.lgm_check.specs.declared.refusal.Refusal.{Refusal}
 use Rattle.lgm_check.specs.declared.evidence.Evidence.{Evidence}
-use Rattle.lgm_check.specs.Precheck.{checked_of}
+use Rattle.lgm_check.specs.declared.refusal.Refusal.TheVariants as refusals
+use Rattle.lgm_check.specs.declared.row.BanRow.{BanRow}
+use Rattle.lgm_check.specs.Precheck.{checked_of, require}
 use Rattle.lgm_store.specs.declared.op.Op.{Op}
-use Rattle.lgm_store.specs.Rows.{Rows}
+use Rattle.lgm_store.specs.declared.op.Op.TheVariants as ops
+use Rattle.lgm_store.specs.Rows.{Rows, is_banned}
 use Rattle.lgm_store.specs.Admission.{admitted, admitted_close}
 use Rattle.lgm_store.specs.History.{absorbed}
 use Rattle.lgm_c.specs.declared.fault.Fault.TheVariants as faults
@@ -47,3 +51,16 @@ Offers bytes evidence = Changes (OffersTo bytes evidence)
 -- a channel is closed; a refusal allocates nothing
 abbrev pub Closes : ℕ → ℕ → Option MapState → Option MapState → Type 0
 Closes id = Changes (λ old status new. Does ⊥ (admitted_close old.rows id) old status new)
+
+-- the ban of one node, as that of the nodes of two announcements
+abbrev pub ban_of : Point → BanRow
+ban_of point = record { held1 = point; held2 = point; new1 = point; new2 = point }
+
+-- the operation that bans a node, unless it is banned
+abbrev pub admitted_ban : Rows → Point → Result Op Refusal
+admitted_ban rows point =
+    require (not (is_banned rows.banned point)) refusals.Banned >>= λ _. Ok (ops.Ban (ban_of point))
+
+-- a node is banned; a refusal allocates nothing
+abbrev pub Bans : List ℕ → ℕ → Option MapState → Option MapState → Type 0
+Bans point = Changes (λ old status new. Does ⊥ (admitted_ban old.rows (record { 0 = point })) old status new)

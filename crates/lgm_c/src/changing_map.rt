@@ -6,8 +6,8 @@ ghost use Rattle.lgm_store.specs.Rows.{empty};
 ghost use Rattle.lgm_store.specs.Admission.{admitted_close};
 ghost use Rattle.lgm_query.specs.Backlog.{news};
 ghost use Rattle.lgm_c.specs.inner.Following.{Follows};
-ghost use Rattle.lgm_c.specs.inner.Networks.{counted};
-ghost use Rattle.lgm_c.specs.Offering.{offered_to};
+ghost use Rattle.lgm_c.specs.inner.Networks.{counted, counted_behind};
+ghost use Rattle.lgm_c.specs.Offering.{offered_to, admitted_ban};
 ghost use Rattle.lgm_c.specs.Routing.{route_for, IsSearched};
 ghost use Rattle.lgm_c.specs.Status.{status_of};
 ghost use Rattle.lgm_c.specs.Writing.{all_framed, buffer};
@@ -18,12 +18,13 @@ use crate::fault::Fault;
 use crate::frames::write_first_news;
 use crate::mark::Mark;
 use crate::published_map::PublishedMap;
+use crate::verdict::admit_ban;
 use lgm_check::{Evidence, Refusal};
-use lgm_gossip::{ChainHash, Scid};
+use lgm_gossip::{ChainHash, Point, Scid};
 use lgm_graph::Network;
 use lgm_query::Filter;
 use lgm_route::{Request, Route};
-use lgm_store::Map;
+use lgm_store::{Map, Op};
 use std::alloc::{AllocError, Global};
 use std::marker::Model;
 
@@ -59,14 +60,6 @@ fn offer_unmarked(
     Ok(())
 }
 
-/// Closes a channel, and drops the operation.
-fn close_unmarked(alloc: Global, current: &mut Current, scid: Scid) -> Result<(), Refusal>
-    ensures { Follows ⊥ (admitted_close current.old.rows scid) result current.old current.new }
-{
-    current.close(alloc, scid)?;
-    Ok(())
-}
-
 impl ChangingMap {
     /// A network that has accepted nothing, without a mark.
     pub(crate) fn new(network: Network) -> ChangingMap
@@ -96,15 +89,34 @@ impl ChangingMap {
         }
     }
 
+    /// Applies an operation. The only error is out of memory, which changes nothing.
+    fn apply(&mut self, alloc: Global, op: Op) -> Result<(), AllocError>
+        ensures applied { OnOk result (self.new.current ≡ counted_behind self.old.current op) }
+        ensures stays { OnErr result (self.new.current ≡ self.old.current) }
+        ensures marked { self.new.marked ≡ self.old.marked }
+    {
+        match &mut self.mark {
+            Some(mark) => mark.apply(alloc, &mut self.current, op),
+            None => self.current.apply(alloc, &op),
+        }
+    }
+
     /// Closes a channel. A refusal or out of memory changes nothing.
     pub(crate) fn close(&mut self, alloc: Global, scid: Scid) -> Result<(), Refusal>
         ensures follows { Follows ⊥ (admitted_close self.old.current.rows scid) result self.old.current self.new.current }
         ensures marked { self.new.marked ≡ self.old.marked }
     {
-        match &mut self.mark {
-            Some(mark) => mark.close(alloc, &mut self.current, scid),
-            None => close_unmarked(alloc, &mut self.current, scid),
-        }
+        let op = self.map().admit_close(scid)?;
+        Ok(self.apply(alloc, op)?)
+    }
+
+    /// Bans a node. A refusal or out of memory changes nothing.
+    pub(crate) fn ban(&mut self, alloc: Global, point: Point) -> Result<(), Refusal>
+        ensures follows { Follows ⊥ (admitted_ban self.old.current.rows point) result self.old.current self.new.current }
+        ensures marked { self.new.marked ≡ self.old.marked }
+    {
+        let op = admit_ban(alloc, self.map(), point)?;
+        Ok(self.apply(alloc, op)?)
     }
 
     /// Moves the mark to the map as it is, or sets the first one. The only error is out of memory, which changes

@@ -30,7 +30,7 @@ pub(crate) enum Fault {
     Open,
     /// 102: out of memory.
     NoMemory,
-    /// 103: a number that stands for no verdict, or a map that changes where a published one is to be shared.
+    /// 103: a number that stands for nothing, or a map that changes where a published one is to be shared.
     Argument,
     /// 104: a buffer is too short for the answer.
     Room,
@@ -38,6 +38,8 @@ pub(crate) enum Fault {
     Full,
     /// 106: the map was published, and never changes.
     Published,
+    /// 107: there is none: no key above the given one, or no such message.
+    None,
 }
 
 impl Fault {
@@ -66,6 +68,7 @@ impl Fault {
             Fault::Room => 104,
             Fault::Full => 105,
             Fault::Published => 106,
+            Fault::None => 107,
         }
     }
 }

@@ -16,6 +16,7 @@ mod evidence;
 mod fault;
 mod frames;
 mod handle;
+mod listing;
 mod lookups;
 mod map;
 mod mark;
@@ -28,6 +29,7 @@ mod raw_box;
 mod routes;
 mod search;
 mod state;
+mod stored_messages;
 #[cfg(test)]
 mod tests;
 mod turns;

@@ -4,7 +4,7 @@ ghost use Rattle.std.specs.Prelude.{◌≡◌, true, Some, IfOk};
 ghost use Rattle.lgm_gossip.specs.Memory.{GivesIf};
 ghost use Rattle.lgm_query.specs.Backlog.{news};
 ghost use Rattle.lgm_c.specs.MapState.{opened, published};
-ghost use Rattle.lgm_c.specs.Offering.{Offers, Closes};
+ghost use Rattle.lgm_c.specs.Offering.{Offers, Closes, Bans};
 ghost use Rattle.lgm_c.specs.Opening.{MovesMark};
 ghost use Rattle.lgm_c.specs.Routing.{route_for, IsSearched};
 ghost use Rattle.lgm_c.specs.Status.{status_of};
@@ -17,7 +17,7 @@ use crate::fault::Fault;
 use crate::frames::write_first_news;
 use crate::published_map::PublishedMap;
 use lgm_check::Evidence;
-use lgm_gossip::{ChainHash, Scid};
+use lgm_gossip::{ChainHash, Point, Scid};
 use lgm_graph::{Known, Network};
 use lgm_query::Filter;
 use lgm_route::{Request, Route};
@@ -105,6 +105,16 @@ impl State {
     {
         match &mut self.kind {
             Kind::Changing(map) => Ok(map.close(alloc, scid)?),
+            Kind::Published(_) => Err(Fault::Published),
+        }
+    }
+
+    /// Bans a node.
+    pub(crate) fn ban(&mut self, alloc: Global, point: Point) -> Result<(), Fault>
+        ensures { Bans point.0 (status_of result) (Some self.old) (Some self.new) }
+    {
+        match &mut self.kind {
+            Kind::Changing(map) => Ok(map.ban(alloc, point)?),
             Kind::Published(_) => Err(Fault::Published),
         }
     }

@@ -2,6 +2,7 @@
 //! memory. The numbers and lengths are worked out by hand, from BOLT 7, BOLT 4 and `docs/protocol.md`.
 
 mod bounds;
+mod listing;
 mod published;
 
 use crate::lookups::{LgmChannel, LgmDirection, LgmNode, lgm_channel, lgm_count, lgm_node};
@@ -38,6 +39,13 @@ fn announcement(alloc: Global) -> Result<Vec<u8>, AllocError> {
         alloc,
         &[&[1, 0], &[0; 256], &[0, 0], &CHAIN, &SCID, &A, &B, &A, &A],
     )
+}
+
+/// Changes a byte of a message.
+fn set(bytes: &mut [u8], place: usize, byte: u8) {
+    if let Some(changed) = bytes.get_mut(place) {
+        *changed = byte;
+    }
 }
 
 /// A `channel_update` of 138 bytes, from A to B: timestamp 5, delta 40, minimum 1, no fee, maximum 50,000,000 msat.

@@ -62,6 +62,7 @@ fn word_of_call(number: u32) -> &'static str
         104 => "room",
         105 => "full",
         106 => "published",
+        107 => "none",
         _ => "",
     }
 }

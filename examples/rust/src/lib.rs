@@ -20,6 +20,9 @@ impl Fault {
     /// A buffer was too short.
     const ROOM: Fault = Fault(104);
 
+    /// There is none.
+    const NONE: Fault = Fault(107);
+
     /// Its word, such as `not-newer`.
     pub fn word(self) -> String {
         let mut word = [0; 24];
@@ -151,6 +154,12 @@ impl Map {
         check(unsafe { raw::lgm_close_channel(self.own_handle(), scid) })
     }
 
+    /// Bans a node, and removes its channels, as contradicting announcements ban theirs.
+    pub fn ban(&mut self, point: &Point) -> Result<(), Fault> {
+        // SAFETY: a handle of this crate, and a reference.
+        check(unsafe { raw::lgm_ban(self.own_handle(), point) })
+    }
+
     /// Moves the mark to the map as it is now.
     pub fn mark(&mut self) -> Result<(), Fault> {
         // SAFETY: a handle of this crate.
@@ -169,7 +178,7 @@ impl Map {
         opened(|other| unsafe { raw::lgm_share(&mut *self.handle(), other) })
     }
 
-    /// How many messages and closes the map has accepted, or had when it was published.
+    /// How many messages, closes and bans the map has accepted, or had when it was published.
     pub fn version(&self) -> u64 {
         // SAFETY: a handle of this crate.
         unsafe { raw::lgm_version_of(&mut *self.handle()) }
@@ -224,11 +233,68 @@ impl Map {
         let mut before = earlier.handle();
         let mut after = self.handle();
         let (bytes, len) = (message.as_ptr(), message.len());
-        written(|room, room_len, needed| {
+        let written = written(|room, room_len, needed| {
             // SAFETY: two handles of this crate, references, and the lengths of both buffers.
             unsafe { raw::lgm_news_between(&mut *before, &mut *after, bytes, len, room, room_len, needed) }
+        })?;
+        Ok(unframed(&written))
+    }
+}
+
+impl Map {
+    /// The ids of all channels, ascending. Between two of them the map may change.
+    pub fn channels(&self) -> impl Iterator<Item = u64> + '_ {
+        // SAFETY: a handle of this crate, and a reference.
+        keys(0, |is_first, scid| unsafe { raw::lgm_next_channel(&mut *self.handle(), is_first, scid) })
+    }
+
+    /// The points of all nodes with an announcement, ascending byte by byte.
+    pub fn nodes(&self) -> impl Iterator<Item = Point> + '_ {
+        self.points(raw::lgm_next_node)
+    }
+
+    /// The points of all banned nodes, ascending byte by byte.
+    pub fn banned(&self) -> impl Iterator<Item = Point> + '_ {
+        self.points(raw::lgm_next_banned)
+    }
+
+    /// The points that a call goes through.
+    fn points(&self, call: raw::NextPointCall) -> impl Iterator<Item = Point> + '_ {
+        // SAFETY: a handle of this crate, and a reference.
+        keys([0; 33], move |is_first, point| unsafe { call(&mut *self.handle(), is_first, point) })
+    }
+
+    /// A message of a channel, as it was received; none if the map has no such update.
+    pub fn message(&self, scid: u64, which: Which) -> Result<Option<Vec<u8>>, Fault> {
+        let found = written(|room, room_len, needed| {
+            // SAFETY: a handle of this crate, references, and the length of the buffer.
+            unsafe { raw::lgm_channel_message(&mut *self.handle(), scid, which as u32, room, room_len, needed) }
+        });
+        match found {
+            Ok(message) => Ok(Some(message)),
+            Err(Fault::NONE) => Ok(None),
+            Err(fault) => Err(fault),
+        }
+    }
+
+    /// A node's announcement, as it was received.
+    pub fn node_message(&self, point: &Point) -> Result<Vec<u8>, Fault> {
+        written(|room, room_len, needed| {
+            // SAFETY: a handle of this crate, references, and the length of the buffer.
+            unsafe { raw::lgm_node_message(&mut *self.handle(), point, room, room_len, needed) }
         })
     }
+}
+
+/// A message of a channel.
+#[derive(Clone, Copy, Debug, PartialEq, Eq)]
+pub enum Which {
+    /// Its announcement.
+    Announcement = 0,
+    /// The update that node 1 sets.
+    Update1 = 1,
+    /// The update that node 2 sets.
+    Update2 = 2,
 }
 
 impl Drop for Map {
@@ -271,23 +337,37 @@ fn route(hops: &[raw::Hop], mut payloads: &[u8]) -> Vec<Hop> {
 /// The messages that a call writes for a peer's message.
 fn messages(handle: &mut raw::Handle, call: raw::MessagesCall, message: &[u8]) -> Result<Vec<Vec<u8>>, Fault> {
     let (bytes, len) = (message.as_ptr(), message.len());
-    written(|room, room_len, needed| {
+    let written = written(|room, room_len, needed| {
         // SAFETY: a handle of this crate, references, and the lengths of both buffers.
         unsafe { call(&mut *handle, bytes, len, room, room_len, needed) }
-    })
+    })?;
+    Ok(unframed(&written))
 }
 
-/// The messages that a call writes to a buffer, which grows if it is too short.
-fn written(mut call: impl FnMut(*mut u8, usize, &mut usize) -> u32) -> Result<Vec<Vec<u8>>, Fault> {
+/// The bytes that a call writes to a buffer, which grows if it is too short.
+fn written(mut call: impl FnMut(*mut u8, usize, &mut usize) -> u32) -> Result<Vec<u8>, Fault> {
     let mut room = vec![0; 4096];
     loop {
         let mut needed = 0;
-        match check(call(room.as_mut_ptr(), room.len(), &mut needed)) {
-            Ok(()) => return Ok(unframed(&room[..needed])),
-            Err(Fault::ROOM) => room.resize(needed, 0),
+        let outcome = check(call(room.as_mut_ptr(), room.len(), &mut needed));
+        room.resize(needed, 0);
+        match outcome {
+            Ok(()) => return Ok(room),
+            Err(Fault::ROOM) => {}
             Err(fault) => return Err(fault),
         }
     }
+}
+
+/// The keys that a call goes through, which it replaces by the next one each. A map in a [`Map`] is open, so a call has no
+/// fault but that there is none.
+fn keys<K: Copy>(mut key: K, mut call: impl FnMut(bool, &mut K) -> u32) -> impl Iterator<Item = K> {
+    let mut is_first = true;
+    std::iter::from_fn(move || {
+        let found = check(call(is_first, &mut key)).ok().map(|()| key);
+        is_first = false;
+        found
+    })
 }
 
 /// Messages one after the other, each after its length in eight bytes.

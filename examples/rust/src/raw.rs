@@ -75,6 +75,10 @@ calls! {
     (of: *mut Handle, message: *const u8, message_len: usize, room: *mut u8, room_len: usize, needed: *mut usize)
 }
 
+calls! {
+    NextPointCall: lgm_next_node, lgm_next_banned => (map: *mut Handle, is_first: bool, point: *mut [u8; 33])
+}
+
 unsafe extern "C" {
     pub fn lgm_word(number: u32, word: *mut [u8; 24]);
     pub fn lgm_open(
@@ -96,6 +100,23 @@ unsafe extern "C" {
         sat: u64,
     ) -> u32;
     pub fn lgm_close_channel(map: *mut Handle, scid: u64) -> u32;
+    pub fn lgm_ban(map: *mut Handle, point: *const [u8; 33]) -> u32;
+    pub fn lgm_next_channel(map: *mut Handle, is_first: bool, scid: *mut u64) -> u32;
+    pub fn lgm_channel_message(
+        map: *mut Handle,
+        scid: u64,
+        which: u32,
+        message: *mut u8,
+        message_len: usize,
+        needed: *mut usize,
+    ) -> u32;
+    pub fn lgm_node_message(
+        map: *mut Handle,
+        point: *const [u8; 33],
+        message: *mut u8,
+        message_len: usize,
+        needed: *mut usize,
+    ) -> u32;
     pub fn lgm_count(map: *mut Handle) -> usize;
     pub fn lgm_mark(map: *mut Handle) -> u32;
     pub fn lgm_route(
