@@ -236,9 +236,13 @@ def test_lookups():
     items = [(bytes.fromhex(line[1]), *line[2:]) for line in lines if line[0] == "m"]
     channels, nodes = announced(items)
     with lgm.Map(bytes.fromhex(CHAIN)) as network:
+        keys = []
         for message, sig, funding in items:
+            keys.append((network.wanted(message), None if sig == "all" else bytes.fromhex(sig)))
             network.offer(
                 message, sig if sig == "all" else bytes.fromhex(sig), int(funding) if funding.isdigit() else funding)
+        report("lgm.py, keys to verify", len(keys) > CHANNELS and all(found == wanted for found, wanted in keys))
+        report("lgm.py, nothing is wanted twice", not any(is_wanted(network, message, lgm) for message, _, _ in items))
         found = {scid: network.channel(scid) for scid in channels}
         found = {scid: [channel.capacity_sat, channel.node_1, channel.node_2, terms(channel.from_1),
                         terms(channel.from_2)] for scid, channel in found.items()}
@@ -255,6 +259,15 @@ def test_lookups():
             network.ban(point)
         left = sorted(scid for scid, channel in channels.items() if not {*banned} & {*channel[1:3]})
         report("lgm.py, bans", list(network.banned()) == sorted(banned) and list(network.channels()) == left)
+
+
+def is_wanted(network, message, lgm):
+    """Whether a message would be accepted with the right verdicts."""
+    try:
+        network.wanted(message)
+    except lgm.Refused:
+        return False
+    return True
 
 
 def stored(network, lgm):

@@ -19,11 +19,13 @@ static void closed_handles(void) {
     lgm_channel_info channel = {.capacity_sat = 77};
     lgm_node_info info = {.timestamp = 77};
     uint64_t id = 77;
+    uint8_t point[33] = {77};
     query(message, 263);
     lgm_free(&map);
     lgm_free(&map);
     expect("a closed handle's count", lgm_count(&map), 0);
     expect("a closed handle's offer", lgm_offer(&map, message, QUERY, 9, a, 9, 0), LGM_CLOSED);
+    expect("a closed handle's wants", lgm_wanted(&map, message, QUERY, point), LGM_CLOSED);
     expect("a closed handle's close", lgm_close_channel(&map, scid), LGM_CLOSED);
     expect("a closed handle's route", lgm_route(&map, &payment, hops, 1, room, 8, &lengths), LGM_CLOSED);
     expect("a closed handle's query", lgm_query(&map, message, QUERY, room, 8, &needed), LGM_CLOSED);
@@ -36,10 +38,10 @@ static void closed_handles(void) {
     expect("a closed handle's message", lgm_channel_message(&map, scid, 3, room, 8, &needed), LGM_CLOSED);
     expect("a closed handle's announcement", lgm_node_message(&map, a, room, 8, &needed), LGM_CLOSED);
     expect("a closed handle's next channel", lgm_next_channel(&map, true, &id), LGM_CLOSED);
-    expect("a closed handle's next node", lgm_next_node(&map, true, message), LGM_CLOSED);
-    expect("a closed handle's next ban", lgm_next_banned(&map, true, message), LGM_CLOSED);
+    expect("a closed handle's next node", lgm_next_node(&map, true, point), LGM_CLOSED);
+    expect("a closed handle's next ban", lgm_next_banned(&map, true, point), LGM_CLOSED);
     expect("the id", id, 77);
-    expect("the point", message[0] << 8 | message[1], 263);
+    expect("the point", point[0], 77);
     expect("what was needed", needed, 77);
     expect("the lengths", lengths.hops + lengths.payloads, 2 * 77);
     expect("the channel", channel.capacity_sat, 77);
@@ -55,6 +57,16 @@ static void opening(lgm_map *map) {
     void *at = map->at;
     expect("opening again", lgm_open(map, chain, true, &none, 0, seed), LGM_OPEN);
     expect("the map", map->at == at, true);
+}
+
+/* What lgm_wanted returns, and the first two bytes of the key that it writes over zeros. It takes no memory. */
+static void expect_wanted(const char *what, lgm_map *map, const uint8_t *message, size_t len, uint32_t number,
+                          uint32_t begins) {
+    uint8_t signer[33] = {0};
+    none_left = true;
+    expect(what, lgm_wanted(map, message, len, signer), number);
+    none_left = false;
+    expect(what, (uint32_t)(signer[0] << 8 | signer[1]), begins);
 }
 
 static void offering(lgm_map *map) {
@@ -73,11 +85,22 @@ static void offering(lgm_map *map) {
     expect("an update of no channel", lgm_offer(map, terms, UPDATE, LGM_SIG_BY, a, LGM_FUNDING_NOT_ASKED, 0),
            LGM_UNKNOWN_CHANNEL);
     expect("nothing accepted", lgm_count(map), 0);
+    expect_wanted("no bytes", map, &nothing, 0, LGM_MALFORMED, 0);
+    expect_wanted("a channel", map, channel, ANNOUNCEMENT, LGM_OK, 0);
+    expect_wanted("an update of no channel", map, terms, UPDATE, LGM_UNKNOWN_CHANNEL, 0);
+    expect_wanted("a node of no channel", map, one, NODE, LGM_UNKNOWN_NODE, 0);
     expect("a channel", lgm_offer(map, channel, ANNOUNCEMENT, LGM_SIG_ALL_FOUR, a, LGM_FUNDING_UNSPENT, 100000),
            LGM_OK);
     expect("the same", lgm_offer(map, channel, ANNOUNCEMENT, LGM_SIG_ALL_FOUR, a, LGM_FUNDING_UNSPENT, 100000),
            LGM_KNOWN);
+    expect_wanted("the same", map, channel, ANNOUNCEMENT, LGM_KNOWN, 0);
+    expect_wanted("its update", map, terms, UPDATE, LGM_OK, 0x020a);
+    terms[111] = 1;
+    expect_wanted("its other update", map, terms, UPDATE, LGM_OK, 0x020b);
+    terms[111] = 0;
     expect("its update", lgm_offer(map, terms, UPDATE, LGM_SIG_BY, a, LGM_FUNDING_NOT_ASKED, 0), LGM_OK);
+    expect_wanted("the same update", map, terms, UPDATE, LGM_NOT_NEWER, 0);
+    expect_wanted("a node", map, one, NODE, LGM_OK, 0x020a);
     expect("the same update", lgm_offer(map, terms, UPDATE, LGM_SIG_BY, a, LGM_FUNDING_NOT_ASKED, 0), LGM_NOT_NEWER);
     expect("a node", lgm_offer(map, one, NODE, LGM_SIG_BY, a, LGM_FUNDING_NOT_ASKED, 0), LGM_OK);
     expect("one channel", lgm_count(map), 1);

@@ -271,6 +271,16 @@ class Map:
             raise _FAULTS[number]()
 
     @_alone
+    def wanted(self, message):
+        """The key whose signature is to be verified, or `None` of a channel announcement, which has four, if the message would
+        be accepted with the right verdicts. Else raises the refusal that it has even with these."""
+        message = _octets("a message", message)
+        self._struct.bytes[0] = 0  # as no key begins
+        _check(self._library.lgm_wanted(self._at, message, len(message), self._struct.at))
+        key = self._struct.front(33)
+        return key if key[0] else None
+
+    @_alone
     def close_channel(self, scid):
         """Removes a channel, because its funding output was spent."""
         _check(self._library.lgm_close_channel(self._at, _number("an id", scid, 2**64)))

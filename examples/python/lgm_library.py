@@ -34,6 +34,7 @@ CALLS = {
     "lgm_open": (U32, [AT, BYTES, ctypes.c_bool, BYTES, SIZE, BYTES]),
     "lgm_free": (None, [AT]),
     "lgm_offer": (U32, [AT, BYTES, SIZE, U32, BYTES, U32, U64]),
+    "lgm_wanted": (U32, [AT, BYTES, SIZE, AT]),
     "lgm_close_channel": (U32, [AT, U64]),
     "lgm_ban": (U32, [AT, BYTES]),
     "lgm_count": (SIZE, [AT]),

@@ -1,6 +1,7 @@
 mod Values
 mod MapValues
 mod Outcomes
+mod Unwanted
 mod Networks
 mod Marks
 mod Hops

@@ -6,6 +6,7 @@ pub mod Changing
 pub mod Opening
 pub mod Published
 pub mod Offering
+pub mod Wanting
 pub mod Asking
 pub mod Routing
 pub mod Looking

@@ -34,4 +34,5 @@ mod stored_messages;
 mod tests;
 mod turns;
 mod verdict;
+mod wanted;
 mod words;

@@ -4,6 +4,7 @@
 mod bounds;
 mod listing;
 mod published;
+mod wanted;
 
 use crate::lookups::{LgmChannel, LgmDirection, LgmNode, lgm_channel, lgm_count, lgm_node};
 use crate::map::LgmMap;

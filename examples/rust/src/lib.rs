@@ -242,6 +242,16 @@ impl Map {
 }
 
 impl Map {
+    /// The key whose signature is to be verified, or `None` of a channel announcement, which has four, if the message would be
+    /// accepted with the right verdicts. Else the refusal that it has even with these.
+    pub fn wanted(&self, message: &[u8]) -> Result<Option<Point>, Fault> {
+        let mut key = [0; 33];
+        let (bytes, len) = (message.as_ptr(), message.len());
+        // SAFETY: a handle of this crate, and references.
+        check(unsafe { raw::lgm_wanted(&mut *self.handle(), bytes, len, &mut key) })?;
+        Ok(if key[0] == 0 { None } else { Some(key) })
+    }
+
     /// The ids of all channels, ascending. Between two of them the map may change.
     pub fn channels(&self) -> impl Iterator<Item = u64> + '_ {
         // SAFETY: a handle of this crate, and a reference.

@@ -99,6 +99,7 @@ unsafe extern "C" {
         funding: u32,
         sat: u64,
     ) -> u32;
+    pub fn lgm_wanted(map: *mut Handle, message: *const u8, message_len: usize, signer: *mut [u8; 33]) -> u32;
     pub fn lgm_close_channel(map: *mut Handle, scid: u64) -> u32;
     pub fn lgm_ban(map: *mut Handle, point: *const [u8; 33]) -> u32;
     pub fn lgm_next_channel(map: *mut Handle, is_first: bool, scid: *mut u64) -> u32;

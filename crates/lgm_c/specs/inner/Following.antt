@@ -16,6 +16,10 @@ pub record Advances (outcome : Result Op Refusal) (old new : Counted) : Type 0 w
 abbrev pub Refuses : Type 0 → Result Op Refusal → Refusal → Type 0
 Refuses takes outcome refusal = (MayRunOut takes outcome × (refusal ≡ refusals.NoMemory)) ⊎ (outcome ≡ Err refusal)
 
+-- the same of a call that takes no more memory if it accepts
+abbrev pub Fails : Type 0 → Result Op Refusal → Refusal → Type 0
+Fails takes outcome refusal = (takes × (refusal ≡ refusals.NoMemory)) ⊎ (outcome ≡ Err refusal)
+
 -- nothing was applied
 pub record Stays (takes : Type 0) (outcome : Result Op Refusal) (refusal : Refusal) (old new : Counted) : Type 0 where
   pub refuses : Refuses takes outcome refusal
