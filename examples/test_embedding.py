@@ -423,8 +423,9 @@ def test_routes(out):
     if (out / "route").exists():
         found = output([out / "route", HERE / "payments.txt"])
         report("route in Rust", found == b"10006500 msat over 3 channels\n")
+        report("calls in Rust", output([out / "calls"]) == b"ok\n")
     else:
-        print("left out: the example in Rust, since no cargo of its edition runs here", flush=True)
+        print("left out: the examples in Rust, since no cargo of its edition runs here", flush=True)
 
 
 def main():
