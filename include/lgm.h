@@ -167,10 +167,10 @@ uint32_t lgm_offer(lgm_map *map, const uint8_t *message, size_t message_len, uin
                    const uint8_t signer[33], uint32_t funding, uint64_t sat);
 
 /*
- * Tells whether a message is worth verifying: LGM_OK if it would be accepted with the right verdicts, else the refusal that
- * lgm_offer returns even with these. For a channel_update and a node_announcement it writes the key whose signature is to be
- * verified to `signer`, which is unchanged otherwise. The right verdicts are LGM_SIG_ALL_FOUR and LGM_FUNDING_UNSPENT on a
- * channel_announcement, and LGM_SIG_BY with that key on the others. The map is unchanged.
+ * Tells whether a message is worth verifying: LGM_OK if it would be accepted with the right verdicts, else its refusal, which
+ * no verdicts mend. For a channel_update and a node_announcement it writes the key whose signature is to be verified to
+ * `signer`, which is unchanged otherwise. lgm_offer returns the same with the right verdicts: LGM_SIG_ALL_FOUR and
+ * LGM_FUNDING_UNSPENT on a channel_announcement, and LGM_SIG_BY with that key on the others. The map is unchanged.
  *
  * LGM_CLOSED; 1 to 8; 11 to 16; LGM_NO_MEMORY, of a query or a reply with lists alone: no other message takes memory.
  */

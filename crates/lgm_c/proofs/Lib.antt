@@ -2,6 +2,7 @@ mod Values
 mod MapValues
 mod Outcomes
 mod Unwanted
+mod Mended
 mod Networks
 mod Marks
 mod Hops

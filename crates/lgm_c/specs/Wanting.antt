@@ -57,6 +57,22 @@ key_in _ other = other
 abbrev pub wanted : ChainHash → Rows → List ℕ → Point → Result Op Refusal
 wanted chain rows bytes other = offered_to chain rows bytes (right_verdicts rows bytes other)
 
+-- an outcome is a refusal
+abbrev pub IsRefused : Result Op Refusal → Type 0
+IsRefused (Ok op) = ⊥
+IsRefused (Err refusal) = Unit {0}
+
+-- where this outcome is one, the message is refused whatever the verdicts are
+abbrev pub IsRefusedAlways : ChainHash → Rows → List ℕ → Result Op Refusal → Type 0
+IsRefusedAlways chain rows bytes (Ok op) = Unit {0}
+IsRefusedAlways chain rows bytes (Err refusal) = (evidence : Evidence) → IsRefused (offered_to chain rows bytes evidence)
+
+-- no verdicts mend the refusal of a message that isn't wanted
+abbrev pub NoneMends : List ℕ → List ℕ → Option MapState → Type 0
+NoneMends bytes old None = Unit {0}
+NoneMends bytes old (Some state) =
+    IsRefusedAlways state.chain state.rows bytes (wanted state.chain state.rows bytes (record { 0 = old }))
+
 -- the message is wanted, and the key was written; or its refusal was returned
 abbrev pub Tells : Result Op Refusal → Point → ℕ → List ℕ → List ℕ → Type 0
 Tells (Ok op) key status old new = (status ≡ 0) × (new ≡ key.0)

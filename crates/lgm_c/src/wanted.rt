@@ -7,7 +7,7 @@ ghost use Rattle.lgm_store.specs.Admission.{verdict_of};
 ghost use Rattle.lgm_c.specs.inner.Following.{Fails};
 ghost use Rattle.lgm_c.specs.Offering.{offered_to};
 ghost use Rattle.lgm_c.specs.Status.{status_of};
-ghost use Rattle.lgm_c.specs.Wanting.{signed_by, right_on, right_verdicts, wanted, key_in, TellsOf, Wants};
+ghost use Rattle.lgm_c.specs.Wanting.{signed_by, right_on, right_verdicts, wanted, key_in, TellsOf, Wants, NoneMends};
 
 use crate::fault::{Fault, status};
 use crate::map::{LgmMap, with_state};
@@ -99,6 +99,7 @@ pub extern "C" fn lgm_wanted(
 ) -> u32
     ensures same { map.new.handle.value ≡ map.old.handle.value }
     ensures wanted { Wants message.now map.old.handle.value result signer.old signer.new }
+    ensures mended { NoneMends message.now signer.old map.old.handle.value }
 {
     with_state!(
         alloc,
