@@ -3,7 +3,7 @@
 
     python3 bench/snapshots.py
 
-For each number of reader threads: how many routes a second they find, each in a snapshot of its own, of a map that
+For each number of reader threads: how many routes a second they find, each in a published map of its own, of a map that
 doesn't change, and beside a writer that publishes 1,000 updates at a time, with a pause of 50 ms after each; and the
 time of such a publication, median and maximum: the first one is a copy. The payments are those of bench/readers.py, each
 requested as often, so the two compare. The library is built by examples/build-c if it isn't there.

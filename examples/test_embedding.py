@@ -106,7 +106,7 @@ def build(out, name, *words):
 def test_faults(out):
     """Calls that fail change nothing; and nothing is freed twice, leaked, or written past its end."""
     has_valgrind = runs("valgrind", "--quiet", "true")
-    for name in ("faults", "snapshots"):
+    for name in ("faults", "published"):
         build(out, name, "-g", "-Wl,--wrap=malloc,--wrap=realloc")
         report(name, output([out / name]) == b"ok\n")
         if has_valgrind:
@@ -151,7 +151,7 @@ def served(out, channels, count, batch, pause, *before):
 
 
 def test_serve(out):
-    """Readers beside a writer, with a snapshot each."""
+    """Readers beside a writer, with a published map each."""
     build(out, "serve", "-g", "-pthread")
     report(f"serve, {CHANNELS} channels", served(out, CHANNELS, 20, 300, 0))
     report(f"serve, {CHANNELS} channels, with pauses", served(out, CHANNELS, 20, 300, 20))
@@ -186,7 +186,7 @@ def test_python():
                 for hop in route.hops)
         return [f"route {route.sent_msat} {route.expiry} {len(route.hops)}", *hops]
 
-    words = {number: ctypes.create_string_buffer(24) for number in range(1, 106)}
+    words = {number: ctypes.create_string_buffer(24) for number in range(1, 108)}
     for number, word in words.items():
         lgm._load().lgm_word(ctypes.c_uint32(number), word)
     words = {number: word.value.decode() for number, word in words.items() if word.value}
@@ -236,9 +236,13 @@ def test_lookups():
     items = [(bytes.fromhex(line[1]), *line[2:]) for line in lines if line[0] == "m"]
     channels, nodes = announced(items)
     with lgm.Map(bytes.fromhex(CHAIN)) as network:
+        keys = []
         for message, sig, funding in items:
+            keys.append((network.wanted(message), None if sig == "all" else bytes.fromhex(sig)))
             network.offer(
                 message, sig if sig == "all" else bytes.fromhex(sig), int(funding) if funding.isdigit() else funding)
+        report("lgm.py, keys to verify", len(keys) > CHANNELS and all(found == wanted for found, wanted in keys))
+        report("lgm.py, nothing is wanted twice", not any(is_wanted(network, message, lgm) for message, _, _ in items))
         found = {scid: network.channel(scid) for scid in channels}
         found = {scid: [channel.capacity_sat, channel.node_1, channel.node_2, terms(channel.from_1),
                         terms(channel.from_2)] for scid, channel in found.items()}
@@ -246,6 +250,46 @@ def test_lookups():
         found = {point: network.node(point) for point in nodes}
         found = {point: (node.timestamp, node.rgb, node.alias, node.addresses) for point, node in found.items()}
         report("lgm.py, nodes", len(nodes) > 0 and found == nodes)
+        listed = list(network.channels()) == sorted(channels) and list(network.nodes()) == sorted(nodes)
+        report("lgm.py, lists", listed and list(network.banned()) == [])
+        report("lgm.py, copy", copied(network, lgm) == (sorted(channels), sorted(nodes), sorted(stored(network, lgm))))
+        worst = max(channels, key=lambda scid: channels[scid][1])
+        banned = channels[worst][1:3]
+        for point in banned:
+            network.ban(point)
+        left = sorted(scid for scid, channel in channels.items() if not {*banned} & {*channel[1:3]})
+        report("lgm.py, bans", list(network.banned()) == sorted(banned) and list(network.channels()) == left)
+
+
+def is_wanted(network, message, lgm):
+    """Whether a message would be accepted with the right verdicts."""
+    try:
+        network.wanted(message)
+    except lgm.Refused:
+        return False
+    return True
+
+
+def stored(network, lgm):
+    """The messages of a map, each with the satoshi of its channel or `None`: announcements of channels first."""
+    for scid in network.channels():
+        yield network.message(scid), network.channel(scid).capacity_sat, None
+    for scid in network.channels():
+        channel = network.channel(scid)
+        for which, terms, point in ((lgm.UPDATE_1, channel.from_1, channel.node_1),
+                                    (lgm.UPDATE_2, channel.from_2, channel.node_2)):
+            if terms:
+                yield network.message(scid, which), 0, point
+    for point in network.nodes():
+        yield network.node_message(point), 0, point
+
+
+def copied(network, lgm):
+    """What a second map has, to which the messages of a map are offered."""
+    with lgm.Map(bytes.fromhex(CHAIN)) as copy:
+        for message, sat, point in stored(network, lgm):
+            copy.offer(message, point or lgm.ALL_FOUR, lgm.NOT_ASKED if point else sat)
+        return list(copy.channels()), list(copy.nodes()), sorted(stored(copy, lgm))
 
 
 def test_threads():
@@ -286,8 +330,8 @@ def test_threads():
         report("lgm.py, three threads", right and shared.route(*payment) == alone.route(*payment))
 
 
-def test_snapshots():
-    """Two threads route on their snapshots while a third offers and publishes: each answer is that of its version."""
+def test_published():
+    """Two threads route in maps that a third publishes while it offers: each answer is that of its version."""
     import lgm
 
     lines = [line.split() for line in made_script("routes").decode().splitlines()]
@@ -327,16 +371,41 @@ def test_snapshots():
         for thread in threads:
             thread.join()
         kept.append(places[0])
-    wanted = {snapshot.version: (routes(snapshot), len(snapshot)) for snapshot in kept}
+    wanted = {published.version: (routes(published), len(published)) for published in kept}
     right = all((found, count) == wanted[version] for version, found, count in seen)
     versions = [0, *range(500, len(items), 500), len(items)]
-    report("lgm.py, snapshots", right and list(wanted) == versions and kept[-1].version == len(items))
+    report("lgm.py, published maps", right and list(wanted) == versions and kept[-1].version == len(items))
     everything = b"\1\t" + bytes.fromhex(CHAIN) + bytes(4) + b"\xff" * 4
     known = {message for message in kept[1].filter(everything)}
     news = [message for message in kept[-1].filter(everything) if message not in known]
-    report("lgm.py, news of snapshots", len(news) > 0 and kept[-1].news(kept[1], everything) == news)
-    for snapshot in kept:
-        snapshot.close()
+    report("lgm.py, news between maps", len(news) > 0 and kept[-1].news_since(kept[1], everything) == news)
+    for published in kept:
+        published.close()
+
+
+def test_one_class():
+    """A published map refuses what would change it, and is shared; one that changes isn't shared; both are true."""
+    import lgm
+
+    def raised(call, *arguments):
+        try:
+            call(*arguments)
+        except (lgm.Fault, ValueError) as fault:
+            return type(fault)
+        return None
+
+    message = b"\1\t" + bytes.fromhex(CHAIN) + bytes(4) + b"\xff" * 4
+    with lgm.Map(bytes.fromhex(CHAIN)) as network, network.publish() as published, published.publish() as other:
+        calls = [(published.offer, b""), (published.close_channel, 0), (published.ban, bytes(33)), (published.mark,)]
+        right = all(raised(*call) is lgm.Published for call in calls) and raised(network.share) is lgm.Argument
+        right &= bool(network) and bool(published) and len(network) == len(published) == 0
+        right &= network.version == published.version == other.version == 0 and published.news(message) == []
+        right &= network.news_since(published, message) == []
+        right &= raised(network.news_since, network, message) is ValueError
+        with published.share() as shared:
+            published.close()
+            right &= raised(published.query, message) is lgm.Closed and shared.version == 0
+    report("lgm.py, one class", right)
 
 
 def test_electrum():
@@ -354,8 +423,9 @@ def test_routes(out):
     if (out / "route").exists():
         found = output([out / "route", HERE / "payments.txt"])
         report("route in Rust", found == b"10006500 msat over 3 channels\n")
+        report("calls in Rust", output([out / "calls"]) == b"ok\n")
     else:
-        print("left out: the example in Rust, since no cargo of its edition runs here", flush=True)
+        print("left out: the examples in Rust, since no cargo of its edition runs here", flush=True)
 
 
 def main():
@@ -378,7 +448,8 @@ def main():
         test_python()
         test_lookups()
         test_threads()
-        test_snapshots()
+        test_published()
+        test_one_class()
         test_electrum()
         test_routes(out)
     return 0 if failures == 0 else 1

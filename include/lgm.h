@@ -3,8 +3,9 @@
  *
  * A handle (lgm_map) has the map of one chain. The caller offers gossip messages to it, with verdicts on their signatures
  * and funding outputs. It finds routes for payments, with their payloads, and answers the queries and filters of peers.
- * A snapshot (lgm_snapshot) has what a map had when it was published, and answers the same: one for each thread that is to
- * read while another one extends the map. docs/embedding.md is a guide; docs/protocol.md has the rules.
+ * A published map has what a map had when lgm_publish made it, for good: each thread that is to read while another one
+ * extends the map has a handle of it. The same calls answer of both, but those that change a map return LGM_PUBLISHED of a
+ * published one. docs/embedding.md is a guide; docs/protocol.md has the rules.
  *
  * What is proved holds for callers that meet these conditions, which nothing checks:
  *
@@ -17,9 +18,8 @@
  *   - A handle isn't copied. It may be moved, if the old place isn't used any more.
  *   - A handle is used by one call at a time, from any thread: what it holds is proved to be `Send`. Calls from different
  *     threads on one handle are ordered by a lock, a thread's start or join, or a sequentially consistent atomic.
- *     Different handles need no order, also those of snapshots that share a map.
- *   - An open map is freed by lgm_free, and an open snapshot by lgm_release, before it goes out of scope; otherwise its
- *     memory leaks.
+ *     Different handles need no order, also those that share a published map.
+ *   - An open handle is freed by lgm_free before it goes out of scope; otherwise its memory leaks.
  *   - A bool is true or false.
  *   - malloc, realloc and free are those of one allocator, and behave as the C standard says.
  *   - No call is made from a signal handler, or in the child of a fork of a process with threads.
@@ -83,34 +83,33 @@ enum {
     /*
      * Out of memory. The same call may be made again. It comes only if the call would have succeeded, or returned
      * LGM_ROOM, or was to search for a route, or to decode a query or a reply with lists: any other fault is returned even
-     * if memory is short. lgm_filter and lgm_snapshot_filter return LGM_ROOM even then.
+     * if memory is short. lgm_filter returns LGM_ROOM even then.
      */
     LGM_NO_MEMORY = 102,
-    /* A number that stands for no verdict. */
+    /* A number that stands for no verdict or message; a map that changes, where only a published one is shared. */
     LGM_ARGUMENT = 103,
     /* A buffer is too short. The lengths that are needed were written. */
     LGM_ROOM = 104,
     /* The map has more than 2,000,000,000 channels, too many for a route search. */
-    LGM_FULL = 105
+    LGM_FULL = 105,
+    /* The map was published, so it doesn't change. */
+    LGM_PUBLISHED = 106,
+    /* There is none: no id or point above the given one, or no such update. */
+    LGM_NONE = 107
 };
 
-/* A handle: a map, or none. All zeros are a closed handle. */
+/*
+ * A handle: a map, or none. All zeros are a closed handle. The map is one that changes, opened by lgm_open, or a published
+ * one, opened by lgm_publish or lgm_share, which all handles of it own together. A published map outlives the map that it
+ * is of.
+ */
 typedef struct {
     bool is_open;
     void *at;
 } lgm_map;
 
-/*
- * A snapshot: the map with its version that lgm_publish opened it with, which never changes, or none. All zeros are a
- * closed snapshot. It owns its map together with the snapshots that were shared from it, and outlives the map that it is of.
- */
-typedef struct {
-    bool is_open;
-    void *at;
-} lgm_snapshot;
-
 /* The version of this header. */
-#define LGM_VERSION 1
+#define LGM_VERSION 2
 
 /* The version of the library, to be compared with LGM_VERSION. */
 uint32_t lgm_version(void);
@@ -136,7 +135,10 @@ void lgm_word(uint32_t number, uint8_t word[LGM_WORD_LEN]);
 uint32_t lgm_open(lgm_map *map, const uint8_t chain[32], bool all_known, const uint8_t *known,
                   size_t known_len, const uint8_t seed[16]);
 
-/* Frees the map of a handle, if it is open, and closes the handle. */
+/*
+ * Frees the map of a handle, if it is open, and closes the handle. A published map is freed with the last handle of it,
+ * unless it is to catch up (lgm_publish).
+ */
 void lgm_free(lgm_map *map);
 
 /* The verdict on a message's signatures: four of a channel_announcement, one of any other. */
@@ -159,18 +161,37 @@ enum {
  * Offers a gossip message, beginning with the two bytes of its type, with the verdicts on it (BOLT 7). The bytes of
  * `signer` are used only with LGM_SIG_BY, but it always points to 33 bytes; `sat` is used only with LGM_FUNDING_UNSPENT.
  *
- * LGM_CLOSED; LGM_ARGUMENT; 1 to 16; LGM_NO_MEMORY.
+ * LGM_CLOSED; LGM_PUBLISHED; LGM_ARGUMENT; 1 to 16; LGM_NO_MEMORY.
  */
 uint32_t lgm_offer(lgm_map *map, const uint8_t *message, size_t message_len, uint32_t sig,
                    const uint8_t signer[33], uint32_t funding, uint64_t sat);
 
 /*
+ * Tells whether a message is worth verifying: LGM_OK if it would be accepted with the right verdicts, else its refusal, which
+ * no verdicts mend. For a channel_update and a node_announcement it writes the key whose signature is to be verified to
+ * `signer`, which is unchanged otherwise. lgm_offer returns the same with the right verdicts: LGM_SIG_ALL_FOUR and
+ * LGM_FUNDING_UNSPENT on a channel_announcement, and LGM_SIG_BY with that key on the others. The map is unchanged.
+ *
+ * LGM_CLOSED; 1 to 8; 11 to 16; LGM_NO_MEMORY, of a query or a reply with lists alone: no other message takes memory.
+ */
+uint32_t lgm_wanted(lgm_map *map, const uint8_t *message, size_t message_len, uint8_t signer[33]);
+
+/*
  * Closes a channel, because its funding output was spent: removes it with its updates, and the announcement of each of
  * its nodes that has no other channel.
  *
- * LGM_CLOSED; LGM_UNKNOWN_CHANNEL; LGM_NO_MEMORY.
+ * LGM_CLOSED; LGM_PUBLISHED; LGM_UNKNOWN_CHANNEL; LGM_NO_MEMORY.
  */
 uint32_t lgm_close_channel(lgm_map *map, uint64_t scid);
+
+/*
+ * Bans a node, as contradicting announcements of a channel ban the nodes of both: removes its channels with their updates,
+ * and the announcement of each node that has no other channel. Announcements of it and of its channels are refused from
+ * then on. A ban lasts as long as the map.
+ *
+ * LGM_CLOSED; LGM_PUBLISHED; LGM_BANNED; LGM_NO_MEMORY.
+ */
+uint32_t lgm_ban(lgm_map *map, const uint8_t point[33]);
 
 /* The number of channels, or 0 for a closed handle. */
 size_t lgm_count(lgm_map *map);
@@ -208,7 +229,8 @@ typedef struct {
  * Finds the route by which the payer sends the least, among all of 1 to 20 channels of the map (BOLT 7, "HTLC Fees";
  * docs/protocol.md). Writes the hops, from the payer on, to `hops`; to `payloads` the payloads for the receiving nodes,
  * one after the other, each beginning with its length as a BigSize (BOLT 4, "Payload Format"); and the numbers of both to
- * `lengths`. The first search builds the view of the map in which routes are searched; later calls update it.
+ * `lengths`. In a map that changes the first search builds the view in which routes are searched, and later calls update
+ * it; a published map has its view from the start.
  *
  * LGM_CLOSED; LGM_FULL; 21 to 25; LGM_ROOM; LGM_NO_MEMORY.
  */
@@ -235,69 +257,52 @@ uint32_t lgm_filter(lgm_map *map, const uint8_t *filter, size_t filter_len, uint
                     size_t messages_len, size_t *needed);
 
 /*
- * Finds the messages that pass the filter now and didn't at the mark, which are news to a peer. Before the first mark
- * these are all that pass. They are written as by lgm_query, and the faults are those of lgm_filter.
+ * Finds the messages that pass the filter now and didn't at the mark, which are news to a peer. Before the first mark, and
+ * in a published map, which has none, these are all that pass. They are written as by lgm_query, and the faults are those
+ * of lgm_filter.
  */
 uint32_t lgm_news(lgm_map *map, const uint8_t *filter, size_t filter_len, uint8_t *messages,
                   size_t messages_len, size_t *needed);
 
 /*
- * Moves the mark to the map as it is now, or sets the first mark. From then on each accepted message and close is kept
- * until the mark moves, or until there are more than the map has channels, and 1,024 more: then none are, and the next
+ * Finds the messages that pass the filter in a map and didn't in another, earlier one. They are written as by lgm_query,
+ * and the faults are those of lgm_filter; LGM_CLOSED of either. The chain is that of `after`. Both maps are traversed. The
+ * two are different handles, each of a map that changes or of a published one.
+ */
+uint32_t lgm_news_between(lgm_map *before, lgm_map *after, const uint8_t *filter, size_t filter_len,
+                          uint8_t *messages, size_t messages_len, size_t *needed);
+
+/*
+ * Moves the mark to the map as it is now, or sets the first mark. From then on each accepted message, close and ban is
+ * kept until the mark moves, or until there are more than the map has channels, and 1,024 more: then none are, and the next
  * lgm_news and lgm_mark take the time of the map.
  *
- * LGM_CLOSED; LGM_NO_MEMORY.
+ * LGM_CLOSED; LGM_PUBLISHED; LGM_NO_MEMORY.
  */
 uint32_t lgm_mark(lgm_map *map);
 
 /*
- * Opens a closed snapshot with the map as it is now, with its view.
+ * Opens a closed handle with the map as it is now, with its view, for good.
  *
  * If nothing was accepted since the last publication, both share one map. Otherwise the map that was published before the
- * last one catches up, if no snapshot of it is open any more, and if no more was accepted than the map has channels: the
+ * last one catches up, if no handle of it is open any more, and if no more was accepted than the map has channels: the
  * cost is that of applying what it lacks. Else the index of the map is copied, but not its messages, and its view is built.
  * From the first publication on, what is accepted is kept until it is published twice, or until it is more than the map
- * has channels.
+ * has channels. A published map is published by one more handle of it, as by lgm_share.
  *
- * LGM_CLOSED, of the map; LGM_OPEN, of the snapshot; LGM_NO_MEMORY.
+ * LGM_CLOSED, of `map`; LGM_OPEN, of `published`; LGM_NO_MEMORY.
  */
-uint32_t lgm_publish(lgm_map *map, lgm_snapshot *snapshot);
+uint32_t lgm_publish(lgm_map *map, lgm_map *published);
 
 /*
- * Opens a closed snapshot with what another one has: one more owner of the same map, for another thread. Nothing is copied.
+ * Opens a closed handle with what the one of a published map has: one more owner, for another thread. Nothing is copied.
  *
- * LGM_CLOSED, of `from`; LGM_OPEN, of `to`; LGM_NO_MEMORY.
+ * LGM_CLOSED, of `published`; LGM_ARGUMENT, if that is a map that changes; LGM_OPEN, of `other`; LGM_NO_MEMORY.
  */
-uint32_t lgm_share(lgm_snapshot *from, lgm_snapshot *to);
+uint32_t lgm_share(lgm_map *published, lgm_map *other);
 
-/* Closes a snapshot, if it is open. Its map is freed with the last snapshot of it, unless it is to catch up. */
-void lgm_release(lgm_snapshot *snapshot);
-
-/* How many messages and closes the map had accepted when it was published, or 0 for a closed snapshot. */
-uint64_t lgm_version_of(lgm_snapshot *snapshot);
-
-/* The number of channels, or 0 for a closed snapshot. */
-size_t lgm_snapshot_count(lgm_snapshot *snapshot);
-
-/* Finds a route as lgm_route does. The view was built when the map was published. */
-uint32_t lgm_snapshot_route(lgm_snapshot *snapshot, const lgm_payment *payment, lgm_hop *hops, size_t hops_len,
-                            uint8_t *payloads, size_t payloads_len, lgm_lengths *lengths);
-
-/* Answers a peer's query as lgm_query does. */
-uint32_t lgm_snapshot_query(lgm_snapshot *snapshot, const uint8_t *query, size_t query_len, uint8_t *replies,
-                            size_t replies_len, size_t *needed);
-
-/* Finds the messages that pass a filter as lgm_filter does. */
-uint32_t lgm_snapshot_filter(lgm_snapshot *snapshot, const uint8_t *filter, size_t filter_len, uint8_t *messages,
-                             size_t messages_len, size_t *needed);
-
-/*
- * Finds the messages that pass a filter in a snapshot and didn't in another, earlier one. They are written as by
- * lgm_query, and the faults are those of lgm_filter; LGM_CLOSED of either. The chain is that of `after`. Both maps are
- * traversed. The two snapshots are different handles.
- */
-uint32_t lgm_snapshot_news(lgm_snapshot *before, lgm_snapshot *after, const uint8_t *filter, size_t filter_len,
-                           uint8_t *messages, size_t messages_len, size_t *needed);
+/* How many messages, closes and bans the map has accepted, or had when it was published; 0 for a closed handle. */
+uint64_t lgm_version_of(lgm_map *map);
 
 /* The terms of a channel's direction, from its channel_update. If the map has none, all is 0. */
 typedef struct {
@@ -344,12 +349,32 @@ typedef struct {
 uint32_t lgm_node(lgm_map *map, const uint8_t point[33], lgm_node_info *node, uint8_t *addresses,
                   size_t addresses_len, size_t *needed);
 
-/* Looks up a channel as lgm_channel does. */
-uint32_t lgm_snapshot_channel(lgm_snapshot *snapshot, uint64_t scid, lgm_channel_info *channel);
+/*
+ * Writes a message of a channel as it was received, and its length to `needed`: the announcement if `which` is 0, the update
+ * that node 1 sets if it is 1, and that of node 2 if it is 2.
+ *
+ * LGM_CLOSED; LGM_ARGUMENT; LGM_UNKNOWN_CHANNEL; LGM_NONE, without such an update; LGM_ROOM.
+ */
+uint32_t lgm_channel_message(lgm_map *map, uint64_t scid, uint32_t which, uint8_t *message, size_t message_len,
+                             size_t *needed);
 
-/* Looks up a node as lgm_node does. */
-uint32_t lgm_snapshot_node(lgm_snapshot *snapshot, const uint8_t point[33], lgm_node_info *node,
-                           uint8_t *addresses, size_t addresses_len, size_t *needed);
+/*
+ * Writes the announcement of a node in the same way.
+ *
+ * LGM_CLOSED; LGM_NOT_ANNOUNCED; LGM_ROOM.
+ */
+uint32_t lgm_node_message(lgm_map *map, const uint8_t point[33], uint8_t *message, size_t message_len, size_t *needed);
+
+/*
+ * Go through the channels of a map by id, and by point, byte by byte, through its nodes with an announcement and through its
+ * banned nodes. Each replaces `*scid` or `point` by the least one above it or, if `is_first`, by the least of all. With
+ * LGM_NONE it is unchanged. Between two calls the map may change.
+ *
+ * LGM_CLOSED; LGM_NONE.
+ */
+uint32_t lgm_next_channel(lgm_map *map, bool is_first, uint64_t *scid);
+uint32_t lgm_next_node(lgm_map *map, bool is_first, uint8_t point[33]);
+uint32_t lgm_next_banned(lgm_map *map, bool is_first, uint8_t point[33]);
 
 #ifdef __cplusplus
 }

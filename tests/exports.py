@@ -23,7 +23,7 @@ TOP = Path(__file__).resolve().parent.parent
 HEADER = TOP / "include" / "lgm.h"
 SOURCES = TOP / "crates" / "lgm_c" / "src"
 # The names of structs in C, and of types in C and in ctypes.
-STRUCTS = {"LgmMap": "lgm_map", "LgmSnapshot": "lgm_snapshot", "LgmPayment": "lgm_payment", "LgmHop": "lgm_hop", "LgmLengths": "lgm_lengths",
+STRUCTS = {"LgmMap": "lgm_map", "LgmPayment": "lgm_payment", "LgmHop": "lgm_hop", "LgmLengths": "lgm_lengths",
            "LgmDirection": "lgm_direction", "LgmChannel": "lgm_channel_info", "LgmNode": "lgm_node_info"}
 TYPES = {"bool": ("bool", ctypes.c_bool), "u8": ("uint8_t", ctypes.c_uint8), "u16": ("uint16_t", ctypes.c_uint16),
          "u32": ("uint32_t", ctypes.c_uint32), "u64": ("uint64_t", ctypes.c_uint64), "usize": ("size_t", ctypes.c_size_t),
@@ -105,7 +105,7 @@ def source_structs(text):
     field = r"^\s*(?:pub(?:\(crate\))? )?(\w+): (.+),$"
     structs = {name: re.findall(field, re.sub(r"^\s*(?:ghost|///).*$", "", fields, flags=re.MULTILINE), flags=re.MULTILINE)
                for name, fields in re.findall(pattern, text, flags=re.DOTALL)}
-    inside = {name: structs.pop(name) for name in ("Handle", "SnapshotHandle") if name in structs}
+    inside = {"Handle": structs.pop("Handle")}
     return {name: [one for entry in fields for one in inside.get(entry[1], [entry])] for name, fields in structs.items()}
 
 

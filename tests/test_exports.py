@@ -12,7 +12,7 @@ from exports import HEADER, differences, header_functions, header_text, source_t
 
 # A text of the header, what is put in its place, and how the line begins that tells it.
 CHANGES = (
-    ("LGM_ROOM = 104", "LGM_ROOM = 106", "constant LGM_ROOM: 106"),
+    ("LGM_ROOM = 104", "LGM_ROOM = 204", "constant LGM_ROOM: 204"),
     ("LGM_SIG_BY = 2", "LGM_SIG_BY = 3", "constant LGM_SIG_BY: 3"),
     ("#define LGM_WORD_LEN 24", "#define LGM_WORD_LEN 16", "function lgm_word: "),
     ("    LGM_BANNED = 16,\n", "", "constant LGM_BANNED: none"),
@@ -23,7 +23,8 @@ CHANGES = (
     ("lgm_map *map, const lgm_payment *payment", "lgm_map *map, lgm_payment *payment", "function lgm_route: "),
     ("uint32_t lgm_mark(lgm_map *map);", "void lgm_mark(lgm_map *map);", "function lgm_mark: "),
     ("void lgm_free(", "void lgm_drop(", "function lgm_drop: "),
-    ("lgm_share(lgm_snapshot *from", "lgm_share(const lgm_snapshot *from", "function lgm_share: "),
+    ("bool is_first, uint64_t *scid", "bool is_first, uint32_t *scid", "function lgm_next_channel: "),
+    ("lgm_share(lgm_map *published", "lgm_share(const lgm_map *published", "function lgm_share: "),
 )
 
 

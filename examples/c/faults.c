@@ -18,11 +18,14 @@ static void closed_handles(void) {
     lgm_lengths lengths = {77, 77};
     lgm_channel_info channel = {.capacity_sat = 77};
     lgm_node_info info = {.timestamp = 77};
+    uint64_t id = 77;
+    uint8_t point[33] = {77};
     query(message, 263);
     lgm_free(&map);
     lgm_free(&map);
     expect("a closed handle's count", lgm_count(&map), 0);
     expect("a closed handle's offer", lgm_offer(&map, message, QUERY, 9, a, 9, 0), LGM_CLOSED);
+    expect("a closed handle's wants", lgm_wanted(&map, message, QUERY, point), LGM_CLOSED);
     expect("a closed handle's close", lgm_close_channel(&map, scid), LGM_CLOSED);
     expect("a closed handle's route", lgm_route(&map, &payment, hops, 1, room, 8, &lengths), LGM_CLOSED);
     expect("a closed handle's query", lgm_query(&map, message, QUERY, room, 8, &needed), LGM_CLOSED);
@@ -31,6 +34,14 @@ static void closed_handles(void) {
     expect("a closed handle's mark", lgm_mark(&map), LGM_CLOSED);
     expect("a closed handle's channel", lgm_channel(&map, scid, &channel), LGM_CLOSED);
     expect("a closed handle's node", lgm_node(&map, a, &info, room, 8, &needed), LGM_CLOSED);
+    expect("a closed handle's ban", lgm_ban(&map, a), LGM_CLOSED);
+    expect("a closed handle's message", lgm_channel_message(&map, scid, 3, room, 8, &needed), LGM_CLOSED);
+    expect("a closed handle's announcement", lgm_node_message(&map, a, room, 8, &needed), LGM_CLOSED);
+    expect("a closed handle's next channel", lgm_next_channel(&map, true, &id), LGM_CLOSED);
+    expect("a closed handle's next node", lgm_next_node(&map, true, point), LGM_CLOSED);
+    expect("a closed handle's next ban", lgm_next_banned(&map, true, point), LGM_CLOSED);
+    expect("the id", id, 77);
+    expect("the point", point[0], 77);
     expect("what was needed", needed, 77);
     expect("the lengths", lengths.hops + lengths.payloads, 2 * 77);
     expect("the channel", channel.capacity_sat, 77);
@@ -46,6 +57,16 @@ static void opening(lgm_map *map) {
     void *at = map->at;
     expect("opening again", lgm_open(map, chain, true, &none, 0, seed), LGM_OPEN);
     expect("the map", map->at == at, true);
+}
+
+/* What lgm_wanted returns, and the first two bytes of the key that it writes over zeros. It takes no memory. */
+static void expect_wanted(const char *what, lgm_map *map, const uint8_t *message, size_t len, uint32_t number,
+                          uint32_t begins) {
+    uint8_t signer[33] = {0};
+    none_left = true;
+    expect(what, lgm_wanted(map, message, len, signer), number);
+    none_left = false;
+    expect(what, (uint32_t)(signer[0] << 8 | signer[1]), begins);
 }
 
 static void offering(lgm_map *map) {
@@ -64,11 +85,22 @@ static void offering(lgm_map *map) {
     expect("an update of no channel", lgm_offer(map, terms, UPDATE, LGM_SIG_BY, a, LGM_FUNDING_NOT_ASKED, 0),
            LGM_UNKNOWN_CHANNEL);
     expect("nothing accepted", lgm_count(map), 0);
+    expect_wanted("no bytes", map, &nothing, 0, LGM_MALFORMED, 0);
+    expect_wanted("a channel", map, channel, ANNOUNCEMENT, LGM_OK, 0);
+    expect_wanted("an update of no channel", map, terms, UPDATE, LGM_UNKNOWN_CHANNEL, 0);
+    expect_wanted("a node of no channel", map, one, NODE, LGM_UNKNOWN_NODE, 0);
     expect("a channel", lgm_offer(map, channel, ANNOUNCEMENT, LGM_SIG_ALL_FOUR, a, LGM_FUNDING_UNSPENT, 100000),
            LGM_OK);
     expect("the same", lgm_offer(map, channel, ANNOUNCEMENT, LGM_SIG_ALL_FOUR, a, LGM_FUNDING_UNSPENT, 100000),
            LGM_KNOWN);
+    expect_wanted("the same", map, channel, ANNOUNCEMENT, LGM_KNOWN, 0);
+    expect_wanted("its update", map, terms, UPDATE, LGM_OK, 0x020a);
+    terms[111] = 1;
+    expect_wanted("its other update", map, terms, UPDATE, LGM_OK, 0x020b);
+    terms[111] = 0;
     expect("its update", lgm_offer(map, terms, UPDATE, LGM_SIG_BY, a, LGM_FUNDING_NOT_ASKED, 0), LGM_OK);
+    expect_wanted("the same update", map, terms, UPDATE, LGM_NOT_NEWER, 0);
+    expect_wanted("a node", map, one, NODE, LGM_OK, 0x020a);
     expect("the same update", lgm_offer(map, terms, UPDATE, LGM_SIG_BY, a, LGM_FUNDING_NOT_ASKED, 0), LGM_NOT_NEWER);
     expect("a node", lgm_offer(map, one, NODE, LGM_SIG_BY, a, LGM_FUNDING_NOT_ASKED, 0), LGM_OK);
     expect("one channel", lgm_count(map), 1);
@@ -100,6 +132,92 @@ static void looking(lgm_map *map) {
     expect("its name", memcmp(info.alias, "alice", 6), 0);
     expect("its color", memcmp(info.rgb, "rgb", 3), 0);
     expect("another node", lgm_node(map, b, &info, addresses, 3, &needed), LGM_NOT_ANNOUNCED);
+}
+
+/* What a map lists: one channel, one node with an announcement, and no banned node. */
+static void listing(lgm_map *map) {
+    uint8_t point[33] = {77};
+    uint64_t id = 77;
+    expect("the first channel", lgm_next_channel(map, true, &id), LGM_OK);
+    expect("its id", id, scid);
+    expect("no other channel", lgm_next_channel(map, false, &id), LGM_NONE);
+    expect("the id", id, scid);
+    id--;
+    expect("the channel above", lgm_next_channel(map, false, &id), LGM_OK);
+    expect("its id", id, scid);
+    expect("no banned node", lgm_next_banned(map, true, point), LGM_NONE);
+    expect("the point", point[0], 77);
+    expect("the first node", lgm_next_node(map, true, point), LGM_OK);
+    expect("its point", memcmp(point, a, 33), 0);
+    expect("no other node", lgm_next_node(map, false, point), LGM_NONE);
+}
+
+/* The messages of the channel and the node, as they were offered, with a buffer of each length. */
+static void expect_message(lgm_map *map, uint32_t which, const uint8_t *wanted, size_t len) {
+    for (size_t room = len - 2; room <= len + 2; room++) {
+        uint8_t *buffer = malloc(room);
+        size_t needed = 0;
+        memset(buffer, 5, room);
+        none_left = true;
+        uint32_t number = which == 3 ? lgm_node_message(map, a, buffer, room, &needed)
+                                     : lgm_channel_message(map, scid, which, buffer, room, &needed);
+        none_left = false;
+        expect("a message", number, room < len ? LGM_ROOM : LGM_OK);
+        expect("its length", needed, len);
+        expect("its bytes", room < len || memcmp(buffer, wanted, len) == 0, true);
+        for (size_t i = room < len ? 0 : len; i < room; i++) expect("the room", buffer[i], 5);
+        free(buffer);
+    }
+}
+
+static void stored_messages(lgm_map *map) {
+    uint8_t channel[ANNOUNCEMENT], terms[UPDATE], one[NODE], room[ANNOUNCEMENT];
+    size_t needed = 77;
+    announcement(channel);
+    update(terms, 5);
+    node(one);
+    expect_message(map, 0, channel, ANNOUNCEMENT);
+    expect_message(map, 1, terms, UPDATE);
+    expect_message(map, 3, one, NODE);
+    expect("no update", lgm_channel_message(map, scid, 2, room, sizeof room, &needed), LGM_NONE);
+    expect("no message", lgm_channel_message(map, scid, 3, room, sizeof room, &needed), LGM_ARGUMENT);
+    expect("no channel", lgm_channel_message(map, scid + 1, 0, room, sizeof room, &needed), LGM_UNKNOWN_CHANNEL);
+    expect("no channel", lgm_channel_message(map, scid + 1, 2, room, sizeof room, &needed), LGM_UNKNOWN_CHANNEL);
+    expect("no node", lgm_node_message(map, b, room, sizeof room, &needed), LGM_NOT_ANNOUNCED);
+    expect("what was needed", needed, 77);
+}
+
+/* A map in which node A is banned, while one allocation fails. */
+static void banning(void) {
+    lgm_map map = {0};
+    uint8_t channel[ANNOUNCEMENT], one[NODE], filter[FILTER], point[33] = {0}, room[2000] = {0};
+    size_t needed;
+    announcement(channel);
+    node(one);
+    query(filter, 265);
+    AGAIN("opening", lgm_open(&map, chain, true, room, 0, seed), LGM_OK);
+    AGAIN("a channel", lgm_offer(&map, channel, ANNOUNCEMENT, LGM_SIG_ALL_FOUR, a, LGM_FUNDING_UNSPENT, 100000), LGM_OK);
+    AGAIN("a mark", lgm_mark(&map), LGM_OK);
+    AGAIN("a node", lgm_offer(&map, one, NODE, LGM_SIG_BY, a, LGM_FUNDING_NOT_ASKED, 0), LGM_OK);
+    AGAIN("a ban", lgm_ban(&map, a), LGM_OK);
+    none_left = true;
+    expect("the same ban", lgm_ban(&map, a), LGM_BANNED);
+    expect("its channel", lgm_offer(&map, channel, ANNOUNCEMENT, LGM_SIG_ALL_FOUR, a, LGM_FUNDING_UNSPENT, 100000),
+           LGM_BANNED);
+    expect("its node", lgm_offer(&map, one, NODE, LGM_SIG_BY, a, LGM_FUNDING_NOT_ASKED, 0), LGM_BANNED);
+    expect("no channel", lgm_count(&map), 0);
+    expect("no node", lgm_next_node(&map, true, point), LGM_NONE);
+    expect("the banned node", lgm_next_banned(&map, true, point), LGM_OK);
+    expect("its point", memcmp(point, a, 33), 0);
+    expect("no other", lgm_next_banned(&map, false, point), LGM_NONE);
+    expect("what was accepted", lgm_version_of(&map), 3);
+    none_left = false;
+    AGAIN("a ban", lgm_ban(&map, b), LGM_OK);
+    expect("the next banned node", lgm_next_banned(&map, false, point), LGM_OK);
+    expect("its point", memcmp(point, b, 33), 0);
+    AGAIN("no news", lgm_news(&map, filter, FILTER, room, sizeof room, &needed), LGM_OK);
+    expect("no news", needed, 0);
+    lgm_free(&map);
 }
 
 /* Each call with a buffer of each length: nothing is written where it is too short, nor past the answer. */
@@ -297,6 +415,7 @@ int main(void) {
         has_failed = false;
         left = ++requests;
         out_of_memory();
+        banning();
         left = 0;
     } while (has_failed);
     expect("some memory", requests > 20, true);
@@ -305,6 +424,8 @@ int main(void) {
     opening(&map);
     offering(&map);
     looking(&map);
+    listing(&map);
+    stored_messages(&map);
     null_with_no_items(&map);
     routing(&map);
     asking(&map);

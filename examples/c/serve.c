@@ -6,8 +6,8 @@
  *
  * The items before the first `commit` of the script (docs/script.md) are offered first. Then the writer offers the
  * others, publishes the map after each BATCH of them, and then pauses for PAUSE milliseconds. Meanwhile each of the READERS
- * routes the payments of the script, again and again, each on the newest snapshot: at least TIMES times, and at last all of
- * them on the last snapshot. For each answer it prints a line, unless there is a `-q`: the version of the snapshot, the
+ * routes the payments of the script, again and again, each in the map that was published last: at least TIMES times, and at
+ * last all of them in the last one. For each answer it prints a line, unless there is a `-q`: the version of that map, the
  * number of the payment, the first being 0, and what `lgm run` answers. What was done, and how long it took, is written to
  * standard error.
  */
@@ -24,9 +24,9 @@ enum { MOST_READERS = 64, MOST_ANSWER = 8192 };
 
 /* What the writer publishes for the readers. Both hold the lock for a moment: no call that takes long is made under it. */
 static pthread_mutex_t lock = PTHREAD_MUTEX_INITIALIZER;
-static lgm_snapshot latest;
+static lgm_map latest;
 static uint64_t latest_version;
-static bool has_ended; /* no snapshot will follow */
+static bool has_ended; /* no other map will be published */
 
 static item *items;
 static lgm_payment *payments;
@@ -64,9 +64,9 @@ typedef struct {
     size_t len, capacity;
 } publications;
 
-/* Publishes the map as it is. The readers that still have an older snapshot go on with it. */
+/* Publishes the map as it is. The readers that still have an older one go on with it. */
 static void publish(lgm_map *map, publications *done) {
-    lgm_snapshot fresh = {0}, old;
+    lgm_map fresh = {0}, old;
     double start = now();
     expect(lgm_publish(map, &fresh));
     done->taken = grown(done->taken, done->len, &done->capacity, sizeof *done->taken);
@@ -77,7 +77,7 @@ static void publish(lgm_map *map, publications *done) {
     latest = fresh;
     latest_version = version;
     pthread_mutex_unlock(&lock);
-    lgm_release(&old);
+    lgm_free(&old);
 }
 
 static void offer_items(lgm_map *map, size_t from, size_t to) {
@@ -102,17 +102,17 @@ static void write_map(lgm_map *map, publications *done) {
 
 /* ---- the readers */
 
-/* Takes the newest snapshot in place of an older one. Returns whether no other will follow. */
-static bool renew(lgm_snapshot *snapshot, uint64_t *version) {
-    lgm_snapshot fresh = {0};
+/* Takes the map that was published last in place of an older one. Returns whether no other will follow. */
+static bool renew(lgm_map *published, uint64_t *version) {
+    lgm_map fresh = {0};
     pthread_mutex_lock(&lock);
     bool is_last = has_ended;
-    if (!snapshot->is_open || *version != latest_version) expect(lgm_share(&latest, &fresh));
+    if (!published->is_open || *version != latest_version) expect(lgm_share(&latest, &fresh));
     pthread_mutex_unlock(&lock);
     if (fresh.is_open) {
-        lgm_release(snapshot);
-        *snapshot = fresh;
-        *version = lgm_version_of(snapshot);
+        lgm_free(published);
+        *published = fresh;
+        *version = lgm_version_of(published);
     }
     return is_last;
 }
@@ -143,31 +143,30 @@ static void print_answer(uint64_t version, size_t payment, uint32_t number, cons
     puts(text);
 }
 
-static void route(lgm_snapshot *snapshot, uint64_t version, size_t payment) {
+static void route(lgm_map *published, uint64_t version, size_t payment) {
     lgm_hop hops[LGM_MOST_HOPS];
     uint8_t payloads[LGM_MOST_PAYLOADS];
     lgm_lengths lengths;
-    uint32_t number = lgm_snapshot_route(snapshot, &payments[payment], hops, LGM_MOST_HOPS, payloads, sizeof payloads,
-                                         &lengths);
+    uint32_t number = lgm_route(published, &payments[payment], hops, LGM_MOST_HOPS, payloads, sizeof payloads, &lengths);
     if (number >= LGM_CLOSED) expect(number);
     if (!is_quiet) print_answer(version, payment, number, hops, lengths.hops, payloads);
 }
 
-/* A thread: it has a snapshot of its own, reads alone, and counts its answers. */
+/* A thread: it has a published map of its own, reads alone, and counts its answers. */
 static void *read_map(void *answers) {
-    lgm_snapshot snapshot = {0};
+    lgm_map published = {0};
     uint64_t version = 0;
     size_t *count = answers;
     bool is_last = false;
     for (size_t round = 0; !is_last || round < times; round++) {
-        is_last = renew(&snapshot, &version);
+        is_last = renew(&published, &version);
         for (size_t i = 0; i < payments_len; i++) {
-            if (i > 0 && !is_last) renew(&snapshot, &version);
-            route(&snapshot, version, i);
+            if (i > 0 && !is_last) renew(&published, &version);
+            route(&published, version, i);
             ++*count;
         }
     }
-    lgm_release(&snapshot);
+    lgm_free(&published);
     return NULL;
 }
 
@@ -266,7 +265,7 @@ int main(int argc, char **argv) {
     write_map(&map, &done);
     size_t all = joined(threads, answers, readers);
     report(&done, all, now() - start);
-    lgm_release(&latest);
+    lgm_free(&latest);
     lgm_free(&map);
     free(done.taken);
     free(items);

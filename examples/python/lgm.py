@@ -1,5 +1,4 @@
-"""lgm, a verified map of Lightning gossip, from Python: classes `Map` and `Snapshot` over the shared library of
-include/lgm.h.
+"""lgm, a verified map of Lightning gossip, from Python: a class `Map` over the shared library of include/lgm.h.
 
     with Map(chain=CHAIN) as network:
         network.offer(message, sig=ALL_FOUR, funding=100_000)
@@ -7,8 +6,8 @@ include/lgm.h.
 
 Messages, points, chains and secrets are `bytes`, `bytearray` or `memoryview`. An argument of another type raises
 TypeError, and one out of its range ValueError, before the library is called. A call that fails raises the class of its
-fault, such as `NotNewer`; all of these are subclasses of `Fault`. Any thread may use a `Map` or a `Snapshot`: the calls of
-one wait for one another. Threads that are to read at once take a snapshot each:
+fault, such as `NotNewer`; all of these are subclasses of `Fault`. Any thread may use a `Map`: the calls of one wait for
+one another. Threads that are to read at once take a published map each, which never changes:
 
     latest = network.publish()   # by the thread that changes the map
     mine = latest.share()        # by each thread that reads: it waits for nobody, and nobody for it
@@ -20,6 +19,7 @@ beside this one, where `examples/build-c` puts it.
 import ctypes
 import os
 import re
+import sys
 import threading
 from dataclasses import dataclass
 from functools import wraps
@@ -64,7 +64,7 @@ _REFUSALS = {1: "malformed", 2: "unknown-even", 3: "ignored", 4: "not-gossip", 5
              14: "unknown-node", 15: "not-newer", 16: "banned"}
 _REASONS = {21: "amount-zero", 22: "amount-too-large", 23: "expiry-too-large", 24: "self-payment", 25: "no-route"}
 _OTHERS = {31: "not-query", 32: "not-filter", 33: "not-announced", 100: "closed", 101: "open", 102: "no-memory",
-           103: "argument", 104: "room", 105: "full"}
+           103: "argument", 104: "room", 105: "full", 106: "published", 107: "none"}
 
 
 def _classes(base, words):
@@ -194,15 +194,29 @@ def _alone(method):
     return locked
 
 
-class _Handle:
-    """A handle of the library, with the lock and the buffers of its calls. Free it by `close`, or use it in a `with`
-    statement."""
+# The messages of a channel, for `Map.message`: its announcement, and the updates of node 1 and node 2.
+ANNOUNCEMENT, UPDATE_1, UPDATE_2 = range(3)
 
-    _prefix = None
-    _free = None
+# The length of a buffer that is kept from call to call; a longer one is given back.
+_KEPT = 1 << 20
 
-    def __init__(self):
-        """A closed one."""
+
+class Map:
+    """A map of one chain. Free it by `close`, or use it in a `with` statement.
+
+    One that `publish` or `share` returns is published: it never changes, and what would change it raises `Published`.
+    """
+
+    def __init__(self, chain, known=None, seed=None):
+        """`known` has the feature bits that are known, or is `None` if all are; `seed` is 16 random bytes."""
+        chain = _octets("a chain", chain, 32)
+        seed = _octets("a seed", os.urandom(16) if seed is None else seed, 16)
+        bits = b"" if known is None else _octets("known", known)
+        self._set_up()
+        _check(self._library.lgm_open(self._at, chain, known is None, bits, len(bits), seed))
+
+    def _set_up(self):
+        """Sets a closed handle, with the lock and the buffers of its calls."""
         self._lock = threading.Lock()
         self._handle = _Buffer(_c.SIZE_OF_HANDLE)
         self._at = self._handle.at
@@ -213,15 +227,19 @@ class _Handle:
         self._payloads = _Buffer(_c.MOST_PAYLOADS)
         self._struct = _Buffer(max(_c.LENGTHS.size, _c.CHANNEL_LEN, _c.NODE.size))
         self._library = _load()
+        self._offer = self._library.lgm_offer
 
-    def _call(self, name):
-        """The call of this kind of handle."""
-        return getattr(self._library, self._prefix + name)
+    @classmethod
+    def _closed(cls):
+        """One whose handle a call is to open."""
+        made = cls.__new__(cls)
+        made._set_up()
+        return made
 
     @_alone
     def close(self):
-        """Frees what it has. Later calls raise `Closed`."""
-        getattr(self._library, self._free)(self._at)
+        """Frees the map. Later calls raise `Closed`."""
+        self._library.lgm_free(self._at)
 
     def __enter__(self):
         return self
@@ -236,7 +254,41 @@ class _Handle:
     @_alone
     def __len__(self):
         """The number of channels."""
-        return self._call("count")(self._at)
+        return self._library.lgm_count(self._at)
+
+    def __bool__(self):
+        """A map is true, also one without channels."""
+        return True
+
+    def offer(self, message, sig=NOBODY, funding=NOT_ASKED):
+        """Offers a gossip message, with the verdicts on it."""
+        message = _octets("a message", message)
+        sig, signer = _signed(sig)
+        funding, sat = _funded(funding)
+        with self._lock:
+            number = self._offer(self._at, message, len(message), sig, signer, funding, sat)
+        if number:
+            raise _FAULTS[number]()
+
+    @_alone
+    def wanted(self, message):
+        """The key whose signature is to be verified, or `None` of a channel announcement, which has four, if the message would
+        be accepted with the right verdicts. Else raises the refusal that it has even with these."""
+        message = _octets("a message", message)
+        self._struct.bytes[0] = 0  # as no key begins
+        _check(self._library.lgm_wanted(self._at, message, len(message), self._struct.at))
+        key = self._struct.front(33)
+        return key if key[0] else None
+
+    @_alone
+    def close_channel(self, scid):
+        """Removes a channel, because its funding output was spent."""
+        _check(self._library.lgm_close_channel(self._at, _number("an id", scid, 2**64)))
+
+    @_alone
+    def ban(self, point):
+        """Bans a node, and removes its channels, as contradicting announcements ban theirs."""
+        _check(self._library.lgm_ban(self._at, _octets("a point", point, 33)))
 
     @_alone
     def route(self, payer, payee, amount_msat, expiry, secret):
@@ -244,7 +296,7 @@ class _Handle:
         payment = _c.PAYMENT.pack(
             _number("amount_msat", amount_msat, 2**64), _number("expiry", expiry, 2**32),
             _octets("a point", payer, 33), _octets("a point", payee, 33), _octets("a secret", secret, 32))
-        _check(self._call("route")(
+        _check(self._library.lgm_route(
             self._at, payment, self._hops.at, _c.MOST_HOPS, self._payloads.at, _c.MOST_PAYLOADS, self._struct.at))
         count, length = _c.LENGTHS.unpack_from(self._struct.bytes)
         payloads, end = self._payloads.front(length), 0
@@ -258,17 +310,56 @@ class _Handle:
     @_alone
     def query(self, message):
         """The replies to a peer's query, a list of messages."""
-        return self._messages(self._call("query"), message)
+        return self._messages(self._library.lgm_query, message)
 
     @_alone
     def filter(self, message):
         """The messages that pass a peer's filter."""
-        return self._messages(self._call("filter"), message)
+        return self._messages(self._library.lgm_filter, message)
+
+    @_alone
+    def news(self, message):
+        """The messages that pass a peer's filter now, and didn't at the mark."""
+        return self._messages(self._library.lgm_news, message)
+
+    def news_since(self, before, message):
+        """The messages that pass a peer's filter here, and didn't in an earlier map, which is another one."""
+        if before is self:
+            raise ValueError("the earlier map is another one")
+        between = self._library.lgm_news_between
+        first, second = sorted((before, self), key=id)  # all threads take both locks in this order
+        with first._lock, second._lock:
+            return self._messages(lambda at, *rest: between(before._at, at, *rest), message)
+
+    @_alone
+    def mark(self):
+        """Moves the mark to the map as it is now."""
+        _check(self._library.lgm_mark(self._at))
+
+    @_alone
+    def publish(self):
+        """The map as it is now, published: it has what the map has now, for good."""
+        published = Map._closed()
+        _check(self._library.lgm_publish(self._at, published._at))
+        return published
+
+    @_alone
+    def share(self):
+        """One more owner of a published map, for another thread. Nothing is copied."""
+        other = Map._closed()
+        _check(self._library.lgm_share(self._at, other._at))
+        return other
+
+    @property
+    def version(self):
+        """How many messages, closes and bans the map has accepted, or had when it was published."""
+        with self._lock:
+            return self._library.lgm_version_of(self._at)
 
     @_alone
     def channel(self, scid):
         """What the map has of a channel."""
-        _check(self._call("channel")(self._at, _number("an id", scid, 2**64), self._struct.at))
+        _check(self._library.lgm_channel(self._at, _number("an id", scid, 2**64), self._struct.at))
         channel = self._struct.bytes
         return Channel(
             *_c.CHANNEL.unpack_from(channel), _direction(channel, _c.CHANNEL.size),
@@ -277,17 +368,56 @@ class _Handle:
     @_alone
     def node(self, point):
         """What the map has of a node."""
-        addresses = self._written(self._call("node"), _octets("a point", point, 33), self._struct.at)
+        addresses = self._written(self._library.lgm_node, _octets("a point", point, 33), self._struct.at)
         return Node(*_c.NODE.unpack_from(self._struct.bytes), addresses)
 
+    @_alone
+    def message(self, scid, which=ANNOUNCEMENT):
+        """A message of a channel, as it was received: ANNOUNCEMENT, UPDATE_1 or UPDATE_2."""
+        scid, which = _number("an id", scid, 2**64), _number("which", which, 2**32)
+        return self._written(self._library.lgm_channel_message, scid, which)
+
+    @_alone
+    def node_message(self, point):
+        """A node's announcement, as it was received."""
+        return self._written(self._library.lgm_node_message, _octets("a point", point, 33))
+
+    def channels(self):
+        """The ids of all channels, ascending."""
+        for scid in self._keys(self._library.lgm_next_channel, 8):
+            yield int.from_bytes(scid, sys.byteorder)
+
+    def nodes(self):
+        """The points of all nodes with an announcement, ascending byte by byte."""
+        return self._keys(self._library.lgm_next_node, 33)
+
+    def banned(self):
+        """The points of all banned nodes, ascending byte by byte."""
+        return self._keys(self._library.lgm_next_banned, 33)
+
+    def _keys(self, call, length):
+        """The keys that a call goes through. Between two of them the map may change."""
+        key, is_first = _Buffer(length), True
+        while True:
+            with self._lock:
+                number = call(self._at, is_first, key.at)
+            if number == _c.NONE:
+                return
+            _check(number)
+            yield key.front(length)
+            is_first = False
+
     def _written(self, call, *arguments):
-        """The bytes that a call writes, to a buffer that grows if it is too short."""
+        """The bytes that a call writes, to a buffer that grows if it is too short. One that was large is given back."""
         number = call(self._at, *arguments, self._room.at, self._room.length, self._needed_at)
         if number == _c.ROOM:
             self._room = _Buffer(2 * self._needed.value)
             number = call(self._at, *arguments, self._room.at, self._room.length, self._needed_at)
         _check(number)
-        return self._room.front(self._needed.value)
+        written = self._room.front(self._needed.value)
+        if self._room.length > _KEPT:
+            self._room = _Buffer(4096)
+        return written
 
     def _messages(self, call, message):
         message = _octets("a message", message)
@@ -298,76 +428,3 @@ class _Handle:
             messages.append(written[at + 8:end])
             at = end
         return messages
-
-
-class Map(_Handle):
-    """A map of one chain."""
-
-    _prefix = "lgm_"
-    _free = "lgm_free"
-
-    def __init__(self, chain, known=None, seed=None):
-        """`known` has the feature bits that are known, or is `None` if all are; `seed` is 16 random bytes."""
-        chain = _octets("a chain", chain, 32)
-        seed = _octets("a seed", os.urandom(16) if seed is None else seed, 16)
-        bits = b"" if known is None else _octets("known", known)
-        super().__init__()
-        self._offer = self._library.lgm_offer
-        _check(self._library.lgm_open(self._at, chain, known is None, bits, len(bits), seed))
-
-    def offer(self, message, sig=NOBODY, funding=NOT_ASKED):
-        """Offers a gossip message, with the verdicts on it."""
-        message = _octets("a message", message)
-        sig, signer = _signed(sig)
-        funding, sat = _funded(funding)
-        with self._lock:
-            number = self._offer(self._at, message, len(message), sig, signer, funding, sat)
-        if number:
-            raise _FAULTS[number]()
-
-    @_alone
-    def close_channel(self, scid):
-        """Removes a channel, because its funding output was spent."""
-        _check(self._library.lgm_close_channel(self._at, _number("an id", scid, 2**64)))
-
-    @_alone
-    def news(self, message):
-        """The messages that pass a peer's filter now, and didn't at the mark."""
-        return self._messages(self._library.lgm_news, message)
-
-    @_alone
-    def mark(self):
-        """Moves the mark to the map as it is now."""
-        _check(self._library.lgm_mark(self._at))
-
-    @_alone
-    def publish(self):
-        """A `Snapshot` of the map as it is now."""
-        snapshot = Snapshot()
-        _check(self._library.lgm_publish(self._at, snapshot._at))
-        return snapshot
-
-
-class Snapshot(_Handle):
-    """What a map had when it was published, by `Map.publish`. Each thread takes one of its own, by `share`."""
-
-    _prefix = "lgm_snapshot_"
-    _free = "lgm_release"
-
-    @property
-    def version(self):
-        """How many messages and closes the map had accepted."""
-        with self._lock:
-            return self._library.lgm_version_of(self._at)
-
-    @_alone
-    def share(self):
-        """One more snapshot of the same map, which isn't copied."""
-        other = Snapshot()
-        _check(self._library.lgm_share(self._at, other._at))
-        return other
-
-    def news(self, before, message):
-        """The messages that pass a peer's filter here and didn't in an earlier snapshot."""
-        with before.share() as earlier, self._lock:
-            return self._messages(lambda at, *rest: self._library.lgm_snapshot_news(earlier._at, at, *rest), message)

@@ -7,8 +7,9 @@ from functools import lru_cache
 from pathlib import Path
 
 LIBRARY = os.environ.get("LGM_LIBRARY") or Path(__file__).resolve().parent.parent / "out" / "liblgm.so"
-VERSION = 1
+VERSION = 2
 ROOM = 104
+NONE = 107
 MOST_HOPS = 20
 MOST_PAYLOADS = 1300
 
@@ -33,27 +34,27 @@ CALLS = {
     "lgm_open": (U32, [AT, BYTES, ctypes.c_bool, BYTES, SIZE, BYTES]),
     "lgm_free": (None, [AT]),
     "lgm_offer": (U32, [AT, BYTES, SIZE, U32, BYTES, U32, U64]),
+    "lgm_wanted": (U32, [AT, BYTES, SIZE, AT]),
     "lgm_close_channel": (U32, [AT, U64]),
+    "lgm_ban": (U32, [AT, BYTES]),
+    "lgm_count": (SIZE, [AT]),
+    "lgm_route": (U32, [AT, BYTES, AT, SIZE, AT, SIZE, AT]),
+    "lgm_query": (U32, ANSWERING),
+    "lgm_filter": (U32, ANSWERING),
     "lgm_news": (U32, ANSWERING),
+    "lgm_news_between": (U32, [AT, *ANSWERING]),
     "lgm_mark": (U32, [AT]),
     "lgm_publish": (U32, [AT, AT]),
     "lgm_share": (U32, [AT, AT]),
-    "lgm_release": (None, [AT]),
     "lgm_version_of": (U64, [AT]),
-    "lgm_snapshot_news": (U32, [AT, *ANSWERING]),
+    "lgm_channel": (U32, [AT, U64, AT]),
+    "lgm_node": (U32, [AT, BYTES, AT, AT, SIZE, AT]),
+    "lgm_channel_message": (U32, [AT, U64, U32, AT, SIZE, AT]),
+    "lgm_node_message": (U32, [AT, BYTES, AT, SIZE, AT]),
+    "lgm_next_channel": (U32, [AT, ctypes.c_bool, AT]),
+    "lgm_next_node": (U32, [AT, ctypes.c_bool, AT]),
+    "lgm_next_banned": (U32, [AT, ctypes.c_bool, AT]),
 }
-
-# The calls that a map and a snapshot both have, behind `lgm_` and `lgm_snapshot_`.
-READING = {
-    "count": (SIZE, [AT]),
-    "route": (U32, [AT, BYTES, AT, SIZE, AT, SIZE, AT]),
-    "query": (U32, ANSWERING),
-    "filter": (U32, ANSWERING),
-    "channel": (U32, [AT, U64, AT]),
-    "node": (U32, [AT, BYTES, AT, AT, SIZE, AT]),
-}
-for _name, _kind in READING.items():
-    CALLS["lgm_" + _name] = CALLS["lgm_snapshot_" + _name] = _kind
 
 
 @lru_cache(maxsize=None)

@@ -41,7 +41,8 @@ def refusal(call, *arguments, **named):
 
 def numbers_have_ranges(network):
     """No number is cut to the type that C has for it, and none is made of something else."""
-    for call, below in ((network.close_channel, 2**64), (network.channel, 2**64),
+    for call, below in ((network.close_channel, 2**64), (network.channel, 2**64), (network.message, 2**64),
+                        (lambda which: network.message(0, which), 2**32),
                         (lambda sat: network.offer(b"", lgm.ALL_FOUR, sat), 2**64),
                         (lambda msat: network.route(**{**PAYMENT, "amount_msat": msat}), 2**64),
                         (lambda expiry: network.route(**{**PAYMENT, "expiry": expiry}), 2**32)):
@@ -53,7 +54,8 @@ def numbers_have_ranges(network):
 
 def bytes_have_types_and_lengths(network):
     """Texts, numbers and lists aren't bytes; a point, a chain, a seed and a secret have their lengths."""
-    calls = [network.query, network.filter, network.news, network.offer, network.node, lgm.Map,
+    calls = [network.query, network.filter, network.news, network.offer, network.wanted, network.node, network.node_message,
+             network.ban, lgm.Map,
              lambda sig: network.offer(b"", 0 if isinstance(sig, str) else sig),
              lambda seed: lgm.Map(CHAIN, seed=seed if seed is not None else 0),
              lambda known: lgm.Map(CHAIN, known=known if known is not None else 0),
@@ -62,8 +64,8 @@ def bytes_have_types_and_lengths(network):
     for number, call in enumerate(calls):
         for value in ("00" * 33, 33, [0] * 33, None):
             assert refusal(call, value) is TypeError, (number, value)
-    for number, call in enumerate(calls[4:]):
-        wanted = None if number == 4 else ValueError  # the feature bits are of any length
+    for number, call in enumerate(calls[5:]):
+        wanted = None if number == 6 else ValueError  # the feature bits are of any length
         assert refusal(call, bytes(31)) is refusal(call, bytes(34)) is wanted, number
 
 

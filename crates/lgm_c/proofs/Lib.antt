@@ -1,7 +1,8 @@
 mod Values
 mod MapValues
-mod SnapshotValues
 mod Outcomes
+mod Unwanted
+mod Mended
 mod Networks
 mod Marks
 mod Hops

@@ -10,7 +10,7 @@ use Rattle.lgm_store.specs.History.{absorbed, fold_from}
 use Rattle.lgm_store.proofs.Histories.{fold_from-push}
 use Rattle.lgm_query.specs.declared.filter.Filter.{Filter}
 use Rattle.lgm_query.specs.Backlog.{is_among, backlog, news}
-use Rattle.lgm_c.specs.inner.Marking.{Marked, LeadsTo, rows_at}
+use Rattle.lgm_c.specs.inner.Marking.{LeadsTo}
 use Rattle.lgm_c.specs.Writing.{all_framed}
 
 -- one more operation, which is stored after those since the mark, while they are kept
@@ -30,10 +30,6 @@ all_news : (messages : List (List ℕ)) → filter (λ message. not (is_among []
 all_news [] = refl
 all_news (message ∷ messages) = ap (λ others. message ∷ others) (all_news messages)
 
-pub no_mark : (mark : Option Marked) → ((m : Marked) → mark ≡ Some m → ⊥) → rows_at mark ≡ empty
-no_mark None none = refl
-no_mark (Some m) none = absurd (none m refl)
-
--- before the first mark all that passes is news
-pub first_news : (marked rows : Rows) (f : Filter) → marked ≡ empty → all_framed (backlog rows f) ≡ all_framed (news marked rows f)
-first_news marked rows f none = rw none (ap all_framed (sym (all_news (backlog rows f))))
+-- where nothing passed before, all that passes is news
+pub first_news : (rows : Rows) (f : Filter) → all_framed (backlog rows f) ≡ all_framed (news empty rows f)
+first_news rows f = ap all_framed (sym (all_news (backlog rows f)))

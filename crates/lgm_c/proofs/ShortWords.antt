@@ -46,7 +46,8 @@ call_short number =
     == 31) _ _ (lit≤ tt) (either_short (number == 32) _ _ (lit≤ tt) (either_short (number == 33) _ _
     (lit≤ tt) (either_short (number == 100) _ _ (lit≤ tt) (either_short (number == 101) _ _ (lit≤ tt)
     (either_short (number == 102) _ _ (lit≤ tt) (either_short (number == 103) _ _ (lit≤ tt) (either_short
-    (number == 104) _ _ (lit≤ tt) (either_short (number == 105) _ _ (lit≤ tt) (lit≤ tt))))))))))
+    (number == 104) _ _ (lit≤ tt) (either_short (number == 105) _ _ (lit≤ tt) (either_short (number == 106) _ _
+    (lit≤ tt) (either_short (number == 107) _ _ (lit≤ tt) (lit≤ tt))))))))))))
 
 pub word_short : (number : ℕ) → length (word_at number) ≤ 24
 unfolding word_at

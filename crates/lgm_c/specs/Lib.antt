@@ -2,11 +2,14 @@ pub mod MapState
 pub mod Status
 pub mod Writing
 pub mod Evidence
+pub mod Changing
 pub mod Opening
 pub mod Published
 pub mod Offering
+pub mod Wanting
 pub mod Asking
 pub mod Routing
 pub mod Looking
+pub mod Listing
 pub mod Words
 pub mod inner

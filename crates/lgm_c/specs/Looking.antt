@@ -1,5 +1,5 @@
 -- Channels and nodes, as C gets them.
-use Rattle.std.specs.Prelude.{◌≡◌, ℕ, true, false, List, length, Option, Some, None, Result, Ok, Err}
+use Rattle.std.specs.Prelude.{◌≡◌, ℕ, ◌==◌, if◌then◌else◌, true, false, List, length, Option, Some, None, Result, Ok, Err}
 use Rattle.lgm_check.specs.declared.row.ChannelRow.{ChannelRow}
 use Rattle.lgm_check.specs.declared.row.UpdateRow.{UpdateRow}
 use Rattle.lgm_check.specs.declared.row.NodeRow.{NodeRow}
@@ -72,6 +72,32 @@ announced None = Err faults.NotAnnounced
 -- the announcement of a node
 abbrev pub node_found : List ℕ → Rows → Result NodeRow Fault
 node_found point rows = announced (node_of rows.nodes (record { 0 = point }))
+
+-- the bytes of a channel's announcement, and of an update
+abbrev pub announcement_in : Option ChannelRow → Result (List ℕ) Fault
+announcement_in (Some row) = Ok row.raw
+announcement_in None = Err (faults.Refused refusals.UnknownChannel)
+
+abbrev pub update_in : Option ChannelRow → Option UpdateRow → Result (List ℕ) Fault
+update_in None update = Err (faults.Refused refusals.UnknownChannel)
+update_in (Some row) None = Err faults.None
+update_in (Some row) (Some update) = Ok update.raw
+
+-- a message of a channel: 0 is the announcement, 1 and 2 are the updates of node 1 and node 2
+abbrev pub channel_message_found : ℕ → ℕ → Rows → Result (List ℕ) Fault
+channel_message_found id which rows =
+    if which == 0 then announcement_in (channel_of rows.channels id)
+    else if which == 1 then update_in (channel_of rows.channels id) (update_of rows.updates id false)
+    else if which == 2 then update_in (channel_of rows.channels id) (update_of rows.updates id true)
+    else Err faults.Argument
+
+-- the bytes of a node's announcement
+abbrev pub bytes_of_node : Result NodeRow Fault → Result (List ℕ) Fault
+bytes_of_node (Ok row) = Ok row.raw
+bytes_of_node (Err fault) = Err fault
+
+abbrev pub node_message_found : List ℕ → Rows → Result (List ℕ) Fault
+node_message_found point rows = bytes_of_node (node_found point rows)
 
 -- a node was written, with its addresses or only their length, or the fault was returned
 abbrev pub WritesNode : Result NodeRow Fault → ℕ → LgmNode → LgmNode → Buffer → Buffer → Type 0

@@ -1,6 +1,7 @@
 -- Opening a handle, and moving a mark.
 use Rattle.std.specs.Prelude.{◌≡◌, ◌⊎◌, ℕ, Bool, if◌then◌else◌, List, Option, Some, None}
 use Rattle.lgm_c.specs.declared.fault.Fault.TheVariants as faults
+use Rattle.lgm_c.specs.Changing.{Changes}
 use Rattle.lgm_c.specs.MapState.{MapState}
 use Rattle.lgm_c.specs.Status.{number_of, no_memory}
 
@@ -15,7 +16,6 @@ Opens state status (Some old) new = (status ≡ number_of faults.Open) × (new �
 
 -- the mark moves to the rows, unless memory runs out
 abbrev pub MovesMark : ℕ → Option MapState → Option MapState → Type 0
-MovesMark status None new = (status ≡ number_of faults.Closed) × (new ≡ None)
-MovesMark status (Some old) new =
+MovesMark = Changes (λ old status new.
     ((status ≡ 0) × (new ≡ Some (record old { marked = old.rows })))
-    ⊎ ((status ≡ no_memory) × (new ≡ Some old))
+    ⊎ ((status ≡ no_memory) × (new ≡ Some old)))

@@ -36,6 +36,8 @@ number_of faults.NoMemory = no_memory
 number_of faults.Argument = 103
 number_of faults.Room = 104
 number_of faults.Full = 105
+number_of faults.Published = 106
+number_of faults.None = 107
 
 -- a refusal of an item, and a reason why a payment has no route; out of memory is neither
 abbrev pub refused : Refusal → Fault

@@ -49,6 +49,8 @@ word_of_call number =
     else if number == 103 then codes "argument"
     else if number == 104 then codes "room"
     else if number == 105 then codes "full"
+    else if number == 106 then codes "published"
+    else if number == 107 then codes "none"
     else []
 
 abbrev pub word_by : Option Refusal → Option RouteFault → ℕ → List ℕ

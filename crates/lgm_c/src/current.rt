@@ -1,8 +1,7 @@
 //! The current map of a handle.
 
-ghost use Rattle.std.specs.Prelude.{◌≡◌, IfOk, OnErr};
+ghost use Rattle.std.specs.Prelude.{◌≡◌, IfOk, OnOk, OnErr};
 ghost use Rattle.lgm_gossip.specs.Memory.{GivesIf, TakesMemory};
-ghost use Rattle.lgm_store.specs.Admission.{Offers, admitted_close};
 ghost use Rattle.lgm_c.specs.inner.Networks.{network_rows, counted, counted_behind};
 ghost use Rattle.lgm_c.specs.Offering.{offered_to};
 ghost use Rattle.lgm_c.specs.Routing.{route_for, IsSearched};
@@ -14,7 +13,7 @@ use crate::search::{is_searched, search};
 use crate::turns::Turns;
 use crate::verdict::offer;
 use lgm_check::{Evidence, Refusal};
-use lgm_gossip::{ChainHash, Scid};
+use lgm_gossip::ChainHash;
 use lgm_graph::Network;
 use lgm_route::{Request, Route};
 use lgm_store::{Map, Op};
@@ -76,18 +75,17 @@ impl Current {
         Ok(op)
     }
 
-    /// Closes a channel, and returns the operation. A refusal or out of memory leaves the map unchanged.
-    pub(crate) fn close(&mut self, alloc: Global, scid: Scid) -> Result<Op, Refusal>
-        ensures admission { Offers result (admitted_close self.old.rows scid) }
-        ensures accepted { IfOk result (λ op. self.new ≡ counted_behind self.old op) }
-        ensures refused { OnErr result (self.new ≡ self.old) }
+    /// Applies an operation. The only error is out of memory, which leaves the map unchanged.
+    pub(crate) fn apply(&mut self, alloc: Global, op: &Op) -> Result<(), AllocError>
+        ensures applied { OnOk result (self.new ≡ counted_behind self.old op.now) }
+        ensures stays { OnErr result (self.new ≡ self.old) }
     {
-        let op = self.network.offer_close(scid)?;
+        self.network.absorb(op)?;
         if let Some(turns) = self.turns.take() {
-            self.turns = turns.noted(alloc, &op, self.network.map().count());
+            self.turns = turns.noted(alloc, op, self.network.map().count());
         }
         self.version = self.version.saturating_add(1);
-        Ok(op)
+        Ok(())
     }
 
     /// The map as it is now, for good. The only error is out of memory.

@@ -30,12 +30,16 @@ pub(crate) enum Fault {
     Open,
     /// 102: out of memory.
     NoMemory,
-    /// 103: a number that stands for no verdict.
+    /// 103: a number that stands for nothing, or a map that changes where a published one is to be shared.
     Argument,
     /// 104: a buffer is too short for the answer.
     Room,
     /// 105: the map has too many channels for a route search.
     Full,
+    /// 106: the map was published, and never changes.
+    Published,
+    /// 107: there is none: no key above the given one, or no such message.
+    None,
 }
 
 impl Fault {
@@ -63,6 +67,8 @@ impl Fault {
             Fault::Argument => 103,
             Fault::Room => 104,
             Fault::Full => 105,
+            Fault::Published => 106,
+            Fault::None => 107,
         }
     }
 }

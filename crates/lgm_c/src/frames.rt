@@ -3,6 +3,7 @@
 //! Their length is counted first, which takes no memory. Only if the buffer has room for them are they put together.
 
 ghost use Rattle.std.specs.Prelude.{◌≡◌, ◌+◌, ◌++◌, length, IfOk, IfSome, OnOk};
+ghost use Rattle.lgm_store.specs.Rows.{empty};
 ghost use Rattle.lgm_query.specs.Backlog.{backlog, news};
 ghost use Rattle.lgm_c.specs.Status.{status_of};
 ghost use Rattle.lgm_c.specs.Writing.{framed, all_framed, buffer};
@@ -122,6 +123,20 @@ pub(crate) fn write_backlog(
     }
     let framed = frame_backlog(alloc, Backlog::of(map, filter), bytes)?;
     write_bytes(&framed, room, needed)
+}
+
+/// Writes what is news where there was nothing before: all that passes a filter.
+pub(crate) fn write_first_news(
+    alloc: Global,
+    map: &Map,
+    filter: &Filter,
+    room: &mut [u8],
+    needed: &mut usize,
+) -> Result<(), Fault>
+    ensures { MayWrite (all_framed (news empty map.now filter.now)) (status_of result)
+        (buffer room.old needed.old) (buffer room.new needed.new) }
+{
+    write_backlog(alloc, map, filter, room, needed)
 }
 
 /// The number of bytes of news, each message after its length.

@@ -2,36 +2,37 @@
 //!
 //! The header is `include/lgm.h`. A handle has a map of channels, the view in which routes are searched, and a mark.
 //! Messages are offered to it; it answers payments with routes, queries of peers with replies, and filters with what
-//! passes them now or has come to pass since the mark. The handle of a snapshot has what a map had when it was
-//! published, for a thread that reads while another one changes the map. A call that can fail returns a number: 0 if it
-//! succeeded, else that of the first fault, which leaves the map unchanged, and the buffers but for what `LGM_ROOM`
-//! comes with: the lengths, and the node of `lgm_node`.
+//! passes them now or has come to pass since the mark. A published map has what a map had when it was published, for a
+//! thread that reads while another one changes that map: the same calls answer of both. A call that can fail returns a
+//! number: 0 if it succeeded, else that of the first fault, which leaves the map unchanged, and the buffers but for what
+//! `LGM_ROOM` comes with: the lengths, and the node of `lgm_node`.
 #![tactic(auto)]
 
 mod boxes;
+mod changing_map;
 mod current;
 mod edition;
 mod evidence;
 mod fault;
 mod frames;
 mod handle;
-mod lgm_snapshot;
+mod listing;
 mod lookups;
 mod map;
 mod mark;
 mod offers;
 mod output;
 mod publications;
+mod published_map;
 mod queries;
 mod raw_box;
 mod routes;
 mod search;
-mod snapshot;
-mod snapshot_calls;
-mod snapshot_handle;
 mod state;
+mod stored_messages;
 #[cfg(test)]
 mod tests;
 mod turns;
 mod verdict;
+mod wanted;
 mod words;

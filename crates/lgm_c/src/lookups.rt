@@ -8,7 +8,7 @@ ghost use Rattle.lgm_c.specs.Status.{if_open, status_of, Finds};
 ghost use Rattle.lgm_c.specs.Writing.{buffer};
 
 use crate::fault::{Fault, status};
-use crate::map::LgmMap;
+use crate::map::{LgmMap, with_state};
 use crate::output::write_bytes;
 use lgm_check::{NodeRow, Refusal, UpdateRow};
 use lgm_gossip::{Point, Scid};
@@ -73,12 +73,7 @@ pub extern "C" fn lgm_count(alloc: Global, map: &mut LgmMap) -> usize
     ensures same { map.new.handle.value ≡ map.old.handle.value }
     ensures count { result ≡ count_of (option_map (λ state. state.rows) map.old.handle.value) }
 {
-    let Some(inner) = map.take(alloc) else {
-        return 0;
-    };
-    let count = inner.map().count();
-    *map = LgmMap::open(inner);
-    count
+    with_state!(alloc, map, 0, |state| state.map().count())
 }
 
 fn c_direction(update: Option<UpdateRow<'_>>) -> LgmDirection
@@ -111,7 +106,7 @@ fn c_direction(update: Option<UpdateRow<'_>>) -> LgmDirection
 }
 
 /// What a map has of a channel.
-pub(crate) fn find_channel(map: &Map, scid: Scid) -> Result<LgmChannel, Fault>
+fn find_channel(map: &Map, scid: Scid) -> Result<LgmChannel, Fault>
     ensures { result ≡ channel_found scid map.now }
 {
     let Some(state) = map.channel_info(scid) else {
@@ -128,17 +123,12 @@ pub(crate) fn find_channel(map: &Map, scid: Scid) -> Result<LgmChannel, Fault>
     })
 }
 
-/// Writes what was found, or returns the number of the fault.
-pub(crate) fn write_channel(found: &Result<LgmChannel, Fault>, channel: &mut LgmChannel) -> u32
-    ensures { Finds found.now result channel.old channel.new }
+/// Writes what a map has of a channel.
+fn write_channel(map: &Map, scid: Scid, channel: &mut LgmChannel) -> Result<(), Fault>
+    ensures { Finds (channel_found scid map.now) (status_of result) channel.old channel.new }
 {
-    match found {
-        Ok(found) => {
-            *channel = *found;
-            0
-        }
-        Err(fault) => fault.number(),
-    }
+    *channel = find_channel(map, scid)?;
+    Ok(())
 }
 
 /// What the map has of a channel.
@@ -153,12 +143,11 @@ pub extern "C" fn lgm_channel(
     ensures channel { Finds (if_open map.old.handle.value (λ state. channel_found scid state.rows)) result
         channel.old channel.new }
 {
-    let Some(inner) = map.take(alloc) else {
-        return Fault::Closed.number();
-    };
-    let found = find_channel(inner.map(), Scid::from_u64(scid));
-    *map = LgmMap::open(inner);
-    write_channel(&found, channel)
+    with_state!(
+        alloc,
+        map,
+        |state| status(&write_channel(state.map(), Scid::from_u64(scid), channel))
+    )
 }
 
 fn c_node(row: &NodeRow<'_>) -> LgmNode
@@ -172,7 +161,7 @@ fn c_node(row: &NodeRow<'_>) -> LgmNode
 }
 
 /// Writes what a map has of a node.
-pub(crate) fn write_node(
+fn write_node(
     map: &Map,
     point: &Point,
     node: &mut LgmNode,
@@ -203,10 +192,9 @@ pub extern "C" fn lgm_node(
     ensures node { WritesNode (if_open map.old.handle.value (λ state. node_found point.now state.rows)) result
         node.old node.new (buffer addresses.old needed.old) (buffer addresses.new needed.new) }
 {
-    let Some(inner) = map.take(alloc) else {
-        return Fault::Closed.number();
-    };
-    let outcome = write_node(inner.map(), &Point(*point), node, addresses, needed);
-    *map = LgmMap::open(inner);
-    status(&outcome)
+    with_state!(
+        alloc,
+        map,
+        |state| status(&write_node(state.map(), &Point(*point), node, addresses, needed))
+    )
 }

@@ -39,6 +39,13 @@ impl LgmMap {
         }
     }
 
+    /// Whether it is open.
+    pub(crate) fn is_open(&self) -> bool
+        ensures { result ≡ is_some self.now.handle.value }
+    {
+        self.is_open
+    }
+
     /// Takes the map out, if there is one, and closes the handle.
     pub(crate) fn take(&mut self, alloc: Global) -> Option<Box<State>>
         ensures left { self.new.handle.value ≡ None }
@@ -51,3 +58,23 @@ impl LgmMap {
         Some(handle.into_loose(alloc).into_box())
     }
 }
+
+/// The form of each call on the map of a handle: takes the map out, lets `$answer` look at it as `$state`, or change it,
+/// and puts it back. Of a closed handle it is `$closed`, or the number of that fault.
+macro_rules! with_state {
+    ($alloc:ident, $map:ident, |$state:ident| $answer:expr) => {
+        with_state!($alloc, $map, Fault::Closed.number(), |$state| $answer)
+    };
+    ($alloc:ident, $map:ident, $closed:expr, |$state:ident| $answer:expr) => {
+        match $map.take($alloc) {
+            Some(mut $state) => {
+                let answer = $answer;
+                *$map = LgmMap::open($state);
+                answer
+            }
+            None => $closed,
+        }
+    };
+}
+
+pub(crate) use with_state;

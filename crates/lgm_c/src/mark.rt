@@ -2,12 +2,12 @@
 
 ghost use Rattle.std.specs.Prelude.{◌≡◌, Some, OnOk, OnErr};
 ghost use Rattle.lgm_gossip.specs.Memory.{TakesMemory};
-ghost use Rattle.lgm_store.specs.Admission.{admitted_close};
 ghost use Rattle.lgm_query.specs.Backlog.{news};
 ghost use Rattle.lgm_c.specs.Offering.{offered_to};
 ghost use Rattle.lgm_c.specs.inner.Following.{Follows};
 ghost use Rattle.lgm_c.specs.inner.Framing.{MayWrite};
 ghost use Rattle.lgm_c.specs.inner.Marking.{LeadsTo};
+ghost use Rattle.lgm_c.specs.inner.Networks.{counted_behind};
 ghost use Rattle.lgm_c.specs.Status.{status_of};
 ghost use Rattle.lgm_c.specs.Writing.{all_framed, buffer};
 
@@ -16,7 +16,7 @@ use crate::fault::Fault;
 use crate::frames::write_news;
 use crate::verdict::refusal_without_memory;
 use lgm_check::{Evidence, Refusal};
-use lgm_gossip::{ChainHash, Scid};
+use lgm_gossip::ChainHash;
 use lgm_graph::{Network, Replica, push_pending, reserve_pending};
 use lgm_query::{Filter, MapDiff, TouchedKeys};
 use lgm_store::{Map, Op};
@@ -79,21 +79,21 @@ impl Mark {
         Ok(())
     }
 
-    /// Closes a channel of the current map, and stores the operation.
-    pub(crate) fn close(
+    /// Applies an operation to the current map, and stores it. The only error is out of memory, which changes neither.
+    pub(crate) fn apply(
         &mut self,
         alloc: Global,
         current: &mut Current,
-        scid: Scid,
-    ) -> Result<(), Refusal>
+        op: Op,
+    ) -> Result<(), AllocError>
         requires { LeadsTo self.old.rows current.old.rows }
         ensures marked { self.new.marked ≡ self.old.marked }
         ensures beside { LeadsTo self.new.rows current.new.rows }
-        ensures follows { Follows ⊥ (admitted_close current.old.rows scid) result current.old current.new }
+        ensures applied { OnOk result (current.new ≡ counted_behind current.old op) }
+        ensures stays { OnErr result (current.new ≡ current.old) }
     {
-        current.map().admit_close(scid)?;
         reserve_pending(&mut self.since)?;
-        let op = current.close(alloc, scid)?;
+        current.apply(alloc, &op)?;
         push_pending(&mut self.since, op, current.map().count());
         Ok(())
     }

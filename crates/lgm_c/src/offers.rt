@@ -1,7 +1,7 @@
-//! Opening and freeing handles, and offering messages and closes.
+//! Opening and freeing handles, and offering messages, closes and bans.
 
 ghost use Rattle.std.specs.Prelude.{◌≡◌, None, IfOk};
-ghost use Rattle.lgm_c.specs.Offering.{Offers, Closes};
+ghost use Rattle.lgm_c.specs.Offering.{Offers, Closes, Bans};
 ghost use Rattle.lgm_c.specs.Evidence.{evidence_of};
 ghost use Rattle.lgm_c.specs.MapState.{opened};
 ghost use Rattle.lgm_c.specs.Opening.{known_of, Opens};
@@ -9,9 +9,9 @@ ghost use Rattle.lgm_c.specs.Opening.{known_of, Opens};
 use crate::boxes::boxed;
 use crate::evidence::evidence;
 use crate::fault::{Fault, status};
-use crate::map::LgmMap;
+use crate::map::{LgmMap, with_state};
 use crate::state::State;
-use lgm_gossip::{ChainHash, Scid};
+use lgm_gossip::{ChainHash, Point, Scid};
 use lgm_graph::Known;
 use lgm_store::Seed;
 use std::alloc::{AllocError, Global};
@@ -82,12 +82,10 @@ pub extern "C" fn lgm_offer(
     ensures { Offers message.now (evidence_of sig signer.now funding sat) result
         map.old.handle.value map.new.handle.value }
 {
-    let Some(mut inner) = map.take(alloc) else {
-        return Fault::Closed.number();
-    };
-    let outcome = inner.offer(alloc, message, evidence(sig, signer, funding, sat));
-    *map = LgmMap::open(inner);
-    status(&outcome)
+    with_state!(alloc, map, |state| {
+        let evidence = evidence(sig, signer, funding, sat);
+        status(&state.offer(alloc, message, evidence))
+    })
 }
 
 /// Closes a channel, since its funding output is spent.
@@ -95,15 +93,22 @@ pub extern "C" fn lgm_offer(
 pub extern "C" fn lgm_close_channel(alloc: Global, map: &mut LgmMap, scid: u64) -> u32
     ensures { Closes scid result map.old.handle.value map.new.handle.value }
 {
-    let Some(mut inner) = map.take(alloc) else {
-        return Fault::Closed.number();
-    };
-    let outcome = inner.close(alloc, Scid::from_u64(scid));
-    *map = LgmMap::open(inner);
-    status(&outcome)
+    with_state!(
+        alloc,
+        map,
+        |state| status(&state.close(alloc, Scid::from_u64(scid)))
+    )
 }
 
-/// Frees the map of a handle, if it is open, and closes the handle.
+/// Bans a node, and removes its channels, as contradicting announcements ban theirs.
+#[unsafe(no_mangle)]
+pub extern "C" fn lgm_ban(alloc: Global, map: &mut LgmMap, point: &[u8; 33]) -> u32
+    ensures { Bans point.now result map.old.handle.value map.new.handle.value }
+{
+    with_state!(alloc, map, |state| status(&state.ban(alloc, Point(*point))))
+}
+
+/// Frees the map of a handle, if it is open, and closes the handle. A published map is freed with its last owner.
 #[unsafe(no_mangle)]
 pub extern "C" fn lgm_free(alloc: Global, map: &mut LgmMap)
     ensures { map.new.handle.value ≡ None }

@@ -1,114 +1,86 @@
-//! Publishing, sharing and releasing snapshots.
+//! Publishing and sharing maps.
 
 ghost use Rattle.std.specs.Prelude.{◌≡◌, None, IfOk};
-ghost use Rattle.std.specs.Option.{option_map};
+ghost use Rattle.lgm_c.specs.MapState.{MapState, published};
 ghost use Rattle.lgm_c.specs.Opening.{Opens};
-ghost use Rattle.lgm_c.specs.Published.{Published, published, IsHanded, version_of};
+ghost use Rattle.lgm_c.specs.Published.{Publishes, SharesIf, Shares, version_of};
 
 use crate::boxes::boxed;
 use crate::fault::Fault;
-use crate::lgm_snapshot::LgmSnapshot;
-use crate::map::LgmMap;
-use crate::snapshot::Snapshot;
+use crate::map::{LgmMap, with_state};
 use crate::state::State;
 use std::alloc::{AllocError, Global};
 
-/// A box for the handle of a snapshot, unless memory ran out.
-fn snapshot_boxed(
-    alloc: Global,
-    snapshot: Result<Snapshot, AllocError>,
-) -> Result<Box<Snapshot>, AllocError>
-    ensures { (state : Published) → IfOk snapshot (λ found. found ≡ state)
-        → IfOk result (λ found. found.value ≡ state) }
+/// A box for a handle, unless memory ran out.
+fn state_boxed(alloc: Global, state: Result<State, AllocError>) -> Result<Box<State>, AllocError>
+    ensures { (value : MapState) → IfOk state (λ found. found ≡ value)
+        → IfOk result (λ found. found.value ≡ value) }
 {
-    boxed(alloc, snapshot?)
+    boxed(alloc, state?)
 }
 
 /// Opens a closed handle, unless memory ran out.
-fn hand(alloc: Global, snapshot: Result<Snapshot, AllocError>, to: &mut LgmSnapshot) -> u32
+fn hand(alloc: Global, state: Result<State, AllocError>, to: &mut LgmMap) -> u32
     requires { to.old.handle.value ≡ None }
-    ensures { (state : Published) → IfOk snapshot (λ found. found ≡ state)
-        → Opens state result to.old.handle.value to.new.handle.value }
+    ensures { (value : MapState) → IfOk state (λ found. found ≡ value)
+        → Opens value result to.old.handle.value to.new.handle.value }
 {
-    match snapshot_boxed(alloc, snapshot) {
-        Ok(snapshot) => {
-            *to = LgmSnapshot::open(snapshot);
+    match state_boxed(alloc, state) {
+        Ok(state) => {
+            *to = LgmMap::open(state);
             0
         }
         Err(_) => Fault::NoMemory.number(),
     }
 }
 
-/// Opens a closed handle with the map as it is now.
-fn publish(alloc: Global, inner: &mut State, snapshot: &mut LgmSnapshot) -> u32
-    ensures same { inner.new ≡ inner.old }
-    ensures snapshot { Opens (published inner.old) result
-        snapshot.old.handle.value snapshot.new.handle.value }
-{
-    if snapshot.is_open() {
-        return Fault::Open.number();
-    }
-    hand(alloc, inner.publish(alloc), snapshot)
-}
-
-/// Opens a closed handle with the map as it is now, for good.
-#[unsafe(no_mangle)]
-pub extern "C" fn lgm_publish(alloc: Global, map: &mut LgmMap, snapshot: &mut LgmSnapshot) -> u32
-    ensures same { map.new.handle.value ≡ map.old.handle.value }
-    ensures snapshot { IsHanded (option_map published map.old.handle.value) result
-        snapshot.old.handle.value snapshot.new.handle.value }
-{
-    let Some(mut inner) = map.take(alloc) else {
-        return Fault::Closed.number();
-    };
-    let status = publish(alloc, &mut inner, snapshot);
-    *map = LgmMap::open(inner);
-    status
-}
-
-/// Opens a closed handle with what a snapshot has.
-fn share(alloc: Global, from: &Snapshot, to: &mut LgmSnapshot) -> u32
-    ensures { Opens from.now result to.old.handle.value to.new.handle.value }
+/// Opens a closed handle with a map as it is now, for good.
+fn publish(alloc: Global, state: &mut State, to: &mut LgmMap) -> u32
+    ensures same { state.new ≡ state.old }
+    ensures published { Opens (published state.old) result to.old.handle.value to.new.handle.value }
 {
     if to.is_open() {
         return Fault::Open.number();
     }
-    hand(alloc, from.share(), to)
+    hand(alloc, state.publish(alloc), to)
 }
 
-/// Opens a closed handle with what another one has, which costs no copy: one more owner, for another thread.
+/// Opens a closed handle with the map as it is now, for good. A published map has one more owner then.
 #[unsafe(no_mangle)]
-pub extern "C" fn lgm_share(alloc: Global, from: &mut LgmSnapshot, to: &mut LgmSnapshot) -> u32
-    ensures same { from.new.handle.value ≡ from.old.handle.value }
-    ensures snapshot { IsHanded from.old.handle.value result
-        to.old.handle.value to.new.handle.value }
+pub extern "C" fn lgm_publish(alloc: Global, map: &mut LgmMap, published: &mut LgmMap) -> u32
+    ensures same { map.new.handle.value ≡ map.old.handle.value }
+    ensures published { Publishes map.old.handle.value result
+        published.old.handle.value published.new.handle.value }
 {
-    let Some(snapshot) = from.take(alloc) else {
-        return Fault::Closed.number();
-    };
-    let status = share(alloc, &snapshot, to);
-    *from = LgmSnapshot::open(snapshot);
-    status
+    with_state!(alloc, map, |state| publish(alloc, &mut state, published))
 }
 
-/// Gives up a snapshot, if the handle is open, and closes the handle. The last owner frees the map.
-#[unsafe(no_mangle)]
-pub extern "C" fn lgm_release(alloc: Global, snapshot: &mut LgmSnapshot)
-    ensures { snapshot.new.handle.value ≡ None }
+/// Opens a closed handle with a map, if that is a published one.
+fn share(alloc: Global, state: &mut State, to: &mut LgmMap) -> u32
+    ensures same { state.new ≡ state.old }
+    ensures shared { SharesIf state.old.is_published state.old result to.old.handle.value to.new.handle.value }
 {
-    snapshot.take(alloc);
+    if !state.is_published() {
+        return Fault::Argument.number();
+    }
+    publish(alloc, state, to)
 }
 
-/// How many messages and closes the map of a snapshot had accepted: 0 of a closed one.
+/// Opens a closed handle with what a published map has, which costs no copy: one more owner, for another thread.
 #[unsafe(no_mangle)]
-pub extern "C" fn lgm_version_of(alloc: Global, snapshot: &mut LgmSnapshot) -> u64
-    ensures same { snapshot.new.handle.value ≡ snapshot.old.handle.value }
-    ensures version { result ≡ version_of snapshot.old.handle.value }
+pub extern "C" fn lgm_share(alloc: Global, published: &mut LgmMap, other: &mut LgmMap) -> u32
+    ensures same { published.new.handle.value ≡ published.old.handle.value }
+    ensures shared { Shares published.old.handle.value result
+        other.old.handle.value other.new.handle.value }
 {
-    let Some(state) = snapshot.take(alloc) else {
-        return 0;
-    };
-    let version = state.version();
-    *snapshot = LgmSnapshot::open(state);
-    version
+    with_state!(alloc, published, |state| share(alloc, &mut state, other))
+}
+
+/// How many messages and closes the map had accepted, when it was published or so far: 0 of a closed handle.
+#[unsafe(no_mangle)]
+pub extern "C" fn lgm_version_of(alloc: Global, map: &mut LgmMap) -> u64
+    ensures same { map.new.handle.value ≡ map.old.handle.value }
+    ensures version { result ≡ version_of map.old.handle.value }
+{
+    with_state!(alloc, map, 0, |state| state.version())
 }

@@ -1,19 +1,21 @@
 //! Queries and filters of peers, and the messages that answer them.
 
 ghost use Rattle.std.specs.Prelude.{◌≡◌};
+ghost use Rattle.lgm_query.specs.Backlog.{news};
 ghost use Rattle.lgm_query.specs.Requests.{replies_to};
 ghost use Rattle.lgm_c.specs.Asking.{query_answer, backlog_answer, news_answer};
 ghost use Rattle.lgm_c.specs.Opening.{MovesMark};
+ghost use Rattle.lgm_c.specs.Published.{both_open};
 ghost use Rattle.lgm_c.specs.Status.{status_of};
 ghost use Rattle.lgm_c.specs.Writing.{all_framed, Answers, WritesAnswer, buffer};
 ghost use Rattle.lgm_c.specs.inner.Framing.{MayWrite};
 
 use crate::fault::{Fault, status};
 use crate::frames::{write_backlog, write_replies};
-use crate::map::LgmMap;
+use crate::map::{LgmMap, with_state};
 use crate::state::State;
 use lgm_gossip::ChainHash;
-use lgm_query::{Query, read_filter, read_query};
+use lgm_query::{Filter, Query, news, read_filter, read_query};
 use lgm_store::Map;
 use std::alloc::Global;
 
@@ -34,7 +36,7 @@ fn write_query(
 }
 
 /// Answers the query that the bytes encode.
-pub(crate) fn answer_query(
+fn answer_query(
     alloc: Global,
     chain: &ChainHash,
     map: &Map,
@@ -52,7 +54,7 @@ pub(crate) fn answer_query(
 }
 
 /// Answers the filter that the bytes encode with what passes of a map.
-pub(crate) fn answer_filter(
+fn answer_filter(
     alloc: Global,
     chain: &ChainHash,
     map: &Map,
@@ -101,12 +103,11 @@ pub extern "C" fn lgm_query(
         (λ state. query_answer query.now state.chain state.rows) result
         (buffer replies.old needed.old) (buffer replies.new needed.new) }
 {
-    let Some(inner) = map.take(alloc) else {
-        return Fault::Closed.number();
-    };
-    let status = answer_query(alloc, inner.chain(), inner.map(), query, replies, needed);
-    *map = LgmMap::open(inner);
-    status
+    with_state!(
+        alloc,
+        map,
+        |state| answer_query(alloc, state.chain(), state.map(), query, replies, needed)
+    )
 }
 
 /// The messages of the map that pass a peer's filter (BOLT 7, "The gossip_timestamp_filter Message").
@@ -123,15 +124,15 @@ pub extern "C" fn lgm_filter(
         (λ state. backlog_answer filter.now state.chain state.rows) result
         (buffer messages.old needed.old) (buffer messages.new needed.new) }
 {
-    let Some(inner) = map.take(alloc) else {
-        return Fault::Closed.number();
-    };
-    let status = answer_filter(alloc, inner.chain(), inner.map(), filter, messages, needed);
-    *map = LgmMap::open(inner);
-    status
+    with_state!(
+        alloc,
+        map,
+        |state| answer_filter(alloc, state.chain(), state.map(), filter, messages, needed)
+    )
 }
 
-/// The messages that pass a peer's filter now and didn't at the mark. Before the first mark, all that pass.
+/// The messages that pass a peer's filter now and didn't at the mark. Before the first mark, and in a published map, all that
+/// pass.
 #[unsafe(no_mangle)]
 pub extern "C" fn lgm_news(
     alloc: Global,
@@ -145,12 +146,97 @@ pub extern "C" fn lgm_news(
         (λ state. news_answer filter.now state.chain state.marked state.rows) result
         (buffer messages.old needed.old) (buffer messages.new needed.new) }
 {
-    let Some(mut inner) = map.take(alloc) else {
-        return Fault::Closed.number();
-    };
-    let status = answer_news(alloc, &mut inner, filter, messages, needed);
-    *map = LgmMap::open(inner);
-    status
+    with_state!(
+        alloc,
+        map,
+        |state| answer_news(alloc, &mut state, filter, messages, needed)
+    )
+}
+
+/// Writes the news between two maps, each message after its length, or their length alone.
+fn write_between(
+    alloc: Global,
+    before: &Map,
+    after: &Map,
+    filter: &Filter,
+    room: &mut [u8],
+    needed: &mut usize,
+) -> Result<(), Fault>
+    ensures { MayWrite (all_framed (news before.now after.now filter.now)) (status_of result)
+        (buffer room.old needed.old) (buffer room.new needed.new) }
+{
+    let news = news(alloc, before, after, filter)?;
+    write_replies(alloc, news.as_slice(), room, needed)
+}
+
+/// Answers the filter that the bytes encode with what passes in a map and didn't in an earlier one.
+fn answer_between(
+    alloc: Global,
+    before: &State,
+    after: &State,
+    bytes: &[u8],
+    room: &mut [u8],
+    needed: &mut usize,
+) -> u32
+    ensures { WritesAnswer bytes.now (news_answer bytes.now after.now.chain before.now.rows after.now.rows) result
+        (buffer room.old needed.old) (buffer room.new needed.new) }
+{
+    match read_filter(alloc, after.chain(), bytes) {
+        Ok(filter) => status(&write_between(
+            alloc,
+            before.map(),
+            after.map(),
+            &filter,
+            room,
+            needed,
+        )),
+        Err(fault) => Fault::from(fault).number(),
+    }
+}
+
+/// The same with what a handle has now.
+fn answer_behind(
+    alloc: Global,
+    before: &State,
+    after: &mut LgmMap,
+    bytes: &[u8],
+    room: &mut [u8],
+    needed: &mut usize,
+) -> u32
+    ensures same { after.new.handle.value ≡ after.old.handle.value }
+    ensures news { Answers bytes.now after.old.handle.value
+        (λ state. news_answer bytes.now state.chain before.now.rows state.rows) result
+        (buffer room.old needed.old) (buffer room.new needed.new) }
+{
+    with_state!(
+        alloc,
+        after,
+        |state| answer_between(alloc, before, &state, bytes, room, needed)
+    )
+}
+
+/// The messages that pass a peer's filter in a map and didn't in an earlier one. The filter is one of the chain of the later
+/// map.
+#[unsafe(no_mangle)]
+pub extern "C" fn lgm_news_between(
+    alloc: Global,
+    before: &mut LgmMap,
+    after: &mut LgmMap,
+    filter: &[u8],
+    messages: &mut [u8],
+    needed: &mut usize,
+) -> u32
+    ensures same { after.new.handle.value ≡ after.old.handle.value }
+    ensures same_before { before.new.handle.value ≡ before.old.handle.value }
+    ensures news { Answers filter.now (both_open before.old.handle.value after.old.handle.value)
+        (λ both. news_answer filter.now both.1.chain both.0.rows both.1.rows) result
+        (buffer messages.old needed.old) (buffer messages.new needed.new) }
+{
+    with_state!(
+        alloc,
+        before,
+        |state| answer_behind(alloc, &state, after, filter, messages, needed)
+    )
 }
 
 /// Moves the mark to the map as it is.
@@ -158,13 +244,5 @@ pub extern "C" fn lgm_news(
 pub extern "C" fn lgm_mark(alloc: Global, map: &mut LgmMap) -> u32
     ensures { MovesMark result map.old.handle.value map.new.handle.value }
 {
-    let Some(mut inner) = map.take(alloc) else {
-        return Fault::Closed.number();
-    };
-    let renewed = inner.renew_mark(alloc);
-    *map = LgmMap::open(inner);
-    match renewed {
-        Ok(()) => 0,
-        Err(_) => Fault::NoMemory.number(),
-    }
+    with_state!(alloc, map, |state| status(&state.renew_mark(alloc)))
 }

@@ -9,7 +9,7 @@ ghost use Rattle.lgm_graph.specs.declared.route.Hop.{Hop as AHop};
 ghost use Rattle.lgm_c.specs.Status.{if_open, status_of};
 
 use crate::fault::{Fault, status};
-use crate::map::LgmMap;
+use crate::map::{LgmMap, with_state};
 use crate::output::copy_in_front;
 use lgm_gossip::{Bytes, Point};
 use lgm_payload::build;
@@ -61,7 +61,7 @@ pub struct LgmLengths {
 }
 
 /// The request of a payment.
-pub(crate) fn request_of(payment: &LgmPayment) -> Request
+fn request_of(payment: &LgmPayment) -> Request
     ensures { result ≡ request_of payment.now }
 {
     Request {
@@ -152,7 +152,7 @@ fn write_route(
 }
 
 /// Writes the route that was found, with its payloads, or returns the fault.
-pub(crate) fn write_found(
+fn write_found(
     alloc: Global,
     found: Result<Route, Fault>,
     secret: &[u8; 32],
@@ -186,10 +186,8 @@ pub extern "C" fn lgm_route(
         (buffers hops.old payloads.old lengths.old)
         (buffers hops.new payloads.new lengths.new) }
 {
-    let Some(mut inner) = map.take(alloc) else {
-        return Fault::Closed.number();
-    };
-    let found = inner.route(alloc, &request_of(payment));
-    *map = LgmMap::open(inner);
-    status(&write_found(alloc, found, &payment.secret, hops, payloads, lengths))
+    with_state!(alloc, map, |state| {
+        let found = state.route(alloc, &request_of(payment));
+        status(&write_found(alloc, found, &payment.secret, hops, payloads, lengths))
+    })
 }

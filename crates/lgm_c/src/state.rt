@@ -1,25 +1,23 @@
 //! What a handle points to.
 
-ghost use Rattle.std.specs.Prelude.{◌≡◌, Some, IfOk, OnOk, OnErr};
-ghost use Rattle.lgm_gossip.specs.Memory.{GivesIf, TakesMemory};
-ghost use Rattle.lgm_store.specs.Admission.{admitted_close};
+ghost use Rattle.std.specs.Prelude.{◌≡◌, true, Some, IfOk};
+ghost use Rattle.lgm_gossip.specs.Memory.{GivesIf};
 ghost use Rattle.lgm_query.specs.Backlog.{news};
-ghost use Rattle.lgm_c.specs.inner.Following.{Follows, Leads};
-ghost use Rattle.lgm_c.specs.Offering.{offered_to, Offers, Closes};
-ghost use Rattle.lgm_c.specs.MapState.{opened};
-ghost use Rattle.lgm_c.specs.Published.{published};
+ghost use Rattle.lgm_c.specs.MapState.{opened, published};
+ghost use Rattle.lgm_c.specs.Offering.{Offers, Closes, Bans};
+ghost use Rattle.lgm_c.specs.Opening.{MovesMark};
 ghost use Rattle.lgm_c.specs.Routing.{route_for, IsSearched};
 ghost use Rattle.lgm_c.specs.Status.{status_of};
 ghost use Rattle.lgm_c.specs.Writing.{all_framed, buffer};
 ghost use Rattle.lgm_c.specs.inner.Framing.{MayWrite};
+ghost use Rattle.lgm_c.specs.inner.Kinds.{counted_in};
 
-use crate::current::Current;
+use crate::changing_map::ChangingMap;
 use crate::fault::Fault;
-use crate::frames::write_backlog;
-use crate::mark::Mark;
-use crate::snapshot::Snapshot;
-use lgm_check::{Evidence, Refusal};
-use lgm_gossip::{ChainHash, Scid};
+use crate::frames::write_first_news;
+use crate::published_map::PublishedMap;
+use lgm_check::Evidence;
+use lgm_gossip::{ChainHash, Point, Scid};
 use lgm_graph::{Known, Network};
 use lgm_query::Filter;
 use lgm_route::{Request, Route};
@@ -27,46 +25,43 @@ use lgm_store::{Map, Seed};
 use std::alloc::{AllocError, Global};
 use std::marker::Model;
 
-/// A map of a chain with its view, and a mark, if there is one.
+/// What a handle has of a map.
+#[derive(Drop)]
+pub enum Kind {
+    /// One that changes.
+    Changing(ChangingMap),
+    /// One as it was when it was published.
+    Published(PublishedMap),
+}
+
+impl Kind {
+    /// The map as it is now, for good: a copy, or one more owner. The only error is out of memory.
+    fn publish(&mut self, alloc: Global) -> Result<PublishedMap, AllocError>
+        ensures same { self.new ≡ self.old }
+        ensures published { IfOk result (λ map. map ≡ counted_in self.old) }
+    {
+        match self {
+            Kind::Changing(map) => map.publish(alloc),
+            Kind::Published(map) => map.share(),
+        }
+    }
+}
+
+/// A map of a chain, which changes or was published. Contracts see one value, whichever it is.
 #[derive(Drop)]
 pub struct State {
     chain: ChainHash,
-    current: Current,
-    mark: Option<Mark>,
+    kind: Kind,
 }
 
 impl Model for State {
     ghost use Rattle.lgm_c.specs.MapState.{MapState};
-    ghost use Rattle.lgm_c.specs.inner.Marking.{state_in, IsFollowed};
 
     ghost Value = { MapState };
 
-    ghost view = { λ i. state_in i.chain i.current i.mark };
+    ghost use Rattle.lgm_c.specs.inner.Kinds.{state_in};
 
-    ghost invariant = { λ i. IsFollowed i.current i.mark };
-}
-
-/// Offers a message, and drops its operation.
-fn offer_unmarked(
-    alloc: Global,
-    current: &mut Current,
-    chain: &ChainHash,
-    bytes: &[u8],
-    evidence: &Evidence,
-) -> Result<(), Refusal>
-    ensures { Follows (TakesMemory bytes.now)
-        (offered_to chain.now current.old.rows bytes.now evidence.now) result current.old current.new }
-{
-    current.offer(alloc, chain, bytes, evidence)?;
-    Ok(())
-}
-
-/// Closes a channel, and drops the operation.
-fn close_unmarked(alloc: Global, current: &mut Current, scid: Scid) -> Result<(), Refusal>
-    ensures { Follows ⊥ (admitted_close current.old.rows scid) result current.old current.new }
-{
-    current.close(alloc, scid)?;
-    Ok(())
+    ghost view = { λ s. state_in s.chain s.kind };
 }
 
 impl State {
@@ -77,39 +72,13 @@ impl State {
         known: Known,
         seed: Seed,
     ) -> Result<State, AllocError>
-        ensures { IfOk result (λ inner. inner ≡ opened chain.0 known) }
+        ensures { IfOk result (λ state. state ≡ opened chain.0 known) }
     {
+        let network = Network::new(alloc, seed, &known)?;
         Ok(State {
             chain,
-            current: Current::new(Network::new(alloc, seed, &known)?),
-            mark: None,
+            kind: Kind::Changing(ChangingMap::new(network)),
         })
-    }
-
-    /// Offers a message, with the verdicts on it. A refusal or out of memory changes nothing.
-    fn offer_judged(
-        &mut self,
-        alloc: Global,
-        bytes: &[u8],
-        evidence: &Evidence,
-    ) -> Result<(), Refusal>
-        ensures { Leads (TakesMemory bytes.now)
-            (offered_to self.old.chain self.old.rows bytes.now evidence.now) result self.old self.new }
-    {
-        match &mut self.mark {
-            Some(mark) => mark.offer(alloc, &mut self.current, &self.chain, bytes, evidence),
-            None => offer_unmarked(alloc, &mut self.current, &self.chain, bytes, evidence),
-        }
-    }
-
-    /// Closes a channel. A refusal or out of memory changes nothing.
-    fn close_held(&mut self, alloc: Global, scid: Scid) -> Result<(), Refusal>
-        ensures { Leads ⊥ (admitted_close self.old.rows scid) result self.old self.new }
-    {
-        match &mut self.mark {
-            Some(mark) => mark.close(alloc, &mut self.current, scid),
-            None => close_unmarked(alloc, &mut self.current, scid),
-        }
     }
 
     /// Offers a message, with the verdicts on it, if there are some.
@@ -121,37 +90,47 @@ impl State {
     ) -> Result<(), Fault>
         ensures { Offers bytes.now evidence (status_of result) (Some self.old) (Some self.new) }
     {
-        let Some(evidence) = evidence else {
-            return Err(Fault::Argument);
-        };
-        Ok(self.offer_judged(alloc, bytes, &evidence)?)
+        match (&mut self.kind, evidence) {
+            (Kind::Published(_), _) => Err(Fault::Published),
+            (Kind::Changing(_), None) => Err(Fault::Argument),
+            (Kind::Changing(map), Some(evidence)) => {
+                Ok(map.offer(alloc, &self.chain, bytes, &evidence)?)
+            }
+        }
     }
 
     /// Closes a channel.
     pub(crate) fn close(&mut self, alloc: Global, scid: Scid) -> Result<(), Fault>
         ensures { Closes scid (status_of result) (Some self.old) (Some self.new) }
     {
-        Ok(self.close_held(alloc, scid)?)
-    }
-
-    /// Moves the mark to the map as it is, or sets the first one. The only error is out of memory, which changes
-    /// nothing.
-    pub(crate) fn renew_mark(&mut self, alloc: Global) -> Result<(), AllocError>
-        ensures renewed { OnOk result (self.new ≡ record self.old { marked = self.old.rows }) }
-        ensures stays { OnErr result (self.new ≡ self.old) }
-    {
-        match &mut self.mark {
-            Some(mark) => mark.renew(alloc, &self.current),
-            None => {
-                let network = self.current.copy_network(alloc)?;
-                self.mark = Some(Mark::of(alloc, network));
-                Ok(())
-            }
+        match &mut self.kind {
+            Kind::Changing(map) => Ok(map.close(alloc, scid)?),
+            Kind::Published(_) => Err(Fault::Published),
         }
     }
 
-    /// Writes what has come to pass a filter since the mark, each message after its length, or the length of all alone. Before
-    /// the first mark, all that passes.
+    /// Bans a node.
+    pub(crate) fn ban(&mut self, alloc: Global, point: Point) -> Result<(), Fault>
+        ensures { Bans point.0 (status_of result) (Some self.old) (Some self.new) }
+    {
+        match &mut self.kind {
+            Kind::Changing(map) => Ok(map.ban(alloc, point)?),
+            Kind::Published(_) => Err(Fault::Published),
+        }
+    }
+
+    /// Moves the mark to the map as it is, or sets the first one. Out of memory changes nothing.
+    pub(crate) fn renew_mark(&mut self, alloc: Global) -> Result<(), Fault>
+        ensures { MovesMark (status_of result) (Some self.old) (Some self.new) }
+    {
+        match &mut self.kind {
+            Kind::Changing(map) => Ok(map.renew_mark(alloc)?),
+            Kind::Published(_) => Err(Fault::Published),
+        }
+    }
+
+    /// Writes what has come to pass a filter since the mark, each message after its length, or the length of all alone.
+    /// Without a mark, all that passes.
     pub(crate) fn news(
         &mut self,
         alloc: Global,
@@ -163,31 +142,41 @@ impl State {
         ensures news { MayWrite (all_framed (news self.old.marked self.old.rows filter.now)) (status_of result)
             (buffer room.old needed.old) (buffer room.new needed.new) }
     {
-        let Some(mark) = &mut self.mark else {
-            return write_backlog(alloc, self.current.map(), filter, room, needed);
-        };
-        mark.news(alloc, self.current.map(), filter, room, needed)
+        match &mut self.kind {
+            Kind::Changing(map) => map.news(alloc, filter, room, needed),
+            Kind::Published(map) => write_first_news(alloc, map.map(), filter, room, needed),
+        }
     }
 
-    /// The best route of a payment. The first search builds the view.
+    /// The best route of a payment. In a map that changes, the first search builds the view.
     pub(crate) fn route(&mut self, alloc: Global, request: &Request) -> Result<Route, Fault>
         ensures same { self.new ≡ self.old }
         ensures route { GivesIf (IsSearched (route_for request.now self.old.known self.old.rows)) Fault.NoMemory
             (λ route. route) result (route_for request.now self.old.known self.old.rows) }
     {
-        self.current.route(alloc, request)
+        match &mut self.kind {
+            Kind::Changing(map) => map.route(alloc, request),
+            Kind::Published(map) => map.route(alloc, request),
+        }
     }
 
     /// The map as it is now, for good. The only error is out of memory.
-    pub(crate) fn publish(&mut self, alloc: Global) -> Result<Snapshot, AllocError>
+    pub(crate) fn publish(&mut self, alloc: Global) -> Result<State, AllocError>
         ensures same { self.new ≡ self.old }
-        ensures snapshot { IfOk result (λ snapshot. snapshot ≡ published self.old) }
+        ensures published { IfOk result (λ state. state ≡ published self.old) }
     {
-        Ok(Snapshot {
+        Ok(State {
             chain: self.chain,
-            edition: self.current.publish(alloc)?,
-            version: self.current.version(),
+            kind: Kind::Published(self.kind.publish(alloc)?),
         })
+    }
+
+    /// Whether it is a published map, which is published as it is.
+    pub(crate) fn is_published(&self) -> bool
+        ensures value { result ≡ self.now.is_published }
+        ensures same { result ≡ true → published self.now ≡ self.now }
+    {
+        matches!(&self.kind, Kind::Published(_))
     }
 
     /// The chain.
@@ -201,6 +190,19 @@ impl State {
     pub(crate) fn map(&self) -> &Map
         ensures { result.now ≡ self.now.rows }
     {
-        self.current.map()
+        match &self.kind {
+            Kind::Changing(map) => map.map(),
+            Kind::Published(map) => map.map(),
+        }
+    }
+
+    /// How many messages and closes were accepted.
+    pub(crate) fn version(&self) -> u64
+        ensures { result ≡ self.now.version }
+    {
+        match &self.kind {
+            Kind::Changing(map) => map.version(),
+            Kind::Published(map) => map.version(),
+        }
     }
 }

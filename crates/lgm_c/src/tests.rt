@@ -2,7 +2,9 @@
 //! memory. The numbers and lengths are worked out by hand, from BOLT 7, BOLT 4 and `docs/protocol.md`.
 
 mod bounds;
-mod snapshots;
+mod listing;
+mod published;
+mod wanted;
 
 use crate::lookups::{LgmChannel, LgmDirection, LgmNode, lgm_channel, lgm_count, lgm_node};
 use crate::map::LgmMap;
@@ -38,6 +40,13 @@ fn announcement(alloc: Global) -> Result<Vec<u8>, AllocError> {
         alloc,
         &[&[1, 0], &[0; 256], &[0, 0], &CHAIN, &SCID, &A, &B, &A, &A],
     )
+}
+
+/// Changes a byte of a message.
+fn set(bytes: &mut [u8], place: usize, byte: u8) {
+    if let Some(changed) = bytes.get_mut(place) {
+        *changed = byte;
+    }
 }
 
 /// A `channel_update` of 138 bytes, from A to B: timestamp 5, delta 40, minimum 1, no fee, maximum 50,000,000 msat.
@@ -316,7 +325,9 @@ fn words(rt: HostRuntime) {
     let mut word = [1; 24];
     lgm_word(0, &mut word);
     assert_eq!(rt; word, *b"accepted\0\0\0\0\0\0\0\0\0\0\0\0\0\0\0\0");
+    lgm_word(106, &mut word);
+    assert_eq!(rt; word, *b"published\0\0\0\0\0\0\0\0\0\0\0\0\0\0\0");
     lgm_word(17, &mut word);
     assert_eq!(rt; word, [0; 24]);
-    assert_eq!(rt; lgm_version(), 1);
+    assert_eq!(rt; lgm_version(), 2);
 }

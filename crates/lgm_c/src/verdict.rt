@@ -1,17 +1,17 @@
-//! Messages and closes, offered to a network.
+//! Messages, offered to a network, and bans.
 
 ghost use Rattle.std.specs.Prelude.{◌≡◌, Ok, IfOk, IfErr, OnErr};
 ghost use Rattle.lgm_gossip.specs.Memory.{GivesIf, TakesMemory};
 ghost use Rattle.lgm_check.specs.Precheck.{checked_of};
 ghost use Rattle.lgm_store.specs.History.{absorbed};
 ghost use Rattle.lgm_c.specs.inner.Following.{Refuses};
-ghost use Rattle.lgm_c.specs.Offering.{offered_to};
+ghost use Rattle.lgm_c.specs.Offering.{offered_to, admitted_ban};
 ghost use Rattle.lgm_c.specs.Status.{MayRunOut};
 
-use lgm_check::{Evidence, Refusal, precheck};
-use lgm_gossip::ChainHash;
+use lgm_check::{BanRow, Evidence, Refusal, precheck};
+use lgm_gossip::{ChainHash, Point};
 use lgm_graph::Network;
-use lgm_store::{CheckedMessage, Map, Op};
+use lgm_store::{CheckedMessage, Map, Op, Shared};
 use std::alloc::Global;
 
 /// The operation of a message, or its first refusal. Memory is allocated only for the operation, and by decoding.
@@ -43,6 +43,23 @@ pub(crate) fn refusal_without_memory(
 {
     let refusal = judge(alloc, map, chain, bytes, evidence).err();
     refusal.unwrap_or(Refusal::NoMemory)
+}
+
+/// The operation that bans a node, unless it is banned. A refusal allocates nothing.
+pub(crate) fn admit_ban(alloc: Global, map: &Map, point: Point) -> Result<Op, Refusal>
+    ensures admitted { IfOk result (λ op. admitted_ban map.now point ≡ Ok op) }
+    ensures refused { IfErr result (λ refusal. Refuses ⊥ (admitted_ban map.now point) refusal) }
+{
+    if map.banned(&point) {
+        return Err(Refusal::Banned);
+    }
+    let ban = BanRow {
+        held1: point,
+        held2: point,
+        new1: point,
+        new2: point,
+    };
+    Ok(Op::Ban(Shared::new(alloc, ban)?))
 }
 
 /// Makes a message ready to be offered. One that the map would refuse is refused here if memory is short.

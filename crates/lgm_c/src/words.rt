@@ -61,6 +61,8 @@ fn word_of_call(number: u32) -> &'static str
         103 => "argument",
         104 => "room",
         105 => "full",
+        106 => "published",
+        107 => "none",
         _ => "",
     }
 }
@@ -89,10 +91,10 @@ pub extern "C" fn lgm_word(number: u32, word: &mut [u8; 24])
     copy_in_front(bytes, word);
 }
 
-/// The version of this interface, which is 1.
+/// The version of this interface, which is 2.
 #[unsafe(no_mangle)]
 pub extern "C" fn lgm_version() -> u32
-    ensures { result ≡ 1 }
+    ensures { result ≡ 2 }
 {
-    1
+    2
 }

@@ -90,6 +90,11 @@ abbrev pub admitted_close : Rows → ℕ → Result Op Refusal
 admitted_close rows id =
     require (is_some (channel_of rows.channels id)) refusals.UnknownChannel >>= λ _. Ok (ops.Close id)
 
+-- whether it is admitted, without the operation
+abbrev pub verdict_of : Result Op Refusal → Result (Unit {0}) Refusal
+verdict_of (Ok op) = Ok tt
+verdict_of (Err refusal) = Err refusal
+
 -- what a call may return: the operation or out of memory if it is admitted; else the refusal, always
 abbrev pub Offers : Result Op Refusal → Result Op Refusal → Type 0
 Offers answer (Ok op) = (answer ≡ Ok op) ⊎ (answer ≡ Err refusals.NoMemory)

@@ -18,6 +18,11 @@ abbrev pub next_node_of : List NodeRow → Option Point → Option NodeRow
 next_node_of rows None = find (λ row. true) rows
 next_node_of rows (Some node) = find (λ row. is_lt (slice_cmp nat_cmp node.0 row.message.node_id.0)) rows
 
+-- the first point above one, byte by byte, or the first of all
+abbrev pub next_point_of : List Point → Option Point → Option Point
+next_point_of points None = find (λ point. true) points
+next_point_of points (Some after) = find (λ point. is_lt (slice_cmp nat_cmp after.0 point.0)) points
+
 -- the ids of the node's channels; a channel both of whose nodes it is occurs once
 abbrev pub ids_at : List ChannelRow → Point → List ℕ
 ids_at rows node = map (λ row. row.message.short_channel_id) (filter (ends_at node) rows)

@@ -1,8 +1,10 @@
 //! The points of banned nodes.
 
-ghost use Rattle.std.specs.Prelude.{◌≡◌, ◌||◌, [], IfOk, OnOk, OnErr};
+ghost use Rattle.std.specs.Prelude.{◌≡◌, ◌||◌, [], find, IfOk, OnOk, OnErr};
 ghost use Rattle.std.specs.List.Sorted.{IsStrictlySortedBy};
+ghost use Rattle.std.specs.BTreeMap.Range.{is_from_start};
 ghost use Rattle.lgm_wire.specs.declared.point.Point.{Point};
+ghost use Rattle.lgm_store.specs.Keys.{point_cmp};
 ghost use Rattle.lgm_store.specs.Rows.{by_point, is_banned};
 ghost use Rattle.lgm_store.specs.History.{with_points, with_banned};
 
@@ -11,6 +13,7 @@ use lgm_gossip::Point;
 use std::alloc::{AllocError, Global};
 use std::collections::BTreeSet;
 use std::marker::Model;
+use std::ops::Bound;
 
 /// The points of banned nodes, in the order of their bytes.
 #[derive(Drop)]
@@ -53,6 +56,14 @@ impl Banned {
         ensures { result ≡ (is_banned self.now first.now || is_banned self.now second.now) }
     {
         self.contains(first) || self.contains(second)
+    }
+
+    /// The least point inside a lower bound.
+    pub(crate) fn first_from(&self, start: Bound<Point>) -> Option<Point>
+        ensures { result ≡ find (λ point. is_from_start point_cmp start point) self.now }
+    {
+        let mut points = self.points.range((start, Bound::Unbounded));
+        points.next().copied()
     }
 
     /// Adds the four points of a ban. Out of memory leaves the set unchanged.

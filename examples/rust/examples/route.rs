@@ -1,5 +1,5 @@
 //! Reads the announcements and the first payment of a script, and prints the payment's route, which another thread finds in
-//! a snapshot.
+//! the map as it was published.
 //!
 //!     cargo run --offline --example route -- ../payments.txt
 
@@ -39,8 +39,8 @@ fn main() -> Result<(), Box<dyn Error>> {
         match words[0] {
             "m" => offer(&mut map, words[1], words[2], words[3])??,
             "route" => {
-                let (snapshot, payment) = (map.publish()?, payment(&words)?);
-                let reader = thread::spawn(move || snapshot.route(&payment));
+                let (published, payment) = (map.publish()?, payment(&words)?);
+                let reader = thread::spawn(move || published.route(&payment));
                 match reader.join().map_err(|_| "the reader panicked")? {
                     Ok(hops) => println!("{} msat over {} channels", hops[0].amount_msat, hops.len()),
                     Err(reason) => println!("{reason}"),

@@ -1,8 +1,8 @@
 //! A verified map of Lightning gossip, with routes over it: a safe wrapper of `include/lgm.h`.
 //!
-//! The wrapper meets the conditions of the header: its pointers come from references, a handle is in one place, is
-//! borrowed for each call, and is freed when the [`Map`] or the [`Snapshot`] is dropped. A `Map` is `Send`: a thread may hand
-//! it to another one. A `Snapshot` is `Send`, `Sync` and `Clone`: each thread that reads takes a clone of its own.
+//! The wrapper meets the conditions of the header: its pointers come from references, a handle is in one place, is used by
+//! one call at a time, and is freed when the [`Map`] is dropped. A `Map` is `Send` and `Sync`. Threads that read beside one
+//! that changes a map take a published one each, by [`Map::publish`] and [`Map::share`].
 
 mod raw;
 
@@ -19,6 +19,9 @@ pub struct Fault(pub u32);
 impl Fault {
     /// A buffer was too short.
     const ROOM: Fault = Fault(104);
+
+    /// There is none.
+    const NONE: Fault = Fault(107);
 
     /// Its word, such as `not-newer`.
     pub fn word(self) -> String {
@@ -97,21 +100,33 @@ pub struct Hop {
     pub payload: Vec<u8>,
 }
 
-/// A map of one chain.
+/// A map of one chain: one that changes, by [`Map::new`], or a published one, by [`Map::publish`] or [`Map::share`], which
+/// never does. What would change a published map returns a fault whose word is `published`.
+///
+/// The calls that read lock it for one another. A thread with a published map of its own waits for nobody, and nobody for
+/// it.
 #[derive(Debug)]
 pub struct Map {
-    handle: raw::Handle,
+    handle: Mutex<raw::Handle>,
 }
 
 impl Map {
     /// A map without channels. If `known` is `None`, all features of nodes are known, else those whose bits are set.
     /// The seed is 16 random bytes.
     pub fn new(chain: &[u8; 32], known: Option<&[u8]>, seed: &[u8; 16]) -> Result<Map, Fault> {
-        let mut handle = raw::Handle::closed();
         let bits = known.unwrap_or(&[]);
         // SAFETY: a closed handle, and references.
-        check(unsafe { raw::lgm_open(&mut handle, chain, known.is_none(), bits.as_ptr(), bits.len(), seed) })?;
-        Ok(Map { handle })
+        opened(|handle| unsafe { raw::lgm_open(handle, chain, known.is_none(), bits.as_ptr(), bits.len(), seed) })
+    }
+
+    /// The handle, for one call that reads. One that panicked left it whole: no call of the library unwinds.
+    fn handle(&self) -> MutexGuard<'_, raw::Handle> {
+        self.handle.lock().unwrap_or_else(PoisonError::into_inner)
+    }
+
+    /// The handle, which nobody else has.
+    fn own_handle(&mut self) -> &mut raw::Handle {
+        self.handle.get_mut().unwrap_or_else(PoisonError::into_inner)
     }
 
     /// Offers a gossip message, with the verdicts on it.
@@ -130,87 +145,40 @@ impl Map {
         };
         let (bytes, len) = (message.as_ptr(), message.len());
         // SAFETY: a handle of this crate, and references.
-        check(unsafe { raw::lgm_offer(&mut self.handle, bytes, len, sig, &signer, funding, sat) })
+        check(unsafe { raw::lgm_offer(self.own_handle(), bytes, len, sig, &signer, funding, sat) })
     }
 
     /// Removes a channel, because its funding output was spent.
     pub fn close_channel(&mut self, scid: u64) -> Result<(), Fault> {
         // SAFETY: a handle of this crate.
-        check(unsafe { raw::lgm_close_channel(&mut self.handle, scid) })
+        check(unsafe { raw::lgm_close_channel(self.own_handle(), scid) })
     }
 
-    /// The number of channels.
-    pub fn count(&mut self) -> usize {
-        // SAFETY: a handle of this crate.
-        unsafe { raw::lgm_count(&mut self.handle) }
-    }
-
-    /// The route by which the payer sends the least, from the payer on.
-    pub fn route(&mut self, payment: &Payment) -> Result<Vec<Hop>, Fault> {
-        route(&mut self.handle, raw::lgm_route, payment)
-    }
-
-    /// The replies to a peer's query.
-    pub fn query(&mut self, message: &[u8]) -> Result<Vec<Vec<u8>>, Fault> {
-        messages(&mut self.handle, raw::lgm_query, message)
-    }
-
-    /// The messages that pass a peer's filter.
-    pub fn filter(&mut self, message: &[u8]) -> Result<Vec<Vec<u8>>, Fault> {
-        messages(&mut self.handle, raw::lgm_filter, message)
-    }
-
-    /// The messages that pass a peer's filter now, and didn't at the mark.
-    pub fn news(&mut self, message: &[u8]) -> Result<Vec<Vec<u8>>, Fault> {
-        messages(&mut self.handle, raw::lgm_news, message)
+    /// Bans a node, and removes its channels, as contradicting announcements ban theirs.
+    pub fn ban(&mut self, point: &Point) -> Result<(), Fault> {
+        // SAFETY: a handle of this crate, and a reference.
+        check(unsafe { raw::lgm_ban(self.own_handle(), point) })
     }
 
     /// Moves the mark to the map as it is now.
     pub fn mark(&mut self) -> Result<(), Fault> {
         // SAFETY: a handle of this crate.
-        check(unsafe { raw::lgm_mark(&mut self.handle) })
+        check(unsafe { raw::lgm_mark(self.own_handle()) })
     }
 
     /// The map as it is now, for good.
-    pub fn publish(&mut self) -> Result<Snapshot, Fault> {
-        let mut handle = raw::Handle::closed();
+    pub fn publish(&self) -> Result<Map, Fault> {
         // SAFETY: a handle of this crate, and a closed one.
-        check(unsafe { raw::lgm_publish(&mut self.handle, &mut handle) })?;
-        Ok(Snapshot { handle: Mutex::new(handle) })
-    }
-}
-
-impl Drop for Map {
-    fn drop(&mut self) {
-        // SAFETY: a handle of this crate.
-        unsafe { raw::lgm_free(&mut self.handle) }
-    }
-}
-
-/// What a map had when it was published.
-///
-/// Its calls lock it for one another. A thread with a clone of its own waits for nobody, and nobody for it. A clone shares
-/// the map.
-#[derive(Debug)]
-pub struct Snapshot {
-    handle: Mutex<raw::Handle>,
-}
-
-impl Snapshot {
-    /// The handle, for one call. One that panicked left it whole: no call of the library unwinds.
-    fn handle(&self) -> MutexGuard<'_, raw::Handle> {
-        self.handle.lock().unwrap_or_else(PoisonError::into_inner)
+        opened(|published| unsafe { raw::lgm_publish(&mut *self.handle(), published) })
     }
 
-    /// One more snapshot of the same map. Out of memory is its only fault.
-    pub fn share(&self) -> Result<Snapshot, Fault> {
-        let mut other = raw::Handle::closed();
+    /// One more owner of a published map, which isn't copied.
+    pub fn share(&self) -> Result<Map, Fault> {
         // SAFETY: a handle of this crate, and a closed one.
-        check(unsafe { raw::lgm_share(&mut *self.handle(), &mut other) })?;
-        Ok(Snapshot { handle: Mutex::new(other) })
+        opened(|other| unsafe { raw::lgm_share(&mut *self.handle(), other) })
     }
 
-    /// How many messages and closes the map had accepted.
+    /// How many messages, closes and bans the map has accepted, or had when it was published.
     pub fn version(&self) -> u64 {
         // SAFETY: a handle of this crate.
         unsafe { raw::lgm_version_of(&mut *self.handle()) }
@@ -219,78 +187,151 @@ impl Snapshot {
     /// The number of channels.
     pub fn count(&self) -> usize {
         // SAFETY: a handle of this crate.
-        unsafe { raw::lgm_snapshot_count(&mut *self.handle()) }
+        unsafe { raw::lgm_count(&mut *self.handle()) }
     }
 
     /// The route by which the payer sends the least, from the payer on.
     pub fn route(&self, payment: &Payment) -> Result<Vec<Hop>, Fault> {
-        route(&mut self.handle(), raw::lgm_snapshot_route, payment)
+        let asked = raw::Payment {
+            amount_msat: payment.amount_msat,
+            expiry: payment.expiry,
+            payer: payment.payer,
+            payee: payment.payee,
+            secret: payment.secret,
+        };
+        let mut hops = [raw::Hop::default(); 20];
+        let mut payloads = [0; 1300];
+        let mut lengths = raw::Lengths::default();
+        let (room, hops_len) = (hops.as_mut_ptr(), hops.len());
+        let (payloads_room, payloads_len) = (payloads.as_mut_ptr(), payloads.len());
+        let mut handle = self.handle();
+        // SAFETY: a handle of this crate, references, and the lengths of both buffers.
+        check(unsafe {
+            raw::lgm_route(&mut *handle, &asked, room, hops_len, payloads_room, payloads_len, &mut lengths)
+        })?;
+        Ok(route(&hops[..lengths.hops], &payloads[..lengths.payloads]))
     }
 
     /// The replies to a peer's query.
     pub fn query(&self, message: &[u8]) -> Result<Vec<Vec<u8>>, Fault> {
-        messages(&mut self.handle(), raw::lgm_snapshot_query, message)
+        messages(&mut self.handle(), raw::lgm_query, message)
     }
 
     /// The messages that pass a peer's filter.
     pub fn filter(&self, message: &[u8]) -> Result<Vec<Vec<u8>>, Fault> {
-        messages(&mut self.handle(), raw::lgm_snapshot_filter, message)
+        messages(&mut self.handle(), raw::lgm_filter, message)
     }
 
-    /// The messages that pass a peer's filter here, and didn't in an earlier snapshot.
-    pub fn news(&self, before: &Snapshot, message: &[u8]) -> Result<Vec<Vec<u8>>, Fault> {
-        let earlier = before.share()?;
+    /// The messages that pass a peer's filter now, and didn't at the mark.
+    pub fn news(&self, message: &[u8]) -> Result<Vec<Vec<u8>>, Fault> {
+        messages(&mut self.handle(), raw::lgm_news, message)
+    }
+
+    /// The messages that pass a peer's filter here, and didn't in an earlier map, which is published for this call.
+    pub fn news_since(&self, before: &Map, message: &[u8]) -> Result<Vec<Vec<u8>>, Fault> {
+        let earlier = before.publish()?;
         let mut before = earlier.handle();
         let mut after = self.handle();
         let (bytes, len) = (message.as_ptr(), message.len());
-        written(|room, room_len, needed| {
+        let written = written(|room, room_len, needed| {
             // SAFETY: two handles of this crate, references, and the lengths of both buffers.
-            unsafe { raw::lgm_snapshot_news(&mut *before, &mut *after, bytes, len, room, room_len, needed) }
+            unsafe { raw::lgm_news_between(&mut *before, &mut *after, bytes, len, room, room_len, needed) }
+        })?;
+        Ok(unframed(&written))
+    }
+}
+
+impl Map {
+    /// The key whose signature is to be verified, or `None` of a channel announcement, which has four, if the message would be
+    /// accepted with the right verdicts. Else the refusal that it has even with these.
+    pub fn wanted(&self, message: &[u8]) -> Result<Option<Point>, Fault> {
+        let mut key = [0; 33];
+        let (bytes, len) = (message.as_ptr(), message.len());
+        // SAFETY: a handle of this crate, and references.
+        check(unsafe { raw::lgm_wanted(&mut *self.handle(), bytes, len, &mut key) })?;
+        Ok(if key[0] == 0 { None } else { Some(key) })
+    }
+
+    /// The ids of all channels, ascending. Between two of them the map may change.
+    pub fn channels(&self) -> impl Iterator<Item = u64> + '_ {
+        // SAFETY: a handle of this crate, and a reference.
+        keys(0, |is_first, scid| unsafe { raw::lgm_next_channel(&mut *self.handle(), is_first, scid) })
+    }
+
+    /// The points of all nodes with an announcement, ascending byte by byte.
+    pub fn nodes(&self) -> impl Iterator<Item = Point> + '_ {
+        self.points(raw::lgm_next_node)
+    }
+
+    /// The points of all banned nodes, ascending byte by byte.
+    pub fn banned(&self) -> impl Iterator<Item = Point> + '_ {
+        self.points(raw::lgm_next_banned)
+    }
+
+    /// The points that a call goes through.
+    fn points(&self, call: raw::NextPointCall) -> impl Iterator<Item = Point> + '_ {
+        // SAFETY: a handle of this crate, and a reference.
+        keys([0; 33], move |is_first, point| unsafe { call(&mut *self.handle(), is_first, point) })
+    }
+
+    /// A message of a channel, as it was received; none if the map has no such update.
+    pub fn message(&self, scid: u64, which: Which) -> Result<Option<Vec<u8>>, Fault> {
+        let found = written(|room, room_len, needed| {
+            // SAFETY: a handle of this crate, references, and the length of the buffer.
+            unsafe { raw::lgm_channel_message(&mut *self.handle(), scid, which as u32, room, room_len, needed) }
+        });
+        match found {
+            Ok(message) => Ok(Some(message)),
+            Err(Fault::NONE) => Ok(None),
+            Err(fault) => Err(fault),
+        }
+    }
+
+    /// A node's announcement, as it was received.
+    pub fn node_message(&self, point: &Point) -> Result<Vec<u8>, Fault> {
+        written(|room, room_len, needed| {
+            // SAFETY: a handle of this crate, references, and the length of the buffer.
+            unsafe { raw::lgm_node_message(&mut *self.handle(), point, room, room_len, needed) }
         })
     }
 }
 
-impl Clone for Snapshot {
-    /// One more snapshot of the same map. Panics if memory runs out, where [`Snapshot::share`] returns a fault.
-    fn clone(&self) -> Snapshot {
-        self.share().expect("memory for a snapshot")
-    }
+/// A message of a channel.
+#[derive(Clone, Copy, Debug, PartialEq, Eq)]
+pub enum Which {
+    /// Its announcement.
+    Announcement = 0,
+    /// The update that node 1 sets.
+    Update1 = 1,
+    /// The update that node 2 sets.
+    Update2 = 2,
 }
 
-impl Drop for Snapshot {
+impl Drop for Map {
     fn drop(&mut self) {
         // SAFETY: a handle of this crate.
-        unsafe { raw::lgm_release(&mut *self.handle()) }
+        unsafe { raw::lgm_free(self.own_handle()) }
     }
 }
 
 /// What threads may do, seen when this is compiled.
 const _: () = {
-    const fn is_handed<T: Send>() {}
-    const fn is_shared<T: Send + Sync + Clone>() {}
-    is_handed::<Map>();
-    is_shared::<Snapshot>();
+    const fn is_shared<T: Send + Sync>() {}
+    is_shared::<Map>();
 };
 
-/// The route that a call finds.
-fn route(handle: &mut raw::Handle, call: raw::RouteCall, payment: &Payment) -> Result<Vec<Hop>, Fault> {
-    let asked = raw::Payment {
-        amount_msat: payment.amount_msat,
-        expiry: payment.expiry,
-        payer: payment.payer,
-        payee: payment.payee,
-        secret: payment.secret,
-    };
-    let mut hops = [raw::Hop::default(); 20];
-    let mut payloads = [0; 1300];
-    let mut lengths = raw::Lengths::default();
-    let (room, payloads_len) = (payloads.as_mut_ptr(), payloads.len());
-    // SAFETY: a handle of this crate, references, and the lengths of both buffers.
-    check(unsafe { call(handle, &asked, hops.as_mut_ptr(), hops.len(), room, payloads_len, &mut lengths) })?;
-    let mut rest = &payloads[..lengths.payloads];
-    let found = hops[..lengths.hops].iter().map(|hop| {
-        let (payload, others) = rest.split_at(hop.payload_len);
-        rest = others;
+/// A map in a handle that a call opens.
+fn opened(open: impl FnOnce(&mut raw::Handle) -> u32) -> Result<Map, Fault> {
+    let mut handle = raw::Handle::closed();
+    check(open(&mut handle))?;
+    Ok(Map { handle: Mutex::new(handle) })
+}
+
+/// A route from its hops, and their payloads one after the other.
+fn route(hops: &[raw::Hop], mut payloads: &[u8]) -> Vec<Hop> {
+    let found = hops.iter().map(|hop| {
+        let (payload, others) = payloads.split_at(hop.payload_len);
+        payloads = others;
         Hop {
             scid: hop.scid,
             amount_msat: hop.amount_msat,
@@ -300,29 +341,43 @@ fn route(handle: &mut raw::Handle, call: raw::RouteCall, payment: &Payment) -> R
             payload: payload.to_vec(),
         }
     });
-    Ok(found.collect())
+    found.collect()
 }
 
 /// The messages that a call writes for a peer's message.
 fn messages(handle: &mut raw::Handle, call: raw::MessagesCall, message: &[u8]) -> Result<Vec<Vec<u8>>, Fault> {
     let (bytes, len) = (message.as_ptr(), message.len());
-    written(|room, room_len, needed| {
+    let written = written(|room, room_len, needed| {
         // SAFETY: a handle of this crate, references, and the lengths of both buffers.
         unsafe { call(&mut *handle, bytes, len, room, room_len, needed) }
-    })
+    })?;
+    Ok(unframed(&written))
 }
 
-/// The messages that a call writes to a buffer, which grows if it is too short.
-fn written(mut call: impl FnMut(*mut u8, usize, &mut usize) -> u32) -> Result<Vec<Vec<u8>>, Fault> {
+/// The bytes that a call writes to a buffer, which grows if it is too short.
+fn written(mut call: impl FnMut(*mut u8, usize, &mut usize) -> u32) -> Result<Vec<u8>, Fault> {
     let mut room = vec![0; 4096];
     loop {
         let mut needed = 0;
-        match check(call(room.as_mut_ptr(), room.len(), &mut needed)) {
-            Ok(()) => return Ok(unframed(&room[..needed])),
-            Err(Fault::ROOM) => room.resize(needed, 0),
+        let outcome = check(call(room.as_mut_ptr(), room.len(), &mut needed));
+        room.resize(needed, 0);
+        match outcome {
+            Ok(()) => return Ok(room),
+            Err(Fault::ROOM) => {}
             Err(fault) => return Err(fault),
         }
     }
+}
+
+/// The keys that a call goes through, which it replaces by the next one each. A map in a [`Map`] is open, so a call has no
+/// fault but that there is none.
+fn keys<K: Copy>(mut key: K, mut call: impl FnMut(bool, &mut K) -> u32) -> impl Iterator<Item = K> {
+    let mut is_first = true;
+    std::iter::from_fn(move || {
+        let found = check(call(is_first, &mut key)).ok().map(|()| key);
+        is_first = false;
+        found
+    })
 }
 
 /// Messages one after the other, each after its length in eight bytes.

@@ -3,7 +3,7 @@
 use std::ffi::c_void;
 use std::ptr;
 
-/// A handle of a map or of a snapshot.
+/// A handle of a map.
 #[repr(C)]
 #[derive(Debug)]
 pub struct Handle {
@@ -71,14 +71,12 @@ macro_rules! calls {
 }
 
 calls! {
-    MessagesCall: lgm_query, lgm_filter, lgm_news, lgm_snapshot_query, lgm_snapshot_filter =>
+    MessagesCall: lgm_query, lgm_filter, lgm_news =>
     (of: *mut Handle, message: *const u8, message_len: usize, room: *mut u8, room_len: usize, needed: *mut usize)
 }
 
 calls! {
-    RouteCall: lgm_route, lgm_snapshot_route =>
-    (of: *mut Handle, payment: *const Payment, hops: *mut Hop, hops_len: usize, payloads: *mut u8, payloads_len: usize,
-     lengths: *mut Lengths)
+    NextPointCall: lgm_next_node, lgm_next_banned => (map: *mut Handle, is_first: bool, point: *mut [u8; 33])
 }
 
 unsafe extern "C" {
@@ -101,15 +99,40 @@ unsafe extern "C" {
         funding: u32,
         sat: u64,
     ) -> u32;
+    pub fn lgm_wanted(map: *mut Handle, message: *const u8, message_len: usize, signer: *mut [u8; 33]) -> u32;
     pub fn lgm_close_channel(map: *mut Handle, scid: u64) -> u32;
+    pub fn lgm_ban(map: *mut Handle, point: *const [u8; 33]) -> u32;
+    pub fn lgm_next_channel(map: *mut Handle, is_first: bool, scid: *mut u64) -> u32;
+    pub fn lgm_channel_message(
+        map: *mut Handle,
+        scid: u64,
+        which: u32,
+        message: *mut u8,
+        message_len: usize,
+        needed: *mut usize,
+    ) -> u32;
+    pub fn lgm_node_message(
+        map: *mut Handle,
+        point: *const [u8; 33],
+        message: *mut u8,
+        message_len: usize,
+        needed: *mut usize,
+    ) -> u32;
     pub fn lgm_count(map: *mut Handle) -> usize;
     pub fn lgm_mark(map: *mut Handle) -> u32;
-    pub fn lgm_publish(map: *mut Handle, snapshot: *mut Handle) -> u32;
-    pub fn lgm_share(from: *mut Handle, to: *mut Handle) -> u32;
-    pub fn lgm_release(snapshot: *mut Handle);
-    pub fn lgm_version_of(snapshot: *mut Handle) -> u64;
-    pub fn lgm_snapshot_count(snapshot: *mut Handle) -> usize;
-    pub fn lgm_snapshot_news(
+    pub fn lgm_route(
+        map: *mut Handle,
+        payment: *const Payment,
+        hops: *mut Hop,
+        hops_len: usize,
+        payloads: *mut u8,
+        payloads_len: usize,
+        lengths: *mut Lengths,
+    ) -> u32;
+    pub fn lgm_publish(map: *mut Handle, published: *mut Handle) -> u32;
+    pub fn lgm_share(published: *mut Handle, other: *mut Handle) -> u32;
+    pub fn lgm_version_of(map: *mut Handle) -> u64;
+    pub fn lgm_news_between(
         before: *mut Handle,
         after: *mut Handle,
         filter: *const u8,

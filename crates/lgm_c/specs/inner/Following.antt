@@ -1,10 +1,8 @@
--- What an outcome does to the current map, and to the state of a handle.
+-- What an outcome does to the current map.
 use Rattle.std.specs.Prelude.{◌≡◌, ◌⊎◌, Result, Ok, Err}
 use Rattle.lgm_check.specs.declared.refusal.Refusal.{Refusal}
 use Rattle.lgm_check.specs.declared.refusal.Refusal.TheVariants as refusals
 use Rattle.lgm_store.specs.declared.op.Op.{Op}
-use Rattle.lgm_store.specs.History.{absorbed}
-use Rattle.lgm_c.specs.MapState.{MapState, next_version}
 use Rattle.lgm_c.specs.inner.Networks.{Counted, counted_behind}
 use Rattle.lgm_c.specs.Status.{MayRunOut}
 
@@ -18,6 +16,10 @@ pub record Advances (outcome : Result Op Refusal) (old new : Counted) : Type 0 w
 abbrev pub Refuses : Type 0 → Result Op Refusal → Refusal → Type 0
 Refuses takes outcome refusal = (MayRunOut takes outcome × (refusal ≡ refusals.NoMemory)) ⊎ (outcome ≡ Err refusal)
 
+-- the same of a call that takes no more memory if it accepts
+abbrev pub Fails : Type 0 → Result Op Refusal → Refusal → Type 0
+Fails takes outcome refusal = (takes × (refusal ≡ refusals.NoMemory)) ⊎ (outcome ≡ Err refusal)
+
 -- nothing was applied
 pub record Stays (takes : Type 0) (outcome : Result Op Refusal) (refusal : Refusal) (old new : Counted) : Type 0 where
   pub refuses : Refuses takes outcome refusal
@@ -27,9 +29,3 @@ pub record Stays (takes : Type 0) (outcome : Result Op Refusal) (refusal : Refus
 abbrev pub Follows : {T : Type 0} → Type 0 → Result Op Refusal → Result T Refusal → Counted → Counted → Type 0
 Follows takes outcome (Ok t) old new = Advances outcome old new
 Follows takes outcome (Err refusal) old new = Stays takes outcome refusal old new
-
--- the same for the state of a handle
-abbrev pub Leads : {T : Type 0} → Type 0 → Result Op Refusal → Result T Refusal → MapState → MapState → Type 0
-Leads takes outcome (Ok t) old new =
-    (op : Op) × (outcome ≡ Ok op) × (new ≡ record old { rows = absorbed old.rows op; version = next_version old.version })
-Leads takes outcome (Err refusal) old new = Refuses takes outcome refusal × (new ≡ old)

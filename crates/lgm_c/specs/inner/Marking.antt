@@ -1,11 +1,9 @@
 -- How a mark is stored: a map with the operations that lead from it to the rows at the mark, and those since.
 use Rattle.std.specs.Prelude.{◌≡◌, List, Option, Some, None, IfSome}
 use Rattle.std.specs.Option.{option_map}
-use Rattle.lgm_wire.specs.declared.chain_hash.ChainHash.{ChainHash}
 use Rattle.lgm_store.specs.declared.op.Op.{Op}
 use Rattle.lgm_store.specs.Rows.{Rows, empty}
 use Rattle.lgm_store.specs.History.{fold_from}
-use Rattle.lgm_c.specs.MapState.{MapState}
 use Rattle.lgm_c.specs.inner.Networks.{Counted}
 
 -- the rows at a mark, and those to which the operations since lead, if they are kept
@@ -28,14 +26,13 @@ abbrev pub rows_at : Option Marked → Rows
 rows_at None = empty
 rows_at (Some mark) = mark.marked
 
-abbrev pub state_in : ChainHash → Counted → Option Marked → MapState
-state_in chain current mark = record {
-  chain = chain;
-  known = current.known;
-  rows = current.rows;
-  version = current.version;
-  marked = rows_at mark;
-}
+-- a map that changes, with the rows at its mark
+pub record Changing : Type 0 where
+  pub current : Counted
+  pub marked : Rows
+
+abbrev pub changing : Counted → Option Marked → Changing
+changing current mark = record { current = current; marked = rows_at mark }
 
 -- a mark leads to the current rows
 abbrev pub IsFollowed : Counted → Option Marked → Type 0

@@ -1,13 +1,11 @@
 -- The current map of a handle, and the editions of it that are published.
 use Rattle.std.specs.Prelude.{◌≡◌, ℕ, ◌≤◌, List, Option, length, IfSome, IsSome}
-use Rattle.lgm_wire.specs.declared.chain_hash.ChainHash.{ChainHash}
 use Rattle.lgm_store.specs.declared.op.Op.{Op}
 use Rattle.lgm_store.specs.Rows.{Rows}
 use Rattle.lgm_store.specs.History.{absorbed, fold_from}
 use Rattle.lgm_graph.specs.declared.view.TheConstants.{MAX_CHANNELS}
 use Rattle.lgm_graph.specs.Network.{NetworkState}
 use Rattle.lgm_c.specs.MapState.{next_version}
-use Rattle.lgm_c.specs.Published.{Published}
 
 -- what routes are searched in, whether there is a view or not
 pub record NetworkRows : Type 0 where
@@ -43,6 +41,6 @@ counted_behind map op =
 abbrev pub IsAt : Option NetworkRows → NetworkRows → Type 0
 IsAt editions network = IfSome editions (λ found. found ≡ network)
 
-abbrev pub published_as : ChainHash → NetworkRows → ℕ → Published
-published_as chain edition version =
-    record { chain = chain; known = edition.known; rows = edition.rows; version = version }
+-- an edition of it, with its count
+abbrev pub counted_as : NetworkRows → ℕ → Counted
+counted_as edition version = record { known = edition.known; rows = edition.rows; version = version }

@@ -3,7 +3,7 @@
 ghost use Rattle.std.specs.Prelude.{◌≡◌};
 ghost use Rattle.lgm_store.specs.Rows.{channel_of, update_of, node_of, ends_channel, is_banned, is_second};
 ghost use Rattle.lgm_store.specs.Admission.{channel_admission, update_admission, node_admission};
-ghost use Rattle.lgm_store.specs.Admission.{admitted, admitted_close, Offers};
+ghost use Rattle.lgm_store.specs.Admission.{admitted, admitted_close, verdict_of, Offers};
 ghost use Rattle.lgm_store.specs.inner.Decided.{channel_op, update_op, node_op};
 ghost use Rattle.lgm_store.specs.inner.Decided.{channel_verdict, node_verdict};
 ghost use Rattle.lgm_store.specs.Spelled.{IsSpelled};
@@ -48,6 +48,20 @@ impl Map {
                 self.admit_node(row)?;
                 Ok(Op::Node(Shared::new(alloc, StoredNode::of(alloc, row)?)?))
             }
+        }
+    }
+
+    /// Whether a message is admitted, or why it isn't, as [`Map::admit`] says. Allocates nothing.
+    pub fn verdict(&self, checked: &Checked) -> Result<(), Refusal>
+        ensures { result ≡ verdict_of (admitted self.now checked.now) }
+    {
+        match checked {
+            Checked::Channel(row) => match self.admit_channel(row) {
+                Ok(_) => Ok(()),
+                Err(refusal) => Err(refusal),
+            },
+            Checked::Update(row, signer) => self.admit_update(row, signer),
+            Checked::Node(row) => self.admit_node(row),
         }
     }
 

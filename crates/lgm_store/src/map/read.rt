@@ -7,7 +7,7 @@ ghost use Rattle.lgm_store.specs.ChannelInfo.{stored_at};
 ghost use Rattle.lgm_store.specs.Laws.{IsLawful};
 ghost use Rattle.lgm_store.specs.Spelled.{AreSpelled};
 ghost use Rattle.lgm_store.specs.Rows.{IsAscending, channel_of, update_of, node_of, ends_channel, is_banned};
-ghost use Rattle.lgm_store.specs.Reading.{next_channel_of, next_node_of, ids_at, block_of};
+ghost use Rattle.lgm_store.specs.Reading.{next_channel_of, next_node_of, next_point_of, ids_at, block_of};
 ghost use Rattle.lgm_store.specs.Reading.{ids_between_of, channels_between_of};
 ghost use Rattle.lgm_store.specs.inner.Start.{start_after, IsEndBefore};
 
@@ -138,6 +138,13 @@ impl Map {
             .range(start_after(after.copied()), Bound::Unbounded);
         let stored = nodes.next()?;
         Some(stored.row())
+    }
+
+    /// The banned point that is the least above the given one, byte by byte, or the least of all if none is given.
+    pub fn next_banned(&self, after: Option<Point>) -> Option<Point>
+        ensures { result ≡ next_point_of self.now.banned after }
+    {
+        self.banned.first_from(start_after(after))
     }
 
     /// All channels with their updates, by ascending id.

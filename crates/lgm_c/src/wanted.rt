@@ -1,0 +1,109 @@
+//! Whether a message is worth verifying.
+
+ghost use Rattle.std.specs.Prelude.{◌≡◌, Ok, IfOk, IfErr, OnOk};
+ghost use Rattle.lgm_gossip.specs.Memory.{TakesMemory};
+ghost use Rattle.lgm_wire.specs.declared.chain_hash.ChainHash.{ChainHash as AChainHash};
+ghost use Rattle.lgm_store.specs.Admission.{verdict_of};
+ghost use Rattle.lgm_c.specs.inner.Following.{Fails};
+ghost use Rattle.lgm_c.specs.Offering.{offered_to};
+ghost use Rattle.lgm_c.specs.Status.{status_of};
+ghost use Rattle.lgm_c.specs.Wanting.{signed_by, right_on, right_verdicts, wanted, key_in, TellsOf, Wants, NoneMends};
+
+use crate::fault::{Fault, status};
+use crate::map::{LgmMap, with_state};
+use lgm_check::{Evidence, Funding, Refusal, Sig, precheck};
+use lgm_gossip::{ChainHash, Message, Point, decode};
+use lgm_store::Map;
+use std::alloc::Global;
+
+/// The verdict that the one signature of a message is valid for a key.
+fn signed_by(point: Point) -> Evidence
+    ensures { result ≡ signed_by point }
+{
+    Evidence {
+        sig: Sig::By(point),
+        funding: Funding::NotAsked,
+    }
+}
+
+/// The right verdicts on a message, with the other key where it decides nothing.
+fn right_on(map: &Map, message: &Message, other: Point) -> Evidence
+    ensures { result ≡ right_on map.now message.now other }
+{
+    match message {
+        Message::Announce(_) => Evidence {
+            sig: Sig::AllFour(true),
+            funding: Funding::Unspent(0),
+        },
+        Message::ChannelUpdate(update) => match map.channel_info(update.short_channel_id) {
+            Some(stored) => signed_by(*stored.node(update.channel_flags % 2 == 1)),
+            None => signed_by(other),
+        },
+        Message::NodeAnnounce(node) => signed_by(node.node_id),
+        _ => signed_by(other),
+    }
+}
+
+/// The right verdicts on bytes, or why no verdicts mend them. Memory is allocated only by decoding.
+fn right_verdicts(alloc: Global, map: &Map, bytes: &[u8], other: Point) -> Result<Evidence, Refusal>
+    ensures right { IfOk result (λ evidence. evidence ≡ right_verdicts map.now bytes.now other) }
+    ensures refused { IfErr result (λ refusal. (chain : AChainHash)
+        → Fails (TakesMemory bytes.now) (wanted chain map.now bytes.now other) refusal) }
+{
+    let message = decode(alloc, bytes)?;
+    Ok(right_on(map, &message, other))
+}
+
+/// Whether a message is accepted with these verdicts. Memory is allocated only by decoding.
+fn verdict(
+    alloc: Global,
+    chain: &ChainHash,
+    map: &Map,
+    bytes: &[u8],
+    evidence: &Evidence,
+) -> Result<(), Refusal>
+    ensures accepted { OnOk result (verdict_of (offered_to chain.now map.now bytes.now evidence.now) ≡ Ok tt) }
+    ensures refused { IfErr result (λ refusal. Fails (TakesMemory bytes.now)
+        (offered_to chain.now map.now bytes.now evidence.now) refusal) }
+{
+    let checked = precheck(alloc, chain, bytes, evidence)?;
+    map.verdict(&checked)
+}
+
+/// Writes the key whose signature is to be verified, if the message would be accepted with the right verdicts.
+fn write_wanted(
+    alloc: Global,
+    chain: &ChainHash,
+    map: &Map,
+    bytes: &[u8],
+    signer: &mut [u8; 33],
+) -> Result<(), Fault>
+    ensures { TellsOf bytes.now chain.now map.now (status_of result) signer.old signer.new }
+{
+    let evidence = right_verdicts(alloc, map, bytes, Point(*signer))?;
+    verdict(alloc, chain, map, bytes, &evidence)?;
+    if let Sig::By(point) = evidence.sig {
+        let Point(key) = point;
+        *signer = key;
+    }
+    Ok(())
+}
+
+/// Whether a message would be accepted with the right verdicts, and the key whose signature is to be verified.
+#[unsafe(no_mangle)]
+pub extern "C" fn lgm_wanted(
+    alloc: Global,
+    map: &mut LgmMap,
+    message: &[u8],
+    signer: &mut [u8; 33],
+) -> u32
+    ensures same { map.new.handle.value ≡ map.old.handle.value }
+    ensures wanted { Wants message.now map.old.handle.value result signer.old signer.new }
+    ensures mended { NoneMends message.now signer.old map.old.handle.value }
+{
+    with_state!(
+        alloc,
+        map,
+        |state| status(&write_wanted(alloc, state.chain(), state.map(), message, signer))
+    )
+}

@@ -1,0 +1,80 @@
+//! Tests the calls of the wrapper on a map of one channel. Prints `ok`, or panics where an answer differs.
+//!
+//!     cargo run --offline --example calls
+
+use lgm::{Fault, Funding, Map, Sig, Which};
+
+const CHAIN: [u8; 32] = [0xc1; 32];
+const SEED: [u8; 16] = [7; 16];
+const A: [u8; 33] = [2; 33];
+const B: [u8; 33] = [3; 33];
+/// Channel 600000x1x0.
+const SCID: u64 = 600_000 << 40 | 1 << 16;
+
+/// A `channel_announcement` (BOLT 7), with bytes behind its last field.
+fn announcement(behind: &[u8]) -> Vec<u8> {
+    let scid = SCID.to_be_bytes();
+    let parts: [&[u8]; 10] = [&[1, 0], &[0; 256], &[0, 0], &CHAIN, &scid, &A, &B, &A, &A, behind];
+    parts.concat()
+}
+
+/// A `gossip_timestamp_filter` that all messages pass.
+fn everything() -> Vec<u8> {
+    let parts: [&[u8]; 4] = [&[1, 9], &CHAIN, &[0; 4], &[255; 4]];
+    parts.concat()
+}
+
+fn word<T>(outcome: Result<T, Fault>) -> String {
+    outcome.err().map_or("accepted".into(), Fault::word)
+}
+
+/// Offers the announcement, unless the map doesn't want it.
+fn announce(map: &mut Map, behind: &[u8]) -> Result<(), Fault> {
+    let message = announcement(behind);
+    assert_eq!(map.wanted(&message)?, None);
+    map.offer(&message, Sig::AllFour(true), Funding::Unspent(100_000))
+}
+
+fn lists() -> Result<(), Fault> {
+    let mut map = Map::new(&CHAIN, None, &SEED)?;
+    assert_eq!(map.channels().count() + map.nodes().count() + map.banned().count(), 0);
+    let behind = vec![9; 60_000];
+    announce(&mut map, &behind)?;
+    assert_eq!(word(map.wanted(&announcement(&behind))), "known");
+    assert_eq!(map.channels().collect::<Vec<_>>(), [SCID]);
+    assert_eq!(map.message(SCID, Which::Announcement)?, Some(announcement(&behind)));
+    assert_eq!(map.message(SCID, Which::Update1)?, None);
+    assert_eq!(word(map.message(SCID + 1, Which::Update2)), "unknown-channel");
+    assert_eq!(word(map.node_message(&A)), "not-announced");
+    map.ban(&B)?;
+    map.ban(&A)?;
+    assert_eq!(word(map.ban(&A)), "banned");
+    assert_eq!(map.banned().collect::<Vec<_>>(), [A, B]);
+    assert_eq!((map.count(), map.version()), (0, 3));
+    Ok(())
+}
+
+fn published_maps() -> Result<(), Fault> {
+    let mut map = Map::new(&CHAIN, None, &SEED)?;
+    let before = map.publish()?;
+    announce(&mut map, &[])?;
+    assert_eq!(word(map.share()), "argument");
+    let mut after = map.publish()?.share()?;
+    map.close_channel(SCID)?;
+    assert_eq!((before.version(), after.version(), map.version()), (0, 1, 2));
+    assert_eq!((before.count(), after.count(), map.count()), (0, 1, 0));
+    assert_eq!(word(after.close_channel(SCID)), "published");
+    assert_eq!(word(after.ban(&A)), "published");
+    assert_eq!(word(after.mark()), "published");
+    // A channel passes a filter once one of its updates does.
+    assert_eq!(after.filter(&everything())?, after.news(&everything())?);
+    assert_eq!(after.news_since(&before, &everything())?, Vec::<Vec<u8>>::new());
+    Ok(())
+}
+
+fn main() -> Result<(), Fault> {
+    lists()?;
+    published_maps()?;
+    println!("ok");
+    Ok(())
+}
