@@ -3,10 +3,10 @@
 
     python3 bench/payments.py
 
-bench/payments.rattle is a program over the crates: it answers the payments of a workload plainly, over an overlay of each
-kind, and within each of several delays. It is built in the system's temporary folder, behind the libraries that it needs
-where these aren't built. Times are CPU time of one payment, the minimum of all runs; the making of an overlay isn't
-counted, the view over it is. `limit` is what the time is meant to stay below.
+bench/payments.rattle is a program over the crates: it answers the payments of a workload plainly, over an overlay of
+each kind, and within each of several delays. It is built in the system's temporary folder, behind the libraries that it
+needs where these aren't built. Times are CPU time of one payment, the minimum of all runs; the making of an overlay
+isn't counted, the view over it is. `limit` is what the time is meant to stay below.
 """
 
 import argparse
@@ -45,11 +45,12 @@ NETWORKS = {
 
 
 class Tally(NamedTuple):
-    """What a run took for all payments of one kind, in ns, and what they were; labels are of the searches within a delay."""
+    """What a run took for all payments of a kind, in ns, and what they were. Labels are of searches within a delay."""
 
     all: int
     median: int
     most: int  # of 99 percent
+    greatest: int
     routed: int
     sent: int
     undecided: int
@@ -104,15 +105,16 @@ def measure(program, script, kind):
 def least(tallies):
     """The least times of several runs of one kind. What they answered must be the same."""
     first, *others = tallies
-    if any(other[3:] != first[3:] for other in others):
+    if any(other[4:] != first[4:] for other in others):
         raise running.Failed("the routes of two runs differ")
-    return first._replace(**{name: min(getattr(it, name) for it in tallies) for name in ("all", "median", "most")})
+    times = ("all", "median", "most", "greatest")
+    return first._replace(**{name: min(getattr(it, name) for it in tallies) for name in times})
 
 
 def measure_all(program, script, kinds, runs):
     """The least tally of each of these kinds of payment."""
     taken = {kind: least([measure(program, script, kind) for _ in range(runs)]) for kind in kinds}
-    if taken["empty"][3:5] != taken["plain"][3:5] or not taken["plain"].routed:
+    if taken["empty"][4:6] != taken["plain"][4:6] or not taken["plain"].routed:
         raise running.Failed("there are no routes, or others over an overlay of nothing")
     return taken
 
@@ -138,12 +140,14 @@ def print_overlays(taken):
 
 def print_delays(name, taken):
     """The table of delays on a network."""
-    print(f"{name:<52}{'median µs':>10}{'99 % µs':>10}{'routes':>8}{'beyond':>8}{'undecided':>10}{'labels':>9}{'99 %':>9}")
+    columns = ("median µs", "99 % µs", "most µs", "routes", "beyond", "undecided", "labels", "99 %")
+    print(f"{name:<52}" + "".join(f"{column:>10}" for column in columns))
     for kind in ("plain", *DELAYS):
         it = taken[kind]
         label = "no limit" if kind == "plain" else f"{kind} blocks"
-        print(f"{label:<52}{it.median / 1_000:>10.1f}{it.most / 1_000:>10.1f}{it.routed:>8}{it.beyond:>8}"
-              f"{it.undecided:>10}{it.median_labels:>9}{it.most_labels:>9}")
+        times = "".join(f"{taken / 1_000:>10.1f}" for taken in (it.median, it.most, it.greatest))
+        counts = (it.routed, it.beyond, it.undecided, it.median_labels, it.most_labels)
+        print(f"{label:<52}{times}" + "".join(f"{count:>10}" for count in counts))
 
 
 def main():

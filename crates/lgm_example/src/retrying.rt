@@ -3,20 +3,26 @@
 use crate::messages::{point, scid};
 use lgm_graph::{ExtraEdge, Hop, Limit, Overlay, Route};
 use lgm_publish::{Eye, Guard};
-use lgm_route::{Request, RouteFault, answer_over};
+use lgm_route::{DelayLimit, LimitedFault, Request, RouteFault, answer_within};
 use std::alloc::{AllocError, Global};
 use std::fmt;
 
 /// The number of times that a payment is tried.
 const TRIES: u32 = 3;
 
+/// A payment locks what it sends for at most 1,008 blocks, a week, and takes at most a million labels, some 40 MB.
+const LIMIT: DelayLimit = DelayLimit {
+    most_delay: 1_008,
+    most_labels: 1_000_000,
+};
+
 /// How a payment ends.
 #[derive(Clone, Copy, Debug, PartialEq, Eq)]
 pub enum Ended {
     /// It arrives at this try, and this is the HTLC that the payer offers.
     Paid(u32, Hop),
-    /// There is no route over what is left.
-    NotPaid(RouteFault),
+    /// There is no route over what is left, or none was found.
+    NotPaid(LimitedFault),
     /// The last try failed, too.
     GaveUp,
 }
@@ -71,19 +77,19 @@ fn offer(route: &Route) -> Option<Hop> {
         .copied()
 }
 
-/// The best route over the overlay, on the map that a guard shows.
+/// The best route over the overlay within the limit, on the map that a guard shows.
 fn find(
     alloc: Global,
     guard: &Guard,
     overlay: &Overlay,
     request: &Request,
-) -> Result<Route, RouteFault> {
+) -> Result<Route, LimitedFault> {
     let view = guard.view();
     // Each extra edge may add two nodes to those of the view, which are numbered by 32 bits.
     if view.nodes() > 4_000_000_000 || overlay.extra_count() > 1_000_000 {
-        return Err(RouteFault::NoMemory);
+        return Err(LimitedFault::Fault(RouteFault::NoMemory));
     }
-    answer_over(alloc, guard.map(), view, overlay, request)
+    answer_within(alloc, guard.map(), view, overlay, request, &LIMIT)
 }
 
 /// A limit that excludes the amount that a hop couldn't carry.
@@ -119,7 +125,10 @@ fn try_once(
         None => (eye, Some(Ended::Paid(tries, route.as_slice()[0]))),
         Some(hop) => match overlay.limit(limit_of(&hop)) {
             Ok(()) => (eye, None),
-            Err(AllocError) => (eye, Some(Ended::NotPaid(RouteFault::NoMemory))),
+            Err(AllocError) => (
+                eye,
+                Some(Ended::NotPaid(LimitedFault::Fault(RouteFault::NoMemory))),
+            ),
         },
     }
 }
@@ -133,7 +142,10 @@ pub fn pay(alloc: Global, eye: Eye) -> (Eye, Ended) {
         expiry: 700_000,
     };
     let Ok(mut overlay) = own_channels(alloc) else {
-        return (eye, Ended::NotPaid(RouteFault::NoMemory));
+        return (
+            eye,
+            Ended::NotPaid(LimitedFault::Fault(RouteFault::NoMemory)),
+        );
     };
     let mut eye = eye;
     for tries in 1..=TRIES {
