@@ -226,12 +226,12 @@ fn what_cannot_be_in_time_is_pruned(rt: HostRuntime) -> Result<(), Fail> {
     ways.push(way(2, 1, 2, 0, 288))?;
     hops.push((1, 0, 1, 1255, 700_288))?;
     hops.push((2, 1, 2, 1255, 700_000))?;
-    let mut amount = 1255;
+    let mut amount: u64 = 1255;
     for stage in 0..8u16 {
         let (id, node, blocks) = (10 + 2 * u64::from(stage), 2 + stage, 1u16 << stage);
         ways.push(way(id, node, node + 1, 0, blocks))?;
         ways.push(way(id + 1, node, node + 1, u32::from(blocks), 0))?;
-        amount -= u64::from(blocks);
+        amount = amount.saturating_sub(u64::from(blocks));
         hops.push((id + 1, node, node + 1, amount, 700_000))?;
     }
     let wanted = Ok(hops.as_slice());
