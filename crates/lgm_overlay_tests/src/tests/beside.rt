@@ -52,13 +52,12 @@ impl Seen {
     }
 }
 
-/// Six payments, each over an overlay and within a limit of its own.
+/// Six payments, each over an overlay and within a limit of its own, where bit 0 is known or no bit is.
 fn compare<Rt: Abort + Threads + Sync>(
     rt: &Rt,
     alloc: Global,
     numbers: &mut Numbers,
-    overlays: &mut Seen,
-    limits: &mut Seen,
+    seen: &mut (Seen, Seen),
 ) -> Result<(), AllocError> {
     let items = items(alloc, numbers)?;
     let map = map_of(alloc, items.as_slice())?;
@@ -69,33 +68,54 @@ fn compare<Rt: Abort + Threads + Sync>(
         let payment = payment(numbers);
         let bits: &[u8] = if knows { &[1] } else { &[0] };
         let known = Known::bits(alloc, bits)?;
-        let parts = lists.parts();
         let bare = laid_over(alloc, items.as_slice(), knows, NOTHING)?;
-        let laid = laid_over(alloc, items.as_slice(), knows, parts)?;
+        let laid = laid_over(alloc, items.as_slice(), knows, lists.parts())?;
         let without = best_hops(alloc, bare.as_slice(), &payment)?;
         let over = best_hops(alloc, laid.as_slice(), &payment)?;
-        let soon = within(numbers, &payment, over.as_slice());
-        let quick = best_hops(alloc, laid.as_slice(), &soon)?;
-        overlays.add(over.as_slice(), without.as_slice());
-        limits.add(quick.as_slice(), over.as_slice());
+        seen.0.add(over.as_slice(), without.as_slice());
         let request = request_of(&payment);
-        assert_over(rt, alloc, &map, &known, parts, &request, wanted(&over))?;
-        let limit = DelayLimit {
-            most_delay: soon.most_delay,
-            most_labels: 1_000,
-        };
-        assert_within(
+        assert_over(
             rt,
             alloc,
             &map,
             &known,
-            parts,
+            lists.parts(),
             &request,
-            &limit,
-            limited(wanted(&quick)),
+            wanted(&over),
         )?;
+        let soon = within(numbers, &payment, over.as_slice());
+        let quick = best_hops(alloc, laid.as_slice(), &soon)?;
+        seen.1.add(quick.as_slice(), over.as_slice());
+        compare_within(rt, alloc, &map, &known, lists.parts(), &soon, &quick)?;
     }
     Ok(())
+}
+
+/// One of them within its limit.
+fn compare_within(
+    rt: &impl Abort,
+    alloc: Global,
+    map: &Map,
+    known: &Known,
+    parts: Parts,
+    payment: &PlainPayment,
+    hops: &Vec<Told>,
+) -> Result<(), AllocError> {
+    let limit = DelayLimit {
+        most_delay: payment.most_delay,
+        most_labels: 1_000,
+    };
+    let request = request_of(payment);
+    assert_within(
+        rt,
+        alloc,
+        map,
+        known,
+        parts,
+        &request,
+        &limit,
+        limited(wanted(hops)),
+    )
 }
 
 /// A payment as the crates take it.
@@ -120,11 +140,11 @@ fn wanted(hops: &Vec<Told>) -> Result<&[Told], RouteFault> {
 #[test]
 fn made_overlays(rt: HostRuntime) -> Result<(), Fail> {
     let mut numbers = Numbers::new(1);
-    let mut overlays = UNSEEN;
-    let mut limits = UNSEEN;
+    let mut seen = (UNSEEN, UNSEEN);
     for _ in 0..500 {
-        compare(&rt, rt.alloc(), &mut numbers, &mut overlays, &mut limits)?;
+        compare(&rt, rt.alloc(), &mut numbers, &mut seen)?;
     }
+    let (overlays, limits) = seen;
     assert!(rt; overlays.opened >= 50, "{overlays:?}");
     assert!(rt; overlays.closed >= 50, "{overlays:?}");
     assert!(rt; overlays.other >= 50, "{overlays:?}");

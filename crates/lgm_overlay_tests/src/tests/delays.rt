@@ -83,28 +83,16 @@ const QUICK: [Told; 2] = [(3, 0, 2, 1005, 700_010), (4, 2, 3, 1000, 700_000)];
 
 #[test]
 fn the_cheapest_in_time(rt: HostRuntime) -> Result<(), Fail> {
-    let rows = [
-        (65_535, Ok(&CHEAP)),
-        (100, Ok(&CHEAP)),
-        (99, Ok(&QUICK)),
-        (10, Ok(&QUICK)),
-        (9, Err(RouteFault::NoRoute)),
-        (0, Err(RouteFault::NoRoute)),
-    ];
-    for (most_delay, wanted) in rows {
-        let wanted = match wanted {
-            Ok(hops) => Ok(hops.as_slice()),
-            Err(fault) => Err(LimitedFault::Fault(fault)),
-        };
-        assert_answered(
-            &rt,
-            rt.alloc(),
-            &cheap_or_quick(),
-            NOTHING,
-            (0, 3),
-            (most_delay, 1000),
-            wanted,
-        )?;
+    let alloc = rt.alloc();
+    let ways = cheap_or_quick();
+    for most in [65_535, 100] {
+        assert_answered(&rt, alloc, &ways, NOTHING, (0, 3), (most, 1000), Ok(&CHEAP))?;
+    }
+    for most in [99, 10] {
+        assert_answered(&rt, alloc, &ways, NOTHING, (0, 3), (most, 1000), Ok(&QUICK))?;
+    }
+    for most in [9, 0] {
+        assert_answered(&rt, alloc, &ways, NOTHING, (0, 3), (most, 1000), NO_ROUTE)?;
     }
     Ok(())
 }
@@ -113,22 +101,11 @@ fn the_cheapest_in_time(rt: HostRuntime) -> Result<(), Fail> {
 #[test]
 fn undecided_once_there_are_that_many_labels(rt: HostRuntime) -> Result<(), Fail> {
     let alloc = rt.alloc();
-    for (limit, wanted) in [
-        ((100, 0), Ok(CHEAP.as_slice())),
-        ((99, 1), UNDECIDED),
-        ((99, 2), Ok(QUICK.as_slice())),
-        ((9, 1), NO_ROUTE),
-    ] {
-        assert_answered(
-            &rt,
-            alloc,
-            &cheap_or_quick(),
-            NOTHING,
-            (0, 3),
-            limit,
-            wanted,
-        )?;
-    }
+    let ways = cheap_or_quick();
+    assert_answered(&rt, alloc, &ways, NOTHING, (0, 3), (100, 0), Ok(&CHEAP))?;
+    assert_answered(&rt, alloc, &ways, NOTHING, (0, 3), (99, 1), UNDECIDED)?;
+    assert_answered(&rt, alloc, &ways, NOTHING, (0, 3), (99, 2), Ok(&QUICK))?;
+    assert_answered(&rt, alloc, &ways, NOTHING, (0, 3), (9, 1), NO_ROUTE)?;
     Ok(())
 }
 
@@ -157,22 +134,11 @@ fn a_dearer_rest_is_needed(rt: HostRuntime) -> Result<(), Fail> {
         (5, 2, 4, 1005, 700_010),
         (6, 4, 5, 1000, 700_000),
     ];
-    for (most_delay, wanted) in [
-        (110, Ok(cheap.as_slice())),
-        (109, Ok(quick.as_slice())),
-        (60, Ok(quick.as_slice())),
-        (59, NO_ROUTE),
-    ] {
-        assert_answered(
-            &rt,
-            alloc,
-            &ways,
-            NOTHING,
-            (0, 5),
-            (most_delay, 100),
-            wanted,
-        )?;
+    assert_answered(&rt, alloc, &ways, NOTHING, (0, 5), (110, 100), Ok(&cheap))?;
+    for most in [109, 60] {
+        assert_answered(&rt, alloc, &ways, NOTHING, (0, 5), (most, 100), Ok(&quick))?;
     }
+    assert_answered(&rt, alloc, &ways, NOTHING, (0, 5), (59, 100), NO_ROUTE)?;
     Ok(())
 }
 
@@ -196,21 +162,10 @@ fn each_cheapest_channel_is_the_slowest(rt: HostRuntime) -> Result<(), Fail> {
             700_000 + left * 40,
         ))?;
     }
-    for (most_delay, wanted) in [
-        (1008, Ok(hops.as_slice())),
-        (320, Ok(hops.as_slice())),
-        (319, NO_ROUTE),
-    ] {
-        assert_answered(
-            &rt,
-            alloc,
-            &ways,
-            NOTHING,
-            (0, 9),
-            (most_delay, 100),
-            wanted,
-        )?;
+    for most in [1008, 320] {
+        assert_answered(&rt, alloc, &ways, NOTHING, (0, 9), (most, 100), Ok(&hops))?;
     }
+    assert_answered(&rt, alloc, &ways, NOTHING, (0, 9), (319, 100), NO_ROUTE)?;
     Ok(())
 }
 
@@ -250,21 +205,11 @@ fn within_a_delay_over_an_overlay(rt: HostRuntime) -> Result<(), Fail> {
         silent: &[2],
     };
     let hinted: [Told; 2] = [(1, 0, 1, 1002, 700_030), (90, 1, 3, 1000, 700_000)];
-    for (most_delay, wanted) in [
-        (100, Ok(CHEAP.as_slice())),
-        (99, Ok(hinted.as_slice())),
-        (30, Ok(hinted.as_slice())),
-        (29, NO_ROUTE),
-    ] {
-        assert_answered(
-            &rt,
-            alloc,
-            &cheap_or_quick(),
-            parts,
-            (0, 3),
-            (most_delay, 100),
-            wanted,
-        )?;
+    let ways = cheap_or_quick();
+    assert_answered(&rt, alloc, &ways, parts, (0, 3), (100, 100), Ok(&CHEAP))?;
+    for most in [99, 30] {
+        assert_answered(&rt, alloc, &ways, parts, (0, 3), (most, 100), Ok(&hinted))?;
     }
+    assert_answered(&rt, alloc, &ways, parts, (0, 3), (29, 100), NO_ROUTE)?;
     Ok(())
 }
