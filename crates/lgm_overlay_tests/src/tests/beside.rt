@@ -73,25 +73,53 @@ fn compare<Rt: Abort + Threads + Sync>(
         let without = best_hops(alloc, bare.as_slice(), &payment)?;
         let over = best_hops(alloc, laid.as_slice(), &payment)?;
         seen.0.add(over.as_slice(), without.as_slice());
-        let request = request_of(&payment);
-        assert_over(
+        compare_over(
             rt,
             alloc,
             &map,
             &known,
             lists.parts(),
-            &request,
-            wanted(&over),
+            &payment,
+            over.as_slice(),
         )?;
         let soon = within(numbers, &payment, over.as_slice());
         let quick = best_hops(alloc, laid.as_slice(), &soon)?;
         seen.1.add(quick.as_slice(), over.as_slice());
-        compare_within(rt, alloc, &map, &known, lists.parts(), &soon, &quick)?;
+        compare_within(
+            rt,
+            alloc,
+            &map,
+            &known,
+            lists.parts(),
+            &soon,
+            quick.as_slice(),
+        )?;
     }
     Ok(())
 }
 
-/// One of them within its limit.
+/// One of them.
+fn compare_over<Rt: Abort + Threads + Sync>(
+    rt: &Rt,
+    alloc: Global,
+    map: &Map,
+    known: &Known,
+    parts: Parts,
+    payment: &PlainPayment,
+    hops: &[Told],
+) -> Result<(), AllocError> {
+    assert_over(
+        rt,
+        alloc,
+        map,
+        known,
+        parts,
+        &request_of(payment),
+        wanted(hops),
+    )
+}
+
+/// The same within its limit.
 fn compare_within(
     rt: &impl Abort,
     alloc: Global,
@@ -99,23 +127,15 @@ fn compare_within(
     known: &Known,
     parts: Parts,
     payment: &PlainPayment,
-    hops: &Vec<Told>,
+    hops: &[Told],
 ) -> Result<(), AllocError> {
     let limit = DelayLimit {
         most_delay: payment.most_delay,
         most_labels: 1_000,
     };
     let request = request_of(payment);
-    assert_within(
-        rt,
-        alloc,
-        map,
-        known,
-        parts,
-        &request,
-        &limit,
-        limited(wanted(hops)),
-    )
+    let wanted = limited(wanted(hops));
+    assert_within(rt, alloc, map, known, parts, &request, &limit, wanted)
 }
 
 /// A payment as the crates take it.
@@ -129,11 +149,11 @@ fn request_of(payment: &PlainPayment) -> Request {
 }
 
 /// The answer with these hops: no route if there are none.
-fn wanted(hops: &Vec<Told>) -> Result<&[Told], RouteFault> {
+fn wanted(hops: &[Told]) -> Result<&[Told], RouteFault> {
     if hops.is_empty() {
         Err(RouteFault::NoRoute)
     } else {
-        Ok(hops.as_slice())
+        Ok(hops)
     }
 }
 
