@@ -57,7 +57,8 @@ fn compare<Rt: Abort + Threads + Sync>(
     rt: &Rt,
     alloc: Global,
     numbers: &mut Numbers,
-    seen: &mut (Seen, Seen),
+    overlays: &mut Seen,
+    limits: &mut Seen,
 ) -> Result<(), AllocError> {
     let items = items(alloc, numbers)?;
     let map = map_of(alloc, items.as_slice())?;
@@ -66,76 +67,81 @@ fn compare<Rt: Abort + Threads + Sync>(
         let lists = lists_over(alloc, numbers, ways.as_slice())?;
         let knows = numbers.below(2) == 0;
         let payment = payment(numbers);
-        let bits: &[u8] = if knows { &[1] } else { &[0] };
-        let known = Known::bits(alloc, bits)?;
-        let bare = laid_over(alloc, items.as_slice(), knows, NOTHING)?;
-        let laid = laid_over(alloc, items.as_slice(), knows, lists.parts())?;
-        let without = best_hops(alloc, bare.as_slice(), &payment)?;
-        let over = best_hops(alloc, laid.as_slice(), &payment)?;
-        seen.0.add(over.as_slice(), without.as_slice());
-        compare_over(
+        let items = items.as_slice();
+        let over = compare_over(
             rt,
             alloc,
+            items,
             &map,
-            &known,
+            knows,
             lists.parts(),
             &payment,
-            over.as_slice(),
+            overlays,
         )?;
         let soon = within(numbers, &payment, over.as_slice());
-        let quick = best_hops(alloc, laid.as_slice(), &soon)?;
-        seen.1.add(quick.as_slice(), over.as_slice());
-        compare_within(
-            rt,
-            alloc,
-            &map,
-            &known,
-            lists.parts(),
-            &soon,
-            quick.as_slice(),
-        )?;
+        let quick = compare_within(rt, alloc, items, &map, knows, lists.parts(), &soon)?;
+        limits.add(quick.as_slice(), over.as_slice());
     }
     Ok(())
 }
 
-/// One of them.
+/// The bits that are known: bit 0, or none.
+fn known_bits(alloc: Global, knows: bool) -> Result<Known, AllocError> {
+    let bits: &[u8] = if knows { &[1] } else { &[0] };
+    Known::bits(alloc, bits)
+}
+
+/// One of them; its hops.
 fn compare_over<Rt: Abort + Threads + Sync>(
     rt: &Rt,
     alloc: Global,
+    items: &[Item],
     map: &Map,
-    known: &Known,
+    knows: bool,
     parts: Parts,
     payment: &PlainPayment,
-    hops: &[Told],
-) -> Result<(), AllocError> {
+    seen: &mut Seen,
+) -> Result<Vec<Told>, AllocError> {
+    let ways = laid_over(alloc, items, knows, parts)?;
+    let over = best_hops(alloc, ways.as_slice(), payment)?;
+    let ways = laid_over(alloc, items, knows, NOTHING)?;
+    let without = best_hops(alloc, ways.as_slice(), payment)?;
+    seen.add(over.as_slice(), without.as_slice());
+    let known = known_bits(alloc, knows)?;
+    let request = request_of(payment);
     assert_over(
         rt,
         alloc,
         map,
-        known,
+        &known,
         parts,
-        &request_of(payment),
-        wanted(hops),
-    )
+        &request,
+        wanted(over.as_slice()),
+    )?;
+    Ok(over)
 }
 
 /// The same within its limit.
 fn compare_within(
     rt: &impl Abort,
     alloc: Global,
+    items: &[Item],
     map: &Map,
-    known: &Known,
+    knows: bool,
     parts: Parts,
     payment: &PlainPayment,
-    hops: &[Told],
-) -> Result<(), AllocError> {
+) -> Result<Vec<Told>, AllocError> {
+    let ways = laid_over(alloc, items, knows, parts)?;
+    let quick = best_hops(alloc, ways.as_slice(), payment)?;
+    let known = known_bits(alloc, knows)?;
     let limit = DelayLimit {
         most_delay: payment.most_delay,
         most_labels: 1_000,
     };
     let request = request_of(payment);
-    let wanted = limited(wanted(hops));
-    assert_within(rt, alloc, map, known, parts, &request, &limit, wanted)
+    let wanted = limited(wanted(quick.as_slice()));
+    assert_within(rt, alloc, map, &known, parts, &request, &limit, wanted)?;
+    Ok(quick)
 }
 
 /// A payment as the crates take it.
@@ -160,11 +166,11 @@ fn wanted(hops: &[Told]) -> Result<&[Told], RouteFault> {
 #[test]
 fn made_overlays(rt: HostRuntime) -> Result<(), Fail> {
     let mut numbers = Numbers::new(1);
-    let mut seen = (UNSEEN, UNSEEN);
+    let mut overlays = UNSEEN;
+    let mut limits = UNSEEN;
     for _ in 0..500 {
-        compare(&rt, rt.alloc(), &mut numbers, &mut seen)?;
+        compare(&rt, rt.alloc(), &mut numbers, &mut overlays, &mut limits)?;
     }
-    let (overlays, limits) = seen;
     assert!(rt; overlays.opened >= 50, "{overlays:?}");
     assert!(rt; overlays.closed >= 50, "{overlays:?}");
     assert!(rt; overlays.other >= 50, "{overlays:?}");
