@@ -1,9 +1,5 @@
 pub mod Refusal
-pub mod Places
-pub mod Update
-pub mod Announce
-pub mod Node
-pub mod CheckedKind
+pub mod Row
 pub mod Precheck
 pub mod Accepted
 pub mod inner

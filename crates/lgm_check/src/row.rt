@@ -1,9 +1,11 @@
 //! The rows that messages add to a map.
 
-ghost use Rattle.std.specs.Prelude.{◌≡◌, ◌%◌, ◌==◌, if◌then◌else◌};
+ghost use Rattle.std.specs.Prelude.{◌≡◌, ◌≤◌, ◌%◌, ◌==◌, length, if◌then◌else◌};
+ghost use Rattle.lgm_gossip.specs.reading.AnnounceReading.{announce_len};
+ghost use Rattle.lgm_gossip.specs.reading.NodeAnnounceReading.{node_len};
+ghost use Rattle.lgm_check.specs.Row.{channel_row, update_row, node_row};
 
 use lgm_gossip::{Announce, BorrowedBytes, ChannelUpdate, NodeAnnounce, Point, Scid};
-use std::marker::Model;
 
 /// A channel: its announcement, its capacity, and the bytes to forward.
 #[derive(Debug, Drop)]
@@ -17,6 +19,19 @@ pub struct ChannelRow<'a> {
 }
 
 impl<'a> ChannelRow<'a> {
+    /// The row of the announcement that these bytes encode, with a capacity in satoshi.
+    #[inline(always)]
+    pub(crate) fn in_bytes(raw: &'a [u8], sat: u64) -> ChannelRow<'a>
+        requires { announce_len raw.now ≤ length raw.now }
+        ensures { result ≡ channel_row sat raw.now }
+    {
+        ChannelRow {
+            message: Announce::in_bytes(raw),
+            sat,
+            raw: BorrowedBytes::new(raw),
+        }
+    }
+
     /// The channel id.
     pub fn scid(&self) -> Scid
         ensures { result ≡ self.now.message.short_channel_id }
@@ -46,6 +61,18 @@ pub struct UpdateRow<'a> {
 }
 
 impl<'a> UpdateRow<'a> {
+    /// The row of the update that these bytes encode.
+    #[inline(always)]
+    pub(crate) fn in_bytes(raw: &'a [u8]) -> UpdateRow<'a>
+        requires { 138 ≤ length raw.now }
+        ensures { result ≡ update_row raw.now }
+    {
+        UpdateRow {
+            message: ChannelUpdate::in_bytes(raw),
+            raw: BorrowedBytes::new(raw),
+        }
+    }
+
     /// The channel id.
     pub fn scid(&self) -> Scid
         ensures { result ≡ self.now.message.short_channel_id }
@@ -71,6 +98,18 @@ pub struct NodeRow<'a> {
 }
 
 impl<'a> NodeRow<'a> {
+    /// The row of the announcement that these bytes encode.
+    #[inline(always)]
+    pub(crate) fn in_bytes(raw: &'a [u8]) -> NodeRow<'a>
+        requires { node_len raw.now ≤ length raw.now }
+        ensures { result ≡ node_row raw.now }
+    {
+        NodeRow {
+            message: NodeAnnounce::in_bytes(raw),
+            raw: BorrowedBytes::new(raw),
+        }
+    }
+
     /// The node.
     pub fn node(&self) -> Point
         ensures { result ≡ self.now.message.node_id }
@@ -102,45 +141,4 @@ pub enum Checked<'a> {
     Update(UpdateRow<'a>, Point),
     /// Of a `node_announcement`.
     Node(NodeRow<'a>),
-}
-
-/// The point that signed a message, borrowed from the evidence. Contracts see the point.
-#[derive(Debug, Drop)]
-pub struct Signer<'a> {
-    point: &'a Point,
-}
-
-impl<'a> Model for Signer<'a> {
-    ghost use Rattle.lgm_wire.specs.declared.point.Point.{Point};
-
-    ghost Value = { Point };
-
-    ghost view = { λ signer. signer.point.now };
-}
-
-impl<'a> Signer<'a> {
-    /// Borrows this point.
-    pub(crate) fn new(point: &'a Point) -> Signer<'a>
-        ensures { result ≡ point.now }
-    {
-        Signer { point }
-    }
-
-    /// The point, with the lifetime of the evidence.
-    pub fn point(&self) -> &'a Point
-        ensures { result.now ≡ self.now }
-    {
-        self.point
-    }
-}
-
-/// The type of a message that passed validation, and what its row has in addition to the bytes.
-#[derive(Debug, Drop)]
-pub enum CheckedKind<'a> {
-    /// Of a `channel_announcement`, and the capacity in satoshi.
-    Channel(u64),
-    /// Of a `channel_update`, and the point that signed it.
-    Update(Signer<'a>),
-    /// Of a `node_announcement`.
-    Node,
 }

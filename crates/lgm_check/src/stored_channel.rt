@@ -3,13 +3,10 @@
 ghost use Rattle.std.specs.Prelude.{◌≡◌, IfOk, if◌then◌else◌};
 ghost use Rattle.lgm_gossip.specs.Message.{Wire};
 ghost use Rattle.lgm_gossip.specs.declared.message.Message.TheVariants as messages;
-ghost use Rattle.lgm_check.specs.Announce.{channel_row, IsAnnounce};
 
-use crate::announce_fields::{channel_row, features_len};
-use crate::places::{number64, point};
 use crate::raw::Raw;
 use crate::row::ChannelRow;
-use lgm_gossip::{Point, Scid};
+use lgm_gossip::{Announce, Point, Scid};
 use std::alloc::{AllocError, Global};
 use std::marker::Model;
 
@@ -25,7 +22,8 @@ impl Model for StoredChannel {
 
     ghost Value = { ChannelRow };
 
-    ghost use Rattle.lgm_check.specs.Announce.{channel_row, IsAnnounce};
+    ghost use Rattle.lgm_gossip.specs.Layout.{IsAnnounce};
+    ghost use Rattle.lgm_check.specs.Row.{channel_row};
 
     ghost view = { λ kept. channel_row kept.sat kept.raw };
 
@@ -34,6 +32,7 @@ impl Model for StoredChannel {
 
 impl StoredChannel {
     /// Stores a row whose bytes encode its message, by a copy of them.
+    #[inline(always)]
     pub fn of(alloc: Global, row: &ChannelRow) -> Result<StoredChannel, AllocError>
         requires { Wire (messages.Announce row.now.message) row.now.raw }
         ensures { IfOk result (λ kept. kept ≡ row.now) }
@@ -41,17 +40,6 @@ impl StoredChannel {
         Ok(StoredChannel {
             sat: row.sat,
             raw: Raw::copied(alloc, row.raw.as_slice())?,
-        })
-    }
-
-    /// Stores the row that these bytes encode, by a copy of them.
-    pub fn of_bytes(alloc: Global, raw: &[u8], sat: u64) -> Result<StoredChannel, AllocError>
-        requires { IsAnnounce raw.now }
-        ensures { IfOk result (λ kept. kept ≡ channel_row sat raw.now) }
-    {
-        Ok(StoredChannel {
-            sat,
-            raw: Raw::copied(alloc, raw)?,
         })
     }
 
@@ -67,7 +55,7 @@ impl StoredChannel {
     pub fn row(&self) -> ChannelRow<'_>
         ensures { result ≡ self.now }
     {
-        channel_row(self.raw.as_slice(), self.sat)
+        ChannelRow::in_bytes(self.raw.as_slice(), self.sat)
     }
 
     /// The whole message as received.
@@ -81,19 +69,18 @@ impl StoredChannel {
     pub fn scid(&self) -> Scid
         ensures { result ≡ self.now.message.short_channel_id }
     {
-        let raw = self.raw.as_slice();
-        Scid::from_u64(number64(raw, 292 + features_len(raw)))
+        Announce::in_bytes(self.raw.as_slice()).short_channel_id
     }
 
     /// Node 2 if `second`, else node 1.
     pub fn node(&self, second: bool) -> Point
         ensures { result ≡ (if second then self.now.message.node_id_2 else self.now.message.node_id_1) }
     {
-        let raw = self.raw.as_slice();
+        let message = Announce::in_bytes(self.raw.as_slice());
         if second {
-            point(raw, 333 + features_len(raw))
+            message.node_id_2
         } else {
-            point(raw, 300 + features_len(raw))
+            message.node_id_1
         }
     }
 }

@@ -3,12 +3,9 @@
 ghost use Rattle.std.specs.Prelude.{◌≡◌, IfOk};
 ghost use Rattle.lgm_gossip.specs.Message.{Wire};
 ghost use Rattle.lgm_gossip.specs.declared.message.Message.TheVariants as messages;
-ghost use Rattle.lgm_check.specs.Node.{node_row, IsNodeAnnounce};
 
-use crate::node_fields::{features_len, node_row};
-use crate::places::{number32, point};
 use crate::row::NodeRow;
-use lgm_gossip::{Bytes, Point};
+use lgm_gossip::{Bytes, NodeAnnounce, Point};
 use std::alloc::{AllocError, Global};
 use std::marker::Model;
 
@@ -23,7 +20,8 @@ impl Model for StoredNode {
 
     ghost Value = { NodeRow };
 
-    ghost use Rattle.lgm_check.specs.Node.{node_row, IsNodeAnnounce};
+    ghost use Rattle.lgm_gossip.specs.Layout.{IsNodeAnnounce};
+    ghost use Rattle.lgm_check.specs.Row.{node_row};
 
     ghost view = { λ kept. node_row kept.raw };
 
@@ -32,22 +30,13 @@ impl Model for StoredNode {
 
 impl StoredNode {
     /// Stores a row whose bytes encode its message, by a copy of them.
+    #[inline(always)]
     pub fn of(alloc: Global, row: &NodeRow) -> Result<StoredNode, AllocError>
         requires { Wire (messages.NodeAnnounce row.now.message) row.now.raw }
         ensures { IfOk result (λ kept. kept ≡ row.now) }
     {
         Ok(StoredNode {
             raw: Bytes::from_slice(alloc, row.raw.as_slice())?,
-        })
-    }
-
-    /// Stores the row that these bytes encode, by a copy of them.
-    pub fn of_bytes(alloc: Global, raw: &[u8]) -> Result<StoredNode, AllocError>
-        requires { IsNodeAnnounce raw.now }
-        ensures { IfOk result (λ kept. kept ≡ node_row raw.now) }
-    {
-        Ok(StoredNode {
-            raw: Bytes::from_slice(alloc, raw)?,
         })
     }
 
@@ -62,7 +51,7 @@ impl StoredNode {
     pub fn row(&self) -> NodeRow<'_>
         ensures { result ≡ self.now }
     {
-        node_row(self.raw.as_slice())
+        NodeRow::in_bytes(self.raw.as_slice())
     }
 
     /// The whole message as received.
@@ -76,15 +65,13 @@ impl StoredNode {
     pub fn timestamp(&self) -> u32
         ensures { result ≡ self.now.message.timestamp }
     {
-        let raw = self.raw.as_slice();
-        number32(raw, 68 + features_len(raw))
+        NodeAnnounce::in_bytes(self.raw.as_slice()).timestamp
     }
 
     /// The node.
     pub fn node(&self) -> Point
         ensures { result ≡ self.now.message.node_id }
     {
-        let raw = self.raw.as_slice();
-        point(raw, 72 + features_len(raw))
+        NodeAnnounce::in_bytes(self.raw.as_slice()).node_id
     }
 }

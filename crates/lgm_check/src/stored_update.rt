@@ -3,13 +3,10 @@
 ghost use Rattle.std.specs.Prelude.{◌≡◌, ◌%◌, ◌==◌, IfOk};
 ghost use Rattle.lgm_gossip.specs.Message.{Wire};
 ghost use Rattle.lgm_gossip.specs.declared.message.Message.TheVariants as messages;
-ghost use Rattle.lgm_check.specs.Update.{update_row, IsUpdate};
 
-use crate::places::{number8, number32, number64};
 use crate::raw::Raw;
 use crate::row::UpdateRow;
-use crate::update_fields::update_row;
-use lgm_gossip::Scid;
+use lgm_gossip::{ChannelUpdate, Scid};
 use std::alloc::{AllocError, Global};
 use std::marker::Model;
 
@@ -24,7 +21,8 @@ impl Model for StoredUpdate {
 
     ghost Value = { UpdateRow };
 
-    ghost use Rattle.lgm_check.specs.Update.{update_row, IsUpdate};
+    ghost use Rattle.lgm_gossip.specs.Layout.{IsUpdate};
+    ghost use Rattle.lgm_check.specs.Row.{update_row};
 
     ghost view = { λ kept. update_row kept.raw };
 
@@ -33,22 +31,13 @@ impl Model for StoredUpdate {
 
 impl StoredUpdate {
     /// Stores a row whose bytes encode its message, by a copy of them.
+    #[inline(always)]
     pub fn of(alloc: Global, row: &UpdateRow) -> Result<StoredUpdate, AllocError>
         requires { Wire (messages.ChannelUpdate row.now.message) row.now.raw }
         ensures { IfOk result (λ kept. kept ≡ row.now) }
     {
         Ok(StoredUpdate {
             raw: Raw::copied(alloc, row.raw.as_slice())?,
-        })
-    }
-
-    /// Stores the row that these bytes encode, by a copy of them.
-    pub fn of_bytes(alloc: Global, raw: &[u8]) -> Result<StoredUpdate, AllocError>
-        requires { IsUpdate raw.now }
-        ensures { IfOk result (λ kept. kept ≡ update_row raw.now) }
-    {
-        Ok(StoredUpdate {
-            raw: Raw::copied(alloc, raw)?,
         })
     }
 
@@ -64,7 +53,7 @@ impl StoredUpdate {
     pub fn row(&self) -> UpdateRow<'_>
         ensures { result ≡ self.now }
     {
-        update_row(self.raw.as_slice())
+        UpdateRow::in_bytes(self.raw.as_slice())
     }
 
     /// The whole message as received.
@@ -78,20 +67,20 @@ impl StoredUpdate {
     pub fn scid(&self) -> Scid
         ensures { result ≡ self.now.message.short_channel_id }
     {
-        Scid::from_u64(number64(self.raw.as_slice(), 98))
+        ChannelUpdate::in_bytes(self.raw.as_slice()).short_channel_id
     }
 
     /// The timestamp, in seconds since 1970.
     pub fn timestamp(&self) -> u32
         ensures { result ≡ self.now.message.timestamp }
     {
-        number32(self.raw.as_slice(), 106)
+        ChannelUpdate::in_bytes(self.raw.as_slice()).timestamp
     }
 
     /// Whether the direction is from node 2: bit 0 of `channel_flags`.
     pub fn is_second(&self) -> bool
         ensures { result ≡ (self.now.message.channel_flags % 2 == 1) }
     {
-        number8(self.raw.as_slice(), 111) % 2 == 1
+        ChannelUpdate::in_bytes(self.raw.as_slice()).channel_flags % 2 == 1
     }
 }

@@ -8,6 +8,7 @@ pub mod SegmentLaws
 pub mod EncodedIdsLaws
 pub mod QueryFlagsLaws
 pub mod TimestampListLaws
+pub mod PlaceLaws
 pub mod AnnounceLaws
 pub mod NodeAnnounceLaws
 pub mod ChannelUpdateLaws
@@ -17,5 +18,6 @@ pub mod RangeQueryLaws
 pub mod RangeReplyLaws
 pub mod FilterMsgLaws
 pub mod MessageLaws
+pub mod LayoutLaws
 pub mod EncodeLaws
 pub mod AddressLaws

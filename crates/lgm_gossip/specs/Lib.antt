@@ -1,5 +1,6 @@
 pub use Rattle.lgm_wire.specs.reading.Reading
 pub mod Streams
+pub mod Places
 pub mod Fields
 pub mod Optional
 pub mod EncodedIds
@@ -14,6 +15,7 @@ pub mod RangeQuery
 pub mod RangeReply
 pub mod FilterMsg
 pub mod Message
+pub mod Layout
 pub mod Memory
 pub mod Spelling
 pub mod Addresses

@@ -1,12 +1,12 @@
 //! `channel_announcement`.
 
-ghost use Rattle.std.specs.Prelude.{◌≡◌};
+ghost use Rattle.std.specs.Prelude.{◌≡◌, ◌≤◌, length, nat_le};
 ghost use Rattle.lgm_wire.specs.reading.Reading.{Sees};
 
 use crate::borrowed::{BorrowedBytes, Signature};
 use crate::encode_fault::EncodeFault;
 use crate::fault::DecodeFault;
-use crate::fields::{counted, fixed, number64, signature};
+use crate::places::{array, borrowed, number16, number64, point, rest, signature};
 use crate::segment::{Segment, encoded_len, join, whole};
 use crate::sequence::Bytes;
 use lgm_wire::{ChainHash, Point, Scid};
@@ -44,7 +44,7 @@ pub struct Announce<'a> {
 
 impl<'a> Announce<'a> {
     ghost use Rattle.lgm_gossip.specs.Announce.{fields};
-    ghost use Rattle.lgm_gossip.specs.reading.AnnounceReading.{announce_at};
+    ghost use Rattle.lgm_gossip.specs.reading.AnnounceReading.{features_len, announce_len, announce_in, announce_at};
     ghost use Rattle.lgm_gossip.specs.Spelling.{Encodes};
 
     /// The same message, borrowed again.
@@ -62,36 +62,57 @@ impl<'a> Announce<'a> {
         }
     }
 
-    /// Reads the fields, from left to right, from the bytes after the type.
-    #[tactic(auto, unfolding(crate::specs::reading::AnnounceReading::announce_at))]
-    pub(crate) fn read(bytes: &'a [u8]) -> Result<Announce<'a>, DecodeFault>
-        ensures { Sees (λ m. m) result (announce_at bytes.now) }
+    /// The length of the features, by which the fields behind them are shifted.
+    #[inline(always)]
+    fn features_len(raw: &[u8]) -> usize
+        requires { 260 ≤ length raw.now }
+        ensures { result ≡ features_len raw.now }
     {
-        let (node_signature_1, rest) = signature(bytes)?;
-        let (node_signature_2, rest) = signature(rest)?;
-        let (bitcoin_signature_1, rest) = signature(rest)?;
-        let (bitcoin_signature_2, rest) = signature(rest)?;
-        let (features, rest) = counted(rest)?;
-        let (chain_hash, rest) = fixed(rest)?;
-        let (short_channel_id, rest) = number64(rest)?;
-        let (node_id_1, rest) = fixed(rest)?;
-        let (node_id_2, rest) = fixed(rest)?;
-        let (bitcoin_key_1, rest) = fixed(rest)?;
-        let (bitcoin_key_2, rest) = fixed(rest)?;
-        Ok(Announce {
-            node_signature_1,
-            node_signature_2,
-            bitcoin_signature_1,
-            bitcoin_signature_2,
-            features: BorrowedBytes::new(features),
-            chain_hash: ChainHash(chain_hash),
-            short_channel_id: Scid::from_u64(short_channel_id),
-            node_id_1: Point(node_id_1),
-            node_id_2: Point(node_id_2),
-            bitcoin_key_1: Point(bitcoin_key_1),
-            bitcoin_key_2: Point(bitcoin_key_2),
-            rest: BorrowedBytes::new(rest),
-        })
+        usize::from(number16(raw, 258))
+    }
+
+    /// Whether bytes, beginning with the two of the type, are as long as all fields.
+    #[inline(always)]
+    pub fn is_long_enough(raw: &[u8]) -> bool
+        ensures { result ≡ nat_le (announce_len raw.now) (length raw.now) }
+    {
+        raw.len() >= 432 && raw.len() - 432 >= Announce::features_len(raw)
+    }
+
+    /// The announcement that these bytes encode, which begin with the two of the type: each field is read at its
+    /// offset. It is compiled into its caller, so a field that isn't used isn't read.
+    #[inline(always)]
+    pub fn in_bytes(raw: &'a [u8]) -> Announce<'a>
+        requires { announce_len raw.now ≤ length raw.now }
+        ensures { result ≡ announce_in raw.now }
+    {
+        let n = Announce::features_len(raw);
+        Announce {
+            node_signature_1: signature(raw, 2),
+            node_signature_2: signature(raw, 66),
+            bitcoin_signature_1: signature(raw, 130),
+            bitcoin_signature_2: signature(raw, 194),
+            features: borrowed(raw, 260, n),
+            chain_hash: ChainHash(array(raw, 260 + n)),
+            short_channel_id: Scid::from_u64(number64(raw, 292 + n)),
+            node_id_1: point(raw, 300 + n),
+            node_id_2: point(raw, 333 + n),
+            bitcoin_key_1: point(raw, 366 + n),
+            bitcoin_key_2: point(raw, 399 + n),
+            rest: rest(raw, 432 + n),
+        }
+    }
+
+    /// The announcement that these bytes encode, or `Cut` if they aren't long enough.
+    #[tactic(auto, unfolding(crate::specs::reading::AnnounceReading::announce_at))]
+    pub(crate) fn read(raw: &'a [u8]) -> Result<Announce<'a>, DecodeFault>
+        ensures { Sees (λ m. m) result (announce_at raw.now) }
+    {
+        if Announce::is_long_enough(raw) {
+            Ok(Announce::in_bytes(raw))
+        } else {
+            Err(DecodeFault::Cut)
+        }
     }
 
     /// The encoding, beginning with the two bytes of the type.

@@ -1,12 +1,12 @@
 //! `channel_update`.
 
-ghost use Rattle.std.specs.Prelude.{◌≡◌};
+ghost use Rattle.std.specs.Prelude.{◌≡◌, ◌≤◌, length, nat_le};
 ghost use Rattle.lgm_wire.specs.reading.Reading.{Sees};
 
 use crate::borrowed::{BorrowedBytes, Signature};
 use crate::encode_fault::EncodeFault;
 use crate::fault::DecodeFault;
-use crate::fields::{fixed, number8, number16, number32, number64, signature};
+use crate::places::{array, number8, number16, number32, number64, rest, signature};
 use crate::segment::{Segment, join, whole};
 use crate::sequence::Bytes;
 use lgm_wire::{ChainHash, Scid};
@@ -45,7 +45,7 @@ pub struct ChannelUpdate<'a> {
 
 impl<'a> ChannelUpdate<'a> {
     ghost use Rattle.lgm_gossip.specs.ChannelUpdate.{fields};
-    ghost use Rattle.lgm_gossip.specs.reading.ChannelUpdateReading.{channel_update_at};
+    ghost use Rattle.lgm_gossip.specs.reading.ChannelUpdateReading.{update_in, channel_update_at};
     ghost use Rattle.lgm_gossip.specs.Spelling.{Encodes};
 
     /// The same message, borrowed again.
@@ -59,36 +59,47 @@ impl<'a> ChannelUpdate<'a> {
         }
     }
 
-    /// Reads the fields, from left to right, from the bytes after the type.
-    #[tactic(auto, unfolding(crate::specs::reading::ChannelUpdateReading::channel_update_at))]
-    pub(crate) fn read(bytes: &'a [u8]) -> Result<ChannelUpdate<'a>, DecodeFault>
-        ensures { Sees (λ m. m) result (channel_update_at bytes.now) }
+    /// Whether bytes, beginning with the two of the type, are as long as all fields.
+    #[inline(always)]
+    pub fn is_long_enough(raw: &[u8]) -> bool
+        ensures { result ≡ nat_le 138 (length raw.now) }
     {
-        let (signature, rest) = signature(bytes)?;
-        let (chain_hash, rest) = fixed(rest)?;
-        let (short_channel_id, rest) = number64(rest)?;
-        let (timestamp, rest) = number32(rest)?;
-        let (message_flags, rest) = number8(rest)?;
-        let (channel_flags, rest) = number8(rest)?;
-        let (cltv_expiry_delta, rest) = number16(rest)?;
-        let (htlc_minimum_msat, rest) = number64(rest)?;
-        let (fee_base_msat, rest) = number32(rest)?;
-        let (fee_proportional_millionths, rest) = number32(rest)?;
-        let (htlc_maximum_msat, rest) = number64(rest)?;
-        Ok(ChannelUpdate {
-            signature,
-            chain_hash: ChainHash(chain_hash),
-            short_channel_id: Scid::from_u64(short_channel_id),
-            timestamp,
-            message_flags,
-            channel_flags,
-            cltv_expiry_delta,
-            htlc_minimum_msat,
-            fee_base_msat,
-            fee_proportional_millionths,
-            htlc_maximum_msat,
-            rest: BorrowedBytes::new(rest),
-        })
+        raw.len() >= 138
+    }
+
+    /// The update that these bytes encode, which begin with the two of the type: each field is read at its offset. It
+    /// is compiled into its caller, so a field that isn't used isn't read.
+    #[inline(always)]
+    pub fn in_bytes(raw: &'a [u8]) -> ChannelUpdate<'a>
+        requires { 138 ≤ length raw.now }
+        ensures { result ≡ update_in raw.now }
+    {
+        ChannelUpdate {
+            signature: signature(raw, 2),
+            chain_hash: ChainHash(array(raw, 66)),
+            short_channel_id: Scid::from_u64(number64(raw, 98)),
+            timestamp: number32(raw, 106),
+            message_flags: number8(raw, 110),
+            channel_flags: number8(raw, 111),
+            cltv_expiry_delta: number16(raw, 112),
+            htlc_minimum_msat: number64(raw, 114),
+            fee_base_msat: number32(raw, 122),
+            fee_proportional_millionths: number32(raw, 126),
+            htlc_maximum_msat: number64(raw, 130),
+            rest: rest(raw, 138),
+        }
+    }
+
+    /// The update that these bytes encode, or `Cut` if they aren't long enough.
+    #[tactic(auto, unfolding(crate::specs::reading::ChannelUpdateReading::channel_update_at))]
+    pub(crate) fn read(raw: &'a [u8]) -> Result<ChannelUpdate<'a>, DecodeFault>
+        ensures { Sees (λ m. m) result (channel_update_at raw.now) }
+    {
+        if ChannelUpdate::is_long_enough(raw) {
+            Ok(ChannelUpdate::in_bytes(raw))
+        } else {
+            Err(DecodeFault::Cut)
+        }
     }
 
     /// The encoding, beginning with the two bytes of the type.

@@ -1,10 +1,10 @@
 //! Decoding of messages.
 
-ghost use Rattle.std.specs.Prelude.{◌≡◌, Ok, IfOk, IfErr, MatchResult, ◌⊎◌, ◌<◌, ℕ, List, None, slice_index};
+ghost use Rattle.std.specs.Prelude.{◌≡◌, Ok, IfOk, IfErr, MatchResult, ◌⊎◌, ◌<◌, ◌≤◌, ℕ, List, None, length, drop, slice_index};
 ghost use Rattle.lgm_wire.specs.reading.Reading.{Sees, Gives};
 ghost use Rattle.lgm_gossip.specs.Message.{Wire};
 ghost use Rattle.lgm_gossip.specs.Memory.{GivesIf, BodyTakesMemory, TakesMemory};
-ghost use Rattle.lgm_gossip.specs.reading.MessageReading.{body_at, message_at, fault};
+ghost use Rattle.lgm_gossip.specs.reading.MessageReading.{body_at, kind_at, message_at, fault};
 ghost use Rattle.lgm_gossip.specs.declared.message.Message.{Message};
 
 use crate::announce::Announce;
@@ -19,15 +19,13 @@ use crate::range_query::RangeQuery;
 use crate::range_reply::RangeReply;
 use std::alloc::Global;
 
+/// A query or a reply from the bytes after the type.
 #[tactic(auto, unfolding(crate::specs::reading::MessageReading::body_at))]
 fn body(alloc: Global, kind: u16, bytes: &[u8]) -> Result<Message<'_>, DecodeFault>
     ensures { GivesIf (BodyTakesMemory kind bytes.now) DecodeFault.NoMemory (λ m. m) result
         (body_at kind bytes.now) }
 {
     match kind {
-        256 => Ok(Message::Announce(Announce::read(bytes)?)),
-        257 => Ok(Message::NodeAnnounce(NodeAnnounce::read(bytes)?)),
-        258 => Ok(Message::ChannelUpdate(ChannelUpdate::read(bytes)?)),
         261 => Ok(Message::IdsQuery(IdsQuery::read(alloc, bytes)?)),
         262 => Ok(Message::IdsEnd(IdsEnd::read(bytes)?)),
         263 => Ok(Message::RangeQuery(RangeQuery::read(alloc, bytes)?)),
@@ -38,6 +36,21 @@ fn body(alloc: Global, kind: u16, bytes: &[u8]) -> Result<Message<'_>, DecodeFau
     }
 }
 
+/// A message from all of its bytes.
+#[tactic(auto, unfolding(crate::specs::reading::MessageReading::kind_at))]
+fn of_kind(alloc: Global, kind: u16, raw: &[u8]) -> Result<Message<'_>, DecodeFault>
+    requires { 2 ≤ length raw.now }
+    ensures { GivesIf (BodyTakesMemory kind (drop 2 raw.now)) DecodeFault.NoMemory (λ m. m) result
+        (kind_at kind raw.now) }
+{
+    match kind {
+        256 => Ok(Message::Announce(Announce::read(raw)?)),
+        257 => Ok(Message::NodeAnnounce(NodeAnnounce::read(raw)?)),
+        258 => Ok(Message::ChannelUpdate(ChannelUpdate::read(raw)?)),
+        _ => body(alloc, kind, &raw[2..]),
+    }
+}
+
 #[tactic(auto, unfolding(crate::specs::reading::MessageReading::message_at))]
 fn message(alloc: Global, bytes: &[u8]) -> Result<Message<'_>, DecodeFault>
     ensures { GivesIf (TakesMemory bytes.now) DecodeFault.NoMemory (λ m. m) result (message_at bytes.now) }
@@ -45,10 +58,10 @@ fn message(alloc: Global, bytes: &[u8]) -> Result<Message<'_>, DecodeFault>
     if bytes.len() > MAX_LEN {
         return Err(DecodeFault::Long);
     }
-    let [high, low, rest @ ..] = bytes else {
+    let [high, low, ..] = bytes else {
         return Err(DecodeFault::Short);
     };
-    body(alloc, u16::from_be_bytes([*high, *low]), rest)
+    of_kind(alloc, u16::from_be_bytes([*high, *low]), bytes)
 }
 
 /// Decodes a message from its bytes, beginning with the two bytes of its type (BOLT 7).

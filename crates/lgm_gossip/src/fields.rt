@@ -1,11 +1,10 @@
 //! Parsers of fields: each returns the leading field, and the bytes after it.
 
 ghost use Rattle.std.specs.Prelude.{◌≡◌};
-ghost use Rattle.std.specs.Int.{w8, w16, w32, w64};
+ghost use Rattle.std.specs.Int.{w8, w16, w32};
 ghost use Rattle.lgm_wire.specs.reading.Reading.{Sees};
 ghost use Rattle.lgm_gossip.specs.reading.FieldReading.{fixed_at, number_at, counted_at};
 
-use crate::borrowed::Signature;
 use crate::fault::DecodeFault;
 
 /// A field of `N` bytes.
@@ -14,16 +13,6 @@ pub fn fixed<const N: usize>(bytes: &[u8]) -> Result<([u8; N], &[u8]), DecodeFau
 {
     match bytes.split_first_chunk::<N>() {
         Some((front, rest)) => Ok((*front, rest)),
-        None => Err(DecodeFault::Cut),
-    }
-}
-
-/// A signature, borrowed from the input.
-pub fn signature(bytes: &[u8]) -> Result<(Signature<'_>, &[u8]), DecodeFault>
-    ensures { Sees (λ x. (x.0, x.1.now)) result (fixed_at 64 bytes.now) }
-{
-    match bytes.split_first_chunk::<64>() {
-        Some((front, rest)) => Ok((Signature::new(front), rest)),
         None => Err(DecodeFault::Cut),
     }
 }
@@ -50,14 +39,6 @@ pub fn number32(bytes: &[u8]) -> Result<(u32, &[u8]), DecodeFault>
 {
     let (front, rest) = fixed::<4>(bytes)?;
     Ok((u32::from_be_bytes(front), rest))
-}
-
-/// A number of eight bytes.
-pub fn number64(bytes: &[u8]) -> Result<(u64, &[u8]), DecodeFault>
-    ensures { Sees (λ x. (x.0, x.1.now)) result (number_at w64 bytes.now) }
-{
-    let (front, rest) = fixed::<8>(bytes)?;
-    Ok((u64::from_be_bytes(front), rest))
 }
 
 /// A field of `len` bytes, borrowed from the input.

@@ -1,12 +1,12 @@
 //! `node_announcement`.
 
-ghost use Rattle.std.specs.Prelude.{◌≡◌};
+ghost use Rattle.std.specs.Prelude.{◌≡◌, ◌+◌, ◌≤◌, length, nat_le};
 ghost use Rattle.lgm_wire.specs.reading.Reading.{Sees};
 
 use crate::borrowed::{BorrowedBytes, Signature};
 use crate::encode_fault::EncodeFault;
 use crate::fault::DecodeFault;
-use crate::fields::{counted, fixed, number32, signature};
+use crate::places::{array, borrowed, number16, number32, point, rest, signature};
 use crate::segment::{Segment, encoded_len, join, whole};
 use crate::sequence::Bytes;
 use lgm_wire::Point;
@@ -35,7 +35,7 @@ pub struct NodeAnnounce<'a> {
 
 impl<'a> NodeAnnounce<'a> {
     ghost use Rattle.lgm_gossip.specs.NodeAnnounce.{fields};
-    ghost use Rattle.lgm_gossip.specs.reading.NodeAnnounceReading.{node_announce_at};
+    ghost use Rattle.lgm_gossip.specs.reading.NodeAnnounceReading.{features_len, addresses_len, node_len, node_in, node_announce_at};
     ghost use Rattle.lgm_gossip.specs.Spelling.{Encodes};
 
     /// The same message, borrowed again.
@@ -51,28 +51,67 @@ impl<'a> NodeAnnounce<'a> {
         }
     }
 
-    /// Reads the fields, from left to right, from the bytes after the type.
-    #[tactic(auto, unfolding(crate::specs::reading::NodeAnnounceReading::node_announce_at))]
-    pub(crate) fn read(bytes: &'a [u8]) -> Result<NodeAnnounce<'a>, DecodeFault>
-        ensures { Sees (λ m. m) result (node_announce_at bytes.now) }
+    /// The length of the features, by which the fields behind them are shifted.
+    #[inline(always)]
+    fn features_len(raw: &[u8]) -> usize
+        requires { 68 ≤ length raw.now }
+        ensures { result ≡ features_len raw.now }
     {
-        let (signature, rest) = signature(bytes)?;
-        let (features, rest) = counted(rest)?;
-        let (timestamp, rest) = number32(rest)?;
-        let (node_id, rest) = fixed(rest)?;
-        let (rgb_color, rest) = fixed(rest)?;
-        let (alias, rest) = fixed(rest)?;
-        let (addresses, rest) = counted(rest)?;
-        Ok(NodeAnnounce {
-            signature,
-            features: BorrowedBytes::new(features),
-            timestamp,
-            node_id: Point(node_id),
-            rgb_color,
-            alias,
-            addresses: BorrowedBytes::new(addresses),
-            rest: BorrowedBytes::new(rest),
-        })
+        usize::from(number16(raw, 66))
+    }
+
+    /// The length of the addresses after `n` bytes of features.
+    #[inline(always)]
+    fn addresses_len(raw: &[u8], n: usize) -> usize
+        requires { 142 + n ≤ length raw.now }
+        ensures { result ≡ addresses_len n raw.now }
+    {
+        usize::from(number16(raw, 140 + n))
+    }
+
+    /// Whether bytes, beginning with the two of the type, are as long as all fields.
+    #[inline(always)]
+    pub fn is_long_enough(raw: &[u8]) -> bool
+        ensures { result ≡ nat_le (node_len raw.now) (length raw.now) }
+    {
+        if raw.len() < 142 {
+            return false;
+        }
+        let n = NodeAnnounce::features_len(raw);
+        raw.len() - 142 >= n && raw.len() - 142 - n >= NodeAnnounce::addresses_len(raw, n)
+    }
+
+    /// The announcement that these bytes encode, which begin with the two of the type: each field is read at its
+    /// offset. It is compiled into its caller, so a field that isn't used isn't read.
+    #[inline(always)]
+    pub fn in_bytes(raw: &'a [u8]) -> NodeAnnounce<'a>
+        requires { node_len raw.now ≤ length raw.now }
+        ensures { result ≡ node_in raw.now }
+    {
+        let n = NodeAnnounce::features_len(raw);
+        let k = NodeAnnounce::addresses_len(raw, n);
+        NodeAnnounce {
+            signature: signature(raw, 2),
+            features: borrowed(raw, 68, n),
+            timestamp: number32(raw, 68 + n),
+            node_id: point(raw, 72 + n),
+            rgb_color: array(raw, 105 + n),
+            alias: array(raw, 108 + n),
+            addresses: borrowed(raw, 142 + n, k),
+            rest: rest(raw, 142 + n + k),
+        }
+    }
+
+    /// The announcement that these bytes encode, or `Cut` if they aren't long enough.
+    #[tactic(auto, unfolding(crate::specs::reading::NodeAnnounceReading::node_announce_at))]
+    pub(crate) fn read(raw: &'a [u8]) -> Result<NodeAnnounce<'a>, DecodeFault>
+        ensures { Sees (λ m. m) result (node_announce_at raw.now) }
+    {
+        if NodeAnnounce::is_long_enough(raw) {
+            Ok(NodeAnnounce::in_bytes(raw))
+        } else {
+            Err(DecodeFault::Cut)
+        }
     }
 
     /// The encoding, beginning with the two bytes of the type.

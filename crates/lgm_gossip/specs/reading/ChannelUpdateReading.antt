@@ -1,36 +1,26 @@
--- channel_update: reading its fields from left to right.
-use Rattle.std.specs.Prelude.{ℕ, List, Result}
+-- channel_update: its fields at their offsets, which are fixed.
+use Rattle.std.specs.Prelude.{ℕ, List, drop, Result}
 use Rattle.std.specs.Int.{w8, w16, w32, w64}
 use Rattle.lgm_gossip.specs.declared.fault.DecodeFault.{DecodeFault}
 use Rattle.lgm_gossip.specs.declared.channel_update.ChannelUpdate.{ChannelUpdate}
-use Rattle.lgm_gossip.specs.reading.FieldReading.{fixed_at, number_at, rest_at, made}
-use Rattle.lgm_gossip.specs.reading.InOrder.{◌>>=◌}
+use Rattle.lgm_gossip.specs.Places.{part, number_in}
+use Rattle.lgm_gossip.specs.reading.FieldReading.{laid_out}
+
+abbrev pub update_in : List ℕ → ChannelUpdate
+update_in raw = record {
+  signature = part 2 64 raw;
+  chain_hash = record { 0 = part 66 32 raw };
+  short_channel_id = number_in w64 98 raw;
+  timestamp = number_in w32 106 raw;
+  message_flags = number_in w8 110 raw;
+  channel_flags = number_in w8 111 raw;
+  cltv_expiry_delta = number_in w16 112 raw;
+  htlc_minimum_msat = number_in w64 114 raw;
+  fee_base_msat = number_in w32 122 raw;
+  fee_proportional_millionths = number_in w32 126 raw;
+  htlc_maximum_msat = number_in w64 130 raw;
+  rest = drop 138 raw;
+}
 
 unfoldable pub channel_update_at : List ℕ → Result ChannelUpdate DecodeFault
-channel_update_at = do
-  signature ← fixed_at 64
-  chain_hash ← fixed_at 32
-  short_channel_id ← number_at w64
-  timestamp ← number_at w32
-  message_flags ← number_at w8
-  channel_flags ← number_at w8
-  cltv_expiry_delta ← number_at w16
-  htlc_minimum_msat ← number_at w64
-  fee_base_msat ← number_at w32
-  fee_proportional_millionths ← number_at w32
-  htlc_maximum_msat ← number_at w64
-  rest ← rest_at
-  made (record {
-    signature = signature;
-    chain_hash = record { 0 = chain_hash };
-    short_channel_id = short_channel_id;
-    timestamp = timestamp;
-    message_flags = message_flags;
-    channel_flags = channel_flags;
-    cltv_expiry_delta = cltv_expiry_delta;
-    htlc_minimum_msat = htlc_minimum_msat;
-    fee_base_msat = fee_base_msat;
-    fee_proportional_millionths = fee_proportional_millionths;
-    htlc_maximum_msat = htlc_maximum_msat;
-    rest = rest;
-  })
+channel_update_at raw = laid_out 138 (update_in raw) raw

@@ -1,5 +1,5 @@
 -- Reading leading fields: a value and the bytes after it, or the first fault.
-use Rattle.std.specs.Prelude.{ℕ, List, [], length, take, drop, Result, Ok, Err, nat_lt, if◌then◌else◌}
+use Rattle.std.specs.Prelude.{ℕ, List, [], length, take, drop, Result, Ok, Err, nat_lt, nat_le, if◌then◌else◌}
 use Rattle.std.specs.Int.{Width, w16, byte_len, from_be_bytes}
 use Rattle.lgm_wire.specs.reading.Reading.{◌>>=◌}
 use Rattle.lgm_gossip.specs.declared.fault.DecodeFault.{DecodeFault}
@@ -38,3 +38,7 @@ read_on field others = λ bytes. field bytes >>= λ x. others x.0 x.1
 -- the message that the fields make; remaining bytes are dropped
 abbrev pub made : {M : Type 0} → M → List ℕ → Result M DecodeFault
 made m = λ bytes. Ok m
+
+-- the message whose fields are at their offsets, if the bytes are as long as all of them
+abbrev pub laid_out : {M : Type 0} → ℕ → M → List ℕ → Result M DecodeFault
+laid_out len m raw = if nat_le len (length raw) then Ok m else Err Cut

@@ -1,15 +1,16 @@
-//! Which message bytes encode, by their type and length.
+//! Which announcement or update bytes encode.
 
-ghost use Rattle.lgm_check.specs.inner.Layout.{IsLaidOut};
+ghost use Rattle.lgm_gossip.specs.Layout.{IsLaidOut};
 
-use crate::announce_fields::has_announce;
-use crate::node_fields::has_node;
+use crate::announce::Announce;
+use crate::channel_update::ChannelUpdate;
+use crate::message::MAX_LEN;
+use crate::node_announce::NodeAnnounce;
 use crate::places::number16;
-use lgm_gossip::MAX_LEN;
 
 /// A message whose fields are read at their offsets, or other bytes.
-#[derive(Clone, Copy)]
-pub(crate) enum Layout {
+#[derive(Clone, Copy, Debug, PartialEq, Eq)]
+pub enum Layout {
     /// A `channel_announcement` with all of its fields.
     Announce,
     /// A `channel_update` with all of its fields.
@@ -22,16 +23,16 @@ pub(crate) enum Layout {
 
 /// The layout of any bytes.
 #[inline(always)]
-pub(crate) fn layout_of(bytes: &[u8]) -> Layout
+pub fn layout_of(bytes: &[u8]) -> Layout
     ensures { IsLaidOut result bytes.now }
 {
     if bytes.len() < 2 || bytes.len() > MAX_LEN {
         return Layout::Other;
     }
     match number16(bytes, 0) {
-        256 if has_announce(bytes) => Layout::Announce,
-        257 if has_node(bytes) => Layout::Node,
-        258 if bytes.len() >= 138 => Layout::Update,
+        256 if Announce::is_long_enough(bytes) => Layout::Announce,
+        257 if NodeAnnounce::is_long_enough(bytes) => Layout::Node,
+        258 if ChannelUpdate::is_long_enough(bytes) => Layout::Update,
         _ => Layout::Other,
     }
 }

@@ -1,10 +1,11 @@
-//! Fields at given offsets.
+//! Fields at their offsets in a message.
 
 ghost use Rattle.std.specs.Prelude.{◌≡◌, ◌+◌, ◌≤◌, length, drop};
 ghost use Rattle.std.specs.Int.{w8, w16, w32, w64};
-ghost use Rattle.lgm_check.specs.Places.{part, number_in};
+ghost use Rattle.lgm_gossip.specs.Places.{part, number_in};
 
-use lgm_gossip::{BorrowedBytes, Point, Signature};
+use crate::borrowed::{BorrowedBytes, Signature};
+use lgm_wire::Point;
 
 /// The one-byte number at an offset.
 #[inline(always)]
