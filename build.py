@@ -275,8 +275,8 @@ def stamp_of(crate, builder):
 
 
 def is_fresh(used, crate, builder):
-    """Whether a library was built behind the last change of its files, and of those below it. Where that is wrong, the
-    build of what uses it fails, or builds it anew."""
+    """Whether a library was built after the last change of its files and of the libraries below it. Where this is wrong,
+    the build of a library above it fails, or builds it again."""
     stamps = [stamp_of(it, builder) for it in (crate, *own(used, crate))]
     if not all(stamps):
         return False

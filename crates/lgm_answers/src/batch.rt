@@ -11,16 +11,17 @@ use std::alloc::{AllocError, Global};
 use std::marker::Model;
 
 /// The number of messages that are written together.
-const TOGETHER: usize = 32;
+const MESSAGES_TOGETHER: usize = 32;
 
 /// Messages of a map that wait to be written. Contracts see the list of them.
 ///
-/// They are anywhere in memory. Looks at it that don't depend on each other wait for it together. So some messages are
-/// collected, a byte of each of their blocks is read, one after the other, and then they are written.
+/// They are anywhere in memory, and reads that don't depend on each other wait for it at the same time. So some messages
+/// are collected, a byte of each of their blocks is read, and then they are written.
 #[derive(Drop)]
 pub(crate) struct Batch<'a> {
     messages: Vec<&'a [u8]>,
-    /// What was read of each message. It is kept, since what nobody keeps isn't read. No contract depends on it.
+    /// The byte that was read of each message. It is stored, since the compiler drops a read whose result isn't used. No
+    /// contract depends on it.
     seen: Vec<u8>,
 }
 
@@ -38,8 +39,8 @@ impl<'a> Batch<'a> {
         ensures { IfOk result (λ batch. batch ≡ []) }
     {
         Ok(Batch {
-            messages: Vec::with_capacity(alloc, TOGETHER)?,
-            seen: Vec::with_capacity(alloc, TOGETHER)?,
+            messages: Vec::with_capacity(alloc, MESSAGES_TOGETHER)?,
+            seen: Vec::with_capacity(alloc, MESSAGES_TOGETHER)?,
         })
     }
 
@@ -54,10 +55,10 @@ impl<'a> Batch<'a> {
         ensures adds { Adds (told_by W.seen output.old) (told_by W.seen output.new)
             (flat_map (message_behind lead.now) self.old) (message_behind lead.now message.now)
             (flat_map (message_behind lead.now) self.new) result }
-        ensures few { OnOk result (length self.new < TOGETHER) }
+        ensures few { OnOk result (length self.new < MESSAGES_TOGETHER) }
     {
         self.push(message)?;
-        if self.messages.len() < TOGETHER {
+        if self.messages.len() < MESSAGES_TOGETHER {
             return Ok(());
         }
         self.send(lead, output)
@@ -93,7 +94,7 @@ impl<'a> Batch<'a> {
     {
         self.seen.clear();
         for message in self.messages.as_slice() {
-            let _ = self.seen.push(look(message));
+            let _ = self.seen.push(byte_of_each_block(message));
         }
     }
 }
@@ -102,7 +103,7 @@ impl<'a> Batch<'a> {
 const BLOCK: usize = 64;
 
 /// A byte of each block of a message, put together.
-fn look(message: &[u8]) -> u8 {
+fn byte_of_each_block(message: &[u8]) -> u8 {
     let mut seen = message.last().copied().unwrap_or(0);
     for place in 0..message.len() / BLOCK {
         seen ^= message[place * BLOCK];

@@ -47,7 +47,8 @@ impl StoredNode {
         let _ = &self.raw;
     }
 
-    /// The row, read from the bytes.
+    /// The row, read from the bytes. It is compiled into its caller, so a field that isn't used isn't read.
+    #[inline(always)]
     pub fn row(&self) -> NodeRow<'_>
         ensures { result ≡ self.now }
     {

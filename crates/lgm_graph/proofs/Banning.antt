@@ -17,7 +17,7 @@ use Rattle.lgm_graph.specs.inner.Sound.{graph_in, edges_in, AreLookedAt, banned_
 use Rattle.lgm_graph.proofs.Numbers.{get_number}
 use Rattle.lgm_graph.proofs.Carrying.{filter_map-filter, edge_in-some}
 use Rattle.lgm_graph.proofs.Keeping.{filter_map-agree, found_filter, none_filter, edges_keep}
-use Rattle.lgm_graph.proofs.Showing.{edges_at}
+use Rattle.lgm_graph.proofs.ListedEdgeLaws.{edges_at}
 use Rattle.lgm_store.proofs.ListLaws.{All-filter, All-to, filter-passes}
 
 get_at : {X : Type 0} (xs : List X) (n : ℕ) (d : X) → n < length xs → slice_get xs n ≡ Some (get_or xs n d)

@@ -20,7 +20,7 @@ use Rattle.lgm_graph.specs.Edges.{PointEdge, edge_of, edge_on, edge_in, end_of, 
 use Rattle.lgm_graph.specs.Graph.{IsGraphOf, IsJoined, numbered_in}
 use Rattle.lgm_graph.specs.inner.Sound.{graph_in, AreInto, AreOut, AreFlags, is_not_of, closed_at}
 use Rattle.lgm_graph.proofs.Carrying.{filter_map-filter, IsOfChannel, carrying_of, edge_in-some}
-use Rattle.lgm_graph.proofs.Showing.{passing, edges_at}
+use Rattle.lgm_graph.proofs.ListedEdgeLaws.{passing, edges_at}
 use Rattle.lgm_graph.proofs.Keeping.{filter_map-agree, one_channel, edges_keep}
 
 -- ---- edges

@@ -8,7 +8,7 @@ use Rattle.lgm_store.proofs.Points.{is_point-self}
 use Rattle.lgm_graph.specs.Graph.{number_of, IsNumbered}
 use Rattle.lgm_graph.proofs.Numbers.{get_number}
 use Rattle.lgm_graph.proofs.Places.{get_map}
-use Rattle.lgm_graph.proofs.Showing.{map_at}
+use Rattle.lgm_graph.proofs.ListedEdgeLaws.{map_at}
 
 -- what is stored by number changes at one point
 pub map_change : {Y : Type 0} (F : Point → Y) (h : Point → Y → Y) (points : List Point) (p : Point) (d : Y)

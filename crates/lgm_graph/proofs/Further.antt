@@ -17,7 +17,7 @@ use Rattle.lgm_graph.specs.inner.Walk.{KeepsNumbers}
 use Rattle.lgm_graph.proofs.Counted.{get_right}
 use Rattle.lgm_graph.proofs.Numbering.{any_not, position_none}
 use Rattle.lgm_graph.proofs.Numbers.{number_some}
-use Rattle.lgm_graph.proofs.Showing.{numbered_append, numbered_last, turned}
+use Rattle.lgm_graph.proofs.ListedEdgeLaws.{numbered_append, numbered_last, turned}
 
 module _ {X : Type 0} where
   pub slice_left : (xs ys : List X) (n : ℕ) → n < length xs → slice_get (xs ++ ys) n ≡ slice_get xs n

@@ -13,7 +13,7 @@ use Rattle.lgm_store.specs.Rows.{is_point, by_id, channel_of}
 use Rattle.lgm_graph.specs.Edges.{PointEdge}
 use Rattle.lgm_graph.specs.declared.edge.Edge.{Edge}
 use Rattle.lgm_graph.specs.Graph.{numbered_in}
-use Rattle.lgm_graph.proofs.Showing.{passing, filter-map, edges_at}
+use Rattle.lgm_graph.proofs.ListedEdgeLaws.{passing, filter-map, edges_at}
 use Rattle.lgm_store.proofs.ListLaws.{All-to, filter-alike, filter-swap}
 
 module _ {X Y : Type 0} where

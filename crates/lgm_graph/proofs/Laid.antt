@@ -19,7 +19,7 @@ use Rattle.lgm_graph.proofs.Further.{number_left, slice_left}
 use Rattle.lgm_graph.proofs.Numbering.{number_at}
 use Rattle.lgm_graph.proofs.Places.{get_map}
 use Rattle.lgm_graph.proofs.Saying.{slice_number, named_said}
-use Rattle.lgm_graph.proofs.Showing.{map_alike, none_at}
+use Rattle.lgm_graph.proofs.ListedEdgeLaws.{map_alike, none_at}
 
 -- ---- what is said of the node that an edge leaves
 

@@ -4,7 +4,7 @@ mod Carrying
 pub mod Numbers
 mod ByChannel
 mod Places
-mod Showing
+mod ListedEdgeLaws
 mod Making
 mod Numbering
 mod Walked
@@ -13,14 +13,14 @@ mod Limiting
 mod Listing
 mod Flags
 mod Updating
-mod Noding
+mod AnnouncedNodeLaws
 mod Keeping
 mod Closing
 mod Adding
 mod Banning
 mod Parting
 mod Once
-pub mod Holding
+pub mod ViewEdgeLaws
 mod Counted
 mod Keys
 pub mod OverlayLaws

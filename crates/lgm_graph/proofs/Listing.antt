@@ -16,7 +16,7 @@ use Rattle.lgm_graph.specs.inner.Sound.{IsSound}
 use Rattle.lgm_graph.proofs.Members.{Among, Contains-Among, Among-Contains, Among-left, Among-right, Among-either}
 use Rattle.lgm_graph.proofs.Members.{Among-passes, Among-passed, All_among, Among-mapped, Among-map}
 use Rattle.lgm_graph.proofs.Numbers.{get_number}
-use Rattle.lgm_graph.proofs.Showing.{edges_at, get_edges, turned}
+use Rattle.lgm_graph.proofs.ListedEdgeLaws.{edges_at, get_edges, turned}
 
 -- ---- lists by number
 

@@ -15,7 +15,7 @@ use Rattle.lgm_graph.specs.Edges.{PointEdge, edge_of, edge_on, end_of}
 use Rattle.lgm_graph.specs.Graph.{Graph, number_of, IsNumbered, IsJoined, numbered_as, Shows}
 use Rattle.lgm_graph.specs.inner.Sound.{graph_in, edges_in, ShowsIn}
 use Rattle.lgm_graph.proofs.Carrying.{edge_on-is}
-use Rattle.lgm_graph.proofs.Showing.{edges_at, shows_push}
+use Rattle.lgm_graph.proofs.ListedEdgeLaws.{edges_at, shows_push}
 
 -- ---- nodes with the same graph
 

@@ -14,7 +14,7 @@ use Rattle.lgm_graph.specs.Edges.{PointEdge, takes_payments}
 use Rattle.lgm_graph.specs.Graph.{number_of, IsNumbered}
 use Rattle.lgm_graph.specs.inner.Sound.{graph_in, edges_in, ShowsIn, AreLookedAt}
 use Rattle.lgm_graph.specs.inner.Walk.{KeepsNumbers, HasNumbered}
-use Rattle.lgm_graph.proofs.Showing.{shows_more, numbered_append, numbered_last, turned}
+use Rattle.lgm_graph.proofs.ListedEdgeLaws.{shows_more, numbered_append, numbered_last, turned}
 use Rattle.lgm_graph.proofs.Making.{same_points, same_takes, same_into, same_out}
 
 pub any_numbered : (points : List Point) (p : Point) → list_any (is_point p) points ≡ true → IsNumbered points p

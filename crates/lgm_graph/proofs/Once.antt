@@ -14,7 +14,7 @@ use Rattle.lgm_store.proofs.Points.{same_point, is_point-self}
 use Rattle.lgm_graph.specs.declared.edge.Edge.{Edge}
 use Rattle.lgm_graph.specs.Edges.{PointEdge, carrying, edges_of, takes_payments}
 use Rattle.lgm_graph.specs.Graph.{Graph, Shows, IsGraphOf, IsJoined, IsNumbered, number_of, numbered_in, edge_between, point_edges}
-use Rattle.lgm_graph.proofs.Showing.{edges_at}
+use Rattle.lgm_graph.proofs.ListedEdgeLaws.{edges_at}
 use Rattle.lgm_graph.proofs.Listing.{back_again}
 
 -- those that lead to each of the points, one point after the other

@@ -15,7 +15,7 @@ use Rattle.lgm_graph.specs.declared.overlay.Limit.{Limit}
 use Rattle.lgm_graph.specs.Edges.{PointEdge, carrying, takes_payments}
 use Rattle.lgm_graph.specs.Overlay.{OverlayParts, has_key, is_named, with_first, firsts, is_used, at_most, limited, overlaid_edges}
 use Rattle.lgm_graph.specs.Overlay.{IsNeutral, KeepsKeys, OnlyNarrows, IsNarrowed, OnlyAdds}
-use Rattle.lgm_graph.proofs.Holding.{carrying_directions}
+use Rattle.lgm_graph.proofs.ViewEdgeLaws.{carrying_directions}
 use Rattle.lgm_graph.proofs.Keys.{names, firsts_name, firsts_keep, firsts_apart}
 use Rattle.lgm_graph.proofs.Members.{Among, Contains-Among, Among-Contains, Among-map, Among-mapped, Among-passes, Among-passed}
 use Rattle.lgm_graph.proofs.Members.{Among-left, Among-right, Among-either}

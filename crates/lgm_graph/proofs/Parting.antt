@@ -33,10 +33,10 @@ use Rattle.lgm_graph.specs.Graph.{IsGraphOf, IsJoined, numbered_in}
 use Rattle.lgm_graph.specs.inner.Sound.{graph_in, AreInto, AreOut, AreFlags, is_allowed, is_among, HasEnds}
 use Rattle.lgm_graph.proofs.Numbers.{found_holds}
 use Rattle.lgm_graph.proofs.Carrying.{IsOfChannel, carrying_of}
-use Rattle.lgm_graph.proofs.Showing.{passing, edges_at}
+use Rattle.lgm_graph.proofs.ListedEdgeLaws.{passing, edges_at}
 use Rattle.lgm_graph.proofs.Keeping.{edges_keep}
 use Rattle.lgm_graph.proofs.Closing.{lists_alike}
-use Rattle.lgm_graph.proofs.Noding.{flags_alike}
+use Rattle.lgm_graph.proofs.AnnouncedNodeLaws.{flags_alike}
 use Rattle.lgm_graph.proofs.Banning.{node_banned, banned_tests}
 
 -- ---- points among others

@@ -23,7 +23,7 @@ use Rattle.lgm_graph.specs.inner.Sound.{graph_in, edges_in}
 use Rattle.lgm_graph.proofs.Numbers.{ends_numbered}
 use Rattle.lgm_graph.proofs.Making.{same_points, same_takes, same_into, same_out}
 use Rattle.lgm_graph.proofs.Carrying.{IsOfChannel, carrying_of, carrying_cut, carrying_put, edge_in-some}
-use Rattle.lgm_graph.proofs.Showing.{get_edges, edges_cut, edges_put}
+use Rattle.lgm_graph.proofs.ListedEdgeLaws.{get_edges, edges_cut, edges_put}
 
 at_key : (id : ℕ) (second : Bool) (edge : PointEdge) → to_key id second edge ≡ Equal → (edge.scid ≡ id) × (edge.second ≡ second)
 at_key id second edge e = by (nat_cmp edge.scid id) refl e

@@ -18,7 +18,7 @@ use Rattle.lgm_graph.specs.inner.Sound.{graph_in, edges_in, ShowsIn}
 use Rattle.lgm_graph.specs.inner.Walk.{AreEdgesOf, KeepsNumbers, edge_of_direction, edges_of_channel}
 use Rattle.lgm_graph.proofs.Making.{edge_from, edge_to, end_numbered, into_long, out_long, pushed, update_second}
 use Rattle.lgm_graph.proofs.Places.{get_map}
-use Rattle.lgm_graph.proofs.Showing.{edges_kept, map_alike}
+use Rattle.lgm_graph.proofs.ListedEdgeLaws.{edges_kept, map_alike}
 use Rattle.lgm_graph.proofs.Walked.{stored_update}
 use Rattle.lgm_store.proofs.ListLaws.{All-append, All-to}
 

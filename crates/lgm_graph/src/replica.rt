@@ -7,7 +7,7 @@ ghost use Rattle.lgm_graph.specs.Network.{GoesOnOver, KeepsView, TakesView};
 use crate::network::Network;
 use crate::view::MAX_CHANNELS;
 use lgm_gossip::Scid;
-use lgm_store::{Map, Op, TOGETHER};
+use lgm_store::{Map, Op, ROWS_TOGETHER};
 use std::alloc::{AllocError, Global};
 use std::collections::VecDeque;
 
@@ -30,8 +30,8 @@ fn forget_first(due: &mut VecDeque<Op>)
 /// Removes all operations. The rows of some are read together, since each loses an owner.
 pub(crate) fn forget_all(due: &mut VecDeque<Op>) {
     for place in 0..due.len() {
-        if place % TOGETHER == 0 {
-            for op in due.iter().take(TOGETHER) {
+        if place % ROWS_TOGETHER == 0 {
+            for op in due.iter().take(ROWS_TOGETHER) {
                 op.prefetch();
             }
         }
@@ -39,13 +39,13 @@ pub(crate) fn forget_all(due: &mut VecDeque<Op>) {
     }
 }
 
-/// Reads the rows of the channels that the next operations update, once for each [`TOGETHER`] of them. No answer depends
+/// Reads the rows of the channels that the next operations update, once for each [`ROWS_TOGETHER`] of them. No answer depends
 /// on it.
 fn read_ahead(map: &Map, due: &VecDeque<Op>) {
-    if due.len() % TOGETHER != 0 {
+    if due.len() % ROWS_TOGETHER != 0 {
         return;
     }
-    let mut scids = [Scid::from_u64(0); TOGETHER];
+    let mut scids = [Scid::from_u64(0); ROWS_TOGETHER];
     for (scid, op) in scids.iter_mut().zip(due) {
         if let Op::Update(row) = op {
             *scid = row.get().scid();

@@ -12,6 +12,6 @@ pub mod Subjects
 pub mod KeyNewsLaws
 pub mod KeyNews
 pub mod Untouched
-pub mod Lying
+pub mod NewsKeyLaws
 pub mod Touching
 mod Idle

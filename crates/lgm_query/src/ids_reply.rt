@@ -7,7 +7,7 @@ use crate::range_reply::encoded;
 use crate::reply::{Replies, ReplyMessage};
 use crate::reply_builder::ReplyBuilder;
 use lgm_gossip::{Bytes, ChainHash, IdsEnd, IdsQuery, Message};
-use lgm_store::{Map, TOGETHER};
+use lgm_store::{Map, ROWS_TOGETHER};
 use std::alloc::{AllocError, Global};
 
 /// The flags that select all messages of a channel.
@@ -53,7 +53,7 @@ fn stored_messages<'a>(
     let channels = query.ids.as_slice().len();
     let mut sending = ReplyBuilder::with_room(alloc, channels, map.seed())?;
     for (place, scid) in query.ids.as_slice().iter().enumerate() {
-        if place % TOGETHER == 0 {
+        if place % ROWS_TOGETHER == 0 {
             read_ahead(map, query, place);
         }
         sending.send_chosen(map, *scid, flags_at(query, place))?;

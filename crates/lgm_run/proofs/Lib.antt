@@ -2,12 +2,12 @@ pub mod Keeping
 pub mod Tables
 pub mod Turning
 mod Zips
-mod Kindred
+mod AlikeRequestLaws
 pub mod Stepping
 pub mod Progress
 mod Reached
 mod Stopping
 pub mod Ending
 mod MapLaws
-mod Fewness
+mod ChannelCountLaws
 mod Routed

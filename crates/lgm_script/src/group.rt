@@ -24,7 +24,7 @@ pub enum Kind {
 
 /// The maximum number of items, or of questions, that are answered together. What is prepared for them is kept until
 /// their turn.
-const TOGETHER: usize = 1_024;
+const LINES_TOGETHER: usize = 1_024;
 
 /// The maximum number of lines of a kind that are answered together.
 fn most_of(kind: Kind) -> usize
@@ -32,7 +32,7 @@ fn most_of(kind: Kind) -> usize
     ensures alone { kind ≡ Kind.Other → result ≡ 1 }
 {
     match kind {
-        Kind::Item | Kind::Question => TOGETHER,
+        Kind::Item | Kind::Question => LINES_TOGETHER,
         Kind::Other => 1,
     }
 }

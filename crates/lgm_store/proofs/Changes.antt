@@ -15,7 +15,7 @@ use Rattle.lgm_store.specs.inner.ChannelEntries.{channel_entries}
 use Rattle.lgm_store.specs.Rows.{Rows, put, by_id, by_direction, by_node, channel_of, ends_channel, is_banned, ends_banned}
 use Rattle.lgm_store.specs.History.{with_channel, with_update, with_node, without_channel, channels_without, updates_without, ended_nodes}
 use Rattle.lgm_store.proofs.Lists.{lookup-channel}
-use Rattle.lgm_store.proofs.Holding.{lookup-channels}
+use Rattle.lgm_store.proofs.ChannelMapLaws.{lookup-channels}
 
 -- whether a channel is there, by its ordered map
 pub is_stored : (entries : List (ℕ × ChannelInfo)) (rows : List ChannelRow) (id : ℕ)

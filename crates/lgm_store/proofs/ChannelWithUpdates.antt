@@ -21,7 +21,7 @@ use Rattle.lgm_store.specs.Reading.{is_between, ids_between_of, channels_between
 use Rattle.lgm_store.specs.Rows.{Rows, channel_of, update_of}
 use Rattle.lgm_store.proofs.ListLaws.{filter-filter, filter-same}
 use Rattle.lgm_store.proofs.Lists.{lookup-channel, lookup-update}
-use Rattle.lgm_store.proofs.Holding.{lookup-channels, lookup-updates}
+use Rattle.lgm_store.proofs.ChannelMapLaws.{lookup-channels, lookup-updates}
 use Rattle.lgm_store.proofs.Bans.{id_again}
 use Rattle.lgm_store.proofs.Listing.{is_at-id}
 

@@ -6,7 +6,7 @@ pub mod Points
 pub mod Finding
 pub mod Listing
 pub mod Lists
-pub mod Holding
+pub mod ChannelMapLaws
 pub mod Soundness
 pub mod Removals
 pub mod Changes
@@ -26,4 +26,4 @@ pub mod Collecting
 pub mod Deciding
 pub mod Verdicts
 pub mod Spelling
-pub mod Fewness
+pub mod ChannelCountLaws

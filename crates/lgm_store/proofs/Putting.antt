@@ -19,7 +19,7 @@ use Rattle.lgm_store.specs.Rows.{Rows, put, by_direction, by_node, channel_of, e
 use Rattle.lgm_store.specs.History.{with_update, with_node}
 use Rattle.lgm_store.specs.inner.Sound.{IsKept}
 use Rattle.lgm_store.proofs.Lists.{values-update, values-node}
-use Rattle.lgm_store.proofs.Holding.{ascend-stored, channel-with, set-channels, set-updates}
+use Rattle.lgm_store.proofs.ChannelMapLaws.{ascend-stored, channel-with, set-channels, set-updates}
 use Rattle.lgm_store.proofs.ChannelWithUpdates.{channel_at}
 use Rattle.lgm_store.proofs.Soundness.{IsSound-put, IsSound-node}
 use Rattle.lgm_store.proofs.Changes.{with_update-new, with_update-none, with_node-new}

@@ -22,8 +22,8 @@ use Rattle.lgm_store.specs.inner.Sound.{IsSound, AreEnded}
 use Rattle.lgm_store.proofs.ListLaws.{filter-alike, filter-filter}
 use Rattle.lgm_store.proofs.Points.{same_point}
 use Rattle.lgm_store.proofs.Lists.{values-no_channel}
-use Rattle.lgm_store.proofs.Holding.{keys-channels, lookup-channels, remove-channels}
-use Rattle.lgm_store.proofs.Holding.{ascend-updates, values-without, keyed-without}
+use Rattle.lgm_store.proofs.ChannelMapLaws.{keys-channels, lookup-channels, remove-channels}
+use Rattle.lgm_store.proofs.ChannelMapLaws.{ascend-updates, values-without, keyed-without}
 use Rattle.lgm_store.proofs.Ordered.{IsKeyed-remove}
 use Rattle.lgm_store.proofs.Booleans.{and_true, or_false}
 use Rattle.lgm_store.proofs.Soundness.{ends-listed, is_some-kept}

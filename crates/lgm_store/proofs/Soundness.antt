@@ -24,8 +24,8 @@ use Rattle.lgm_store.specs.inner.Sound.{IsSound, AreEnded}
 use Rattle.lgm_store.proofs.ListLaws.{All-append, All-filter}
 use Rattle.lgm_store.proofs.Listing.{kept-with}
 use Rattle.lgm_store.proofs.Lists.{IsKeyed-channel, IsKeyed-update, IsKeyed-node, values-node}
-use Rattle.lgm_store.proofs.Holding.{keys-channels, lookup-channels, insert-channels, set-channels, channel-with}
-use Rattle.lgm_store.proofs.Holding.{ascend-updates, set-updates, insert-updates}
+use Rattle.lgm_store.proofs.ChannelMapLaws.{keys-channels, lookup-channels, insert-channels, set-channels, channel-with}
+use Rattle.lgm_store.proofs.ChannelMapLaws.{ascend-updates, set-updates, insert-updates}
 
 -- ---- the index has a node if and only if it has a channel
 

@@ -144,15 +144,15 @@ impl ChannelInfo {
     }
 
     /// What an iteration reads first here, put together.
-    pub(crate) fn look(&self) -> u32 {
+    pub(crate) fn inline_word(&self) -> u32 {
         self.first_time ^ self.second_time
     }
 
     /// Reads the beginning of each row, so that the processor's cache has it.
-    pub(crate) fn touch(&self) {
-        self.row.touch();
-        touch(&self.first);
-        touch(&self.second);
+    pub(crate) fn prefetch(&self) {
+        self.row.prefetch();
+        prefetch(&self.first);
+        prefetch(&self.second);
     }
 
     #[inline(always)]
@@ -181,23 +181,12 @@ impl ChannelInfo {
     }
 
     /// Whether an update with this signer is admitted, or else why not: 10 `signature`, 15 `not-newer`.
+    #[inline(always)]
     pub(crate) fn admit_update(&self, row: &UpdateRow, signer: &Point) -> Result<(), Refusal>
         ensures { update_op row.now result ≡ update_admission (Some self.now.channel)
             (update_in (is_second row.now) self.now) row.now signer.now }
     {
         self.check_update(row.is_second(), row.message.timestamp, signer)
-    }
-
-    /// The same for an update whose row is stored already.
-    pub(crate) fn admit_stored_update(
-        &self,
-        row: &StoredUpdate,
-        signer: &Point,
-    ) -> Result<(), Refusal>
-        ensures { update_op row.now result ≡ update_admission (Some self.now.channel)
-            (update_in (is_second row.now) self.now) row.now signer.now }
-    {
-        self.check_update(row.is_second(), row.timestamp(), signer)
     }
 
     fn check_update(&self, second: bool, time: u32, signer: &Point) -> Result<(), Refusal>
@@ -225,7 +214,7 @@ impl ChannelInfo {
         ensures refused { OnErr result (self.new ≡ self.old) }
         ensures channel { self.new.channel ≡ self.old.channel }
     {
-        self.admit_stored_update(row.get(), signer)?;
+        self.admit_update(&row.get().row(), signer)?;
         self.put_update(row.get().is_second(), row.share()?);
         Ok(())
     }
@@ -250,7 +239,7 @@ impl Clone for ChannelInfo {
 
     fn clone(&self) -> Result<ChannelInfo, AllocError> {
         // Each row gets one owner more, one after the other, so they are read together first.
-        self.touch();
+        self.prefetch();
         Ok(ChannelInfo {
             scid: self.scid,
             first_time: self.first_time,
@@ -275,8 +264,8 @@ fn copied(row: &Option<Shared<StoredUpdate>>) -> Result<Option<Shared<StoredUpda
 }
 
 /// Reads the beginning of an update's row, if there is one.
-fn touch(row: &Option<Shared<StoredUpdate>>) {
+fn prefetch(row: &Option<Shared<StoredUpdate>>) {
     if let Some(row) = row {
-        row.touch();
+        row.prefetch();
     }
 }

@@ -17,8 +17,8 @@ ghost use Rattle.lgm_store.specs.inner.ChannelTable.{id_in, with_update_at};
 
 use crate::channel_info::ChannelInfo;
 use crate::iter::Channels;
-use crate::lookup::Hint;
-use crate::lookup_cache::{NOWHERE, unless};
+use crate::lookahead::lookup::Hint;
+use crate::lookahead::lookup_cache::{NO_GUESS, unless};
 use crate::shared::Shared;
 use crate::slot_table::{Key, Keyed, SlotTable, number_of, place};
 use arrayvec::ArrayVec;
@@ -28,10 +28,10 @@ use std::alloc::{AllocError, Global};
 use std::ops::Bound;
 
 /// The number of channels whose rows are read together.
-pub const TOGETHER: usize = 16;
+pub const ROWS_TOGETHER: usize = 16;
 
 /// The number of their nodes.
-pub(crate) const NODES: usize = 2 * TOGETHER;
+pub(crate) const NODES: usize = 2 * ROWS_TOGETHER;
 
 /// Channels with their updates, by id. Contracts see each id with its channel, ascending.
 pub(crate) type ChannelTable = SlotTable<Scid, ChannelInfo>;
@@ -60,26 +60,26 @@ impl Keyed<Scid> for ChannelInfo {
 impl SlotTable<Scid, ChannelInfo> {
     /// The number that the cache has for a channel, or one that is too large.
     #[inline(always)]
-    pub(crate) fn locate(&self, scid: Scid) -> usize {
-        self.cache.guess(scid.cache_key())
+    pub(crate) fn raw_guess(&self, scid: Scid) -> usize {
+        self.cache.raw_guess(scid.cache_key())
     }
 
-    /// The number, unless its slot is hardly that of the channel. What the admission of an update reads is then in the
-    /// processor's cache.
+    /// The guessed number, or [`NO_GUESS`] if its slot has another channel. It reads what the admission of an update
+    /// compares, which is in the processor's cache then.
     #[inline(always)]
     pub(crate) fn prefetch(&self, number: usize, scid: Scid, second: bool) -> usize {
         match self.slots.get(number) {
             Some(stored) => unless(!stored.is_likely(scid, second), number),
-            None => NOWHERE,
+            None => NO_GUESS,
         }
     }
 
-    /// Reads the rows of the first [`TOGETHER`] of these channels, so that the processor's cache has them, and returns what
+    /// Reads the rows of the first [`ROWS_TOGETHER`] of these channels, so that the processor's cache has them, and returns what
     /// their nodes are cached by: in three looks, for the numbers, for what the slots have, and for the rows, each for all.
-    pub(crate) fn touch(&self, scids: &[Scid]) -> ArrayVec<u64, NODES> {
-        let mut numbers = [NOWHERE; TOGETHER];
+    pub(crate) fn prefetch_rows(&self, scids: &[Scid]) -> ArrayVec<u64, NODES> {
+        let mut numbers = [NO_GUESS; ROWS_TOGETHER];
         for (number, scid) in numbers.iter_mut().zip(scids) {
-            *number = self.locate(*scid);
+            *number = self.raw_guess(*scid);
         }
         for (number, scid) in numbers.iter_mut().zip(scids) {
             *number = self.prefetch(*number, *scid, true);
@@ -87,7 +87,7 @@ impl SlotTable<Scid, ChannelInfo> {
         let mut nodes = ArrayVec::new();
         for number in &numbers {
             if let Some(stored) = self.slots.get(*number) {
-                stored.touch();
+                stored.prefetch();
                 let _ = nodes.try_push(stored.node(false).cache_key());
                 let _ = nodes.try_push(stored.node(true).cache_key());
             }
@@ -99,7 +99,7 @@ impl SlotTable<Scid, ChannelInfo> {
     fn guess(&self, hint: Hint, scid: Scid) -> Option<usize> {
         match hint.slot() {
             Some(number) => Some(number),
-            None => self.cache.cached(scid.cache_key()),
+            None => self.cache.guess(scid.cache_key()),
         }
     }
 
@@ -134,12 +134,12 @@ impl SlotTable<Scid, ChannelInfo> {
         let Some(number) = number_of(
             &self.numbers,
             &self.slots,
-            self.cache.cached(scid.cache_key()),
+            self.cache.guess(scid.cache_key()),
             &scid,
         ) else {
             return;
         };
-        self.cache.note(scid.cache_key(), number);
+        self.cache.insert(scid.cache_key(), number);
         let stored = &mut self.slots[number];
         stored.put_update(second, row);
     }
@@ -163,7 +163,7 @@ impl SlotTable<Scid, ChannelInfo> {
         let Some(number) = number_of(&self.numbers, &self.slots, guess, &scid) else {
             return Err(Refusal::UnknownChannel);
         };
-        self.cache.correct(guess, scid.cache_key(), number);
+        self.cache.insert_unless(guess, scid.cache_key(), number);
         let stored = &mut self.slots[number];
         stored.offer_update(row, signer)
     }

@@ -5,8 +5,8 @@ ghost use Rattle.lgm_wire.specs.declared.point.Point.{Point};
 ghost use Rattle.lgm_store.specs.inner.ChannelsByNode.{entry_of, list_at, with_id, without_id};
 ghost use Rattle.lgm_store.specs.inner.ChannelsByNode.{changed, Lacks, Sets, IsSame, Lists, IsPlaceOf, MovesLastAlone};
 
-use crate::lookup::NodeKey;
-use crate::lookup_cache::{LookupCache, NOWHERE, unless};
+use crate::lookahead::lookup::NodeKey;
+use crate::lookahead::lookup_cache::{LookupCache, NO_GUESS, unless};
 use crate::scid_set::ScidSet;
 use crate::seed::Seed;
 use crate::slot_table::{Key, is_sparse};
@@ -57,13 +57,13 @@ impl ChannelsByNode {
     pub(crate) fn contains(&self, point: &Point) -> bool
         ensures { result ≡ is_some (entry_of self.now point.now) }
     {
-        place_of(&self.lists, self.cache.cached(point.cache_key()), point).is_some()
+        place_of(&self.lists, self.cache.guess(point.cache_key()), point).is_some()
     }
 
     /// The place that the cache has for a node's list, or one that is too large.
     #[inline(always)]
-    pub(crate) fn locate(&self, key: NodeKey) -> usize {
-        self.cache.guess(key.front())
+    pub(crate) fn raw_guess(&self, key: NodeKey) -> usize {
+        self.cache.raw_guess(key.front())
     }
 
     /// The place, unless it is hardly that of the node's list. The point and where its ids are is then in the processor's
@@ -72,7 +72,7 @@ impl ChannelsByNode {
     pub(crate) fn prefetch(&self, place: usize, key: NodeKey) -> usize {
         match self.lists.get_index(place) {
             Some((own, list)) => unless(!key.is_of(own) & list.is_single(), place),
-            None => NOWHERE,
+            None => NO_GUESS,
         }
     }
 
@@ -82,7 +82,7 @@ impl ChannelsByNode {
     pub(crate) fn prefetch_ids(&self, place: usize, scid: Scid) -> usize {
         match self.lists.get_index(place) {
             Some((_, list)) => unless(list.last() == Some(scid), place),
-            None => NOWHERE,
+            None => NO_GUESS,
         }
     }
 
@@ -147,15 +147,15 @@ impl ChannelsByNode {
         ensures ok { OnOk result (Sets self.old self.new point (with_id (list_at self.old point) scid)) }
         ensures err { OnErr result (IsSame self.old self.new) }
     {
-        let guess = self.cache.cached(point.cache_key());
+        let guess = self.cache.guess(point.cache_key());
         if let Some(place) = place_of(&self.lists, guess, &point) {
-            self.cache.correct(guess, point.cache_key(), place);
+            self.cache.insert_unless(guess, point.cache_key(), place);
             let (_, list) = self.lists.pair_mut(place);
             return list.insert(self.alloc, scid);
         }
         let (place, _) = self.lists.insert_full(point, ScidSet::of(scid))?;
         self.cache.reserve(self.lists.len());
-        self.cache.note(point.cache_key(), place);
+        self.cache.insert(point.cache_key(), place);
         Ok(())
     }
 
@@ -163,7 +163,7 @@ impl ChannelsByNode {
         ensures sets { Sets self.old self.new point.now (without_id (list_at self.old point.now) scid) }
         ensures moves { MovesLastAlone self.old self.new }
     {
-        let guess = self.cache.cached(point.cache_key());
+        let guess = self.cache.guess(point.cache_key());
         if let Some(place) = place_of(&self.lists, guess, point) {
             let (_, list) = self.lists.pair_mut(place);
             list.remove(self.alloc, scid);

@@ -9,7 +9,7 @@ ghost use Rattle.lgm_store.specs.inner.Slots.{entries_in, HaveOwn};
 ghost use Rattle.lgm_store.specs.inner.ChannelTable.{id_in};
 
 use crate::channel_info::ChannelInfo;
-use crate::channel_table::TOGETHER;
+use crate::channel_table::ROWS_TOGETHER;
 use crate::shared::Shared;
 use arrayvec::ArrayVec;
 use lgm_check::StoredNode;
@@ -80,13 +80,13 @@ impl<'a> Iterator for Channels<'a> {
 }
 
 /// The ids of some channels, and their slot numbers.
-type Numbers = ArrayVec<(u64, usize), TOGETHER>;
+type Numbers = ArrayVec<(u64, usize), ROWS_TOGETHER>;
 
 /// An iterator over the channels of a map, by id, for a caller that does little with each. Contracts see the list of those
 /// still to come.
 ///
-/// Looks at the memory that don't depend on each other wait for it together. So some channels are read, one after the
-/// other, and then given one by one. A caller that does more has the processor read the next channels meanwhile.
+/// Reads that don't depend on each other wait for the memory at the same time. So some channels are read, and then given
+/// one by one. A caller that does more has the processor read the next channels meanwhile.
 #[derive(Drop)]
 pub struct ChannelsTogether<'a> {
     /// The next channels, which were read.
@@ -98,7 +98,8 @@ pub struct ChannelsTogether<'a> {
     slots: &'a Slab<ChannelInfo>,
     /// Whether the beginning of each row is read too.
     rows: bool,
-    /// What was read of the slots. It is kept, since what nobody keeps isn't read. No contract depends on it.
+    /// What was read of the slots. It is stored, since the compiler drops a read whose result isn't used. No contract
+    /// depends on it.
     seen: u32,
 }
 
@@ -137,7 +138,7 @@ impl<'a> Iterator for ChannelsTogether<'a> {
     }
 }
 
-/// Replaces these by the next ones, at most [`TOGETHER`].
+/// Replaces these by the next ones, at most [`ROWS_TOGETHER`].
 #[inline(never)]
 fn take_next(ahead: &mut Numbers, numbers: &mut Range<'_, Scid, usize>)
     ensures { numbers.old ≡ ahead.new.items ++ numbers.new }
@@ -157,7 +158,7 @@ fn read_slots(slots: &Slab<ChannelInfo>, ahead: &Numbers, rows: bool) -> u32 {
     let mut seen = 0;
     for (_, number) in ahead.as_slice() {
         if let Some(stored) = slots.get(*number) {
-            seen ^= stored.look();
+            seen ^= stored.inline_word();
         }
     }
     if rows {
@@ -170,7 +171,7 @@ fn read_slots(slots: &Slab<ChannelInfo>, ahead: &Numbers, rows: bool) -> u32 {
 fn read_rows(slots: &Slab<ChannelInfo>, ahead: &Numbers) {
     for (_, number) in ahead.as_slice() {
         if let Some(stored) = slots.get(*number) {
-            stored.touch();
+            stored.prefetch();
         }
     }
 }

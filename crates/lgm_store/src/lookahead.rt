@@ -1,13 +1,16 @@
 //! Looking up messages before their turn.
 
+pub(crate) mod lookup;
+pub(crate) mod lookup_cache;
+
 use crate::checked_message::{CheckedMessage, Kind};
-use crate::lookup::{ChannelLookup, Hint, NodeLookup, UpdateLookup};
 use crate::map::Map;
+use lookup::{ChannelLookup, Hint, NodeLookup, UpdateLookup};
 use std::alloc::{AllocError, Global};
 
 /// The number of messages of a kind that are looked up together. What is read for them has to stay in the processor's
 /// nearest caches until their turns.
-const TOGETHER: usize = 32;
+const LOOKUPS_TOGETHER: usize = 32;
 
 /// What is looked up for messages that will be offered to a map. No contract depends on it.
 ///
@@ -48,7 +51,7 @@ impl<T: Drop> Queue<T> {
     fn from(&mut self, place: usize) -> &mut [T] {
         let place = place.min(self.lookups.len());
         let (_, rest) = self.lookups.as_mut_slice().split_at_mut(place);
-        let count = rest.len().min(TOGETHER);
+        let count = rest.len().min(LOOKUPS_TOGETHER);
         &mut rest[..count]
     }
 }
@@ -87,7 +90,7 @@ impl Lookahead {
 
     fn next_update(&mut self, map: &Map) -> Hint {
         let place = self.updates.step();
-        if place % TOGETHER == 0 {
+        if place % LOOKUPS_TOGETHER == 0 {
             map.look_up_updates(self.updates.from(place));
         }
         match self.updates.lookups.get(place) {
@@ -98,14 +101,14 @@ impl Lookahead {
 
     fn next_channel(&mut self, map: &Map) {
         let place = self.channels.step();
-        if place % TOGETHER == 0 {
+        if place % LOOKUPS_TOGETHER == 0 {
             map.look_up_channels(self.channels.from(place));
         }
     }
 
     fn next_node(&mut self, map: &Map) {
         let place = self.nodes.step();
-        if place % TOGETHER == 0 {
+        if place % LOOKUPS_TOGETHER == 0 {
             map.look_up_nodes(self.nodes.from(place));
         }
     }

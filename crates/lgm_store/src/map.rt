@@ -5,7 +5,7 @@ ghost use Rattle.lgm_store.specs.Rows.{empty};
 
 mod absorb;
 mod admit;
-mod look_up;
+mod lookahead;
 mod offer;
 mod read;
 

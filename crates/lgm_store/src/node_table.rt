@@ -12,8 +12,8 @@ ghost use Rattle.lgm_store.specs.inner.SameKeys.{same_node};
 
 use crate::channel_table::NODES;
 use crate::iter::Nodes;
-use crate::lookup::NodeKey;
-use crate::lookup_cache::NOWHERE;
+use crate::lookahead::lookup::NodeKey;
+use crate::lookahead::lookup_cache::NO_GUESS;
 use crate::shared::Shared;
 use crate::slot_table::{Key, Keyed, SlotTable, place};
 use lgm_check::StoredNode;
@@ -48,14 +48,14 @@ impl Keyed<Point> for Shared<StoredNode> {
 impl SlotTable<Point, Shared<StoredNode>> {
     /// Reads the rows of the announcements of the nodes that are cached by these, so that the processor's cache has them:
     /// in two looks, for the numbers, and for the rows, each for all.
-    pub(crate) fn touch(&self, keys: &[u64]) {
-        let mut numbers = [NOWHERE; NODES];
+    pub(crate) fn prefetch_rows(&self, keys: &[u64]) {
+        let mut numbers = [NO_GUESS; NODES];
         for (number, key) in numbers.iter_mut().zip(keys) {
-            *number = self.cache.guess(*key);
+            *number = self.cache.raw_guess(*key);
         }
         for number in &numbers {
             if let Some(row) = self.slots.get(*number) {
-                row.touch();
+                row.prefetch();
             }
         }
     }

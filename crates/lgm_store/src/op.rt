@@ -36,15 +36,15 @@ impl Op {
         }
     }
 
-    /// Reads the beginning of the row, so that the processor's cache has it. Looks at the memory that don't depend on each
-    /// other wait for it together, so a caller that drops many operations calls this for some of them first.
+    /// Reads the beginning of the row, so that the processor's cache has it. A caller that drops many operations calls
+    /// this for some of them first: reads that don't depend on each other wait for the memory at the same time.
     pub fn prefetch(&self) {
         match self {
-            Op::Channel(row) => row.touch(),
-            Op::Update(row) => row.touch(),
-            Op::Node(row) => row.touch(),
+            Op::Channel(row) => row.prefetch(),
+            Op::Update(row) => row.prefetch(),
+            Op::Node(row) => row.prefetch(),
             Op::Close(_) => {}
-            Op::Ban(ban) => ban.touch(),
+            Op::Ban(ban) => ban.prefetch(),
         }
     }
 }

@@ -23,7 +23,7 @@ pub(crate) struct ScidSet {
 enum Place {
     /// A single id.
     One(Scid),
-    /// Any number of ids, in order of arrival; one that is added again stands there again.
+    /// Any number of ids, in the order in which they were added. An id that was added twice is listed twice.
     Many(Vec<Scid>),
 }
 

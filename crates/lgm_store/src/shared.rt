@@ -44,7 +44,7 @@ impl<T> Shared<T> {
     }
 
     /// Reads the count of owners, so that the processor's cache has it, and the first bytes of the value beside it.
-    pub(crate) fn touch(&self) {
+    pub(crate) fn prefetch(&self) {
         let _ = Arc::strong_count(&self.cell);
     }
 

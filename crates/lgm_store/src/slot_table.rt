@@ -9,7 +9,7 @@ ghost use Rattle.std.specs.List.{AllByRecursion};
 ghost use Rattle.std.specs.declared.cmp.Ordering.TheVariants.{Equal, Greater};
 ghost use Rattle.lgm_store.specs.inner.Slots.{slot_at, IsNumbered, AreSame, Places};
 
-use crate::lookup_cache::LookupCache;
+use crate::lookahead::lookup_cache::LookupCache;
 use slab::Slab;
 use std::alloc::{AllocError, Global};
 use std::collections::BTreeMap;
@@ -81,7 +81,7 @@ impl<K: Key, V: Keyed<K>> SlotTable<K, V> {
     pub(crate) fn get(&self, key: &K) -> Option<&V>
         ensures { option_copied result ≡ lookup (is_at (K.cmp key.now)) self.now }
     {
-        let guess = self.cache.cached(key.cache_key());
+        let guess = self.cache.guess(key.cache_key());
         let number = number_of(&self.numbers, &self.slots, guess, key)?;
         Some(&self.slots[number])
     }
@@ -154,7 +154,7 @@ pub(crate) fn place<K: Key, V: Keyed<K>>(
     ensures err { OnErr result (AreSame slots.old slots.new numbers.old.entries numbers.new.entries) }
 {
     let key = value.key();
-    let guess = cache.cached(key.cache_key());
+    let guess = cache.guess(key.cache_key());
     if let Some(number) = guessed(slots, guess, &key) {
         return Ok(Some((number, value)));
     }
@@ -166,7 +166,7 @@ pub(crate) fn place<K: Key, V: Keyed<K>>(
     }
     slots.insert_reserved(value);
     cache.reserve(numbers.len());
-    cache.note(key.cache_key(), number);
+    cache.insert(key.cache_key(), number);
     Ok(None)
 }
 

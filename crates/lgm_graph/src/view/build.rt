@@ -94,7 +94,7 @@ fn number_end(
         return Ok(number);
     }
     let number = number(alloc, nodes, known, map, point)?;
-    cache.note(&point, number, nodes.points.len());
+    cache.insert(&point, number, nodes.points.len());
     Ok(number)
 }
 

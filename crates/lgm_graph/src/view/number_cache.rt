@@ -28,7 +28,7 @@ impl NumberCache {
         ensures number { IfSome result (λ n. n ≡ number_of nodes.now.points.keys point.now) }
         ensures numbered { IfSome result (λ n. IsNumbered nodes.now.points.keys point.now) }
     {
-        let number = self.numbers.cached(NodeKey::of(point).front())?;
+        let number = self.numbers.guess(NodeKey::of(point).front())?;
         if nodes.has_number(point, number) {
             Some(number)
         } else {
@@ -37,8 +37,8 @@ impl NumberCache {
     }
 
     /// Stores the number of a point, one of this many.
-    pub(super) fn note(&mut self, point: &Point, number: usize, nodes: usize) {
+    pub(super) fn insert(&mut self, point: &Point, number: usize, nodes: usize) {
         self.numbers.reserve(nodes);
-        self.numbers.note(NodeKey::of(point).front(), number);
+        self.numbers.insert(NodeKey::of(point).front(), number);
     }
 }

@@ -71,16 +71,16 @@ impl Map {
     {
         let CheckedMessage { kind } = message;
         match kind {
-            Kind::Channel(row) => match self.admit_stored_channel(row.get())? {
+            Kind::Channel(row) => match self.admit_channel(&row.get().row())? {
                 Some(ban) => Ok(Op::Ban(Shared::new(alloc, ban)?)),
                 None => Ok(Op::Channel(row)),
             },
             Kind::Update(row, signer) => {
-                self.admit_stored_update(row.get(), &signer)?;
+                self.admit_update(&row.get().row(), &signer)?;
                 Ok(Op::Update(row))
             }
             Kind::Node(row) => {
-                self.admit_stored_node(row.get())?;
+                self.admit_node(&row.get().row())?;
                 Ok(Op::Node(row))
             }
         }
@@ -97,18 +97,8 @@ impl Map {
     }
 
     /// The ban that a channel announcement calls for; none if it adds the channel.
-    fn admit_channel(&self, row: &ChannelRow) -> Result<Option<BanRow>, Refusal>
-        ensures { channel_op row.now result ≡ channel_admission self.now.banned
-            (channel_of self.now.channels row.now.message.short_channel_id) row.now }
-    {
-        self.check_channel(row.scid(), &row.node(false), &row.node(true))
-    }
-
-    /// The same for a message that is stored already.
-    pub(crate) fn admit_stored_channel(
-        &self,
-        row: &StoredChannel,
-    ) -> Result<Option<BanRow>, Refusal>
+    #[inline(always)]
+    pub(crate) fn admit_channel(&self, row: &ChannelRow) -> Result<Option<BanRow>, Refusal>
         ensures { channel_op row.now result ≡ channel_admission self.now.banned
             (channel_of self.now.channels row.now.message.short_channel_id) row.now }
     {
@@ -141,6 +131,7 @@ impl Map {
         }
     }
 
+    #[inline(always)]
     fn admit_update(&self, row: &UpdateRow, signer: &Point) -> Result<(), Refusal>
         ensures { let id = row.now.message.short_channel_id in
             update_op row.now result ≡ update_admission (channel_of self.now.channels id)
@@ -152,33 +143,13 @@ impl Map {
         }
     }
 
-    /// The same for a message that is stored already.
-    fn admit_stored_update(&self, row: &StoredUpdate, signer: &Point) -> Result<(), Refusal>
-        ensures { let id = row.now.message.short_channel_id in
-            update_op row.now result ≡ update_admission (channel_of self.now.channels id)
-            (update_of self.now.updates id (is_second row.now)) row.now signer.now }
-    {
-        match self.channel_info(row.scid()) {
-            Some(stored) => stored.admit_stored_update(row, signer),
-            None => Err(Refusal::UnknownChannel),
-        }
-    }
-
-    fn admit_node(&self, row: &NodeRow) -> Result<(), Refusal>
+    #[inline(always)]
+    pub(crate) fn admit_node(&self, row: &NodeRow) -> Result<(), Refusal>
         ensures { let node = row.now.message.node_id in
             node_op row.now result ≡ node_admission (is_banned self.now.banned node)
             (ends_channel self.now.channels node) (node_of self.now.nodes node) row.now }
     {
         self.check_node(&row.node(), row.message.timestamp)
-    }
-
-    /// The same for a message that is stored already.
-    pub(crate) fn admit_stored_node(&self, row: &StoredNode) -> Result<(), Refusal>
-        ensures { let node = row.now.message.node_id in
-            node_op row.now result ≡ node_admission (is_banned self.now.banned node)
-            (ends_channel self.now.channels node) (node_of self.now.nodes node) row.now }
-    {
-        self.check_node(&row.node(), row.timestamp())
     }
 
     fn check_node(&self, node: &Point, time: u32) -> Result<(), Refusal>

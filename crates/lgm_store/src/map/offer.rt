@@ -8,7 +8,7 @@ ghost use Rattle.lgm_store.specs.History.{absorbed};
 
 use super::Map;
 use crate::checked_message::{CheckedMessage, Kind};
-use crate::lookup::Hint;
+use crate::lookahead::lookup::Hint;
 use crate::op::Op;
 use crate::shared::Shared;
 use lgm_check::{Refusal, StoredChannel, StoredNode, StoredUpdate};
@@ -74,7 +74,7 @@ impl Map {
             return Ok(Op::Channel(row));
         }
         // It is refused, or calls for a ban, or memory is short.
-        let Some(ban) = self.admit_stored_channel(row.get())? else {
+        let Some(ban) = self.admit_channel(&row.get().row())? else {
             added?;
             unreachable!();
         };
@@ -115,7 +115,7 @@ impl Map {
             return Ok(Op::Node(row));
         }
         // It is refused, or memory is short.
-        self.admit_stored_node(row.get())?;
+        self.admit_node(&row.get().row())?;
         added?;
         unreachable!()
     }

@@ -13,7 +13,7 @@ ghost use Rattle.lgm_store.specs.inner.Start.{start_after, IsEndBefore};
 
 use super::Map;
 use crate::channel_info::ChannelInfo;
-use crate::channel_table::TOGETHER;
+use crate::channel_table::ROWS_TOGETHER;
 use crate::iter::{Channels, ChannelsBetween, Nodes};
 use lgm_check::{ChannelRow, NodeRow, StoredNode, UpdateRow};
 use lgm_gossip::{Point, Scid, Scids};
@@ -47,14 +47,14 @@ impl Map {
         self.channels.get(&scid)
     }
 
-    /// Reads the rows of the first [`TOGETHER`] of these channels, and of their nodes, so that the processor's cache has
+    /// Reads the rows of the first [`ROWS_TOGETHER`] of these channels, and of their nodes, so that the processor's cache has
     /// them.
     ///
-    /// Looks at the memory that don't depend on each other wait for it together. So a caller that reads many channels
-    /// calls this for some of them before it reads the first.
+    /// A caller that reads many channels calls this for some of them before it reads the first: reads that don't depend
+    /// on each other wait for the memory at the same time.
     pub fn prefetch_rows(&self, scids: &[Scid]) {
-        let node_keys = self.channels.touch(scids);
-        self.nodes.touch(node_keys.as_slice());
+        let node_keys = self.channels.prefetch_rows(scids);
+        self.nodes.prefetch_rows(node_keys.as_slice());
     }
 
     /// The row of a channel, if it is in the map.

@@ -1,4 +1,4 @@
-use Rattle.lgm_graph.proofs.Holding.{are_directions, are_keyed}
+use Rattle.lgm_graph.proofs.ViewEdgeLaws.{are_directions, are_keyed}
 use Rattle.lgm_graph.proofs.laws.edges_are_directions.Goals as goal
 
 pub returns-clause-directions : goal.returns-clause-directions

@@ -1,6 +1,6 @@
 use Rattle.std.proofs.Common.{length, ap, arith}
 use Rattle.lgm_store.specs.Rows.{empty}
-use Rattle.lgm_store.proofs.Fewness.{fold_few}
+use Rattle.lgm_store.proofs.ChannelCountLaws.{fold_few}
 use Rattle.lgm_publish.proofs.new_board.find_route.Goals as goal
 
 pub of-requires : goal.of-requires

@@ -1,6 +1,6 @@
 use Rattle.lgm_graph.specs.Edges.{edges_of}
 use Rattle.lgm_graph.specs.Graph.{point_edges}
-use Rattle.lgm_graph.proofs.Holding.{are_keyed}
+use Rattle.lgm_graph.proofs.ViewEdgeLaws.{are_keyed}
 use Rattle.lgm_route.proofs.Choosing.{answered}
 use Rattle.lgm_route.proofs.answers.answer.Goals as goal
 

@@ -1,6 +1,6 @@
 use Rattle.std.proofs.Common.{[], Bor, List, ℕ}
 use Rattle.lgm_script.specs.Output.{told_by, Writes}
-use Rattle.lgm_run.proofs.Kindred.{asked_as, is_alone, other_leaves, other_is_told}
+use Rattle.lgm_run.proofs.AlikeRequestLaws.{asked_as, is_alone, other_leaves, other_is_told}
 use Rattle.lgm_run.proofs.answer_lines.answer.Goals as goal
 
 -- what a slice has beyond its end

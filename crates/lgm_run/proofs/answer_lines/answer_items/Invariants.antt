@@ -6,7 +6,7 @@ use Rattle.lgm_run.specs.inner.Questions.{asked_in}
 use Rattle.lgm_answers.specs.declared.run_fault.TheConstants.{MAX_LINES}
 use Rattle.lgm_answers.specs.Script.{text_for}
 use Rattle.lgm_run.specs.inner.Steps.{state_after, state_from, text_from}
-use Rattle.lgm_run.proofs.Kindred.{IsItemOf}
+use Rattle.lgm_run.proofs.AlikeRequestLaws.{IsItemOf}
 use Rattle.lgm_run.proofs.Turning.{AreLeft}
 use Rattle.lgm_run.proofs.answer_lines.answer_items.Given as goal
 

@@ -4,7 +4,7 @@ use Rattle.std.proofs.lemmas.Result.{err_from_is_err_and}
 use Rattle.lgm_script.specs.Output.{told_by, Writes}
 use Rattle.lgm_script.proofs.Telling.{tells_none}
 use Rattle.lgm_run.specs.inner.Questions.{asked_in}
-use Rattle.lgm_run.proofs.Kindred.{questions_leave, questions_are_told}
+use Rattle.lgm_run.proofs.AlikeRequestLaws.{questions_leave, questions_are_told}
 use Rattle.lgm_run.proofs.answer_lines.answer_questions.Goals as goal
 
 pub returns-in_err-payment-clause-written : goal.returns-in_err-payment-clause-written

@@ -5,7 +5,7 @@ use Rattle.std.proofs.lemmas.Result.{err_from_is_err_and}
 use Rattle.lgm_script.specs.Output.{told_by, Tells, TellsPart}
 use Rattle.lgm_script.proofs.Telling.{tells_none}
 use Rattle.lgm_run.specs.inner.Steps.{state_from, text_from}
-use Rattle.lgm_run.proofs.Kindred.{asked_texts}
+use Rattle.lgm_run.proofs.AlikeRequestLaws.{asked_texts}
 use Rattle.lgm_run.proofs.Progress.{first_alone}
 use Rattle.lgm_run.proofs.script_run.answer_next.Goals as goal
 

@@ -1,4 +1,4 @@
-use Rattle.lgm_graph.proofs.Holding.{holds}
+use Rattle.lgm_graph.proofs.ViewEdgeLaws.{holds}
 use Rattle.lgm_graph.proofs.Once.{once}
 use Rattle.lgm_graph.proofs.view.View.shows_the_edges.Goals as goal
 

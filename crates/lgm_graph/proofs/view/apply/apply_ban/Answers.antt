@@ -6,7 +6,7 @@ use Rattle.lgm_graph.specs.declared.edge.Edge.{Edge}
 use Rattle.lgm_graph.specs.Edges.{takes_payments, carrying}
 use Rattle.lgm_graph.specs.Graph.{no_point}
 use Rattle.lgm_graph.specs.inner.Sound.{edges_in, is_allowed}
-use Rattle.lgm_graph.proofs.Showing.{edges_at}
+use Rattle.lgm_graph.proofs.ListedEdgeLaws.{edges_at}
 use Rattle.lgm_graph.proofs.Parting.{changed_among, next_at, node_parted}
 use Rattle.lgm_graph.proofs.view.apply.apply_ban.Goals as goal
 use Rattle.lgm_store.proofs.ListLaws.{filter-twice}

@@ -3,7 +3,7 @@ use Rattle.lgm_store.specs.History.{absorbed}
 use Rattle.lgm_graph.specs.Edges.{takes_payments, carrying}
 use Rattle.lgm_graph.specs.inner.Sound.{closed_at}
 use Rattle.lgm_graph.proofs.Numbers.{ends_numbered, in_both}
-use Rattle.lgm_graph.proofs.Showing.{edges_at}
+use Rattle.lgm_graph.proofs.ListedEdgeLaws.{edges_at}
 use Rattle.lgm_graph.proofs.Closing.{node_closed}
 use Rattle.lgm_graph.proofs.view.apply.apply_close.Goals as goal
 

@@ -1,7 +1,7 @@
 use Rattle.std.proofs.Common.{rules, ◌∙◌, ap}
 use Rattle.lgm_store.specs.History.{absorbed}
 use Rattle.lgm_graph.specs.Edges.{takes_payments}
-use Rattle.lgm_graph.proofs.Noding.{noded}
+use Rattle.lgm_graph.proofs.AnnouncedNodeLaws.{noded}
 use Rattle.lgm_graph.proofs.view.apply.apply_node.Goals as goal
 
 pub returns : goal.returns

@@ -1,7 +1,7 @@
 use Rattle.std.proofs.Common.{◌≡◌, ◌≤◌, true, false, Option, Some, None, length, refl, ap, subst, arith}
 use Rattle.std.specs.Prelude.{IfSome, IsSome}
 use Rattle.lgm_store.specs.Rows.{Rows}
-use Rattle.lgm_store.proofs.Fewness.{absorbed_few}
+use Rattle.lgm_store.proofs.ChannelCountLaws.{absorbed_few}
 use Rattle.lgm_graph.specs.Graph.{Graph}
 use Rattle.lgm_graph.specs.Network.{GoesOn, most_points}
 use Rattle.lgm_publish.proofs.snapshot.Snapshot.absorb.Goals as goal

@@ -1,5 +1,5 @@
 use Rattle.std.proofs.Common.{sym}
-use Rattle.lgm_query.proofs.Lying.{news_of_touched}
+use Rattle.lgm_query.proofs.NewsKeyLaws.{news_of_touched}
 use Rattle.lgm_query.proofs.map_diff.MapDiff.between.Goals as goal
 
 pub invariant_of-result : goal.invariant_of-result

@@ -1,7 +1,7 @@
 use Rattle.std.proofs.Common.{subst, sym, ◌+◌}
 use Rattle.lgm_run.specs.inner.Engine.{IsFew}
 use Rattle.lgm_run.specs.inner.CheckedItem.{outcome_on}
-use Rattle.lgm_run.proofs.Fewness.{grown_few}
+use Rattle.lgm_run.proofs.ChannelCountLaws.{grown_few}
 use Rattle.lgm_run.proofs.engine.Engine.offer.Goals as goal
 
 pub invariant_of-self-2 : goal.invariant_of-self-2

@@ -16,7 +16,7 @@ use Rattle.lgm_store.specs.Keys.{IsKeyed, id_of}
 use Rattle.lgm_store.specs.Rows.{put, by_id, ends_banned, channel_of}
 use Rattle.lgm_store.proofs.ListLaws.{All-put}
 use Rattle.lgm_store.proofs.Lists.{values-channel}
-use Rattle.lgm_store.proofs.Holding.{lookup-channels, insert-channels, insert-updates, remove-inserted}
+use Rattle.lgm_store.proofs.ChannelMapLaws.{lookup-channels, insert-channels, insert-updates, remove-inserted}
 use Rattle.lgm_store.proofs.Soundness.{IsSound-stored, IsSound-listed, lacks}
 use Rattle.lgm_store.proofs.Changes.{is_stored, with_channel-new, with_channel-stored, with_channel-banned, banned-by}
 use Rattle.lgm_store.proofs.Spelling.{AllSpelled-channel}

@@ -6,7 +6,7 @@ use Rattle.lgm_store.specs.ChannelInfo.{update_in}
 use Rattle.lgm_store.specs.inner.ChannelEntries.{channel_entries, update_entries}
 use Rattle.lgm_store.specs.Rows.{channel_of, update_of}
 use Rattle.lgm_store.proofs.Lists.{lookup-channel, lookup-update}
-use Rattle.lgm_store.proofs.Holding.{ascend-stored, lookup-channels, lookup-updates}
+use Rattle.lgm_store.proofs.ChannelMapLaws.{ascend-stored, lookup-channels, lookup-updates}
 use Rattle.lgm_store.proofs.ChannelWithUpdates.{found-is_held_at}
 use Rattle.lgm_store.proofs.map.Map.channel_info.Goals as goal
 

@@ -1,6 +1,6 @@
 use Rattle.std.proofs.Common.{true, map, ◌∙◌, ap}
 use Rattle.lgm_store.specs.ChannelInfo.{stored_at}
-use Rattle.lgm_store.proofs.Holding.{ascend-stored}
+use Rattle.lgm_store.proofs.ChannelMapLaws.{ascend-stored}
 use Rattle.lgm_store.proofs.ChannelWithUpdates.{values-stored_at}
 use Rattle.lgm_store.proofs.map.Map.channels.Goals as goal
 use Rattle.lgm_store.proofs.ListLaws.{filter-true}

@@ -5,7 +5,7 @@ use Rattle.std.specs.BTreeMap.Range.{range_contains}
 use Rattle.std.specs.Ordering.{nat_cmp}
 use Rattle.lgm_store.specs.Reading.{is_between}
 use Rattle.lgm_store.specs.inner.ChannelTable.{id_in}
-use Rattle.lgm_store.proofs.Holding.{ascend-stored}
+use Rattle.lgm_store.proofs.ChannelMapLaws.{ascend-stored}
 use Rattle.lgm_store.proofs.ChannelWithUpdates.{values-stored_at, filter-past, filter-keyed}
 use Rattle.lgm_store.proofs.Walking.{forward, within, backward, never}
 use Rattle.lgm_store.proofs.map.Map.channels_between.Goals as goal

@@ -8,7 +8,7 @@ use Rattle.lgm_store.specs.inner.ChannelEntries.{channel_entries}
 use Rattle.lgm_store.specs.Rows.{channel_of, ends_banned}
 use Rattle.lgm_store.specs.History.{channels_without, updates_without, ended_nodes}
 use Rattle.lgm_store.proofs.ListLaws.{All-filtered}
-use Rattle.lgm_store.proofs.Holding.{ascend-stored, remove-none}
+use Rattle.lgm_store.proofs.ChannelMapLaws.{ascend-stored, remove-none}
 use Rattle.lgm_store.proofs.Removals.{IsClosed, closed, IsSound-unchanged}
 use Rattle.lgm_store.proofs.Changes.{is_stored, without_channel-stored, without_channel-none}
 use Rattle.lgm_store.proofs.Spelling.{AllSpelled-left}

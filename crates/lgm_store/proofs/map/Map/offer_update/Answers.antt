@@ -9,7 +9,7 @@ use Rattle.std.specs.Ordering.{nat_cmp}
 use Rattle.lgm_store.specs.declared.channel_info.ChannelInfo.{ChannelInfo}
 use Rattle.lgm_store.specs.ChannelInfo.{update_in}
 use Rattle.lgm_store.specs.Rows.{channel_of, update_of, is_second}
-use Rattle.lgm_store.proofs.Holding.{ascend-stored}
+use Rattle.lgm_store.proofs.ChannelMapLaws.{ascend-stored}
 use Rattle.lgm_store.proofs.ChannelWithUpdates.{channel_at, update_at}
 use Rattle.lgm_store.proofs.Kept.{rows_of}
 use Rattle.lgm_store.proofs.Putting.{put-kept, put-rows}

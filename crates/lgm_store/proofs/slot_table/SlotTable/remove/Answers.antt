@@ -3,7 +3,7 @@ use Rattle.std.specs.Map.{lookup, remove_entry}
 use Rattle.std.specs.BTreeMap.{is_at}
 use Rattle.lgm_store.specs.inner.Slots.{entries_in, IsNumbered}
 use Rattle.lgm_store.proofs.KeyOrder.{IsKeyOrder}
-use Rattle.lgm_store.proofs.Holding.{remove-none}
+use Rattle.lgm_store.proofs.ChannelMapLaws.{remove-none}
 use Rattle.lgm_store.proofs.Slotted.{removed}
 use Rattle.lgm_store.proofs.Numbering.{numbered-remove, found-stored, found-none, has-slot, ascend-slots}
 use Rattle.lgm_store.proofs.slot_table.SlotTable.remove.Given.{Over}

@@ -45,14 +45,14 @@ impl LookupCache {
 
     /// What may be the number of a key, if an entry of its set has its tag.
     #[inline(always)]
-    pub fn cached(&self, key: u64) -> Option<usize> {
-        found(self.guess(key))
+    pub fn guess(&self, key: u64) -> Option<usize> {
+        guessed(self.raw_guess(key))
     }
 
-    /// What may be the number of a key, or a number that is too large for an entry. Nothing is decided by what is in
+    /// The same, or a number that is too large for an entry. Nothing is decided by what is in
     /// memory, so the processor goes on with the next lookup before that has come.
     #[inline(always)]
-    pub(crate) fn guess(&self, key: u64) -> usize {
+    pub(crate) fn raw_guess(&self, key: u64) -> usize {
         let own = tag(key);
         match self.sets.get(self.place(key)) {
             // With its tag an entry is its number, with another it is too large.
@@ -60,13 +60,13 @@ impl LookupCache {
                 let (a, b, c, d) = (*a ^ own, *b ^ own, *c ^ own, *d ^ own);
                 a.min(b).min(c.min(d)) as usize
             }
-            None => NOWHERE,
+            None => NO_GUESS,
         }
     }
 
     /// Stores the number of a key, if an entry can have it. It becomes the first of its set, the others follow, and the
     /// oldest one is dropped.
-    pub fn note(&mut self, key: u64, number: usize) {
+    pub fn insert(&mut self, key: u64, number: usize) {
         let number = match u32::try_from(number) {
             Ok(number) if number < MOST => number,
             _ => return,
@@ -87,9 +87,9 @@ impl LookupCache {
     }
 
     /// Stores the number of a key, unless the guess was right.
-    pub(crate) fn correct(&mut self, guess: Option<usize>, key: u64, number: usize) {
+    pub(crate) fn insert_unless(&mut self, guess: Option<usize>, key: u64, number: usize) {
         if guess != Some(number) {
-            self.note(key, number);
+            self.insert(key, number);
         }
     }
 
@@ -118,12 +118,12 @@ impl LookupCache {
     }
 }
 
-/// The number of nothing.
-pub(crate) const NOWHERE: usize = usize::MAX;
+/// The number that is guessed of a key that is not in the cache.
+pub(crate) const NO_GUESS: usize = usize::MAX;
 
 /// A number that was guessed, unless it is too large for an entry.
 #[inline(always)]
-pub(crate) fn found(number: usize) -> Option<usize> {
+pub(crate) fn guessed(number: usize) -> Option<usize> {
     if number < MOST as usize {
         Some(number)
     } else {
@@ -131,7 +131,7 @@ pub(crate) fn found(number: usize) -> Option<usize> {
     }
 }
 
-/// [`NOWHERE`] if the test holds, else the number, without a branch.
+/// [`NO_GUESS`] if the test holds, else the number, without a branch.
 #[inline(always)]
 pub(crate) fn unless(holds: bool, number: usize) -> usize {
     let mask: usize = 0;
@@ -144,7 +144,8 @@ fn spread(key: u64) -> u64 {
     key.wrapping_mul(SPREAD)
 }
 
-/// The tag of a key, where an entry has it: the upper eight bits of its hash, of which its place has others.
+/// The tag of a key, at its place in an entry: the upper eight bits of the hash's upper half. The index of the set is
+/// made of the lower bits of that half.
 #[inline(always)]
 fn tag(key: u64) -> u32 {
     (spread(key) >> 32) as u32 / MOST * MOST

@@ -1,6 +1,6 @@
 //! What is looked up of messages before they are offered, copied from them, so that the messages aren't read for that.
 
-use crate::lookup_cache::{NOWHERE, found};
+use super::lookup_cache::{NO_GUESS, guessed};
 use lgm_check::{StoredChannel, StoredNode, StoredUpdate};
 use lgm_gossip::{Point, Scid};
 
@@ -67,7 +67,7 @@ impl UpdateLookup {
         UpdateLookup {
             scid: row.scid(),
             second: row.is_second(),
-            slot: NOWHERE,
+            slot: NO_GUESS,
         }
     }
 
@@ -81,7 +81,7 @@ impl ChannelLookup {
     pub(crate) fn of(row: &StoredChannel) -> ChannelLookup {
         ChannelLookup {
             scid: row.scid(),
-            slot: NOWHERE,
+            slot: NO_GUESS,
             first: NodeLookup::at(&row.node(false)),
             second: NodeLookup::at(&row.node(true)),
         }
@@ -96,7 +96,7 @@ impl NodeLookup {
     fn at(point: &Point) -> NodeLookup {
         NodeLookup {
             key: NodeKey::of(point),
-            place: NOWHERE,
+            place: NO_GUESS,
         }
     }
 }
@@ -112,11 +112,11 @@ pub struct Hint {
 impl Hint {
     /// No place.
     pub fn none() -> Hint {
-        Hint { slot: NOWHERE }
+        Hint { slot: NO_GUESS }
     }
 
     /// The number of the channel's slot, if there is a guess.
     pub(crate) fn slot(self) -> Option<usize> {
-        found(self.slot)
+        guessed(self.slot)
     }
 }

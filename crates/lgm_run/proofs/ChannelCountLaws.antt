@@ -2,7 +2,7 @@
 use Rattle.std.proofs.Common.{ℕ, ◌+◌, Result, Ok, Err, arith}
 use Rattle.lgm_check.specs.declared.refusal.Refusal.{Refusal}
 use Rattle.lgm_store.specs.declared.op.Op.{Op}
-use Rattle.lgm_store.proofs.Fewness.{absorbed_few}
+use Rattle.lgm_store.proofs.ChannelCountLaws.{absorbed_few}
 use Rattle.lgm_run.specs.inner.Maps.{Growth, grown}
 use Rattle.lgm_run.specs.inner.Engine.{IsFew}
 

@@ -1,17 +1,17 @@
 //! Looking up messages before they are offered.
 //!
-//! Looks at the memory that don't depend on each other wait for it together. So a caller that offers many messages has
-//! some of a kind looked up, one look of each after the other, and then offers these. What offering reads is then in the
-//! processor's cache. No contract depends on it.
+//! A read that misses the processor's caches takes long, but several that don't depend on each other take no longer than
+//! one. So a caller that offers many messages first has what is stored for some of them read, and then offers these: what
+//! offering reads is in the caches by then. No contract depends on it.
 
 use super::Map;
-use crate::lookup::{ChannelLookup, NodeLookup, UpdateLookup};
+use crate::lookahead::lookup::{ChannelLookup, NodeLookup, UpdateLookup};
 
 impl Map {
     /// Looks up the channels of updates: where their slots may be, and what is there.
     pub(crate) fn look_up_updates(&self, lookups: &mut [UpdateLookup]) {
         for lookup in lookups.iter_mut() {
-            lookup.slot = self.channels.locate(lookup.scid);
+            lookup.slot = self.channels.raw_guess(lookup.scid);
         }
         for lookup in lookups {
             lookup.slot = self
@@ -23,13 +23,13 @@ impl Map {
     /// Looks up new channels: where the lists of their nodes may be, what is there, and the last ids of the lists.
     pub(crate) fn look_up_channels(&self, lookups: &mut [ChannelLookup]) {
         for lookup in lookups.iter_mut() {
-            lookup.slot = self.channels.locate(lookup.scid);
-            lookup.first.place = self.ends.locate(lookup.first.key);
-            lookup.second.place = self.ends.locate(lookup.second.key);
+            lookup.slot = self.channels.raw_guess(lookup.scid);
+            lookup.first.place = self.ends.raw_guess(lookup.first.key);
+            lookup.second.place = self.ends.raw_guess(lookup.second.key);
         }
         for lookup in lookups.iter_mut() {
-            self.look_at_list(&mut lookup.first);
-            self.look_at_list(&mut lookup.second);
+            self.prefetch_list(&mut lookup.first);
+            self.prefetch_list(&mut lookup.second);
         }
         for lookup in lookups {
             let (first, second, scid) = (lookup.first.place, lookup.second.place, lookup.scid);
@@ -41,15 +41,15 @@ impl Map {
     /// Looks up the nodes of announcements: where their lists of channels may be, and what is there.
     pub(crate) fn look_up_nodes(&self, lookups: &mut [NodeLookup]) {
         for lookup in lookups.iter_mut() {
-            lookup.place = self.ends.locate(lookup.key);
+            lookup.place = self.ends.raw_guess(lookup.key);
         }
         for lookup in lookups {
-            self.look_at_list(lookup);
+            self.prefetch_list(lookup);
         }
     }
 
     #[inline(always)]
-    fn look_at_list(&self, lookup: &mut NodeLookup) {
+    fn prefetch_list(&self, lookup: &mut NodeLookup) {
         lookup.place = self.ends.prefetch(lookup.place, lookup.key);
     }
 }
